@@ -1,0 +1,10 @@
+pub mod Integer
+pub mod Ring
+pub mod IntRing
+pub mod Gcd
+pub mod Fraction
+pub mod FractionLaws
+pub mod FractionOrder
+pub mod Width
+pub mod Lists
+pub mod FractionLists
