@@ -1,0 +1,12 @@
+use Rattle.rob_linear.proofs.Solutions.{start_is_basis}
+use Rattle.rob_linear.proofs.Starts.{system_tagged, auxiliary_tagged}
+use Rattle.rob_linear.proofs.TwoPhases.{kept_tagged}
+use Rattle.rob_linear.proofs.basis.starting_rows.Goals as goal
+
+pub returns : goal.returns
+returns c = record {
+  basis = start_is_basis;
+  program = system_tagged;
+  auxiliary = auxiliary_tagged;
+  kept = kept_tagged;
+}

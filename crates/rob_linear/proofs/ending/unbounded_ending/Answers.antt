@@ -1,0 +1,9 @@
+use Rattle.rob_linear.proofs.Optimality.{unbounded_ending}
+use Rattle.rob_linear.proofs.Truths.{unbounded_parts}
+use Rattle.rob_linear.proofs.ending.unbounded_ending.Goals as goal
+
+pub returns : goal.returns
+returns c = record {
+  ray = unbounded_ending;
+  scaled = unbounded_parts;
+}

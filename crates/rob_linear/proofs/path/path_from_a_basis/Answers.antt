@@ -1,0 +1,14 @@
+use Rattle.rob_linear.proofs.Paths.{path_stands, path_rises, no_return, turns_bounded, path_unique, end_unique}
+use Rattle.rob_linear.proofs.Starts.{system_tagged}
+use Rattle.rob_linear.specs.Programs.{system_of}
+use Rattle.rob_linear.proofs.path.path_from_a_basis.Goals as goal
+
+pub returns : goal.returns
+returns c = record {
+  stands = path_stands;
+  rises = path_rises;
+  no_return = no_return;
+  bounded = turns_bounded;
+  one = path_unique;
+  last = λ P start basis basis' l k. end_unique (system_of P) start l.reached.0 k.reached.0 basis basis' (system_tagged P) l.reached.1 l.ends k.reached.1 k.ends;
+}

@@ -1,0 +1,9 @@
+pub mod Vectors
+pub mod Systems
+pub mod Programs
+pub mod Turns
+pub mod Rank
+pub mod Stages
+pub mod Paths
+pub mod WideRows
+pub mod Optimality

@@ -1,0 +1,50 @@
+-- Properties of each item of a list.
+use Rattle.std.specs.Prelude.{◌≡◌, ℕ, zero, suc, All, get_or, List, [], ◌∷◌, ◌++◌, Option, Some, None}
+use Rattle.std.proofs.Common.{arith, refl}
+use Rattle.rob_algebra.specs.Fraction.{Fraction}
+use Rattle.rob_meaning.specs.Places.{0ℚ, at, Each}
+use Rattle.rob_meaning.specs.SetConditions.{if_declared}
+
+pub each_append : {A : Type 0} (P : A → Type 0) (xs ys : List A) → Each P xs → Each P ys → Each P (xs ++ ys)
+each_append P [] ys h k = k
+each_append P (x ∷ xs) ys h k = (h.0, each_append P xs ys h.1 k)
+
+pub each_left : {A : Type 0} (P : A → Type 0) (xs ys : List A) → Each P (xs ++ ys) → Each P xs
+each_left P [] ys h = tt
+each_left P (x ∷ xs) ys h = (h.0, each_left P xs ys h.1)
+
+pub each_right : {A : Type 0} (P : A → Type 0) (xs ys : List A) → Each P (xs ++ ys) → Each P ys
+each_right P [] ys h = h
+each_right P (x ∷ xs) ys h = each_right P xs ys h.1
+
+pub each_map : {A : Type 0} (P Q : A → Type 0) → ((x : A) → P x → Q x) → (xs : List A) → Each P xs → Each Q xs
+each_map P Q f [] h = tt
+each_map P Q f (x ∷ xs) h = (f x h.0, each_map P Q f xs h.1)
+
+pub each_both : {A : Type 0} (P Q R : A → Type 0) → ((x : A) → P x → Q x → R x) → (xs : List A) → Each P xs →
+    Each Q xs → Each R xs
+each_both P Q R f [] h k = tt
+each_both P Q R f (x ∷ xs) h k = (f x h.0 k.0, each_both P Q R f xs h.1 k.1)
+
+-- along a declared bound, if there is one
+pub declared : {A B : Type 0} (P : A → Type 0) (Q : B → Type 0) (f : Fraction → A) (g : Fraction → B) →
+    ((x : Fraction) → P (f x) → Q (g x)) → (o : Option Fraction) →
+    Each P (if_declared f o) → Each Q (if_declared g o)
+declared P Q f g h None e = tt
+declared P Q f g h (Some x) e = (h x e.0, tt)
+
+-- by number: each item has the property exactly where the one at each number has it
+pub each_at : {A : Type 0} (P : A → Type 0) (xs : List A) → Each P xs → All P xs
+each_at P [] h k d some = absurd (omega arith)
+each_at P (x ∷ xs) h zero d some = h.0
+each_at P (x ∷ xs) h (suc k) d some = each_at P xs h.1 k d (omega arith)
+
+pub at_each : {A : Type 0} (P : A → Type 0) (xs : List A) → All P xs → Each P xs
+at_each P [] h = tt
+at_each P (x ∷ xs) h = (h zero x (omega arith), at_each P xs (λ k d some. h (suc k) d (omega arith)))
+
+-- the number at a place, by the list's own word
+pub at-get_or : (xs : List Fraction) (k : ℕ) → at xs k ≡ get_or xs k 0ℚ
+at-get_or [] k = refl
+at-get_or (x ∷ xs) zero = refl
+at-get_or (x ∷ xs) (suc k) = at-get_or xs k

@@ -1,0 +1,311 @@
+-- Tests for worked examples: each gives the fact itself, where it holds of data without variables.
+use Rattle.std.proofs.Common.{ap, sym, ap₂, subst, refl, arith, Ordering, Less, Equal, Greater}
+use Rattle.std.proofs.lemmas.Bool.{eqb-true, leb-true, ltb-true}
+use Rattle.std.specs.Ordering.{MatchOrdering}
+use Rattle.std.specs.Prelude.{◌≡◌, ◌<◌, ◌≤◌, ℕ, zero, suc, Bool, true, false, eqb, leb, ltb, get_or, ◌≢◌, ◌+◌, List, [], ◌∷◌, ◌++◌, length, Option, Some, None}
+use Rattle.rob_algebra.specs.Fraction.{Fraction, ◌<ℚ◌, ◌≤ℚ◌, ◌+ℚ◌, ◌*ℚ◌}
+use Rattle.rob_algebra.specs.FractionLists.{AllNonneg}
+use Rattle.rob_algebra.specs.FractionOrder.{cmp_ℚ, cmp_ℚ-ranks}
+use Rattle.rob_algebra.specs.FractionLaws as Q
+use Rattle.rob_meaning.proofs.AdmissionLemmas.{meets_admits}
+use Rattle.rob_meaning.proofs.ConeLemmas.{meets_taken}
+use Rattle.rob_meaning.proofs.ProvesLemmas.{certificate_true}
+use Rattle.rob_meaning.specs.Certificates.{Status, optimal, infeasible, unbounded, Cover, Item, Certificate}
+use Rattle.rob_meaning.specs.Degrees.{uncertain_degree, decision_degree, IsLinear, AreLinear, FactorsLinear}
+use Rattle.rob_meaning.specs.Expressions.{Expression, number, parameter, variable, adaptive, sum, product, Terms, no_terms, term, Factors, no_factors, factor}
+use Rattle.rob_meaning.specs.Forms.{matrices, plan_vector, constant_part, parameter_part}
+use Rattle.rob_meaning.specs.Multipliers.{set_matrix, set_limits, Covers, ShowsEmpty}
+use Rattle.rob_meaning.specs.Places.{0ℚ, 1ℚ, at, Each}
+use Rattle.rob_meaning.specs.Proves.{amounts_of, EachCovered, IsItem, combination, target, Improves, ProvesOptimal, ProvesInfeasible, ProvesUnbounded, ProvesAs, HasStatus}
+use Rattle.rob_meaning.specs.RobustModel.{Relation, at_most, at_least, equal, Sense, minimise, maximise, AdaptiveVariable, SetLine, line, budget, Row, RobustModel, column_count}
+use Rattle.rob_meaning.specs.SetConditions.{SetCondition, lower_bound, upper_bound, stated, set_conditions, taken, total_taken, Holds, Meets}
+use Rattle.rob_meaning.specs.SetRows.{set_rows, set_column_count, lift_count}
+use Rattle.rob_meaning.specs.UncertaintySet.{Relates, Admits}
+use Rattle.rob_meaning.specs.Vectors.{dot, scale, zeros, vec_mat}
+use Rattle.rob_meaning.specs.WellFormed.{IsInside, TermsInside, FactorsInside, IsExpression, IsSetSide, IsMember, IsSetLine, IsModel}
+
+-- the test found the fact
+abbrev pub Found : {A : Type 0} → Option A → Type 0
+Found None = ⊥
+Found (Some x) = Unit {0}
+
+abbrev pub found : {A : Type 0} (o : Option A) → Found o → A
+found None h = absurd h
+found (Some x) h = x
+
+abbrev both : {A B : Type 0} → Option A → Option B → Option (A × B)
+both None b = None
+both (Some x) None = None
+both (Some x) (Some y) = Some (x, y)
+
+abbrev so : {A B : Type 0} → (A → B) → Option A → Option B
+so f None = None
+so f (Some x) = Some (f x)
+
+-- ---- numbers
+abbrev decided : {A : Type 0} (b : Bool) → (b ≡ true → A) → Option A
+decided true f = Some (f refl)
+decided false f = None
+
+abbrev test_below : (a b : ℕ) → Option (a < b)
+test_below a b = decided (ltb a b) (ltb-true a b)
+
+abbrev test_at_most : (a b : ℕ) → Option (a ≤ b)
+test_at_most a b = decided (leb a b) (leb-true a b)
+
+abbrev test_count : (a b : ℕ) → Option (a ≡ b)
+test_count a b = decided (eqb a b) (eqb-true a b)
+
+pub below_differs : (a b : ℕ) → ltb a b ≡ true → a ≢ b
+below_differs a b e same = apart a b (ltb-true a b e) same
+  where
+    apart : (a b : ℕ) → a < b → a ≡ b → ⊥
+    apart a b h e = omega arith
+
+abbrev either : {A : Type 0} → Option A → Option A → Option A
+either None o = o
+either (Some x) o = Some x
+
+-- two names differ, by the byte at a place, the names' ends counting as 0
+abbrev pub test_differ : (a b : List ℕ) → Option (a ≢ b)
+test_differ a b = differ_from 0 (length a + length b)
+  where
+    below : (k : ℕ) → Option (a ≢ b)
+    below k =
+        decided (ltb (get_or a k 0) (get_or b k 0))
+        (λ e same. below_differs (get_or a k 0) (get_or b k 0) e (ap (λ xs. get_or xs k 0) same))
+
+    above : (k : ℕ) → Option (a ≢ b)
+    above k =
+        decided (ltb (get_or b k 0) (get_or a k 0))
+        (λ e same. below_differs (get_or b k 0) (get_or a k 0) e (sym (ap (λ xs. get_or xs k 0) same)))
+
+    differ_from : ℕ → ℕ → Option (a ≢ b)
+    differ_from k zero = None
+    differ_from k (suc n) = either (either (below k) (above k)) (differ_from (suc k) n)
+
+-- each number below n has the property
+abbrev test_numbers : (n : ℕ) (P : ℕ → Type 0) → ((i : ℕ) → Option (P i)) → Option ((i : ℕ) → i < n → P i)
+test_numbers zero P test = Some (λ i h. absurd (omega arith))
+test_numbers (suc n) P test =
+    so (λ h. first_and_rest n P h.0 h.1) (both (test zero) (test_numbers n (λ i. P (suc i)) (λ i. test (suc i))))
+  where
+    first_and_rest : (n : ℕ) (P : ℕ → Type 0) → P zero → ((i : ℕ) → i < n → P (suc i)) → (i : ℕ) → i < suc n → P i
+    first_and_rest n P p h zero k = p
+    first_and_rest n P p h (suc i) k = h i (omega arith)
+
+abbrev le_ranked : (x y : Fraction) (r : Ordering) → MatchOrdering r (x <ℚ y) (x ≡ y) (y <ℚ x) → Option (x ≤ℚ y)
+le_ranked x y Less h = Some (Q.le_of_lt_ℚ x y h)
+le_ranked x y Equal h = Some (subst (λ z. x ≤ℚ z) h (Q.le_refl_ℚ x))
+le_ranked x y Greater h = None
+
+abbrev lt_ranked : (x y : Fraction) (r : Ordering) → MatchOrdering r (x <ℚ y) (x ≡ y) (y <ℚ x) → Option (x <ℚ y)
+lt_ranked x y Less h = Some h
+lt_ranked x y Equal h = None
+lt_ranked x y Greater h = None
+
+abbrev same_ranked : (x y : Fraction) (r : Ordering) → MatchOrdering r (x <ℚ y) (x ≡ y) (y <ℚ x) → Option (x ≡ y)
+same_ranked x y Less h = None
+same_ranked x y Equal h = Some h
+same_ranked x y Greater h = None
+
+abbrev pub test_le : (x y : Fraction) → Option (x ≤ℚ y)
+test_le x y = le_ranked x y (cmp_ℚ x y) (cmp_ℚ-ranks x y)
+
+abbrev pub test_lt : (x y : Fraction) → Option (x <ℚ y)
+test_lt x y = lt_ranked x y (cmp_ℚ x y) (cmp_ℚ-ranks x y)
+
+abbrev pub test_same : (x y : Fraction) → Option (x ≡ y)
+test_same x y = same_ranked x y (cmp_ℚ x y) (cmp_ℚ-ranks x y)
+
+-- ---- lists
+abbrev test_each : {A : Type 0} (P : A → Type 0) → ((x : A) → Option (P x)) → (xs : List A) → Option (Each P xs)
+test_each P test [] = Some tt
+test_each P test (x ∷ xs) = both (test x) (test_each P test xs)
+
+abbrev test_nonnegative : (xs : List Fraction) → Option (AllNonneg xs)
+test_nonnegative [] = Some tt
+test_nonnegative (x ∷ xs) = both (test_le 0ℚ x) (test_nonnegative xs)
+
+abbrev test_list : (xs ys : List Fraction) → Option (xs ≡ ys)
+test_list [] [] = Some refl
+test_list [] (y ∷ ys) = None
+test_list (x ∷ xs) [] = None
+test_list (x ∷ xs) (y ∷ ys) =
+    so (λ h. ap₂ (λ (z : Fraction) (zs : List Fraction). z ∷ zs) h.0 h.1) (both (test_same x y) (test_list xs ys))
+
+module _ (m : RobustModel) where
+  -- ---- models
+  abbrev mutual
+    test_inside : (e : Expression) → Option (IsInside m e)
+    test_inside (number q) = Some tt
+    test_inside (parameter k) = test_below k (length m.parameters)
+    test_inside (variable k) = test_below k (length m.variables)
+    test_inside (adaptive k) = test_below k (length m.adaptives)
+    test_inside (sum ts) = test_terms_inside ts
+    test_inside (product fs) = test_factors_inside fs
+
+    test_terms_inside : (ts : Terms) → Option (TermsInside m ts)
+    test_terms_inside no_terms = Some tt
+    test_terms_inside (term minus e ts) = both (test_inside e) (test_terms_inside ts)
+
+    test_factors_inside : (fs : Factors) → Option (FactorsInside m fs)
+    test_factors_inside no_factors = Some tt
+    test_factors_inside (factor e fs) = both (test_inside e) (test_factors_inside fs)
+
+  abbrev mutual
+    test_linear : (e : Expression) → Option (IsLinear m e)
+    test_linear (number q) = Some tt
+    test_linear (parameter k) = Some tt
+    test_linear (variable k) = Some tt
+    test_linear (adaptive k) = Some tt
+    test_linear (sum ts) = test_terms_linear ts
+    test_linear (product fs) =
+        so (λ h. (h.0.0, h.0.1, h.1))
+        (both (both (test_at_most (uncertain_degree m (product fs)) 1)
+        (test_at_most (decision_degree m (product fs)) 1))
+        (test_factors_linear fs))
+
+    test_terms_linear : (ts : Terms) → Option (AreLinear m ts)
+    test_terms_linear no_terms = Some tt
+    test_terms_linear (term minus e ts) = both (test_linear e) (test_terms_linear ts)
+
+    test_factors_linear : (fs : Factors) → Option (FactorsLinear m fs)
+    test_factors_linear no_factors = Some tt
+    test_factors_linear (factor e fs) = both (test_linear e) (test_factors_linear fs)
+
+  abbrev test_expression : (e : Expression) → Option (IsExpression m e)
+  test_expression e = both (test_inside e) (test_linear e)
+
+  abbrev test_set_side : (e : Expression) → Option (IsSetSide m e)
+  test_set_side e = both (test_expression e) (test_count (decision_degree m e) 0)
+
+  abbrev test_set_line : (c : SetLine) → Option (IsSetLine m c)
+  test_set_line (line l relation r) = both (test_set_side l) (test_set_side r)
+  test_set_line (budget limit members) =
+      test_each (IsMember m) (λ h. both (test_below h.parameter (length m.parameters)) (test_lt 0ℚ h.deviation)) members
+
+  abbrev pub test_model : Option (IsModel m)
+  test_model =
+      so (λ h. record { set_lines = h.0.0; lists = h.0.1; objective = h.1.0; rows = h.1.1 })
+      (both
+      (both (test_each (IsSetLine m) test_set_line m.set_lines)
+      (test_each (λ (y : AdaptiveVariable). Each (λ k. k < length m.parameters) y.on)
+      (λ y. test_each (λ k. k < length m.parameters) (λ k. test_below k (length m.parameters)) y.on) m.adaptives))
+      (both (test_expression m.objective)
+      (test_each (λ (r : Row). IsExpression m r.left × IsExpression m r.right)
+      (λ r. both (test_expression r.left) (test_expression r.right)) m.rows)))
+
+  -- ---- the uncertainty set
+  abbrev test_relates : (relation : Relation) (a b : Fraction) → Option (Relates relation a b)
+  test_relates at_most a b = test_le a b
+  test_relates at_least a b = test_le b a
+  test_relates equal a b = test_same a b
+
+  abbrev test_holds : (s : Fraction) (p : List Fraction) (c : SetCondition) → Option (Holds m s p c)
+  test_holds s p (lower_bound k l) = test_le (s *ℚ l) (at p k)
+  test_holds s p (upper_bound k b) = test_le (at p k) (s *ℚ b)
+  test_holds s p (stated (line l relation r)) = test_relates relation (taken m s p l) (taken m s p r)
+  test_holds s p (stated (budget limit members)) = test_le (total_taken m s p members) (s *ℚ limit)
+
+  abbrev pub test_meets : (s : Fraction) (p : List Fraction) → Option (Meets m s p)
+  test_meets s p =
+      so (λ h. record { numbers = h.0; conditions = h.1 })
+      (both (test_count (length p) (length m.parameters)) (test_each (Holds m s p) (test_holds s p) (set_conditions m)))
+
+  abbrev pub test_admits : (u : List Fraction) → Option (Admits m u)
+  test_admits u = so (meets_admits m u) (test_meets 1ℚ u)
+
+  -- ---- multipliers
+  abbrev test_covers : (i : ℕ) (s : Fraction) (z amounts : List Fraction) → Option (Covers m i s z amounts)
+  test_covers i s z amounts =
+      so (λ h. record { count = h.0.0; nonnegative = h.0.1; columns = h.1.0; constant = h.1.1 })
+      (both
+      (both (test_count (length amounts) (length (set_rows m))) (test_nonnegative amounts))
+      (both
+      (test_list (vec_mat (set_column_count m) amounts (set_matrix m))
+      (scale s (parameter_part m i z) ++ zeros (lift_count m.set_lines)))
+      (test_le (dot amounts (set_limits m) +ℚ s *ℚ constant_part m i z) 0ℚ)))
+
+  abbrev test_each_covered : (covers : List Cover) (s : Fraction) (z : List Fraction) →
+      Option (EachCovered m covers s z)
+  test_each_covered covers s z =
+      test_numbers (length (matrices m)) (λ i. Covers m i s z (amounts_of m covers i))
+      (λ i. test_covers i s z (amounts_of m covers i))
+
+  abbrev pub test_empty : (weights : List Fraction) → Option (ShowsEmpty m weights)
+  test_empty weights =
+      so (λ h. record { count = h.0.0; nonnegative = h.0.1; columns = h.1.0; negative = h.1.1 })
+      (both
+      (both (test_count (length weights) (length (set_rows m))) (test_nonnegative weights))
+      (both
+      (test_list (vec_mat (set_column_count m) weights (set_matrix m)) (zeros (set_column_count m)))
+      (test_lt (dot weights (set_limits m)) 0ℚ)))
+
+  -- ---- certificates
+  module _ (model : IsModel m) where
+    abbrev test_item : (item : Item) → Option (IsItem m item)
+    test_item item =
+        so (λ h. record { weight = h.0; taken = meets_taken m model item.base item.vector h.1.0 h.1.1 })
+        (both (test_lt 0ℚ item.weight) (both (test_le 0ℚ item.base) (test_meets item.base item.vector)))
+
+    abbrev test_improves : (sense : Sense) (d : Fraction) → Option (Improves sense d)
+    test_improves minimise d = test_lt d 0ℚ
+    test_improves maximise d = test_lt 0ℚ d
+
+    abbrev test_inside_and_items : (c : Certificate) → Option (Admits m c.inside × Each (IsItem m) c.items)
+    test_inside_and_items c = both (test_admits c.inside) (test_each (IsItem m) test_item c.items)
+
+    abbrev test_plan : (c : Certificate) → Option ((0ℚ <ℚ c.scale) ×
+        ((length c.plan ≡ column_count m) × EachCovered m c.covers c.scale (plan_vector 1ℚ c.plan c.value)))
+    test_plan c =
+        both (test_lt 0ℚ c.scale)
+        (both (test_count (length c.plan) (column_count m))
+        (test_each_covered c.covers c.scale (plan_vector 1ℚ c.plan c.value)))
+
+    abbrev test_optimal : (c : Certificate) → Option (ProvesOptimal m c)
+    test_optimal c =
+        so (λ h. record { inside = h.0.0; items = h.0.1; scale = h.1.0.0; columns = h.1.0.1.0; covered = h.1.0.1.1; sums = h.1.1 })
+        (both (test_inside_and_items c)
+        (both (test_plan c) (test_list (combination m c.items) (target m.sense (column_count m) c.value))))
+
+    -- the constant is the first number of the items' sum
+    abbrev test_infeasible : (c : Certificate) → Option (ProvesInfeasible m c)
+    test_infeasible c =
+        let constant = at (combination m c.items) 0 in
+        so (λ h. record { inside = h.0.0; items = h.0.1; constant = constant; positive = h.1.0; sums = h.1.1 })
+        (both (test_inside_and_items c)
+        (both (test_lt 0ℚ constant)
+        (test_list (combination m c.items) (plan_vector constant (zeros (column_count m)) 0ℚ))))
+
+    abbrev test_unbounded : (c : Certificate) → Option (ProvesUnbounded m c)
+    test_unbounded c =
+        so
+        (λ h. record {
+          inside = h.0.0;
+          items = h.0.1;
+          scale = h.1.0.0;
+          columns = h.1.0.1.0;
+          covered = h.1.0.1.1;
+          step_columns = h.1.1.0;
+          held = h.1.1.1.0;
+          improves = h.1.1.1.1;
+        })
+        (both (test_inside_and_items c)
+        (both (test_plan c)
+        (both (test_count (length c.step) (column_count m))
+        (both (test_each_covered c.holds 1ℚ (plan_vector 0ℚ c.step c.step_bound))
+        (test_improves m.sense c.step_bound)))))
+
+    abbrev test_as : (status : Status) (c : Certificate) → Option (ProvesAs status m c)
+    test_as optimal c = test_optimal c
+    test_as infeasible c = test_infeasible c
+    test_as unbounded c = test_unbounded c
+
+  abbrev with_model : (c : Certificate) → Option (IsModel m) → Option (HasStatus m c.status c.value)
+  with_model c None = None
+  with_model c (Some model) = so (certificate_true m model c) (test_as model c.status c)
+
+  -- what the certificate claims, where the model is well formed and the certificate proves
+  abbrev pub test_certificate : (c : Certificate) → Option (HasStatus m c.status c.value)
+  test_certificate c = with_model c test_model

@@ -1,0 +1,14 @@
+use Rattle.rob_meaning.proofs.AdmissionLemmas.{admission_law}
+use Rattle.rob_meaning.proofs.ConeLemmas.{along_ray, taken_law}
+use Rattle.rob_meaning.proofs.EmptyLemmas.{shows_empty}
+use Rattle.rob_meaning.proofs.WholeRowLemmas.{lifted_law}
+use Rattle.rob_meaning.proofs.uncertainty_set.set_laws.Goals as goal
+
+pub returns : goal.returns
+returns c = record {
+  admitted = admission_law;
+  ray = λ m u r t model. along_ray m model u r t;
+  taken = λ m s p model. taken_law m model s p;
+  lifted = λ m s p model. lifted_law m model s p;
+  empty = λ m weights model. shows_empty m model weights;
+}
