@@ -1,1 +1,4 @@
+pub mod Parts
 mod Recipes
+pub mod Signs
+pub mod WidthLaws

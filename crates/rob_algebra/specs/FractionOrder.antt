@@ -7,9 +7,11 @@ use Rattle.std.specs.Cmp.{IsTotalOrder, IsEquivalence, IsPartialEquivalence, str
 use Rattle.rob_algebra.specs.Fraction.{Fraction, ◌<ℚ◌, eq_from_cross, ext}
 use Rattle.rob_algebra.specs.FractionLaws.{lt_irrefl_ℚ, lt_le_trans_ℚ, le_of_lt_ℚ}
 
+-- how x stands to y, by cross products
 abbrev pub cmp_ℚ : Fraction → Fraction → Ordering
 cmp_ℚ x y = int_cmp (x.num *ℤ pos y.den) (y.num *ℤ pos x.den)
 
+-- whether x and y stand level
 abbrev pub eq_ℚ : Fraction → Fraction → Bool
 eq_ℚ x y = is_eq (cmp_ℚ x y)
 

@@ -1,4 +1,4 @@
--- ℤ as an ordered commutative ring.
+-- The whole numbers as an ordered commutative ring. (Birkhoff, Mac Lane, A Survey of Modern Algebra, chapter 1.)
 -- An integer z is read as `up z - down z`, two natural numbers, of which one is 0 (`borrow.Author.Differences`).
 use Rattle.std.specs.Prelude.{◌≡◌, ℕ, ◌+◌, ◌*◌, ℤ, pos, negsuc, ◌+ℤ◌, ◌-ℤ◌, ◌*ℤ◌, neg_ℤ, ◌≤ℤ◌, ◌<ℤ◌, ◌<◌, ◌⊎◌}
 use Rattle.std.proofs.Common.{arith, sym, ◌∙◌, ap, inl, inr, mul-pos}

@@ -1,7 +1,5 @@
 -- Which numbers fit a width. A limit bounds the size of a whole number, and both parts of a fraction in lowest terms.
-use Rattle.std.specs.Prelude.{◌≡◌, ℕ, ◌<◌, ◌≤◌, ℤ, nat_abs, ◌⊎◌, ◌↔◌, Bool, true, false, ◌||◌, nat_lt, cond, Option, Some, None, IsTrue, refl}
-use Rattle.std.proofs.Common.{arith, sym, subst, inl, inr}
-use Rattle.std.specs.Bool.{Decides}
+use Rattle.std.specs.Prelude.{ℕ, ◌<◌, ◌≤◌, ℤ, nat_abs, ◌⊎◌, Bool, ◌||◌, nat_lt, cond, Option, Some, None}
 use Rattle.rob_algebra.specs.Fraction.{Fraction}
 
 -- the size of the numerator and the denominator, in lowest terms, are at most the limit

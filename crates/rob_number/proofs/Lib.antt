@@ -1,0 +1,4 @@
+pub mod AnswerLaws
+pub mod CastLemmas
+mod Comparing
+mod LowestLemmas

@@ -1,0 +1,10 @@
+use Rattle.std.proofs.Common.{◌≡◌}
+use Rattle.rob_algebra.specs.Gcd.{gcd}
+use Rattle.rob_number.proofs.gcd.gcd128.Given as goal
+
+-- each step keeps the greatest common divisor
+abbrev pub invariant-loop-y : goal.invariant-loop-y
+invariant-loop-y l = gcd l.x l.y ≡ gcd l.fn.a l.fn.b
+
+abbrev pub decreases-loop-y : goal.decreases-loop-y
+decreases-loop-y l = l.y

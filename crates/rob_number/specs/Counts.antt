@@ -1,0 +1,20 @@
+-- The counts of a ledger. A count is a whole number of 64 bits that never falls, and stands at its last value.
+use Rattle.std.specs.Prelude.{◌≡◌, ℕ, ◌+◌, ◌-◌, ◌^◌, ◌≤◌, min, max, Result, MatchResult, OnErr}
+
+-- one more; the last value stands
+abbrev pub raised : ℕ → ℕ
+raised n = max n (min (n + 1) (2 ^ 64 - 1))
+
+-- the count was raised at least once, or stands at its last value
+abbrev pub Rose : ℕ → ℕ → Type 0
+Rose before now = raised before ≤ now
+
+-- the count never fell, and rose where the call refused
+pub record Told {T E : Type 0} (before now : ℕ) (result : Result T E) : Type 0 where
+  pub never_fell : before ≤ now
+  pub refused : OnErr result (Rose before now)
+
+-- of a ledger's two counts, the operations were raised once, and the wide results once exactly where the call refused
+pub record CountsOne {S T E : Type 0} (ops_of wides_of : S → ℕ) (before now : S) (result : Result T E) : Type 0 where
+  pub ops : ops_of now ≡ raised (ops_of before)
+  pub wides : MatchResult result (λ _. wides_of now ≡ wides_of before) (λ _. wides_of now ≡ raised (wides_of before))

@@ -1,0 +1,5 @@
+pub mod Answer
+pub mod Counts
+pub mod Frac
+pub mod Lowest
+pub mod formers

@@ -1,0 +1,5 @@
+pub mod Files
+pub mod Taken
+pub mod MemShelf
+pub mod MemSink
+pub mod FileShelf

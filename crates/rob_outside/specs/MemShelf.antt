@@ -1,0 +1,31 @@
+-- A shelf in memory, as contracts see it.
+use Rattle.std.specs.Prelude.{ℕ, Bool, ◌==◌, List, [], if◌then◌else◌}
+use Rattle.std.specs.List.{list_any}
+use Rattle.rob_number.specs.Counts.{raised}
+use Rattle.rob_outside.specs.Files.{File}
+
+-- the files in the order of their adding, the numbers of the fetches that fail, the fetches so far and their faults
+pub record ShelfState : Type 0 where
+  pub files : List File
+  pub failing : List ℕ
+  pub calls : ℕ
+  pub faults : ℕ
+
+-- a shelf that holds nothing, fails nowhere and was not asked yet
+abbrev pub empty_shelf : ShelfState
+empty_shelf = record { files = []; failing = []; calls = 0; faults = 0 }
+
+-- the number of the next fetch; the first has number 1
+abbrev pub next_fetch : ShelfState → ℕ
+next_fetch shelf = raised shelf.calls
+
+-- the next fetch is one that fails
+abbrev pub fails_next : ShelfState → Bool
+fails_next shelf = list_any (λ call. call == next_fetch shelf) shelf.failing
+
+-- the shelf after its next fetch: the fetch is counted, and where it fails the fault
+abbrev pub after_fetch : ShelfState → ShelfState
+after_fetch shelf = record shelf {
+  calls = next_fetch shelf;
+  faults = if fails_next shelf then raised shelf.faults else shelf.faults;
+}

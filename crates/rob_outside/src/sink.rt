@@ -1,0 +1,43 @@
+// A place for output.
+
+ghost use Rattle.std.specs.Prelude.{◌≡◌, ◌≤◌, ℕ, List, Option};
+ghost use Rattle.rob_number.specs.Counts.{Rose};
+ghost use Rattle.rob_outside.specs.Taken.{Takes};
+
+use rob_number::Memory;
+
+/// Why a put did not take the whole piece.
+#[derive(Debug, PartialEq, Eq, Clone, Copy)]
+pub enum SinkErr {
+    /// The outside failed. The sink counted a fault.
+    Failed,
+    /// Memory was refused.
+    Memory,
+}
+
+impl From<Memory> for SinkErr {
+    ghost use Rattle.std.specs.Prelude.{◌≡◌};
+    ghost use Rattle.rob_outside.specs.declared.sink.SinkErr.TheVariants.{Memory as WantOfMemory};
+
+    ghost from_gives = { λ _ error. error ≡ WantOfMemory };
+
+    fn from(_refused: Memory) -> SinkErr {
+        SinkErr::Memory
+    }
+}
+
+/// A place for output. A sink may tell the bytes that it took, and it counts its faults; both are meanings for
+/// contracts alone.
+pub trait Sink {
+    /// The bytes taken so far, where the sink tells them.
+    ghost taken: { Self → Option (List ℕ) };
+
+    /// The number of faults so far. A count at `u64::MAX` stands.
+    ghost faults: { Self → ℕ };
+
+    /// Appends the piece. After an error a prefix of the piece was appended, which may be nothing or all of it.
+    fn put(&mut self, piece: &[u8]) -> Result<(), SinkErr>
+        ensures took { Takes (taken self.old) (taken self.new) piece.now result }
+        ensures counted { faults self.old ≤ faults self.new }
+        ensures fault { result ≡ Err SinkErr.Failed → Rose (faults self.old) (faults self.new) };
+}
