@@ -1,0 +1,6 @@
+pub mod Bytes
+pub mod Pieces
+pub mod Places
+pub mod Offences
+pub mod Found
+pub mod Slices

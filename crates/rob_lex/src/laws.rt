@@ -1,0 +1,29 @@
+//! Laws of the definitions: each text has one reading, and its tokens are slices of it, in order.
+
+ghost use Rattle.std.specs.Prelude.{◌≡◌, ℕ, List, [], map};
+ghost use Rattle.rob_lex.specs.declared.token.Token.{Token};
+ghost use Rattle.rob_lex.specs.Pieces.{Piece, IsPlace};
+ghost use Rattle.rob_lex.specs.Places.{start, tokens_of};
+ghost use Rattle.rob_lex.specs.Offences.{AreTokens, Breaks, HasReading};
+ghost use Rattle.rob_lex.specs.Slices.{InOrder, lexed, lexed_of};
+
+/// Each text has exactly one list of tokens, or breaks exactly one rule at one line.
+pub fn one_reading()
+    ensures some { (text : List ℕ) → HasReading text }
+    ensures list { (text : List ℕ) (a b : List Token) → AreTokens text a → AreTokens text b → a ≡ b }
+    ensures rule { (text : List ℕ) (rule line rule' line' : ℕ)
+        → Breaks text rule line → Breaks text rule' line' → (rule ≡ rule') × (line ≡ line') }
+    ensures not_both { (text : List ℕ) (list : List Token) (rule line : ℕ)
+        → AreTokens text list → Breaks text rule line → ⊥ }
+{}
+
+/// Tokens stand in order, don't overlap and lie inside the text.
+pub fn in_order()
+    ensures order { (text : List ℕ) (list : List Token) → AreTokens text list → InOrder 0 text list }
+{}
+
+/// The tokens of a text have the kinds and bytes of its pieces.
+pub fn are_slices()
+    ensures slices { (text : List ℕ) (pieces : List Piece) → IsPlace text pieces []
+        → map (lexed text) (tokens_of start pieces) ≡ lexed_of pieces }
+{}

@@ -1,0 +1,18 @@
+//! The tokens of a model text.
+#![tactic(auto)]
+
+mod error;
+pub mod laws;
+mod offence;
+mod piece;
+mod place;
+mod reader;
+mod token;
+
+pub use error::LexErr;
+pub use offence::Offence;
+pub use reader::tokens;
+pub use token::{Kind, Token};
+
+#[cfg(test)]
+mod tests;
