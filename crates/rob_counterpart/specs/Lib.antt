@@ -1,0 +1,12 @@
+pub mod RobustProgram
+pub mod Splitting
+pub mod Reform
+pub mod SetPrograms
+pub mod Master
+pub mod Endings
+pub mod SamePrograms
+pub mod BasicPairs
+pub mod Counterpart
+pub mod ReadCertificates
+pub mod WorstCases
+pub mod MasterItems
