@@ -1,0 +1,11 @@
+pub mod Divisors
+pub mod Contents
+pub mod PrimitivePartLemmas
+pub mod Combinations
+pub mod SignedQuotients
+pub mod Reductions
+pub mod Entries
+pub mod Orders
+pub mod Pivots
+pub mod SizeLemmas
+pub mod FirstDifferences

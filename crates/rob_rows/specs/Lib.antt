@@ -1,0 +1,4 @@
+pub mod PrimitiveParts
+pub mod Factors
+pub mod Quotients
+pub mod LinearPrograms
