@@ -19,7 +19,7 @@ rest_le text (p ∷ pieces) rest place =
     omega (arith, ap length place.1, length-append p.bytes place.0, rest_le place.0 pieces rest place.3)
 
 -- a piece has a byte
-some_length : (shape : Shape) (bytes after : List ℕ) → Stands shape bytes after → 0 < length bytes
+pub some_length : (shape : Shape) (bytes after : List ℕ) → Stands shape bytes after → 0 < length bytes
 some_length shape [] after stands = absurd (some_bytes shape after stands)
 some_length shape (b ∷ bytes) after stands = omega arith
 

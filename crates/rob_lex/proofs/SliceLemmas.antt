@@ -11,7 +11,7 @@ use Rattle.rob_lex.specs.Pieces.{Piece, IsPlace}
 use Rattle.rob_lex.specs.Places.{start, behind, token_at, tokens_of}
 use Rattle.rob_lex.specs.Offences.{AreTokens}
 use Rattle.rob_lex.specs.Slices.{lexed, lexed_at, lexed_of, InOrder}
-use Rattle.rob_lex.proofs.PlaceLemmas.{goes_on}
+use Rattle.rob_lex.proofs.PlaceLemmas.{goes_on, some_length}
 
 -- the part between what is before it and what is behind it
 middle : (front bytes after : List ℕ) (from to : ℕ) → from ≡ length front → to ≡ from + length bytes → slice_range (front ++ (bytes ++ after)) from to ≡ bytes
@@ -53,3 +53,19 @@ in_order_from n from text rest at (p ∷ pieces) end here within place =
 
 pub in_order : (text : List ℕ) (list : List Token) → AreTokens text list → InOrder 0 text list
 in_order text list read = subst (InOrder 0 text) read.tokens (in_order_from 0 0 text text start read.pieces [] (omega arith) (omega arith) read.whole)
+
+-- a token has a byte
+tokens_from : (rest : List ℕ) (at : Place) (pieces : List Piece) (end : List ℕ) → IsPlace rest pieces end → length (tokens_of at pieces) ≤ length rest
+tokens_from rest at [] end place = omega arith
+tokens_from rest at (p ∷ pieces) end place =
+    let more = tokens_from place.0 (behind at p.shape p.bytes) pieces end place.3 in
+    let one = token_length at p.shape p.bytes in
+    omega (arith, more, one, some_length p.shape p.bytes place.0 place.2, ap length place.1, length-append p.bytes place.0, length-append (token_at at p.shape p.bytes) (tokens_of (behind at p.shape p.bytes) pieces))
+  where
+    token_length : (at : Place) (shape : Shape) (bytes : List ℕ) → length (token_at at shape bytes) ≤ 1
+    token_length at (Lexeme kind) bytes = omega arith
+    token_length at Gap bytes = omega arith
+    token_length at Comment bytes = omega arith
+
+pub at_most : (text : List ℕ) (list : List Token) → AreTokens text list → length list ≤ length text
+at_most text list read = omega (arith, ap length read.tokens, tokens_from text start read.pieces [] read.whole)

@@ -1,6 +1,6 @@
 //! Laws of the definitions: each text has one reading, and its tokens are slices of it, in order.
 
-ghost use Rattle.std.specs.Prelude.{◌≡◌, ℕ, List, [], map};
+ghost use Rattle.std.specs.Prelude.{◌≡◌, ℕ, ◌≤◌, List, [], length, map};
 ghost use Rattle.rob_lex.specs.declared.token.Token.{Token};
 ghost use Rattle.rob_lex.specs.Pieces.{Piece, IsPlace};
 ghost use Rattle.rob_lex.specs.Places.{start, tokens_of};
@@ -17,9 +17,10 @@ pub fn one_reading()
         → AreTokens text list → Breaks text rule line → ⊥ }
 {}
 
-/// Tokens stand in order, don't overlap and lie inside the text.
+/// Tokens stand in order, don't overlap and lie inside the text, which has no more of them than bytes.
 pub fn in_order()
     ensures order { (text : List ℕ) (list : List Token) → AreTokens text list → InOrder 0 text list }
+    ensures count { (text : List ℕ) (list : List Token) → AreTokens text list → length list ≤ length text }
 {}
 
 /// The tokens of a text have the kinds and bytes of its pieces.
