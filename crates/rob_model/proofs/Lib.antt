@@ -1,0 +1,16 @@
+pub mod BudgetLemmas
+pub mod ColumnLemmas
+pub mod ConditionLemmas
+pub mod DemandLemmas
+pub mod FlatNames
+pub mod FrontLemmas
+pub mod GroupLemmas
+pub mod JudgingLemmas
+pub mod KeptLemmas
+pub mod PlaceLemmas
+pub mod SearchLemmas
+pub mod NameCountLemmas
+pub mod NamingLemmas
+pub mod PartLemmas
+pub mod SmallLemmas
+pub mod ValueLemmas

@@ -1,0 +1,9 @@
+pub mod View
+pub mod Limits
+pub mod Valid
+pub mod Within
+pub mod FirstBroken
+pub mod GroupNames
+pub mod NameGroups
+pub mod Naming
+pub mod Spelling

@@ -1,0 +1,93 @@
+// Robust linear models.
+
+use crate::expr::Expr;
+use rob_number::{List, Text};
+
+/// Whether a plan's bound is to be small or large.
+#[derive(Clone, Copy, Debug, PartialEq, Eq)]
+pub enum Sense {
+    Minimise,
+    Maximise,
+}
+
+/// How the two sides of a row or of a set statement stand to one another.
+#[derive(Clone, Copy, Debug, PartialEq, Eq)]
+pub enum Rel {
+    AtMost,
+    AtLeast,
+    Equal,
+}
+
+/// An uncertain parameter, and its declared bounds.
+#[derive(Debug, Drop)]
+pub struct Param<N> {
+    pub name: Text,
+    pub lower: Option<N>,
+    pub upper: Option<N>,
+}
+
+/// A here-and-now variable: it is decided before the scenario is known.
+#[derive(Debug, Drop)]
+pub struct Var<N> {
+    pub name: Text,
+    pub lower: Option<N>,
+    pub upper: Option<N>,
+}
+
+/// An adjustable variable with an affine decision rule: a constant, and a coefficient for each parameter of `on`.
+#[derive(Debug, Drop)]
+pub struct Adaptive<N> {
+    pub name: Text,
+    /// The numbers of the parameters that the rule may use.
+    pub on: List<u32>,
+    pub lower: Option<N>,
+    pub upper: Option<N>,
+}
+
+/// A member of a budget of uncertainty.
+#[derive(Clone, Copy, Debug)]
+pub struct Member<N> {
+    /// The parameter's number.
+    pub param: u32,
+    pub centre: N,
+    /// Above 0.
+    pub deviation: N,
+}
+
+/// A statement on the uncertainty set. Statements of both kinds are numbered together.
+#[derive(Debug, Drop)]
+pub enum SetLine<N> {
+    /// A linear condition on the parameters.
+    Line {
+        left: Expr<N>,
+        rel: Rel,
+        right: Expr<N>,
+    },
+    /// A budget of uncertainty: the members' distances from their centres, each over its deviation, are together at most
+    /// `limit`. (Bertsimas and Sim, The Price of Robustness.)
+    Budget {
+        limit: N,
+        members: List<Member<N>>,
+    },
+}
+
+/// A robust constraint, kept in every scenario.
+#[derive(Debug, Drop)]
+pub struct RowDef<N> {
+    pub name: Text,
+    pub left: Expr<N>,
+    pub rel: Rel,
+    pub right: Expr<N>,
+}
+
+/// A robust linear model with affine decision rules and fixed recourse.
+#[derive(Debug, Drop)]
+pub struct Model<N> {
+    pub params: List<Param<N>>,
+    pub set_lines: List<SetLine<N>>,
+    pub vars: List<Var<N>>,
+    pub adaptives: List<Adaptive<N>>,
+    pub sense: Sense,
+    pub objective: Expr<N>,
+    pub rows: List<RowDef<N>>,
+}

@@ -1,0 +1,73 @@
+-- What the counts of a model keep.
+use Rattle.std.proofs.Common.{◌≡◌, ℕ, ◌+◌, ◌*◌, ◌<◌, ◌≤◌, Bool, true, false, refl, arith}
+use Rattle.std.specs.Prelude.{◌&&◌, nat_le}
+use Rattle.std.proofs.lemmas.Bool.Decides.{nat_tests}
+use Rattle.rob_parse.specs.declared.size.Sizes.{Sizes}
+use Rattle.rob_parse.specs.declared.syntax.Statement.{Statement}
+use Rattle.rob_parse.specs.declared.syntax.Statement.TheVariants.{Uncertain, Set, Budget, Var, Adaptive, Goal, Row}
+use Rattle.rob_parse.specs.Sizes.{start_sizes, counted, is_within, size, IsSmall, IsKept, most_parameters, most_columns, most_rows, most_set_lines, most_members, greatest_size}
+
+both : (a b : Bool) → (a && b) ≡ true → (a ≡ true) × (b ≡ true)
+both true true h = (refl, refl)
+both true false h = cc
+both false b h = cc
+
+at_most : (a b : ℕ) → nat_le a b ≡ true → a ≤ b
+at_most a b h = grind (arith, nat_tests)
+
+-- the limits, one by one
+record Within (s : Sizes) : Type 0 where
+  parameters : s.parameters ≤ most_parameters
+  columns : s.columns ≤ most_columns
+  rows : s.rows ≤ most_rows
+  set_lines : s.set_lines ≤ most_set_lines
+  members : s.members ≤ most_members
+  whole : size s ≤ greatest_size
+
+within : (s : Sizes) → is_within s ≡ true → Within s
+within s h =
+    let five = both _ _ h in
+    let four = both _ _ five.0 in
+    let three = both _ _ four.0 in
+    let two = both _ _ three.0 in
+    let one = both _ _ two.0 in
+    record {
+      parameters = at_most s.parameters most_parameters one.0;
+      columns = at_most s.columns most_columns one.1;
+      rows = at_most s.rows most_rows two.1;
+      set_lines = at_most s.set_lines most_set_lines three.1;
+      members = at_most s.members most_members four.1;
+      whole = at_most (size s) greatest_size five.1;
+    }
+
+-- the factors of a product that is at most this
+factors_at_most : (a b c : ℕ) → 0 < a → a * (b + 1) ≤ c → (a ≤ c) × (b ≤ c)
+factors_at_most a b c some h = (grind arith, grind arith)
+
+pub kept_small : (s : Sizes) → IsKept s → IsSmall s
+kept_small s kept =
+    let w = within s kept.within in
+    let f = factors_at_most s.forms (s.set_rows + 2 * (s.parameters + s.members)) greatest_size kept.forms w.whole in
+    record {
+      parameters = omega (arith, w.parameters);
+      variables = omega (arith, w.columns, kept.variables);
+      adaptives = omega (arith, w.columns, kept.adaptives);
+      columns = omega (arith, w.columns);
+      rows = omega (arith, w.rows);
+      set_lines = omega (arith, w.set_lines);
+      members = omega (arith, w.members);
+      forms = omega (arith, f.0);
+      set_rows = omega (arith, f.1);
+    }
+
+pub kept_start : IsKept start_sizes
+kept_start = record { within = refl; variables = omega arith; adaptives = omega arith; forms = omega arith }
+
+pub kept_behind : (s : Sizes) (st : Statement) → IsKept s → is_within (counted s st) ≡ true → IsKept (counted s st)
+kept_behind s (Uncertain d) kept h = record { within = h; variables = kept.variables; adaptives = kept.adaptives; forms = kept.forms }
+kept_behind s (Var d) kept h = record { within = h; variables = omega (arith, kept.variables); adaptives = omega (arith, kept.adaptives); forms = omega (arith, kept.forms) }
+kept_behind s (Adaptive p) kept h = record { within = h; variables = omega (arith, kept.variables); adaptives = omega (arith, kept.adaptives); forms = omega (arith, kept.forms) }
+kept_behind s (Set r) kept h = record { within = h; variables = kept.variables; adaptives = kept.adaptives; forms = kept.forms }
+kept_behind s (Budget b) kept h = record { within = h; variables = kept.variables; adaptives = kept.adaptives; forms = kept.forms }
+kept_behind s (Row r) kept h = record { within = h; variables = kept.variables; adaptives = kept.adaptives; forms = omega (arith, kept.forms) }
+kept_behind s (Goal g) kept h = kept

@@ -1,0 +1,12 @@
+use Rattle.rob_parse.specs.Readers.{goes_on_number}
+use Rattle.rob_parse.specs.Statements.{spell_bounds}
+use Rattle.rob_parse.proofs.WholeLemmas.{none_of_missing, none_behind, no_bounds, empty_test}
+use Rattle.rob_parse.proofs.bounds.optional_bounds.Goals as goal
+
+pub returns-in_err-found : goal.returns-in_err-found
+returns-in_err-found c =
+    rw c.from_residual.ensures (no_bounds c.args.symbols.now (empty_test c.args.symbols.now (c.if-is_empty.ensures)) (none_of_missing spell_bounds goes_on_number c.args.symbols.now c.in_err-found.ensures))
+
+pub returns-else-is_empty-2 : goal.returns-else-is_empty-2
+returns-else-is_empty-2 c =
+    no_bounds c.args.symbols.now (empty_test c.args.symbols.now (c.if-is_empty.ensures)) (none_behind spell_bounds goes_on_number c.args.symbols.now c.in_ok-found.found c.in_ok-found.rest.now c.in_ok-found.ensures (empty_test c.in_ok-found.rest.now c.if-is_empty-2.ensures))

@@ -1,0 +1,24 @@
+use Rattle.std.proofs.Common.{List, ◌∷◌, [], ◌++◌, ap, ◌∙◌}
+use Rattle.std.proofs.lemmas.Result.{err_from_is_err_and}
+use Rattle.rob_parse.specs.declared.syntax.Member.{Member}
+use Rattle.rob_parse.proofs.CauseLemmas.{refused_with}
+use Rattle.rob_parse.proofs.LineLemmas.{members_read, no_members, no_members_behind, no_members_then}
+use Rattle.rob_parse.proofs.WholeLemmas.{empty_is, empty_test}
+use Rattle.rob_parse.proofs.budget.members.Goals as goal
+
+pub returns-in_default : goal.returns-in_default
+returns-in_default c = no_members c.in_default.ensures
+
+pub returns-in_err-rest : goal.returns-in_err-rest
+returns-in_err-rest c =
+    let p = err_from_is_err_and c.from_residual-in_err-rest.result c.from_residual-in_err-rest.ensures.1 in
+    refused_with c.from_residual-in_err-rest.result _ _ c.in_err-rest.field-0.0 p.0 p.1 p.2
+    (no_members_behind c.in-Some.first c.in-Some.ensures c.in_err-rest.field-0.0 c.in_err-rest.ensures)
+
+pub returns-then-is_empty : goal.returns-then-is_empty
+returns-then-is_empty c =
+    members_read c.in-Some.first c.in-Some.ensures (c.in_ok-push.ensures.appended ∙ ap (λ (l : List Member). l ++ c.in-Some.first ∷ []) c.new-list.ensures.empty) c.in_ok-rest.ensures (empty_is c.in_ok-rest.rest.now c.if-is_empty.ensures)
+
+pub returns-else-is_empty : goal.returns-else-is_empty
+returns-else-is_empty c =
+    no_members_then c.in-Some.first c.in-Some.ensures (c.in_ok-push.ensures.appended ∙ ap (λ (l : List Member). l ++ c.in-Some.first ∷ []) c.new-list.ensures.empty) c.in_ok-rest.ensures (empty_test c.in_ok-rest.rest.now c.if-is_empty.ensures)

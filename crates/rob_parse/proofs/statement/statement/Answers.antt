@@ -1,0 +1,20 @@
+use Rattle.rob_parse.proofs.StatementLemmas.{is_uncertain, is_variable, is_set, is_budget, is_adaptive, is_row}
+use Rattle.rob_parse.proofs.statement.statement.Goals as goal
+
+pub returns-in-Some-declared : goal.returns-in-Some-declared
+returns-in-Some-declared c = is_uncertain c.in-Some-declared.parameter c.in-Some.ensures c.in-Uncertain.is c.in-Some-declared.ensures
+
+pub returns-in-Some-declared-2 : goal.returns-in-Some-declared-2
+returns-in-Some-declared-2 c = is_variable c.in-Some-declared-2.variable c.in-Some.ensures c.in-Var.is c.in-Some-declared-2.ensures
+
+pub returns-in_ok-relation-in-Set : goal.returns-in_ok-relation-in-Set
+returns-in_ok-relation-in-Set c = is_set c.in-Some.ensures c.in-Set.is c.in_ok-relation-in-Set.ensures
+
+pub returns-in_ok-budget-in-Budget : goal.returns-in_ok-budget-in-Budget
+returns-in_ok-budget-in-Budget c = is_budget c.in-Some.ensures c.in-Budget.is c.in_ok-budget-in-Budget.ensures
+
+pub returns-in_ok-policy-in-Adaptive : goal.returns-in_ok-policy-in-Adaptive
+returns-in_ok-policy-in-Adaptive c = is_adaptive c.in_ok-policy-in-Adaptive.field-0 c.in-Some.ensures c.in-Adaptive.is c.in_ok-policy-in-Adaptive.ensures
+
+pub returns-in_ok-row-in-Row : goal.returns-in_ok-row-in-Row
+returns-in_ok-row-in-Row c = is_row c.in-Some.ensures c.in-Row.is c.in_ok-row-in-Row.ensures

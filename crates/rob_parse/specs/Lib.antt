@@ -1,0 +1,14 @@
+pub mod Grammar
+pub mod Lists
+pub mod Statements
+pub mod Readers
+pub mod Symbols
+pub mod Known
+pub mod Trees
+pub mod Degrees
+pub mod Faults
+pub mod Weights
+pub mod Sizes
+pub mod Scopes
+pub mod Reading
+pub mod Progress

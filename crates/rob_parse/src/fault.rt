@@ -1,0 +1,343 @@
+//! What may be wrong with a line.
+
+ghost use Rattle.std.specs.Prelude.{◌≡◌, drop};
+ghost use Rattle.std.specs.List.{list_any};
+ghost use Rattle.rob_parse.specs.Faults.{has_fault as has_fault_lem, first_fault as first_fault_lem, rule_of as rule_of_lem, head_length, begins_with_zero as begins_with_zero_lem, has_twice as has_twice_lem, has_zero_behind as has_zero_behind_lem, is_lead as is_lead_lem, is_over as is_over_lem, is_unknown as is_unknown_lem, names_decision as names_decision_lem, is_name as is_name_lem, is_usable as is_usable_lem, is_decision as is_decision_lem, is_listing as is_listing_lem, is_of_set as is_of_set_lem, is_declared as is_declared_lem};
+ghost use Rattle.rob_parse.specs.Scopes.{earlier_of};
+ghost use Rattle.rob_parse.specs.Sizes.{IsSmall};
+ghost use Rattle.rob_parse.specs.Trees.{tree_of};
+ghost use Rattle.rob_parse.specs.declared.fault.Fault.TheVariants.{NameTwice};
+ghost use Rattle.rob_parse.specs.Weights.{weight_of, joined as joined_lem, statement_weight};
+
+use crate::degree::{Weight, joined, nothing, sort_at, weigh};
+use crate::scope::{Scope, declared_by, is_goal};
+use crate::sort::Sort;
+use crate::symbol::{Keyword, Mark, Symbol};
+use crate::syntax::{Relation, Statement};
+
+/// What may be wrong with a line, in the order of the rules' numbers.
+#[derive(Clone, Copy, PartialEq, Eq)]
+pub enum Fault {
+    /// The line's tokens are no statement, or a name is too long.
+    NotAStatement,
+    /// The declared name is declared already, or an adaptive variable's list or a budget holds a name twice.
+    NameTwice,
+    /// A used name isn't declared on an earlier line, or is a row's.
+    NameUnknown,
+    /// A run of digits has a value over the limit.
+    NumberTooLong,
+    /// A number behind `by` has a numerator of value 0.
+    DeviationNotPositive,
+    /// A product is of degree over 1 in the decisions.
+    TwoDecisions,
+    /// A product that holds no adaptive variable with a list is of degree over 1 in the parameters.
+    TwoUncertain,
+    /// A product that holds one is.
+    RandomRecourse,
+    /// A set statement, a budget or an adaptive variable's list uses a variable or an adaptive variable.
+    DecisionInSet,
+    /// The text has no goal. Its line is one more than the text has line ends.
+    NoObjective,
+    /// The line is a second goal.
+    ObjectiveTwice,
+    /// A limit on the model's size is passed on this line.
+    Limit,
+    /// Digits behind `/` have the value 0.
+    ZeroDivisor,
+}
+
+impl Fault {
+    /// The number of the rule that the fault breaks.
+    pub fn rule(self) -> u8
+        ensures rule { result ≡ rule_of_lem self }
+    {
+        match self {
+            Fault::NotAStatement => 11,
+            Fault::NameTwice => 12,
+            Fault::NameUnknown => 13,
+            Fault::NumberTooLong => 14,
+            Fault::DeviationNotPositive => 15,
+            Fault::TwoDecisions => 16,
+            Fault::TwoUncertain => 17,
+            Fault::RandomRecourse => 18,
+            Fault::DecisionInSet => 19,
+            Fault::NoObjective => 20,
+            Fault::ObjectiveTwice => 21,
+            Fault::Limit => 22,
+            Fault::ZeroDivisor => 23,
+        }
+    }
+}
+
+/// What stands in front of digits that may not be 0.
+#[derive(Clone, Copy)]
+pub enum Lead {
+    By,
+    Slash,
+}
+
+/// The fault that decides, if the statement has one.
+pub fn first_fault(
+    limit: u64,
+    scope: &Scope,
+    symbols: &[Symbol],
+    statement: &Statement,
+) -> Option<Fault>
+    requires { IsSmall scope.now.sizes }
+    ensures { result ≡ first_fault_lem limit (earlier_of scope.now) symbols.now statement.now }
+{
+    const IN_ORDER: [Fault; 11] = [
+        Fault::NameTwice,
+        Fault::NameUnknown,
+        Fault::NumberTooLong,
+        Fault::DeviationNotPositive,
+        Fault::TwoDecisions,
+        Fault::TwoUncertain,
+        Fault::RandomRecourse,
+        Fault::DecisionInSet,
+        Fault::ObjectiveTwice,
+        Fault::Limit,
+        Fault::ZeroDivisor,
+    ];
+    for fault in IN_ORDER {
+        if has_fault(limit, scope, symbols, statement, fault) {
+            return Some(fault);
+        }
+    }
+    None
+}
+
+/// Whether the statement has the fault.
+fn has_fault(
+    limit: u64,
+    scope: &Scope,
+    symbols: &[Symbol],
+    statement: &Statement,
+    fault: Fault,
+) -> bool
+    requires { IsSmall scope.now.sizes }
+    ensures { result ≡ has_fault_lem limit (earlier_of scope.now) symbols.now statement.now fault }
+{
+    match fault {
+        Fault::NameTwice => name_twice(scope, symbols, statement),
+        Fault::NameUnknown => some_unknown(&scope.sorts, used(symbols, statement)),
+        Fault::NumberTooLong => some_over(limit, symbols),
+        Fault::DeviationNotPositive => has_zero_behind(Lead::By, symbols),
+        Fault::TwoDecisions => weigh_statement(&scope.sorts, statement).two_decisions,
+        Fault::TwoUncertain => weigh_statement(&scope.sorts, statement).two_uncertain,
+        Fault::RandomRecourse => weigh_statement(&scope.sorts, statement).random_recourse,
+        Fault::DecisionInSet => {
+            is_of_set(statement) && some_decision(&scope.sorts, used(symbols, statement))
+        }
+        Fault::ObjectiveTwice => is_goal(statement) && scope.goal,
+        Fault::Limit => !scope.sizes.counted(statement).is_within(),
+        Fault::ZeroDivisor => has_zero_behind(Lead::Slash, symbols),
+        Fault::NotAStatement | Fault::NoObjective => false,
+    }
+}
+
+/// Whether the declared name is declared already, or a list holds a name twice.
+fn name_twice(scope: &Scope, symbols: &[Symbol], statement: &Statement) -> bool
+    requires { IsSmall scope.now.sizes }
+    ensures { result ≡ has_fault_lem 0 (earlier_of scope.now) symbols.now statement.now NameTwice }
+{
+    let declared = declared_by(scope.sizes, statement);
+    is_declared(&scope.sorts, declared)
+        || is_listing(statement) && has_twice(used(symbols, statement))
+}
+
+/// Whether a declared name is declared already.
+fn is_declared(sorts: &[Option<Sort>], declared: Option<(usize, Sort)>) -> bool
+    ensures { result ≡ is_declared_lem sorts.now declared }
+{
+    match declared {
+        Some((name, _)) => sort_at(sorts, name).is_some(),
+        None => false,
+    }
+}
+
+/// The symbols that hold the names that the statement uses.
+fn used<'a>(symbols: &'a [Symbol], statement: &Statement) -> &'a [Symbol]
+    ensures { result.now ≡ drop (head_length statement.now) symbols.now }
+{
+    let head = match statement {
+        Statement::Uncertain(_) | Statement::Var(_) | Statement::Adaptive(_) | Statement::Row(_) =>
+            2,
+        Statement::Set(_) | Statement::Budget(_) | Statement::Goal(_) => 1,
+    };
+    &symbols[symbols.len().min(head)..]
+}
+
+/// Whether an adaptive variable or a budget is declared.
+fn is_listing(statement: &Statement) -> bool
+    ensures { result ≡ is_listing_lem statement.now }
+{
+    matches!(statement, Statement::Adaptive(_) | Statement::Budget(_))
+}
+
+/// Whether the names of a statement are parameters.
+fn is_of_set(statement: &Statement) -> bool
+    ensures { result ≡ is_of_set_lem statement.now }
+{
+    matches!(
+        statement,
+        Statement::Set(_) | Statement::Budget(_) | Statement::Adaptive(_)
+    )
+}
+
+/// Whether some name stands there twice.
+fn has_twice(symbols: &[Symbol]) -> bool
+    ensures { result ≡ has_twice_lem symbols.now }
+{
+    for (i, symbol) in symbols.iter().enumerate() {
+        if let Symbol::Name(name) = symbol
+            && has_name(*name, &symbols[i + 1..])
+        {
+            return true;
+        }
+    }
+    false
+}
+
+/// Whether the name stands there.
+fn has_name(name: usize, symbols: &[Symbol]) -> bool
+    ensures { result ≡ list_any (is_name_lem name) symbols.now }
+{
+    symbols.iter().any(|symbol| is_name(name, *symbol))
+}
+
+/// Whether the symbol is the name of this number.
+fn is_name(name: usize, symbol: Symbol) -> bool
+    ensures { result ≡ is_name_lem name symbol }
+{
+    match symbol {
+        Symbol::Name(other) => name == other,
+        Symbol::Digits(_) | Symbol::Sign(_) | Symbol::Reserved(_) => false,
+    }
+}
+
+/// Whether a name there may not be used.
+fn some_unknown(sorts: &[Option<Sort>], symbols: &[Symbol]) -> bool
+    ensures { result ≡ list_any (is_unknown_lem sorts.now) symbols.now }
+{
+    symbols.iter().any(|symbol| is_unknown(sorts, *symbol))
+}
+
+/// Whether the symbol is a name that may not be used.
+fn is_unknown(sorts: &[Option<Sort>], symbol: Symbol) -> bool
+    ensures { result ≡ is_unknown_lem sorts.now symbol }
+{
+    match symbol {
+        Symbol::Name(name) => !is_usable(sort_at(sorts, name)),
+        Symbol::Digits(_) | Symbol::Sign(_) | Symbol::Reserved(_) => false,
+    }
+}
+
+/// Whether a name that stands for this may be used.
+fn is_usable(sort: Option<Sort>) -> bool
+    ensures { result ≡ is_usable_lem sort }
+{
+    match sort {
+        Some(Sort::Parameter(_) | Sort::Decision(_) | Sort::Policy(_, _)) => true,
+        Some(Sort::RowName) | None => false,
+    }
+}
+
+/// Whether a name there stands for a decision.
+fn some_decision(sorts: &[Option<Sort>], symbols: &[Symbol]) -> bool
+    ensures { result ≡ list_any (names_decision_lem sorts.now) symbols.now }
+{
+    symbols.iter().any(|symbol| names_decision(sorts, *symbol))
+}
+
+/// Whether the symbol is the name of a decision.
+fn names_decision(sorts: &[Option<Sort>], symbol: Symbol) -> bool
+    ensures { result ≡ names_decision_lem sorts.now symbol }
+{
+    match symbol {
+        Symbol::Name(name) => is_decision(sort_at(sorts, name)),
+        Symbol::Digits(_) | Symbol::Sign(_) | Symbol::Reserved(_) => false,
+    }
+}
+
+/// Whether a name that stands for this is a decision.
+fn is_decision(sort: Option<Sort>) -> bool
+    ensures { result ≡ is_decision_lem sort }
+{
+    match sort {
+        Some(Sort::Decision(_) | Sort::Policy(_, _)) => true,
+        Some(Sort::Parameter(_) | Sort::RowName) | None => false,
+    }
+}
+
+/// Whether digits there have a value over the limit.
+fn some_over(limit: u64, symbols: &[Symbol]) -> bool
+    ensures { result ≡ list_any (is_over_lem limit) symbols.now }
+{
+    symbols.iter().any(|symbol| is_over(limit, *symbol))
+}
+
+/// Whether the symbol is digits whose value is over the limit.
+fn is_over(limit: u64, symbol: Symbol) -> bool
+    ensures { result ≡ is_over_lem limit symbol }
+{
+    match symbol {
+        Symbol::Digits(value) => limit < value,
+        Symbol::Name(_) | Symbol::Sign(_) | Symbol::Reserved(_) => false,
+    }
+}
+
+/// Whether digits of value 0 stand directly behind such a symbol.
+fn has_zero_behind(lead: Lead, symbols: &[Symbol]) -> bool
+    ensures { result ≡ has_zero_behind_lem lead symbols.now }
+{
+    for (i, symbol) in symbols.iter().enumerate() {
+        if is_lead(lead, *symbol) && begins_with_zero(&symbols[i + 1..]) {
+            return true;
+        }
+    }
+    false
+}
+
+/// Whether the symbols begin with digits of value 0.
+fn begins_with_zero(symbols: &[Symbol]) -> bool
+    ensures { result ≡ begins_with_zero_lem symbols.now }
+{
+    match symbols {
+        [Symbol::Digits(value), ..] => *value == 0,
+        _ => false,
+    }
+}
+
+/// Whether the symbol is the word `by`, or the sign `/`.
+fn is_lead(lead: Lead, symbol: Symbol) -> bool
+    ensures { result ≡ is_lead_lem lead symbol }
+{
+    match (lead, symbol) {
+        (Lead::By, Symbol::Reserved(Keyword::By)) => true,
+        (Lead::Slash, Symbol::Sign(Mark::Slash)) => true,
+        _ => false,
+    }
+}
+
+/// The weight of all expressions of a statement together.
+fn weigh_statement(sorts: &[Option<Sort>], statement: &Statement) -> Weight
+    ensures { result ≡ statement_weight sorts.now statement.now }
+{
+    match statement {
+        Statement::Set(relation) => weigh_relation(sorts, relation),
+        Statement::Row(row) => weigh_relation(sorts, &row.relation),
+        Statement::Goal(goal) => weigh(sorts, &goal.objective),
+        Statement::Uncertain(_)
+        | Statement::Budget(_)
+        | Statement::Var(_)
+        | Statement::Adaptive(_) => nothing(),
+    }
+}
+
+/// The weight of both sides together.
+fn weigh_relation(sorts: &[Option<Sort>], relation: &Relation) -> Weight
+    ensures { result ≡ joined_lem (weight_of sorts.now (tree_of relation.now.left)) (weight_of sorts.now (tree_of relation.now.right)) }
+{
+    joined(weigh(sorts, &relation.left), weigh(sorts, &relation.right))
+}

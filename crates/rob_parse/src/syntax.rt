@@ -1,0 +1,140 @@
+//! What the parser makes of a line: names are numbers of words, and numbers are as they are written.
+
+use rob_number::List;
+
+/// A number as it is written: digits, and the digits behind `/`.
+#[derive(Clone, Copy)]
+pub struct Numeral {
+    pub numerator: u64,
+    pub divisor: Option<u64>,
+}
+
+/// A signed part of a sum.
+#[cycle(syntax)]
+#[derive(Drop)]
+pub struct Summand {
+    pub minus: bool,
+    pub inner: Syntax,
+}
+
+/// An expression's tree. A sum has two parts or more, or one that is subtracted; a product has two factors or more.
+#[cycle(syntax)]
+#[derive(Drop)]
+pub enum Syntax {
+    Number(Numeral),
+    /// The number of a word.
+    Name(usize),
+    Sum(List<Summand>),
+    Product(List<Syntax>),
+}
+
+/// A number with an optional `-`.
+#[derive(Clone, Copy)]
+pub struct Signed {
+    pub minus: bool,
+    pub number: Numeral,
+}
+
+/// Both bounds.
+#[derive(Clone, Copy)]
+pub struct Interval {
+    pub lower: Signed,
+    pub upper: Signed,
+}
+
+/// Bounds as they are written.
+#[derive(Clone, Copy)]
+pub enum Bounds {
+    Between(Interval),
+    AtLeast(Signed),
+    AtMost(Signed),
+}
+
+/// A relation.
+#[derive(Clone, Copy, PartialEq, Eq)]
+pub enum Rel {
+    AtMost,
+    AtLeast,
+    Equal,
+}
+
+/// The sense of a goal.
+#[derive(Clone, Copy, PartialEq, Eq)]
+pub enum Sense {
+    Minimise,
+    Maximise,
+}
+
+/// A name that is declared, with its bounds.
+#[derive(Clone, Copy)]
+pub struct Declared {
+    /// The number of a word.
+    pub name: usize,
+    pub bounds: Option<Bounds>,
+}
+
+/// A centre and the greatest deviation from it.
+#[derive(Clone, Copy)]
+pub struct Spread {
+    pub centre: Signed,
+    pub deviation: Numeral,
+}
+
+/// A member of a budget of uncertainty: a parameter with its centre and its deviation.
+#[derive(Clone, Copy)]
+pub struct Member {
+    /// The number of a word.
+    pub name: usize,
+    pub spread: Spread,
+}
+
+/// A budget of uncertainty: its limit and its members, of which there is one at least.
+#[derive(Drop)]
+pub struct Budget {
+    pub limit: Numeral,
+    pub members: List<Member>,
+}
+
+/// An adaptive variable that is declared, with the parameters that it depends on and its bounds.
+#[derive(Drop)]
+pub struct Policy {
+    /// The number of a word.
+    pub name: usize,
+    /// The numbers of words.
+    pub on: List<usize>,
+    pub bounds: Option<Bounds>,
+}
+
+/// Two expressions with a relation between them.
+#[derive(Drop)]
+pub struct Relation {
+    pub left: Syntax,
+    pub rel: Rel,
+    pub right: Syntax,
+}
+
+/// A row: the number of its name's word, and what it demands.
+#[derive(Drop)]
+pub struct Row {
+    pub name: usize,
+    pub relation: Relation,
+}
+
+/// The goal.
+#[derive(Drop)]
+pub struct Goal {
+    pub sense: Sense,
+    pub objective: Syntax,
+}
+
+/// A statement.
+#[derive(Drop)]
+pub enum Statement {
+    Uncertain(Declared),
+    Set(Relation),
+    Budget(Budget),
+    Var(Declared),
+    Adaptive(Policy),
+    Goal(Goal),
+    Row(Row),
+}
