@@ -1,0 +1,54 @@
+// How a run ends.
+
+ghost use Rattle.std.specs.Prelude.{◌≡◌};
+ghost use Rattle.rob_top.specs.Codes.{code_of};
+
+use rob_model::{Place, Spot};
+
+/// How a run ended. `Model` and `Cert` hold the number of the rule that the text breaks, and its line, from 1.
+#[derive(Debug, Drop)]
+pub enum Ended {
+    /// The certificate proves that the model is optimal at its value.
+    Accepted,
+    /// The certificate doesn't prove: that condition fails.
+    Rejected(Place),
+    /// The words are no command line.
+    Words,
+    /// A named file isn't there.
+    Missing,
+    /// A named file is longer than it may be.
+    TooLong,
+    /// The model's text can't be read.
+    Model(u8, u32),
+    /// A number is wider than the program computes with.
+    TooWide(Spot),
+    /// The certificate's text can't be read.
+    Cert(u8, u32),
+    /// The outside failed while a file was read.
+    ReadFault,
+    /// The outside failed while the output was put.
+    WriteFault,
+    /// Memory was refused.
+    Memory,
+}
+
+impl Ended {
+    /// The exit status.
+    pub fn code(&self) -> u8
+        ensures code { result ≡ code_of self.now }
+    {
+        match self {
+            Ended::Accepted => 0,
+            Ended::Rejected(_) => 12,
+            Ended::Words => 20,
+            Ended::Missing => 21,
+            Ended::TooLong => 22,
+            Ended::Model(_, _) => 23,
+            Ended::TooWide(_) => 25,
+            Ended::Cert(_, _) => 26,
+            Ended::ReadFault => 30,
+            Ended::WriteFault => 31,
+            Ended::Memory => 40,
+        }
+    }
+}

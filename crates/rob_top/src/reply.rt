@@ -1,0 +1,59 @@
+// Answers with their texts, assembled before anything is put.
+
+ghost use Rattle.std.specs.Prelude.{◌≡◌, ◌++◌, IfOk, codes, decimal};
+ghost use Rattle.std.specs.Fmt.{signed_decimal};
+ghost use Rattle.rob_top.specs.Answers.{fault_text, line_text};
+ghost use Rattle.rob_top.specs.Replies.{Replies};
+
+use crate::ended::Ended;
+use itoa::Buffer;
+use rob_number::{Memory, Text};
+use std::alloc::Global;
+
+/// An answer, and the whole text that is put for it.
+#[derive(Debug, Drop)]
+pub struct Reply {
+    pub ended: Ended,
+    pub text: Text,
+}
+
+/// The answer with a line of these two pieces.
+pub fn line(alloc: Global, ended: Ended, first: &[u8], second: &[u8]) -> Result<Reply, Memory>
+    ensures line { IfOk result (Replies ended (line_text (first.now ++ second.now))) }
+{
+    let mut text = Text::new(alloc);
+    text.push(first)?;
+    text.push(second)?;
+    text.push(b"\n")?;
+    Ok(Reply { ended, text })
+}
+
+/// The answer with the line of a fault, which has these two pieces.
+pub fn fault(alloc: Global, ended: Ended, what: &[u8], name: &[u8]) -> Result<Reply, Memory>
+    ensures fault { IfOk result (Replies ended (fault_text (what.now ++ name.now))) }
+{
+    let mut text = Text::new(alloc);
+    text.push(b"fault: ")?;
+    text.push(what)?;
+    text.push(name)?;
+    text.push(b"\n")?;
+    Ok(Reply { ended, text })
+}
+
+/// The answer with the line of a broken rule. `kind` is whose rule it is.
+pub fn broken_rule(
+    alloc: Global,
+    ended: Ended,
+    kind: &[u8],
+    rule: u8,
+    line: u32,
+) -> Result<Reply, Memory>
+    ensures fault { IfOk result (Replies ended
+        (fault_text (kind.now ++ (decimal rule ++ (codes " line " ++ decimal line))))) }
+{
+    let mut place = Text::new(alloc);
+    place.push(Buffer::new().format(rule).as_bytes())?;
+    place.push(b" line ")?;
+    place.push(Buffer::new().format(line).as_bytes())?;
+    fault(alloc, ended, kind, place.bytes())
+}

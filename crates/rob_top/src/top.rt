@@ -1,0 +1,134 @@
+// The top call.
+//
+// Order of work, which is the order of answers: the words are read; the files are fetched in the words' order, and the first
+// that doesn't come whole decides; the texts are judged; the whole output is assembled; it is put, line by line.
+
+ghost use Rattle.std.specs.Prelude.{◌≡◌, ◌≤◌, ℕ, List, IfOk, map, string_bytes};
+ghost use Rattle.rob_top.specs.Commands.{check, IsSpelled};
+ghost use Rattle.rob_top.specs.Headline.{Call, Ends, Means, PutPrefix, call_of, count, output_of};
+ghost use Rattle.rob_top.specs.Lines.{Word};
+
+use crate::ended::Ended;
+use crate::files::{Got, get};
+use crate::put::put_lines;
+use crate::reply::{Reply, fault};
+use crate::thin_judge::judge;
+use crate::words::{Words, read_words};
+use rob_number::{Ledger, Memory};
+use rob_outside::{Shelf, Sink, SinkErr};
+use std::alloc::Global;
+
+/// How many bytes a model's file may have.
+const MODEL_BYTES: usize = 65_536;
+
+/// How many bytes a certificate's file may have.
+const CERTIFICATE_BYTES: usize = 4_194_304;
+
+/// Does what the words say: reads the files that they name from the shelf, and puts its answer into the sink, one put for
+/// each line with its line end. `words` are those of the command line, without the program's own name. The ledger counts the
+/// operations on exact numbers and the results found wide.
+///
+/// After a refused put nothing more is put. Where memory is refused before the output is put, the line `fault: memory` is
+/// put, and where that is refused too, the answer stays want of memory.
+pub fn run<S: Shelf, K: Sink, L: Ledger>(
+    alloc: Global,
+    words: &[String],
+    shelf: &mut S,
+    out: &mut K,
+    ledger: &mut L,
+) -> Ended
+    // What the answer means of the files, and which bytes were put for it.
+    ensures headline { Ends
+        (call_of (map string_bytes words.now) (S.files shelf.old)
+        (count (S.faults shelf.old) (S.faults shelf.new)) (count (L.wides ledger.old) (L.wides ledger.new)))
+        (output_of (K.taken out.old) (K.taken out.new) (count (K.faults out.old) (K.faults out.new)))
+        result }
+    ensures files { S.files shelf.new ≡ S.files shelf.old }
+    ensures counted { (S.faults shelf.old ≤ S.faults shelf.new) × (K.faults out.old ≤ K.faults out.new)
+        × (L.wides ledger.old ≤ L.wides ledger.new) }
+{
+    match answer(alloc, words, shelf, ledger) {
+        Ok(reply) => put_reply(reply, out),
+        Err(Memory) => {
+            put_memory(out);
+            Ended::Memory
+        }
+    }
+}
+
+/// The answer with its text, before anything is put.
+fn answer<S: Shelf, L: Ledger>(
+    alloc: Global,
+    words: &[String],
+    shelf: &mut S,
+    ledger: &mut L,
+) -> Result<Reply, Memory>
+    ensures means { IfOk result (λ reply. Means
+        (call_of (map string_bytes words.now) (S.files shelf.old)
+        (count (S.faults shelf.old) (S.faults shelf.new)) (count (L.wides ledger.old) (L.wides ledger.new)))
+        reply.ended reply.text) }
+    ensures files { S.files shelf.new ≡ S.files shelf.old }
+    ensures counted { (S.faults shelf.old ≤ S.faults shelf.new) × (L.wides ledger.old ≤ L.wides ledger.new) }
+{
+    match read_words(words) {
+        Some(Words::Check { model, certificate }) => {
+            check_files(alloc, model, certificate, shelf, ledger)
+        }
+        None => fault(alloc, Ended::Words, b"words", b""),
+    }
+}
+
+/// The answer of `check` with its text.
+fn check_files<S: Shelf, L: Ledger>(
+    alloc: Global,
+    model: &str,
+    certificate: &str,
+    shelf: &mut S,
+    ledger: &mut L,
+) -> Result<Reply, Memory>
+    ensures means { IfOk result (λ reply. (words : List Word)
+        → IsSpelled words (check model.now certificate.now)
+        → Means
+        (call_of words (S.files shelf.old)
+        (count (S.faults shelf.old) (S.faults shelf.new)) (count (L.wides ledger.old) (L.wides ledger.new)))
+        reply.ended reply.text) }
+    ensures files { S.files shelf.new ≡ S.files shelf.old }
+    ensures counted { (S.faults shelf.old ≤ S.faults shelf.new) × (L.wides ledger.old ≤ L.wides ledger.new) }
+{
+    let model_bytes = match get(alloc, model, MODEL_BYTES, shelf)? {
+        Got::Bytes(bytes) => bytes,
+        Got::Answer(reply) => return Ok(reply),
+    };
+    let certificate_bytes = match get(alloc, certificate, CERTIFICATE_BYTES, shelf)? {
+        Got::Bytes(bytes) => bytes,
+        Got::Answer(reply) => return Ok(reply),
+    };
+    judge(
+        alloc,
+        model_bytes.as_slice(),
+        certificate_bytes.as_slice(),
+        ledger,
+    )
+}
+
+/// Puts the text of a reply.
+fn put_reply<K: Sink>(reply: Reply, out: &mut K) -> Ended
+    ensures ends { (call : Call) → Means call reply.ended reply.text → Ends call
+        (output_of (K.taken out.old) (K.taken out.new) (count (K.faults out.old) (K.faults out.new))) result }
+    ensures counted { K.faults out.old ≤ K.faults out.new }
+{
+    match put_lines(reply.text.bytes(), out) {
+        Ok(()) => reply.ended,
+        Err(SinkErr::Failed) => Ended::WriteFault,
+        Err(SinkErr::Memory) => Ended::Memory,
+    }
+}
+
+/// Puts the line of a want of memory, which takes no memory. Where that is refused too, nothing changes in the answer.
+fn put_memory<K: Sink>(out: &mut K)
+    ensures prefix { (call : Call) → PutPrefix call
+        (output_of (K.taken out.old) (K.taken out.new) (count (K.faults out.old) (K.faults out.new))) }
+    ensures counted { K.faults out.old ≤ K.faults out.new }
+{
+    let _ = out.put(b"fault: memory\n");
+}
