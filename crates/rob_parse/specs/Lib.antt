@@ -12,6 +12,3 @@ pub mod Sizes
 pub mod Scopes
 pub mod Reading
 pub mod Progress
-pub mod Models
-pub mod Building
-pub mod Modelled

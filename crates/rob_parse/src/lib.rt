@@ -7,13 +7,10 @@ mod degree;
 mod error;
 mod expr;
 mod fault;
-mod fraction;
 mod keyword;
 pub mod laws;
 mod line;
-mod model;
 mod number;
-mod parts;
 mod policy;
 mod reader;
 mod scope;
@@ -22,12 +19,10 @@ mod sort;
 mod statement;
 mod symbol;
 mod syntax;
-mod tree;
 mod words;
 
 pub use error::ModelErr;
 pub use fault::Fault;
-pub use model::read_model;
 pub use reader::{Statements, read_statements};
 
 #[cfg(test)]

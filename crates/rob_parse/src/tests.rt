@@ -1,9 +1,6 @@
 use crate::error::ModelErr;
-use crate::model::read_model;
 use crate::reader::{Statements, read_statements};
 use crate::syntax::{Statement, Syntax};
-use rob_model::{Expr, Model};
-use rob_number::{Frac, Tally};
 use std::test::Fail;
 
 const LIMIT: u64 = (1 << 62) - 1;
@@ -125,66 +122,5 @@ fn nested_sums_stay_nested(rt: HostRuntime) -> Result<(), Fail> {
     assert!(rt; first.minus);
     assert!(rt; matches!(&first.inner, Syntax::Product(factors) if factors.items().len() == 2));
     assert!(rt; matches!(&second.inner, Syntax::Sum(_)));
-    Ok(())
-}
-
-/// How many parameters, statements on the set, variables, adaptive variables and rows the model of a text has, with numbers
-/// of 8 bits; or the rule and the line that it breaks. Nothing where memory was refused, or where the text is too long.
-fn model_reading(rt: &HostRuntime, text: &[u8]) -> Option<Result<[usize; 5], (u8, u32)>> {
-    if text.len() > 1 << 30 {
-        return None;
-    }
-    let mut tally = Tally::new();
-    let read: Result<Model<Frac<8>>, ModelErr> = read_model(rt.alloc(), text, &mut tally);
-    match read {
-        Ok(model) => Some(Ok([
-            model.params.items().len(),
-            model.set_lines.items().len(),
-            model.vars.items().len(),
-            model.adaptives.items().len(),
-            model.rows.items().len(),
-        ])),
-        Err(ModelErr::Rule(rule, line)) => Some(Err((rule, line))),
-        Err(ModelErr::Memory) => None,
-    }
-}
-
-#[rattlefmt::skip]
-const MODELS: [(&str, &[u8], Result<[usize; 5], (u8, u32)>); 12] = [
-    ("one row",                 b"uncertain d in [8, 12]\nvar x\nminimise x\nrow need: x >= d\n", Ok([1, 0, 1, 0, 1])),
-    ("a lot over two periods",  b"uncertain a in [1, 3]\nuncertain b\nbudget 1: a at 2 by 1, b at 0 by 1/2\nset a + b <= 3\nvar x >= 0\nadaptive y(a) >= 0\nminimise x + y\nrow r: x >= a\nrow s: x + y = a + b", Ok([2, 2, 1, 1, 2])),
-    ("a sum under a product",   b"var x\nminimise -(x + 2) * 3",                                  Ok([0, 0, 1, 0, 0])),
-    ("bounds that reduce",      b"var x in [2/4, 4]\nminimise x",                                 Ok([0, 0, 1, 0, 0])),
-    ("the greatest number",     b"var x <= 255\nminimise x",                                      Ok([0, 0, 1, 0, 0])),
-    ("a number over the limit", b"var x <= 256\nminimise x",                                      Err((14, 1))),
-    ("a member twice",          b"uncertain d\nbudget 1: d at -3 by 2, d at 1 by 2",              Err((12, 2))),
-    ("no deviation",            b"uncertain d\nbudget 1: d at 0 by 0",                            Err((15, 2))),
-    ("a variable in the set",   b"var x\nset x <= 1",                                             Err((19, 2))),
-    ("a divisor of 0",          b"var x\nminimise 1/0*x",                                         Err((23, 2))),
-    ("two goals",               b"var x\nminimise x\nmaximise x",                                 Err((21, 3))),
-    ("no goal",                 b"var x\n",                                                       Err((20, 2))),
-];
-
-#[test]
-fn worked_models(rt: HostRuntime) -> Result<(), Fail> {
-    for (name, text, want) in MODELS {
-        assert_eq!(rt; model_reading(&rt, text), Some(want), "{name}");
-    }
-    Ok(())
-}
-
-#[test]
-fn names_are_numbers(rt: HostRuntime) -> Result<(), Fail> {
-    let mut tally = Tally::new();
-    let text = b"var x\nuncertain d\nvar z\nadaptive y(d)\nminimise z + y";
-    let model: Model<Frac<62>> = read_model(rt.alloc(), text, &mut tally)?;
-    let Expr::Sum(parts) = &model.objective else {
-        return Err("no sum")?;
-    };
-    let [first, second] = parts.items() else {
-        return Err("not two parts")?;
-    };
-    assert!(rt; matches!(&first.inner, Expr::Var(1)));
-    assert!(rt; matches!(&second.inner, Expr::Adaptive(0)));
     Ok(())
 }

@@ -1,5 +1,0 @@
-use Rattle.rob_parse.proofs.WellNamed.{well_named}
-use Rattle.rob_parse.proofs.laws.well_named.Goals as goal
-
-pub returns : goal.returns
-returns c = record { names = well_named }
