@@ -22,12 +22,12 @@ use Rattle.rob_model.proofs.ValueLemmas.{value_is, add-zero_ℚ}
 use Rattle.rob_algebra.specs.FractionLaws.{ℚ-zero-add}
 
 -- ---- tests
-at_most_by : (a b : Fraction) (r : Ordering) → MatchOrdering r (a <ℚ b) (a ≡ b) (b <ℚ a) → Decides (is_le r) (a ≤ℚ b)
+pub at_most_by : (a b : Fraction) (r : Ordering) → MatchOrdering r (a <ℚ b) (a ≡ b) (b <ℚ a) → Decides (is_le r) (a ≤ℚ b)
 at_most_by a b Less h = (λ e. le_of_lt_ℚ a b h, λ e. refl)
 at_most_by a b Equal h = (λ e. subst (λ x. a ≤ℚ x) h (le_refl_ℚ a), λ e. refl)
 at_most_by a b Greater h = (λ e. cc, λ e. absurd (not_lt_ℚ a b e h))
 
-at_most_decides : (a b : Fraction) → Decides (is_at_most a b) (a ≤ℚ b)
+pub at_most_decides : (a b : Fraction) → Decides (is_at_most a b) (a ≤ℚ b)
 at_most_decides a b = at_most_by a b (cmp_ℚ a b) (cmp_ℚ-ranks a b)
 
 related_decides : (r : Relation) (a b : Fraction) → Decides (is_related r a b) (Relates r a b)
@@ -71,7 +71,7 @@ module _ (limit : ℕ) (m : RobustModel) (s : Fraction) (p : List Fraction) wher
       ∙ total_is hs (so_far +ℚ a.0) v b
 
   -- a test says whether the condition holds
-  holds_is : (c : SetCondition) (t : Bool) → holds_within limit m s p c ≡ Some t → Decides t (Holds m s p c)
+  pub holds_is : (c : SetCondition) (t : Bool) → holds_within limit m s p c ≡ Some t → Decides t (Holds m s p c)
   holds_is (lower_bound k l) t h =
       told_at_most (s *ℚ l) (at p k) (s *ℚ l) (at p k) t refl refl (through_kept limit (s *ℚ l) (λ scaled. Some (is_at_most scaled (at p k))) t h)
   holds_is (upper_bound k b) t h =

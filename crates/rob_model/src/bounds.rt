@@ -65,7 +65,7 @@ pub fn declared<N>(bound: &Option<N>) -> u32
 }
 
 /// Whether the vector keeps a declared lower bound of parameter `k`.
-fn keeps_lower<N: Exact, L: Ledger>(
+pub fn keeps_lower<N: Exact, L: Ledger>(
     k: usize,
     bound: &Option<N>,
     base: N,
@@ -87,7 +87,7 @@ fn keeps_lower<N: Exact, L: Ledger>(
 }
 
 /// Whether the vector keeps a declared upper bound of parameter `k`.
-fn keeps_upper<N: Exact, L: Ledger>(
+pub fn keeps_upper<N: Exact, L: Ledger>(
     k: usize,
     bound: &Option<N>,
     base: N,

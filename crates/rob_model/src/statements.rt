@@ -46,7 +46,7 @@ pub fn broken_statement<N: Exact, L: Ledger>(
 }
 
 /// Whether a statement, taken `base` times, holds at the vector.
-fn holds<N: Exact, L: Ledger>(
+pub fn holds<N: Exact, L: Ledger>(
     line: &SetLine<N>,
     model: &Model<N>,
     base: N,
