@@ -15,7 +15,7 @@ use Rattle.rob_parse.specs.Progress.{ReadsLines}
 use Rattle.rob_parse.proofs.SizeLemmas.{kept_behind}
 
 -- where nothing is found nothing passes
-none_found : {X : Type 0} (test : X → Bool) (xs : List X) (i : ℕ) (d : X) → find test xs ≡ None → i < length xs → test (get_or xs i d) ≡ false
+pub none_found : {X : Type 0} (test : X → Bool) (xs : List X) (i : ℕ) (d : X) → find test xs ≡ None → i < length xs → test (get_or xs i d) ≡ false
 none_found test [] i d none inside = absurd (omega arith)
 none_found test (x ∷ xs) i d none inside = go (λ k h n. none_found test xs k d n h) (test x) refl none i inside
   where
@@ -24,7 +24,7 @@ none_found test (x ∷ xs) i d none inside = go (λ k h n. none_found test xs k 
     go more false is none zero inside = is
     go more false is none (suc i) inside = more i (omega arith) none
 
-true_of_not : (b : Bool) → not b ≡ false → b ≡ true
+pub true_of_not : (b : Bool) → not b ≡ false → b ≡ true
 true_of_not true h = refl
 true_of_not false h = cc
 

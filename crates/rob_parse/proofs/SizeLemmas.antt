@@ -16,15 +16,15 @@ at_most : (a b : ℕ) → nat_le a b ≡ true → a ≤ b
 at_most a b h = grind (arith, nat_tests)
 
 -- the limits, one by one
-record Within (s : Sizes) : Type 0 where
-  parameters : s.parameters ≤ most_parameters
-  columns : s.columns ≤ most_columns
-  rows : s.rows ≤ most_rows
-  set_lines : s.set_lines ≤ most_set_lines
-  members : s.members ≤ most_members
-  whole : size s ≤ greatest_size
+pub record Within (s : Sizes) : Type 0 where
+  pub parameters : s.parameters ≤ most_parameters
+  pub columns : s.columns ≤ most_columns
+  pub rows : s.rows ≤ most_rows
+  pub set_lines : s.set_lines ≤ most_set_lines
+  pub members : s.members ≤ most_members
+  pub whole : size s ≤ greatest_size
 
-within : (s : Sizes) → is_within s ≡ true → Within s
+pub within : (s : Sizes) → is_within s ≡ true → Within s
 within s h =
     let five = both _ _ h in
     let four = both _ _ five.0 in

@@ -12,3 +12,9 @@ pub mod Sizes
 pub mod Scopes
 pub mod Reading
 pub mod Progress
+pub mod Models
+pub mod Building
+pub mod Modelled
+pub mod Canonical
+pub mod Pages
+pub mod Readable

@@ -1,8 +1,8 @@
 //! What may be wrong with a line.
 
-ghost use Rattle.std.specs.Prelude.{◌≡◌, drop};
+ghost use Rattle.std.specs.Prelude.{◌≡◌, drop, IfOk};
 ghost use Rattle.std.specs.List.{list_any};
-ghost use Rattle.rob_parse.specs.Faults.{has_fault as has_fault_lem, first_fault as first_fault_lem, rule_of as rule_of_lem, head_length, begins_with_zero as begins_with_zero_lem, has_twice as has_twice_lem, has_zero_behind as has_zero_behind_lem, is_lead as is_lead_lem, is_over as is_over_lem, is_unknown as is_unknown_lem, names_decision as names_decision_lem, is_name as is_name_lem, is_usable as is_usable_lem, is_decision as is_decision_lem, is_listing as is_listing_lem, is_of_set as is_of_set_lem, is_declared as is_declared_lem};
+ghost use Rattle.rob_parse.specs.Faults.{has_fault as has_fault_lem, first_fault as first_fault_lem, rule_of as rule_of_lem, head_length, begins_with_zero as begins_with_zero_lem, has_twice as has_twice_lem, has_zero_behind as has_zero_behind_lem, is_lead as is_lead_lem, is_over as is_over_lem, is_unknown as is_unknown_lem, names_decision as names_decision_lem, is_usable as is_usable_lem, is_decision as is_decision_lem, is_listing as is_listing_lem, is_of_set as is_of_set_lem, is_declared as is_declared_lem};
 ghost use Rattle.rob_parse.specs.Scopes.{earlier_of};
 ghost use Rattle.rob_parse.specs.Sizes.{IsSmall};
 ghost use Rattle.rob_parse.specs.Trees.{tree_of};
@@ -14,6 +14,9 @@ use crate::scope::{Scope, declared_by, is_goal};
 use crate::sort::Sort;
 use crate::symbol::{Keyword, Mark, Symbol};
 use crate::syntax::{Relation, Statement};
+use indexmap::IndexSet;
+use rob_number::Memory;
+use std::alloc::Global;
 
 /// What may be wrong with a line, in the order of the rules' numbers.
 #[derive(Clone, Copy, PartialEq, Eq)]
@@ -78,13 +81,14 @@ pub enum Lead {
 
 /// The fault that decides, if the statement has one.
 pub fn first_fault(
+    alloc: Global,
     limit: u64,
     scope: &Scope,
     symbols: &[Symbol],
     statement: &Statement,
-) -> Option<Fault>
+) -> Result<Option<Fault>, Memory>
     requires { IsSmall scope.now.sizes }
-    ensures { result ≡ first_fault_lem limit (earlier_of scope.now) symbols.now statement.now }
+    ensures { IfOk result (λ found. found ≡ first_fault_lem limit (earlier_of scope.now) symbols.now statement.now) }
 {
     const IN_ORDER: [Fault; 11] = [
         Fault::NameTwice,
@@ -100,26 +104,27 @@ pub fn first_fault(
         Fault::ZeroDivisor,
     ];
     for fault in IN_ORDER {
-        if has_fault(limit, scope, symbols, statement, fault) {
-            return Some(fault);
+        if has_fault(alloc, limit, scope, symbols, statement, fault)? {
+            return Ok(Some(fault));
         }
     }
-    None
+    Ok(None)
 }
 
 /// Whether the statement has the fault.
 fn has_fault(
+    alloc: Global,
     limit: u64,
     scope: &Scope,
     symbols: &[Symbol],
     statement: &Statement,
     fault: Fault,
-) -> bool
+) -> Result<bool, Memory>
     requires { IsSmall scope.now.sizes }
-    ensures { result ≡ has_fault_lem limit (earlier_of scope.now) symbols.now statement.now fault }
+    ensures { IfOk result (λ has. has ≡ has_fault_lem limit (earlier_of scope.now) symbols.now statement.now fault) }
 {
-    match fault {
-        Fault::NameTwice => name_twice(scope, symbols, statement),
+    let has = match fault {
+        Fault::NameTwice => return name_twice(alloc, scope, symbols, statement),
         Fault::NameUnknown => some_unknown(&scope.sorts, used(symbols, statement)),
         Fault::NumberTooLong => some_over(limit, symbols),
         Fault::DeviationNotPositive => has_zero_behind(Lead::By, symbols),
@@ -133,17 +138,28 @@ fn has_fault(
         Fault::Limit => !scope.sizes.counted(statement).is_within(),
         Fault::ZeroDivisor => has_zero_behind(Lead::Slash, symbols),
         Fault::NotAStatement | Fault::NoObjective => false,
-    }
+    };
+    Ok(has)
 }
 
 /// Whether the declared name is declared already, or a list holds a name twice.
-fn name_twice(scope: &Scope, symbols: &[Symbol], statement: &Statement) -> bool
+fn name_twice(
+    alloc: Global,
+    scope: &Scope,
+    symbols: &[Symbol],
+    statement: &Statement,
+) -> Result<bool, Memory>
     requires { IsSmall scope.now.sizes }
-    ensures { result ≡ has_fault_lem 0 (earlier_of scope.now) symbols.now statement.now NameTwice }
+    ensures { IfOk result (λ twice. twice ≡ has_fault_lem 0 (earlier_of scope.now) symbols.now statement.now NameTwice) }
 {
     let declared = declared_by(scope.sizes, statement);
-    is_declared(&scope.sorts, declared)
-        || is_listing(statement) && has_twice(used(symbols, statement))
+    if is_declared(&scope.sorts, declared) {
+        return Ok(true);
+    }
+    if !is_listing(statement) {
+        return Ok(false);
+    }
+    has_twice(alloc, used(symbols, statement))
 }
 
 /// Whether a declared name is declared already.
@@ -186,34 +202,18 @@ fn is_of_set(statement: &Statement) -> bool
 }
 
 /// Whether some name stands there twice.
-fn has_twice(symbols: &[Symbol]) -> bool
-    ensures { result ≡ has_twice_lem symbols.now }
+fn has_twice(alloc: Global, symbols: &[Symbol]) -> Result<bool, Memory>
+    ensures { IfOk result (λ twice. twice ≡ has_twice_lem symbols.now) }
 {
-    for (i, symbol) in symbols.iter().enumerate() {
+    let mut seen: IndexSet<usize> = IndexSet::new(alloc);
+    for symbol in symbols {
         if let Symbol::Name(name) = symbol
-            && has_name(*name, &symbols[i + 1..])
+            && !seen.insert(*name)?
         {
-            return true;
+            return Ok(true);
         }
     }
-    false
-}
-
-/// Whether the name stands there.
-fn has_name(name: usize, symbols: &[Symbol]) -> bool
-    ensures { result ≡ list_any (is_name_lem name) symbols.now }
-{
-    symbols.iter().any(|symbol| is_name(name, *symbol))
-}
-
-/// Whether the symbol is the name of this number.
-fn is_name(name: usize, symbol: Symbol) -> bool
-    ensures { result ≡ is_name_lem name symbol }
-{
-    match symbol {
-        Symbol::Name(other) => name == other,
-        Symbol::Digits(_) | Symbol::Sign(_) | Symbol::Reserved(_) => false,
-    }
+    Ok(false)
 }
 
 /// Whether a name there may not be used.

@@ -1,6 +1,20 @@
 //! Laws of the definitions: each text has one reading.
 
-ghost use Rattle.std.specs.Prelude.{◌≡◌, ℕ, List};
+ghost use Rattle.std.specs.Prelude.{◌≡◌, ℕ, ◌≤◌, ◌<◌, ◌^◌, ◌⊎◌, ◌++◌, ◌∷◌, [], List, Option, length, map};
+ghost use Rattle.rob_lex.specs.Offences.{AreTokens, most_tokens};
+ghost use Rattle.rob_lex.specs.declared.token.Token.{Token};
+ghost use Rattle.rob_meaning.specs.Expressions.{Expression};
+ghost use Rattle.rob_meaning.specs.Places.{Each};
+ghost use Rattle.rob_meaning.specs.WellFormed.{IsModel};
+ghost use Rattle.rob_meaning.specs.Named.{IsNamed, declared_names};
+ghost use Rattle.rob_meaning.specs.RobustModel.{RobustModel};
+ghost use Rattle.rob_model.specs.Limits.{IsWithinLimits};
+ghost use Rattle.rob_parse.specs.Canonical.{Written, Naming, lines_of as canonical_lines_of, naming_of};
+ghost use Rattle.rob_parse.specs.Symbols.{lines_of, words_of};
+ghost use Rattle.rob_parse.specs.Modelled.{ReadsModel};
+ghost use Rattle.rob_parse.specs.Pages.{IsLine, IsReadAs, IsWritable, ended, page_text, symbols_on, words_on};
+ghost use Rattle.rob_parse.specs.Readable.{AreKnown, AreDeclarable, AreReadBack, IsReadable, IsReadableModel, IsReadBack, IsSpelled};
+ghost use Rattle.rob_parse.specs.declared.sort.Sort.{Sort};
 ghost use Rattle.rob_parse.specs.declared.syntax.Statement.{Statement};
 ghost use Rattle.rob_parse.specs.Scopes.{Earlier};
 ghost use Rattle.rob_parse.specs.Reading.{Reads, Breaks, HasReading};
@@ -18,4 +32,65 @@ pub fn one_reading()
     ensures not_both { (limit : ℕ) (text : List ℕ)
         (words : List (List ℕ)) (list : List Statement) (known : Earlier) (rule line : ℕ)
         → Reads limit text words list known → Breaks limit text rule line → ⊥ }
+{}
+
+/// Each text reads as exactly one model, or breaks exactly one rule at one line.
+pub fn one_model()
+    ensures some { (limit : ℕ) (text : List ℕ)
+        → ((m : RobustModel) × ReadsModel limit text m) ⊎ ((rule : ℕ) × (line : ℕ) × Breaks limit text rule line) }
+    ensures model { (limit : ℕ) (text : List ℕ) (m m' : RobustModel)
+        → ReadsModel limit text m → ReadsModel limit text m' → m ≡ m' }
+    ensures not_both { (limit : ℕ) (text : List ℕ) (m : RobustModel) (rule line : ℕ)
+        → ReadsModel limit text m → Breaks limit text rule line → ⊥ }
+{}
+
+/// A model that a text reads as is within the limits.
+pub fn within_limits()
+    ensures limits { (limit : ℕ) (text : List ℕ) (m : RobustModel) → ReadsModel limit text m → IsWithinLimits m }
+{}
+
+/// A model that a text reads as is well formed.
+pub fn well_formed()
+    ensures model { (limit : ℕ) (text : List ℕ) (m : RobustModel) → 1 ≤ limit → ReadsModel limit text m → IsModel m }
+{}
+
+/// The names of a model that a text reads as are plain, free and distinct.
+pub fn well_named()
+    ensures names { (limit : ℕ) (text : List ℕ) (m : RobustModel) → ReadsModel limit text m → IsNamed m }
+    ensures spelled { (limit : ℕ) (text : List ℕ) (m : RobustModel) → ReadsModel limit text m → Each IsSpelled (declared_names m) }
+{}
+
+/// Lines of words and signs that may be written are read as they were written.
+pub fn pages()
+    ensures read { (ls : List (List Written)) → Each IsLine ls → length (ended ls) ≤ most_tokens → IsReadAs ls }
+    ensures only { (ls : List (List Written)) (tokens : List Token) → Each (Each IsWritable) ls → AreTokens (page_text ls) tokens
+        → (words_of (page_text ls) tokens ≡ words_on ls)
+        × (lines_of (page_text ls) (words_on ls) tokens ≡ map (symbols_on (words_on ls)) ls ++ [] ∷ []) }
+{}
+
+/// What the canonical lines of a model that a text reads as consist of may be written, and the model's names are found in them.
+pub fn canonical_words()
+    ensures writable { (limit : ℕ) (text : List ℕ) (m : RobustModel) → 1 ≤ limit → limit < 2 ^ 62 → ReadsModel limit text m
+        → Each (Each IsWritable) (canonical_lines_of m) }
+    ensures declarable { (limit : ℕ) (text : List ℕ) (m : RobustModel) → ReadsModel limit text m
+        → AreDeclarable (words_on (canonical_lines_of m)) m }
+{}
+
+/// An expression that is written is read back, where its names are known.
+pub fn expressions()
+    ensures read { (limit : ℕ) → limit < 2 ^ 62
+        → (words : List (List ℕ)) (sorts : List (Option Sort)) (names : Naming) → AreKnown words sorts names
+        → (e : Expression) → IsReadable limit names e → IsReadBack words sorts names e }
+{}
+
+/// The canonical lines of a model are statements, whose model it is.
+pub fn canonical_lines()
+    ensures read { (limit : ℕ) → limit < 2 ^ 62
+        → (words : List (List ℕ)) (sorts : List (Option Sort)) (m : RobustModel) → AreKnown words sorts (naming_of m)
+        → AreDeclarable words m → IsReadableModel limit (naming_of m) m → AreReadBack words sorts m }
+{}
+
+/// A model that a text reads as is readable: its numbers are within the limit, and its expressions are the grammar's.
+pub fn readable()
+    ensures model { (limit : ℕ) (text : List ℕ) (m : RobustModel) → 1 ≤ limit → ReadsModel limit text m → IsReadableModel limit (naming_of m) m }
 {}

@@ -7,10 +7,14 @@ mod degree;
 mod error;
 mod expr;
 mod fault;
+mod fraction;
 mod keyword;
 pub mod laws;
 mod line;
+mod model;
 mod number;
+mod page;
+mod parts;
 mod policy;
 mod reader;
 mod scope;
@@ -19,11 +23,15 @@ mod sort;
 mod statement;
 mod symbol;
 mod syntax;
+mod tree;
 mod words;
+mod writer;
 
 pub use error::ModelErr;
 pub use fault::Fault;
+pub use model::read_model;
 pub use reader::{Statements, read_statements};
+pub use writer::write_model;
 
 #[cfg(test)]
 mod tests;

@@ -129,7 +129,7 @@ impl Statements {
             Err(ParseErr::NotAStatement) => return Err(LineErr::Fault(Fault::NotAStatement)),
             Err(ParseErr::Memory) => return Err(LineErr::Memory),
         };
-        if let Some(fault) = first_fault(limit, &self.scope, symbols, &statement) {
+        if let Some(fault) = first_fault(alloc, limit, &self.scope, symbols, &statement)? {
             return Err(LineErr::Fault(fault));
         }
         self.scope.note(&statement);

@@ -1,6 +1,10 @@
 use crate::error::ModelErr;
+use crate::model::read_model;
 use crate::reader::{Statements, read_statements};
 use crate::syntax::{Statement, Syntax};
+use crate::writer::write_model;
+use rob_model::{Expr, Model};
+use rob_number::{Frac, Tally, Text};
 use std::test::Fail;
 
 const LIMIT: u64 = (1 << 62) - 1;
@@ -20,7 +24,7 @@ fn reading(rt: &HostRuntime, text: &[u8]) -> Option<Result<usize, (u8, u32)>> {
 
 // Each row is one text; rules 1 to 4 are those of tokens, 11 to 23 those of lines in the order of `Fault`.
 #[rattlefmt::skip]
-const TEXTS: [(&str, &[u8], Result<usize, (u8, u32)>); 43] = [
+const TEXTS: [(&str, &[u8], Result<usize, (u8, u32)>); 53] = [
     ("one row",                      b"uncertain d in [8, 12]\nvar x\nminimise x\nrow need: x >= d\n",  Ok(4)),
     ("every statement",              b"uncertain d >= -1/2\nset 2*d <= 3\nbudget 1: d at -3 by 2\nvar x in [4, 2]\nadaptive y(d) <= 5\nadaptive z()\nmaximize x + y\nrow r: x = z", Ok(8)),
     ("empty lines and comments",     b"\n# no\n\nvar x\n\nminimise x # goal\n\n",          Ok(2)),
@@ -64,6 +68,16 @@ const TEXTS: [(&str, &[u8], Result<usize, (u8, u32)>); 43] = [
     ("two goals",                    b"var x\nminimise x\nmaximise x",                       Err((21, 3))),
     ("a zero divisor",               b"var x\nminimise 1/0*x",                               Err((23, 2))),
     ("a zero bound's divisor",       b"var x in [1, 2/00]\nminimise x",                      Err((23, 1))),
+    ("lines end with CR and LF",     b"var x\r\nminimise x\r\n",                             Ok(2)),
+    ("tabs separate",                b"var\tx\nminimise\tx",                                Ok(2)),
+    ("no space is needed",           b"var x>=-1\nminimise(x)*2-x\nrow r:x<=1",               Ok(3)),
+    ("comments alone",               b"# a\n# b",                                            Err((20, 2))),
+    ("the first bad line decides",   b"var x\nvar x\nminimise x +\nvar x",                  Err((12, 2))),
+    ("the lowest rule decides",      b"var x\nadaptive x(x, x)",                             Err((12, 2))),
+    ("a name on a later line",       b"minimise x\nvar x",                                   Err((13, 1))),
+    ("a policy in a set statement",  b"uncertain d\nadaptive y(d)\nset y <= d",             Err((19, 3))),
+    ("a goal with 1/0 after a goal", b"minimise 1\nminimise 1/0",                            Err((21, 2))),
+    ("51 open parentheses",          b"minimise (((((((((((((((((((((((((((((((((((((((((((((((((((1", Err((4, 1))),
 ];
 
 #[test]
@@ -74,36 +88,80 @@ fn worked_texts(rt: HostRuntime) -> Result<(), Fail> {
     Ok(())
 }
 
-/// A text of the line so many times, each with another name, and a goal.
+/// What a text of these lines and a goal reads as: each line so many times, with a number between its two pieces.
 fn repeated(
     rt: &HostRuntime,
-    before: &str,
-    behind: &str,
-    count: u32,
+    lines: [(&str, &str, u32); 3],
 ) -> Result<Option<Result<usize, (u8, u32)>>, Fail> {
     let mut text = String::new(rt.alloc());
-    for i in 0..count {
-        text.push_str(&format!(in rt.alloc(); "{before}x{i}{behind}\n")?)?;
+    for (before, behind, count) in lines {
+        for i in 0..count {
+            text.push_str(&format!(in rt.alloc(); "{before}{i}{behind}\n")?)?;
+        }
     }
     text.push_str("minimise 1")?;
     Ok(reading(rt, text.as_bytes()))
 }
 
+// Each limit at its last good value; one more of the last line passes it. The size: 49 parameters and one set statement
+// make 1 + 2 * 49 + 1 = 100, and 99 rows with the objective 100 forms.
+#[rattlefmt::skip]
+const LIMITS: [(&str, [(&str, &str, u32); 3]); 8] = [
+    ("parameters",           [("", "", 0), ("", "", 0), ("uncertain d", "", 64)]),
+    ("columns",              [("", "", 0), ("", "", 0), ("var x", "", 400)]),
+    ("columns of lists",     [("uncertain d", "", 2), ("adaptive y", "(d0, d1)", 133), ("var x", "", 1)]),
+    ("rows",                 [("", "", 0), ("", "", 0), ("row r", ": 1 >= 0", 200)]),
+    ("set statements",       [("", "", 0), ("", "", 0), ("set ", " <= 100", 64)]),
+    ("sets and budgets",     [("uncertain d", "", 1), ("set ", " <= 100", 60), ("budget ", ": d0 at 0 by 1", 4)]),
+    ("members",              [("uncertain d", "", 2), ("", "", 0), ("budget ", ": d0 at 0 by 1, d1 at 0 by 1", 32)]),
+    ("size",                 [("uncertain d", "", 49), ("set ", " <= 1", 1), ("row r", ": 1 >= 0", 99)]),
+];
+
 #[test]
 fn limits_at_their_last_good_and_first_bad_value(rt: HostRuntime) -> Result<(), Fail> {
-    #[rattlefmt::skip]
-    let cases = [
-        ("parameters", "uncertain ", "", 64),
-        ("columns", "var ", "", 400),
-        ("rows", "row ", ": 1 >= 0", 200),
-    ];
-    for (name, before, behind, most) in cases {
-        let good = repeated(&rt, before, behind, most)?;
-        assert_eq!(rt; good, Some(Ok(most as usize + 1)), "{name}");
-        let bad = repeated(&rt, before, behind, most + 1)?;
-        assert_eq!(rt; bad, Some(Err((22, most + 1))), "{name}");
+    for (name, lines) in LIMITS {
+        let [first, second, (before, behind, most)] = lines;
+        let total = first.2.saturating_add(second.2).saturating_add(most);
+        let good = repeated(&rt, lines)?;
+        assert_eq!(rt; good, Some(Ok(total.saturating_add(1) as usize)), "{name}");
+        let more = most.saturating_add(1);
+        let bad = repeated(&rt, [first, second, (before, behind, more)])?;
+        assert_eq!(rt; bad, Some(Err((22, total.saturating_add(1)))), "{name}");
     }
     Ok(())
+}
+
+/// What a goal and a line of one byte read as: signs are no statement, letters no keyword, and digits neither.
+fn outcome_of(byte: u8) -> Result<usize, (u8, u32)> {
+    match byte {
+        b' ' | b'\t' | b'\r' | b'\n' | b'#' => Ok(1),
+        b'a'..=b'z' | b'A'..=b'Z' | b'_' | b'0'..=b'9' => Err((11, 2)),
+        b'(' | b')' | b'*' | b'+' | b',' | b'-' | b'/' | b':' | b'=' | b'[' | b']' => Err((11, 2)),
+        128..=255 => Err((1, 2)),
+        _ => Err((2, 2)),
+    }
+}
+
+#[test]
+fn every_byte_outside_and_inside_a_comment(rt: HostRuntime) -> Result<(), Fail> {
+    for byte in 0..=255 {
+        let outside = [b"minimise 1\n".as_slice(), &[byte]];
+        let text = joined(&rt, outside)?;
+        assert_eq!(rt; reading(&rt, &text), Some(outcome_of(byte)), "{byte}");
+        let inside = [b"minimise 1 # ".as_slice(), &[byte]];
+        let text = joined(&rt, inside)?;
+        assert_eq!(rt; reading(&rt, &text), Some(Ok(1)), "{byte}");
+    }
+    Ok(())
+}
+
+/// Both pieces behind each other.
+fn joined(rt: &HostRuntime, pieces: [&[u8]; 2]) -> Result<Vec<u8>, Fail> {
+    let mut text = Vec::new(rt.alloc());
+    for piece in pieces {
+        text.extend_from_slice(piece)?;
+    }
+    Ok(text)
 }
 
 #[test]
@@ -122,5 +180,110 @@ fn nested_sums_stay_nested(rt: HostRuntime) -> Result<(), Fail> {
     assert!(rt; first.minus);
     assert!(rt; matches!(&first.inner, Syntax::Product(factors) if factors.items().len() == 2));
     assert!(rt; matches!(&second.inner, Syntax::Sum(_)));
+    Ok(())
+}
+
+/// How many parameters, statements on the set, variables, adaptive variables and rows the model of a text has, with numbers
+/// of 8 bits; or the rule and the line that it breaks. Nothing where memory was refused, or where the text is too long.
+fn model_reading(rt: &HostRuntime, text: &[u8]) -> Option<Result<[usize; 5], (u8, u32)>> {
+    if text.len() > 1 << 30 {
+        return None;
+    }
+    let mut tally = Tally::new();
+    let read: Result<Model<Frac<8>>, ModelErr> = read_model(rt.alloc(), text, &mut tally);
+    match read {
+        Ok(model) => Some(Ok([
+            model.params.items().len(),
+            model.set_lines.items().len(),
+            model.vars.items().len(),
+            model.adaptives.items().len(),
+            model.rows.items().len(),
+        ])),
+        Err(ModelErr::Rule(rule, line)) => Some(Err((rule, line))),
+        Err(ModelErr::Memory) => None,
+    }
+}
+
+#[rattlefmt::skip]
+const MODELS: [(&str, &[u8], Result<[usize; 5], (u8, u32)>); 12] = [
+    ("one row",                 b"uncertain d in [8, 12]\nvar x\nminimise x\nrow need: x >= d\n", Ok([1, 0, 1, 0, 1])),
+    ("a lot over two periods",  b"uncertain a in [1, 3]\nuncertain b\nbudget 1: a at 2 by 1, b at 0 by 1/2\nset a + b <= 3\nvar x >= 0\nadaptive y(a) >= 0\nminimise x + y\nrow r: x >= a\nrow s: x + y = a + b", Ok([2, 2, 1, 1, 2])),
+    ("a sum under a product",   b"var x\nminimise -(x + 2) * 3",                                  Ok([0, 0, 1, 0, 0])),
+    ("bounds that reduce",      b"var x in [2/4, 4]\nminimise x",                                 Ok([0, 0, 1, 0, 0])),
+    ("the greatest number",     b"var x <= 255\nminimise x",                                      Ok([0, 0, 1, 0, 0])),
+    ("a number over the limit", b"var x <= 256\nminimise x",                                      Err((14, 1))),
+    ("a member twice",          b"uncertain d\nbudget 1: d at -3 by 2, d at 1 by 2",              Err((12, 2))),
+    ("no deviation",            b"uncertain d\nbudget 1: d at 0 by 0",                            Err((15, 2))),
+    ("a variable in the set",   b"var x\nset x <= 1",                                             Err((19, 2))),
+    ("a divisor of 0",          b"var x\nminimise 1/0*x",                                         Err((23, 2))),
+    ("two goals",               b"var x\nminimise x\nmaximise x",                                 Err((21, 3))),
+    ("no goal",                 b"var x\n",                                                       Err((20, 2))),
+];
+
+#[test]
+fn worked_models(rt: HostRuntime) -> Result<(), Fail> {
+    for (name, text, want) in MODELS {
+        assert_eq!(rt; model_reading(&rt, text), Some(want), "{name}");
+    }
+    Ok(())
+}
+
+#[test]
+fn names_are_numbers(rt: HostRuntime) -> Result<(), Fail> {
+    let mut tally = Tally::new();
+    let text = b"var x\nuncertain d\nvar z\nadaptive y(d)\nminimise z + y";
+    let model: Model<Frac<62>> = read_model(rt.alloc(), text, &mut tally)?;
+    let Expr::Sum(parts) = &model.objective else {
+        return Err("no sum")?;
+    };
+    let [first, second] = parts.items() else {
+        return Err("not two parts")?;
+    };
+    assert!(rt; matches!(&first.inner, Expr::Var(1)));
+    assert!(rt; matches!(&second.inner, Expr::Adaptive(0)));
+    Ok(())
+}
+
+// Texts, and their canonical texts.
+#[rattlefmt::skip]
+const CANONICAL: [(&str, &[u8], &[u8]); 6] = [
+    ("a sum under a product",  b"var x\nminimise -(x + 2) * 3",                         b"var x\nminimise -(x + 2)*3\n"),
+    ("bounds that reduce",     b"var x in [2/4, 4]\nminimise x",                        b"var x in [1/2, 4]\nminimise x\n"),
+    ("needless parentheses",   b"var x\nminimize ((x))*(2) - (3*x) - (-(x))",           b"var x\nminimise x*2 - 3*x - (-x)\n"),
+    ("nested sums stay",       b"var x\nmaximize (x + 1) - (x - (2*(3*x))) # goal",      b"var x\nmaximise (x + 1) - (x - 2*(3*x))\n"),
+    ("kinds in order",         b"var x <= -1\nmaximise x\nuncertain a\nrow r: x = a\nadaptive y(a)>=0\nset a<=1\nuncertain b in[-2/2,03]\nadaptive z()\nadaptive w(b,a)",
+        b"uncertain a\nuncertain b in [-1, 3]\nset a <= 1\nvar x <= -1\nadaptive y(a) >= 0\nadaptive z()\nadaptive w(b, a)\nmaximise x\nrow r: x = a\n"),
+    ("a budget",               b"uncertain d\nuncertain e\nbudget 3/2:d at -3 by 2/4,e at 0/5 by 01\nminimise 0", b"uncertain d\nuncertain e\nbudget 3/2: d at -3 by 1/2, e at 0 by 1\nminimise 0\n"),
+];
+
+/// The canonical text of the model of a text.
+fn written(rt: &HostRuntime, text: &[u8]) -> Result<Option<Text>, Fail> {
+    if text.len() > 1 << 30 {
+        return Ok(None);
+    }
+    let mut tally = Tally::new();
+    let read: Result<Model<Frac<62>>, ModelErr> = read_model(rt.alloc(), text, &mut tally);
+    match read {
+        Ok(model) => Ok(Some(write_model(rt.alloc(), &model)?)),
+        Err(_) => Ok(None),
+    }
+}
+
+#[test]
+fn canonical_texts(rt: HostRuntime) -> Result<(), Fail> {
+    for (name, text, want) in CANONICAL {
+        let once = written(&rt, text)?;
+        assert_eq!(rt;
+            once.as_ref().map(|text| text.bytes()),
+            Some(want),
+            "{name}"
+        );
+        let again = written(&rt, want)?;
+        assert_eq!(rt;
+            again.as_ref().map(|text| text.bytes()),
+            Some(want),
+            "{name}, again"
+        );
+    }
     Ok(())
 }

@@ -11,4 +11,4 @@ note-requires c = kept_small c.args.self.now.scope.sizes c.requires
 pub returns-clause-line : goal.returns-clause-line
 returns-clause-line c =
     line_read c.args.limit (earlier_of c.args.self.now.scope) c.args.symbols.now c.in-Ok.statement c.args.self.now.list c.push.new.self (earlier_of c.note.new.self)
-    (empty_test c.args.symbols.now c.if-is_empty.ensures) c.in-Ok.ensures (sym c.first_fault.ensures ∙ c.in_default.is) c.note.ensures c.in_ok-push.ensures.appended c.requires
+    (empty_test c.args.symbols.now c.if-is_empty.ensures) c.in-Ok.ensures (sym c.in_ok-fault.ensures ∙ c.in_default.is) c.note.ensures c.in_ok-push.ensures.appended c.requires

@@ -1,0 +1,92 @@
+-- What is counted while a text is read is what its model has.
+use Rattle.std.proofs.Common.{◌≡◌, ℕ, suc, ◌+◌, List, [], ◌∷◌, length, ◌∙◌, subst, arith, sym}
+use Rattle.std.specs.Prelude.{Option}
+use Rattle.std.specs.List.{flat_map}
+use Rattle.std.proofs.lemmas.List.{length-map}
+use Rattle.rob_meaning.specs.RobustModel.{AdaptiveVariable, RobustModel, column_from}
+use Rattle.rob_meaning.specs.SetRows.{lift_count}
+use Rattle.rob_model.specs.Limits.{IsWithinLimits}
+use Rattle.rob_parse.specs.declared.sort.Sort.{Sort}
+use Rattle.rob_parse.specs.declared.symbol.Symbol.{Symbol}
+use Rattle.rob_parse.specs.declared.size.Sizes.{Sizes}
+use Rattle.rob_parse.specs.declared.syntax.Statement.{Statement}
+use Rattle.rob_parse.specs.declared.syntax.Statement.TheVariants.{Uncertain, Set, Budget, Var, Adaptive, Goal, Row}
+use Rattle.rob_parse.specs.Models.{parameters, variables, adaptives, set_lines, rows, member, parameter_at, model_of}
+use Rattle.rob_parse.specs.Modelled.{ReadsModel}
+use Rattle.rob_parse.specs.Reading.{Follows}
+use Rattle.rob_parse.specs.Scopes.{Earlier, behind, start}
+use Rattle.rob_parse.specs.Sizes.{counted, IsKept}
+use Rattle.rob_parse.specs.Symbols.{lines_of}
+use Rattle.rob_parse.proofs.ReadingLemmas.{kept_note}
+use Rattle.rob_parse.proofs.SizeLemmas.{kept_start, within}
+
+-- the columns of some adaptive variables
+unfoldable pub rule_columns : List AdaptiveVariable → ℕ
+rule_columns [] = 0
+rule_columns (y ∷ ys) = 1 + length y.on + rule_columns ys
+
+columns_are : (ys : List AdaptiveVariable) (c : ℕ) → column_from c ys (length ys) ≡ c + rule_columns ys
+unfolding rule_columns
+columns_are [] c = omega arith
+columns_are (y ∷ ys) c = columns_are ys (suc c + length y.on) ∙ omega arith
+
+module _ (words : List (List ℕ)) (sorts : List (Option Sort)) where
+  -- the counts behind some statements
+  pub record Counts (list : List Statement) (before after : Sizes) : Type 0 where
+    pub parameters_are : after.parameters ≡ length (flat_map (parameters words) list) + before.parameters
+    pub variables_are : after.variables ≡ length (flat_map (variables words) list) + before.variables
+    pub adaptives_are : after.adaptives ≡ length (flat_map (adaptives words sorts) list) + before.adaptives
+    pub columns_are : after.columns + before.variables ≡ (after.variables + rule_columns (flat_map (adaptives words sorts) list)) + before.columns
+    pub rows_are : after.rows ≡ length (flat_map (rows words sorts) list) + before.rows
+    pub set_lines_are : after.set_lines ≡ length (flat_map (set_lines sorts) list) + before.set_lines
+    pub members_are : after.members ≡ lift_count (flat_map (set_lines sorts) list) + before.members
+
+  counts_none : (s : Sizes) → Counts [] s s
+  unfolding rule_columns
+  counts_none s = record { parameters_are = omega arith; variables_are = omega arith; adaptives_are = omega arith; columns_are = omega arith; rows_are = omega arith; set_lines_are = omega arith; members_are = omega arith }
+
+  counts_more : (st : Statement) (list : List Statement) (s t : Sizes) → Counts list (counted s st) t → Counts (st ∷ list) s t
+  unfolding rule_columns
+  counts_more (Uncertain d) list s t c = record { parameters_are = omega (arith, c.parameters_are); variables_are = c.variables_are; adaptives_are = c.adaptives_are; columns_are = c.columns_are; rows_are = c.rows_are; set_lines_are = c.set_lines_are; members_are = c.members_are }
+  counts_more (Var d) list s t c = record { parameters_are = c.parameters_are; variables_are = omega (arith, c.variables_are); adaptives_are = c.adaptives_are; columns_are = omega (arith, c.columns_are); rows_are = c.rows_are; set_lines_are = c.set_lines_are; members_are = c.members_are }
+  counts_more (Adaptive p) list s t c = record { parameters_are = c.parameters_are; variables_are = c.variables_are; adaptives_are = omega (arith, c.adaptives_are); columns_are = omega (arith, c.columns_are, length-map p.on (parameter_at sorts)); rows_are = c.rows_are; set_lines_are = c.set_lines_are; members_are = c.members_are }
+  counts_more (Set r) list s t c = record { parameters_are = c.parameters_are; variables_are = c.variables_are; adaptives_are = c.adaptives_are; columns_are = c.columns_are; rows_are = c.rows_are; set_lines_are = omega (arith, c.set_lines_are); members_are = c.members_are }
+  counts_more (Budget b) list s t c = record { parameters_are = c.parameters_are; variables_are = c.variables_are; adaptives_are = c.adaptives_are; columns_are = c.columns_are; rows_are = c.rows_are; set_lines_are = omega (arith, c.set_lines_are); members_are = omega (arith, c.members_are, length-map b.members (member sorts)) }
+  counts_more (Row r) list s t c = record { parameters_are = c.parameters_are; variables_are = c.variables_are; adaptives_are = c.adaptives_are; columns_are = c.columns_are; rows_are = omega (arith, c.rows_are); set_lines_are = c.set_lines_are; members_are = c.members_are }
+  counts_more (Goal g) list s t c = record { parameters_are = c.parameters_are; variables_are = c.variables_are; adaptives_are = c.adaptives_are; columns_are = c.columns_are; rows_are = c.rows_are; set_lines_are = c.set_lines_are; members_are = c.members_are }
+
+  pub counts : (limit : ℕ) (e : Earlier) (lines : List (List Symbol)) (list : List Statement) (f : Earlier) → Follows limit e lines list f → Counts list e.sizes f.sizes
+  counts limit e [] [] f follows = subst (λ (x : Earlier). Counts [] e.sizes x.sizes) follows (counts_none e.sizes)
+  counts limit e [] (s ∷ list) f follows = absurd follows
+  counts limit e ([] ∷ lines) list f follows = counts limit e lines list f follows
+  counts limit e ((x ∷ symbols) ∷ lines) [] f follows = absurd follows
+  counts limit e ((x ∷ symbols) ∷ lines) (s ∷ list) f follows = counts_more s list e.sizes f.sizes (counts limit (behind e s) lines list f follows.2)
+
+pub kept_all : (limit : ℕ) (e : Earlier) (lines : List (List Symbol)) (list : List Statement) (f : Earlier) → Follows limit e lines list f → IsKept e.sizes → IsKept f.sizes
+kept_all limit e [] [] f follows kept = subst (λ (x : Earlier). IsKept x.sizes) follows kept
+kept_all limit e [] (s ∷ list) f follows kept = absurd follows
+kept_all limit e ([] ∷ lines) list f follows kept = kept_all limit e lines list f follows kept
+kept_all limit e ((x ∷ symbols) ∷ lines) [] f follows kept = absurd follows
+kept_all limit e ((x ∷ symbols) ∷ lines) (s ∷ list) f follows kept = kept_all limit (behind e s) lines list f follows.2 (kept_note limit e (x ∷ symbols) s kept follows.1)
+
+-- a model that a text reads as is within the limits
+pub within_limits : (limit : ℕ) (text : List ℕ) (m : RobustModel) → ReadsModel limit text m → IsWithinLimits m
+within_limits limit text m read = subst IsWithinLimits (sym read.model_is) small
+  where
+    begin : Earlier
+    begin = start (length read.words)
+
+    lines : List (List Symbol)
+    lines = lines_of text read.words read.reads.tokens
+
+    small : IsWithinLimits (model_of read.words read.known.sorts read.list)
+    small =
+        let c = counts read.words read.known.sorts limit begin lines read.list read.known read.reads.follows in
+        let w = within read.known.sizes (kept_all limit begin lines read.list read.known read.reads.follows kept_start).within in
+        record {
+          parameters = omega (arith, c.parameters_are, w.parameters);
+          columns = omega (arith, c.columns_are, c.variables_are, w.columns, columns_are (flat_map (adaptives read.words read.known.sorts) read.list) (length (flat_map (variables read.words) read.list)));
+          rows = omega (arith, c.rows_are, w.rows);
+          set_lines = omega (arith, c.set_lines_are, w.set_lines);
+          members = omega (arith, c.members_are, w.members);
+        }

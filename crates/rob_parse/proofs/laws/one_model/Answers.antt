@@ -1,0 +1,5 @@
+use Rattle.rob_parse.proofs.OneModel.{some_model, one_model, not_both}
+use Rattle.rob_parse.proofs.laws.one_model.Goals as goal
+
+pub returns : goal.returns
+returns c = record { some = some_model; model = one_model; not_both = not_both }

@@ -1,0 +1,15 @@
+use Rattle.std.proofs.Common.{◌≡◌, ◌≤◌, drop}
+use Rattle.rob_meaning.specs.Places.{Each}
+use Rattle.rob_model.specs.View.{robust}
+use Rattle.rob_parse.specs.Building.{FitsStatement}
+use Rattle.rob_parse.specs.Known.{texts}
+use Rattle.rob_parse.proofs.BuildLemmas.{Grows}
+use Rattle.rob_parse.proofs.model.model.Given as goal
+
+abbrev pub invariant-loop-statement : goal.invariant-loop-statement
+invariant-loop-statement g l = record {
+  grows : Grows (texts l.words.keys) l.sorts l.list (drop l.statement-index l.list) (robust g.N.Exact.value l.model);
+  fits : Each (FitsStatement g.N.Exact.limit) (drop l.statement-index l.list);
+  ops : g.L.Ledger.ops l.fn.ledger ≤ g.L.Ledger.ops l.ledger;
+  wides : g.L.Ledger.wides l.fn.ledger ≡ g.L.Ledger.wides l.ledger;
+}

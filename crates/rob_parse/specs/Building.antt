@@ -1,0 +1,69 @@
+-- What the steps from statements to a model ask for and say.
+use Rattle.std.specs.Prelude.{◌≡◌, ℕ, ◌≤◌, ◌<◌, ◌++◌, Option, Some, None, unwrap_or}
+use Rattle.rob_meaning.specs.Places.{Each}
+use Rattle.rob_meaning.specs.RobustModel.{RobustModel}
+use Rattle.rob_parse.specs.declared.sort.Sort.{Sort}
+use Rattle.std.specs.Prelude.{List}
+use Rattle.rob_parse.specs.declared.syntax.Numeral.{Numeral}
+use Rattle.rob_parse.specs.declared.syntax.Bounds.{Bounds}
+use Rattle.rob_parse.specs.declared.syntax.Bounds.TheVariants.{Between, AtLeast, AtMost}
+use Rattle.rob_parse.specs.declared.syntax.Member.{Member}
+use Rattle.rob_parse.specs.declared.syntax.Relation.{Relation}
+use Rattle.rob_parse.specs.declared.syntax.Statement.{Statement}
+use Rattle.rob_parse.specs.declared.syntax.Statement.TheVariants.{Uncertain, Set, Budget, Var, Adaptive, Goal, Row}
+use Rattle.rob_parse.specs.Models.{parameters, variables, adaptives, set_lines, rows}
+use Rattle.rob_parse.specs.Trees.{Tree, number, name, sum, product, Summands, no_summands, summand, Operands, no_operands, operand, tree_of}
+
+module _ (limit : ℕ) where
+  -- digits within the limit, and no divisor 0
+  pub record FitsNumber (n : Numeral) : Type 0 where
+    pub numerator : n.numerator ≤ limit
+    pub divisor : unwrap_or n.divisor 1 ≤ limit
+    pub positive : 0 < unwrap_or n.divisor 1
+
+  -- each number of a part of a statement is so
+  abbrev pub FitsBounds : Option Bounds → Type 0
+  FitsBounds None = Unit {0}
+  FitsBounds (Some (Between both)) = FitsNumber both.lower.number × FitsNumber both.upper.number
+  FitsBounds (Some (AtLeast a)) = FitsNumber a.number
+  FitsBounds (Some (AtMost b)) = FitsNumber b.number
+
+  abbrev mutual
+    pub FitsTree : Tree → Type 0
+    FitsTree (number n) = FitsNumber n
+    FitsTree (name k) = Unit {0}
+    FitsTree (sum ts) = FitsSummands ts
+    FitsTree (product fs) = FitsOperands fs
+
+    pub FitsSummands : Summands → Type 0
+    FitsSummands no_summands = Unit {0}
+    FitsSummands (summand minus t ts) = FitsTree t × FitsSummands ts
+
+    pub FitsOperands : Operands → Type 0
+    FitsOperands no_operands = Unit {0}
+    FitsOperands (operand f fs) = FitsTree f × FitsOperands fs
+
+  abbrev pub FitsMember : Member → Type 0
+  FitsMember m = FitsNumber m.spread.centre.number × FitsNumber m.spread.deviation
+
+  abbrev pub FitsRelation : Relation → Type 0
+  FitsRelation r = FitsTree (tree_of r.left) × FitsTree (tree_of r.right)
+
+  abbrev pub FitsStatement : Statement → Type 0
+  FitsStatement (Uncertain d) = FitsBounds d.bounds
+  FitsStatement (Set r) = FitsRelation r
+  FitsStatement (Budget b) = FitsNumber b.limit × Each FitsMember b.members
+  FitsStatement (Var d) = FitsBounds d.bounds
+  FitsStatement (Adaptive p) = FitsBounds p.bounds
+  FitsStatement (Goal g) = FitsTree (tree_of g.objective)
+  FitsStatement (Row r) = FitsRelation r.relation
+
+-- a model has got the parts that a statement says
+pub record HasAdded (words : List (List ℕ)) (sorts : List (Option Sort)) (s : Statement) (old new : RobustModel) : Type 0 where
+  pub parameters_are : new.parameters ≡ old.parameters ++ parameters words s
+  pub set_lines_are : new.set_lines ≡ old.set_lines ++ set_lines sorts s
+  pub variables_are : new.variables ≡ old.variables ++ variables words s
+  pub adaptives_are : new.adaptives ≡ old.adaptives ++ adaptives words sorts s
+  pub rows_are : new.rows ≡ old.rows ++ rows words sorts s
+  pub sense_is : new.sense ≡ old.sense
+  pub objective_is : new.objective ≡ old.objective

@@ -1,0 +1,126 @@
+//! From the parts of statements to those of a model.
+
+ghost use Rattle.std.specs.Prelude.{◌≡◌, ◌≤◌, map, IfOk};
+ghost use Rattle.rob_meaning.specs.Places.{Each};
+ghost use Rattle.rob_model.specs.View.{member_of, relation_of as model_relation, sense_of as model_sense};
+ghost use Rattle.rob_parse.specs.Building.{FitsMember};
+ghost use Rattle.rob_parse.specs.Known.{texts};
+ghost use Rattle.rob_parse.specs.Models.{member as member_lem, parameter_number as parameter_number_lem, parameter_at as parameter_at_lem, relation_of, sense_of, word_of as word_of_lem};
+
+use crate::degree::sort_at;
+use crate::fraction::{fraction, signed};
+use crate::sort::Sort;
+use crate::syntax;
+use crate::words::Words;
+use rob_model::{Member, Rel, Sense};
+use rob_number::{Exact, Ledger, List, Memory, Text};
+use std::alloc::Global;
+
+/// The word of this number, as a text.
+pub fn word_of(alloc: Global, words: &Words, name: usize) -> Result<Text, Memory>
+    ensures { IfOk result (λ text. text ≡ word_of_lem (texts words.now.keys) name) }
+{
+    let mut text = Text::new(alloc);
+    text.push(word_at(words, name))?;
+    Ok(text)
+}
+
+/// The word of this number.
+fn word_at(words: &Words, name: usize) -> &[u8]
+    ensures { result.now ≡ word_of_lem (texts words.now.keys) name }
+{
+    match words.get_index(name) {
+        Some(word) => word.as_slice(),
+        None => &[],
+    }
+}
+
+/// The number of a parameter; nothing else stands where one is asked for.
+fn parameter_number(sort: Option<Sort>) -> u32
+    ensures { result ≡ parameter_number_lem sort }
+{
+    match sort {
+        Some(Sort::Parameter(k)) => k,
+        _ => 0,
+    }
+}
+
+/// The number of the parameter of this name.
+fn parameter_at(sorts: &[Option<Sort>], name: usize) -> u32
+    ensures { result ≡ parameter_at_lem sorts.now name }
+{
+    parameter_number(sort_at(sorts, name))
+}
+
+/// The numbers of the parameters of these names.
+pub fn parameters_at(
+    alloc: Global,
+    sorts: &[Option<Sort>],
+    names: &[usize],
+) -> Result<List<u32>, Memory>
+    ensures { IfOk result (λ list. list ≡ map (parameter_at_lem sorts.now) names.now) }
+{
+    let mut list = List::new(alloc);
+    for name in names {
+        list.push(parameter_at(sorts, *name))?;
+    }
+    Ok(list)
+}
+
+/// The members of a budget.
+pub fn members<N: Exact, L: Ledger>(
+    alloc: Global,
+    sorts: &[Option<Sort>],
+    members: &[syntax::Member],
+    ledger: &mut L,
+) -> Result<List<Member<N>>, Memory>
+    requires fits { Each (FitsMember N.limit) members.now }
+    ensures read { IfOk result (λ list. map (member_of N.value) list ≡ map (member_lem sorts.now) members.now) }
+    ensures ops { L.ops ledger.old ≤ L.ops ledger.new }
+    ensures wides { L.wides ledger.old ≡ L.wides ledger.new }
+{
+    let mut list = List::new(alloc);
+    for next in members {
+        list.push(member(sorts, next, ledger))?;
+    }
+    Ok(list)
+}
+
+/// A member of a budget.
+fn member<N: Exact, L: Ledger>(
+    sorts: &[Option<Sort>],
+    member: &syntax::Member,
+    ledger: &mut L,
+) -> Member<N>
+    requires fits { FitsMember N.limit member.now }
+    ensures read { member_of N.value result ≡ member_lem sorts.now member.now }
+    ensures ops { L.ops ledger.old ≤ L.ops ledger.new }
+    ensures wides { L.wides ledger.old ≡ L.wides ledger.new }
+{
+    Member {
+        param: parameter_at(sorts, member.name),
+        centre: signed(member.spread.centre, ledger),
+        deviation: fraction(member.spread.deviation, ledger),
+    }
+}
+
+/// A relation.
+pub fn relation(rel: syntax::Rel) -> Rel
+    ensures { model_relation result ≡ relation_of rel }
+{
+    match rel {
+        syntax::Rel::AtMost => Rel::AtMost,
+        syntax::Rel::AtLeast => Rel::AtLeast,
+        syntax::Rel::Equal => Rel::Equal,
+    }
+}
+
+/// Whether a goal is to be small or large.
+pub fn sense(sense: syntax::Sense) -> Sense
+    ensures { model_sense result ≡ sense_of sense }
+{
+    match sense {
+        syntax::Sense::Minimise => Sense::Minimise,
+        syntax::Sense::Maximise => Sense::Maximise,
+    }
+}
