@@ -1,0 +1,11 @@
+pub mod Slots
+pub mod Finds
+pub mod Words
+pub mod Steps
+pub mod Walks
+pub mod Fills
+pub mod Holds
+pub mod Levels
+pub mod Takings
+pub mod Spellings
+pub mod Readings

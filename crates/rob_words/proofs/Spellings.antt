@@ -1,0 +1,222 @@
+-- Words are spelled by one list of parts at most.
+use Rattle.std.proofs.Common.{◌≡◌, ◌≢◌, ◌∙◌, inl, inr, zero, suc, refl, sym, ap, ap₂, subst, arith, append-nil, List, [], ◌∷◌, ◌++◌, rules}
+use Rattle.std.specs.List.{All}
+use Rattle.rob_words.specs.Values.{Word, route_text, width_text}
+use Rattle.rob_words.specs.Commands.{Action, ArePlain, HasParts, IsCommandLine, IsPlain, IsSpelled, Line, Part, Says, Setting, TellsRoute, apart, bits, bits_values, check, files_of, joined, own, own_words, prove, route, route_values, rows, setting_word, solve, verb_of, verb_word, words_of}
+use Rattle.rob_words.specs.Texts.{bare_words}
+use Rattle.rob_words.specs.declared.route.Route.{Route}
+use Rattle.rob_words.specs.declared.route.Route.TheVariants.{Dual}
+use Rattle.rob_words.specs.declared.verb.Verb.{Verb}
+use Rattle.rob_words.specs.declared.verb.Verb.TheVariants.{Rows, Solve, Prove, Check}
+use Rattle.rob_words.specs.declared.width.Width.{Width}
+use Rattle.rob_words.specs.declared.width.Width.TheVariants.{Eight, Sixteen, ThirtyTwo, SixtyTwo}
+
+-- the first items of equal lists
+pub heads : {x y : Word} {xs ys : List Word} → x ∷ xs ≡ y ∷ ys → x ≡ y
+heads {x} e = ap (first_or x) e
+  where
+    first_or : Word → List Word → Word
+    first_or d [] = d
+    first_or d (w ∷ ws) = w
+
+-- the rest of a list
+abbrev pub rest_of : {X : Type 0} → List X → List X
+rest_of [] = []
+rest_of (x ∷ xs) = xs
+
+dashed : (setting : Setting) (more word : Word) → IsPlain word → word ≡ setting_word setting ++ more → ⊥
+dashed setting more [] plain e = plain
+dashed bits more (byte ∷ bytes) plain e = plain (search (e, rules))
+dashed route more (byte ∷ bytes) plain e = plain (search (e, rules))
+
+apart-joined : (s t : Setting) (value : Word) → setting_word s ≡ setting_word t ++ 61 ∷ value → ⊥
+apart-joined bits bits value e = search (e, rules)
+apart-joined bits route value e = search (e, rules)
+apart-joined route bits value e = search (e, rules)
+apart-joined route route value e = search (e, rules)
+
+pub setting_word-one : (s t : Setting) → setting_word s ≡ setting_word t → s ≡ t
+setting_word-one bits bits e = refl
+setting_word-one bits route e = absurd (search (e, rules))
+setting_word-one route bits e = absurd (search (e, rules))
+setting_word-one route route e = refl
+
+joined-one : (s t : Setting) (a b : Word) → setting_word s ++ 61 ∷ a ≡ setting_word t ++ 61 ∷ b → (s ≡ t) × (a ≡ b)
+joined-one bits bits a b e = (refl, search (e, rules))
+joined-one bits route a b e = absurd (search (e, rules))
+joined-one route bits a b e = absurd (search (e, rules))
+joined-one route route a b e = (refl, search (e, rules))
+
+pub one_parts : (p q : List Part) → ArePlain (bare_words p) → ArePlain (bare_words q) → words_of p ≡ words_of q → p ≡ q
+one_parts [] [] plain plain' e = refl
+one_parts [] (own word ∷ q) plain plain' e = absurd (search (e, rules))
+one_parts [] (apart setting value ∷ q) plain plain' e = absurd (search (e, rules))
+one_parts [] (joined setting value ∷ q) plain plain' e = absurd (search (e, rules))
+one_parts (own word ∷ p) [] plain plain' e = absurd (search (e, rules))
+one_parts (apart setting value ∷ p) [] plain plain' e = absurd (search (e, rules))
+one_parts (joined setting value ∷ p) [] plain plain' e = absurd (search (e, rules))
+one_parts (own word ∷ p) (own word' ∷ q) plain plain' e =
+    ap₂ (λ w ps. own w ∷ ps) (heads e) (one_parts p q plain.1 plain'.1 (ap rest_of e))
+one_parts (own word ∷ p) (apart setting value ∷ q) plain plain' e = absurd (dashed setting [] word plain.0 (heads e ∙ sym (append-nil (setting_word setting))))
+one_parts (own word ∷ p) (joined setting value ∷ q) plain plain' e = absurd (dashed setting (61 ∷ value) word plain.0 (heads e))
+one_parts (apart setting value ∷ p) (own word ∷ q) plain plain' e = absurd (dashed setting [] word plain'.0 (sym (heads e) ∙ sym (append-nil (setting_word setting))))
+one_parts (joined setting value ∷ p) (own word ∷ q) plain plain' e = absurd (dashed setting (61 ∷ value) word plain'.0 (sym (heads e)))
+one_parts (apart s a ∷ p) (apart t b ∷ q) plain plain' e =
+    let rest = ap rest_of e in
+    ap₂ (λ (f : Part) ps. f ∷ ps) (ap₂ apart (setting_word-one s t (heads e)) (heads rest)) (one_parts p q plain.1 plain'.1 (ap rest_of rest))
+one_parts (apart s a ∷ p) (joined t b ∷ q) plain plain' e = absurd (apart-joined s t b (heads e))
+one_parts (joined s a ∷ p) (apart t b ∷ q) plain plain' e = absurd (apart-joined t s a (sym (heads e)))
+one_parts (joined s a ∷ p) (joined t b ∷ q) plain plain' e =
+    let same = joined-one s t a b (heads e) in
+    ap₂ (λ (f : Part) ps. f ∷ ps) (ap₂ joined same.0 same.1) (one_parts p q plain plain' (ap rest_of e))
+
+-- ---- a line's parts are plain
+
+pub bare-plain : (parts : List Part) → ArePlain (own_words parts) → ArePlain (bits_values parts) → ArePlain (route_values parts) → ArePlain (bare_words parts)
+bare-plain [] own_plain bits_plain route_plain = tt
+bare-plain (own word ∷ parts) own_plain bits_plain route_plain = (own_plain.0, bare-plain parts own_plain.1 bits_plain route_plain)
+bare-plain (apart bits value ∷ parts) own_plain bits_plain route_plain = (bits_plain.0, bare-plain parts own_plain bits_plain.1 route_plain)
+bare-plain (apart route value ∷ parts) own_plain bits_plain route_plain = (route_plain.0, bare-plain parts own_plain bits_plain route_plain.1)
+bare-plain (joined bits value ∷ parts) own_plain bits_plain route_plain = bare-plain parts own_plain bits_plain.1 route_plain
+bare-plain (joined route value ∷ parts) own_plain bits_plain route_plain = bare-plain parts own_plain bits_plain route_plain.1
+
+pub own-plain : (parts : List Part) → ArePlain (bare_words parts) → ArePlain (own_words parts)
+own-plain [] plain = tt
+own-plain (own word ∷ parts) plain = (plain.0, own-plain parts plain.1)
+own-plain (apart setting value ∷ parts) plain = own-plain parts plain.1
+own-plain (joined setting value ∷ parts) plain = own-plain parts plain
+
+width-plain : (width : Width) → IsPlain (width_text width)
+width-plain Eight = λ e. search (e, rules, arith)
+width-plain Sixteen = λ e. search (e, rules, arith)
+width-plain ThirtyTwo = λ e. search (e, rules, arith)
+width-plain SixtyTwo = λ e. search (e, rules, arith)
+
+route-plain : (way : Route) → IsPlain (route_text way)
+route-plain Dual = λ e. search (e, rules, arith)
+
+says-plain : {X : Type 0} (text : X → Word) (default : X) (values : List Word) (x : X) → ((x : X) → IsPlain (text x)) → Says text default values x → ArePlain values
+says-plain text default values x plain (inl one) = subst ArePlain (sym one) (plain x, tt)
+says-plain text default values x plain (inr none) = subst ArePlain (sym none.0) tt
+
+tells-plain : (action : Action) (values : List Word) → TellsRoute action values → ArePlain values
+tells-plain (rows name) values tells = subst ArePlain (sym tells) tt
+tells-plain (solve name way) values tells = says-plain route_text Dual values way route-plain tells
+tells-plain (prove name way) values tells = says-plain route_text Dual values way route-plain tells
+tells-plain (check name other) values tells = subst ArePlain (sym tells) tt
+
+pub line-plain : (words : List Word) (line : Line) (parts : List Part) → HasParts words line parts → ArePlain (bare_words parts)
+line-plain words line parts has = bare-plain parts (subst ArePlain (sym has.files) has.names)
+    (says-plain width_text SixtyTwo (bits_values parts) line.width width-plain has.width) (tells-plain line.action (route_values parts) has.route)
+
+-- ---- one line
+
+pub verb_word-one : (a b : Verb) → verb_word a ≡ verb_word b → a ≡ b
+verb_word-one Rows Rows e = refl
+verb_word-one Rows Solve e = absurd (search (e, rules))
+verb_word-one Rows Prove e = absurd (search (e, rules))
+verb_word-one Rows Check e = absurd (search (e, rules))
+verb_word-one Solve Rows e = absurd (search (e, rules))
+verb_word-one Solve Solve e = refl
+verb_word-one Solve Prove e = absurd (search (e, rules))
+verb_word-one Solve Check e = absurd (search (e, rules))
+verb_word-one Prove Rows e = absurd (search (e, rules))
+verb_word-one Prove Solve e = absurd (search (e, rules))
+verb_word-one Prove Prove e = refl
+verb_word-one Prove Check e = absurd (search (e, rules))
+verb_word-one Check Rows e = absurd (search (e, rules))
+verb_word-one Check Solve e = absurd (search (e, rules))
+verb_word-one Check Prove e = absurd (search (e, rules))
+verb_word-one Check Check e = refl
+
+width_text-one : (a b : Width) → width_text a ≡ width_text b → a ≡ b
+width_text-one Eight Eight e = refl
+width_text-one Eight Sixteen e = absurd (search (e, rules))
+width_text-one Eight ThirtyTwo e = absurd (search (e, rules))
+width_text-one Eight SixtyTwo e = absurd (search (e, rules))
+width_text-one Sixteen Eight e = absurd (search (e, rules))
+width_text-one Sixteen Sixteen e = refl
+width_text-one Sixteen ThirtyTwo e = absurd (search (e, rules))
+width_text-one Sixteen SixtyTwo e = absurd (search (e, rules))
+width_text-one ThirtyTwo Eight e = absurd (search (e, rules))
+width_text-one ThirtyTwo Sixteen e = absurd (search (e, rules))
+width_text-one ThirtyTwo ThirtyTwo e = refl
+width_text-one ThirtyTwo SixtyTwo e = absurd (search (e, rules))
+width_text-one SixtyTwo Eight e = absurd (search (e, rules))
+width_text-one SixtyTwo Sixteen e = absurd (search (e, rules))
+width_text-one SixtyTwo ThirtyTwo e = absurd (search (e, rules))
+width_text-one SixtyTwo SixtyTwo e = refl
+
+route_text-one : (a b : Route) → route_text a ≡ route_text b → a ≡ b
+route_text-one Dual Dual e = refl
+
+says-one : {X : Type 0} (text : X → Word) (default : X) (values : List Word) (a b : X) → ((a b : X) → text a ≡ text b → a ≡ b)
+    → Says text default values a → Says text default values b → a ≡ b
+says-one text default values a b one (inl x) (inl y) = one a b (heads (sym x ∙ y))
+says-one text default values a b one (inl x) (inr y) = let e : text a ∷ [] ≡ [] = sym x ∙ y.0 in absurd (search (e, rules))
+says-one text default values a b one (inr x) (inl y) = let e : text b ∷ [] ≡ [] = sym y ∙ x.0 in absurd (search (e, rules))
+says-one text default values a b one (inr x) (inr y) = x.1 ∙ sym y.1
+
+action-one : (a b : Action) (values : List Word) → verb_of a ≡ verb_of b → files_of a ≡ files_of b → TellsRoute a values → TellsRoute b values → a ≡ b
+action-one (rows m) (rows n) values v f s t = ap rows (heads f)
+action-one (rows m) (solve n way) values v f s t = absurd (search (v, rules))
+action-one (rows m) (prove n way) values v f s t = absurd (search (v, rules))
+action-one (rows m) (check n c) values v f s t = absurd (search (v, rules))
+action-one (solve m way) (rows n) values v f s t = absurd (search (v, rules))
+action-one (solve m way) (solve n other) values v f s t = ap₂ solve (heads f) (says-one route_text Dual values way other route_text-one s t)
+action-one (solve m way) (prove n other) values v f s t = absurd (search (v, rules))
+action-one (solve m way) (check n c) values v f s t = absurd (search (v, rules))
+action-one (prove m way) (rows n) values v f s t = absurd (search (v, rules))
+action-one (prove m way) (solve n other) values v f s t = absurd (search (v, rules))
+action-one (prove m way) (prove n other) values v f s t = ap₂ prove (heads f) (says-one route_text Dual values way other route_text-one s t)
+action-one (prove m way) (check n c) values v f s t = absurd (search (v, rules))
+action-one (check m c) (rows n) values v f s t = absurd (search (v, rules))
+action-one (check m c) (solve n way) values v f s t = absurd (search (v, rules))
+action-one (check m c) (prove n way) values v f s t = absurd (search (v, rules))
+action-one (check m c) (check n d) values v f s t = ap₂ check (heads f) (heads (ap rest_of f))
+
+pub one_line : (words : List Word) (a b : Line) → IsSpelled words a → IsSpelled words b → a ≡ b
+one_line words a b s t =
+    let spelled : verb_word (verb_of a.action) ∷ words_of s.0 ≡ verb_word (verb_of b.action) ∷ words_of t.0 = sym s.1.spelled ∙ t.1.spelled in
+    let parts : s.0 ≡ t.0 = one_parts s.0 t.0 (line-plain words a s.0 s.1) (line-plain words b t.0 t.1) (ap rest_of spelled) in
+    let verbs = verb_word-one (verb_of a.action) (verb_of b.action) (heads spelled) in
+    let other : HasParts words b s.0 = subst (HasParts words b) (sym parts) t.1 in
+    let action = action-one a.action b.action (route_values s.0) verbs (sym s.1.files ∙ other.files) s.1.route other.route in
+    let width = says-one width_text SixtyTwo (bits_values s.0) a.width b.width width_text-one s.1.width other.width in
+    (λ i. record { action = action i; width = width i })
+
+-- ---- no word is empty
+
+setting-bytes : (setting : Setting) (more : Word) → setting_word setting ++ more ≡ [] → ⊥
+setting-bytes bits more e = search (e, rules)
+setting-bytes route more e = search (e, rules)
+
+verb-bytes : (verb : Verb) → verb_word verb ≡ [] → ⊥
+verb-bytes Rows e = search (e, rules)
+verb-bytes Solve e = search (e, rules)
+verb-bytes Prove e = search (e, rules)
+verb-bytes Check e = search (e, rules)
+
+plain-bytes : (word : Word) → IsPlain word → word ≢ []
+plain-bytes [] plain e = plain
+plain-bytes (byte ∷ bytes) plain e = search (e, rules)
+
+All-cons : (word : Word) (words : List Word) → word ≢ [] → All (λ w. w ≢ []) words → All (λ w. w ≢ []) (word ∷ words)
+All-cons word words one rest zero d lt = one
+All-cons word words one rest (suc k) d lt = rest k d (omega arith)
+
+words-bytes : (parts : List Part) → ArePlain (bare_words parts) → All (λ w. w ≢ []) (words_of parts)
+words-bytes [] plain = λ k d lt. absurd (omega arith)
+words-bytes (own word ∷ parts) plain = All-cons word (words_of parts) (plain-bytes word plain.0) (words-bytes parts plain.1)
+words-bytes (apart setting value ∷ parts) plain =
+    All-cons (setting_word setting) (value ∷ words_of parts) (λ e. setting-bytes setting [] (append-nil (setting_word setting) ∙ e))
+    (All-cons value (words_of parts) (plain-bytes value plain.0) (words-bytes parts plain.1))
+words-bytes (joined setting value ∷ parts) plain =
+    All-cons (setting_word setting ++ 61 ∷ value) (words_of parts) (setting-bytes setting (61 ∷ value)) (words-bytes parts plain)
+
+pub line-bytes : (words : List Word) → IsCommandLine words → All (λ w. w ≢ []) words
+line-bytes words line =
+    let parts = line.1.0 in
+    let has = line.1.1 in
+    subst (All (λ w. w ≢ [])) (sym has.spelled)
+    (All-cons (verb_word (verb_of line.0.action)) (words_of parts) (verb-bytes (verb_of line.0.action)) (words-bytes parts (line-plain words line.0 parts has)))

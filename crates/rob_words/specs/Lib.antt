@@ -1,0 +1,6 @@
+pub mod Values
+pub mod Commands
+pub mod Answers
+pub mod Texts
+pub mod Grammar
+pub mod Reading

@@ -1,0 +1,21 @@
+//! The command lines that the program takes, read from their words.
+#![tactic(auto)]
+
+mod admission;
+mod error;
+mod grammar;
+pub mod laws;
+mod line;
+mod reader;
+mod route;
+mod verb;
+mod width;
+
+pub use error::WordsErr;
+pub use line::{Command, CommandLine};
+pub use reader::read_words;
+pub use route::Route;
+pub use width::Width;
+
+#[cfg(test)]
+mod tests;

@@ -1,0 +1,27 @@
+//! The routes to an answer.
+
+ghost use Rattle.std.specs.Prelude.{◌≡◌, MatchOption};
+ghost use Rattle.rob_words.specs.Values.{route_text};
+ghost use Rattle.rob_words.specs.declared.route.Route.{Route};
+
+/// The way by which a model is solved.
+#[derive(Debug, Clone, Copy, PartialEq, Eq)]
+pub enum Route {
+    /// By the robust counterpart, a linear program that duality gives. The route where the command line names none.
+    Dual,
+}
+
+impl Route {
+    /// The route that the text names.
+    pub(crate) fn spelled(text: &str) -> Option<Route>
+        ensures spelled { MatchOption result
+            ((route : Route) → text.now ≡ route_text route → ⊥)
+            (λ route. text.now ≡ route_text route) }
+    {
+        if text == "dual" {
+            Some(Route::Dual)
+        } else {
+            None
+        }
+    }
+}
