@@ -1,0 +1,13 @@
+pub mod Counts
+pub mod Tables
+pub mod Listed
+pub mod Dictionaries
+pub mod Turning
+pub mod Phases
+pub mod FirstPhases
+pub mod FirstEndings
+pub mod Starts
+pub mod PathEnds
+pub mod Solvers
+pub mod Solutions
+pub mod Endings
