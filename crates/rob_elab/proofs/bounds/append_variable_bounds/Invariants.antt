@@ -1,0 +1,18 @@
+use Rattle.std.specs.Prelude.{◌≡◌, ◌≤◌, zero}
+use Rattle.rob_meaning.specs.Forms.{variable_forms}
+use Rattle.rob_model.specs.View.{robust}
+use Rattle.rob_elab.proofs.AppendLemmas.{Progress}
+use Rattle.rob_elab.proofs.LeftLemmas.{other_variables}
+use Rattle.rob_elab.proofs.bounds.append_variable_bounds.Given as goal
+
+-- the forms of the variables so far are done
+abbrev pub invariant-loop-variable : goal.invariant-loop-variable
+invariant-loop-variable g l =
+    let value = g.N.Exact.value in
+    let m = robust value l.model in
+    record {
+      number : l.number ≡ l.variable-index;
+      progress : Progress g.N.Exact.limit m (variable_forms zero m.variables) (other_variables value l.model.vars l.variable-index) l.fn.matrices l.matrices;
+      ops : g.L.Ledger.ops l.fn.ledger ≤ g.L.Ledger.ops l.ledger;
+      wides : g.L.Ledger.wides l.fn.ledger ≤ g.L.Ledger.wides l.ledger;
+    }

@@ -1,0 +1,13 @@
+use Rattle.std.specs.Prelude.{◌≡◌, ◌≤◌, map, take}
+use Rattle.rob_meaning.specs.Clearing.{whole_at}
+use Rattle.rob_elab.specs.Forms.{MatrixFits}
+use Rattle.rob_elab.proofs.matrix.cleared_rows.Given as goal
+
+-- the rows so far, in whole numbers
+abbrev pub invariant-loop-row : goal.invariant-loop-row
+invariant-loop-row g l = record {
+  cleared : l.matrix ≡ map (map (whole_at l.common)) (map (map g.N.Exact.value) (take l.row-index l.rows));
+  fits : MatrixFits g.N.Exact.limit l.matrix;
+  ops : g.L.Ledger.ops l.fn.ledger ≤ g.L.Ledger.ops l.ledger;
+  wides : g.L.Ledger.wides l.fn.ledger ≤ g.L.Ledger.wides l.ledger;
+}

@@ -1,0 +1,134 @@
+// The forms of the declared bounds of variables and of adaptive variables.
+
+ghost use Rattle.std.specs.Prelude.{◌≡◌, ◌≤◌, ◌<◌, ◌+◌, ◌∷◌, [], zero, length, option_map, if◌then◌else◌};
+ghost use Rattle.rob_meaning.specs.Expressions.{number as constant};
+ghost use Rattle.rob_meaning.specs.SetConditions.{if_declared};
+ghost use Rattle.rob_meaning.specs.Forms.{adaptive_forms, bound_forms, difference, variable_forms};
+ghost use Rattle.rob_meaning.specs.WellFormed.{IsExpression};
+ghost use Rattle.rob_model.specs.Valid.{IsValid};
+ghost use Rattle.rob_model.specs.View.{robust, expression_of};
+ghost use Rattle.rob_elab.specs.Appending.{Appends};
+
+use crate::rows::append_difference;
+use rob_model::{Expr, Model};
+use rob_number::{Exact, Ledger, List};
+use rob_sets::ElabErr;
+use std::alloc::Global;
+
+/// Clears and appends the forms of the declared bounds of all variables, in order.
+pub fn append_variable_bounds<N: Exact, L: Ledger>(
+    alloc: Global,
+    model: &Model<N>,
+    matrices: &mut List<List<List<i64>>>,
+    ledger: &mut L,
+) -> Result<(), ElabErr>
+    requires valid { IsValid N.value model.now }
+    requires few { length matrices.old < 5000 }
+    ensures forms { Appends N.limit (robust N.value model.now) (length matrices.old)
+        (variable_forms zero (robust N.value model.now).variables)
+        matrices.old matrices.new (L.wides ledger.old) (L.wides ledger.new) result }
+    ensures ops { L.ops ledger.old ≤ L.ops ledger.new }
+    ensures wides { L.wides ledger.old ≤ L.wides ledger.new }
+{
+    let mut number: u32 = 0;
+    for variable in model.vars.items() {
+        let bounded: Expr<N> = Expr::Var(number);
+        append_bounds(
+            alloc,
+            model,
+            &bounded,
+            &variable.lower,
+            &variable.upper,
+            matrices,
+            ledger,
+        )?;
+        number += 1;
+    }
+    Ok(())
+}
+
+/// Clears and appends the forms of the declared bounds of all adaptive variables, in order.
+pub fn append_adaptive_bounds<N: Exact, L: Ledger>(
+    alloc: Global,
+    model: &Model<N>,
+    matrices: &mut List<List<List<i64>>>,
+    ledger: &mut L,
+) -> Result<(), ElabErr>
+    requires valid { IsValid N.value model.now }
+    requires few { length matrices.old < 5000 }
+    ensures forms { Appends N.limit (robust N.value model.now) (length matrices.old)
+        (adaptive_forms zero (robust N.value model.now).adaptives)
+        matrices.old matrices.new (L.wides ledger.old) (L.wides ledger.new) result }
+    ensures ops { L.ops ledger.old ≤ L.ops ledger.new }
+    ensures wides { L.wides ledger.old ≤ L.wides ledger.new }
+{
+    let mut number: u32 = 0;
+    for rule in model.adaptives.items() {
+        let bounded: Expr<N> = Expr::Adaptive(number);
+        append_bounds(
+            alloc,
+            model,
+            &bounded,
+            &rule.lower,
+            &rule.upper,
+            matrices,
+            ledger,
+        )?;
+        number += 1;
+    }
+    Ok(())
+}
+
+/// Clears and appends the forms of the declared bounds of an expression, lower before upper.
+fn append_bounds<N: Exact, L: Ledger>(
+    alloc: Global,
+    model: &Model<N>,
+    bounded: &Expr<N>,
+    lower: &Option<N>,
+    upper: &Option<N>,
+    matrices: &mut List<List<List<i64>>>,
+    ledger: &mut L,
+) -> Result<(), ElabErr>
+    requires valid { IsValid N.value model.now }
+    requires bounded { IsExpression (robust N.value model.now) (expression_of N.value bounded.now) }
+    requires few { length matrices.old + 2 < 10000 }
+    ensures forms { Appends N.limit (robust N.value model.now) (length matrices.old)
+        (bound_forms (expression_of N.value bounded.now) (option_map N.value lower.now) (option_map N.value upper.now))
+        matrices.old matrices.new (L.wides ledger.old) (L.wides ledger.new) result }
+    ensures ops { L.ops ledger.old ≤ L.ops ledger.new }
+    ensures wides { L.wides ledger.old ≤ L.wides ledger.new }
+{
+    append_bound(alloc, model, bounded, lower, true, matrices, ledger)?;
+    append_bound(alloc, model, bounded, upper, false, matrices, ledger)
+}
+
+/// Clears and appends the form of a declared bound, if there is one: `l - e`, or `e - b`.
+fn append_bound<N: Exact, L: Ledger>(
+    alloc: Global,
+    model: &Model<N>,
+    bounded: &Expr<N>,
+    bound: &Option<N>,
+    lower: bool,
+    matrices: &mut List<List<List<i64>>>,
+    ledger: &mut L,
+) -> Result<(), ElabErr>
+    requires valid { IsValid N.value model.now }
+    requires bounded { IsExpression (robust N.value model.now) (expression_of N.value bounded.now) }
+    requires few { length matrices.old < 10000 }
+    ensures form { Appends N.limit (robust N.value model.now) (length matrices.old)
+        (if_declared (λ b. if lower then difference (constant b) (expression_of N.value bounded.now)
+        else difference (expression_of N.value bounded.now) (constant b)) (option_map N.value bound.now))
+        matrices.old matrices.new (L.wides ledger.old) (L.wides ledger.new) result }
+    ensures ops { L.ops ledger.old ≤ L.ops ledger.new }
+    ensures wides { L.wides ledger.old ≤ L.wides ledger.new }
+{
+    let Some(value) = bound else {
+        return Ok(());
+    };
+    let value = Expr::Number(*value);
+    if lower {
+        append_difference(alloc, model, &value, bounded, matrices, ledger)
+    } else {
+        append_difference(alloc, model, bounded, &value, matrices, ledger)
+    }
+}

@@ -1,0 +1,114 @@
+-- What is judged in order: the first wide spot, and rows that are appended one after another.
+use Rattle.std.specs.Prelude.{◌≡◌, ℕ, ◌≤◌, List, [], ◌∷◌, ◌++◌, map, Result, Ok, Err, IfErr, refl}
+use Rattle.std.proofs.Common.{sym, ◌∙◌, ap, arith, subst, append_assoc}
+use Rattle.rob_number.specs.Counts.{Rose}
+use Rattle.rob_meaning.specs.Places.{Each}
+use Rattle.rob_meaning.specs.RobustModel.{RobustModel}
+use Rattle.rob_meaning.specs.SetRows as lifted
+use Rattle.rob_model.specs.declared.place.Spot.{Spot}
+use Rattle.rob_sets.specs.Appending.{Appends, AppendsRows, StopsAt}
+use Rattle.rob_sets.specs.FirstWide.{Judged, HasCause, IsFirstWide, IsWideThere, NothingWide, spot_of}
+use Rattle.rob_sets.specs.SetForm.{RowFits, cleared_row}
+use Rattle.rob_sets.specs.Stops.{StopsFor, error_of}
+use Rattle.rob_sets.specs.declared.error.ElabErr.{ElabErr}
+use Rattle.rob_sets.specs.declared.error.ElabErr.TheVariants as Refused
+use Rattle.rob_sets.specs.declared.error.Stop.{Stop}
+use Rattle.rob_sets.specs.declared.error.Stop.TheVariants as Stopped
+use Rattle.rob_sets.specs.declared.set_form.SetRow.{SetRow}
+use Rattle.rob_sets.proofs.RowLemmas.{map-append}
+use Rattle.rob_sets.proofs.SubexpressionLemmas.{each_both}
+
+module _ (limit : ℕ) (m : RobustModel) where
+  -- ---- the first wide spot
+  pub first_here : (j : Judged) (rest : List Judged) → IsWideThere limit m j → IsFirstWide limit m (j ∷ rest) (spot_of j)
+  first_here j rest w = record { before = []; here = j; after = rest; order = refl; none_before = tt; wide = w; named = refl }
+
+  pub first_left : (js ks : List Judged) (spot : Spot) → IsFirstWide limit m js spot → IsFirstWide limit m (js ++ ks) spot
+  first_left js ks spot h = record {
+    before = h.before;
+    here = h.here;
+    after = h.after ++ ks;
+    order = ap (λ (xs : List Judged). xs ++ ks) h.order ∙ append_assoc h.before (h.here ∷ h.after) ks;
+    none_before = h.none_before;
+    wide = h.wide;
+    named = h.named;
+  }
+
+  pub first_right : (js ks : List Judged) (spot : Spot) → NothingWide limit m js → IsFirstWide limit m ks spot → IsFirstWide limit m (js ++ ks) spot
+  first_right js ks spot none h = record {
+    before = js ++ h.before;
+    here = h.here;
+    after = h.after;
+    order = ap (λ (xs : List Judged). js ++ xs) h.order ∙ sym (append_assoc js h.before (h.here ∷ h.after));
+    none_before = each_both (λ j. IsWideThere limit m j → ⊥) js h.before none h.none_before;
+    wide = h.wide;
+    named = h.named;
+  }
+
+  -- ---- why a call stops
+  pub stops_here : (j : Judged) (rest : List Judged) (stop : Stop) (e : ElabErr) (spot : Spot) (start before now : ℕ) → e ≡ error_of stop spot → spot_of j ≡ spot
+      → start ≤ before → StopsFor (Rose before now × IsWideThere limit m j) stop → StopsAt limit m (j ∷ rest) start now e
+  stops_here j rest Stopped.Wide e spot start before now is named least h =
+      subst (λ (x : ElabErr). StopsAt limit m (j ∷ rest) start now x) (sym is)
+      (let rose : Rose start now = omega (arith, h.0, least) in
+      record { cause = subst (IsFirstWide limit m (j ∷ rest)) named (first_here j rest h.1); rose = rose })
+  stops_here j rest Stopped.Memory e spot start before now is named least h =
+      subst (λ (x : ElabErr). StopsAt limit m (j ∷ rest) start now x) (sym is) (record { cause = tt; rose = tt })
+
+  pub stops_left : (js ks : List Judged) (e : ElabErr) (start before now : ℕ) → start ≤ before → StopsAt limit m js before now e
+      → StopsAt limit m (js ++ ks) start now e
+  stops_left js ks (Refused.Wide spot) start before now least h =
+      let rose : Rose start now = omega (arith, h.rose, least) in
+      record { cause = first_left js ks spot h.cause; rose = rose }
+  stops_left js ks Refused.Memory start before now least h = record { cause = tt; rose = tt }
+
+  pub stops_right : (js ks : List Judged) (e : ElabErr) (start before now : ℕ) → start ≤ before → NothingWide limit m js → StopsAt limit m ks before now e
+      → StopsAt limit m (js ++ ks) start now e
+  stops_right js ks (Refused.Wide spot) start before now least none h =
+      let rose : Rose start now = omega (arith, h.rose, least) in
+      record { cause = first_right js ks spot none h.cause; rose = rose }
+  stops_right js ks Refused.Memory start before now least none h = record { cause = tt; rose = tt }
+
+  pub stops_memory : (js : List Judged) (e : ElabErr) (start now : ℕ) → e ≡ Refused.Memory → StopsAt limit m js start now e
+  stops_memory js e start now is = subst (λ (x : ElabErr). StopsAt limit m js start now x) (sym is) (record { cause = tt; rose = tt })
+
+  -- ---- rows that are appended
+  pub appends_none : (rows : List SetRow) → AppendsRows limit m [] [] rows rows
+  appends_none rows = record { appended = sym (append-nil rows); fit = tt; none_wide = tt }
+    where
+      append-nil : (xs : List SetRow) → xs ++ [] ≡ xs
+      append-nil [] = refl
+      append-nil (x ∷ xs) = ap (λ ys. x ∷ ys) (append-nil xs)
+
+  pub appends_both : (xs ys : List lifted.SetRow) (js ks : List Judged) (a b c : List SetRow) → AppendsRows limit m xs js a b → AppendsRows limit m ys ks b c
+      → AppendsRows limit m (xs ++ ys) (js ++ ks) a c
+  appends_both xs ys js ks a b c f g = record {
+    appended = g.appended ∙ ap (λ (zs : List SetRow). zs ++ map (cleared_row m) ys) f.appended
+        ∙ append_assoc a (map (cleared_row m) xs) (map (cleared_row m) ys)
+        ∙ ap (λ (zs : List SetRow). a ++ zs) (sym (map-append (cleared_row m) xs ys));
+    fit = subst (λ (zs : List SetRow). Each (RowFits limit) zs) (sym (map-append (cleared_row m) xs ys))
+        (each_both (RowFits limit) (map (cleared_row m) xs) (map (cleared_row m) ys) f.fit g.fit);
+    none_wide = each_both (λ j. IsWideThere limit m j → ⊥) js ks f.none_wide g.none_wide;
+  }
+
+  -- rows are appended, and then further ones, or the call says why not
+  pub appends_then : (xs ys : List lifted.SetRow) (js ks : List Judged) (a b c : List SetRow) (start before now : ℕ) (r : Result (Unit {0}) ElabErr)
+      → AppendsRows limit m xs js a b → start ≤ before → Appends limit m ys ks b c before now r → Appends limit m (xs ++ ys) (js ++ ks) a c start now r
+  appends_then xs ys js ks a b c start before now (Ok _) f least g = appends_both xs ys js ks a b c f g
+  appends_then xs ys js ks a b c start before now (Err e) f least g = stops_right js ks e start before now least f.none_wide g
+
+  -- the answer of a call that stops
+  pub appends_err : (rows : List lifted.SetRow) (js : List Judged) (a b : List SetRow) (start now : ℕ) (r : Result (Unit {0}) ElabErr) (e d : ElabErr) → r ≡ Err d → d ≡ e
+      → StopsAt limit m js start now e → Appends limit m rows js a b start now r
+  appends_err rows js a b start now r e d is same h =
+      subst (λ (x : Result (Unit {0}) ElabErr). Appends limit m rows js a b start now x) (sym is)
+      (subst (λ (x : ElabErr). StopsAt limit m js start now x) (sym same) h)
+
+  -- nothing is appended for what is judged and not wide
+  pub appends_nothing : (js : List Judged) (rows : List SetRow) → NothingWide limit m js → AppendsRows limit m [] js rows rows
+  appends_nothing js rows none = record { appended = (appends_none rows).appended; fit = tt; none_wide = none }
+
+  -- the cause of an answer
+  pub cause_err : {T : Type 0} (js : List Judged) (r : Result T ElabErr) (e d : ElabErr) → r ≡ Err d → d ≡ e → HasCause limit m js e → IfErr r (HasCause limit m js)
+  cause_err {T} js r e d is same h =
+      subst (λ (x : Result T ElabErr). IfErr x (HasCause limit m js)) (sym is) (subst (HasCause limit m js) (sym same) h)

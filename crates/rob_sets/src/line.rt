@@ -1,0 +1,116 @@
+// Differences of two sides, and the set rows of linear conditions.
+
+ghost use Rattle.std.specs.Prelude.{◌≡◌, ◌≤◌, ◌<◌, ◌+◌, ◌∷◌, [], ℕ, map, length, OnOk, IfOk, IfErr};
+ghost use Rattle.rob_number.specs.Counts.{Rose};
+ghost use Rattle.rob_meaning.specs.Coefficients.{table as table_of};
+ghost use Rattle.rob_meaning.specs.Forms.{difference, sides};
+ghost use Rattle.rob_meaning.specs.Places.{Each};
+ghost use Rattle.rob_meaning.specs.SetRows.{expression_row};
+ghost use Rattle.rob_meaning.specs.WellFormed.{IsExpression, IsSetSide};
+ghost use Rattle.rob_model.specs.Valid.{IsValid};
+ghost use Rattle.rob_model.specs.View.{robust, expression_of, relation_of};
+ghost use Rattle.rob_sets.specs.Appending.{Appends};
+ghost use Rattle.rob_sets.specs.FirstWide.{Some_of};
+ghost use Rattle.rob_sets.specs.SetForm.{judged_sides};
+ghost use Rattle.rob_sets.specs.Stops.{StopsFor};
+ghost use Rattle.rob_sets.specs.Subexpressions.{subexpressions, HasWideCoefficient};
+ghost use Rattle.rob_sets.specs.Tables.{numbers_of};
+
+use crate::error::{ElabErr, Stop, stopped};
+use crate::expression::coefficients;
+use crate::row::append_row;
+use crate::set_form::SetRow;
+use crate::table::Table;
+use rob_model::{Expr, Model, Rel, Spot, Where};
+use rob_number::{Exact, Ledger, List};
+use std::alloc::Global;
+
+/// The coefficients of left less right, each subexpression in turn.
+pub fn difference_table<N: Exact, L: Ledger>(
+    alloc: Global,
+    model: &Model<N>,
+    left: &Expr<N>,
+    right: &Expr<N>,
+    ledger: &mut L,
+) -> Result<Table<N>, Stop>
+    requires valid { IsValid N.value model.now }
+    requires left { IsExpression (robust N.value model.now) (expression_of N.value left.now) }
+    requires right { IsExpression (robust N.value model.now) (expression_of N.value right.now) }
+    ensures table { IfOk result (λ t. (k j : ℕ) → numbers_of N.value t k j ≡ table_of (robust N.value model.now)
+        (difference (expression_of N.value left.now) (expression_of N.value right.now)) k j) }
+    ensures none_wide { OnOk result (Each (λ s. HasWideCoefficient N.limit (robust N.value model.now) s → ⊥)
+        (subexpressions (difference (expression_of N.value left.now) (expression_of N.value right.now)))) }
+    ensures wide { IfErr result (StopsFor (Rose (L.wides ledger.old) (L.wides ledger.new)
+        × Some_of (HasWideCoefficient N.limit (robust N.value model.now))
+        (subexpressions (difference (expression_of N.value left.now) (expression_of N.value right.now))))) }
+    ensures ops { L.ops ledger.old ≤ L.ops ledger.new }
+    ensures wides { L.wides ledger.old ≤ L.wides ledger.new }
+{
+    let mut table = coefficients(alloc, left, model, ledger)?;
+    let subtracted = coefficients(alloc, right, model, ledger)?;
+    table.join(true, &subtracted, ledger)?;
+    Ok(table)
+}
+
+/// Clears and appends the row that left less right is at most 0, for the statement of that number.
+fn append_side<N: Exact, L: Ledger>(
+    alloc: Global,
+    model: &Model<N>,
+    number: u32,
+    left: &Expr<N>,
+    right: &Expr<N>,
+    rows: &mut List<SetRow>,
+    ledger: &mut L,
+) -> Result<(), ElabErr>
+    requires valid { IsValid N.value model.now }
+    requires left { IsSetSide (robust N.value model.now) (expression_of N.value left.now) }
+    requires right { IsSetSide (robust N.value model.now) (expression_of N.value right.now) }
+    requires few { length rows.old < 1000 }
+    ensures row { Appends N.limit (robust N.value model.now)
+        (map (expression_row (robust N.value model.now))
+        (difference (expression_of N.value left.now) (expression_of N.value right.now) ∷ []))
+        (judged_sides (robust N.value model.now) number (length rows.old)
+        (difference (expression_of N.value left.now) (expression_of N.value right.now) ∷ []))
+        rows.old rows.new (L.wides ledger.old) (L.wides ledger.new) result }
+    ensures ops { L.ops ledger.old ≤ L.ops ledger.new }
+    ensures wides { L.wides ledger.old ≤ L.wides ledger.new }
+{
+    match difference_table(alloc, model, left, right, ledger) {
+        Ok(table) => append_row(alloc, model, &table, rows, ledger),
+        Err(stop) => Err(stopped(stop, Spot::Coefficient(Where::SetLine(number)))),
+    }
+}
+
+/// Clears and appends the rows of a linear condition, the statement of that number. An equality has two.
+pub fn append_line<N: Exact, L: Ledger>(
+    alloc: Global,
+    model: &Model<N>,
+    number: u32,
+    left: &Expr<N>,
+    rel: Rel,
+    right: &Expr<N>,
+    rows: &mut List<SetRow>,
+    ledger: &mut L,
+) -> Result<(), ElabErr>
+    requires valid { IsValid N.value model.now }
+    requires left { IsSetSide (robust N.value model.now) (expression_of N.value left.now) }
+    requires right { IsSetSide (robust N.value model.now) (expression_of N.value right.now) }
+    requires few { length rows.old + 2 < 1000 }
+    ensures rows { Appends N.limit (robust N.value model.now)
+        (map (expression_row (robust N.value model.now))
+        (sides (relation_of rel) (expression_of N.value left.now) (expression_of N.value right.now)))
+        (judged_sides (robust N.value model.now) number (length rows.old)
+        (sides (relation_of rel) (expression_of N.value left.now) (expression_of N.value right.now)))
+        rows.old rows.new (L.wides ledger.old) (L.wides ledger.new) result }
+    ensures ops { L.ops ledger.old ≤ L.ops ledger.new }
+    ensures wides { L.wides ledger.old ≤ L.wides ledger.new }
+{
+    match rel {
+        Rel::AtMost => append_side(alloc, model, number, left, right, rows, ledger),
+        Rel::AtLeast => append_side(alloc, model, number, right, left, rows, ledger),
+        Rel::Equal => {
+            append_side(alloc, model, number, left, right, rows, ledger)?;
+            append_side(alloc, model, number, right, left, rows, ledger)
+        }
+    }
+}
