@@ -1,0 +1,13 @@
+use Rattle.std.proofs.Common.{sym, ◌∙◌}
+use Rattle.rob_cert.proofs.SpellingLaws as spelling
+use Rattle.rob_cert.proofs.OneCertificate as one
+use Rattle.rob_cert.proofs.laws.spelling_laws.Goals as goal
+
+pub returns-clause-spelled_once : goal.returns-clause-spelled_once
+returns-clause-spelled_once c m d s t h k = h.spelled ∙ sym k.spelled
+
+pub returns-clause-breaks_none : goal.returns-clause-breaks_none
+returns-clause-breaks_none c = spelling.breaks_none
+
+pub returns-clause-read_once : goal.returns-clause-read_once
+returns-clause-read_once c = one.read_once

@@ -1,0 +1,12 @@
+pub mod View
+pub mod Shape
+pub mod Lines
+pub mod Spelling
+pub mod NamesView
+pub mod Reading
+pub mod Causes
+pub mod Sections
+pub mod Head
+pub mod Parts
+pub mod Whole
+pub mod Apart

@@ -1,0 +1,14 @@
+pub mod CoverLaws
+pub mod CoverLemmas
+pub mod DenseLemmas
+pub mod GivenLemmas
+pub mod ItemLemmas
+pub mod JudgeLemmas
+pub mod OrderLemmas
+pub mod ProofLaws
+pub mod RunLemmas
+pub mod ScenarioLemmas
+pub mod SumLaws
+pub mod SumLemmas
+pub mod TargetLemmas
+pub mod VerdictLemmas

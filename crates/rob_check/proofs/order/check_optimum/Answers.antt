@@ -1,0 +1,44 @@
+use Rattle.std.proofs.Common.{arith, sym, subst, map, ◌∙◌, List}
+use Rattle.std.specs.Prelude.{Some}
+use Rattle.rob_cert.specs.View.{certificate_of, item_of}
+use Rattle.rob_cert.specs.declared.certificate.Item as program
+use Rattle.rob_meaning.specs.Places.{Each}
+use Rattle.rob_model.specs.View.{robust}
+use Rattle.rob_check.specs.Conditions.{covering_tests, items_sum_tests, plan_covering}
+use Rattle.rob_check.specs.View.{TakesForm}
+use Rattle.rob_check.proofs.GivenLemmas.{each_takes}
+use Rattle.rob_check.proofs.OrderLemmas.{sums_are}
+use Rattle.rob_check.proofs.VerdictLemmas.{goes, stops}
+use Rattle.rob_check.proofs.order.check_optimum.Goals as goal
+
+pub check_sums-requires : goal.check_sums-requires
+check_sums-requires g c =
+    let value = g.N.Exact.value in
+    let m = robust value c.args.model.now in
+    let given = c.requires.given in
+    record {
+      fits = given.forms_fit;
+      few = omega (arith, given.are_forms.columns, given.valid.limits.columns);
+      items = subst (λ (xs : List (program.Item g.row.N.Denot)). Each (TakesForm c.args.forms.now.matrices) (map (item_of value) xs)) (sym c.items.ensures.list)
+          (each_takes m c.args.forms.now given.are_forms (map (item_of value) c.args.cert.now.items) given.shape.items.each);
+    }
+
+pub returns-in-Accepted-clause-exact : goal.returns-in-Accepted-clause-exact
+returns-in-Accepted-clause-exact g c =
+    let value = g.N.Exact.value in
+    let m = robust value c.args.model.now in
+    let given = c.requires.given in
+    let cert = certificate_of value c.args.cert.now in
+    c.check_plan.ensures.exact
+    ∙ goes (items_sum_tests g.N.Exact.limit m (Some cert.value) cert) (covering_tests g.N.Exact.limit m (plan_covering cert))
+    (sums_are value g.N.Exact.limit m c.args.forms.now given.are_forms c.items.result.now c.args.cert.now.items (Some cert.value) _ c.items.ensures.list c.in-Accepted.ensures.exact)
+
+pub returns-in_default-clause-exact : goal.returns-in_default-clause-exact
+returns-in_default-clause-exact g c =
+    let value = g.N.Exact.value in
+    let m = robust value c.args.model.now in
+    let given = c.requires.given in
+    let cert = certificate_of value c.args.cert.now in
+    stops (items_sum_tests g.N.Exact.limit m (Some cert.value) cert) (covering_tests g.N.Exact.limit m (plan_covering cert))
+    c.check_sums.result c.in_default.not-Accepted
+    (sums_are value g.N.Exact.limit m c.args.forms.now given.are_forms c.items.result.now c.args.cert.now.items (Some cert.value) _ c.items.ensures.list c.check_sums.ensures.exact)

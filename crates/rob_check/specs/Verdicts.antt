@@ -1,0 +1,45 @@
+-- The verdict on conditions that are tried in order: the first that doesn't hold decides.
+use Rattle.std.specs.Prelude.{ℕ, ◌≤◌, List, [], ◌∷◌, Bool, true, false, Option, Some, None}
+use Rattle.rob_model.specs.declared.place.Place.{Place}
+use Rattle.rob_number.specs.Counts.{Rose}
+use Rattle.rob_check.specs.declared.verdict.Verdict.{Verdict}
+use Rattle.rob_check.specs.declared.verdict.Verdict.TheVariants.{Accepted, Rejected, TooWide}
+
+-- a condition of a certificate: its place, and whether it holds, or nothing where a number that is computed for it is wide
+pub record Condition : Type 0 where
+  pub place : Place
+  pub holds : Option Bool
+
+-- a condition that fails, or that is wide, decides; behind one that holds the verdict is that on the rest
+abbrev pub decided : Place → Option Bool → Verdict → Verdict
+decided place (Some true) rest = rest
+decided place (Some false) rest = Rejected place
+decided place None rest = TooWide place
+
+-- the verdict on conditions in order
+abbrev pub verdict : List Condition → Verdict
+verdict [] = Accepted
+verdict (c ∷ cs) = decided c.place c.holds (verdict cs)
+
+-- a verdict that is too wide has raised the count of wide numbers
+abbrev pub RoseIfWide : ℕ → ℕ → Verdict → Type 0
+RoseIfWide before now Accepted = Unit {0}
+RoseIfWide before now (Rejected place) = Unit {0}
+RoseIfWide before now (TooWide place) = Rose before now
+
+-- the count never fell, and rose where the verdict is too wide
+pub record Counted (before now : ℕ) (v : Verdict) : Type 0 where
+  pub never_fell : before ≤ now
+  pub refused : RoseIfWide before now v
+
+-- what a verdict says of a claim: accepted, it holds; rejected, it does not; too wide says neither
+abbrev pub Judges : Type 0 → Verdict → Type 0
+Judges P Accepted = P
+Judges P (Rejected place) = P → ⊥
+Judges P (TooWide place) = Unit {0}
+
+-- the fact holds where the verdict accepts
+abbrev pub OnAccepted : Verdict → Type 0 → Type 0
+OnAccepted Accepted P = P
+OnAccepted (Rejected place) P = Unit {0}
+OnAccepted (TooWide place) P = Unit {0}
