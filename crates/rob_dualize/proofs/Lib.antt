@@ -1,0 +1,11 @@
+pub mod Soundness
+pub mod TabulateLemmas
+pub mod CounterpartLists
+pub mod ShapeLemmas
+pub mod ReadingLemmas
+pub mod EndingLemmas
+pub mod SolvingLemmas
+pub mod EntryLemmas
+pub mod CertificateLemmas
+pub mod MakingLemmas
+pub mod SizeLemmas

@@ -1,0 +1,133 @@
+-- Solvers that are made for the set's program and for the counterpart.
+use Rattle.std.proofs.Common.{◌≡◌, ℕ, zero, suc, ◌+◌, ◌*◌, ◌^◌, ◌<◌, ◌≤◌, List, length, sym, ap, ◌∙◌, subst, arith, Result, Ok, Err}
+use Rattle.std.specs.Prelude.{IfOk}
+use Rattle.std.proofs.lemmas.List.{length-map}
+use Rattle.rob_counterpart.proofs.SamePaths.{wide_row_same}
+use lib.IntN.{pos}
+use Rattle.rob_algebra.specs.Fraction.{Fraction}
+use Rattle.rob_linear.specs.Programs.{Program, system_of}
+use Rattle.rob_linear.specs.Turns.{own_of}
+use Rattle.rob_meaning.specs.RobustModel.{RobustModel}
+use Rattle.rob_meaning.specs.SetRows.{set_rows}
+use Rattle.rob_rows.specs.declared.program.Lp.{Lp}
+use Rattle.rob_rows.specs.LinearPrograms.{program_of}
+use Rattle.rob_simplex.specs.Dictionaries.{columns_of}
+use Rattle.rob_linear.specs.WideRows.{HasWideRow}
+use Rattle.rob_number.specs.declared.lp_kind.LpKind.{LpKind}
+use Rattle.rob_number.specs.declared.lp_kind.LpKind.TheVariants as kind
+use Rattle.rob_simplex.specs.Endings.{HasSolved, HasStopped, HasAnswered, IsOptimumOf, IsRayOf}
+use Rattle.rob_simplex.specs.declared.state.LpStop.{LpStop}
+use Rattle.rob_simplex.specs.declared.state.LpStop.TheVariants.{Wide}
+use Rattle.rob_simplex.specs.Solvers.{Solver, positions, entries}
+use Rattle.rob_simplex.specs.Solutions.{point_of}
+use Rattle.rob_sets.specs.SetForm.{IsSetForm, cleared_row}
+use Rattle.rob_sets.specs.SetProgram.{IsOverRobust, robust_set}
+use Rattle.rob_sets.specs.declared.set_form.SetForm.{SetForm}
+use Rattle.rob_sets.proofs.SetProgramLemmas.{same_program}
+use Rattle.rob_elab.specs.Forms.{IsForms}
+use Rattle.rob_elab.specs.declared.forms.Forms.{Forms}
+use Rattle.rob_counterpart.specs.RobustProgram.{RobustProgram}
+use Rattle.rob_counterpart.specs.Counterpart.{counterpart, robust_of, set_program}
+use Rattle.rob_counterpart.specs.Reform.{reform, block}
+use Rattle.rob_counterpart.specs.SamePrograms.{AreSame}
+use Rattle.rob_counterpart.specs.SetPrograms.{set_of}
+use Rattle.rob_counterpart.specs.Splitting.{plus, minus, OneIsZero}
+use Rattle.rob_counterpart.proofs.SetLemmas.{over_set_is, cost_is}
+use Rattle.rob_counterpart.proofs.SplitLemmas.{point_opposite, set_pair}
+use Rattle.rob_dualize.specs.Ending.{HasLastPoint, HasEnded, IsMadeAs, read_from, position_of}
+use Rattle.rob_dualize.specs.Wholes.{AreOfOneModel, wholes, counterpart_of, set_of_wholes, IsFew}
+use Rattle.rob_dualize.proofs.Soundness.{wholes_are}
+use Rattle.rob_dualize.proofs.SolvingLemmas.{last_basis, last_point}
+
+-- what an answer is, by what it is known to be
+pub ok_weaker : {A E : Type 0} (P Q : A → Type 0) → ((x : A) → P x → Q x) → (r : Result A E) → IfOk r P → IfOk r Q
+ok_weaker P Q f (Ok x) h = f x h
+ok_weaker P Q f (Err e) h = h
+
+one_block : (n b : ℕ) → 0 < n → b ≤ n * b
+one_block zero b l = absurd (omega arith)
+one_block (suc n) b l = let e : suc n * b ≡ (n * b) + b = grind arith in omega arith
+
+module _ (forms : Forms) (set : SetForm) (one : AreOfOneModel forms set) where
+  some_form : 0 < length forms.matrices
+  some_form = subst (λ (n : ℕ). 0 < n) (sym (ap length one.are_forms.matrices)) (omega arith)
+
+  pub parameters_low : forms.params ≤ set.columns
+  parameters_low = omega (arith, one.are_forms.params, one.is_set.columns)
+
+  -- the set's program has as few rows and columns
+  pub set_few : IsFew (counterpart_of forms set) → (lp : Lp) → IsOverRobust (robust_set set) (program_of lp) → length lp.c + length lp.b < 2 ^ 31
+  set_few few lp h =
+      let b : length lp.b ≡ length set.rows = h.over_set.height in
+      let w : length lp.c ≡ set.columns + set.columns = h.over_set.width in
+      let u : block (wholes forms set) ≤ length forms.matrices * block (wholes forms set) = one_block (length forms.matrices) (block (wholes forms set)) some_form in
+      let v : length set.rows ≤ length forms.matrices * length set.rows = one_block (length forms.matrices) (length set.rows) some_form in
+      omega (arith, few)
+
+  pub set_of_few : IsFew (counterpart_of forms set) → IsFew (set_of_wholes forms set)
+  set_of_few few =
+      let u : block (wholes forms set) ≤ length forms.matrices * block (wholes forms set) = one_block (length forms.matrices) (block (wholes forms set)) some_form in
+      let v : length set.rows ≤ length forms.matrices * length set.rows = one_block (length forms.matrices) (length set.rows) some_form in
+      omega (arith, few)
+
+  pub set_same : (lp : Lp) → IsOverRobust (robust_set set) (program_of lp) → AreSame (program_of lp) (set_of_wholes forms set)
+  set_same lp h =
+      subst (λ (q : RobustProgram). AreSame (program_of lp) (set_of q)) (sym (wholes_are one.model forms set one.are_forms one.is_set))
+      (same_program one.model set one.is_set (program_of lp) h)
+
+  pub counterpart_same : (lp : Lp) → AreSame (program_of lp) (counterpart one.model) → AreSame (program_of lp) (counterpart_of forms set)
+  counterpart_same lp h =
+      subst (λ (q : RobustProgram). AreSame (program_of lp) (reform q)) (sym (wholes_are one.model forms set one.are_forms one.is_set)) h
+
+-- of each pair of the set's point one number is 0
+pub set_pairs : (d : RobustProgram) (s : Solver) → HasLastPoint (set_of d) s → (c : ℕ) → c < d.set_columns → OneIsZero (point_of s (plus c)) (point_of s (minus c))
+set_pairs d s h c l =
+    point_opposite (set_of d) (plus c) (minus c) (set_pair d (λ k. pos 0) (set_of d) (over_set_is d (λ k. pos 0)) (cost_is d (λ k. pos 0)) c l)
+    (own_of (system_of (set_of d)) (columns_of s.basis)) (entries s) (last_basis (set_of d) s h) (point_of s) (last_point (set_of d) s h)
+
+-- ---- the answer of a solver
+pub has_ended : (Q : Program) (before now : Solver) (h : IsMadeAs Q before) (kind : LpKind) → now.columns ≡ before.columns → positions now ≡ positions before → HasSolved h.program kind now → HasAnswered kind now
+    → HasEnded Q kind now
+has_ended Q before now h kind ec ep solved answered =
+    record { program = h.program; same = h.same; rows = h.made.rows ∙ sym ep; columns = h.made.columns ∙ sym ec; solved = solved; answered = answered }
+
+pub optimal_last : (Q : Program) (s : Solver) → HasEnded Q kind.Optimal s → HasLastPoint Q s
+optimal_last Q s h = let o : IsOptimumOf h.program s = h.solved in record { program = h.program; same = h.same; point = o.point; feasible = o.ends.feasible }
+
+pub unbounded_last : (Q : Program) (s : Solver) → HasEnded Q kind.Unbounded s → HasLastPoint Q s
+unbounded_last Q s h = let o : IsRayOf h.program s = h.solved in record { program = h.program; same = h.same; point = o.point; feasible = o.ends.feasible }
+
+pub stopped_row : (limit : ℕ) (P : Program) (stop : LpStop) (s : Solver) → HasStopped limit P stop s → HasWideRow limit P (columns_of s.basis) (position_of stop)
+stopped_row limit P (Wide i) s h = h.1
+
+-- ---- of a model
+module _ (forms : Forms) (set : SetForm) (m : RobustModel) (f : IsForms m forms) (st : IsSetForm m set) where
+  same_wholes : wholes forms set ≡ robust_of m
+  same_wholes = wholes_are m forms set f st
+
+  pub set_rows_count : length set.rows ≡ length (set_rows m)
+  set_rows_count = ap length st.rows ∙ length-map (set_rows m) (cleared_row m)
+
+  pub set_ended : (k : LpKind) (s : Solver) → HasEnded (set_of_wholes forms set) k s → HasEnded (set_program m) k s
+  set_ended k s = subst (λ (q : RobustProgram). HasEnded (set_of q) k s) same_wholes
+
+  pub set_last : (s : Solver) → HasLastPoint (set_of_wholes forms set) s → HasLastPoint (set_program m) s
+  set_last s = subst (λ (q : RobustProgram). HasLastPoint (set_of q) s) same_wholes
+
+  pub counterpart_ended : (k : LpKind) (s : Solver) → HasEnded (counterpart_of forms set) k s → HasEnded (counterpart m) k s
+  counterpart_ended k s = subst (λ (q : RobustProgram). HasEnded (reform q) k s) same_wholes
+
+  pub counterpart_few : IsFew (counterpart_of forms set) → IsFew (counterpart m)
+  counterpart_few = subst (λ (q : RobustProgram). IsFew (reform q)) same_wholes
+
+  pub read_same : (inside : List Fraction) (k : LpKind) (s : Solver) → read_from (wholes forms set) inside k s ≡ read_from (robust_of m) inside k s
+  read_same inside k s = ap (λ (q : RobustProgram). read_from q inside k s) same_wholes
+
+  pub set_wide : (limit : ℕ) (before now : Solver) (h : IsMadeAs (set_of_wholes forms set) before) (i : ℕ) → HasWideRow limit h.program (columns_of now.basis) i
+      → HasWideRow limit (set_program m) (columns_of now.basis) i
+  set_wide limit before now h i w = wide_row_same h.program (set_program m) (subst (λ (q : RobustProgram). AreSame h.program (set_of q)) same_wholes h.same) limit (columns_of now.basis) i w
+
+  pub counterpart_wide : (limit : ℕ) (before now : Solver) (h : IsMadeAs (counterpart_of forms set) before) (i : ℕ) → HasWideRow limit h.program (columns_of now.basis) i
+      → HasWideRow limit (counterpart m) (columns_of now.basis) i
+  counterpart_wide limit before now h i w =
+      wide_row_same h.program (counterpart m) (subst (λ (q : RobustProgram). AreSame h.program (reform q)) same_wholes h.same) limit (columns_of now.basis) i w

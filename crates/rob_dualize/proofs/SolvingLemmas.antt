@@ -1,0 +1,173 @@
+-- What the route answers, from what its steps answer.
+use Rattle.std.proofs.Common.{◌≡◌, ℕ, ◌<◌, ◌≤◌, List, map, length, refl, sym, ap, ◌∙◌, subst, arith, Result, Ok, Err}
+use Rattle.std.specs.Prelude.{MatchResult, IfOk}
+use Rattle.rob_algebra.specs.Fraction.{Fraction, of_int}
+use lib.IntN.{ℤ}
+use Rattle.rob_linear.specs.Vectors.{Matrix}
+use Rattle.rob_linear.specs.Systems.{System, IsBasis, Feasible}
+use Rattle.rob_linear.specs.Programs.{Program, system_of, auxiliary_of}
+use Rattle.rob_linear.specs.Turns.{own_of}
+use Rattle.rob_linear.specs.Optimality.{IsBasicPoint}
+use Rattle.rob_linear.specs.WideRows.{HasWideRow}
+use Rattle.rob_meaning.specs.Certificates.{Certificate}
+use Rattle.rob_meaning.specs.Places.{tabulate}
+use Rattle.rob_meaning.specs.RobustModel.{RobustModel}
+use Rattle.rob_meaning.specs.SetRows.{set_rows}
+use Rattle.rob_meaning.specs.UncertaintySet.{Admits}
+use Rattle.rob_meaning.specs.WellFormed.{IsModel}
+use Rattle.rob_meaning.proofs.EmptyLemmas.{shows_empty}
+use Rattle.rob_model.specs.View.{scenario_of}
+use Rattle.rob_model.specs.declared.place.Spot.{Spot}
+use Rattle.rob_model.specs.declared.place.Program.{Program as Named}
+use Rattle.rob_model.specs.declared.place.Program.TheVariants as named
+use Rattle.rob_model.specs.declared.plan.Scenario.{Scenario}
+use Rattle.rob_number.specs.Counts.{raised}
+use Rattle.rob_number.specs.declared.lp_kind.LpKind.TheVariants as kind
+use Rattle.rob_number.specs.declared.memory.Memory.{Memory as NoMemory}
+use Rattle.rob_simplex.specs.Dictionaries.{columns_of}
+use Rattle.rob_simplex.specs.Solvers.{Solver, entries}
+use Rattle.rob_simplex.specs.Solutions.{point_of, weights_of}
+use Rattle.rob_simplex.specs.Endings.{HasWeightsFor}
+use Rattle.rob_cert.specs.View.{certificate_of}
+use Rattle.rob_cert.specs.declared.certificate.Cert.{Cert}
+use Rattle.rob_cert.specs.declared.ending.Stop.{Stop}
+use Rattle.rob_cert.specs.declared.ending.Stop.TheVariants.{EmptySet, Wide, Memory}
+use Rattle.rob_counterpart.specs.Counterpart.{set_program, counterpart}
+use Rattle.rob_counterpart.specs.Endings.{InfeasibleEnding}
+use Rattle.rob_counterpart.specs.ReadCertificates.{weight_of, weights_read, scenario_read}
+use Rattle.rob_counterpart.proofs.SamePaths.{last_same}
+use Rattle.rob_counterpart.proofs.SameSystems.{systems_same}
+use Rattle.rob_counterpart.proofs.ScenarioLemmas.{set_weights, basis_admitted}
+use Rattle.rob_counterpart.proofs.TabulateLemmas.{tabulate-same}
+use Rattle.rob_dualize.specs.Ending.{HasEnded, HasLastPoint, StopsAt, IsTold}
+use Rattle.rob_dualize.specs.Reading.{differences}
+use Rattle.rob_dualize.specs.Solving.{IsLastScenario, IsSolution, IsShownEmpty, IsWideSpot, HasCause, CountsStop, Finds, Solves}
+use Rattle.rob_dualize.proofs.EndingLemmas.{infeasible_end}
+use Rattle.rob_dualize.proofs.TabulateLemmas.{map-tabulate}
+
+rises : (n : ℕ) → n ≤ raised n
+rises n = omega arith
+
+-- ---- a wide row
+module _ (limit : ℕ) (m : RobustModel) where
+  pub wide_in_set : (basis : List ℕ) (i : ℕ) (stop : Stop) → HasWideRow limit (set_program m) (columns_of basis) i → StopsAt basis named.Set i stop → HasCause limit m stop
+  wide_in_set basis i (EmptySet weights) w h = absurd h
+  wide_in_set basis i (Wide place trace) w h = (subst (λ (p : Spot). IsWideSpot limit m p) (sym h.0) w, h.1)
+  wide_in_set basis i Memory w h = tt
+
+  pub wide_in_counterpart : (basis : List ℕ) (i : ℕ) (stop : Stop) (scenario : List Fraction) → Admits m scenario → HasWideRow limit (counterpart m) (columns_of basis) i
+      → StopsAt basis named.Reform i stop → HasCause limit m stop
+  wide_in_counterpart basis i (EmptySet weights) u a w h = absurd h
+  wide_in_counterpart basis i (Wide place trace) u a w h = (subst (λ (p : Spot). IsWideSpot limit m p) (sym h.0) ((u, a), w), h.1)
+  wide_in_counterpart basis i Memory u a w h = tt
+
+pub wide_counted : (before now : ℕ) (basis : List ℕ) (program : Named) (i : ℕ) (stop : Stop) → now ≡ raised before → StopsAt basis program i stop → CountsStop before now stop
+wide_counted before now basis program i (EmptySet weights) e h = absurd h
+wide_counted before now basis program i (Wide place trace) e h = e
+wide_counted before now basis program i Memory e h = subst (λ n. before ≤ n) (sym e) (rises before)
+
+-- ---- want of memory
+pub refused_counted : (before now : ℕ) (stop : Stop) → before ≤ now → stop ≡ Memory → CountsStop before now stop
+refused_counted before now (EmptySet weights) l e = cc
+refused_counted before now (Wide place trace) l e = cc
+refused_counted before now Memory l e = l
+
+pub refused_cause : (limit : ℕ) (m : RobustModel) (stop : Stop) → stop ≡ Memory → HasCause limit m stop
+refused_cause limit m stop e = subst (HasCause limit m) (sym e) tt
+
+-- ---- the certificate
+module _ {N : Type 0} (value : N → Fraction) (limit : ℕ) (m : RobustModel) (before now : ℕ) where
+  pub stopped_with : (stop : Stop) → HasCause limit m stop → CountsStop before now stop → Solves value limit m before now (Err stop)
+  stopped_with stop h k = record { solved = tt; stopped = h; counted = k }
+
+  pub answered : (c : Certificate) → IsSolution m c → now ≡ before → (answer : Result (Cert N) NoMemory) → IfOk answer (λ cert. certificate_of value cert ≡ c)
+      → (result : Result (Cert N) Stop) → MatchResult result (λ x. answer ≡ Ok x) (λ stop. stop ≡ Memory) → Solves value limit m before now result
+  answered c s e answer h (Ok x) is = record {
+    solved = subst (IsSolution m) (sym (subst (λ (r : Result (Cert N) NoMemory). IfOk r (λ cert. certificate_of value cert ≡ c)) is h)) s;
+    stopped = tt;
+    counted = e;
+  }
+  answered c s e answer h (Err stop) is = stopped_with stop (refused_cause limit m stop is) (refused_counted before now stop (omega arith) is)
+
+-- ---- the scenario
+module _ (Q : Program) (s : Solver) (h : HasLastPoint Q s) where
+  systems : system_of h.program ≡ system_of Q
+  systems = systems_same h.program Q h.same
+
+  pub last_basis : IsBasis (system_of Q) (own_of (system_of Q) (columns_of s.basis)) (entries s)
+  last_basis = subst (λ (S : System). IsBasis S (own_of S (columns_of s.basis)) (entries s)) systems h.point.basis
+
+  pub last_feasible : Feasible (system_of Q) (entries s)
+  last_feasible = subst (λ (S : System). Feasible S (entries s)) systems h.feasible
+
+  pub last_point : IsBasicPoint (system_of Q) (own_of (system_of Q) (columns_of s.basis)) (entries s) (point_of s)
+  last_point = subst (λ (S : System). IsBasicPoint S (own_of S (columns_of s.basis)) (entries s) (point_of s)) systems h.point.basic
+
+module _ (m : RobustModel) (model : IsModel m) (s : Solver) where
+  pub scenario_found : HasLastPoint (set_program m) s → Admits m (scenario_read m (point_of s)) × IsLastScenario m (scenario_read m (point_of s))
+  scenario_found h = (
+    basis_admitted m model (own_of (system_of (set_program m)) (columns_of s.basis)) (entries s) (point_of s)
+        (last_basis (set_program m) s h) (last_feasible (set_program m) s h) (last_point (set_program m) s h),
+    record {
+      basis = columns_of s.basis;
+      rows = entries s;
+      point = point_of s;
+      last = last_same h.program (set_program m) h.same (columns_of s.basis) h.point.last;
+      is_basis = last_basis (set_program m) s h;
+      is_point = last_point (set_program m) s h;
+      scenario_is = refl;
+    },
+  )
+
+  weights_shown : HasEnded (set_program m) kind.Infeasible s → IsShownEmpty m (tabulate (length (set_rows m)) (λ i. of_int (weights_of s i)))
+  weights_shown h =
+      let o : HasWeightsFor h.program s = h.solved in
+      let en : (rows : Matrix) × InfeasibleEnding (set_program m) (own_of (auxiliary_of (set_program m)) (columns_of s.basis)) rows
+      × ((t : ℕ) → t < (set_program m).m → of_int (weights_of s t) ≡ weight_of (set_program m) rows t) = infeasible_end (set_program m) s h in
+      let e : tabulate (length (set_rows m)) (λ i. of_int (weights_of s i)) ≡ weights_read m en.0 =
+      tabulate-same (length (set_rows m)) (λ i. of_int (weights_of s i)) (weight_of (set_program m) en.0) en.2 in
+      let shown = set_weights m (own_of (auxiliary_of (set_program m)) (columns_of s.basis)) en.0 en.1 in
+      subst (IsShownEmpty m) (sym e)
+      (record {
+        empty = shows_empty m model (weights_read m en.0) shown;
+        shows = shown;
+        basis = columns_of s.basis;
+        rows = en.0;
+        last = last_same h.program (set_program m) h.same (columns_of s.basis) o.last;
+        ending = en.1;
+        weights_are = refl;
+      })
+
+  pub weights_told : HasEnded (set_program m) kind.Infeasible s → (weights : List ℤ) (n : ℕ) → weights ≡ tabulate n (weights_of s) → n ≡ length (set_rows m) → IsShownEmpty m (map of_int weights)
+  weights_told h weights n e l =
+      subst (IsShownEmpty m) (sym (ap (map of_int) (e ∙ ap (λ k. tabulate k (weights_of s)) l) ∙ map-tabulate of_int (length (set_rows m)) (weights_of s))) (weights_shown h)
+
+-- ---- what is found of scenarios
+module _ {N : Type 0} (value : N → Fraction) (limit : ℕ) (m : RobustModel) where
+  pub not_found : (before now : ℕ) (stop : Stop) → HasCause limit m stop → CountsStop before now stop → Finds value limit m before now (Err stop)
+  not_found before now stop h k = record { found = tt; stopped = h; counted = k }
+
+  pub counted_found : (before now : ℕ) (result : Result (Scenario N) Stop) → now ≡ before → Finds value limit m before before result → Finds value limit m before now result
+  counted_found before now result e h = subst (λ n. Finds value limit m before n result) (sym e) h
+
+  module _ (model : IsModel m) (s : Solver) where
+    pub point_found : (params : ℕ) → params ≡ length m.parameters → HasLastPoint (set_program m) s → (answer : Result (Scenario N) NoMemory)
+        → IfOk answer (λ scenario. scenario_of value scenario ≡ differences params (point_of s)) → (result : Result (Scenario N) Stop)
+        → MatchResult result (λ x. answer ≡ Ok x) (λ stop. stop ≡ Memory) → (n : ℕ) → Finds value limit m n n result
+    point_found params e h answer ok (Ok x) is n =
+        let read : scenario_of value x ≡ scenario_read m (point_of s) =
+        subst (λ (r : Result (Scenario N) NoMemory). IfOk r (λ scenario. scenario_of value scenario ≡ differences params (point_of s))) is ok ∙ ap (λ k. differences k (point_of s)) e in
+        let found = scenario_found m model s h in
+        record {
+          found = (subst (Admits m) (sym read) found.0, subst (IsLastScenario m) (sym read) found.1);
+          stopped = tt;
+          counted = refl;
+        }
+    point_found params e h answer ok (Err stop) is n = not_found n n stop (refused_cause limit m stop is) (refused_counted n n stop (omega arith) is)
+
+    pub empty_found : HasEnded (set_program m) kind.Infeasible s → (count : ℕ) → count ≡ length (set_rows m) → (result : Result (Scenario N) Stop) → IsTold count (weights_of s) result
+        → (n : ℕ) → Finds value limit m n n result
+    empty_found h count e (Ok x) is n = absurd is
+    empty_found h count e (Err (EmptySet weights)) is n = not_found n n (EmptySet weights) (weights_told m model s h weights count is e) refl
+    empty_found h count e (Err (Wide place trace)) is n = absurd is
+    empty_found h count e (Err Memory) is n = not_found n n Memory tt (omega arith)

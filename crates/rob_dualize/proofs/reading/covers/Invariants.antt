@@ -1,0 +1,10 @@
+use Rattle.std.specs.Prelude.{◌≡◌, map}
+use Rattle.rob_cert.specs.View.{cover_of}
+use Rattle.rob_dualize.specs.Numbers.{told}
+use Rattle.rob_dualize.specs.Reading.{covers_to}
+use Rattle.rob_dualize.specs.Wholes.{wholes}
+use Rattle.rob_dualize.proofs.reading.covers.Given as goal
+
+-- the covers of the forms so far
+abbrev pub invariant-loop-i : goal.invariant-loop-i
+invariant-loop-i g l = map (cover_of g.N.Exact.value) l.all ≡ covers_to (wholes l.forms l.set) l.i (told g.N.Exact.value l.numbers)

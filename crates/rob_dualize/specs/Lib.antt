@@ -1,0 +1,5 @@
+pub mod Wholes
+pub mod Reading
+pub mod Numbers
+pub mod Ending
+pub mod Solving

@@ -1,0 +1,66 @@
+-- The robust program that forms and set rows are, as the code holds them.
+use Rattle.std.specs.Prelude.{◌≡◌, ℕ, suc, ◌+◌, ◌-◌, ◌^◌, ◌<◌, ◌≤◌, nat_abs, [], length, slice_index_or}
+use Rattle.rob_linear.specs.Vectors.{at}
+use Rattle.rob_linear.specs.Programs.{Program}
+use Rattle.rob_meaning.specs.Forms.{matrix_at}
+use Rattle.rob_meaning.specs.RobustModel.{RobustModel}
+use Rattle.rob_model.specs.View.{sense_of}
+use Rattle.rob_sets.specs.SetForm.{IsSetForm, SetFits}
+use Rattle.rob_sets.specs.SetProgram.{left_sides, right_sides}
+use Rattle.rob_sets.specs.declared.set_form.SetForm.{SetForm}
+use Rattle.rob_elab.specs.Forms.{IsForms, FormsFit}
+use Rattle.rob_elab.specs.declared.forms.Forms.{Forms}
+use Rattle.rob_counterpart.specs.RobustProgram.{RobustProgram}
+use Rattle.rob_counterpart.specs.Counterpart.{cell, sign_of}
+use Rattle.rob_counterpart.specs.Reform.{reform}
+use Rattle.rob_counterpart.specs.SetPrograms.{set_of}
+
+-- the forms and the set rows are those of one model
+pub record AreOfOneModel (forms : Forms) (set : SetForm) : Type 0 where
+  pub model : RobustModel
+  pub are_forms : IsForms model forms
+  pub is_set : IsSetForm model set
+
+-- the whole numbers of the forms and the set rows
+abbrev pub wholes : Forms → SetForm → RobustProgram
+wholes forms set = record {
+  forms = length forms.matrices;
+  parameters = forms.params;
+  decisions = forms.columns;
+  set_rows = length set.rows;
+  set_columns = set.columns;
+  form = λ i k j. cell (matrix_at forms.matrices i) k j;
+  left = λ r c. cell (left_sides set.rows) r c;
+  right = at (right_sides set.rows);
+  sense = sign_of (sense_of forms.sense);
+}
+
+-- their counterpart
+abbrev pub counterpart_of : Forms → SetForm → Program
+counterpart_of forms set = reform (wholes forms set)
+
+-- the program of the set
+abbrev pub set_of_wholes : Forms → SetForm → Program
+set_of_wholes forms set = set_of (wholes forms set)
+
+-- the program's rows and columns together are as few as a solver takes
+abbrev pub IsFew : Program → Type 0
+IsFew P = P.n + P.m < 2 ^ 31
+
+-- what the numbers are read by: each matrix has a row for the constant and each parameter, each row a number for the constant,
+-- each decision column and tau; and no number is over 2^62 - 1 in size
+pub record AreSound (forms : Forms) : Type 0 where
+  pub rows : (i : ℕ) → i < length forms.matrices → length (matrix_at forms.matrices i) ≡ suc forms.params
+  pub columns : (i k : ℕ) → i < length forms.matrices → k ≤ forms.params
+      → length (slice_index_or (matrix_at forms.matrices i) k []) ≡ suc (suc forms.columns)
+  pub small : (i k j : ℕ) → nat_abs (cell (matrix_at forms.matrices i) k j) ≤ 2 ^ 62 - 1
+
+-- each set row has a number for each set column; and no number is over 2^62 - 1 in size
+pub record IsSound (set : SetForm) : Type 0 where
+  pub columns : (r : ℕ) → r < length set.rows → length (slice_index_or (left_sides set.rows) r []) ≡ set.columns
+  pub small_left : (r c : ℕ) → nat_abs (cell (left_sides set.rows) r c) ≤ 2 ^ 62 - 1
+  pub small_right : (r : ℕ) → nat_abs (at (right_sides set.rows) r) ≤ 2 ^ 62 - 1
+
+-- no number of the forms and the set rows is over the limit in size
+abbrev pub Fit : ℕ → Forms → SetForm → Type 0
+Fit limit forms set = FormsFit limit forms × SetFits limit set

@@ -1,0 +1,140 @@
+// The certificate that is read off an ending of the counterpart.
+
+ghost use Rattle.std.specs.Prelude.{◌≡◌, ◌≤◌, IfOk};
+ghost use Rattle.rob_model.specs.View.{scenario_of};
+ghost use Rattle.rob_number.specs.declared.lp_kind.LpKind.TheVariants as kind;
+ghost use Rattle.rob_cert.specs.View.{certificate_of};
+ghost use Rattle.rob_dualize.specs.Ending.{HasEnded, read_from};
+ghost use Rattle.rob_dualize.specs.Wholes.{wholes, counterpart_of, IsFew};
+
+use crate::counterpart::{column_count, row_count};
+use crate::reading::{covers, items, pair_difference, pair_differences};
+use crate::told::{dual_values, exact_weights, point, ray, whole};
+use rob_cert::{Cert, Status};
+use rob_elab::Forms;
+use rob_model::Scenario;
+use rob_number::{Exact, List, LpKind, Memory};
+use rob_sets::SetForm;
+use rob_simplex::Work;
+use std::alloc::Global;
+
+/// The certificate of the ending, with a scenario that is admitted.
+pub fn certificate<N: Exact>(
+    alloc: Global,
+    forms: &Forms,
+    set: &SetForm,
+    work: &Work<N>,
+    kind: LpKind,
+    inside: Scenario<N>,
+) -> Result<Cert<N>, Memory>
+    requires few { IsFew (counterpart_of forms.now set.now) }
+    requires parameters { forms.now.params ≤ set.now.columns }
+    requires ended { HasEnded (counterpart_of forms.now set.now) kind work.now }
+    ensures certificate { IfOk result (λ cert. certificate_of N.value cert
+        ≡ read_from (wholes forms.now set.now) (scenario_of N.value inside) kind work.now) }
+{
+    match kind {
+        LpKind::Optimal => optimal(alloc, forms, set, work, inside),
+        LpKind::Infeasible => infeasible(alloc, forms, set, work, inside),
+        LpKind::Unbounded => unbounded(alloc, forms, set, work, inside),
+    }
+}
+
+/// Optimal: the plan and the covers are those of the point, the items those of the dual values.
+fn optimal<N: Exact>(
+    alloc: Global,
+    forms: &Forms,
+    set: &SetForm,
+    work: &Work<N>,
+    inside: Scenario<N>,
+) -> Result<Cert<N>, Memory>
+    requires few { IsFew (counterpart_of forms.now set.now) }
+    requires parameters { forms.now.params ≤ set.now.columns }
+    requires ended { HasEnded (counterpart_of forms.now set.now) kind.Optimal work.now }
+    ensures certificate { IfOk result (λ cert. certificate_of N.value cert
+        ≡ read_from (wholes forms.now set.now) (scenario_of N.value inside) kind.Optimal work.now) }
+{
+    let decisions = forms.columns as usize;
+    let x = point(alloc, work, column_count(forms, set) as u32)?;
+    let y = dual_values(alloc, work, row_count(forms, set) as u32)?;
+    let plan = pair_differences(alloc, x.items(), decisions)?;
+    let covers = covers(alloc, forms, set, x.items())?;
+    let items = items(alloc, forms, set, y.items())?;
+    Ok(Cert {
+        status: Status::Optimal,
+        value: pair_difference(x.items(), decisions),
+        scale: whole(1),
+        inside,
+        plan,
+        step: List::new(alloc),
+        step_bound: whole(0),
+        covers,
+        holds: List::new(alloc),
+        items,
+    })
+}
+
+/// Infeasible: the items are those of the Farkas weights.
+fn infeasible<N: Exact>(
+    alloc: Global,
+    forms: &Forms,
+    set: &SetForm,
+    work: &Work<N>,
+    inside: Scenario<N>,
+) -> Result<Cert<N>, Memory>
+    requires few { IsFew (counterpart_of forms.now set.now) }
+    requires parameters { forms.now.params ≤ set.now.columns }
+    requires ended { HasEnded (counterpart_of forms.now set.now) kind.Infeasible work.now }
+    ensures certificate { IfOk result (λ cert. certificate_of N.value cert
+        ≡ read_from (wholes forms.now set.now) (scenario_of N.value inside) kind.Infeasible work.now) }
+{
+    let weights = exact_weights(alloc, work, row_count(forms, set) as u32)?;
+    let items = items(alloc, forms, set, weights.items())?;
+    Ok(Cert {
+        status: Status::Infeasible,
+        value: whole(0),
+        scale: whole(1),
+        inside,
+        plan: List::new(alloc),
+        step: List::new(alloc),
+        step_bound: whole(0),
+        covers: List::new(alloc),
+        holds: List::new(alloc),
+        items,
+    })
+}
+
+/// Unbounded: the plan and the covers are those of the point, the direction and the holds those of the ray.
+fn unbounded<N: Exact>(
+    alloc: Global,
+    forms: &Forms,
+    set: &SetForm,
+    work: &Work<N>,
+    inside: Scenario<N>,
+) -> Result<Cert<N>, Memory>
+    requires few { IsFew (counterpart_of forms.now set.now) }
+    requires ended { HasEnded (counterpart_of forms.now set.now) kind.Unbounded work.now }
+    ensures certificate { IfOk result (λ cert. certificate_of N.value cert
+        ≡ read_from (wholes forms.now set.now) (scenario_of N.value inside) kind.Unbounded work.now) }
+{
+    let decisions = forms.columns as usize;
+    let count = column_count(forms, set) as u32;
+    let x = point(alloc, work, count)?;
+    let r = ray(alloc, work, count)?;
+    let plan = pair_differences(alloc, x.items(), decisions)?;
+    let step = pair_differences(alloc, r.items(), decisions)?;
+    let holds = covers(alloc, forms, set, r.items())?;
+    let covers = covers(alloc, forms, set, x.items())?;
+    Ok(Cert {
+        status: Status::Unbounded,
+        value: pair_difference(x.items(), decisions),
+        scale: whole(1),
+        inside,
+        plan,
+        step,
+        step_bound: pair_difference(r.items(), decisions),
+        covers,
+        holds,
+        items: List::new(alloc),
+    })
+}

@@ -1,0 +1,46 @@
+// Why the route stops.
+
+ghost use Rattle.std.specs.Prelude.{◌≡◌, IsOk, IsErr, MatchResult, Ok};
+ghost use Rattle.rob_cert.specs.declared.ending.Stop.TheVariants.{Memory as OutOfMemory};
+ghost use Rattle.rob_simplex.specs.Solvers.{positions};
+ghost use Rattle.rob_dualize.specs.Ending.{StopsAt, position_of};
+
+use crate::told::basis;
+use rob_cert::{Stop, Trace};
+use rob_model::{Program, Spot};
+use rob_number::{Exact, List, Memory};
+use rob_simplex::{LpStop, Work};
+use std::alloc::Global;
+
+/// The position of the row that is wide.
+pub fn position(stop: LpStop) -> u32
+    ensures position { result ≡ position_of stop }
+{
+    match stop {
+        LpStop::Wide(i) => i,
+    }
+}
+
+/// The row of position i is wide at the basis where the solver stands; or memory for that basis is refused.
+pub fn wide<N: Exact>(alloc: Global, work: &Work<N>, program: Program, count: u32, i: u32) -> Stop
+    requires positions { count ≡ positions work.now }
+    ensures stop { StopsAt work.now.basis program i result }
+{
+    match basis(alloc, work, count) {
+        Ok(columns) => {
+            let rounds = List::new(alloc);
+            Stop::Wide(Spot::Dictionary(program, columns, i), Trace { rounds })
+        }
+        Err(Memory) => Stop::Memory,
+    }
+}
+
+/// The answer, a want of memory being a stop.
+pub fn or_stop<T>(answer: Result<T, Memory>) -> Result<T, Stop>
+    ensures answer { MatchResult result (λ x. answer ≡ Ok x) (λ stop. stop ≡ OutOfMemory) }
+{
+    match answer {
+        Ok(x) => Ok(x),
+        Err(Memory) => Err(Stop::Memory),
+    }
+}
