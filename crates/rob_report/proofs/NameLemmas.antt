@@ -1,0 +1,57 @@
+-- The names of a model's parts by their numbers, and how many conditions and columns the set has.
+use Rattle.std.proofs.Common.{◌≡◌, ℕ, zero, suc, ◌+◌, ◌<◌, List, [], ◌∷◌, ◌++◌, length, arith, refl, ap, ap₂, sym, ◌∙◌, length-append}
+use Rattle.std.specs.Prelude.{Option, Some, None, codes}
+use Rattle.std.proofs.lemmas.Option.{get_or_from_slice_get}
+use Rattle.rob_algebra.specs.Fraction.{Fraction}
+use Rattle.rob_cert.specs.Spelling.{name_at}
+use Rattle.rob_meaning.specs.Names.{Name, set_column_names, set_condition_names}
+use Rattle.rob_meaning.specs.RobustModel.{Parameter, SetLine, RobustModel}
+use Rattle.rob_meaning.specs.SetConditions.{if_declared, all_stated, bounds_from, lower_bound, upper_bound, set_conditions}
+use Rattle.rob_model.specs.GroupNames.{bound_names, dotted, parameter_bound_names}
+use Rattle.rob_model.specs.Naming.{AppendsName, set_place_names}
+
+-- the name that is told stands at its number
+pub named_at : (names : List Name) (k : ℕ) (old new : List ℕ) → AppendsName names k old new → new ≡ old ++ name_at names k
+named_at names k old new h = h.appended ∙ ap (λ n. old ++ n) (sym (get_or_from_slice_get names k h.name [] h.number))
+
+-- the items of two lists behind one another
+pub at_front : (xs ys : List Name) (k : ℕ) → k < length xs → name_at (xs ++ ys) k ≡ name_at xs k
+at_front [] ys k h = absurd (omega arith)
+at_front (x ∷ xs) ys zero h = refl
+at_front (x ∷ xs) ys (suc k) h = at_front xs ys k (omega arith)
+
+pub at_back : (xs ys : List Name) (i k : ℕ) → i ≡ length xs + k → name_at (xs ++ ys) i ≡ name_at ys k
+at_back [] ys i k e = ap (name_at ys) (let h : i ≡ k = omega (arith, e) in h)
+at_back (x ∷ xs) ys zero k e = absurd (omega (arith, e))
+at_back (x ∷ xs) ys (suc i) k e = at_back xs ys i k (omega (arith, e))
+
+-- ---- how many
+length-if_declared : {A B : Type 0} (f : Fraction → A) (g : Fraction → B) (o : Option Fraction) → length (if_declared f o) ≡ length (if_declared g o)
+length-if_declared f g None = refl
+length-if_declared f g (Some b) = refl
+
+pub length-parameter_bound_names : (k : ℕ) (ps : List Parameter) → length (parameter_bound_names ps) ≡ length (bounds_from k ps)
+length-parameter_bound_names k [] = refl
+length-parameter_bound_names k (p ∷ ps) =
+    length-append (bound_names p.name p.lower p.upper) (parameter_bound_names ps)
+    ∙ ap₂ ◌+◌
+    (length-append (if_declared (λ l. dotted p.name (codes "lower")) p.lower) (if_declared (λ b. dotted p.name (codes "upper")) p.upper)
+    ∙ ap₂ ◌+◌ (length-if_declared (λ l. dotted p.name (codes "lower")) (lower_bound k) p.lower) (length-if_declared (λ b. dotted p.name (codes "upper")) (upper_bound k) p.upper)
+    ∙ sym (length-append (if_declared (lower_bound k) p.lower) (if_declared (upper_bound k) p.upper)))
+    (length-parameter_bound_names (suc k) ps)
+    ∙ sym (length-append (if_declared (lower_bound k) p.lower ++ if_declared (upper_bound k) p.upper) (bounds_from (suc k) ps))
+
+length-all_stated : (cs : List SetLine) → length (all_stated cs) ≡ length cs
+length-all_stated [] = refl
+length-all_stated (c ∷ cs) = ap suc (length-all_stated cs)
+
+module _ (m : RobustModel) where
+  -- the conditions are the declared bounds and the statements
+  pub length-set_conditions : length (set_conditions m) ≡ length (bounds_from 0 m.parameters) + length m.set_lines
+  length-set_conditions =
+      length-append (bounds_from 0 m.parameters) (all_stated m.set_lines)
+      ∙ ap (λ n. length (bounds_from 0 m.parameters) + n) (length-all_stated m.set_lines)
+
+  -- the places of the set are its conditions and its columns
+  pub length-set_place_names : length (set_place_names m) ≡ length (set_condition_names m) + length (set_column_names m)
+  length-set_place_names = length-append (set_condition_names m) (set_column_names m)

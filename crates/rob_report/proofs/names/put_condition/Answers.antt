@@ -1,0 +1,23 @@
+use Rattle.std.proofs.Common.{arith, ◌++◌, ap, ◌∙◌}
+use Rattle.rob_cert.proofs.WriterLemmas.{on_ok}
+use Rattle.rob_meaning.proofs.NameLemmas.{length-set_condition_names}
+use Rattle.rob_meaning.specs.Names.{set_column_names, set_condition_names}
+use Rattle.rob_model.specs.Naming.{set_place_names}
+use Rattle.rob_model.specs.View.{robust}
+use Rattle.rob_report.proofs.NameLemmas.{at_front, length-set_place_names, named_at}
+use Rattle.rob_report.proofs.names.put_condition.Goals as goal
+
+pub put_set_place_name-requires-clause-inside : goal.put_set_place_name-requires-clause-inside
+put_set_place_name-requires-clause-inside g c =
+    let m = robust g.N.Exact.value c.args.model.now in
+    omega (arith, c.requires.inside, length-set_condition_names m, length-set_place_names m)
+
+pub returns : goal.returns
+returns g c =
+    let m = robust g.N.Exact.value c.args.model.now in
+    record {
+      appended = on_ok c.put_set_place_name.result
+          (λ h. named_at (set_place_names m) c.args.index _ _ h
+          ∙ ap (λ n. c.args.out.now ++ n) (at_front (set_condition_names m) (set_column_names m) c.args.index (omega (arith, c.requires.inside, length-set_condition_names m))))
+          c.put_set_place_name.ensures.appended;
+    }

@@ -1,0 +1,5 @@
+pub mod Lines
+pub mod Rows
+pub mod Report
+pub mod Places
+pub mod Spots

@@ -1,0 +1,19 @@
+//! The texts that are printed: the rows of a model, the report of a certificate, the spots of wide numbers, the places of
+//! rejected certificates, and the weights that show an empty set.
+#![tactic(auto)]
+
+mod empty_set;
+mod labels;
+pub mod laws;
+mod names;
+mod places;
+mod report;
+mod rows;
+mod spots;
+mod terms;
+
+pub use empty_set::empty_set_text;
+pub use places::place_text;
+pub use report::report_text;
+pub use rows::rows_text;
+pub use spots::spot_text;
