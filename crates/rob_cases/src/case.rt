@@ -89,6 +89,12 @@ impl Case {
                 let word = String::from_str(alloc, word)?;
                 self.words.push(word)?;
             }
+            Line::Words(words) => {
+                for word in words.split(' ') {
+                    let word = String::from_str(alloc, word)?;
+                    self.words.push(word)?;
+                }
+            }
             Line::File(name) => {
                 self.close()?;
                 self.file = Some(String::from_str(alloc, name)?);
@@ -99,6 +105,13 @@ impl Case {
             Line::WriteFault(call, first) => self.sink.fail_at(call, first)?,
             _ => return Err(Trouble::Line),
         }
+        Ok(())
+    }
+
+    /// Adds a file.
+    pub fn add_file(&mut self, name: &str, bytes: &[u8]) -> Result<(), Trouble> {
+        self.close()?;
+        self.shelf.add(name, bytes)?;
         Ok(())
     }
 

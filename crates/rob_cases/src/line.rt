@@ -9,8 +9,12 @@ pub enum Line<'a> {
     Case(&'a str),
     /// The next word of the command line.
     Word(&'a str),
+    /// The next words of the command line, with a space between two.
+    Words(&'a str),
     /// A file of that name begins.
     File(&'a str),
+    /// What the case before put is a file of that name.
+    Printed(&'a str),
     /// The bytes that are to be put begin.
     Puts,
     /// Bytes, so many times, with a line end behind them or without one.
@@ -51,8 +55,12 @@ fn read_keyword<'a>(keyword: &str, rest: &'a str) -> Line<'a> {
         Line::Case(rest)
     } else if keyword == "word" {
         Line::Word(rest)
+    } else if keyword == "words" {
+        Line::Words(rest)
     } else if keyword == "file" {
         Line::File(rest)
+    } else if keyword == "printed" {
+        Line::Printed(rest)
     } else if keyword == "times" {
         read_times(rest)
     } else {

@@ -4,7 +4,7 @@
 mod case;
 mod line;
 
-use case::{Case, Trouble};
+use case::{Case, Outcome, Trouble};
 use line::{Line, read_line};
 use std::process::ExitCode;
 
@@ -21,16 +21,20 @@ fn run_all(rt: &HostRuntime) -> Result<u64, Trouble> {
     let mut cases = 0u64;
     let mut differ = 0u64;
     let mut case = Case::new(rt.alloc(), "")?;
+    let mut printed = Vec::new(rt.alloc());
     for text in rt.lines(rt.alloc()) {
         let text = text?;
         match read_line(text.as_str()) {
             Line::Nothing => {}
             Line::Case(name) => case = Case::new(rt.alloc(), name)?,
+            Line::Printed(name) => case.add_file(name, printed.as_slice())?,
             Line::Status(status) => {
                 cases = cases.saturating_add(1);
-                if !report(rt, case, status)? {
+                let outcome = case.run(rt.alloc())?;
+                if !report(rt, &outcome, status)? {
                     differ = differ.saturating_add(1);
                 }
+                printed = outcome.put;
                 case = Case::new(rt.alloc(), "")?;
             }
             part => case.add(rt.alloc(), &part)?,
@@ -40,9 +44,8 @@ fn run_all(rt: &HostRuntime) -> Result<u64, Trouble> {
     Ok(differ)
 }
 
-/// Runs a case, prints its line, and says whether it gave what is wanted.
-fn report(rt: &HostRuntime, case: Case, status: u8) -> Result<bool, Trouble> {
-    let outcome = case.run(rt.alloc())?;
+/// Prints the line of a case, and says whether it gave what is wanted.
+fn report(rt: &HostRuntime, outcome: &Outcome, status: u8) -> Result<bool, Trouble> {
     let name = outcome.name.as_str();
     if outcome.status == status && outcome.put.as_slice() == outcome.wanted.as_slice() {
         println!(rt; "ok {name}")?;

@@ -2,7 +2,9 @@
 use Rattle.std.specs.Fmt.{decimal}
 use Rattle.std.specs.Prelude.{ℕ, List, [], ◌∷◌, ◌++◌, codes}
 use Rattle.rob_algebra.specs.Fraction.{Fraction}
-use Rattle.rob_top.specs.Lines.{Word, number_word}
+use Rattle.rob_cert.specs.Spelling.{number_text}
+use Rattle.rob_meaning.specs.Certificates.{Status, optimal, infeasible, unbounded, Certificate}
+use Rattle.rob_words.specs.Values.{Word}
 
 -- a line of these bytes, with its line end
 abbrev pub line_text : List ℕ → List ℕ
@@ -12,17 +14,15 @@ line_text bytes = bytes ++ 10 ∷ []
 abbrev pub fault_text : List ℕ → List ℕ
 fault_text what = line_text (codes "fault: " ++ what)
 
--- the certificate proves that the model is optimal at the value
-abbrev pub accepted_text : Fraction → List ℕ
-accepted_text value = line_text (codes "accepted optimal " ++ number_word value)
+-- what is accepted, by the status
+abbrev pub accepted_by : Status → Fraction → List ℕ
+accepted_by optimal value = line_text (codes "accepted optimal " ++ number_text value)
+accepted_by infeasible value = line_text (codes "accepted infeasible")
+accepted_by unbounded value = line_text (codes "accepted unbounded")
 
--- the certificate doesn't prove; at which place is not printed yet
-abbrev pub rejected_text : List ℕ
-rejected_text = line_text (codes "rejected")
-
--- a number is wide; at which spot is not printed yet
-abbrev pub too_wide_text : List ℕ
-too_wide_text = line_text (codes "too wide")
+-- the line of a certificate that is accepted
+abbrev pub accepted_text : Certificate → List ℕ
+accepted_text c = accepted_by c.status c.value
 
 -- there is no such file, or it is too long
 abbrev pub missing_text : Word → List ℕ

@@ -1,153 +1,204 @@
 -- What the program promises: what each answer means of the files that were read, and which bytes were put for it.
 --
--- In short: `accepted optimal V` is put only where the model's file reads as a model that is optimal at V.
+-- In short, for every text that is read as a model whose set isn't empty: `optimal v` comes with a plan that keeps every row in
+-- every admitted scenario, with worst case v, and no affine plan has a better one; `infeasible` and `unbounded` are true alike;
+-- the printed certificate proves it; and `too wide` names a number of that model's solution that leaves the width.
 --
 -- The premises stand here, and nowhere else. The files are those that the shelf tells; the bytes are those that the sink
 -- tells; where one tells nothing, what is said of files, or of bytes put, is not said. Want of memory is an answer of its own,
 -- and free: nothing is said of when it comes.
-use Rattle.std.specs.Prelude.{◌≡◌, ℕ, List, ◌∷◌, ◌++◌, Option, IfSome}
-use Rattle.rob_meaning.specs.Certificates.{Certificate}
-use Rattle.rob_meaning.specs.Places.{Each}
-use Rattle.rob_meaning.specs.Proves.{Proves}
+use Rattle.std.specs.Prelude.{◌≡◌, ℕ, ℤ, List, ◌++◌, map}
+use Rattle.rob_algebra.specs.Fraction.{Fraction, of_int}
+use Rattle.rob_meaning.specs.Certificates.{Certificate, Status, optimal, infeasible, unbounded}
+use Rattle.rob_meaning.specs.Guarantee.{HasBound, HasWorstCase}
+use Rattle.rob_meaning.specs.Proves.{Proves, HasStatus}
 use Rattle.rob_meaning.specs.RobustModel.{RobustModel}
-use Rattle.rob_meaning.specs.Status.{IsOptimal}
-use Rattle.rob_number.specs.Counts.{Rose}
-use Rattle.rob_outside.specs.Files.{File, Found, whole, missing, too_long, found_at}
+use Rattle.rob_meaning.specs.UncertaintySet.{Admits}
+use Rattle.rob_outside.specs.Files.{whole, missing, too_long}
 use Rattle.rob_outside.specs.Taken.{Took, TookPrefix}
-use Rattle.rob_top.specs.Answers.{accepted_text, rejected_text, too_wide_text, missing_text, too_long_text, model_text, certificate_text, words_text, read_text, memory_text}
-use Rattle.rob_top.specs.Commands.{Command, check, Request, model_file, certificate_file, requests, IsSpelled, IsCommandLine}
-use Rattle.rob_top.specs.FirstCertificate.{IsCertificateText}
-use Rattle.rob_top.specs.FirstForm.{IsModelText}
-use Rattle.rob_top.specs.Lines.{Word}
+use Rattle.rob_model.specs.declared.place.Place.{Place}
+use Rattle.rob_model.specs.declared.place.Spot.{Spot}
+use Rattle.rob_model.specs.declared.place.Spot.TheVariants.{Check}
+use Rattle.rob_parse.specs.Modelled.{ReadsModel}
+use Rattle.rob_parse.specs.Reading.{Breaks}
+use Rattle.rob_sets.specs.FirstWide.{NothingWide, IsFirstWide}
+use Rattle.rob_sets.specs.SetForm.{judged_set}
+use Rattle.rob_elab.specs.Forms.{judged_forms}
+use Rattle.rob_cert.specs.Whole.{IsTextOf}
+use Rattle.rob_cert.specs.Spelling.{cert_text, naming_of}
+use Rattle.rob_cert.specs.Causes.{HasCause}
+use Rattle.rob_cert.specs.Reading.{start}
+use Rattle.rob_cert.specs.declared.error.CertErr.TheVariants.{Rule}
+use Rattle.rob_check.specs.Conditions.{verdict_of}
+use Rattle.rob_check.specs.declared.verdict.Verdict.TheVariants as verdict
+use Rattle.rob_dualize.specs.Solving.{IsReadAtEnd, IsShownEmpty, IsWideSpot as IsWideOnPath}
+use Rattle.rob_report.specs.Report.{report_of}
+use Rattle.rob_report.specs.Rows.{rows_of}
+use Rattle.rob_report.specs.Spots.{too_wide_line, rejected_line, empty_set_lines}
+use Rattle.rob_top.specs.Answers.{accepted_text, missing_text, too_long_text, model_text, certificate_text, words_text, read_text, memory_text}
+use Rattle.rob_top.specs.Calls.{Call, Output, WasRaised, IsFound, IsFirstAbsent, IsSolving, model_of, certificate_file, limit_of}
 use Rattle.rob_top.specs.declared.ended.Ended.{Ended}
-use Rattle.rob_top.specs.declared.ended.Ended.TheVariants.{Accepted, Rejected, Words, Missing, TooLong, Model, TooWide, Cert, ReadFault, WriteFault, Memory}
-
--- a count before and after the call
-pub record Count : Type 0 where
-  pub before : ℕ
-  pub now : ℕ
-
-abbrev pub count : ℕ → ℕ → Count
-count before now = record { before = before; now = now }
-
--- it was raised, or stands at its last value
-abbrev pub WasRaised : Count → Type 0
-WasRaised count = Rose count.before count.now
-
--- what a call was given: its words, and the files, where the shelf tells them; and two counts, of the shelf's faults and of the
--- wide results in the ledger
-pub record Call : Type 0 where
-  pub words : List Word
-  pub files : Option (List File)
-  pub read_faults : Count
-  pub wides : Count
-
-abbrev pub call_of : List Word → Option (List File) → Count → Count → Call
-call_of words files read_faults wides =
-    record { words = words; files = files; read_faults = read_faults; wides = wides }
-
--- what a call did to the output: the bytes before and after it, where the sink tells them, and the count of the sink's faults
-pub record Output : Type 0 where
-  pub before : Option (List ℕ)
-  pub now : Option (List ℕ)
-  pub write_faults : Count
-
-abbrev pub output_of : Option (List ℕ) → Option (List ℕ) → Count → Output
-output_of before now write_faults = record { before = before; now = now; write_faults = write_faults }
-
--- ---- two texts
-
-module _ (model_bytes certificate_bytes : List ℕ) where
-  -- the first text says this model, and the second this certificate for it
-  pub record Say (model : RobustModel) (certificate : Certificate) : Type 0 where
-    pub model_said : IsModelText model_bytes model
-    pub certificate_said : IsCertificateText model certificate_bytes certificate
-
-  -- accepted: the certificate proves, so the model is optimal at its value, which is printed
-  pub record IsAccepted (text : List ℕ) : Type 0 where
-    pub model : RobustModel
-    pub certificate : Certificate
-    pub said : Say model certificate
-    pub proves : Proves model certificate
-    pub optimal : IsOptimal model certificate.value
-    pub printed : text ≡ accepted_text certificate.value
-
-  -- rejected: the certificate doesn't prove
-  pub record IsRejected : Type 0 where
-    pub model : RobustModel
-    pub certificate : Certificate
-    pub said : Say model certificate
-    pub proves_not : Proves model certificate → ⊥
-
-  -- too wide: a result was found wide in this call
-  pub record IsTooWide (wides : Count) : Type 0 where
-    pub model : RobustModel
-    pub certificate : Certificate
-    pub said : Say model certificate
-    pub raised : WasRaised wides
-
-  -- the model's text is not of the first form
-  abbrev pub IsNoModel : Type 0
-  IsNoModel = (model : RobustModel) → IsModelText model_bytes model → ⊥
-
-  -- the model's text says a model; that the certificate's text isn't of the first form for it is shown by tests alone
-  pub record IsNoCertificate : Type 0 where
-    pub model : RobustModel
-    pub said : IsModelText model_bytes model
+use Rattle.rob_top.specs.declared.ended.Ended.TheVariants.{Optimal, Infeasible, Unbounded, Printed, Accepted, Rejected, Words, Missing, TooLong, Model, EmptySet, TooWide, Cert, ReadFault, WriteFault, Memory}
+use Rattle.rob_words.specs.Commands.{Action, Line, rows, solve, prove, check, IsSpelled, IsCommandLine}
+use Rattle.rob_words.specs.Values.{Word}
 
 module _ (call : Call) where
-  -- ---- files
+  -- ---- what was read
 
-  -- this is what is found of a file, where the files are told: all its bytes, no such file, or more bytes than it may have
-  abbrev pub IsFound : Request → Found → Type 0
-  IsFound request found = IfSome call.files (λ files. found_at request.name request.most files ≡ found)
+  -- the words are this command line, and the file of its model came and reads, at the line's width, as this model
+  pub record HasModel (line : Line) (m : RobustModel) : Type 0 where
+    pub spelled : IsSpelled call.words line
+    pub bytes : List ℕ
+    pub found : IsFound call (model_of line.action) (whole bytes)
+    pub reads : ReadsModel (limit_of line) bytes m
 
-  -- the file came whole
-  abbrev pub Came : Request → Type 0
-  Came request = (bytes : List ℕ) × IsFound request (whole bytes)
+  -- and no number of its set rows and forms is wide
+  pub record HasForms (line : Line) (m : RobustModel) : Type 0 where
+    pub model : HasModel line m
+    pub none_wide : NothingWide (limit_of line) m (judged_set m ++ judged_forms m)
 
-  -- of the files that the command line names this is the first, in the order of the words, that doesn't come whole, and this
-  -- is what is found of it
-  pub record IsFirstAbsent (found : Found) (name : Word) : Type 0 where
-    pub command : Command
-    pub spelled : IsSpelled call.words command
-    pub before : List Request
-    pub request : Request
-    pub behind : List Request
-    pub order : requests command ≡ before ++ request ∷ behind
-    pub came : Each Came before
-    pub absent : IsFound request found
-    pub named : request.name ≡ name
+  -- and the words say `check`, and the file of the certificate came, with these bytes
+  pub record HasCertificateFile (line : Line) (m : RobustModel) (bytes : List ℕ) : Type 0 where
+    pub forms : HasForms line m
+    pub model_name : Word
+    pub certificate_name : Word
+    pub is_check : line.action ≡ check model_name certificate_name
+    pub found : IsFound call (certificate_file certificate_name) (whole bytes)
 
-  -- the words say `check`, and these are the bytes of the two files
-  pub record HasTexts (model_bytes certificate_bytes : List ℕ) : Type 0 where
-    pub model : Word
-    pub certificate : Word
-    pub spelled : IsSpelled call.words (check model certificate)
-    pub model_found : IsFound (model_file model) (whole model_bytes)
-    pub certificate_found : IsFound (certificate_file certificate) (whole certificate_bytes)
+  -- and it is the text of this certificate
+  pub record HasCertificate (line : Line) (m : RobustModel) (c : Certificate) : Type 0 where
+    pub bytes : List ℕ
+    pub file : HasCertificateFile line m bytes
+    pub text : IsTextOf m c bytes
 
-  -- the words say `check`, both files came, and the two texts have the property
-  abbrev pub OnTexts : (List ℕ → List ℕ → Type 0) → Type 0
-  OnTexts P = (model_bytes : List ℕ) × (certificate_bytes : List ℕ)
-      × HasTexts model_bytes certificate_bytes × P model_bytes certificate_bytes
+  -- ---- the answers of `rows`
 
-  -- ---- answers
+  -- the set rows and the forms are printed, in whole numbers
+  pub record IsRows (text : List ℕ) : Type 0 where
+    pub line : Line
+    pub m : RobustModel
+    pub forms : HasForms line m
+    pub model_name : Word
+    pub is_rows : line.action ≡ rows model_name
+    pub printed : text ≡ rows_of m
 
-  -- what each answer means, and its text. An answer comes only where this holds. What they mean excludes one another, but for
-  -- ReadFault and Memory, and for Cert beside Accepted, Rejected and TooWide; so where one holds no other comes
+  -- ---- the answers of `solve` and `prove`
+
+  -- what is printed of a certificate: its plan and policies, or all of it; other commands print none
+  abbrev pub IsPrinted : Action → RobustModel → Certificate → List ℕ → Type 0
+  IsPrinted (solve model way) m c text = text ≡ report_of m c
+  IsPrinted (prove model way) m c text = text ≡ cert_text m c
+  IsPrinted (rows model) m c text = ⊥
+  IsPrinted (check model certificate) m c text = ⊥
+
+  -- the plan is kept in every admitted scenario, and its worst case is the value; of an unbounded model's plan it is a bound
+  abbrev pub IsKept : RobustModel → Certificate → Status → Type 0
+  IsKept m c optimal = HasWorstCase m c.plan c.value
+  IsKept m c infeasible = Unit {0}
+  IsKept m c unbounded = HasBound m c.plan c.value
+
+  -- the model has the status: a certificate of it was found that proves it, as the last basis of the model's counterpart
+  -- gives it, and it, or its plan, is printed
+  pub record IsSolved (status : Status) (text : List ℕ) : Type 0 where
+    pub line : Line
+    pub m : RobustModel
+    pub forms : HasForms line m
+    pub c : Certificate
+    pub status_is : c.status ≡ status
+    pub holds : HasStatus m status c.value
+    pub kept : IsKept m c status
+    pub proves : Proves m c
+    pub last : IsReadAtEnd m c
+    pub printed : IsPrinted line.action m c text
+
+  -- no scenario is admitted: with these weights the set rows sum to 0 on each column, and to a negative right side
+  pub record IsEmptySet (weights : List ℤ) (text : List ℕ) : Type 0 where
+    pub line : Line
+    pub m : RobustModel
+    pub forms : HasForms line m
+    pub none_admitted : (u : List Fraction) → Admits m u → ⊥
+    pub shown : IsShownEmpty m (map of_int weights)
+    pub printed : text ≡ empty_set_lines m weights
+
+  -- ---- the answers of `check`
+
+  -- accepted: each condition holds and no number on the way is wide; so the certificate proves, and the model is as it says
+  pub record IsAccepted (text : List ℕ) : Type 0 where
+    pub line : Line
+    pub m : RobustModel
+    pub c : Certificate
+    pub read : HasCertificate line m c
+    pub verdict : verdict_of (limit_of line) m c ≡ verdict.Accepted
+    pub proves : Proves m c
+    pub holds : HasStatus m c.status c.value
+    pub printed : text ≡ accepted_text c
+
+  -- rejected: this condition is the first that fails, and no number before it is wide; so the certificate doesn't prove
+  pub record IsRejected (place : Place) (text : List ℕ) : Type 0 where
+    pub line : Line
+    pub m : RobustModel
+    pub c : Certificate
+    pub read : HasCertificate line m c
+    pub verdict : verdict_of (limit_of line) m c ≡ verdict.Rejected place
+    pub proves_not : Proves m c → ⊥
+    pub printed : text ≡ rejected_line m place
+
+  -- ---- refusals
+
+  -- the spot's number is wide: of the numbers of the set rows and forms it is the first; or it is a number of a row of a basis
+  -- on the path of the set's program, or of the model's counterpart; or it is a number of a check, before which no condition
+  -- fails and no number is wide
+  pub data IsWideSpot (line : Line) (m : RobustModel) (spot : Spot) : Type 0 where
+    elaborating : HasModel line m → IsFirstWide (limit_of line) m (judged_set m ++ judged_forms m) spot
+        → IsWideSpot line m spot
+    solving : HasForms line m → IsSolving line.action → IsWideOnPath (limit_of line) m spot → IsWideSpot line m spot
+    checking : (c : Certificate) (place : Place) → HasCertificate line m c → spot ≡ Check place
+        → verdict_of (limit_of line) m c ≡ verdict.TooWide place → IsWideSpot line m spot
+
+  -- a number is wider than the command line's width, and the ledger has counted it in this call
+  pub record IsTooWide (spot : Spot) (text : List ℕ) : Type 0 where
+    pub line : Line
+    pub m : RobustModel
+    pub wide : IsWideSpot line m spot
+    pub raised : WasRaised call.wides
+    pub printed : text ≡ too_wide_line m spot
+
+  -- the model's text breaks the rule at the line, first
+  pub record IsNoModel (rule number : ℕ) (text : List ℕ) : Type 0 where
+    pub line : Line
+    pub spelled : IsSpelled call.words line
+    pub bytes : List ℕ
+    pub found : IsFound call (model_of line.action) (whole bytes)
+    pub breaks : Breaks (limit_of line) bytes rule number
+    pub printed : text ≡ model_text rule number
+
+  -- the certificate's text breaks the rule at the line, first
+  pub record IsNoCertificate (rule number : ℕ) (text : List ℕ) : Type 0 where
+    pub line : Line
+    pub m : RobustModel
+    pub bytes : List ℕ
+    pub file : HasCertificateFile line m bytes
+    pub breaks : HasCause (naming_of m) (limit_of line) start bytes 1 (Rule rule number)
+    pub printed : text ≡ certificate_text rule number
+
+  -- ---- all answers
+
+  -- what each answer means, and its text. An answer comes only where this holds; what they mean excludes one another, but for
+  -- ReadFault and Memory, so where one holds no other comes
   abbrev pub Means : Ended → List ℕ → Type 0
-  Means Accepted text = OnTexts (λ model certificate. IsAccepted model certificate text)
-  Means (Rejected place) text = OnTexts IsRejected × (text ≡ rejected_text)
-  Means (TooWide spot) text =
-      OnTexts (λ model certificate. IsTooWide model certificate call.wides) × (text ≡ too_wide_text)
+  Means Optimal text = IsSolved optimal text
+  Means Infeasible text = IsSolved infeasible text
+  Means Unbounded text = IsSolved unbounded text
+  Means Printed text = IsRows text
+  Means Accepted text = IsAccepted text
+  Means (Rejected place) text = IsRejected place text
   Means Words text = (IsCommandLine call.words → ⊥) × (text ≡ words_text)
-  Means Missing text = (name : Word) × IsFirstAbsent missing name × (text ≡ missing_text name)
-  Means TooLong text = (name : Word) × IsFirstAbsent too_long name × (text ≡ too_long_text name)
-  Means (Model rule line) text =
-      OnTexts IsNoModel × ((rule ≡ 24) × (line ≡ 1)) × (text ≡ model_text rule line)
-  Means (Cert rule line) text =
-      OnTexts IsNoCertificate × ((rule ≡ 35) × (line ≡ 1)) × (text ≡ certificate_text rule line)
+  Means Missing text = (name : Word) × IsFirstAbsent call missing name × (text ≡ missing_text name)
+  Means TooLong text = (name : Word) × IsFirstAbsent call too_long name × (text ≡ too_long_text name)
+  Means (Model rule line) text = IsNoModel rule line text
+  Means (EmptySet weights) text = IsEmptySet weights text
+  Means (TooWide spot) text = IsTooWide spot text
+  Means (Cert rule line) text = IsNoCertificate rule line text
   Means ReadFault text = IsCommandLine call.words × WasRaised call.read_faults × (text ≡ read_text)
   Means WriteFault text = ⊥
   Means Memory text = text ≡ memory_text

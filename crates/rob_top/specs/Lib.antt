@@ -1,13 +1,6 @@
-pub mod Lines
-pub mod Commands
-pub mod FirstForm
-pub mod FirstCertificate
+pub mod Calls
 pub mod Answers
 pub mod Headline
 pub mod Codes
 pub mod Replies
-pub mod ThinWords
-pub mod ThinForm
-pub mod ThinCheck
-pub mod ThinModel
-pub mod ThinReading
+pub mod Work

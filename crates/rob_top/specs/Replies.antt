@@ -1,27 +1,33 @@
--- Answers with their texts, before they are put, and what a file's fetch gives the call that asked for it.
-use Rattle.std.specs.Prelude.{◌≡◌, List, ℕ, Option, IfSome, Result, Ok, Err}
-use Rattle.rob_algebra.specs.Fraction.{Fraction}
+-- Answers with their texts, before they are put, and what the files' fetch gives the call that asked for them.
+use Rattle.std.specs.Prelude.{◌≡◌, ◌≤◌, ℕ, List, [], ◌∷◌, Option, IfSome, length}
 use Rattle.rob_outside.specs.Files.{File, whole, missing, too_long, found_at}
-use Rattle.rob_top.specs.Answers.{accepted_text, missing_text, too_long_text, read_text, rejected_text, too_wide_text, model_text, certificate_text}
-use Rattle.rob_top.specs.Commands.{Command, check, Request}
-use Rattle.rob_top.specs.Headline.{Count, WasRaised, IsAccepted, IsRejected, IsTooWide, IsNoModel, IsNoCertificate}
+use Rattle.rob_words.specs.Answers.{line_of}
+use Rattle.rob_words.specs.Commands.{Action, Line, rows, solve, prove, check, IsSpelled}
+use Rattle.rob_words.specs.Values.{Word}
+use Rattle.rob_words.specs.declared.line.CommandLine.{CommandLine}
+use Rattle.rob_top.specs.Answers.{missing_text, too_long_text, read_text}
+use Rattle.rob_top.specs.Calls.{Call, Count, Request, WasRaised, IsFound, model_file, model_of, certificate_file, requests}
+use Rattle.rob_top.specs.Headline.{Means}
 use Rattle.rob_top.specs.declared.ended.Ended.{Ended}
-use Rattle.rob_top.specs.declared.ended.Ended.TheVariants.{Accepted, Rejected, TooWide, Model, Cert, Missing, TooLong, ReadFault}
+use Rattle.rob_top.specs.declared.ended.Ended.TheVariants.{Missing, TooLong, ReadFault}
+use Rattle.rob_top.specs.declared.files.Files.{Files}
+use Rattle.rob_top.specs.declared.files.Files.TheVariants as fetch
 use Rattle.rob_top.specs.declared.files.Got.{Got}
 use Rattle.rob_top.specs.declared.files.Got.TheVariants.{Bytes, Answer}
+use Rattle.rob_top.specs.declared.files.Job.{Job}
+use Rattle.rob_top.specs.declared.files.Task.{Task}
+use Rattle.rob_top.specs.declared.files.Task.TheVariants.{Rows, Solve, Prove, Check}
 use Rattle.rob_top.specs.declared.reply.Reply.{Reply}
-use Rattle.rob_top.specs.declared.thin_check.Flaw.{Flaw}
-use Rattle.rob_top.specs.declared.thin_check.Flaw.TheVariants.{Broken, TooWide as Wide}
-use Rattle.rob_top.specs.declared.words.Words.{Words}
-use Rattle.rob_top.specs.declared.words.Words.TheVariants.{Check}
-
--- the command that the program's words are
-abbrev pub command_of : Words → Command
-command_of (Check model certificate) = check model.now certificate.now
 
 -- the reply is this answer with this text
 abbrev pub Replies : Ended → List ℕ → Reply → Type 0
 Replies ended text reply = (reply.ended ≡ ended) × (reply.text ≡ text)
+
+-- the words of the call are this command line
+abbrev pub IsLine : Call → CommandLine → Type 0
+IsLine call line = IsSpelled call.words (line_of line)
+
+-- ---- files
 
 -- the reply to a file that didn't come: there is none of that name, it is too long, or the outside failed
 abbrev pub IsAbsence : Option (List File) → Request → Count → Ended → List ℕ → Type 0
@@ -38,20 +44,35 @@ IsGot told request faults (Bytes bytes) =
     IfSome told (λ files. found_at request.name request.most files ≡ whole bytes.items)
 IsGot told request faults (Answer reply) = IsAbsence told request faults reply.ended reply.text
 
--- what the judgement of a model's and a certificate's text says: an answer that it can give, with its text
-abbrev pub Judges : List ℕ → List ℕ → Count → Ended → List ℕ → Type 0
-Judges model certificate wides Accepted text = IsAccepted model certificate text
-Judges model certificate wides (Rejected place) text = IsRejected model certificate × (text ≡ rejected_text)
-Judges model certificate wides (TooWide spot) text = IsTooWide model certificate wides × (text ≡ too_wide_text)
-Judges model certificate wides (Model rule line) text =
-    IsNoModel model certificate × ((rule ≡ 24) × (line ≡ 1)) × (text ≡ model_text rule line)
-Judges model certificate wides (Cert rule line) text =
-    IsNoCertificate model certificate × ((rule ≡ 35) × (line ≡ 1)) × (text ≡ certificate_text rule line)
-Judges model certificate wides _ text = ⊥
+-- no more bytes came
+abbrev pub IsGotWithin : ℕ → Got → Type 0
+IsGotWithin most (Bytes bytes) = length bytes.items ≤ most
+IsGotWithin most (Answer reply) = Unit {0}
 
--- the answer, with its text, that the outcome of a check of a certificate with that value is
-abbrev pub IsVerdict : Result (Unit {0}) Flaw → Fraction → Ended → List ℕ → Type 0
-IsVerdict (Ok done) value Accepted text = text ≡ accepted_text value
-IsVerdict (Err (Broken failed)) value (Rejected place) text = text ≡ rejected_text
-IsVerdict (Err (Wide wide)) value (TooWide spot) text = text ≡ too_wide_text
-IsVerdict _ value _ text = ⊥
+-- the task is the command's, with the bytes of its certificate
+abbrev pub IsTask : Call → Action → Task → Type 0
+IsTask call (rows model) Rows = Unit {0}
+IsTask call (solve model way) Solve = Unit {0}
+IsTask call (prove model way) Prove = Unit {0}
+IsTask call (check model certificate) (Check bytes) = IsFound call (certificate_file certificate) (whole bytes.items)
+IsTask call action task = ⊥
+
+-- the words are the command line, and the files that it names came with the job's bytes
+pub record HasTexts (call : Call) (line : Line) (job : Job) : Type 0 where
+  pub spelled : IsSpelled call.words line
+  pub model : IsFound call (model_of line.action) (whole job.model.items)
+  pub task : IsTask call line.action job.task
+
+-- what came of the files of a command: a job with their bytes, or the answer
+abbrev pub IsFetched : Action → Option (List File) → Count → Files → Type 0
+IsFetched action told faults (fetch.Job job) =
+    (call : Call) (line : Line) → IsSpelled call.words line → line.action ≡ action → call.files ≡ told → HasTexts call line job
+IsFetched action told faults (fetch.Answer reply) =
+    (call : Call) (line : Line) → IsSpelled call.words line → line.action ≡ action → call.files ≡ told
+    → call.read_faults ≡ faults → Means call reply.ended reply.text
+
+-- the same for each command that names this model's file alone, and has the task
+abbrev pub FetchesModel : Word → Task → Option (List File) → Count → Files → Type 0
+FetchesModel name task told faults fetched =
+    (action : Action) → requests action ≡ model_file name ∷ [] → ((call : Call) → IsTask call action task)
+    → IsFetched action told faults fetched

@@ -4,11 +4,20 @@ ghost use Rattle.std.specs.Prelude.{◌≡◌};
 ghost use Rattle.rob_top.specs.Codes.{code_of};
 
 use rob_model::{Place, Spot};
+use rob_number::List;
 
 /// How a run ended. `Model` and `Cert` hold the number of the rule that the text breaks, and its line, from 1.
 #[derive(Debug, Drop)]
 pub enum Ended {
-    /// The certificate proves that the model is optimal at its value.
+    /// The model is optimal.
+    Optimal,
+    /// No plan keeps every row in every scenario.
+    Infeasible,
+    /// Every number is a bound of some plan.
+    Unbounded,
+    /// What was asked for was printed.
+    Printed,
+    /// The certificate proves what it claims.
     Accepted,
     /// The certificate doesn't prove: that condition fails.
     Rejected(Place),
@@ -20,6 +29,9 @@ pub enum Ended {
     TooLong,
     /// The model's text can't be read.
     Model(u8, u32),
+    /// No scenario is admitted: with these weights, one for each set row, the set rows sum to 0 on each column, and to a
+    /// negative right side.
+    EmptySet(List<i64>),
     /// A number is wider than the program computes with.
     TooWide(Spot),
     /// The certificate's text can't be read.
@@ -38,12 +50,17 @@ impl Ended {
         ensures code { result ≡ code_of self.now }
     {
         match self {
+            Ended::Optimal => 0,
+            Ended::Infeasible => 10,
+            Ended::Unbounded => 11,
+            Ended::Printed => 0,
             Ended::Accepted => 0,
             Ended::Rejected(_) => 12,
             Ended::Words => 20,
             Ended::Missing => 21,
             Ended::TooLong => 22,
             Ended::Model(_, _) => 23,
+            Ended::EmptySet(_) => 24,
             Ended::TooWide(_) => 25,
             Ended::Cert(_, _) => 26,
             Ended::ReadFault => 30,

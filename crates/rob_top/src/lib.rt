@@ -1,23 +1,16 @@
 //! The program's one call: words in, bytes out. `specs/Headline.antt` says what each answer means.
 #![tactic(auto)]
 
+mod checking;
 mod ended;
 mod files;
 pub mod laws;
+pub mod one_answer;
 mod put;
 mod reply;
-mod thin_certificate;
-mod thin_check;
-mod thin_form;
-mod thin_judge;
-mod thin_model;
-mod thin_names;
-mod thin_numbers;
-mod thin_read;
-mod thin_text;
-mod thin_words;
+mod solving;
 mod top;
-mod words;
+mod work;
 
 pub use ended::Ended;
 pub use top::run;

@@ -1,7 +1,7 @@
 // Answers with their texts, assembled before anything is put.
 
-ghost use Rattle.std.specs.Prelude.{◌≡◌, ◌++◌, IfOk, codes, decimal};
-ghost use Rattle.std.specs.Fmt.{signed_decimal};
+ghost use Rattle.std.specs.Prelude.{◌++◌, IfOk, codes};
+ghost use Rattle.std.specs.Fmt.{decimal};
 ghost use Rattle.rob_top.specs.Answers.{fault_text, line_text};
 ghost use Rattle.rob_top.specs.Replies.{Replies};
 

@@ -1,28 +1,22 @@
 // The top call.
 //
 // Order of work, which is the order of answers: the words are read; the files are fetched in the words' order, and the first
-// that doesn't come whole decides; the texts are judged; the whole output is assembled; it is put, line by line.
+// that doesn't come whole decides; the texts are worked on; the whole output is assembled; it is put, line by line.
 
 ghost use Rattle.std.specs.Prelude.{◌≡◌, ◌≤◌, ℕ, List, IfOk, map, string_bytes};
-ghost use Rattle.rob_top.specs.Commands.{check, IsSpelled};
-ghost use Rattle.rob_top.specs.Headline.{Call, Ends, Means, PutPrefix, call_of, count, output_of};
-ghost use Rattle.rob_top.specs.Lines.{Word};
+ghost use Rattle.rob_top.specs.Calls.{Call, call_of, count, output_of};
+ghost use Rattle.rob_top.specs.Headline.{Ends, Means, PutPrefix};
+ghost use Rattle.rob_top.specs.Replies.{IsLine};
 
 use crate::ended::Ended;
-use crate::files::{Got, get};
+use crate::files::{Files, fetch};
 use crate::put::put_lines;
 use crate::reply::{Reply, fault};
-use crate::thin_judge::judge;
-use crate::words::{Words, read_words};
+use crate::work::work_at;
 use rob_number::{Ledger, Memory};
 use rob_outside::{Shelf, Sink, SinkErr};
+use rob_words::{CommandLine, WordsErr, read_words};
 use std::alloc::Global;
-
-/// How many bytes a model's file may have.
-const MODEL_BYTES: usize = 65_536;
-
-/// How many bytes a certificate's file may have.
-const CERTIFICATE_BYTES: usize = 4_194_304;
 
 /// Does what the words say: reads the files that they name from the shelf, and puts its answer into the sink, one put for
 /// each line with its line end. `words` are those of the command line, without the program's own name. The ledger counts the
@@ -70,45 +64,31 @@ fn answer<S: Shelf, L: Ledger>(
     ensures files { S.files shelf.new ≡ S.files shelf.old }
     ensures counted { (S.faults shelf.old ≤ S.faults shelf.new) × (L.wides ledger.old ≤ L.wides ledger.new) }
 {
-    match read_words(words) {
-        Some(Words::Check { model, certificate }) => {
-            check_files(alloc, model, certificate, shelf, ledger)
-        }
-        None => fault(alloc, Ended::Words, b"words", b""),
+    match read_words(alloc, words) {
+        Ok(line) => on_line(alloc, &line, shelf, ledger),
+        Err(WordsErr::NoCommandLine) => fault(alloc, Ended::Words, b"words", b""),
+        Err(WordsErr::Memory) => Err(Memory),
     }
 }
 
-/// The answer of `check` with its text.
-fn check_files<S: Shelf, L: Ledger>(
+/// The answer of a command line with its text.
+fn on_line<S: Shelf, L: Ledger>(
     alloc: Global,
-    model: &str,
-    certificate: &str,
+    line: &CommandLine,
     shelf: &mut S,
     ledger: &mut L,
 ) -> Result<Reply, Memory>
-    ensures means { IfOk result (λ reply. (words : List Word)
-        → IsSpelled words (check model.now certificate.now)
-        → Means
-        (call_of words (S.files shelf.old)
-        (count (S.faults shelf.old) (S.faults shelf.new)) (count (L.wides ledger.old) (L.wides ledger.new)))
-        reply.ended reply.text) }
+    ensures means { IfOk result (λ reply. (call : Call) → IsLine call line.now → call.files ≡ S.files shelf.old
+        → call.read_faults ≡ count (S.faults shelf.old) (S.faults shelf.new)
+        → call.wides ≡ count (L.wides ledger.old) (L.wides ledger.new)
+        → Means call reply.ended reply.text) }
     ensures files { S.files shelf.new ≡ S.files shelf.old }
     ensures counted { (S.faults shelf.old ≤ S.faults shelf.new) × (L.wides ledger.old ≤ L.wides ledger.new) }
 {
-    let model_bytes = match get(alloc, model, MODEL_BYTES, shelf)? {
-        Got::Bytes(bytes) => bytes,
-        Got::Answer(reply) => return Ok(reply),
-    };
-    let certificate_bytes = match get(alloc, certificate, CERTIFICATE_BYTES, shelf)? {
-        Got::Bytes(bytes) => bytes,
-        Got::Answer(reply) => return Ok(reply),
-    };
-    judge(
-        alloc,
-        model_bytes.as_slice(),
-        certificate_bytes.as_slice(),
-        ledger,
-    )
+    match fetch(alloc, &line.command, shelf)? {
+        Files::Job(job) => work_at(alloc, line.width, &job, ledger),
+        Files::Answer(reply) => Ok(reply),
+    }
 }
 
 /// Puts the text of a reply.

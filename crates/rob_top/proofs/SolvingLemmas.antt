@@ -1,0 +1,203 @@
+-- The answers of `solve` and `prove`, from what the route answers.
+use Rattle.std.proofs.Common.{◌≡◌, ℕ, suc, ◌+◌, ◌*◌, ◌^◌, ◌<◌, ◌≤◌, List, length, Result, Ok, Err, IfOk, refl, subst, sym, ap, ◌∙◌, arith}
+use Rattle.std.proofs.Math.Nat.{mul-le-mul}
+use Rattle.std.proofs.lemmas.List.{length-map}
+use Rattle.std.specs.Prelude.{MatchResult}
+use Rattle.rob_algebra.specs.Fraction.{Fraction, of_int, ◌<ℚ◌}
+use Rattle.rob_cert.specs.Spelling.{cert_text}
+use Rattle.rob_cert.specs.declared.certificate.Cert.{Cert}
+use Rattle.rob_cert.specs.declared.ending.Stop.{Stop}
+use Rattle.rob_cert.specs.declared.ending.Stop.TheVariants as stop
+use Rattle.rob_dualize.specs.Solving.{CountsStop, HasCause, IsSolution, IsWideSpot, Solves}
+use Rattle.rob_dualize.specs.Wholes.{AreOfOneModel, IsFew, counterpart_of}
+use Rattle.rob_elab.specs.Forms.{IsForms}
+use Rattle.rob_elab.specs.declared.forms.Forms.{Forms}
+use Rattle.rob_meaning.specs.Certificates.{Certificate, Status, optimal, infeasible, unbounded}
+use Rattle.rob_meaning.specs.Forms.{forms, matrix_of, plan_vector}
+use Rattle.rob_meaning.specs.Guarantee.{HasBound}
+use Rattle.rob_meaning.specs.Places.{0ℚ, 1ℚ}
+use Rattle.rob_meaning.specs.Proves.{EachCovered, HasStatus, ProvesAs, amounts_of}
+use Rattle.rob_meaning.specs.RobustModel.{RobustModel, column_count}
+use Rattle.rob_meaning.specs.SetRows.{set_rows}
+use Rattle.rob_meaning.specs.WellFormed.{IsModel}
+use Rattle.rob_meaning.proofs.AdmissionLemmas.{admits_meets}
+use Rattle.rob_meaning.proofs.AtLemmas.{at_bound}
+use Rattle.rob_meaning.proofs.CoverLemmas.{covered_at}
+use Rattle.rob_meaning.proofs.LinearLemmas.{zero_le_one}
+use Rattle.rob_meaning.proofs.NameLemmas.{length-form_names, length-set_row_names}
+use Rattle.rob_meaning.proofs.ProvesLemmas.{certificate_true}
+use Rattle.rob_meaning.proofs.StatusLemmas.{optimum_is_worst_case}
+use Rattle.rob_model.specs.Limits.{IsWithinLimits}
+use Rattle.rob_model.specs.declared.group.Kind.TheVariants.{Form, SetRow}
+use Rattle.rob_model.specs.declared.place.Program.TheVariants as program
+use Rattle.rob_model.specs.declared.place.Spot.{Spot}
+use Rattle.rob_model.specs.declared.place.Spot.TheVariants as spot
+use Rattle.rob_model.proofs.NameCountLemmas.{kind_few}
+use Rattle.rob_number.specs.Counts.{Rose}
+use Rattle.rob_number.specs.declared.memory.Memory.{Memory as Want}
+use Rattle.rob_report.specs.Places.{IsSpotOf}
+use Rattle.rob_report.specs.Report.{report_of}
+use Rattle.rob_sets.specs.SetForm.{IsSetForm, cleared_row}
+use Rattle.rob_sets.specs.declared.set_form.SetForm.{SetForm}
+use Rattle.rob_top.specs.Calls.{Call, Count, count, IsSolving}
+use Rattle.rob_top.specs.Headline.{HasForms, IsKept, IsPrinted, IsSolved, Means, solving}
+use Rattle.rob_top.specs.Replies.{IsTask, Replies}
+use Rattle.rob_top.specs.Work.{AnswersForms, IsStopOf, RepliesStop, ended_of}
+use Rattle.rob_top.specs.declared.ended.Ended.{Ended}
+use Rattle.rob_top.specs.declared.files.Task.{Task}
+use Rattle.rob_top.specs.declared.files.Task.TheVariants.{Solve, Prove}
+use Rattle.rob_top.specs.declared.reply.Reply.{Reply}
+use Rattle.rob_words.specs.Commands.{Action, Line, rows, solve, prove, check}
+
+-- ---- the counterpart of a model within the limits has few rows and columns
+
+few_in_all : (f r c n s : ℕ) → f ≤ 5000 → r ≤ 5000 → c ≤ 128 → n ≤ 400 → s ≡ suc (c + c)
+    → ((suc n + suc n) + (f * r)) + (f * s) < 2 ^ 31
+few_in_all f r c n s hf hr hc hn e =
+    let short : s ≤ 257 = omega arith in
+    omega (arith, mul-le-mul hf hr, mul-le-mul hf short)
+
+module _ (m : RobustModel) (limits : IsWithinLimits m) where
+  forms_few : length (forms m) ≤ 5000
+  forms_few = omega (arith, kind_few m limits Form, length-form_names m)
+
+  set_rows_few : length (set_rows m) ≤ 5000
+  set_rows_few = omega (arith, kind_few m limits SetRow, length-set_row_names m)
+
+  pub counterpart_few : (all : Forms) (set : SetForm) → IsForms m all → IsSetForm m set → IsFew (counterpart_of all set)
+  counterpart_few all set f s =
+      few_in_all (length all.matrices) (length set.rows) set.columns all.columns _
+      (omega (arith, forms_few, ap length f.matrices, length-map (forms m) (matrix_of m)))
+      (omega (arith, set_rows_few, ap length s.rows, length-map (set_rows m) (cleared_row m)))
+      (omega (arith, s.columns, limits.parameters, limits.members))
+      (omega (arith, f.columns, limits.columns))
+      refl
+
+pub of_one_model : (m : RobustModel) (all : Forms) (set : SetForm) → IsForms m all → IsSetForm m set → AreOfOneModel all set
+of_one_model m all set f s = record { model = m; are_forms = f; is_set = s }
+
+-- ---- counts
+
+pub solve_counted : {N : Type 0} (value : N → Fraction) (limit : ℕ) (m : RobustModel) (before now : ℕ) (r : Result (Cert N) Stop) → Solves value limit m before now r → before ≤ now
+solve_counted {N = N} value limit m before now r h = by r h.counted
+  where
+    by : (r : Result (Cert N) Stop) → MatchResult r (λ _. now ≡ before) (CountsStop before now) → before ≤ now
+    by (Ok cert) e = omega (arith, e)
+    by (Err (stop.EmptySet weights)) e = omega (arith, e)
+    by (Err (stop.Wide place trace)) e = omega (arith, e)
+    by (Err stop.Memory) e = e
+
+-- ---- what a certificate that proves says of its plan
+module _ (m : RobustModel) (model : IsModel m) where
+  covered_bound : (c : Certificate) → length c.plan ≡ column_count m → 0ℚ <ℚ c.scale → EachCovered m c.covers c.scale (plan_vector 1ℚ c.plan c.value) → HasBound m c.plan c.value
+  covered_bound c columns some covered =
+      at_bound m model c.plan c.value columns
+      (λ u admitted i k.
+      covered_at m model i k c.scale (plan_vector 1ℚ c.plan c.value) (amounts_of m c.covers i) (covered i k) 1ℚ u some zero_le_one (admits_meets m u admitted))
+
+  kept_as : (call : Call) (c : Certificate) (status : Status) → ProvesAs status m c → HasStatus m status c.value → IsKept call m c status
+  kept_as call c optimal h true_of = optimum_is_worst_case m c.plan c.value true_of (covered_bound c h.columns h.scale h.covered)
+  kept_as call c infeasible h true_of = tt
+  kept_as call c unbounded h true_of = covered_bound c h.columns h.scale h.covered
+
+-- ---- the certificate that was found
+module _ (limit : ℕ) (m : RobustModel) (model : IsModel m) (c : Certificate) (found : IsSolution m c) where
+  means_solved : (call : Call) (line : Line) (text : List ℕ) (status : Status) → c.status ≡ status → HasForms call line m → IsPrinted call line.action m c text
+      → Means call (ended_of status) text
+  means_solved call line text status e has printed =
+      let proves : ProvesAs status m c = subst (λ (s : Status). ProvesAs s m c) e found.proves in
+      let holds : HasStatus m status c.value = subst (λ (s : Status). HasStatus m s c.value) e (certificate_true m model c found.proves) in
+      by status (record {
+        line = line;
+        m = m;
+        forms = has;
+        c = c;
+        status_is = e;
+        holds = holds;
+        kept = kept_as m model call c status proves holds;
+        proves = found.proves;
+        last = found.read;
+        printed = printed;
+      })
+    where
+      by : (s : Status) → IsSolved call s text → Means call (ended_of s) text
+      by optimal h = h
+      by infeasible h = h
+      by unbounded h = h
+
+  is_report : (call : Call) (action : Action) (text : List ℕ) → IsTask call action Solve → text ≡ report_of m c → IsPrinted call action m c text
+  is_report call (solve name way) text h e = e
+  is_report call (rows name) text h e = h
+  is_report call (prove name way) text h e = absurd h
+  is_report call (check name certificate) text h e = h
+
+  is_certificate : (call : Call) (action : Action) (text : List ℕ) → IsTask call action Prove → text ≡ cert_text m c → IsPrinted call action m c text
+  is_certificate call (prove name way) text h e = e
+  is_certificate call (rows name) text h e = h
+  is_certificate call (solve name way) text h e = absurd h
+  is_certificate call (check name certificate) text h e = h
+
+  pub report_answers : (wides : Count) (r : Result Reply Want) → IfOk r (Replies (ended_of c.status) (report_of m c)) → IfOk r (AnswersForms limit wides m Solve)
+  report_answers wides (Err want) is = tt
+  report_answers wides (Ok reply) is = λ call line at asked has.
+      subst (λ (ended : Ended). Means call ended reply.text) (sym is.0)
+      (means_solved call line reply.text c.status refl has (is_report call line.action reply.text asked is.1))
+
+  pub certificate_answers : (wides : Count) (r : Result Reply Want) → IfOk r (Replies (ended_of c.status) (cert_text m c)) → IfOk r (AnswersForms limit wides m Prove)
+  certificate_answers wides (Err want) is = tt
+  certificate_answers wides (Ok reply) is = λ call line at asked has.
+      subst (λ (ended : Ended). Means call ended reply.text) (sym is.0)
+      (means_solved call line reply.text c.status refl has (is_certificate call line.action reply.text asked is.1))
+
+-- ---- the route stopped
+module _ (limit : ℕ) (m : RobustModel) where
+  wide_spot : (place : Spot) → IsWideSpot limit m place → IsSpotOf m place
+  wide_spot (spot.Dictionary program.Set basis i) h = tt
+  wide_spot (spot.Dictionary program.Reform basis i) h = tt
+  wide_spot (spot.Dictionary program.Master basis i) h = tt
+  wide_spot (spot.Dictionary (program.SearchPlan form) basis i) h = absurd h
+  wide_spot (spot.Dictionary (program.SearchMove form) basis i) h = absurd h
+  wide_spot (spot.Coefficient where_it_is) h = absurd h
+  wide_spot (spot.Clearing where_it_is) h = absurd h
+  wide_spot (spot.Sum where_it_is j) h = absurd h
+  wide_spot (spot.Check place) h = absurd h
+  wide_spot (spot.Replay number) h = tt
+
+  pub stop_of : (s : Stop) → HasCause limit m s → IsStopOf m s
+  stop_of (stop.EmptySet weights) h = sym (length-map weights of_int) ∙ h.shows.count
+  stop_of (stop.Wide place trace) h = wide_spot place h.0
+  stop_of stop.Memory h = tt
+
+  stop_answers : (before now : ℕ) (task : Task) (s : Stop) (reply : Reply) → ((call : Call) (action : Action) → IsTask call action task → IsSolving action)
+      → HasCause limit m s → CountsStop before now s → RepliesStop m s reply → AnswersForms limit (count before now) m task reply
+  stop_answers before now task (stop.EmptySet weights) reply solves cause counts is = λ call line at asked has.
+      subst (λ (ended : Ended). Means call ended reply.text) (sym is.0)
+      (record { line = line; m = m; forms = has; none_admitted = cause.empty; shown = cause; printed = is.1 })
+  stop_answers before now task (stop.Wide place trace) reply solves cause counts is = λ call line at asked has.
+      let rose : Rose before now = omega (arith, counts) in
+      subst (λ (ended : Ended). Means call ended reply.text) (sym is.0)
+      (record {
+        line = line;
+        m = m;
+        wide = solving has (solves call line.action asked) (subst (λ (l : ℕ). IsWideSpot l m place) (sym at.limit_is) cause.0);
+        raised = at.raised rose;
+        printed = is.1;
+      })
+  stop_answers before now task stop.Memory reply solves cause counts is = absurd is
+
+  pub stopped_answers : (before now : ℕ) (task : Task) (s : Stop) (r : Result Reply Want) → ((call : Call) (action : Action) → IsTask call action task → IsSolving action)
+      → HasCause limit m s → CountsStop before now s → IfOk r (RepliesStop m s) → IfOk r (AnswersForms limit (count before now) m task)
+  stopped_answers before now task s (Err want) solves cause counts is = tt
+  stopped_answers before now task s (Ok reply) solves cause counts is = stop_answers before now task s reply solves cause counts is
+
+pub solve_solves : (call : Call) (action : Action) → IsTask call action Solve → IsSolving action
+solve_solves call (solve name way) h = tt
+solve_solves call (prove name way) h = tt
+solve_solves call (rows name) h = h
+solve_solves call (check name certificate) h = h
+
+pub prove_solves : (call : Call) (action : Action) → IsTask call action Prove → IsSolving action
+prove_solves call (solve name way) h = tt
+prove_solves call (prove name way) h = tt
+prove_solves call (rows name) h = h
+prove_solves call (check name certificate) h = h

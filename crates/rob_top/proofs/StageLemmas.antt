@@ -1,0 +1,178 @@
+-- How far a call came, by its answer; and so which answers a model's file allows.
+use Rattle.std.proofs.Common.{◌≡◌, ℕ, List, [], ◌∷◌, ◌++◌, Option, Some, IfSome, refl, sym, ◌∙◌, ap, subst, inl, inr, ◌⊎◌}
+use Rattle.rob_meaning.specs.Places.{Each}
+use Rattle.rob_meaning.specs.RobustModel.{RobustModel}
+use Rattle.rob_outside.specs.Files.{File, Found, whole, missing, too_long, found_at}
+use Rattle.rob_parse.specs.Reading.{Breaks}
+use Rattle.rob_parse.proofs.OneModel.{not_both}
+use Rattle.rob_parse.proofs.OneReading.{one_rule}
+use Rattle.rob_model.specs.declared.place.Spot.{Spot}
+use Rattle.rob_top.specs.Calls.{Call, Came, IsFirstAbsent, IsFound, Request, limit_of, model_of, requests}
+use Rattle.rob_top.specs.Headline.{HasModel, IsNoModel, IsWideSpot, Means, checking, elaborating, solving}
+use Rattle.rob_top.specs.declared.ended.Ended.{Ended}
+use Rattle.rob_top.specs.declared.ended.Ended.TheVariants.{Optimal, Infeasible, Unbounded, Printed, Accepted, Rejected, Words, Missing, TooLong, Model, EmptySet, TooWide, Cert, ReadFault, WriteFault, Memory}
+use Rattle.rob_words.specs.Commands.{Action, Line, rows, solve, prove, check, IsCommandLine, IsSpelled}
+use Rattle.rob_words.specs.Values.{Word}
+use Rattle.rob_words.proofs.Spellings.{one_line}
+
+-- how far the call came
+data Stage (call : Call) (ended : Ended) : Type 0 where
+  wordless : (IsCommandLine call.words → ⊥) → Stage call ended
+  absent : (name : Word) → IsFirstAbsent call missing name → ended ≡ Missing → Stage call ended
+  over : (name : Word) → IsFirstAbsent call too_long name → ended ≡ TooLong → Stage call ended
+  broken : (rule number : ℕ) (text : List ℕ) → IsNoModel call rule number text → ended ≡ Model rule number → Stage call ended
+  read : (line : Line) (m : RobustModel) → HasModel call line m → Stage call ended
+  failed : ended ≡ ReadFault → Stage call ended
+  wanting : ended ≡ Memory → Stage call ended
+
+wide_model : (call : Call) (line : Line) (m : RobustModel) (spot : Spot) → IsWideSpot call line m spot → HasModel call line m
+wide_model call line m spot (elaborating has first) = has
+wide_model call line m spot (solving has solves wide) = has.model
+wide_model call line m spot (checking c place has is verdict) = has.file.forms.model
+
+stage_of : (call : Call) (ended : Ended) (text : List ℕ) → Means call ended text → Stage call ended
+stage_of call Optimal text h = read h.line h.m h.forms.model
+stage_of call Infeasible text h = read h.line h.m h.forms.model
+stage_of call Unbounded text h = read h.line h.m h.forms.model
+stage_of call Printed text h = read h.line h.m h.forms.model
+stage_of call Accepted text h = read h.line h.m h.read.file.forms.model
+stage_of call (Rejected place) text h = read h.line h.m h.read.file.forms.model
+stage_of call Words text h = wordless h.0
+stage_of call Missing text h = absent h.0 h.1 refl
+stage_of call TooLong text h = over h.0 h.1 refl
+stage_of call (Model rule number) text h = broken rule number text h refl
+stage_of call (EmptySet weights) text h = read h.line h.m h.forms.model
+stage_of call (TooWide spot) text h = read h.line h.m (wide_model call h.line h.m spot h.wide)
+stage_of call (Cert rule number) text h = read h.line h.m h.file.forms.model
+stage_of call ReadFault text h = failed refl
+stage_of call WriteFault text h = absurd h
+stage_of call Memory text h = wanting refl
+
+-- ---- what is found of a told file is one thing
+found_once : (call : Call) (files : List File) (request : Request) (a b : Found) → call.files ≡ Some files → IsFound call request a → IsFound call request b → a ≡ b
+found_once call files request a b told h k = sym (here a h) ∙ here b k
+  where
+    here : (found : Found) → IsFound call request found → found_at request.name request.most files ≡ found
+    here found h = subst (λ (t : Option (List File)). IfSome t (λ fs. found_at request.name request.most fs ≡ found)) told h
+
+-- the model's file is the first
+first_request : (action : Action) → (rest : List Request) × (requests action ≡ model_of action ∷ rest)
+first_request (rows model) = ([], refl)
+first_request (solve model way) = ([], refl)
+first_request (prove model way) = ([], refl)
+first_request (check model certificate) = (_, refl)
+
+came_at : (call : Call) (before behind : List Request) (request : Request) → Each (Came call) (before ++ request ∷ behind) → Came call request
+came_at call [] behind request h = h.0
+came_at call (r ∷ before) behind request h = came_at call before behind request h.1
+
+module _ (call : Call) (files : List File) (told : call.files ≡ Some files) (line : Line) (spelled : IsSpelled call.words line) where
+  -- a model that was read is of this line
+  read_here : (l : Line) (m : RobustModel) → HasModel call l m → HasModel call line m
+  read_here l m h = subst (λ (x : Line). HasModel call x m) (one_line call.words l line h.spelled spelled) h
+
+  broken_here : (rule number : ℕ) (text : List ℕ) (h : IsNoModel call rule number text)
+      → (bytes : List ℕ) × IsFound call (model_of line.action) (whole bytes) × Breaks (limit_of line) bytes rule number
+  broken_here rule number text h =
+      let same = one_line call.words h.line line h.spelled spelled in (
+        h.bytes,
+        subst (λ (x : Line). IsFound call (model_of x.action) (whole h.bytes)) same h.found,
+        subst (λ (x : Line). Breaks (limit_of x) h.bytes rule number) same h.breaks,
+      )
+
+  -- the first file that doesn't come is the model's, or else the model's came
+  absent_here : (found : Found) (name : Word) → IsFirstAbsent call found name
+      → IsFound call (model_of line.action) found ⊎ ((bytes : List ℕ) × IsFound call (model_of line.action) (whole bytes))
+  absent_here found name h =
+      by h.before (sym (first_request line.action).1 ∙ ap (λ (x : Line). requests x.action) (sym (one_line call.words h.line line h.spelled spelled)) ∙ h.order) h.came
+    where
+      by : (before : List Request) → model_of line.action ∷ (first_request line.action).0 ≡ before ++ h.request ∷ h.behind → Each (Came call) before
+          → IsFound call (model_of line.action) found ⊎ ((bytes : List ℕ) × IsFound call (model_of line.action) (whole bytes))
+      by [] e came =
+          let same : h.request ≡ model_of line.action = cc in
+          inl (subst (λ (r : Request). IsFound call r found) same h.absent)
+      by (r ∷ rest) e came =
+          let same : r ≡ model_of line.action = cc in
+          inr (subst (λ (q : Request). (bytes : List ℕ) × IsFound call q (whole bytes)) same came.0)
+
+  -- where all come, none is the first that doesn't
+  none_absent : (found : Found) (name : Word) → Each (Came call) (requests line.action) → ((bytes : List ℕ) → found ≡ whole bytes → ⊥) → IsFirstAbsent call found name → ⊥
+  none_absent found name all other h =
+      let same = one_line call.words h.line line h.spelled spelled in
+      let each = subst (λ (list : List Request). Each (Came call) list) (ap (λ (x : Line). requests x.action) (sym same) ∙ h.order) all in
+      let came = came_at call h.before h.behind h.request each in
+      other came.0 (found_once call files h.request found (whole came.0) told h.absent came.1)
+
+  pub missing_answer : (ended : Ended) (text : List ℕ) → IsFound call (model_of line.action) missing → Means call ended text
+      → (ended ≡ Missing) ⊎ ((ended ≡ ReadFault) ⊎ (ended ≡ Memory))
+  missing_answer ended text f means = by (stage_of call ended text means)
+    where
+      once : (found : Found) → IsFound call (model_of line.action) found → missing ≡ found
+      once found h = found_once call files (model_of line.action) missing found told f h
+
+      not_whole : (bytes : List ℕ) → IsFound call (model_of line.action) (whole bytes) → ⊥
+      not_whole bytes h = let e = once (whole bytes) h in cc
+
+      over_absurd : IsFound call (model_of line.action) too_long ⊎ ((bytes : List ℕ) × IsFound call (model_of line.action) (whole bytes)) → ⊥
+      over_absurd (inl h) = let e = once too_long h in cc
+      over_absurd (inr h) = not_whole h.0 h.1
+
+      by : Stage call ended → (ended ≡ Missing) ⊎ ((ended ≡ ReadFault) ⊎ (ended ≡ Memory))
+      by (wordless none) = absurd (none (line, spelled))
+      by (absent name h e) = inl e
+      by (over name h e) = absurd (over_absurd (absent_here too_long name h))
+      by (broken rule number t h e) = let b = broken_here rule number t h in absurd (not_whole b.0 b.1)
+      by (read l m h) = let r = read_here l m h in absurd (not_whole r.bytes r.found)
+      by (failed e) = inr (inl e)
+      by (wanting e) = inr (inr e)
+
+  pub too_long_answer : (ended : Ended) (text : List ℕ) → IsFound call (model_of line.action) too_long → Means call ended text
+      → (ended ≡ TooLong) ⊎ ((ended ≡ ReadFault) ⊎ (ended ≡ Memory))
+  too_long_answer ended text f means = by (stage_of call ended text means)
+    where
+      once : (found : Found) → IsFound call (model_of line.action) found → too_long ≡ found
+      once found h = found_once call files (model_of line.action) too_long found told f h
+
+      not_whole : (bytes : List ℕ) → IsFound call (model_of line.action) (whole bytes) → ⊥
+      not_whole bytes h = let e = once (whole bytes) h in cc
+
+      absent_absurd : IsFound call (model_of line.action) missing ⊎ ((bytes : List ℕ) × IsFound call (model_of line.action) (whole bytes)) → ⊥
+      absent_absurd (inl h) = let e = once missing h in cc
+      absent_absurd (inr h) = not_whole h.0 h.1
+
+      by : Stage call ended → (ended ≡ TooLong) ⊎ ((ended ≡ ReadFault) ⊎ (ended ≡ Memory))
+      by (wordless none) = absurd (none (line, spelled))
+      by (absent name h e) = absurd (absent_absurd (absent_here missing name h))
+      by (over name h e) = inl e
+      by (broken rule number t h e) = let b = broken_here rule number t h in absurd (not_whole b.0 b.1)
+      by (read l m h) = let r = read_here l m h in absurd (not_whole r.bytes r.found)
+      by (failed e) = inr (inl e)
+      by (wanting e) = inr (inr e)
+
+  pub broken_answer : (ended : Ended) (text bytes : List ℕ) (rule number : ℕ) → Each (Came call) (requests line.action)
+      → IsFound call (model_of line.action) (whole bytes) → Breaks (limit_of line) bytes rule number → Means call ended text
+      → (ended ≡ Model rule number) ⊎ ((ended ≡ ReadFault) ⊎ (ended ≡ Memory))
+  broken_answer ended text bytes rule number all f breaks means = by (stage_of call ended text means)
+    where
+      same_bytes : (other : List ℕ) → IsFound call (model_of line.action) (whole other) → other ≡ bytes
+      same_bytes other h = let e = found_once call files (model_of line.action) (whole other) (whole bytes) told h f in cc
+
+      is_rule : (r n : ℕ) → Breaks (limit_of line) bytes r n → ended ≡ Model r n → ended ≡ Model rule number
+      is_rule r n b e =
+          let one = one_rule (limit_of line) bytes r n rule number b breaks in
+          e ∙ ap (λ k. Model k n) one.0 ∙ ap (λ k. Model rule k) one.1
+
+      by : Stage call ended → (ended ≡ Model rule number) ⊎ ((ended ≡ ReadFault) ⊎ (ended ≡ Memory))
+      by (wordless none) = absurd (none (line, spelled))
+      by (absent name h e) = absurd (none_absent missing name all (λ b q. (let x : ⊥ = cc in x)) h)
+      by (over name h e) = absurd (none_absent too_long name all (λ b q. (let x : ⊥ = cc in x)) h)
+      by (broken r n t h e) =
+          let b = broken_here r n t h in
+          inl (is_rule r n (subst (λ (list : List ℕ). Breaks (limit_of line) list r n) (same_bytes b.0 b.1) b.2) e)
+      by (read l m h) =
+          let r = read_here l m h in
+          absurd
+          (not_both (limit_of line) r.bytes m rule number r.reads
+          (subst (λ (list : List ℕ). Breaks (limit_of line) list rule number) (sym (same_bytes r.bytes r.found)) breaks))
+      by (failed e) = inr (inl e)
+      by (wanting e) = inr (inr e)

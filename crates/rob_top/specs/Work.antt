@@ -1,0 +1,111 @@
+-- What the work on a model answers, whichever call it is done for.
+use Rattle.std.specs.Prelude.{◌≡◌, ℕ, ◌^◌, ◌≤◌, List, length}
+use Rattle.rob_cert.specs.declared.ending.Stop.{Stop}
+use Rattle.rob_cert.specs.declared.ending.Stop.TheVariants as stop
+use Rattle.rob_meaning.specs.Certificates as meaning
+use Rattle.rob_meaning.specs.Certificates.{Certificate}
+use Rattle.rob_meaning.specs.RobustModel.{RobustModel}
+use Rattle.rob_meaning.specs.SetRows.{set_rows}
+use Rattle.rob_report.specs.Places.{IsSpotOf}
+use Rattle.rob_report.specs.Spots.{too_wide_line, empty_set_lines}
+use Rattle.rob_sets.specs.declared.error.ElabErr.{ElabErr}
+use Rattle.rob_sets.specs.declared.error.ElabErr.TheVariants as refused
+use Rattle.rob_top.specs.Calls.{Call, Count, WasRaised, limit_of}
+use Rattle.rob_top.specs.Headline.{Means, HasModel, HasForms, HasCertificateFile, HasCertificate}
+use Rattle.rob_top.specs.Replies.{HasTexts, IsTask, Replies}
+use Rattle.rob_top.specs.declared.ended.Ended.{Ended}
+use Rattle.rob_top.specs.declared.ended.Ended.TheVariants.{Optimal, Infeasible, Unbounded, EmptySet, TooWide}
+use Rattle.rob_top.specs.declared.files.Files.{Files}
+use Rattle.rob_top.specs.declared.files.Files.TheVariants as fetch
+use Rattle.rob_top.specs.declared.files.Job.{Job}
+use Rattle.rob_top.specs.declared.files.Task.{Task}
+use Rattle.rob_top.specs.declared.files.Task.TheVariants.{Rows, Solve, Prove, Check}
+use Rattle.rob_top.specs.declared.reply.Reply.{Reply}
+use Rattle.rob_words.specs.Commands.{Line}
+
+-- ---- texts that are short enough to read
+
+abbrev pub IsShortTask : Task → Type 0
+IsShortTask Rows = Unit {0}
+IsShortTask Solve = Unit {0}
+IsShortTask Prove = Unit {0}
+IsShortTask (Check bytes) = length bytes.items ≤ 2 ^ 30
+
+-- each text of the job has at most 2^30 bytes
+pub record IsShort (job : Job) : Type 0 where
+  pub model : length job.model.items ≤ 2 ^ 30
+  pub task : IsShortTask job.task
+
+-- each job
+abbrev pub IsShortFetch : Files → Type 0
+IsShortFetch (fetch.Job job) = IsShort job
+IsShortFetch (fetch.Answer reply) = Unit {0}
+
+-- ---- answers
+
+-- the line's width has this limit, and where a wide number is counted here, it is counted in the call
+pub record IsCallAt (limit : ℕ) (wides : Count) (call : Call) (line : Line) : Type 0 where
+  pub limit_is : limit_of line ≡ limit
+  pub raised : WasRaised wides → WasRaised call.wides
+
+module _ (limit : ℕ) (wides : Count) where
+  -- the reply is the answer of each call at the limit whose files came with the job's bytes
+  abbrev pub AnswersJob : Job → Reply → Type 0
+  AnswersJob job reply =
+      (call : Call) (line : Line) → IsCallAt limit wides call line → HasTexts call line job → Means call reply.ended reply.text
+
+  module _ (m : RobustModel) where
+    -- that of each one for the task, whose text is read as the model
+    abbrev pub AnswersModel : Task → Reply → Type 0
+    AnswersModel task reply =
+        (call : Call) (line : Line) → IsCallAt limit wides call line → IsTask call line.action task → HasModel call line m
+        → Means call reply.ended reply.text
+
+    -- and no number of whose set rows and forms is wide
+    abbrev pub AnswersForms : Task → Reply → Type 0
+    AnswersForms task reply =
+        (call : Call) (line : Line) → IsCallAt limit wides call line → IsTask call line.action task → HasForms call line m
+        → Means call reply.ended reply.text
+
+    -- that of each one for `check`, whose certificate's file came with these bytes
+    abbrev pub AnswersFile : List ℕ → Reply → Type 0
+    AnswersFile bytes reply =
+        (call : Call) (line : Line) → IsCallAt limit wides call line → HasCertificateFile call line m bytes
+        → Means call reply.ended reply.text
+
+    -- and which is the text of the certificate
+    abbrev pub AnswersCertificate : Certificate → Reply → Type 0
+    AnswersCertificate c reply =
+        (call : Call) (line : Line) → IsCallAt limit wides call line → HasCertificate call line m c
+        → Means call reply.ended reply.text
+
+-- the answer for a status
+abbrev pub ended_of : meaning.Status → Ended
+ended_of meaning.optimal = Optimal
+ended_of meaning.infeasible = Infeasible
+ended_of meaning.unbounded = Unbounded
+
+-- ---- refusals
+
+module _ (m : RobustModel) where
+  -- the reply where set rows or forms were refused: the spot of the wide number; memory has none
+  abbrev pub RepliesRefused : ElabErr → Reply → Type 0
+  RepliesRefused (refused.Wide spot) reply = Replies (TooWide spot) (too_wide_line m spot) reply
+  RepliesRefused refused.Memory reply = ⊥
+
+  -- the spot is one of the model's
+  abbrev pub IsRefusedOf : ElabErr → Type 0
+  IsRefusedOf (refused.Wide spot) = IsSpotOf m spot
+  IsRefusedOf refused.Memory = Unit {0}
+
+  -- the reply where the route stopped: the weights of an empty set, or the spot of the wide number; memory has none
+  abbrev pub RepliesStop : Stop → Reply → Type 0
+  RepliesStop (stop.EmptySet weights) reply = Replies (EmptySet weights) (empty_set_lines m weights) reply
+  RepliesStop (stop.Wide spot trace) reply = Replies (TooWide spot) (too_wide_line m spot) reply
+  RepliesStop stop.Memory reply = ⊥
+
+  -- there is a weight for each set row; the spot is one of the model's
+  abbrev pub IsStopOf : Stop → Type 0
+  IsStopOf (stop.EmptySet weights) = length weights ≡ length (set_rows m)
+  IsStopOf (stop.Wide spot trace) = IsSpotOf m spot
+  IsStopOf stop.Memory = Unit {0}

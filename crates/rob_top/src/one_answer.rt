@@ -1,0 +1,29 @@
+// Where the file of a model decides the answer. The function does nothing; its clauses are the claims.
+
+ghost use Rattle.std.specs.Prelude.{◌≡◌, ◌⊎◌, ℕ, List, Some};
+ghost use Rattle.rob_meaning.specs.Places.{Each};
+ghost use Rattle.rob_outside.specs.Files.{File, missing, too_long, whole};
+ghost use Rattle.rob_parse.specs.Reading.{Breaks};
+ghost use Rattle.rob_top.specs.Calls.{Call, Came, IsFound, limit_of, model_of, requests};
+ghost use Rattle.rob_top.specs.Headline.{Means};
+ghost use Rattle.rob_top.specs.declared.ended.Ended.{Ended};
+ghost use Rattle.rob_top.specs.declared.ended.Ended.TheVariants.{Memory, Missing, Model, ReadFault, TooLong};
+ghost use Rattle.rob_words.specs.Commands.{Line, IsSpelled};
+
+/// Where the files are told, the answer of a command line whose model's file doesn't come, or breaks a rule.
+pub fn file_laws()
+    // There is no such file: no other answer comes but a read fault and want of memory,
+    ensures missing { (call : Call) (ended : Ended) (text : List ℕ) (files : List File) (line : Line)
+        → call.files ≡ Some files → IsSpelled call.words line → IsFound call (model_of line.action) missing
+        → Means call ended text → (ended ≡ Missing) ⊎ ((ended ≡ ReadFault) ⊎ (ended ≡ Memory)) }
+    // and so it is where it is too long,
+    ensures too_long { (call : Call) (ended : Ended) (text : List ℕ) (files : List File) (line : Line)
+        → call.files ≡ Some files → IsSpelled call.words line → IsFound call (model_of line.action) too_long
+        → Means call ended text → (ended ≡ TooLong) ⊎ ((ended ≡ ReadFault) ⊎ (ended ≡ Memory)) }
+    // and where all files come, and the model's text breaks a rule: that rule and its line are named.
+    ensures broken { (call : Call) (ended : Ended) (text : List ℕ) (files : List File) (line : Line) (bytes : List ℕ)
+        (rule number : ℕ) → call.files ≡ Some files → IsSpelled call.words line
+        → Each (Came call) (requests line.action) → IsFound call (model_of line.action) (whole bytes)
+        → Breaks (limit_of line) bytes rule number → Means call ended text
+        → (ended ≡ Model rule number) ⊎ ((ended ≡ ReadFault) ⊎ (ended ≡ Memory)) }
+{}
