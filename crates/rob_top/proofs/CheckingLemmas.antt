@@ -4,6 +4,7 @@ use Rattle.std.specs.Prelude.{if◌then◌else◌, ℤ}
 use Rattle.std.specs.List.{filter}
 use Rattle.std.proofs.lemmas.List.{length-map}
 use Rattle.rob_algebra.specs.Fraction.{Fraction}
+use Rattle.rob_cert.specs.Apart.{FitsLines}
 use Rattle.rob_cert.specs.Causes.{HasCause}
 use Rattle.rob_cert.specs.Reading.{start}
 use Rattle.rob_cert.specs.Shape.{AreCoversOf, HasShape, IsCoverOf}
@@ -209,12 +210,12 @@ module _ (limit : ℕ) (m : RobustModel) where
         printed = is.1;
       })
 
-  pub certificate_answers : (before middle now : ℕ) (text : List ℕ) (c : Certificate) (r : Result Reply Want) → before ≤ middle → IsTextOf m c text
+  pub certificate_answers : (before middle now : ℕ) (text : List ℕ) (c : Certificate) (r : Result Reply Want) → before ≤ middle → IsTextOf m c text → FitsLines limit m c
       → IfOk r (AnswersCertificate limit (count middle now) m c) → IfOk r (AnswersFile limit (count before now) m text)
-  certificate_answers before middle now text c (Err want) least is h = tt
-  certificate_answers before middle now text c (Ok reply) least is h = λ call line at file.
+  certificate_answers before middle now text c (Err want) least is fits h = tt
+  certificate_answers before middle now text c (Ok reply) least is fits h = λ call line at file.
       h call line (call_within limit (count middle now) (count before now) call line (rose_earlier before middle now least) at)
-      (record { bytes = text; file = file; text = is })
+      (record { bytes = text; file = file; text = is; fits = subst (λ (l : ℕ). FitsLines l m c) (sym at.limit_is) fits })
 
   module _ (c : Certificate) (v : Verdict) (is : v ≡ verdict_of limit m c) where
     verdict_is : (call : Call) (line : Line) (same : Verdict) → limit_of line ≡ limit → v ≡ same → verdict_of (limit_of line) m c ≡ same

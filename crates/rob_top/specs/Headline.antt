@@ -24,6 +24,7 @@ use Rattle.rob_parse.specs.Reading.{Breaks}
 use Rattle.rob_sets.specs.FirstWide.{NothingWide, IsFirstWide}
 use Rattle.rob_sets.specs.SetForm.{judged_set}
 use Rattle.rob_elab.specs.Forms.{judged_forms}
+use Rattle.rob_cert.specs.Apart.{FitsLines}
 use Rattle.rob_cert.specs.Whole.{IsTextOf}
 use Rattle.rob_cert.specs.Spelling.{cert_text, naming_of}
 use Rattle.rob_cert.specs.Causes.{HasCause}
@@ -65,11 +66,12 @@ module _ (call : Call) where
     pub is_check : line.action ≡ check model_name certificate_name
     pub found : IsFound call (certificate_file certificate_name) (whole bytes)
 
-  -- and it is the text of this certificate
+  -- and it is the text of this certificate, whose numbers are within the line's width
   pub record HasCertificate (line : Line) (m : RobustModel) (c : Certificate) : Type 0 where
     pub bytes : List ℕ
     pub file : HasCertificateFile line m bytes
     pub text : IsTextOf m c bytes
+    pub fits : FitsLines (limit_of line) m c
 
   -- ---- the answers of `rows`
 
