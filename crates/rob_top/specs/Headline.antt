@@ -185,8 +185,8 @@ module _ (call : Call) where
 
   -- ---- all answers
 
-  -- what each answer means, and its text. An answer comes only where this holds; what they mean excludes one another, but for
-  -- ReadFault and Memory, so where one holds no other comes
+  -- what each answer means, and its text. An answer comes only where this holds; where it must come, because no other may, is
+  -- said by laws of src/laws.rt and src/one_answer.rt
   abbrev pub Means : Ended → List ℕ → Type 0
   Means Optimal text = IsSolved optimal text
   Means Infeasible text = IsSolved infeasible text
