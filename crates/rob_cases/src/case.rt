@@ -71,7 +71,7 @@ pub struct Outcome {
 
 impl Case {
     /// A case with nothing in it.
-    pub fn new(alloc: Global, name: &str) -> Result<Case, Trouble> {
+    pub(crate) fn new(alloc: Global, name: &str) -> Result<Case, Trouble> {
         Ok(Case {
             name: String::from_str(alloc, name)?,
             words: Vec::new(alloc),
@@ -83,7 +83,7 @@ impl Case {
     }
 
     /// Adds what a line says.
-    pub fn add(&mut self, alloc: Global, line: &Line<'_>) -> Result<(), Trouble> {
+    pub(crate) fn add(&mut self, alloc: Global, line: &Line<'_>) -> Result<(), Trouble> {
         match *line {
             Line::Word(word) => {
                 let word = String::from_str(alloc, word)?;
@@ -109,7 +109,7 @@ impl Case {
     }
 
     /// Adds a file.
-    pub fn add_file(&mut self, name: &str, bytes: &[u8]) -> Result<(), Trouble> {
+    pub(crate) fn add_file(&mut self, name: &str, bytes: &[u8]) -> Result<(), Trouble> {
         self.close()?;
         self.shelf.add(name, bytes)?;
         Ok(())
@@ -136,7 +136,7 @@ impl Case {
     }
 
     /// Runs the case.
-    pub fn run(self, alloc: Global) -> Result<Outcome, Trouble> {
+    pub(crate) fn run(self, alloc: Global) -> Result<Outcome, Trouble> {
         let Case {
             name,
             words,
@@ -191,7 +191,7 @@ fn hex(digit: u8) -> Result<u8, Trouble>
 }
 
 /// Bytes as a text: each that is no visible letter stands as `\` and two hexadecimal digits.
-pub fn shown(alloc: Global, bytes: &[u8]) -> Result<String, Trouble> {
+pub(crate) fn shown(alloc: Global, bytes: &[u8]) -> Result<String, Trouble> {
     let mut text = String::new(alloc);
     for byte in bytes {
         if (b' '..=b'~').contains(byte) && *byte != b'\\' {

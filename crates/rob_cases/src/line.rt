@@ -30,7 +30,7 @@ pub enum Line<'a> {
 }
 
 /// Reads a line.
-pub fn read_line(text: &str) -> Line<'_> {
+pub(crate) fn read_line(text: &str) -> Line<'_> {
     if text.is_empty() || text.starts_with('#') {
         return Line::Nothing;
     }

@@ -13,7 +13,7 @@ mod rows;
 use case::{CASES, Case};
 use rob_number::{Frac, Tally};
 use rob_rows::combine;
-use rows::{drawn_row, sum_of, within};
+use rows::{checksum, drawn_row, within};
 use std::alloc::Global;
 
 const LENGTHS: [usize; 3] = [100, 1000, 5000];
@@ -70,5 +70,5 @@ fn combine_often(out: &mut [i64], case: &Case, top: &[i64], low: &[i64], repeats
             refused = refused.wrapping_add(1);
         }
     }
-    sum_of(out).wrapping_add(refused)
+    checksum(out).wrapping_add(refused)
 }

@@ -59,8 +59,8 @@ pub fn within(number: i64) -> i64
     }
 }
 
-/// The sum of the row, modulo 2^64.
-pub fn sum_of(row: &[i64]) -> u64 {
+/// A checksum of the row: its entries, modulo 2^64, as the digits of a number to the base 31.
+pub(crate) fn checksum(row: &[i64]) -> u64 {
     let mut sum = 0u64;
     for entry in row {
         sum = sum.wrapping_mul(31).wrapping_add(entry.cast_unsigned());

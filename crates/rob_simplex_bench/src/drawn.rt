@@ -19,7 +19,7 @@ pub enum Kind {
 pub const KINDS: [Kind; 3] = [Kind::Dense, Kind::Runs, Kind::Covers];
 
 /// A program with so many rows and columns. It is the same each time.
-pub fn program(alloc: Global, kind: Kind, size: usize) -> Result<Lp, Memory> {
+pub(crate) fn program(alloc: Global, kind: Kind, size: usize) -> Result<Lp, Memory> {
     let mut state = size as u64;
     let mut rows = List::new(alloc);
     for i in 0..size {
