@@ -1,14 +1,21 @@
 -- How far a call came, by its answer; and so which answers a model's file allows.
-use Rattle.std.proofs.Common.{◌≡◌, ℕ, List, [], ◌∷◌, ◌++◌, Option, Some, IfSome, refl, sym, ◌∙◌, ap, subst, inl, inr, ◌⊎◌}
+use Rattle.std.proofs.Common.{◌≡◌, ℕ, ℤ, List, [], ◌∷◌, ◌++◌, Option, Some, IfSome, refl, sym, ◌∙◌, ap, subst, inl, inr, ◌⊎◌}
 use Rattle.rob_meaning.specs.Places.{Each}
+use Rattle.rob_algebra.specs.Fraction.{Fraction}
+use Rattle.rob_meaning.specs.Certificates.{Certificate, Status, optimal, infeasible, unbounded}
+use Rattle.rob_meaning.specs.Proves.{HasStatus, ProvesAs}
 use Rattle.rob_meaning.specs.RobustModel.{RobustModel}
+use Rattle.rob_meaning.specs.UncertaintySet.{Admits}
+use Rattle.rob_meaning.proofs.StatusLemmas.{optimal_not_infeasible, optimal_not_unbounded, infeasible_not_unbounded}
+use Rattle.rob_parse.specs.Modelled.{ReadsModel}
 use Rattle.rob_outside.specs.Files.{File, Found, whole, missing, too_long, found_at}
 use Rattle.rob_parse.specs.Reading.{Breaks}
-use Rattle.rob_parse.proofs.OneModel.{not_both}
+use Rattle.rob_parse.proofs.OneModel.{not_both, one_model}
 use Rattle.rob_parse.proofs.OneReading.{one_rule}
 use Rattle.rob_model.specs.declared.place.Spot.{Spot}
 use Rattle.rob_top.specs.Calls.{Call, Came, IsFirstAbsent, IsFound, Request, limit_of, model_of, requests}
-use Rattle.rob_top.specs.Headline.{HasModel, IsNoModel, IsWideSpot, Means, checking, elaborating, solving}
+use Rattle.rob_top.specs.Headline.{HasModel, IsNoModel, IsSolved, IsWideSpot, Means, checking, elaborating, solving}
+use Rattle.rob_top.specs.Work.{ended_of}
 use Rattle.rob_top.specs.declared.ended.Ended.{Ended}
 use Rattle.rob_top.specs.declared.ended.Ended.TheVariants.{Optimal, Infeasible, Unbounded, Printed, Accepted, Rejected, Words, Missing, TooLong, Model, EmptySet, TooWide, Cert, ReadFault, WriteFault, Memory}
 use Rattle.rob_words.specs.Commands.{Action, Line, rows, solve, prove, check, IsCommandLine, IsSpelled}
@@ -176,3 +183,48 @@ module _ (call : Call) (files : List File) (told : call.files ≡ Some files) (l
           (subst (λ (list : List ℕ). Breaks (limit_of line) list rule number) (sym (same_bytes r.bytes r.found)) breaks))
       by (failed e) = inr (inl e)
       by (wanting e) = inr (inr e)
+
+-- ---- a model has one status
+one_model_read : (call : Call) (files : List File) (k l : Line) (a b : RobustModel) → call.files ≡ Some files → HasModel call k a → HasModel call l b → a ≡ b
+one_model_read call files k l a b told h other =
+    let here : HasModel call k b = read_here call files told k h.spelled l b other in
+    let bytes : whole h.bytes ≡ whole here.bytes = found_once call files (model_of k.action) (whole h.bytes) (whole here.bytes) told h.found here.found in
+    let same : h.bytes ≡ here.bytes = cc in
+    one_model (limit_of k) here.bytes a b (subst (λ (list : List ℕ). ReadsModel (limit_of k) list a) same h.reads) here.reads
+
+solved_by : (call : Call) (status : Status) (text : List ℕ) → Means call (ended_of status) text → IsSolved call status text
+solved_by call optimal text h = h
+solved_by call infeasible text h = h
+solved_by call unbounded text h = h
+
+same_status : (m : RobustModel) (a b : Status) (v w : Fraction) → HasStatus m a v → HasStatus m b w → a ≡ b
+same_status m optimal optimal v w h k = refl
+same_status m optimal infeasible v w h k = absurd (optimal_not_infeasible m v h k)
+same_status m optimal unbounded v w h k = absurd (optimal_not_unbounded m v h k)
+same_status m infeasible optimal v w h k = absurd (optimal_not_infeasible m w k h)
+same_status m infeasible infeasible v w h k = refl
+same_status m infeasible unbounded v w h k = absurd (infeasible_not_unbounded m h k)
+same_status m unbounded optimal v w h k = absurd (optimal_not_unbounded m w k h)
+same_status m unbounded infeasible v w h k = absurd (infeasible_not_unbounded m k h)
+same_status m unbounded unbounded v w h k = refl
+
+pub one_status : (call : Call) (files : List File) (a b : Status) (text other : List ℕ) → call.files ≡ Some files
+    → Means call (ended_of a) text → Means call (ended_of b) other → a ≡ b
+one_status call files a b text other told h k =
+    let first : IsSolved call a text = solved_by call a text h in
+    let second : IsSolved call b other = solved_by call b other k in
+    let same : first.m ≡ second.m = one_model_read call files first.line second.line first.m second.m told first.forms.model second.forms.model in
+    same_status second.m a b first.c.value second.c.value (subst (λ (m : RobustModel). HasStatus m a first.c.value) same first.holds) second.holds
+
+inside_admitted : (m : RobustModel) (c : Certificate) (status : Status) → ProvesAs status m c → Admits m c.inside
+inside_admitted m c optimal h = h.inside
+inside_admitted m c infeasible h = h.inside
+inside_admitted m c unbounded h = h.inside
+
+pub not_empty : (call : Call) (files : List File) (status : Status) (weights : List ℤ) (text other : List ℕ) → call.files ≡ Some files
+    → Means call (ended_of status) text → Means call (EmptySet weights) other → ⊥
+not_empty call files status weights text other told h empty =
+    let solved : IsSolved call status text = solved_by call status text h in
+    let same : solved.m ≡ empty.m = one_model_read call files solved.line empty.line solved.m empty.m told solved.forms.model empty.forms.model in
+    empty.none_admitted solved.c.inside
+    (subst (λ (m : RobustModel). Admits m solved.c.inside) same (inside_admitted solved.m solved.c solved.c.status solved.proves))

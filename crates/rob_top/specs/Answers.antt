@@ -1,24 +1,21 @@
 -- The texts of answers. Each is one line.
 use Rattle.std.specs.Fmt.{decimal}
-use Rattle.std.specs.Prelude.{ℕ, List, [], ◌∷◌, ◌++◌, codes}
+use Rattle.std.specs.Prelude.{ℕ, List, ◌++◌, codes}
 use Rattle.rob_algebra.specs.Fraction.{Fraction}
 use Rattle.rob_cert.specs.Spelling.{number_text}
 use Rattle.rob_meaning.specs.Certificates.{Status, optimal, infeasible, unbounded, Certificate}
+use Rattle.rob_report.specs.Lines.{line}
 use Rattle.rob_words.specs.Values.{Word}
-
--- a line of these bytes, with its line end
-abbrev pub line_text : List ℕ → List ℕ
-line_text bytes = bytes ++ 10 ∷ []
 
 -- the line of a fault
 abbrev pub fault_text : List ℕ → List ℕ
-fault_text what = line_text (codes "fault: " ++ what)
+fault_text what = line (codes "fault: " ++ what)
 
 -- what is accepted, by the status
 abbrev pub accepted_by : Status → Fraction → List ℕ
-accepted_by optimal value = line_text (codes "accepted optimal " ++ number_text value)
-accepted_by infeasible value = line_text (codes "accepted infeasible")
-accepted_by unbounded value = line_text (codes "accepted unbounded")
+accepted_by optimal value = line (codes "accepted optimal " ++ number_text value)
+accepted_by infeasible value = line (codes "accepted infeasible")
+accepted_by unbounded value = line (codes "accepted unbounded")
 
 -- the line of a certificate that is accepted
 abbrev pub accepted_text : Certificate → List ℕ
@@ -33,10 +30,10 @@ too_long_text name = fault_text (codes "too long " ++ name)
 
 -- a model's or a certificate's text breaks a rule at a line
 abbrev pub model_text : ℕ → ℕ → List ℕ
-model_text rule line = fault_text (codes "model " ++ (decimal rule ++ (codes " line " ++ decimal line)))
+model_text rule number = fault_text (codes "model " ++ (decimal rule ++ (codes " line " ++ decimal number)))
 
 abbrev pub certificate_text : ℕ → ℕ → List ℕ
-certificate_text rule line = fault_text (codes "certificate " ++ (decimal rule ++ (codes " line " ++ decimal line)))
+certificate_text rule number = fault_text (codes "certificate " ++ (decimal rule ++ (codes " line " ++ decimal number)))
 
 -- the words are no command line, reading failed, or memory was refused
 abbrev pub words_text : List ℕ

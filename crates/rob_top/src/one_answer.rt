@@ -1,13 +1,15 @@
-// Where the file of a model decides the answer. The function does nothing; its clauses are the claims.
+// Where the file of a model decides the answer. The functions do nothing; their clauses are the claims.
 
-ghost use Rattle.std.specs.Prelude.{◌≡◌, ◌⊎◌, ℕ, List, Some};
+ghost use Rattle.std.specs.Prelude.{◌≡◌, ◌⊎◌, ℕ, ℤ, List, Some};
+ghost use Rattle.rob_meaning.specs.Certificates.{Status};
 ghost use Rattle.rob_meaning.specs.Places.{Each};
 ghost use Rattle.rob_outside.specs.Files.{File, missing, too_long, whole};
 ghost use Rattle.rob_parse.specs.Reading.{Breaks};
 ghost use Rattle.rob_top.specs.Calls.{Call, Came, IsFound, limit_of, model_of, requests};
 ghost use Rattle.rob_top.specs.Headline.{Means};
 ghost use Rattle.rob_top.specs.declared.ended.Ended.{Ended};
-ghost use Rattle.rob_top.specs.declared.ended.Ended.TheVariants.{Memory, Missing, Model, ReadFault, TooLong};
+ghost use Rattle.rob_top.specs.Work.{ended_of};
+ghost use Rattle.rob_top.specs.declared.ended.Ended.TheVariants.{EmptySet, Memory, Missing, Model, ReadFault, TooLong};
 ghost use Rattle.rob_words.specs.Commands.{Line, IsSpelled};
 
 /// Where the files are told, the answer of a command line whose model's file doesn't come, or breaks a rule.
@@ -26,4 +28,14 @@ pub fn file_laws()
         → Each (Came call) (requests line.action) → IsFound call (model_of line.action) (whole bytes)
         → Breaks (limit_of line) bytes rule number → Means call ended text
         → (ended ≡ Model rule number) ⊎ ((ended ≡ ReadFault) ⊎ (ended ≡ Memory)) }
+{}
+
+/// Where the files are told, a model has one status.
+pub fn status_laws()
+    // No two of `optimal`, `infeasible` and `unbounded` are allowed,
+    ensures one_status { (call : Call) (files : List File) (a b : Status) (text other : List ℕ) → call.files ≡ Some files
+        → Means call (ended_of a) text → Means call (ended_of b) other → a ≡ b }
+    // and none of them where no scenario is admitted.
+    ensures not_empty { (call : Call) (files : List File) (status : Status) (weights : List ℤ) (text other : List ℕ)
+        → call.files ≡ Some files → Means call (ended_of status) text → Means call (EmptySet weights) other → ⊥ }
 {}

@@ -2,7 +2,8 @@
 
 ghost use Rattle.std.specs.Prelude.{◌++◌, IfOk, codes};
 ghost use Rattle.std.specs.Fmt.{decimal};
-ghost use Rattle.rob_top.specs.Answers.{fault_text, line_text};
+ghost use Rattle.rob_report.specs.Lines.{line as one_line};
+ghost use Rattle.rob_top.specs.Answers.{fault_text};
 ghost use Rattle.rob_top.specs.Replies.{Replies};
 
 use crate::ended::Ended;
@@ -19,7 +20,7 @@ pub struct Reply {
 
 /// The answer with a line of these two pieces.
 pub fn line(alloc: Global, ended: Ended, first: &[u8], second: &[u8]) -> Result<Reply, Memory>
-    ensures line { IfOk result (Replies ended (line_text (first.now ++ second.now))) }
+    ensures line { IfOk result (Replies ended (one_line (first.now ++ second.now))) }
 {
     let mut text = Text::new(alloc);
     text.push(first)?;
