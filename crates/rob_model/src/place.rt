@@ -34,7 +34,8 @@ pub enum Program {
     SearchMove(u32),
 }
 
-/// A condition of a certificate. Items, forms, set rows and columns count from 0 in their orders.
+/// A condition of a certificate. Items, set conditions, forms and set rows count from 0 in their orders. Of columns, 0 is
+/// the constant, and the others count from 1.
 #[derive(Clone, Copy, Debug, PartialEq, Eq)]
 pub enum Place {
     /// The scale is above 0.
@@ -47,11 +48,11 @@ pub enum Place {
     Base(u32),
     /// An item, and a set condition at its vector.
     Item(u32, u32),
-    /// The sum of the items in a column: 0 is the constant, the last is the bound.
+    /// The sum of the items in a column: the constant, a decision column or, as the last, the bound.
     Sum(u32),
     /// A form, and a set row whose multiplier is at least 0.
     CoverSign(u32, u32),
-    /// A form, and a set column, or behind those the constant.
+    /// A form, and the sum of its set rows in a column: the constant or a set column.
     Cover(u32, u32),
     /// The bound of the direction improves.
     MoveBound,
