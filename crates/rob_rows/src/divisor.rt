@@ -53,12 +53,15 @@ impl Divisor {
         }
     }
 
-    /// Whether the number divides the other one.
+    /// Whether the number divides the other one. Each number divides 0.
     pub fn divides(self, whole: u128) -> bool
         ensures divides { IsTrue result ↔ (self.value ∣ whole) }
     {
+        if whole == 0 {
+            return true;
+        }
         if self.value == 0 {
-            return whole == 0;
+            return false;
         }
         self.guess(whole).is_some() || whole % self.value == 0
     }

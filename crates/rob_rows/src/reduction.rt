@@ -43,7 +43,8 @@ fn content_of(row: &[i64]) -> Divisor
     common
 }
 
-/// The entry over a divisor of it. `Wide` where the quotient is over the limit.
+/// The entry over a divisor of it. `Wide` where the quotient is over the limit. Most entries of a row are 0, so this is
+/// looked at first.
 pub fn quotient_within(entry: i128, divisor: Divisor, limit: u64) -> Result<i64, Wide>
     requires limit { limit < 2 ^ 62 }
     requires positive { 0 < divisor.value }
@@ -52,6 +53,9 @@ pub fn quotient_within(entry: i128, divisor: Divisor, limit: u64) -> Result<i64,
     ensures within { IfOk result (λ quotient. nat_abs quotient ≤ limit) }
     ensures wide { OnErr result (limit < nat_abs entry / divisor.value) }
 {
+    if entry == 0 {
+        return Ok(0);
+    }
     let size = quotient_of(entry.unsigned_abs(), divisor);
     if size > limit as u128 {
         return Err(Wide);
