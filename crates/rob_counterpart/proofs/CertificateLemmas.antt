@@ -15,7 +15,8 @@ use Rattle.rob_meaning.specs.Proves.{EachCovered, IsItem, combination, target, I
 use Rattle.rob_meaning.proofs.LinearLemmas.{zero_lt_one}
 use Rattle.rob_counterpart.specs.RobustProgram.{RobustProgram}
 use Rattle.rob_counterpart.specs.Counterpart.{sign_of, robust_of, counterpart}
-use Rattle.rob_counterpart.specs.ReadCertificates.{plan_read, bound_read, item_read, items_kept, items_of, weight_of, HasAmounts, IsReadOptimal, IsReadInfeasible, IsReadUnbounded, optimal_read, infeasible_read, unbounded_read}
+use Rattle.rob_counterpart.specs.ReadCertificates.{plan_read, bound_read, items_of, weight_of, HasAmounts, IsReadOptimal, IsReadInfeasible, IsReadUnbounded, optimal_read, infeasible_read, unbounded_read}
+use Rattle.rob_counterpart.specs.ReadNumbers.{items_kept, item_at}
 use Rattle.rob_counterpart.proofs.WholeCertificates.{BoundsForms, items_entry, ItemsSum, ShowsOptimal, ShowsInfeasible, ShowsUnbounded}
 use Rattle.rob_counterpart.proofs.QuotientLemmas.{over, over-zero, over-one, over-self, over-sub, over_pos}
 use Rattle.rob_counterpart.proofs.TabulateLemmas.{length-tabulate, tabulate-same}
@@ -92,7 +93,7 @@ module _ (m : RobustModel) where
   items-read : (y : ℕ → Fraction) (t : ℤ) (w : ℕ → ℤ) → ((q : ℕ) → q < P.m → y q ≡ over (w q) t)
       → items_of m y ≡ items_over_of t w
   items-read y t w e =
-      ap items_kept (tabulate-same (length (matrices m)) (item_read m y) (λ i. item_over m t i (base_of d w i) (vector_of d w i)) (λ i l.
+      ap items_kept (tabulate-same (length (matrices m)) (item_at (robust_of m) y) (λ i. item_over m t i (base_of d w i) (vector_of d w i)) (λ i l.
       ap₂ (λ b (v : List Fraction). record { form = i; weight = 1ℚ; base = b; vector = v })
       (e (constant_row d i) (constant_in d i l))
       (tabulate-same (length m.parameters) (λ c. y (negative_row d i c) -ℚ y (positive_row d i c)) (λ c. over (vector_of d w i c) t) (λ c cl.

@@ -27,7 +27,7 @@ use Rattle.rob_meaning.proofs.ConeLemmas.{meets_taken}
 use Rattle.rob_meaning.proofs.LinearLemmas.{zero_lt_one}
 use Rattle.rob_counterpart.specs.RobustProgram.{entry, item_entry}
 use Rattle.rob_counterpart.specs.Counterpart.{robust_of}
-use Rattle.rob_counterpart.specs.ReadCertificates.{all_zero, items_kept}
+use Rattle.rob_counterpart.specs.ReadNumbers.{all_zero, items_kept}
 use Rattle.rob_counterpart.proofs.Blocks.{sum_first}
 use Rattle.rob_counterpart.proofs.QuotientLemmas.{over, over-add, over-mul_right, over-zero, over_nonneg, over_le, over_zero_out}
 use Rattle.rob_counterpart.proofs.TabulateLemmas.{length-tabulate, tabulate-same, tabulate-append, zeros-tabulate, scale-tabulate, plus_all-tabulate, dot-over, vec_mat-over}

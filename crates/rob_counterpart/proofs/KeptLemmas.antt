@@ -11,7 +11,9 @@ use Rattle.rob_meaning.specs.SetRows.{set_rows}
 use Rattle.rob_meaning.specs.Certificates.{Cover}
 use Rattle.rob_meaning.specs.Proves.{amount_at}
 use Rattle.rob_meaning.proofs.EachLemmas.{each_append}
-use Rattle.rob_counterpart.specs.ReadCertificates.{covers_kept, covers_at, covers_of, concat, amount_read, HasAmounts}
+use Rattle.rob_counterpart.specs.Counterpart.{robust_of}
+use Rattle.rob_counterpart.specs.ReadCertificates.{covers_of, amount_read, HasAmounts}
+use Rattle.rob_counterpart.specs.ReadNumbers.{covers_kept, covers_at, concat}
 
 -- a cover of form i and set row r
 abbrev matches : ℕ → ℕ → Cover → Bool
@@ -110,9 +112,9 @@ each_concat P (suc n) f h = each_append P (f zero) (concat (tabulate n (λ k. f 
 -- the covers that are read have the multipliers as their amounts
 pub covers_have_amounts : (m : RobustModel) (x : ℕ → Fraction) → HasAmounts m x (covers_of m x)
 covers_have_amounts m x i r il rl =
-    some_kept i r (amount_read m x i r) (concat (tabulate (length (matrices m)) (covers_at m x)))
-    (each_concat (λ (c : Cover). matches i r c ≡ true → c.amount ≡ amount_read m x i r) (length (matrices m)) (covers_at m x)
+    some_kept i r (amount_read m x i r) (concat (tabulate (length (matrices m)) (covers_at (robust_of m) x)))
+    (each_concat (λ (c : Cover). matches i r c ≡ true → c.amount ≡ amount_read m x i r) (length (matrices m)) (covers_at (robust_of m) x)
     (λ h. each_tabulate (λ (c : Cover). matches i r c ≡ true → c.amount ≡ amount_read m x i r) (length (set_rows m)) (λ q. record { form = h; set_row = q; amount = amount_read m x h q })
     (λ q e. ap (λ v. amount_read m x v q) (matched h q i r e).0 ∙ ap (amount_read m x i) (matched h q i r e).1)))
-    (some_concat i r (length (matrices m)) (covers_at m x) i il
+    (some_concat i r (length (matrices m)) (covers_at (robust_of m) x) i il
     (some_tabulate i r (length (set_rows m)) (λ q. record { form = i; set_row = q; amount = amount_read m x i q }) r rl (matches_own i r)))

@@ -7,6 +7,7 @@ pub mod Endings
 pub mod SamePrograms
 pub mod BasicPairs
 pub mod Counterpart
+pub mod ReadNumbers
 pub mod ReadCertificates
 pub mod WorstCases
 pub mod MasterItems

@@ -23,7 +23,7 @@ use Rattle.rob_counterpart.proofs.ReformPlaces.{reform_is}
 use Rattle.rob_counterpart.proofs.TabulateLemmas.{length-tabulate}
 use Rattle.rob_dualize.specs.Ending.{HasEnded}
 use Rattle.rob_dualize.specs.Numbers.{told, KeepPairs, KeepRows}
-use Rattle.rob_dualize.specs.Reading.{differences, covers_to, items_to}
+use Rattle.rob_counterpart.specs.ReadNumbers.{differences, covers_to, items_to}
 use Rattle.rob_dualize.proofs.EndingLemmas.{optimal_end, unbounded_end, infeasible_end}
 use Rattle.rob_dualize.proofs.ReadingLemmas.{told_at, differences_same, covers_same, items_same}
 

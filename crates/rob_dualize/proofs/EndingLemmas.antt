@@ -30,7 +30,7 @@ use Rattle.rob_counterpart.proofs.SameSystems.{systems_same}
 use Rattle.rob_counterpart.proofs.TabulateLemmas.{length-tabulate}
 use Rattle.rob_counterpart.specs.Splitting.{difference}
 use Rattle.rob_dualize.specs.Ending.{HasEnded, read_from}
-use Rattle.rob_dualize.specs.Reading.{covers_to, items_to}
+use Rattle.rob_counterpart.specs.ReadNumbers.{covers_to, items_to}
 use Rattle.rob_dualize.specs.Solving.{IsLastScenario, IsSolution}
 use Rattle.rob_dualize.specs.Wholes.{IsFew}
 use Rattle.rob_dualize.proofs.ReadingLemmas.{items_same}

@@ -21,12 +21,11 @@ use Rattle.rob_cert.specs.declared.certificate.Item.{Item as TheItem}
 use Rattle.rob_counterpart.specs.RobustProgram.{RobustProgram}
 use Rattle.rob_counterpart.specs.Splitting.{difference, plus, minus, OneIsZero}
 use Rattle.rob_counterpart.specs.Reform.{multiplier, positive_row, negative_row, constant_row, block, pairs}
-use Rattle.rob_counterpart.specs.ReadCertificates.{concat, covers_kept, items_kept, all_zero}
 use Rattle.rob_counterpart.proofs.Blocks.{block_in}
 use Rattle.rob_counterpart.proofs.TabulateLemmas.{tabulate-same}
 use Rattle.rob_sets.proofs.RowLemmas.{tabulate-more, map-append}
 use Rattle.rob_dualize.specs.Numbers.{told}
-use Rattle.rob_dualize.specs.Reading.{differences, cover_at, covers_at, covers_to, vector_at, item_at, items_to}
+use Rattle.rob_counterpart.specs.ReadNumbers.{differences, cover_at, covers_at, covers_to, vector_at, item_at, items_to, concat, covers_kept, items_kept, all_zero}
 
 -- ---- covers, one after another
 covers_kept-append : (xs ys : List Cover) → covers_kept (xs ++ ys) ≡ covers_kept xs ++ covers_kept ys

@@ -9,9 +9,8 @@ use Rattle.rob_meaning.proofs.EachLemmas.{each_append}
 use Rattle.rob_cert.specs.Shape.{InOrder, IsBefore}
 use Rattle.rob_counterpart.specs.RobustProgram.{RobustProgram}
 use Rattle.rob_counterpart.specs.Reform.{positive_row, negative_row}
-use Rattle.rob_counterpart.specs.ReadCertificates.{covers_kept, items_kept, concat, all_zero}
 use Rattle.rob_counterpart.proofs.TabulateLemmas.{length-tabulate}
-use Rattle.rob_dualize.specs.Reading.{cover_at, covers_at, covers_to, vector_at, item_at, items_to}
+use Rattle.rob_counterpart.specs.ReadNumbers.{cover_at, covers_at, covers_to, vector_at, item_at, items_to, covers_kept, items_kept, concat, all_zero}
 
 -- ---- what is kept of a list
 kept_each : (P : Cover → Type 0) (cs : List Cover) → Each P cs → Each P (covers_kept cs)

@@ -40,7 +40,7 @@ use Rattle.rob_counterpart.proofs.SameSystems.{systems_same}
 use Rattle.rob_counterpart.proofs.ScenarioLemmas.{set_weights, basis_admitted}
 use Rattle.rob_counterpart.proofs.TabulateLemmas.{tabulate-same}
 use Rattle.rob_dualize.specs.Ending.{HasEnded, HasLastPoint, StopsAt, IsTold}
-use Rattle.rob_dualize.specs.Reading.{differences}
+use Rattle.rob_counterpart.specs.ReadNumbers.{differences}
 use Rattle.rob_dualize.specs.Solving.{IsLastScenario, IsSolution, IsShownEmpty, IsWideSpot, HasCause, CountsStop, Finds, Solves}
 use Rattle.rob_dualize.proofs.EndingLemmas.{infeasible_end}
 use Rattle.rob_dualize.proofs.TabulateLemmas.{map-tabulate}

@@ -19,7 +19,7 @@ use Rattle.rob_cert.specs.declared.ending.Stop.{Stop}
 use Rattle.rob_cert.specs.declared.ending.Stop.TheVariants.{EmptySet, Wide, Memory}
 use Rattle.rob_counterpart.specs.RobustProgram.{RobustProgram}
 use Rattle.rob_counterpart.specs.SamePrograms.{AreSame}
-use Rattle.rob_dualize.specs.Reading.{optimal_from, infeasible_from, unbounded_from}
+use Rattle.rob_counterpart.specs.ReadNumbers.{optimal_from, infeasible_from, unbounded_from}
 
 -- the solver was made for a program with the numbers of Q
 pub record IsMadeAs (Q : Program) (s : Solver) : Type 0 where

@@ -6,11 +6,10 @@ ghost use Rattle.std.specs.Bool.{Decides};
 ghost use Rattle.rob_algebra.specs.Fraction.{◌-ℚ◌};
 ghost use Rattle.rob_meaning.specs.Places.{0ℚ, 1ℚ, tabulate};
 ghost use Rattle.rob_cert.specs.View.{cover_of, item_of};
-ghost use Rattle.rob_counterpart.specs.ReadCertificates.{all_zero, covers_kept};
 ghost use Rattle.rob_counterpart.specs.Splitting.{difference as difference_of, OneIsZero, plus, minus};
 ghost use Rattle.rob_counterpart.specs.Reform.{positive_row, negative_row, pairs, block};
 ghost use Rattle.rob_dualize.specs.Numbers.{told, KeepPairs, KeepRows};
-ghost use Rattle.rob_dualize.specs.Reading.{differences, covers_at, covers_to, vector_at, items_to};
+ghost use Rattle.rob_counterpart.specs.ReadNumbers.{differences, covers_at, covers_to, vector_at, items_to, all_zero, covers_kept};
 ghost use Rattle.rob_dualize.specs.Wholes.{wholes, counterpart_of, IsFew};
 
 use crate::told::whole;

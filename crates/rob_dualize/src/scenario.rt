@@ -7,7 +7,7 @@ ghost use Rattle.rob_model.specs.View.{scenario_of};
 ghost use Rattle.rob_sets.specs.SetForm.{IsSetForm};
 ghost use Rattle.rob_elab.specs.Forms.{IsForms};
 ghost use Rattle.rob_dualize.specs.Ending.{HasEnded, HasLastPoint, IsMadeAs, IsTold};
-ghost use Rattle.rob_dualize.specs.Reading.{differences};
+ghost use Rattle.rob_counterpart.specs.ReadNumbers.{differences};
 ghost use Rattle.rob_dualize.specs.Solving.{Finds};
 ghost use Rattle.rob_dualize.specs.Wholes.{AreOfOneModel, counterpart_of, IsFew, Fit, set_of_wholes};
 ghost use Rattle.rob_simplex.specs.Solvers.{positions, HasPoint, HasWeights};

@@ -1,12 +1,11 @@
 use Rattle.std.proofs.Common.{◌≡◌, ◌+◌, ◌*◌, ◌<◌, ◌++◌, map, length, sym, ap, subst, ◌∙◌, arith}
 use Rattle.rob_meaning.specs.Places.{tabulate}
 use Rattle.rob_cert.specs.View.{cover_of}
-use Rattle.rob_counterpart.specs.ReadCertificates.{covers_kept}
 use Rattle.rob_counterpart.specs.RobustProgram.{RobustProgram}
 use Rattle.rob_counterpart.specs.Reform.{multiplier}
 use Rattle.rob_counterpart.proofs.Blocks.{block_in}
 use Rattle.rob_dualize.specs.Numbers.{told}
-use Rattle.rob_dualize.specs.Reading.{cover_at}
+use Rattle.rob_counterpart.specs.ReadNumbers.{cover_at, covers_kept}
 use Rattle.rob_dualize.specs.Wholes.{wholes}
 use Rattle.rob_dualize.proofs.ReadingLemmas.{told_place, cover_pushed, cover_skipped, refuted}
 use Rattle.rob_dualize.proofs.reading.append_covers.Goals as goal

@@ -1,9 +1,8 @@
 use Rattle.std.specs.Prelude.{◌≡◌, ◌++◌, map}
 use Rattle.rob_meaning.specs.Places.{tabulate}
 use Rattle.rob_cert.specs.View.{cover_of}
-use Rattle.rob_counterpart.specs.ReadCertificates.{covers_kept}
 use Rattle.rob_dualize.specs.Numbers.{told}
-use Rattle.rob_dualize.specs.Reading.{cover_at}
+use Rattle.rob_counterpart.specs.ReadNumbers.{cover_at, covers_kept}
 use Rattle.rob_dualize.specs.Wholes.{wholes}
 use Rattle.rob_dualize.proofs.reading.append_covers.Given as goal
 

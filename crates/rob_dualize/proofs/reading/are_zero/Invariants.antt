@@ -1,5 +1,5 @@
 use Rattle.std.specs.Prelude.{◌≡◌, map, drop}
-use Rattle.rob_counterpart.specs.ReadCertificates.{all_zero}
+use Rattle.rob_counterpart.specs.ReadNumbers.{all_zero}
 use Rattle.rob_dualize.proofs.reading.are_zero.Given as goal
 
 -- all are 0 where the others are

@@ -1,8 +1,7 @@
 use Rattle.std.proofs.Common.{List, ◌++◌, sym, ap, ◌∙◌}
 use Rattle.rob_meaning.specs.Certificates.{Cover}
-use Rattle.rob_counterpart.specs.ReadCertificates.{covers_kept}
 use Rattle.rob_dualize.specs.Numbers.{told}
-use Rattle.rob_dualize.specs.Reading.{covers_at}
+use Rattle.rob_counterpart.specs.ReadNumbers.{covers_at, covers_kept}
 use Rattle.rob_dualize.specs.Wholes.{wholes}
 use Rattle.rob_dualize.proofs.ReadingLemmas.{covers_next}
 use Rattle.rob_dualize.proofs.reading.covers.Goals as goal

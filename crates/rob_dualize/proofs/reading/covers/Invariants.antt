@@ -1,7 +1,7 @@
 use Rattle.std.specs.Prelude.{◌≡◌, map}
 use Rattle.rob_cert.specs.View.{cover_of}
 use Rattle.rob_dualize.specs.Numbers.{told}
-use Rattle.rob_dualize.specs.Reading.{covers_to}
+use Rattle.rob_counterpart.specs.ReadNumbers.{covers_to}
 use Rattle.rob_dualize.specs.Wholes.{wholes}
 use Rattle.rob_dualize.proofs.reading.covers.Given as goal
 

@@ -1,12 +1,11 @@
 use Rattle.std.proofs.Common.{◌≡◌, ◌+◌, ◌*◌, ◌<◌, map, length, sym, ap, subst, ◌∙◌, arith}
 use Rattle.rob_meaning.specs.Places.{1ℚ}
 use Rattle.rob_cert.specs.View.{item_of}
-use Rattle.rob_counterpart.specs.ReadCertificates.{all_zero}
 use Rattle.rob_counterpart.specs.RobustProgram.{RobustProgram}
 use Rattle.rob_counterpart.specs.Reform.{block, constant_row}
 use Rattle.rob_counterpart.proofs.Blocks.{block_in}
 use Rattle.rob_dualize.specs.Numbers.{told}
-use Rattle.rob_dualize.specs.Reading.{items_to, vector_at}
+use Rattle.rob_counterpart.specs.ReadNumbers.{items_to, vector_at, all_zero}
 use Rattle.rob_dualize.specs.Wholes.{wholes}
 use Rattle.rob_dualize.proofs.ReadingLemmas.{told_place, item_is, item_pushed, item_skipped, base_not_zero, vector_not_zero, both_zero, refuted}
 use Rattle.rob_dualize.proofs.reading.items.Goals as goal
