@@ -41,11 +41,11 @@ module _ (words : List (List ℕ)) (sorts : List (Option Sort)) where
     pub set_lines_are : after.set_lines ≡ length (flat_map (set_lines sorts) list) + before.set_lines
     pub members_are : after.members ≡ lift_count (flat_map (set_lines sorts) list) + before.members
 
-  counts_none : (s : Sizes) → Counts [] s s
+  pub counts_none : (s : Sizes) → Counts [] s s
   unfolding rule_columns
   counts_none s = record { parameters_are = omega arith; variables_are = omega arith; adaptives_are = omega arith; columns_are = omega arith; rows_are = omega arith; set_lines_are = omega arith; members_are = omega arith }
 
-  counts_more : (st : Statement) (list : List Statement) (s t : Sizes) → Counts list (counted s st) t → Counts (st ∷ list) s t
+  pub counts_more : (st : Statement) (list : List Statement) (s t : Sizes) → Counts list (counted s st) t → Counts (st ∷ list) s t
   unfolding rule_columns
   counts_more (Uncertain d) list s t c = record { parameters_are = omega (arith, c.parameters_are); variables_are = c.variables_are; adaptives_are = c.adaptives_are; columns_are = c.columns_are; rows_are = c.rows_are; set_lines_are = c.set_lines_are; members_are = c.members_are }
   counts_more (Var d) list s t c = record { parameters_are = c.parameters_are; variables_are = omega (arith, c.variables_are); adaptives_are = c.adaptives_are; columns_are = omega (arith, c.columns_are); rows_are = c.rows_are; set_lines_are = c.set_lines_are; members_are = c.members_are }

@@ -48,7 +48,7 @@ both a b = record {
   rows = a.rows ++ b.rows;
 }
 
-goal_behind : (s : Statement) (rest : List Statement) → is_goal s ≡ false → goal_in (s ∷ rest) ≡ goal_in rest
+pub goal_behind : (s : Statement) (rest : List Statement) → is_goal s ≡ false → goal_in (s ∷ rest) ≡ goal_in rest
 goal_behind (parsed.Uncertain d) rest h = refl
 goal_behind (parsed.Set r) rest h = refl
 goal_behind (parsed.Budget b) rest h = refl

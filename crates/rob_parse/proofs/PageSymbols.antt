@@ -18,12 +18,12 @@ use Rattle.rob_parse.proofs.WordSetLemmas.{word_lexed, lexed_words}
 
 module _ (words : List (List ℕ)) where
   -- the symbols of one more token
-  abbrev add_symbols : Kind → List Symbol → List (List Symbol) → List (List Symbol)
+  abbrev pub add_symbols : Kind → List Symbol → List (List Symbol) → List (List Symbol)
   add_symbols kind.LineEnd s lines = [] ∷ lines
   add_symbols _ s [] = (s ++ []) ∷ []
   add_symbols _ s (line ∷ lines) = (s ++ line) ∷ lines
 
-  abbrev symbol_lines : List Lexed → List (List Symbol)
+  abbrev pub symbol_lines : List Lexed → List (List Symbol)
   symbol_lines [] = [] ∷ []
   symbol_lines (x ∷ xs) = add_symbols x.kind (symbol_at words x.kind x.bytes) (symbol_lines xs)
 
@@ -37,7 +37,7 @@ module _ (words : List (List ℕ)) where
     added kind.Sign t [] = refl
     added kind.Sign t (line ∷ lines) = refl
 
-    token_lines_are : (ts : List Token) → lines_of text words ts ≡ symbol_lines (map (lexed text) ts)
+    pub token_lines_are : (ts : List Token) → lines_of text words ts ≡ symbol_lines (map (lexed text) ts)
     token_lines_are [] = refl
     token_lines_are (t ∷ ts) =
         added t.kind t (token_lines ts)

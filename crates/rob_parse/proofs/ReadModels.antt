@@ -42,7 +42,7 @@ module _ (limit : ℕ) (low : 1 ≤ limit) (m : RobustModel) (f : Earlier) (name
   R t = IsReadable limit (naming_of m) (expression f.sorts (tree_of t))
 
   -- what a statement says is readable
-  abbrev Good : Statement → Type 0
+  abbrev pub Good : Statement → Type 0
   Good (parsed.Uncertain d) = IsBound limit (lower_bound d.bounds) × IsBound limit (upper_bound d.bounds)
   Good (parsed.Var d) = IsBound limit (lower_bound d.bounds) × IsBound limit (upper_bound d.bounds)
   Good (parsed.Set r) = R r.left × R r.right
@@ -117,7 +117,7 @@ module _ (limit : ℕ) (low : 1 ≤ limit) (m : RobustModel) (f : Earlier) (name
         subst Good is.statement_is
         (good_line is.line moved (statement_fits limit low e (spell_line is.line) (statement_of is.line) (record { line = is.line; spelled = refl; statement_is = refl }) moved))
 
-  all_good : (e : Earlier) (lines : List (List Symbol)) (list : List Statement) → Follows limit e lines list f → Each Good list
+  pub all_good : (e : Earlier) (lines : List (List Symbol)) (list : List Statement) → Follows limit e lines list f → Each Good list
   all_good e [] [] follows = tt
   all_good e [] (s ∷ list) follows = absurd follows
   all_good e ([] ∷ lines) list follows = all_good e lines list follows

@@ -35,7 +35,7 @@ use Rattle.rob_parse.proofs.SortLemmas.{Names}
 not_below : (n : ℕ) → int_lt (pos n) (pos 0) ≡ false
 not_below n = grind (arith, nat_tests)
 
-pair_plain : (n d : ℕ) → int_lt (of_pair (pos n) d).num (pos 0) ≡ false
+pub pair_plain : (n d : ℕ) → int_lt (of_pair (pos n) d).num (pos 0) ≡ false
 unfolding of_pair
 pair_plain n zero = refl
 pair_plain n (suc k) = not_below _

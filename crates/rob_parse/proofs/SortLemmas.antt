@@ -32,14 +32,14 @@ set_cases (o ∷ sorts) (suc i) zero v = inr refl
 set_cases (o ∷ sorts) (suc i) (suc k) v = set_cases sorts i k v
 
 -- a name that is declared keeps what it stands for, where the name that is written isn't
-set_kept : (sorts : List (Option Sort)) (i k : ℕ) (v x : Sort) → is_some (sort_at sorts i) ≡ false → sort_at sorts k ≡ Some x → sort_at (set sorts i (Some v)) k ≡ Some x
+pub set_kept : (sorts : List (Option Sort)) (i k : ℕ) (v x : Sort) → is_some (sort_at sorts i) ≡ false → sort_at sorts k ≡ Some x → sort_at (set sorts i (Some v)) k ≡ Some x
 set_kept [] i k v x new is = is
 set_kept (o ∷ sorts) zero zero v x new is = let p : is_some o ≡ true = ap is_some is in cc
 set_kept (o ∷ sorts) zero (suc k) v x new is = is
 set_kept (o ∷ sorts) (suc i) zero v x new is = is
 set_kept (o ∷ sorts) (suc i) (suc k) v x new is = set_kept sorts i k v x new is
 
-declare_kept : (sorts : List (Option Sort)) (d : Option (ℕ × Sort)) (k : ℕ) (x : Sort) → is_declared sorts d ≡ false → sort_at sorts k ≡ Some x → sort_at (declare sorts d) k ≡ Some x
+pub declare_kept : (sorts : List (Option Sort)) (d : Option (ℕ × Sort)) (k : ℕ) (x : Sort) → is_declared sorts d ≡ false → sort_at sorts k ≡ Some x → sort_at (declare sorts d) k ≡ Some x
 declare_kept sorts None k x new is = is
 declare_kept sorts (Some d) k x new is = set_kept sorts d.0 k d.1 x new is
 

@@ -9,7 +9,7 @@ ghost use Rattle.rob_meaning.specs.WellFormed.{IsModel};
 ghost use Rattle.rob_meaning.specs.Named.{IsNamed, declared_names};
 ghost use Rattle.rob_meaning.specs.RobustModel.{RobustModel};
 ghost use Rattle.rob_model.specs.Limits.{IsWithinLimits};
-ghost use Rattle.rob_parse.specs.Canonical.{Written, Naming, lines_of as canonical_lines_of, naming_of};
+ghost use Rattle.rob_parse.specs.Canonical.{Written, Naming, lines_of as canonical_lines_of, model_text, naming_of};
 ghost use Rattle.rob_parse.specs.Symbols.{lines_of, words_of};
 ghost use Rattle.rob_parse.specs.Modelled.{ReadsModel};
 ghost use Rattle.rob_parse.specs.Pages.{IsLine, IsReadAs, IsWritable, ended, page_text, symbols_on, words_on};
@@ -93,4 +93,10 @@ pub fn canonical_lines()
 /// A model that a text reads as is readable: its numbers are within the limit, and its expressions are the grammar's.
 pub fn readable()
     ensures model { (limit : ℕ) (text : List ℕ) (m : RobustModel) → 1 ≤ limit → ReadsModel limit text m → IsReadableModel limit (naming_of m) m }
+{}
+
+/// A model that a text reads as is read again from its canonical text.
+pub fn round_trip()
+    ensures again { (limit : ℕ) (text : List ℕ) (m : RobustModel) → 1 ≤ limit → limit < 2 ^ 62 → ReadsModel limit text m
+        → ReadsModel limit (model_text m) m }
 {}
