@@ -18,6 +18,7 @@ pub mod NameWords
 pub mod ApartLemmas
 pub mod LeadLemmas
 pub mod SpellingLaws
+pub mod OneBreach
 pub mod OneCertificate
 pub mod FitLemmas
 pub mod ReadLemmas

@@ -11,7 +11,7 @@ use Rattle.rob_meaning.proofs.DistinctLemmas.{distinct_left}
 use Rattle.rob_meaning.proofs.EachLemmas.{each_append}
 use Rattle.rob_meaning.specs.Certificates.{Status, Certificate}
 use Rattle.rob_meaning.specs.Named.{AreDistinct, IsNamed}
-use Rattle.rob_meaning.specs.Names.{column_names}
+use Rattle.rob_meaning.specs.Names.{Name, column_names}
 use Rattle.rob_meaning.specs.Places.{0ℚ, Each}
 use Rattle.rob_meaning.specs.RobustModel.{RobustModel}
 use Rattle.rob_meaning.specs.WellFormed.{IsModel}
@@ -23,7 +23,7 @@ use Rattle.rob_cert.specs.declared.error.Offence.TheVariants.{NoLine, NoShape, N
 use Rattle.rob_cert.specs.declared.kind.Vector.TheVariants.{Inside, Plan, Move, At}
 use Rattle.rob_cert.specs.Lines.{Line, status_line, value_line, scale_line, entry_line, cover_line, item_line, end_line, lines_of}
 use Rattle.rob_cert.specs.Reading as reading
-use Rattle.rob_cert.specs.Reading.{BeginsWithLine, words_in, kind_of, Stage, start, behind, ends, MayStand, Follows, FitsLine, IsNotZero, IsNotZeroWord, IsPlaced, IsLineAt, IsShapedAt, IsNumberedAt, IsCause, Leads, BreaksFrom, advanced}
+use Rattle.rob_cert.specs.Reading.{BeginsWithLine, words_in, kind_of, Stage, start, behind, ends, MayStand, Follows, FitsLine, IsNotZero, IsNotZeroWord, IsPlaced, IsLineAt, IsShapedAt, IsCause, Leads, BreaksFrom, advanced}
 use Rattle.rob_cert.specs.Spelling.{Naming, naming_of, entry_names, number_text, words_of, spelled, line_text, lines_text}
 use Rattle.rob_cert.specs.Whole.{IsTextOf}
 use Rattle.rob_cert.proofs.ApartLemmas.{TellsApart, number_same, line_of, begins_with, line_has_words, lines_once, leads_same}
@@ -56,6 +56,23 @@ model_tells_apart m model named words =
       words_of_set_rows = words_of_set_rows m words (omega (arith, named.few));
     }
 
+-- ---- the words of a line that may stand at a stage
+pub line_at : (names : Naming) (stage : Stage) (line : Line Name) → MayStand stage (kind_of line) → IsLineAt stage (words_of names line)
+line_at names start (status_line s) h = (s, refl)
+line_at names start (value_line a) h = absurd h
+line_at names start (scale_line a) h = absurd h
+line_at names start (entry_line v k a) h = absurd h
+line_at names start (cover_line which i r a) h = absurd h
+line_at names start (item_line i w b) h = absurd h
+line_at names start end_line h = absurd h
+line_at names (behind s last form place) (status_line t) h = (_, h, record { arguments = _; spelled = refl; count = refl })
+line_at names (behind s last form place) (value_line a) h = (_, h, record { arguments = _; spelled = refl; count = refl })
+line_at names (behind s last form place) (scale_line a) h = (_, h, record { arguments = _; spelled = refl; count = refl })
+line_at names (behind s last form place) (entry_line v k a) h = (reading.entries v, h, record { arguments = _; spelled = refl; count = refl })
+line_at names (behind s last form place) (cover_line which i r a) h = (reading.multipliers which, h, record { arguments = _; spelled = refl; count = refl })
+line_at names (behind s last form place) (item_line i w b) h = (_, h, record { arguments = _; spelled = refl; count = refl })
+line_at names (behind s last form place) end_line h = (_, h, record { arguments = _; spelled = refl; count = refl })
+
 module _ (names : Naming) (apart : TellsApart names) (limit : ℕ) (low : limit ≤ 2 ^ 62 - 1) where
   -- ---- a line that may stand at a stage has no offence there
   word_not_zero : (q : Fraction) → Fits limit q → q ≢ 0ℚ → IsNotZeroWord (number_text q)
@@ -71,23 +88,9 @@ module _ (names : Naming) (apart : TellsApart names) (limit : ℕ) (low : limit 
   placed_word (behind s last form place) (item_line i w b) f p = p
   placed_word (behind s last form place) end_line f p = tt
 
-  line_at : (stage : Stage) (line : Line Fraction) → MayStand stage (kind_of line) → IsLineAt stage (words_of names (spelled line))
-  line_at start (status_line s) h = (s, refl)
-  line_at start (value_line q) h = absurd h
-  line_at start (scale_line q) h = absurd h
-  line_at start (entry_line v k q) h = absurd h
-  line_at start (cover_line which i r q) h = absurd h
-  line_at start (item_line i w b) h = absurd h
-  line_at start end_line h = absurd h
-  line_at (behind s last form place) (status_line t) h = (_, h, record { arguments = _; spelled = refl; count = refl })
-  line_at (behind s last form place) (value_line q) h = (_, h, record { arguments = _; spelled = refl; count = refl })
-  line_at (behind s last form place) (scale_line q) h = (_, h, record { arguments = _; spelled = refl; count = refl })
-  line_at (behind s last form place) (entry_line v k q) h = (reading.entries v, h, record { arguments = _; spelled = refl; count = refl })
-  line_at (behind s last form place) (cover_line which i r q) h = (reading.multipliers which, h, record { arguments = _; spelled = refl; count = refl })
-  line_at (behind s last form place) (item_line i w b) h = (_, h, record { arguments = _; spelled = refl; count = refl })
-  line_at (behind s last form place) end_line h = (_, h, record { arguments = _; spelled = refl; count = refl })
-
-  no_offence : (stage : Stage) (line : Line Fraction) (rest back : List ℕ) (o : Offence) → Follows names limit IsNotZero stage line → FitsLine names limit line → rest ≡ line_text names line ++ back → IsCause names limit stage rest o → ⊥
+  -- a text that goes on with a line that may stand there breaks no rule there
+  pub no_offence : (stage : Stage) (line : Line Fraction) (rest back : List ℕ) (o : Offence) → Follows names limit IsNotZero stage line → FitsLine names limit line → rest ≡ line_text names line ++ back
+      → IsCause names limit stage rest o → ⊥
   no_offence stage line rest back o follows fits is cause = by o cause
     where
       begins : BeginsWithLine rest (line_of (words_of names (spelled line))) back
@@ -96,17 +99,20 @@ module _ (names : Naming) (apart : TellsApart names) (limit : ℕ) (low : limit 
       words : words_in (line_of (words_of names (spelled line))) ≡ words_of names (spelled line)
       words = line_has_words names apart limit low line fits
 
+      shaped : Follows names limit IsNotZeroWord stage (spelled line)
+      shaped = record { kind = subst (MayStand stage) (sym (kind_of-spelled line)) follows.kind; placed = placed_word stage line fits follows.placed }
+
       by : (o : Offence) → IsCause names limit stage rest o → ⊥
-      by NoLine h = h (line_of (words_of names (spelled line))) back begins (subst (IsLineAt stage) (sym words) (line_at stage line follows.kind))
+      by NoLine h = h (line_of (words_of names (spelled line))) back begins (subst (IsLineAt stage) (sym words) (line_at names stage (spelled line) shaped.kind))
       by NoShape (other, after, b, there, none) =
           let same = one_line rest (line_of (words_of names (spelled line))) back other after begins b in
-          none (spelled line, sym words ∙ ap words_in same.0, record { kind = subst (MayStand stage) (sym (kind_of-spelled line)) follows.kind; placed = placed_word stage line fits follows.placed })
+          none (spelled line, sym words ∙ ap words_in same.0, shaped)
       by NoNumber (other, after, b, there, none) =
           let same = one_line rest (line_of (words_of names (spelled line))) back other after begins b in
           none (line, sym words ∙ ap words_in same.0, follows, fits)
 
   -- ---- lines that lead to the end break no rule
-  leads_split : (stage : Stage) (xs ys : List (Line Fraction)) (b : Stage) → Leads names limit stage (xs ++ ys) b → (c : Stage) × Leads names limit stage xs c × Leads names limit c ys b
+  pub leads_split : (stage : Stage) (xs ys : List (Line Fraction)) (b : Stage) → Leads names limit stage (xs ++ ys) b → (c : Stage) × Leads names limit stage xs c × Leads names limit c ys b
   leads_split stage [] ys b h = (stage, refl, h)
   leads_split stage (x ∷ xs) ys b h = let (c, k, l) = leads_split (advanced stage x) xs ys b h.2 in (c, (h.0, h.1, k), l)
 

@@ -24,4 +24,8 @@ pub fn spelling_laws()
     ensures read_once { (m : RobustModel) (limit : ℕ) (c d : Certificate) (text : List ℕ) → IsModel m → IsNamed m
         → IsNamedInWords m → limit ≤ 2 ^ 62 - 1 → IsTextOf m c text → IsTextOf m d text
         → FitsLines limit m c → FitsLines limit m d → c ≡ d }
+    // A text breaks one rule, at one line.
+    ensures one_cause { (m : RobustModel) (limit : ℕ) (text : List ℕ) → IsModel m → IsNamed m → IsNamedInWords m
+        → limit ≤ 2 ^ 62 - 1 → (rule line other number : ℕ) → HasCause (naming_of m) limit start text 1 (Rule rule line)
+        → HasCause (naming_of m) limit start text 1 (Rule other number) → (rule ≡ other) × (line ≡ number) }
 {}
