@@ -1,9 +1,12 @@
 pub mod AnswerLemmas
 pub mod CallLemmas
+pub mod CertificateNameLemmas
 pub mod CheckingLemmas
+pub mod CourseLemmas
 pub mod FilesLemmas
 pub mod FrameLemmas
 pub mod PutLemmas
 pub mod SolvingLemmas
 pub mod StageLemmas
+pub mod TrueAnswerLemmas
 pub mod WorkLemmas

@@ -13,6 +13,7 @@ use Rattle.rob_parse.specs.Reading.{Breaks}
 use Rattle.rob_parse.proofs.OneModel.{not_both, one_model}
 use Rattle.rob_parse.proofs.OneReading.{one_rule}
 use Rattle.rob_model.specs.declared.place.Spot.{Spot}
+use Rattle.rob_top.proofs.CourseLemmas.{Course, accepted_course, cert_course, empty_course, rejected_course, rows_course, solved_course, wide_course}
 use Rattle.rob_top.specs.Calls.{Call, Came, IsFirstAbsent, IsFound, Request, limit_of, model_of, requests}
 use Rattle.rob_top.specs.Headline.{HasModel, IsNoModel, IsSolved, IsWideSpot, Means, checking, elaborating, solving}
 use Rattle.rob_top.specs.Work.{ended_of}
@@ -23,12 +24,12 @@ use Rattle.rob_words.specs.Values.{Word}
 use Rattle.rob_words.proofs.Spellings.{one_line}
 
 -- how far the call came
-data Stage (call : Call) (ended : Ended) : Type 0 where
+pub data Stage (call : Call) (ended : Ended) : Type 0 where
   wordless : (IsCommandLine call.words → ⊥) → Stage call ended
   absent : (name : Word) → IsFirstAbsent call missing name → ended ≡ Missing → Stage call ended
   over : (name : Word) → IsFirstAbsent call too_long name → ended ≡ TooLong → Stage call ended
   broken : (rule number : ℕ) (text : List ℕ) → IsNoModel call rule number text → ended ≡ Model rule number → Stage call ended
-  read : (line : Line) (m : RobustModel) → HasModel call line m → Stage call ended
+  read : (line : Line) (m : RobustModel) → HasModel call line m → Course call line m ended → Stage call ended
   failed : ended ≡ ReadFault → Stage call ended
   wanting : ended ≡ Memory → Stage call ended
 
@@ -37,26 +38,26 @@ wide_model call line m spot (elaborating has first) = has
 wide_model call line m spot (solving has solves wide) = has.model
 wide_model call line m spot (checking c place has is verdict) = has.file.forms.model
 
-stage_of : (call : Call) (ended : Ended) (text : List ℕ) → Means call ended text → Stage call ended
-stage_of call Optimal text h = read h.line h.m h.forms.model
-stage_of call Infeasible text h = read h.line h.m h.forms.model
-stage_of call Unbounded text h = read h.line h.m h.forms.model
-stage_of call Printed text h = read h.line h.m h.forms.model
-stage_of call Accepted text h = read h.line h.m h.read.file.forms.model
-stage_of call (Rejected place) text h = read h.line h.m h.read.file.forms.model
+pub stage_of : (call : Call) (ended : Ended) (text : List ℕ) → Means call ended text → Stage call ended
+stage_of call Optimal text h = read h.line h.m h.forms.model (solved_course call optimal text h)
+stage_of call Infeasible text h = read h.line h.m h.forms.model (solved_course call infeasible text h)
+stage_of call Unbounded text h = read h.line h.m h.forms.model (solved_course call unbounded text h)
+stage_of call Printed text h = read h.line h.m h.forms.model (rows_course call text h)
+stage_of call Accepted text h = read h.line h.m h.read.file.forms.model (accepted_course call text h)
+stage_of call (Rejected place) text h = read h.line h.m h.read.file.forms.model (rejected_course call place text h)
 stage_of call Words text h = wordless h.0
 stage_of call Missing text h = absent h.0 h.1 refl
 stage_of call TooLong text h = over h.0 h.1 refl
 stage_of call (Model rule number) text h = broken rule number text h refl
-stage_of call (EmptySet weights) text h = read h.line h.m h.forms.model
-stage_of call (TooWide spot) text h = read h.line h.m (wide_model call h.line h.m spot h.wide)
-stage_of call (Cert rule number) text h = read h.line h.m h.file.forms.model
+stage_of call (EmptySet weights) text h = read h.line h.m h.forms.model (empty_course call weights text h)
+stage_of call (TooWide spot) text h = read h.line h.m (wide_model call h.line h.m spot h.wide) (wide_course call h.line h.m spot h.wide)
+stage_of call (Cert rule number) text h = read h.line h.m h.file.forms.model (cert_course call rule number text h)
 stage_of call ReadFault text h = failed refl
 stage_of call WriteFault text h = absurd h
 stage_of call Memory text h = wanting refl
 
 -- ---- what is found of a told file is one thing
-found_once : (call : Call) (files : List File) (request : Request) (a b : Found) → call.files ≡ Some files → IsFound call request a → IsFound call request b → a ≡ b
+pub found_once : (call : Call) (files : List File) (request : Request) (a b : Found) → call.files ≡ Some files → IsFound call request a → IsFound call request b → a ≡ b
 found_once call files request a b told h k = sym (here a h) ∙ here b k
   where
     here : (found : Found) → IsFound call request found → found_at request.name request.most files ≡ found
@@ -75,10 +76,10 @@ came_at call (r ∷ before) behind request h = came_at call before behind reques
 
 module _ (call : Call) (files : List File) (told : call.files ≡ Some files) (line : Line) (spelled : IsSpelled call.words line) where
   -- a model that was read is of this line
-  read_here : (l : Line) (m : RobustModel) → HasModel call l m → HasModel call line m
+  pub read_here : (l : Line) (m : RobustModel) → HasModel call l m → HasModel call line m
   read_here l m h = subst (λ (x : Line). HasModel call x m) (one_line call.words l line h.spelled spelled) h
 
-  broken_here : (rule number : ℕ) (text : List ℕ) (h : IsNoModel call rule number text)
+  pub broken_here : (rule number : ℕ) (text : List ℕ) (h : IsNoModel call rule number text)
       → (bytes : List ℕ) × IsFound call (model_of line.action) (whole bytes) × Breaks (limit_of line) bytes rule number
   broken_here rule number text h =
       let same = one_line call.words h.line line h.spelled spelled in (
@@ -103,7 +104,7 @@ module _ (call : Call) (files : List File) (told : call.files ≡ Some files) (l
           inr (subst (λ (q : Request). (bytes : List ℕ) × IsFound call q (whole bytes)) same came.0)
 
   -- where all come, none is the first that doesn't
-  none_absent : (found : Found) (name : Word) → Each (Came call) (requests line.action) → ((bytes : List ℕ) → found ≡ whole bytes → ⊥) → IsFirstAbsent call found name → ⊥
+  pub none_absent : (found : Found) (name : Word) → Each (Came call) (requests line.action) → ((bytes : List ℕ) → found ≡ whole bytes → ⊥) → IsFirstAbsent call found name → ⊥
   none_absent found name all other h =
       let same = one_line call.words h.line line h.spelled spelled in
       let each = subst (λ (list : List Request). Each (Came call) list) (ap (λ (x : Line). requests x.action) (sym same) ∙ h.order) all in
@@ -129,7 +130,7 @@ module _ (call : Call) (files : List File) (told : call.files ≡ Some files) (l
       by (absent name h e) = inl e
       by (over name h e) = absurd (over_absurd (absent_here too_long name h))
       by (broken rule number t h e) = let b = broken_here rule number t h in absurd (not_whole b.0 b.1)
-      by (read l m h) = let r = read_here l m h in absurd (not_whole r.bytes r.found)
+      by (read l m h course) = let r = read_here l m h in absurd (not_whole r.bytes r.found)
       by (failed e) = inr (inl e)
       by (wanting e) = inr (inr e)
 
@@ -152,7 +153,7 @@ module _ (call : Call) (files : List File) (told : call.files ≡ Some files) (l
       by (absent name h e) = absurd (absent_absurd (absent_here missing name h))
       by (over name h e) = inl e
       by (broken rule number t h e) = let b = broken_here rule number t h in absurd (not_whole b.0 b.1)
-      by (read l m h) = let r = read_here l m h in absurd (not_whole r.bytes r.found)
+      by (read l m h course) = let r = read_here l m h in absurd (not_whole r.bytes r.found)
       by (failed e) = inr (inl e)
       by (wanting e) = inr (inr e)
 
@@ -176,7 +177,7 @@ module _ (call : Call) (files : List File) (told : call.files ≡ Some files) (l
       by (broken r n t h e) =
           let b = broken_here r n t h in
           inl (is_rule r n (subst (λ (list : List ℕ). Breaks (limit_of line) list r n) (same_bytes b.0 b.1) b.2) e)
-      by (read l m h) =
+      by (read l m h course) =
           let r = read_here l m h in
           absurd
           (not_both (limit_of line) r.bytes m rule number r.reads
@@ -185,7 +186,7 @@ module _ (call : Call) (files : List File) (told : call.files ≡ Some files) (l
       by (wanting e) = inr (inr e)
 
 -- ---- a model has one status
-one_model_read : (call : Call) (files : List File) (k l : Line) (a b : RobustModel) → call.files ≡ Some files → HasModel call k a → HasModel call l b → a ≡ b
+pub one_model_read : (call : Call) (files : List File) (k l : Line) (a b : RobustModel) → call.files ≡ Some files → HasModel call k a → HasModel call l b → a ≡ b
 one_model_read call files k l a b told h other =
     let here : HasModel call k b = read_here call files told k h.spelled l b other in
     let bytes : whole h.bytes ≡ whole here.bytes = found_once call files (model_of k.action) (whole h.bytes) (whole here.bytes) told h.found here.found in
@@ -197,7 +198,7 @@ solved_by call optimal text h = h
 solved_by call infeasible text h = h
 solved_by call unbounded text h = h
 
-same_status : (m : RobustModel) (a b : Status) (v w : Fraction) → HasStatus m a v → HasStatus m b w → a ≡ b
+pub same_status : (m : RobustModel) (a b : Status) (v w : Fraction) → HasStatus m a v → HasStatus m b w → a ≡ b
 same_status m optimal optimal v w h k = refl
 same_status m optimal infeasible v w h k = absurd (optimal_not_infeasible m v h k)
 same_status m optimal unbounded v w h k = absurd (optimal_not_unbounded m v h k)

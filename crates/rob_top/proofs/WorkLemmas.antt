@@ -1,10 +1,12 @@
 -- The answers for a model's text: of a refusal, of printed rows, and of what the work on a model answers.
 use Rattle.std.proofs.Common.{◌≡◌, ℕ, ◌≤◌, ◌^◌, ◌-◌, List, ◌++◌, Result, Ok, Err, IfOk, refl, subst, sym, ap, ◌∙◌, arith}
 use Rattle.rob_elab.specs.Forms.{judged_forms}
+use Rattle.rob_meaning.specs.Places.{Each}
 use Rattle.rob_meaning.specs.RobustModel.{RobustModel}
 use Rattle.rob_number.specs.Counts.{Rose}
 use Rattle.rob_number.specs.Lowest as Lowest
 use Rattle.rob_number.specs.declared.memory.Memory.{Memory as Want}
+use Rattle.rob_outside.specs.Files.{whole}
 use Rattle.rob_parse.specs.Modelled.{ReadsModel}
 use Rattle.rob_parse.specs.Reading.{Breaks}
 use Rattle.rob_report.specs.Rows.{rows_of}
@@ -16,7 +18,7 @@ use Rattle.rob_sets.specs.declared.error.ElabErr.TheVariants as refused
 use Rattle.rob_sets.proofs.JudgedLemmas.{first_left, first_right}
 use Rattle.rob_sets.proofs.SubexpressionLemmas.{each_both}
 use Rattle.rob_top.specs.Answers.{model_text}
-use Rattle.rob_top.specs.Calls.{Call, Count, count, WasRaised}
+use Rattle.rob_top.specs.Calls.{Call, Came, Count, IsFound, count, model_of, requests, WasRaised}
 use Rattle.rob_top.specs.Headline.{Means, elaborating}
 use Rattle.rob_top.specs.Replies.{HasTexts, IsTask, Replies}
 use Rattle.rob_top.specs.Work.{AnswersForms, AnswersJob, AnswersModel, IsCallAt, IsRefusedOf, RepliesRefused}
@@ -24,7 +26,7 @@ use Rattle.rob_top.specs.declared.ended.Ended.{Ended}
 use Rattle.rob_top.specs.declared.ended.Ended.TheVariants.{Printed, Model}
 use Rattle.rob_top.specs.declared.files.Job.{Job}
 use Rattle.rob_top.specs.declared.files.Task.{Task}
-use Rattle.rob_top.specs.declared.files.Task.TheVariants.{Rows}
+use Rattle.rob_top.specs.declared.files.Task.TheVariants.{Rows, Solve, Prove, Check}
 use Rattle.rob_top.specs.declared.reply.Reply.{Reply}
 use Rattle.rob_words.specs.Commands.{Action, Line, rows, solve, prove, check}
 use Rattle.rob_words.specs.Values.{Word, bits_of}
@@ -67,6 +69,16 @@ job_answers width same before now job (Ok reply) e h = λ call line texts is cou
 
 -- ---- a text that breaks a rule, and one that is read
 
+-- the files of the command came
+all_came : (call : Call) (action : Action) (task : Task) (bytes : List ℕ) → IsFound call (model_of action) (whole bytes) → IsTask call action task → Each (Came call) (requests action)
+all_came call (rows model) task bytes found asked = ((bytes, found), tt)
+all_came call (solve model way) task bytes found asked = ((bytes, found), tt)
+all_came call (prove model way) task bytes found asked = ((bytes, found), tt)
+all_came call (check model certificate) (Check text) bytes found asked = ((bytes, found), ((text.items, asked), tt))
+all_came call (check model certificate) Rows bytes found asked = absurd asked
+all_came call (check model certificate) Solve bytes found asked = absurd asked
+all_came call (check model certificate) Prove bytes found asked = absurd asked
+
 pub rule_answers : (limit : ℕ) (wides : Count) (job : Job) (text : List ℕ) (rule number : ℕ) (r : Result Reply Want) → text ≡ job.model.items
     → Breaks limit text rule number → IfOk r (Replies (Model rule number) (model_text rule number)) → IfOk r (AnswersJob limit wides job)
 rule_answers limit wides job text rule number (Err want) same broken is = tt
@@ -75,6 +87,7 @@ rule_answers limit wides job text rule number (Ok reply) same broken is = λ cal
     (record {
       line = line;
       spelled = texts.spelled;
+      came = all_came call line.action job.task job.model.items texts.model texts.task;
       bytes = job.model.items;
       found = texts.model;
       breaks = subst (λ (l : ℕ). Breaks l job.model.items rule number) (sym at.limit_is) (subst (λ (bytes : List ℕ). Breaks limit bytes rule number) same broken);
@@ -88,6 +101,7 @@ model_answers limit before middle now job text m (Ok reply) same read e h = λ c
     h call line (call_within limit (count middle now) (count before now) call line (λ rose. subst (λ (n : ℕ). Rose n now) (sym e) rose) at) texts.task
     (record {
       spelled = texts.spelled;
+      came = all_came call line.action job.task job.model.items texts.model texts.task;
       bytes = job.model.items;
       found = texts.model;
       reads = subst (λ (l : ℕ). ReadsModel l job.model.items m) (sym at.limit_is) (subst (λ (bytes : List ℕ). ReadsModel limit bytes m) same read);

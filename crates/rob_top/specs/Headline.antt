@@ -11,6 +11,7 @@ use Rattle.std.specs.Prelude.{◌≡◌, ℕ, ℤ, List, ◌++◌, map}
 use Rattle.rob_algebra.specs.Fraction.{Fraction, of_int}
 use Rattle.rob_meaning.specs.Certificates.{Certificate, Status, optimal, infeasible, unbounded}
 use Rattle.rob_meaning.specs.Guarantee.{HasBound, HasWorstCase}
+use Rattle.rob_meaning.specs.Places.{Each}
 use Rattle.rob_meaning.specs.Proves.{Proves, HasStatus}
 use Rattle.rob_meaning.specs.RobustModel.{RobustModel}
 use Rattle.rob_meaning.specs.UncertaintySet.{Admits}
@@ -37,7 +38,7 @@ use Rattle.rob_report.specs.Report.{report_of}
 use Rattle.rob_report.specs.Rows.{rows_of}
 use Rattle.rob_report.specs.Spots.{too_wide_line, rejected_line, empty_set_lines}
 use Rattle.rob_top.specs.Answers.{accepted_text, missing_text, too_long_text, model_text, certificate_text, words_text, read_text, memory_text}
-use Rattle.rob_top.specs.Calls.{Call, Output, WasRaised, IsFound, IsFirstAbsent, IsSolving, model_of, certificate_file, limit_of}
+use Rattle.rob_top.specs.Calls.{Call, Output, WasRaised, IsFound, Came, IsFirstAbsent, IsSolving, model_of, certificate_file, requests, limit_of}
 use Rattle.rob_top.specs.declared.ended.Ended.{Ended}
 use Rattle.rob_top.specs.declared.ended.Ended.TheVariants.{Optimal, Infeasible, Unbounded, Printed, Accepted, Rejected, Words, Missing, TooLong, Model, EmptySet, TooWide, Cert, ReadFault, WriteFault, Memory}
 use Rattle.rob_words.specs.Commands.{Action, Line, rows, solve, prove, check, IsSpelled, IsCommandLine}
@@ -46,9 +47,11 @@ use Rattle.rob_words.specs.Values.{Word}
 module _ (call : Call) where
   -- ---- what was read
 
-  -- the words are this command line, and the file of its model came and reads, at the line's width, as this model
+  -- the words are this command line, the files that it names came, and that of its model reads, at the line's width, as this
+  -- model
   pub record HasModel (line : Line) (m : RobustModel) : Type 0 where
     pub spelled : IsSpelled call.words line
+    pub came : Each (Came call) (requests line.action)
     pub bytes : List ℕ
     pub found : IsFound call (model_of line.action) (whole bytes)
     pub reads : ReadsModel (limit_of line) bytes m
@@ -118,6 +121,7 @@ module _ (call : Call) where
     pub line : Line
     pub m : RobustModel
     pub forms : HasForms line m
+    pub solves : IsSolving line.action
     pub none_admitted : (u : List Fraction) → Admits m u → ⊥
     pub shown : IsShownEmpty m (map of_int weights)
     pub printed : text ≡ empty_set_lines m weights
@@ -165,10 +169,11 @@ module _ (call : Call) where
     pub raised : WasRaised call.wides
     pub printed : text ≡ too_wide_line m spot
 
-  -- the model's text breaks the rule at the line, first
+  -- the files came, and the model's text breaks the rule at the line, first
   pub record IsNoModel (rule number : ℕ) (text : List ℕ) : Type 0 where
     pub line : Line
     pub spelled : IsSpelled call.words line
+    pub came : Each (Came call) (requests line.action)
     pub bytes : List ℕ
     pub found : IsFound call (model_of line.action) (whole bytes)
     pub breaks : Breaks (limit_of line) bytes rule number
@@ -186,7 +191,7 @@ module _ (call : Call) where
   -- ---- all answers
 
   -- what each answer means, and its text. An answer comes only where this holds; where it must come, because no other may, is
-  -- said by laws of src/laws.rt and src/one_answer.rt
+  -- said by laws of src/laws.rt, src/one_answer.rt and src/true_answer.rt
   abbrev pub Means : Ended → List ℕ → Type 0
   Means Optimal text = IsSolved optimal text
   Means Infeasible text = IsSolved infeasible text

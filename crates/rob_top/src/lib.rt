@@ -10,6 +10,7 @@ mod put;
 mod reply;
 mod solving;
 mod top;
+pub mod true_answer;
 mod work;
 
 pub use ended::Ended;

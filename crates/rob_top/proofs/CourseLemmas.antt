@@ -1,0 +1,73 @@
+-- What an answer comes from, where a model was read.
+use Rattle.std.proofs.Common.{◌≡◌, ℕ, ℤ, List, ◌++◌, refl, sym, ◌∙◌, ap, subst}
+use Rattle.rob_algebra.specs.Fraction.{Fraction}
+use Rattle.rob_cert.specs.Causes.{HasCause}
+use Rattle.rob_cert.specs.Reading.{start}
+use Rattle.rob_cert.specs.Spelling.{naming_of}
+use Rattle.rob_cert.specs.declared.error.CertErr.TheVariants.{Rule}
+use Rattle.rob_check.specs.Conditions.{verdict_of}
+use Rattle.rob_dualize.specs.Solving.{IsWideSpot as IsWideOnPath}
+use Rattle.rob_elab.specs.Forms.{judged_forms}
+use Rattle.rob_meaning.specs.Certificates.{Certificate, Status}
+use Rattle.rob_meaning.specs.Proves.{HasStatus}
+use Rattle.rob_meaning.specs.RobustModel.{RobustModel}
+use Rattle.rob_meaning.specs.UncertaintySet.{IsEmptySet}
+use Rattle.rob_model.specs.declared.place.Place.{Place}
+use Rattle.rob_model.specs.declared.place.Spot.{Spot}
+use Rattle.rob_sets.specs.FirstWide.{IsFirstWide}
+use Rattle.rob_sets.specs.SetForm.{judged_set}
+use Rattle.rob_top.specs.Calls.{Call, IsSolving, limit_of}
+use Rattle.rob_top.specs.Headline.{HasCertificate, HasCertificateFile, HasForms, IsAccepted, IsEmptySet as IsShownEmptySet, IsNoCertificate, IsPrinted, IsRejected, IsRows, IsSolved, IsWideSpot, checking, elaborating, solving}
+use Rattle.rob_top.specs.Work.{ended_of, verdict_ended}
+use Rattle.rob_top.specs.declared.ended.Ended.{Ended}
+use Rattle.rob_top.specs.declared.ended.Ended.TheVariants.{Printed, Accepted, Rejected, EmptySet, TooWide, Cert}
+use Rattle.rob_words.specs.Commands.{Action, Line, rows, solve, prove, check}
+use Rattle.rob_words.specs.Values.{Word}
+
+-- what stands behind the answer: a status of the model, or an empty set; printed rows; a verdict, or a certificate's text that
+-- breaks a rule; or a wide number of the set rows and forms, or of a row on the path
+pub data Course (call : Call) (line : Line) (m : RobustModel) (ended : Ended) : Type 0 where
+  finds : (status : Status) (v : Fraction) → HasForms call line m → IsSolving line.action → HasStatus m status v → ended ≡ ended_of status → Course call line m ended
+  shows_empty : (weights : List ℤ) → HasForms call line m → IsSolving line.action → IsEmptySet m → ended ≡ EmptySet weights → Course call line m ended
+  prints : (name : Word) → HasForms call line m → line.action ≡ rows name → ended ≡ Printed → Course call line m ended
+  judges : (c : Certificate) → HasCertificate call line m c → ended ≡ verdict_ended (verdict_of (limit_of line) m c) → Course call line m ended
+  refuses : (bytes : List ℕ) (rule number : ℕ) → HasCertificateFile call line m bytes → HasCause (naming_of m) (limit_of line) start bytes 1 (Rule rule number) → ended ≡ Cert rule number
+      → Course call line m ended
+  wide_number : (spot : Spot) → IsFirstWide (limit_of line) m (judged_set m ++ judged_forms m) spot → ended ≡ TooWide spot → Course call line m ended
+  wide_row : (spot : Spot) → HasForms call line m → IsSolving line.action → IsWideOnPath (limit_of line) m spot → ended ≡ TooWide spot → Course call line m ended
+
+module _ (call : Call) where
+  -- a certificate is printed by `solve` and `prove` alone
+  printing_solves : (action : Action) (m : RobustModel) (c : Certificate) (text : List ℕ) → IsPrinted call action m c text → IsSolving action
+  printing_solves (solve name way) m c text h = tt
+  printing_solves (prove name way) m c text h = tt
+  printing_solves (rows name) m c text h = h
+  printing_solves (check name certificate) m c text h = h
+
+  pub solved_course : (status : Status) (text : List ℕ) (h : IsSolved call status text) → Course call h.line h.m (ended_of status)
+  solved_course status text h = finds status h.c.value h.forms (printing_solves h.line.action h.m h.c text h.printed) h.holds refl
+
+  pub empty_course : (weights : List ℤ) (text : List ℕ) (h : IsShownEmptySet call weights text) → Course call h.line h.m (EmptySet weights)
+  empty_course weights text h = shows_empty weights h.forms h.solves h.none_admitted refl
+
+  pub rows_course : (text : List ℕ) (h : IsRows call text) → Course call h.line h.m Printed
+  rows_course text h = prints h.model_name h.forms h.is_rows refl
+
+  pub accepted_course : (text : List ℕ) (h : IsAccepted call text) → Course call h.line h.m Accepted
+  accepted_course text h = judges h.c h.read (ap verdict_ended (sym h.verdict))
+
+  pub rejected_course : (place : Place) (text : List ℕ) (h : IsRejected call place text) → Course call h.line h.m (Rejected place)
+  rejected_course place text h = judges h.c h.read (ap verdict_ended (sym h.verdict))
+
+  pub cert_course : (rule number : ℕ) (text : List ℕ) (h : IsNoCertificate call rule number text) → Course call h.line h.m (Cert rule number)
+  cert_course rule number text h = refuses h.bytes rule number h.file h.breaks refl
+
+  pub wide_course : (line : Line) (m : RobustModel) (spot : Spot) → IsWideSpot call line m spot → Course call line m (TooWide spot)
+  wide_course line m spot (elaborating has first) = wide_number spot first refl
+  wide_course line m spot (solving has solves wide) = wide_row spot has solves wide refl
+  wide_course line m spot (checking c place has is verdict) = judges c has (ap (λ (s : Spot). TooWide s) is ∙ ap verdict_ended (sym verdict))
+
+-- the same of equal lines and models
+pub course_at : (call : Call) (l line : Line) (k m : RobustModel) (ended : Ended) → l ≡ line → k ≡ m → Course call l k ended → Course call line m ended
+course_at call l line k m ended same alike h =
+    subst (λ (x : Line). Course call x m ended) same (subst (λ (x : RobustModel). Course call l x ended) alike h)

@@ -1,0 +1,308 @@
+-- Which answer has to come, where the files are told: the first file that doesn't come decides; then the model's text; then the
+-- first wide number; and then the command.
+use Rattle.std.proofs.Common.{◌≡◌, ℕ, ◌-◌, ◌^◌, ◌≤◌, List, [], ◌∷◌, ◌++◌, Some, sym, ◌∙◌, ap, subst, inl, inr, ◌⊎◌}
+use Rattle.rob_algebra.specs.Fraction.{Fraction}
+use Rattle.rob_cert.specs.Apart.{IsNamedInWords}
+use Rattle.rob_cert.specs.Causes.{HasCause}
+use Rattle.rob_cert.specs.Reading.{start}
+use Rattle.rob_cert.specs.Spelling.{naming_of}
+use Rattle.rob_cert.specs.Whole.{IsTextOf}
+use Rattle.rob_cert.specs.declared.error.CertErr.TheVariants.{Rule}
+use Rattle.rob_cert.proofs.OneCertificate.{read_once}
+use Rattle.rob_cert.proofs.SpellingLaws.{breaks_none}
+use Rattle.rob_check.specs.Conditions.{verdict_of}
+use Rattle.rob_dualize.specs.Solving.{IsWideSpot as IsWideOnPath}
+use Rattle.rob_elab.specs.Forms.{judged_forms}
+use Rattle.rob_meaning.specs.Certificates.{Certificate, Status, optimal, infeasible, unbounded}
+use Rattle.rob_meaning.specs.Named.{IsNamed}
+use Rattle.rob_meaning.specs.Places.{Each}
+use Rattle.rob_meaning.specs.Proves.{HasStatus}
+use Rattle.rob_meaning.specs.RobustModel.{RobustModel}
+use Rattle.rob_meaning.specs.UncertaintySet.{Admits}
+use Rattle.rob_meaning.specs.WellFormed.{IsModel}
+use Rattle.rob_meaning.proofs.EachLemmas.{each_right}
+use Rattle.rob_model.specs.declared.place.Spot.{Spot}
+use Rattle.rob_number.specs.Lowest.{limit_high, limit_low}
+use Rattle.rob_outside.specs.Files.{File, Found, whole, missing, too_long}
+use Rattle.rob_parse.proofs.ModelLemmas.{well_formed}
+use Rattle.rob_parse.proofs.OneModel.{not_both}
+use Rattle.rob_parse.proofs.WellNamed.{well_named, well_spelled}
+use Rattle.rob_parse.specs.Reading.{Breaks}
+use Rattle.rob_sets.specs.FirstWide.{IsFirstWide, IsWideThere, Judged, NothingWide, spot_of}
+use Rattle.rob_sets.specs.SetForm.{judged_set}
+use Rattle.rob_cert.proofs.OneBreach.{one_cause}
+use Rattle.rob_top.proofs.CertificateNameLemmas.{named_in_words}
+use Rattle.rob_top.proofs.CourseLemmas.{Course, course_at, finds, judges, prints, refuses, shows_empty, wide_number, wide_row}
+use Rattle.rob_top.proofs.StageLemmas.{Stage, absent, broken, broken_here, failed, found_once, none_absent, one_model_read, over, read, same_status, stage_of, wanting, wordless}
+use Rattle.rob_top.proofs.WorkLemmas.{limit_is}
+use Rattle.rob_top.specs.Calls.{Call, Came, IsFirstAbsent, IsFound, IsSolving, Request, certificate_file, limit_of, model_of, requests}
+use Rattle.rob_top.specs.Headline.{HasCertificate, HasCertificateFile, HasForms, HasModel, Means}
+use Rattle.rob_top.specs.Work.{IsSolveAnswer, ended_of, verdict_ended}
+use Rattle.rob_top.specs.declared.ended.Ended.{Ended}
+use Rattle.rob_top.specs.declared.ended.Ended.TheVariants.{Printed, Missing, TooLong, EmptySet, TooWide, Cert, ReadFault, Memory}
+use Rattle.rob_words.specs.Commands.{Action, Line, rows, check}
+use Rattle.rob_words.specs.Values.{Word, bits_of}
+use Rattle.rob_words.proofs.Spellings.{one_line}
+
+-- ---- the first of a list
+-- a list has one first item with a property, where the items before it have one that excludes it
+split_once : {A : Type 0} (P Q : A → Type 0) → ((x : A) → P x → Q x → ⊥) → (xs ys : List A) (x y : A) (us vs : List A) → xs ++ x ∷ us ≡ ys ++ y ∷ vs → Each P xs → Each P ys → Q x → Q y → x ≡ y
+split_once P Q apart [] [] x y us vs e hx hy p q = let same : x ≡ y = cc in same
+split_once P Q apart [] (z ∷ ys) x y us vs e hx hy p q = let same : x ≡ z = cc in absurd (apart z hy.0 (subst Q same p))
+split_once P Q apart (z ∷ xs) [] x y us vs e hx hy p q = let same : y ≡ z = cc in absurd (apart z hx.0 (subst Q same q))
+split_once P Q apart (z ∷ xs) (w ∷ ys) x y us vs e hx hy p q =
+    let rest : xs ++ x ∷ us ≡ ys ++ y ∷ vs = cc in
+    split_once P Q apart xs ys x y us vs rest hx.1 hy.1 p q
+
+module _ (limit : ℕ) (m : RobustModel) (all : List Judged) where
+  -- one spot is the first at which a number is wide
+  first_once : (a b : Spot) → IsFirstWide limit m all a → IsFirstWide limit m all b → a ≡ b
+  first_once a b h k =
+      let same : h.here ≡ k.here =
+      split_once (λ j. IsWideThere limit m j → ⊥) (IsWideThere limit m) (λ j narrow is. narrow is) h.before k.before h.here k.here h.after k.after (sym h.order ∙ k.order) h.none_before k.none_before h.wide k.wide
+      in
+      sym h.named ∙ ap (λ (j : Judged). spot_of j) same ∙ k.named
+
+  -- and there is none where nothing is wide
+  none_first : (a : Spot) → NothingWide limit m all → IsFirstWide limit m all a → ⊥
+  none_first a none h =
+      (each_right (λ j. IsWideThere limit m j → ⊥) h.before (h.here ∷ h.after) (subst (λ (js : List Judged). NothingWide limit m js) h.order none)).0 h.wide
+
+-- ---- commands
+not_rows : (action : Action) (name model certificate : Word) → action ≡ rows name → action ≡ check model certificate → ⊥
+not_rows action name model certificate e d = let same : rows name ≡ check model certificate = sym e ∙ d in cc
+
+solves_no_rows : (action : Action) (name : Word) → action ≡ rows name → IsSolving action → ⊥
+solves_no_rows action name e h = subst (λ (a : Action). IsSolving a) e h
+
+solves_no_check : (action : Action) (model certificate : Word) → action ≡ check model certificate → IsSolving action → ⊥
+solves_no_check action model certificate e h = subst (λ (a : Action). IsSolving a) e h
+
+-- ---- answers
+first_of_two : {A B C : Type 0} → (A → B) → A ⊎ C → B ⊎ C
+first_of_two f (inl a) = inl (f a)
+first_of_two f (inr c) = inr c
+
+module _ (call : Call) (files : List File) (told : call.files ≡ Some files) where
+  -- ---- one file is the first that doesn't come
+  abbrev Lacks : Request → Type 0
+  Lacks r = (found : Found) × ((bytes : List ℕ) → found ≡ whole bytes → ⊥) × IsFound call r found
+
+  one_absent : (a b : Found) (name other : Word) → ((bytes : List ℕ) → a ≡ whole bytes → ⊥) → ((bytes : List ℕ) → b ≡ whole bytes → ⊥) → IsFirstAbsent call a name → IsFirstAbsent call b other → a ≡ b
+  one_absent a b name other no_a no_b h k = found_once call files k.request a b told (subst (λ (r : Request). IsFound call r a) request h.absent) k.absent
+    where
+      excludes : (r : Request) → Came call r → Lacks r → ⊥
+      excludes r came lacks = lacks.1 came.0 (found_once call files r lacks.0 (whole came.0) told lacks.2 came.1)
+
+      order : h.before ++ h.request ∷ h.behind ≡ k.before ++ k.request ∷ k.behind
+      order = sym h.order ∙ ap (λ (x : Line). requests x.action) (one_line call.words h.line k.line h.spelled k.spelled) ∙ k.order
+
+      request : h.request ≡ k.request
+      request = split_once (Came call) Lacks excludes h.before k.before h.request k.request h.behind k.behind order h.came k.came (a, no_a, h.absent) (b, no_b, k.absent)
+
+  no_missing : (bytes : List ℕ) → missing ≡ whole bytes → ⊥
+  no_missing bytes e = cc
+
+  no_too_long : (bytes : List ℕ) → too_long ≡ whole bytes → ⊥
+  no_too_long bytes e = cc
+
+  pub missing_decides : (name : Word) → IsFirstAbsent call missing name → (ended : Ended) (text : List ℕ) → Means call ended text
+      → (ended ≡ Missing) ⊎ ((ended ≡ ReadFault) ⊎ (ended ≡ Memory))
+  missing_decides name h ended text means = by (stage_of call ended text means)
+    where
+      by : Stage call ended → (ended ≡ Missing) ⊎ ((ended ≡ ReadFault) ⊎ (ended ≡ Memory))
+      by (wordless none) = absurd (none (h.line, h.spelled))
+      by (absent other k e) = inl e
+      by (over other k e) = absurd (let same : missing ≡ too_long = one_absent missing too_long name other no_missing no_too_long h k in cc)
+      by (broken rule number t k e) = absurd (none_absent call files told k.line k.spelled missing name k.came no_missing h)
+      by (read l m k course) = absurd (none_absent call files told l k.spelled missing name k.came no_missing h)
+      by (failed e) = inr (inl e)
+      by (wanting e) = inr (inr e)
+
+  pub too_long_decides : (name : Word) → IsFirstAbsent call too_long name → (ended : Ended) (text : List ℕ) → Means call ended text
+      → (ended ≡ TooLong) ⊎ ((ended ≡ ReadFault) ⊎ (ended ≡ Memory))
+  too_long_decides name h ended text means = by (stage_of call ended text means)
+    where
+      by : Stage call ended → (ended ≡ TooLong) ⊎ ((ended ≡ ReadFault) ⊎ (ended ≡ Memory))
+      by (wordless none) = absurd (none (h.line, h.spelled))
+      by (absent other k e) = absurd (let same : too_long ≡ missing = one_absent too_long missing name other no_too_long no_missing h k in cc)
+      by (over other k e) = inl e
+      by (broken rule number t k e) = absurd (none_absent call files told k.line k.spelled too_long name k.came no_too_long h)
+      by (read l m k course) = absurd (none_absent call files told l k.spelled too_long name k.came no_too_long h)
+      by (failed e) = inr (inl e)
+      by (wanting e) = inr (inr e)
+
+  module _ (line : Line) (m : RobustModel) where
+    -- ---- a model was read
+    same_bytes : (has : HasModel call line m) (other : List ℕ) → IsFound call (model_of line.action) (whole other) → other ≡ has.bytes
+    same_bytes has other found = let same : whole other ≡ whole has.bytes = found_once call files (model_of line.action) (whole other) (whole has.bytes) told found has.found in cc
+
+    course_of : HasModel call line m → (ended : Ended) (text : List ℕ) → Means call ended text → Course call line m ended ⊎ ((ended ≡ ReadFault) ⊎ (ended ≡ Memory))
+    course_of has ended text means = by (stage_of call ended text means)
+      where
+        no_rule : (rule number : ℕ) (bytes : List ℕ) → IsFound call (model_of line.action) (whole bytes) → Breaks (limit_of line) bytes rule number → ⊥
+        no_rule rule number bytes found breaks =
+            not_both (limit_of line) has.bytes m rule number has.reads (subst (λ (list : List ℕ). Breaks (limit_of line) list rule number) (same_bytes has bytes found) breaks)
+
+        by : Stage call ended → Course call line m ended ⊎ ((ended ≡ ReadFault) ⊎ (ended ≡ Memory))
+        by (wordless none) = absurd (none (line, has.spelled))
+        by (absent name h e) = absurd (none_absent call files told line has.spelled missing name has.came no_missing h)
+        by (over name h e) = absurd (none_absent call files told line has.spelled too_long name has.came no_too_long h)
+        by (broken rule number t h e) = let b = broken_here call files told line has.spelled rule number t h in absurd (no_rule rule number b.0 b.1 b.2)
+        by (read l k h course) =
+            inl (course_at call l line k m ended (one_line call.words l line h.spelled has.spelled) (one_model_read call files l line k m told h has) course)
+        by (failed e) = inr (inl e)
+        by (wanting e) = inr (inr e)
+
+    -- ---- a number of the set rows and forms is wide
+    pub wide_decides : HasModel call line m → (spot : Spot) → IsFirstWide (limit_of line) m (judged_set m ++ judged_forms m) spot → (ended : Ended) (text : List ℕ) → Means call ended text
+        → (ended ≡ TooWide spot) ⊎ ((ended ≡ ReadFault) ⊎ (ended ≡ Memory))
+    wide_decides has spot first ended text means = first_of_two by (course_of has ended text means)
+      where
+        no_forms : HasForms call line m → ⊥
+        no_forms forms = none_first (limit_of line) m (judged_set m ++ judged_forms m) spot forms.none_wide first
+
+        by : Course call line m ended → ended ≡ TooWide spot
+        by (finds status v forms solves holds e) = absurd (no_forms forms)
+        by (shows_empty weights forms solves none e) = absurd (no_forms forms)
+        by (prints name forms is e) = absurd (no_forms forms)
+        by (judges c h e) = absurd (no_forms h.file.forms)
+        by (refuses bytes rule number h breach e) = absurd (no_forms h.forms)
+        by (wide_number other h e) = e ∙ ap (λ (s : Spot). TooWide s) (first_once (limit_of line) m (judged_set m ++ judged_forms m) other spot h first)
+        by (wide_row other forms solves wide e) = absurd (no_forms forms)
+
+    -- ---- none is
+    no_first : HasForms call line m → (spot : Spot) → IsFirstWide (limit_of line) m (judged_set m ++ judged_forms m) spot → ⊥
+    no_first forms spot first = none_first (limit_of line) m (judged_set m ++ judged_forms m) spot forms.none_wide first
+
+    pub rows_decide : HasForms call line m → (name : Word) → line.action ≡ rows name → (ended : Ended) (text : List ℕ) → Means call ended text
+        → (ended ≡ Printed) ⊎ ((ended ≡ ReadFault) ⊎ (ended ≡ Memory))
+    rows_decide has name is_rows ended text means = first_of_two by (course_of has.model ended text means)
+      where
+        by : Course call line m ended → ended ≡ Printed
+        by (finds status v forms solves holds e) = absurd (solves_no_rows line.action name is_rows solves)
+        by (shows_empty weights forms solves none e) = absurd (solves_no_rows line.action name is_rows solves)
+        by (prints other forms is e) = e
+        by (judges c h e) = absurd (not_rows line.action name h.file.model_name h.file.certificate_name is_rows h.file.is_check)
+        by (refuses bytes rule number h breach e) = absurd (not_rows line.action name h.model_name h.certificate_name is_rows h.is_check)
+        by (wide_number spot h e) = absurd (no_first has spot h)
+        by (wide_row spot forms solves wide e) = absurd (solves_no_rows line.action name is_rows solves)
+
+    -- ---- `solve` and `prove`
+    status_answer : (status : Status) (v : Fraction) → HasStatus m status v → IsSolveAnswer (limit_of line) m (ended_of status)
+    status_answer optimal v h = (v, h)
+    status_answer infeasible v h = (v, h)
+    status_answer unbounded v h = (v, h)
+
+    answer_is : (ended other : Ended) → ended ≡ other → IsSolveAnswer (limit_of line) m other → IsSolveAnswer (limit_of line) m ended
+    answer_is ended other e h = subst (λ (x : Ended). IsSolveAnswer (limit_of line) m x) (sym e) h
+
+    pub solve_decides : HasForms call line m → IsSolving line.action → (ended : Ended) (text : List ℕ) → Means call ended text → IsSolveAnswer (limit_of line) m ended
+    solve_decides has is_solving ended text means = all (course_of has.model ended text means)
+      where
+        by : Course call line m ended → IsSolveAnswer (limit_of line) m ended
+        by (finds status v forms solves holds e) = answer_is ended (ended_of status) e (status_answer status v holds)
+        by (shows_empty weights forms solves none e) = answer_is ended (EmptySet weights) e none
+        by (prints name forms is e) = absurd (solves_no_rows line.action name is is_solving)
+        by (judges c h e) = absurd (solves_no_check line.action h.file.model_name h.file.certificate_name h.file.is_check is_solving)
+        by (refuses bytes rule number h breach e) = absurd (solves_no_check line.action h.model_name h.certificate_name h.is_check is_solving)
+        by (wide_number spot h e) = absurd (no_first has spot h)
+        by (wide_row spot forms solves wide e) = answer_is ended (TooWide spot) e wide
+
+        all : Course call line m ended ⊎ ((ended ≡ ReadFault) ⊎ (ended ≡ Memory)) → IsSolveAnswer (limit_of line) m ended
+        all (inl course) = by course
+        all (inr (inl e)) = answer_is ended ReadFault e tt
+        all (inr (inr e)) = answer_is ended Memory e tt
+
+    pub status_decides : HasForms call line m → IsSolving line.action → (status : Status) (v : Fraction) → HasStatus m status v → (u : List Fraction) → Admits m u
+        → ((spot : Spot) → IsWideOnPath (limit_of line) m spot → ⊥) → (ended : Ended) (text : List ℕ) → Means call ended text
+        → (ended ≡ ended_of status) ⊎ ((ended ≡ ReadFault) ⊎ (ended ≡ Memory))
+    status_decides has is_solving status v true_of u admitted narrow ended text means = first_of_two by (course_of has.model ended text means)
+      where
+        by : Course call line m ended → ended ≡ ended_of status
+        by (finds other w forms solves holds e) = e ∙ ap ended_of (same_status m other status w v holds true_of)
+        by (shows_empty weights forms solves none e) = absurd (none u admitted)
+        by (prints name forms is e) = absurd (solves_no_rows line.action name is is_solving)
+        by (judges c h e) = absurd (solves_no_check line.action h.file.model_name h.file.certificate_name h.file.is_check is_solving)
+        by (refuses bytes rule number h breach e) = absurd (solves_no_check line.action h.model_name h.certificate_name h.is_check is_solving)
+        by (wide_number spot h e) = absurd (no_first has spot h)
+        by (wide_row spot forms solves wide e) = absurd (narrow spot wide)
+
+    -- ---- `check`
+    same_file : (bytes other : List ℕ) → HasCertificateFile call line m bytes → HasCertificateFile call line m other → bytes ≡ other
+    same_file bytes other h k =
+        let commands : check h.model_name h.certificate_name ≡ check k.model_name k.certificate_name = sym h.is_check ∙ k.is_check in
+        let names : h.certificate_name ≡ k.certificate_name = cc in
+        let found : IsFound call (certificate_file k.certificate_name) (whole bytes) = subst (λ (name : Word). IsFound call (certificate_file name) (whole bytes)) names h.found in
+        let same : whole bytes ≡ whole other = found_once call files (certificate_file k.certificate_name) (whole bytes) (whole other) told found k.found in
+        cc
+
+    least : 1 ≤ limit_of line
+    least = subst (λ (l : ℕ). 1 ≤ l) (limit_is line.width) (limit_low (bits_of line.width))
+
+    most : limit_of line ≤ 2 ^ 62 - 1
+    most = subst (λ (l : ℕ). l ≤ 2 ^ 62 - 1) (limit_is line.width) (limit_high (bits_of line.width))
+
+    well : HasModel call line m → IsModel m
+    well has = well_formed (limit_of line) has.bytes m least has.reads
+
+    named : HasModel call line m → IsNamed m
+    named has = well_named (limit_of line) has.bytes m has.reads
+
+    in_words : HasModel call line m → IsNamedInWords m
+    in_words has = named_in_words m (well_spelled (limit_of line) has.bytes m has.reads)
+
+    -- a certificate's text breaks no rule
+    no_breach : (c : Certificate) (bytes : List ℕ) (rule number : ℕ) → HasCertificate call line m c → HasCertificateFile call line m bytes
+        → HasCause (naming_of m) (limit_of line) start bytes 1 (Rule rule number) → ⊥
+    no_breach c bytes rule number h file breach =
+        let same : bytes ≡ h.bytes = same_file bytes h.bytes file h.file in
+        let has : HasModel call line m = h.file.forms.model in
+        breaks_none m (limit_of line) c bytes (well has) (named has) (in_words has) most (subst (λ (b : List ℕ). IsTextOf m c b) (sym same) h.text) h.fits rule number breach
+
+    -- and is that of one certificate
+    one_certificate : (c d : Certificate) → HasCertificate call line m c → HasCertificate call line m d → c ≡ d
+    one_certificate c d h k =
+        let same : h.bytes ≡ k.bytes = same_file h.bytes k.bytes h.file k.file in
+        let has : HasModel call line m = h.file.forms.model in
+        read_once m (limit_of line) c d k.bytes (well has) (named has) (in_words has) most (subst (λ (b : List ℕ). IsTextOf m c b) same h.text) k.text h.fits k.fits
+
+    pub verdict_decides : (c : Certificate) → HasCertificate call line m c → (ended : Ended) (text : List ℕ) → Means call ended text
+        → (ended ≡ verdict_ended (verdict_of (limit_of line) m c)) ⊎ ((ended ≡ ReadFault) ⊎ (ended ≡ Memory))
+    verdict_decides c has ended text means = first_of_two by (course_of has.file.forms.model ended text means)
+      where
+        no_solving : IsSolving line.action → ⊥
+        no_solving solves = solves_no_check line.action has.file.model_name has.file.certificate_name has.file.is_check solves
+
+        by : Course call line m ended → ended ≡ verdict_ended (verdict_of (limit_of line) m c)
+        by (finds status v forms solves holds e) = absurd (no_solving solves)
+        by (shows_empty weights forms solves none e) = absurd (no_solving solves)
+        by (prints name forms is e) = absurd (not_rows line.action name has.file.model_name has.file.certificate_name is has.file.is_check)
+        by (judges d h e) = e ∙ ap (λ (x : Certificate). verdict_ended (verdict_of (limit_of line) m x)) (one_certificate d c h has)
+        by (refuses bytes rule number h breach e) = absurd (no_breach c bytes rule number has h breach)
+        by (wide_number spot h e) = absurd (no_first has.file.forms spot h)
+        by (wide_row spot forms solves wide e) = absurd (no_solving solves)
+
+    pub rule_decides : (bytes : List ℕ) (rule number : ℕ) → HasCertificateFile call line m bytes → HasCause (naming_of m) (limit_of line) start bytes 1 (Rule rule number)
+        → (ended : Ended) (text : List ℕ) → Means call ended text → (ended ≡ Cert rule number) ⊎ ((ended ≡ ReadFault) ⊎ (ended ≡ Memory))
+    rule_decides bytes rule number has breaks ended text means = first_of_two by (course_of has.forms.model ended text means)
+      where
+        no_solving : IsSolving line.action → ⊥
+        no_solving solves = solves_no_check line.action has.model_name has.certificate_name has.is_check solves
+
+        is_rule : (other : List ℕ) (r n : ℕ) → HasCertificateFile call line m other → HasCause (naming_of m) (limit_of line) start other 1 (Rule r n) → ended ≡ Cert r n → ended ≡ Cert rule number
+        is_rule other r n file breach e =
+            let there : HasCause (naming_of m) (limit_of line) start bytes 1 (Rule r n) =
+            subst (λ (b : List ℕ). HasCause (naming_of m) (limit_of line) start b 1 (Rule r n)) (same_file other bytes file has) breach
+            in
+            let one = one_cause m (limit_of line) bytes (well has.forms.model) (named has.forms.model) (in_words has.forms.model) most r n rule number there breaks in
+            e ∙ ap (λ k. Cert k n) one.0 ∙ ap (λ k. Cert rule k) one.1
+
+        by : Course call line m ended → ended ≡ Cert rule number
+        by (finds status v forms solves holds e) = absurd (no_solving solves)
+        by (shows_empty weights forms solves none e) = absurd (no_solving solves)
+        by (prints name forms is e) = absurd (not_rows line.action name has.model_name has.certificate_name is has.is_check)
+        by (judges d h e) = absurd (no_breach d bytes rule number h has breaks)
+        by (refuses other r n h breach e) = is_rule other r n h breach e
+        by (wide_number spot h e) = absurd (no_first has.forms spot h)
+        by (wide_row spot forms solves wide e) = absurd (no_solving solves)
