@@ -1,7 +1,7 @@
-//! Solves drawn programs, so that the simplex method can be timed from outside.
+//! Solves programs that it makes, so that the simplex method can be timed from outside.
 //!
-//! Words: the number of rows and of columns (12 without a word, at most 1,000), and the number of the one kind of
-//! program to solve (all without a word).
+//! Words: the size, which is the number of rows and of columns, or of demands (12 without a word, at most 1,000), and the
+//! number of the one kind of program to solve (all without a word).
 #![tactic(auto)]
 
 mod drawn;
@@ -20,10 +20,10 @@ fn main(rt: HostRuntime) -> anyhow::Result<()> {
         if chosen >= KINDS.len() || chosen == number {
             match run(rt.alloc(), *kind, size) {
                 Ok(told) => println!(rt;
-                    "kind {number}, {size} rows: {} {}/{}, {} rows combined",
+                    "kind {number}, size {size}: {} {}/{}, {} rows combined",
                     told.word, told.over, told.under, told.combined
                 )?,
-                Err(Memory) => println!(rt; "kind {number}, {size} rows: no memory")?,
+                Err(Memory) => println!(rt; "kind {number}, size {size}: no memory")?,
             }
         }
     }
