@@ -12,9 +12,14 @@ use Rattle.rob_linear.specs.Paths.{Reached, ReachedFrom}
 abbrev pub HasWideEntry : ℕ → System → Vector → Type 0
 HasWideEntry limit S r = (k : ℕ) × (k ≤ right S) × (limit < unsigned_abs (r k))
 
--- the row of a position at a basis of the system is wide
+-- the columns of the list are columns of the system's variables: neither the objective's nor one of another system
+abbrev pub IsInside : System → Columns → Type 0
+IsInside S basis = (j : ℕ) → j < S.m → basis j < S.columns
+
+-- the row of a position at a basis of the system is wide. A program's own rows have no auxiliary column, so where that is
+-- basic they have no wide row
 abbrev pub IsWideIn : ℕ → System → Columns → ℕ → Type 0
-IsWideIn limit S basis i = (r : Vector) × RowOf S (own_of S basis) i r × HasWideEntry limit S r
+IsWideIn limit S basis i = (r : Vector) × IsInside S basis × RowOf S (own_of S basis) i r × HasWideEntry limit S r
 
 -- a stage of the objective's row is wide
 abbrev pub IsWideStage : ℕ → Program → Columns → Type 0

@@ -1,13 +1,13 @@
 // The objective's row made column by column, paths of other costs, and rows that are too wide.
 
-ghost use Rattle.std.specs.Prelude.{◌≡◌, ◌≢◌, ℕ, zero, suc, ◌+◌, ◌<◌, ◌≤◌, pos};
+ghost use Rattle.std.specs.Prelude.{◌≡◌, ◌≢◌, ℕ, zero, suc, ◌+◌, ◌<◌, ◌≤◌, pos, ◌⊎◌};
 ghost use Rattle.rob_linear.specs.Vectors.{Columns, Matrix, Vector};
 ghost use Rattle.rob_linear.specs.Systems.{System, RowOf, IsBasis, IsCombined, with_objective};
-ghost use Rattle.rob_linear.specs.Programs.{Program, with_cost, system_of};
+ghost use Rattle.rob_linear.specs.Programs.{Program, with_cost, system_of, auxiliary_of, kept_of};
 ghost use Rattle.rob_linear.specs.Turns.{own_of, StandsWith};
 ghost use Rattle.rob_linear.specs.Stages.{IsStage, unit_row, IsHalfStage};
 ghost use Rattle.rob_linear.specs.Paths.{HasAuxiliary, Reached, ReachedFrom};
-ghost use Rattle.rob_linear.specs.WideRows.{HasWideEntry, IsWideIn, HasWideRow, HasWideRowFrom};
+ghost use Rattle.rob_linear.specs.WideRows.{HasWideEntry, IsWideIn, IsWideStage, NeedsAuxiliary, IsWideAt, HasWideRow, HasWideRowFrom};
 
 /// At a basis, whatever the cost d was, each stage of the objective's row is one row: stage 0 is 1
 /// for the objective alone, the last stage is the row itself.
@@ -69,4 +69,22 @@ pub fn wide_rows()
     ensures only { (limit : ℕ) (S : System) (basis : Columns) (rows : Matrix) (i : ℕ)
         → IsBasis S (own_of S basis) rows → i ≤ S.m → IsWideIn limit S basis i
         → HasWideEntry limit S (rows i) }
+    // Where the auxiliary column is basic, nothing is wide but a row of the auxiliary form or the
+    // kept row of the cost.
+    ensures first_phase { (limit : ℕ) (P : Program) (basis : Columns) (rows : Matrix)
+        (kept : Vector) (i : ℕ)
+        → HasAuxiliary P basis → IsBasis (auxiliary_of P) (own_of (auxiliary_of P) basis) rows
+        → RowOf (kept_of P) (own_of (kept_of P) basis) P.m kept → IsWideAt limit P basis i
+        → HasWideEntry limit (auxiliary_of P) (rows i)
+        ⊎ ((i ≡ P.m) × HasWideEntry limit (kept_of P) kept) }
+    // Where it isn't, nothing but the program's own row, a stage, and, where some right side is
+    // negative, those two.
+    ensures second_phase { (limit : ℕ) (P : Program) (basis : Columns) (rows auxiliary : Matrix)
+        (kept : Vector) (i : ℕ)
+        → IsBasis (system_of P) (own_of (system_of P) basis) rows
+        → IsBasis (auxiliary_of P) (own_of (auxiliary_of P) basis) auxiliary
+        → RowOf (kept_of P) (own_of (kept_of P) basis) P.m kept → IsWideAt limit P basis i
+        → HasWideEntry limit (system_of P) (rows i) ⊎ (((i ≡ P.m) × IsWideStage limit P basis)
+        ⊎ (NeedsAuxiliary P × (HasWideEntry limit (auxiliary_of P) (auxiliary i)
+        ⊎ ((i ≡ P.m) × HasWideEntry limit (kept_of P) kept)))) }
 {}

@@ -21,6 +21,7 @@ use Rattle.rob_linear.proofs.Lexical.{turn_keeps_order, turn_rises}
 use Rattle.rob_linear.proofs.Turns.{own_low, turn_exchange}
 use Rattle.rob_linear.proofs.Starts.{auxiliary_tagged}
 use Rattle.rob_linear.proofs.TwoPhases.{kept_turned}
+use Rattle.rob_linear.proofs.WideRows.{exchange_inside}
 use Rattle.rob_rows.specs.PrimitiveParts.{IsWithin}
 use Rattle.rob_simplex.specs.Tables.{cleared, IsPivoted, IsWidePivot, IsWideClear}
 use Rattle.rob_simplex.specs.Dictionaries.{shape, rows_of, columns_of}
@@ -178,6 +179,7 @@ module _ (P : Program) (basis basis' : List ℕ) (table : List ℤ) (row column 
                 h.needs,
                 inr (
                   (λ k. x.0 (table_place P.n P.m k)),
+                  exchange_inside (auxiliary_of P) (own_of (auxiliary_of P) (columns_of basis)) (columns_of basis') (auxiliary_rows P.n P.m table) row column h.stands.is_basis.inside exchange,
                   kept_turned P (own_of (auxiliary_of P) (columns_of basis)) (own_of (auxiliary_of P) (columns_of basis')) (auxiliary_rows P.n P.m table) (auxiliary_rows P.n P.m table (suc P.m)) (λ k. x.0 (table_place P.n P.m k)) row column h.stands.is_basis h.kept exchange (placed (rows_of P.n P.m table (suc P.m)) x.0 x.1),
                   wide_entry limit x.0 x.2,
                 ),
@@ -194,6 +196,7 @@ module _ (P : Program) (basis basis' : List ℕ) (table : List ℤ) (row column 
                 h.needs,
                 inl (
                   (λ k. x.0 (table_place P.n P.m k)),
+                  exchange_inside (auxiliary_of P) (own_of (auxiliary_of P) (columns_of basis)) (columns_of basis') (auxiliary_rows P.n P.m table) row column h.stands.is_basis.inside exchange,
                   row_of_other (auxiliary_of P) (own_of (auxiliary_of P) (columns_of basis)) (own_of (auxiliary_of P) (columns_of basis')) (auxiliary_rows P.n P.m table) (λ k. x.0 (table_place P.n P.m k)) row column i (tags_in (auxiliary_of P) (auxiliary_tagged P)) (basis_pivotable (auxiliary_of P) (own_of (auxiliary_of P) (columns_of basis)) (auxiliary_rows P.n P.m table) row (omega arith) h.stands.is_basis) exchange il w.other (placed (rows_of P.n P.m table i) x.0 x.1),
                   wide_entry limit x.0 x.2,
                 ),

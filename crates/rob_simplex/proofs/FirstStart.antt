@@ -18,6 +18,7 @@ use Rattle.rob_linear.proofs.Lexical.{lex_ext}
 use Rattle.rob_linear.proofs.Programs.{row_right, right_row, auxiliary_entry, auxiliary_cost_entry, auxiliary_tag-slack}
 use Rattle.rob_linear.proofs.Starts.{auxiliary_tagged, turned_round, round_at, round_pivotable}
 use Rattle.rob_linear.proofs.Turns.{row_of_equal}
+use Rattle.rob_linear.proofs.WideRows.{exchange_inside}
 use Rattle.rob_linear.proofs.TwoPhases.{kept_tagged, start_exchange, kept_start, auxiliary_start}
 use Rattle.rob_simplex.specs.Tables.{cleared, IsPivoted, IsWidePivot}
 use Rattle.rob_simplex.specs.Dictionaries.{shape, rows_of, columns_of}
@@ -237,6 +238,7 @@ module _ (P : Program) (basis basis' : List ℕ) (table prepared round : List �
           needs,
           inl (
             (λ k. x.0 (table_place P.n P.m k)),
+            exchange_inside (auxiliary_of P) (auxiliary_tag P) (columns_of basis') (turned_round (auxiliary_of P) e) e (P.n + P.m) (auxiliary_tagged P).inside exchange,
             row_of_other (auxiliary_of P) (auxiliary_tag P) (own_of (auxiliary_of P) (columns_of basis')) (turned_round (auxiliary_of P) e) (λ k. x.0 (table_place P.n P.m k)) e (P.n + P.m) i (tags_in (auxiliary_of P) (auxiliary_tagged P)) (round_pivotable (auxiliary_of P) e (auxiliary_tagged P) row_in) exchange il w.other (turned_combined i x.0 il x.1),
             (o.0, omega arith, subst (λ t. limit < unsigned_abs (x.0 t)) (sym o.2) x.2.2),
           ),

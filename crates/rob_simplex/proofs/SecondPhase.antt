@@ -15,6 +15,7 @@ use Rattle.rob_linear.specs.WideRows.{HasWideRow}
 use Rattle.rob_linear.proofs.Solutions.{tags_in, own_below}
 use Rattle.rob_linear.proofs.Pivots.{basis_pivotable, pivot_is_basis, row_of_other}
 use Rattle.rob_linear.proofs.Lexical.{lex_ext, turn_keeps_order, turn_rises}
+use Rattle.rob_linear.proofs.WideRows.{exchange_inside}
 use Rattle.rob_linear.proofs.Turns.{turn_exchange}
 use Rattle.rob_linear.specs.Rank.{rank, rank_limit}
 use Rattle.rob_linear.proofs.Endings.{own_positive}
@@ -194,6 +195,7 @@ module _ (P : Program) (basis basis' : List ℕ) (table : List ℤ) (row column 
         wide =
             inl (
               x.0,
+              exchange_inside (system_of P) (own_of (system_of P) (columns_of basis)) (columns_of basis') (rows_of P.n P.m table) row column h.stands.is_basis.inside exchange,
               row_of_other (system_of P) (own_of (system_of P) (columns_of basis)) (own_of (system_of P) (columns_of basis')) (rows_of P.n P.m table) x.0 row column i (tags_in (system_of P) (system_tagged P)) (basis_pivotable (system_of P) (own_of (system_of P) (columns_of basis)) (rows_of P.n P.m table) row (omega arith) h.stands.is_basis) exchange il w.other s.1,
               (x.2.0, omega arith, x.2.2),
             );
