@@ -9,6 +9,11 @@ use Rattle.rob_linear.specs.Programs.{Program, system_of, auxiliary_of}
 use Rattle.rob_linear.specs.Turns.{own_of}
 use Rattle.rob_linear.specs.Optimality.{IsBasicPoint}
 use Rattle.rob_linear.specs.WideRows.{HasWideRow}
+use Rattle.rob_bounds.specs.Bounds.{IsNarrow, row_bound}
+use Rattle.rob_bounds.proofs.NarrowPaths.{narrow_path}
+use Rattle.std.specs.Int.RustNames.{unsigned_abs}
+use Rattle.rob_counterpart.specs.SamePrograms.{AreSame}
+use Rattle.rob_model.specs.declared.place.Spot.TheVariants as spot
 use Rattle.rob_meaning.specs.Certificates.{Certificate}
 use Rattle.rob_meaning.specs.Places.{tabulate}
 use Rattle.rob_meaning.specs.RobustModel.{RobustModel}
@@ -41,7 +46,7 @@ use Rattle.rob_counterpart.proofs.ScenarioLemmas.{set_weights, basis_admitted}
 use Rattle.rob_counterpart.proofs.TabulateLemmas.{tabulate-same}
 use Rattle.rob_dualize.specs.Ending.{HasEnded, HasLastPoint, StopsAt, IsTold}
 use Rattle.rob_counterpart.specs.ReadNumbers.{differences}
-use Rattle.rob_dualize.specs.Solving.{IsLastScenario, IsSolution, IsShownEmpty, IsWideSpot, HasCause, CountsStop, Finds, Solves}
+use Rattle.rob_dualize.specs.Solving.{IsLastScenario, IsSolution, IsShownEmpty, IsWideSpot, HasCause, CountsStop, Finds, IsNarrowModel, IsNotWide, Solves}
 use Rattle.rob_dualize.proofs.EndingLemmas.{infeasible_end}
 use Rattle.rob_dualize.proofs.TabulateLemmas.{map-tabulate}
 
@@ -75,16 +80,44 @@ refused_counted before now Memory l e = l
 pub refused_cause : (limit : ℕ) (m : RobustModel) (stop : Stop) → stop ≡ Memory → HasCause limit m stop
 refused_cause limit m stop e = subst (HasCause limit m) (sym e) tt
 
+-- ---- narrow models
+narrow_spot : (limit : ℕ) (m : RobustModel) (place : Spot) → IsNarrowModel limit m → ¬ (IsWideSpot limit m place)
+narrow_spot limit m (spot.Dictionary named.Set basis i) n w = narrow_path limit (set_program m) n.set (columns_of basis) i w
+narrow_spot limit m (spot.Dictionary named.Reform basis i) n w = narrow_path limit (counterpart m) n.counterpart (columns_of basis) i w.1
+narrow_spot limit m other n w = absurd w
+
+pub narrow_stop : (limit : ℕ) (m : RobustModel) (stop : Stop) → HasCause limit m stop → IsNarrowModel limit m → IsNotWide stop
+narrow_stop limit m (EmptySet weights) h n = tt
+narrow_stop limit m (Wide place trace) h n = narrow_spot limit m place n h.0
+narrow_stop limit m Memory h n = tt
+
+-- programs with the same numbers are narrow alike
+pub narrow_same : (limit : ℕ) (P Q : Program) → AreSame P Q → IsNarrow limit P → IsNarrow limit Q
+narrow_same limit P Q s n =
+    let height : P.m ≡ Q.m = s.height in
+    let width : P.n ≡ Q.n = s.width in
+    record {
+      size = n.size;
+      positive = n.positive;
+      sized = record {
+        left = λ i j il jl. subst (λ v. unsigned_abs v ≤ n.size) (s.rows i j (omega arith) (omega arith)) (n.sized.left i j (omega arith) (omega arith));
+        right = λ i l. subst (λ v. unsigned_abs v ≤ n.size) (s.rights i (omega arith)) (n.sized.right i (omega arith));
+        cost = λ j l. subst (λ v. unsigned_abs v ≤ n.size) (s.costs j (omega arith)) (n.sized.cost j (omega arith));
+      };
+      bound = subst (λ v. row_bound v n.size ≤ limit) height n.bound;
+    }
+
 -- ---- the certificate
 module _ {N : Type 0} (value : N → Fraction) (limit : ℕ) (m : RobustModel) (before now : ℕ) where
   pub stopped_with : (stop : Stop) → HasCause limit m stop → CountsStop before now stop → Solves value limit m before now (Err stop)
-  stopped_with stop h k = record { solved = tt; stopped = h; counted = k }
+  stopped_with stop h k = record { solved = tt; stopped = h; narrow = narrow_stop limit m stop h; counted = k }
 
   pub answered : (c : Certificate) → IsSolution m c → now ≡ before → (answer : Result (Cert N) NoMemory) → IfOk answer (λ cert. certificate_of value cert ≡ c)
       → (result : Result (Cert N) Stop) → MatchResult result (λ x. answer ≡ Ok x) (λ stop. stop ≡ Memory) → Solves value limit m before now result
   answered c s e answer h (Ok x) is = record {
     solved = subst (IsSolution m) (sym (subst (λ (r : Result (Cert N) NoMemory). IfOk r (λ cert. certificate_of value cert ≡ c)) is h)) s;
     stopped = tt;
+    narrow = λ n. tt;
     counted = e;
   }
   answered c s e answer h (Err stop) is = stopped_with stop (refused_cause limit m stop is) (refused_counted before now stop (omega arith) is)

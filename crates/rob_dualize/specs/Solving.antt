@@ -10,6 +10,7 @@ use Rattle.rob_linear.specs.Turns.{own_of, Enters}
 use Rattle.rob_linear.specs.Paths.{Last}
 use Rattle.rob_linear.specs.Optimality.{IsBasicPoint}
 use Rattle.rob_linear.specs.WideRows.{HasWideRow}
+use Rattle.rob_bounds.specs.Bounds.{IsNarrow}
 use Rattle.rob_meaning.specs.Certificates.{Status, optimal, infeasible, unbounded, Certificate}
 use Rattle.rob_meaning.specs.Multipliers.{ShowsEmpty}
 use Rattle.rob_meaning.specs.Proves.{Proves}
@@ -101,9 +102,21 @@ pub record Finds {N : Type 0} (value : N → Fraction) (limit : ℕ) (m : Robust
   pub stopped : IfErr result (HasCause limit m)
   pub counted : MatchResult result (λ _. now ≡ before) (CountsStop before now)
 
+-- the rows of neither program can be wide
+pub record IsNarrowModel (limit : ℕ) (m : RobustModel) : Type 0 where
+  pub set : IsNarrow limit (set_program m)
+  pub counterpart : IsNarrow limit (counterpart m)
+
+-- the stop isn't for a wide row
+abbrev pub IsNotWide : Stop → Type 0
+IsNotWide (Wide place trace) = ⊥
+IsNotWide other = ⊤
+
 -- the answer of the route for the model: a solution, or a stop with its cause; and how often wide results were counted
 pub record Solves {N : Type 0} (value : N → Fraction) (limit : ℕ) (m : RobustModel) (before now : ℕ)
     (result : Result (Cert N) Stop) : Type 0 where
   pub solved : IfOk result (λ cert. IsSolution m (certificate_of value cert))
   pub stopped : IfErr result (HasCause limit m)
+  -- a narrow model isn't refused for a wide row
+  pub narrow : IsNarrowModel limit m → IfErr result IsNotWide
   pub counted : MatchResult result (λ _. now ≡ before) (CountsStop before now)

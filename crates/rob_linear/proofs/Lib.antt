@@ -26,5 +26,6 @@ pub mod Optimality
 pub mod Fundamental
 pub mod Measure
 pub mod Phases
+pub mod Extensions
 pub mod Square
 mod Worked

@@ -17,10 +17,10 @@ use Rattle.rob_linear.specs.Turns.{key, IsLexFeasible}
 use Rattle.rob_linear.proofs.Sums.{sum_ext}
 use Rattle.rob_linear.proofs.Lexical.{lex_ext}
 
-place_low : (P : Program) (k : ℕ) → k < P.n + P.m → auxiliary_place P k ≡ k
+pub place_low : (P : Program) (k : ℕ) → k < P.n + P.m → auxiliary_place P k ≡ k
 place_low P k l = grind (arith, nat_tests)
 
-place_high : (P : Program) (k : ℕ) → P.n + P.m ≤ k → auxiliary_place P k ≡ suc k
+pub place_high : (P : Program) (k : ℕ) → P.n + P.m ≤ k → auxiliary_place P k ≡ suc k
 place_high P k l = grind (arith, nat_tests)
 
 low_same : (P : Program) (t k : ℕ) → t < P.m → k < P.n + P.m → kept_row P t k ≡ starting_row P t k
@@ -32,7 +32,7 @@ cost_same P k kl = elim (cases_lt k P.n) [ inl a ↦ grind (arith, nat_tests) | 
 high_same : (P : Program) (t : ℕ) → t ≤ P.m → (kept_row P t (suc (P.n + P.m)) ≡ starting_row P t (P.n + P.m)) × (kept_row P t (suc (suc (P.n + P.m))) ≡ starting_row P t (suc (P.n + P.m)))
 high_same P t tl = elim (cases_eq t P.m) [ inl e ↦ (grind (arith, nat_tests), grind (arith, nat_tests)) | inr d ↦ (grind (arith, nat_tests), grind (arith, nat_tests)) ]
 
-row_placed : (P : Program) (t k : ℕ) → t ≤ P.m → k ≤ suc (P.n + P.m) → kept_row P t (auxiliary_place P k) ≡ starting_row P t k
+pub row_placed : (P : Program) (t k : ℕ) → t ≤ P.m → k ≤ suc (P.n + P.m) → kept_row P t (auxiliary_place P k) ≡ starting_row P t k
 row_placed P t k tl kl =
     elim (cases_lt k (P.n + P.m)) [
       | inl a ↦ ap (kept_row P t) (place_low P k a) ∙ elim (cases_eq t P.m) [
@@ -49,10 +49,10 @@ row_placed P t k tl kl =
     ]
 
 -- the tags of the two forms
-tag_placed : (P : Program) (t : ℕ) → t ≤ P.m → auxiliary_place P (P.n + t) ≡ auxiliary_tag P t
+pub tag_placed : (P : Program) (t : ℕ) → t ≤ P.m → auxiliary_place P (P.n + t) ≡ auxiliary_tag P t
 tag_placed P t l = elim (cases_eq t P.m) [ inl e ↦ grind (arith, nat_tests) | inr d ↦ grind (arith, nat_tests) ]
 
-place_in : (P : Program) (k : ℕ) → k ≤ suc (P.n + P.m) → auxiliary_place P k ≤ suc (suc (P.n + P.m))
+pub place_in : (P : Program) (k : ℕ) → k ≤ suc (P.n + P.m) → auxiliary_place P k ≤ suc (suc (P.n + P.m))
 place_in P k kl = elim (cases_lt k (P.n + P.m)) [ inl a ↦ let e : auxiliary_place P k ≡ k = place_low P k a in omega arith | inr a ↦ let e : auxiliary_place P k ≡ suc k = place_high P k a in omega arith ]
 
 -- ---- divisors of a sum

@@ -96,7 +96,7 @@ first_stage P own rows d b = record {
     none P k = elim (cases_lt k P.n) [ inl a ↦ grind (arith, nat_tests) | inr a ↦ elim (cases_eq k (P.n + P.m)) [ inl b ↦ grind (arith, nat_tests) | inr b ↦ grind (arith, nat_tests) ] ]
 
 -- what putting in the cost of column j does to an entry
-half_entry : (P : Program) (own : ℕ → ℕ) (j : ℕ) (r : ℕ → ℤ) (h : IsHalfStage P own j r) (k : ℕ) → k ≤ suc (P.n + P.m) → k ≢ j → h.put_in.divisor *ℤ r k ≡ h.stage k
+pub half_entry : (P : Program) (own : ℕ → ℕ) (j : ℕ) (r : ℕ → ℤ) (h : IsHalfStage P own j r) (k : ℕ) → k ≤ suc (P.n + P.m) → k ≢ j → h.put_in.divisor *ℤ r k ≡ h.stage k
 half_entry P own j r h k kl d =
     let e : h.put_in.divisor *ℤ r k ≡ (pos 1 *ℤ h.stage k) -ℤ ((P.c j *ℤ h.stage (P.n + P.m)) *ℤ unit_row j k) = h.put_in.entries k (omega arith) in
     let z : (P.c j *ℤ h.stage (P.n + P.m)) *ℤ unit_row j k ≡ pos 0 = ap (λ v. (P.c j *ℤ h.stage (P.n + P.m)) *ℤ v) (unit_zero j k d) ∙ mul-zero (P.c j *ℤ h.stage (P.n + P.m)) in
@@ -121,7 +121,7 @@ next_cost P j k l =
           omega (arith, ints)
     ]
 
-half_spanned : (P : Program) (own : ℕ → ℕ) (j : ℕ) (r : ℕ → ℤ) → j < P.n → IsHalfStage P own j r → IsSpanned (system_of (truncated P (suc j))) r
+pub half_spanned : (P : Program) (own : ℕ → ℕ) (j : ℕ) (r : ℕ → ℤ) → j < P.n → IsHalfStage P own j r → IsSpanned (system_of (truncated P (suc j))) r
 half_spanned P own j r jl h k kl =
     let g : ℤ = h.put_in.divisor in
     let st : ℕ → ℤ = h.stage in

@@ -29,7 +29,7 @@ kept_zero P t u tl ul d = elim (cases_eq u P.m) [ inl e ↦ grind (arith, nat_te
 pub kept_tagged : (P : Program) → IsTagged (kept_of P)
 kept_tagged P = record { inside = (auxiliary_tagged P).inside; last = (auxiliary_tagged P).last; one = kept_one P; zero = kept_zero P }
 
-kept_low : (P : Program) (t k : ℕ) → t < P.m → auxiliary_row P t k ≡ kept_row P t k
+pub kept_low : (P : Program) (t k : ℕ) → t < P.m → auxiliary_row P t k ≡ kept_row P t k
 kept_low P t k l = grind (arith, nat_tests)
 
 kept_auxiliary : (P : Program) → kept_row P P.m (P.n + P.m) ≡ pos 0

@@ -15,6 +15,7 @@ use Rattle.rob_linear.proofs.Unique.{row_equal}
 use Rattle.rob_linear.proofs.Costs.{with_objective_low, with_objective_at}
 use Rattle.rob_linear.proofs.Turns.{own_low, own_high}
 use Rattle.rob_linear.proofs.TwoPhases.{kept_basis, turned_standing}
+use Rattle.rob_linear.proofs.Extensions.{auxiliary_rows_exist}
 use Rattle.rob_linear.proofs.OtherCosts.{reached_on}
 
 -- ---- the columns of a basis
@@ -120,3 +121,15 @@ pub second_at_hand : (limit : ℕ) (P : Program) (basis : ℕ → ℕ) (rows aux
 second_at_hand limit P basis rows auxiliary kept i b x k (inl w) = inl (wide_in_rows limit (system_of P) basis rows i b (wide_position limit (system_of P) basis i w) w)
 second_at_hand limit P basis rows auxiliary kept i b x k (inr (inl w)) = inr (inl w)
 second_at_hand limit P basis rows auxiliary kept i b x k (inr (inr w)) = inr (inr (w.0, auxiliary_at_hand limit P basis auxiliary kept i x k w.1))
+
+-- these rows exist at each basis on the path
+pub rows_at_hand : (P : Program) (basis : ℕ → ℕ) → Reached P basis
+    → (auxiliary : ℕ → ℕ → ℤ) × (kept : ℕ → ℤ) × IsBasis (auxiliary_of P) (own_of (auxiliary_of P) basis) auxiliary × RowOf (kept_of P) (own_of (kept_of P) basis) P.m kept
+    × (HasAuxiliary P basis ⊎ ((rows : ℕ → ℕ → ℤ) × IsBasis (system_of P) (own_of (system_of P) basis) rows))
+rows_at_hand P basis r =
+    elim (turned_standing P r.0 basis r.1) [
+      | inl f ↦ (f.1.rows, f.1.kept, f.1.stands.is_basis, f.1.kept_row_of, inl f.0)
+      | inr f ↦
+          let x : (auxiliary : ℕ → ℕ → ℤ) × (kept : ℕ → ℤ) × IsBasis (auxiliary_of P) (own_of (auxiliary_of P) basis) auxiliary × RowOf (kept_of P) (own_of (kept_of P) basis) P.m kept = auxiliary_rows_exist P basis f.1.0 f.1.1.is_basis in
+          (x.0, x.1, x.2, x.3, inr (f.1.0, f.1.1.is_basis))
+    ]

@@ -46,4 +46,10 @@ pub fn change_of_phase()
         → StandsWith (auxiliary_of P) basis rows
         → RowOf (kept_of P) (own_of (kept_of P) basis) P.m kept → ¬ (HasAuxiliary P basis)
         → StandsWith (system_of P) basis (without_auxiliary P rows kept) }
+    // Each basis of the program still has rows in the auxiliary form, and a kept row.
+    ensures back { (P : Program) (basis : Columns) (rows : Matrix)
+        → IsBasis (system_of P) (own_of (system_of P) basis) rows
+        → (auxiliary : Matrix) × (kept : Vector)
+        × IsBasis (auxiliary_of P) (own_of (auxiliary_of P) basis) auxiliary
+        × RowOf (kept_of P) (own_of (kept_of P) basis) P.m kept }
 {}

@@ -69,6 +69,14 @@ pub fn wide_rows()
     ensures only { (limit : ℕ) (S : System) (basis : Columns) (rows : Matrix) (i : ℕ)
         → IsBasis S (own_of S basis) rows → i ≤ S.m → IsWideIn limit S basis i
         → HasWideEntry limit S (rows i) }
+    // The rows at hand at a basis on the path: those of the auxiliary form with the kept row of the
+    // cost, and, where the auxiliary column isn't basic, the program's own.
+    ensures at_hand { (P : Program) (basis : Columns) → Reached P basis
+        → (auxiliary : Matrix) × (kept : Vector)
+        × IsBasis (auxiliary_of P) (own_of (auxiliary_of P) basis) auxiliary
+        × RowOf (kept_of P) (own_of (kept_of P) basis) P.m kept
+        × (HasAuxiliary P basis
+        ⊎ ((rows : Matrix) × IsBasis (system_of P) (own_of (system_of P) basis) rows)) }
     // Where the auxiliary column is basic, nothing is wide but a row of the auxiliary form or the
     // kept row of the cost.
     ensures first_phase { (limit : ℕ) (P : Program) (basis : Columns) (rows : Matrix)

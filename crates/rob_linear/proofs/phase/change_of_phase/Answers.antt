@@ -1,8 +1,10 @@
 use Rattle.rob_linear.proofs.TwoPhases.{kept_turned, phase_change}
+use Rattle.rob_linear.proofs.Extensions.{auxiliary_rows_exist}
 use Rattle.rob_linear.proofs.phase.change_of_phase.Goals as goal
 
 pub returns : goal.returns
 returns c = record {
   kept = kept_turned;
   rows = phase_change;
+  back = auxiliary_rows_exist;
 }
