@@ -31,7 +31,7 @@ enters_or_none S rows =
     ]
 
 -- nothing comes both before and behind, nor before itself
-before_cases : (S : System) (a b : ℕ → ℤ) (p q : ℤ) → ComesBefore S a p b q ⊎ ¬ (ComesBefore S a p b q)
+pub before_cases : (S : System) (a b : ℕ → ℤ) (p q : ℤ) → ComesBefore S a p b q ⊎ ¬ (ComesBefore S a p b q)
 before_cases S a b p q =
     elim (lex_cases (suc S.m) (λ k. (p *ℤ key S b k) -ℤ (q *ℤ key S a k))) [
       | inl h ↦ inl h

@@ -23,7 +23,7 @@ gcd_positive : (g c p : ℕ) → 0 < p → g * c ≡ p → 0 < g
 gcd_positive zero c p pp e = absurd (omega arith)
 gcd_positive (suc g) c p pp e = omega arith
 
-divides_other : (n p q : ℕ) (x y : ℕ → ℕ) → 0 < p → ((k : ℕ) → k < n → p * x k ≡ q * y k) → ((d : ℕ) → ((k : ℕ) → k < n → d ∣ y k) → d ≡ 1) → p ∣ q
+pub divides_other : (n p q : ℕ) (x y : ℕ → ℕ) → 0 < p → ((k : ℕ) → k < n → p * x k ≡ q * y k) → ((d : ℕ) → ((k : ℕ) → k < n → d ∣ y k) → d ≡ 1) → p ∣ q
 divides_other n p q x y pp e h =
     let r : IsGcd p q (gcd p q) = IsGcd-gcd p q in
     let gp : gcd p q * (p / gcd p q) ≡ p = mul-div_cancel' (gcd p q) r.0 in

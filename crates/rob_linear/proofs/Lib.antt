@@ -28,4 +28,20 @@ pub mod Measure
 pub mod Phases
 pub mod Extensions
 pub mod Square
+pub mod Multiples
+pub mod Beside
+pub mod BesideTurns
+pub mod BesidePaths
+pub mod BesideLoops
+pub mod BesideBack
+pub mod BesideChoices
+pub mod BesideColumns
+pub mod MultipleStages
+pub mod MultipleNumbers
+pub mod MultiplePhases
+pub mod MultiplePaths
+pub mod CondensedRows
+pub mod CondensedSigns
+pub mod CondensedNumbers
+pub mod WithoutColumn
 mod Worked

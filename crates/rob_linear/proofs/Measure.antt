@@ -26,7 +26,7 @@ place_rises : (h w o v p : ℕ) → 0 < o → o ≤ h → 0 < p → p ≤ h → 
 place_rises h w o v p o0 oh p0 ph l =
     (le-div_iff_mul-le p0).1 (le_of_mul-le-mul_left (rises_by h w o v p (place h w o) oh ph l (div-mul-le_self (w * (h * h)) o)) o0)
 
-place_same : (h w o v p : ℕ) → 0 < o → 0 < p → w * p ≡ v * o → place h w o ≡ place h v p
+pub place_same : (h w o v p : ℕ) → 0 < o → 0 < p → w * p ≡ v * o → place h w o ≡ place h v p
 place_same h w o v p o0 p0 e =
     let a : (p * (w * (h * h))) / (p * o) ≡ (w * (h * h)) / o = mul-div-mul_left (w * (h * h)) o p0 in
     let b : (o * (v * (h * h))) / (o * p) ≡ (v * (h * h)) / p = mul-div-mul_left (v * (h * h)) p o0 in
@@ -54,7 +54,7 @@ joined_below base (suc n) f h =
     let k : suc (joined base n f) * base ≤ base ^ n * base = mul-le-mul_right base ih in
     rw pow-succ' (omega arith)
 
-joined_same : (base n : ℕ) (f g : ℕ → ℕ) → ((k : ℕ) → k < n → f k ≡ g k) → joined base n f ≡ joined base n g
+pub joined_same : (base n : ℕ) (f g : ℕ → ℕ) → ((k : ℕ) → k < n → f k ≡ g k) → joined base n f ≡ joined base n g
 joined_same base zero f g e = refl
 joined_same base (suc n) f g e =
     let ih : joined base n f ≡ joined base n g = joined_same base n f g (λ k l. e k (omega arith)) in
@@ -123,7 +123,7 @@ cross_less h z o v p zl op vl pp l =
     let b : pos (shifted h v p * unsigned_abs o) ≡ (o *ℤ v) +ℤ (pos h *ℤ (o *ℤ p)) = cross_is h v p o vl pp op ∙ ap (λ t. (o *ℤ v) +ℤ (pos h *ℤ t)) (*ℤ_comm p o) in
     omega (arith, ints)
 
-cross_same : (h : ℕ) (z o v p : ℤ) → unsigned_abs z ≤ h → pos 0 <ℤ o → unsigned_abs v ≤ h → pos 0 <ℤ p → p *ℤ z ≡ o *ℤ v → shifted h z o * unsigned_abs p ≡ shifted h v p * unsigned_abs o
+pub cross_same : (h : ℕ) (z o v p : ℤ) → unsigned_abs z ≤ h → pos 0 <ℤ o → unsigned_abs v ≤ h → pos 0 <ℤ p → p *ℤ z ≡ o *ℤ v → shifted h z o * unsigned_abs p ≡ shifted h v p * unsigned_abs o
 cross_same h z o v p zl op vl pp l =
     let a : pos (shifted h z o * unsigned_abs p) ≡ (p *ℤ z) +ℤ (pos h *ℤ (o *ℤ p)) = cross_is h z o p zl op pp in
     let b : pos (shifted h v p * unsigned_abs o) ≡ (o *ℤ v) +ℤ (pos h *ℤ (o *ℤ p)) = cross_is h v p o vl pp op ∙ ap (λ t. (o *ℤ v) +ℤ (pos h *ℤ t)) (*ℤ_comm p o) in

@@ -67,7 +67,7 @@ primitive_part n f k kl fp =
     )
 
 -- n rows, from one for each place
-chosen : (n : ℕ) (Q : ℕ → (ℕ → ℤ) → Type 0) → ((i : ℕ) → i < n → (r : ℕ → ℤ) × Q i r) → (rows : ℕ → ℕ → ℤ) × ((i : ℕ) → i < n → Q i (rows i))
+pub chosen : (n : ℕ) (Q : ℕ → (ℕ → ℤ) → Type 0) → ((i : ℕ) → i < n → (r : ℕ → ℤ) × Q i r) → (rows : ℕ → ℕ → ℤ) × ((i : ℕ) → i < n → Q i (rows i))
 chosen zero Q h = ((λ i k. pos 0), (λ i l. absurd (omega arith)))
 chosen (suc n) Q h =
     let t : (rows : ℕ → ℕ → ℤ) × ((i : ℕ) → i < n → Q i (rows i)) = chosen n Q (λ i l. h i (omega arith)) in

@@ -58,7 +58,7 @@ half_stage_unique P own rows d j r r' b h h' k kl =
 all_same : (P : Program) (t k : ℕ) → t ≤ P.m → starting_row (truncated P P.n) t k ≡ starting_row P t k
 all_same P t k l = elim (cases_lt k P.n) [ inl a ↦ grind (arith, nat_tests) | inr a ↦ elim (cases_eq k (P.n + t)) [ inl b ↦ grind (arith, nat_tests) | inr b ↦ grind (arith, nat_tests) ] ]
 
-spanned_all : (P : Program) (r : ℕ → ℤ) → IsSpanned (system_of (truncated P P.n)) r → IsSpanned (system_of P) r
+pub spanned_all : (P : Program) (r : ℕ → ℤ) → IsSpanned (system_of (truncated P P.n)) r → IsSpanned (system_of P) r
 spanned_all P r h k kl = h k kl ∙ sum_ext (suc P.m) (λ t. r (P.n + t) *ℤ starting_row (truncated P P.n) t k) (λ t. r (P.n + t) *ℤ starting_row P t k) (λ t tl. ap (λ v. r (P.n + t) *ℤ v) (all_same P t k (omega arith)))
 
 all_spanned : (P : Program) (r : ℕ → ℤ) → IsSpanned (system_of P) r → IsSpanned (system_of (truncated P P.n)) r
@@ -142,12 +142,12 @@ half_spanned P own j r jl h k kl =
     mul_cancel h.put_in.divisor (r k) (sum_to P.m (λ t. r (P.n + t) *ℤ starting_row (truncated P (suc j)) t k) +ℤ (r (P.n + P.m) *ℤ starting_row (truncated P (suc j)) P.m k)) h.put_in.positive (omega (arith, ints))
 
 -- 0 in each basic column but j, and positive for the objective
-half_zero : (P : Program) (own : ℕ → ℕ) (j : ℕ) (r : ℕ → ℤ) (h : IsHalfStage P own j r) (i : ℕ) → i < P.m → own i < P.n + P.m → own i ≢ j → r (own i) ≡ pos 0
+pub half_zero : (P : Program) (own : ℕ → ℕ) (j : ℕ) (r : ℕ → ℤ) (h : IsHalfStage P own j r) (i : ℕ) → i < P.m → own i < P.n + P.m → own i ≢ j → r (own i) ≡ pos 0
 half_zero P own j r h i il l d =
     let e : h.put_in.divisor *ℤ r (own i) ≡ h.stage (own i) = half_entry P own j r h (own i) (omega arith) d in
     mul_cancel_zero h.put_in.divisor (r (own i)) h.put_in.positive (e ∙ h.is_stage.zeros i (omega arith) (omega arith))
 
-half_positive : (P : Program) (own : ℕ → ℕ) (j : ℕ) (r : ℕ → ℤ) → j < P.n → own P.m ≡ P.n + P.m → IsHalfStage P own j r → pos 0 <ℤ r (own P.m)
+pub half_positive : (P : Program) (own : ℕ → ℕ) (j : ℕ) (r : ℕ → ℤ) → j < P.n → own P.m ≡ P.n + P.m → IsHalfStage P own j r → pos 0 <ℤ r (own P.m)
 half_positive P own j r jl last h =
     let e : h.put_in.divisor *ℤ r (own P.m) ≡ h.stage (own P.m) = half_entry P own j r h (own P.m) (omega arith) (omega arith) in
     mul_cancel_lt h.put_in.divisor (pos 0) (r (own P.m)) h.put_in.positive (subst (λ v. v <ℤ (h.put_in.divisor *ℤ r (own P.m))) (sym (mul-zero h.put_in.divisor)) (subst (λ v. pos 0 <ℤ v) (sym e) h.is_stage.positive))

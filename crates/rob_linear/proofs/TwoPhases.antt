@@ -20,10 +20,10 @@ use Rattle.rob_linear.proofs.Turns.{own_low, own_high, basis_same, turn_exchange
 use Rattle.rob_linear.proofs.Programs.{auxiliary_entry, auxiliary_tag-beyond, auxiliary_tag-slack}
 
 -- ---- the auxiliary form with the program's own cost
-kept_one : (P : Program) (t : ℕ) → t ≤ P.m → kept_row P t (auxiliary_tag P t) ≡ pos 1
+pub kept_one : (P : Program) (t : ℕ) → t ≤ P.m → kept_row P t (auxiliary_tag P t) ≡ pos 1
 kept_one P t l = elim (cases_eq t P.m) [ inl e ↦ grind (arith, nat_tests) | inr d ↦ grind (arith, nat_tests) ]
 
-kept_zero : (P : Program) (t u : ℕ) → t ≤ P.m → u ≤ P.m → u ≢ t → kept_row P t (auxiliary_tag P u) ≡ pos 0
+pub kept_zero : (P : Program) (t u : ℕ) → t ≤ P.m → u ≤ P.m → u ≢ t → kept_row P t (auxiliary_tag P u) ≡ pos 0
 kept_zero P t u tl ul d = elim (cases_eq u P.m) [ inl e ↦ grind (arith, nat_tests) | inr f ↦ elim (cases_eq t P.m) [ inl g ↦ grind (arith, nat_tests) | inr g ↦ grind (arith, nat_tests) ] ]
 
 pub kept_tagged : (P : Program) → IsTagged (kept_of P)

@@ -19,8 +19,11 @@ use Rattle.rob_linear.proofs.Extensions.{auxiliary_rows_exist}
 use Rattle.rob_linear.proofs.OtherCosts.{reached_on}
 
 -- ---- the columns of a basis
+pub listed_inside : (S : System) (basis : ℕ → ℕ) → ((j : ℕ) → j < S.m → own_of S basis j < S.columns) → IsInside S basis
+listed_inside S basis h j l = subst (λ v. v < S.columns) (own_low S basis j l) (h j l)
+
 pub basis_inside : (S : System) (basis : ℕ → ℕ) (rows : ℕ → ℕ → ℤ) → IsBasis S (own_of S basis) rows → IsInside S basis
-basis_inside S basis rows b j l = subst (λ v. v < S.columns) (own_low S basis j l) (b.inside j l)
+basis_inside S basis rows b = listed_inside S basis b.inside
 
 -- after an exchange
 pub exchange_inside : (S : System) (own basis : ℕ → ℕ) (rows : ℕ → ℕ → ℤ) (e col : ℕ) → ((j : ℕ) → j < S.m → own j < S.columns) → IsExchange S own (own_of S basis) rows e col → IsInside S basis

@@ -7,3 +7,7 @@ pub mod Stages
 pub mod Paths
 pub mod WideRows
 pub mod Optimality
+pub mod Multiples
+pub mod Beside
+pub mod MultipleStages
+pub mod CondensedRows

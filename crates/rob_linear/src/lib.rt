@@ -17,3 +17,9 @@ pub mod path;
 pub mod phase;
 /// The objective's row made column by column, and rows that are too wide.
 pub mod stage;
+/// Rows up to positive factors.
+pub mod multiple;
+/// The first phase with the auxiliary column kept out of the table's basis.
+pub mod first_phase;
+/// Rows without the columns of the basis.
+pub mod condensed;
