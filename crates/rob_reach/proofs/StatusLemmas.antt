@@ -1,0 +1,41 @@
+-- At most one status holds over plans with whole numbers, and an optimum is one number.
+use Rattle.std.specs.Prelude.{◌≡◌, pos, ℕ, List, [], ◌∷◌, refl}
+use Rattle.rob_algebra.specs.Fraction.{Fraction, ◌+ℚ◌, ◌-ℚ◌}
+use Rattle.rob_algebra.specs.FractionLaws as Q
+use Rattle.rob_algebra.specs.Ring.{lit, ◌:+◌, ◌:-◌, v0}
+use Rattle.rob_meaning.proofs.LinearLemmas.{zero_lt_one}
+use Rattle.rob_meaning.specs.Guarantee.{IsNoWorse}
+use Rattle.rob_meaning.specs.Places.{0ℚ, 1ℚ}
+use Rattle.rob_meaning.specs.RobustModel.{RobustModel, Sense, maximise, minimise}
+use Rattle.rob_reach.specs.WholeStatus.{IsWholeOptimal, IsWholeInfeasible, IsWholeUnbounded}
+
+no_worse_both : (sense : Sense) (a b : Fraction) → IsNoWorse sense a b → IsNoWorse sense b a → a ≡ b
+no_worse_both minimise a b h k = Q.le_antisym_ℚ a b h k
+no_worse_both maximise a b h k = Q.le_antisym_ℚ a b k h
+
+-- a better number
+better : Sense → Fraction → Fraction
+better minimise v = v -ℚ 1ℚ
+better maximise v = v +ℚ 1ℚ
+
+not_better : (sense : Sense) (v : Fraction) → IsNoWorse sense v (better sense v) → ⊥
+unfolding better
+not_better minimise v h =
+    Q.not_lt_ℚ v (v -ℚ 1ℚ) h (Q.lt_from (v ∷ []) (v0 :- lit (pos 1)) v0 (lit (pos 1)) refl zero_lt_one)
+not_better maximise v h =
+    Q.not_lt_ℚ (v +ℚ 1ℚ) v h (Q.lt_from (v ∷ []) v0 (v0 :+ lit (pos 1)) (lit (pos 1)) refl zero_lt_one)
+
+module _ (m : RobustModel) (names : List ℕ) where
+  pub one_optimum : (v w : Fraction) → IsWholeOptimal m names v → IsWholeOptimal m names w → v ≡ w
+  one_optimum v w h k =
+      no_worse_both m.sense v w (h.none_better k.attained.0 w k.attained.1) (k.none_better h.attained.0 v h.attained.1)
+
+  pub optimal_not_infeasible : (v : Fraction) → IsWholeOptimal m names v → IsWholeInfeasible m names → ⊥
+  optimal_not_infeasible v h none = none h.attained.0 v h.attained.1
+
+  pub optimal_not_unbounded : (v : Fraction) → IsWholeOptimal m names v → IsWholeUnbounded m names → ⊥
+  optimal_not_unbounded v h all =
+      not_better m.sense v (h.none_better (all (better m.sense v)).0 (better m.sense v) (all (better m.sense v)).1)
+
+  pub infeasible_not_unbounded : IsWholeInfeasible m names → IsWholeUnbounded m names → ⊥
+  infeasible_not_unbounded none all = none (all 0ℚ).0 0ℚ (all 0ℚ).1

@@ -1,0 +1,10 @@
+use Rattle.rob_reach.proofs.StatusLemmas.{one_optimum, optimal_not_infeasible, optimal_not_unbounded, infeasible_not_unbounded}
+use Rattle.rob_reach.proofs.whole_status.whole_status_laws.Goals as goal
+
+pub returns : goal.returns
+returns c = record {
+  one_value = one_optimum;
+  not_infeasible = optimal_not_infeasible;
+  not_unbounded = optimal_not_unbounded;
+  not_both = infeasible_not_unbounded;
+}
