@@ -1,9 +1,18 @@
 -- A shelf over the machine's files: its faults, and what its reads do.
-use Rattle.std.specs.Prelude.{◌≡◌, ℕ, List, ◌++◌, Option, Result, Ok, Err}
+use Rattle.std.specs.Prelude.{◌≡◌, ℕ, List, [], ◌++◌, Option, Result, Ok, Err}
 use Rattle.std.specs.Io.KnownBytes.{Consumes}
 use Rattle.rob_number.specs.Counts.{raised}
+use Rattle.rob_outside.specs.Fetches.{Fetch}
 use Rattle.rob_outside.specs.declared.shelf.ShelfErr.{ShelfErr}
 use Rattle.rob_outside.specs.declared.shelf.ShelfErr.TheVariants.{Failed, Memory}
+
+-- what the fetches answered so far, and the faults
+pub record FetchState : Type 0 where
+  pub log : List Fetch
+  pub faults : ℕ
+
+abbrev pub no_fetch : FetchState
+no_fetch = record { log = []; faults = 0 }
 
 -- the faults after a call that gave this answer: one more where it failed, and else as many
 abbrev pub faults_after : {T : Type 0} → ℕ → Result T ShelfErr → ℕ

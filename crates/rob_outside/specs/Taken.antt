@@ -5,7 +5,7 @@
 --   TookPrefix before now bytes    behind what was taken before stands a prefix of these bytes
 --   Takes before now piece result  a put took the whole piece, or answered an error and took a prefix of it
 --
--- `before` and `now` are the bytes that the sink tells. Where it tells none, nothing is said.
+-- `before` and `now` are the bytes that the sink took.
 use Rattle.std.specs.Prelude.{◌≡◌, ℕ, List, ◌++◌, Option, Some, Result, MatchResult, IfSome}
 
 -- the text begins with the front
@@ -14,14 +14,21 @@ pub record IsPrefix (front text : List ℕ) : Type 0 where
   pub whole : text ≡ front ++ rest
 
 -- behind what was taken before stand these bytes, all of them
-abbrev pub Took : Option (List ℕ) → Option (List ℕ) → List ℕ → Type 0
-Took before now bytes = IfSome before (λ taken. now ≡ Some (taken ++ bytes))
+abbrev pub Took : List ℕ → List ℕ → List ℕ → Type 0
+Took before now bytes = now ≡ before ++ bytes
 
 -- behind what was taken before stands a prefix of these bytes
-abbrev pub TookPrefix : Option (List ℕ) → Option (List ℕ) → List ℕ → Type 0
-TookPrefix before now bytes =
-    IfSome before (λ taken. (front : List ℕ) × IsPrefix front bytes × (now ≡ Some (taken ++ front)))
+abbrev pub TookPrefix : List ℕ → List ℕ → List ℕ → Type 0
+TookPrefix before now bytes = (front : List ℕ) × IsPrefix front bytes × Took before now front
 
 -- a put took the whole piece, or answered an error and took a prefix of it
-abbrev pub Takes : {T E : Type 0} → Option (List ℕ) → Option (List ℕ) → List ℕ → Result T E → Type 0
+abbrev pub Takes : {T E : Type 0} → List ℕ → List ℕ → List ℕ → Result T E → Type 0
 Takes before now piece result = MatchResult result (λ _. Took before now piece) (λ _. TookPrefix before now piece)
+
+-- the same of a writer whose bytes are known
+abbrev pub TookKnown : Option (List ℕ) → Option (List ℕ) → List ℕ → Type 0
+TookKnown before now bytes = IfSome before (λ held. now ≡ Some (held ++ bytes))
+
+abbrev pub TakesKnown : {T E : Type 0} → Option (List ℕ) → Option (List ℕ) → List ℕ → Result T E → Type 0
+TakesKnown before now piece result =
+    MatchResult result (λ _. TookKnown before now piece) (λ _. (front : List ℕ) × IsPrefix front piece × TookKnown before now front)

@@ -1,11 +1,13 @@
 // The machine's files. This is an edge that is trusted: nothing is told of what a file holds.
 
-ghost use Rattle.std.specs.Prelude.{◌≡◌, ◌+◌, ◌<◌, ◌≤◌, IfOk, IfSome, None, OnOk, Some, vec_len};
+ghost use Rattle.std.specs.Prelude.{◌≡◌, ◌+◌, ◌<◌, ◌≤◌, ◌++◌, IfOk, IfSome, None, OnOk, Some, vec_len};
 ghost use Rattle.std.specs.Io.KnownBytes.{IsAtEnd};
 ghost use Rattle.rob_number.specs.Counts.{Rose};
-ghost use Rattle.rob_outside.specs.FileShelf.{Reads, faults_after};
+ghost use Rattle.rob_outside.specs.Fetches.{logged};
+ghost use Rattle.rob_outside.specs.FileShelf.{Reads, faults_after, no_fetch};
 ghost use Rattle.rob_outside.specs.Files.{IsAtMost, found_of, found_within};
 
+use crate::note::FetchNote;
 use crate::shelf::{Fetched, Shelf, ShelfErr};
 use std::alloc::Global;
 use std::fs;
@@ -16,49 +18,61 @@ use std::rt::Files;
 /// How many bytes are asked for at a time.
 const CHUNK: usize = 4096;
 
-/// The files of the machine, by their paths. Contracts see the number of its faults so far.
+/// The files of the machine, by their paths. Contracts see what its fetches answered, and the number of its faults so far.
 #[derive(Drop)]
 pub struct FileShelf<'a, R: Files> {
     rt: &'a R,
+    log: FetchNote,
     faults: u64,
 }
 
 impl<'a, R: Files> Model for FileShelf<'a, R> {
-    ghost use Rattle.std.specs.Prelude.{ℕ};
+    ghost use Rattle.rob_outside.specs.FileShelf.{FetchState};
 
-    ghost Value = { ℕ };
+    ghost Value = { FetchState };
 
-    ghost view = { λ shelf. shelf.faults };
+    ghost view = { λ shelf. record { log = shelf.log.fetches; faults = shelf.faults } };
 }
 
 impl<'a, R: Files> FileShelf<'a, R> {
     /// A shelf over the machine's files. It takes no memory and opens nothing.
     pub fn new(rt: &'a R) -> FileShelf<'a, R>
-        ensures no_fault { result ≡ 0 }
+        ensures no_fetch { result ≡ no_fetch }
     {
-        FileShelf { rt, faults: 0 }
+        FileShelf {
+            rt,
+            log: FetchNote::new(),
+            faults: 0,
+        }
     }
 }
 
 impl<'a, R: Files> Shelf for FileShelf<'a, R> {
     ghost files = { λ _. None };
 
-    ghost faults = { λ shelf. shelf };
+    ghost log = { λ shelf. shelf.log };
+
+    ghost faults = { λ shelf. shelf.faults };
 
     /// Reads at most `max + 1` bytes. `Missing` is the machine's answer that there is no such file; every other error of
     /// the machine, an interrupted read among them, is a fault.
     fn fetch(&mut self, alloc: Global, name: &str, max: usize) -> Result<Fetched, ShelfErr>
         ensures within { IfOk result (IsAtMost max) }
-        ensures exact { self.new ≡ faults_after self.old result }
-        ensures counted { self.old ≤ self.new }
-        ensures fault { result ≡ Err ShelfErr.Failed → Rose self.old self.new }
+        ensures logged { self.new.log ≡ self.old.log ++ logged name.now max result }
+        ensures exact { self.new.faults ≡ faults_after self.old.faults result }
+        ensures counted { self.old.faults ≤ self.new.faults }
+        ensures fault { result ≡ Err ShelfErr.Failed → Rose self.old.faults self.new.faults }
     {
         match read_file(alloc, self.rt, name, max) {
+            Ok(fetched) => {
+                self.log.note(name.as_bytes(), max, &fetched);
+                Ok(fetched)
+            }
             Err(ShelfErr::Failed) => {
                 self.faults = self.faults.saturating_add(1);
                 Err(ShelfErr::Failed)
             }
-            answer => answer,
+            Err(ShelfErr::Memory) => Err(ShelfErr::Memory),
         }
     }
 }

@@ -1,7 +1,7 @@
 // What follows from the definitions, for the proofs of the layers above. The functions do nothing; their clauses are
 // the claims.
 
-ghost use Rattle.std.specs.Prelude.{◌≡◌, ◌≢◌, ◌<◌, ◌≤◌, ◌↔◌, ℕ, All, List, [], ◌++◌, length, take, Option, Some, None, IsSomeAnd, Result, Err, MatchResult};
+ghost use Rattle.std.specs.Prelude.{◌≡◌, ◌≢◌, ◌<◌, ◌≤◌, ◌↔◌, ℕ, All, List, [], ◌++◌, length, take, Some, None, IsSomeAnd, Result, Err, MatchResult};
 ghost use Rattle.rob_number.specs.Counts.{Rose};
 ghost use Rattle.rob_outside.specs.Files.{File, Finds, IsFirst, file_at, found_at, found_of, missing, too_long, whole};
 ghost use Rattle.rob_outside.specs.Taken.{IsPrefix, Takes, Took, TookPrefix};
@@ -38,26 +38,26 @@ pub fn fetch_laws()
 
 /// What a sink took in several puts.
 pub fn put_laws()
-    ensures nothing { (before : Option (List ℕ)) → Took before before [] }
+    ensures nothing { (before : List ℕ) → Took before before [] }
     // Pieces taken one by one are their concatenation taken.
-    ensures both { (before middle now : Option (List ℕ)) (first second : List ℕ)
+    ensures both { (before middle now first second : List ℕ)
         → Took before middle first → Took middle now second → Took before now (first ++ second) }
     // A put behind a text that was taken is a put of both together, whatever it answers.
-    ensures then_put { (before middle now : Option (List ℕ)) (first second : List ℕ)
+    ensures then_put { (before middle now first second : List ℕ)
         (result : Result (Unit {0}) SinkErr)
         → Took before middle first → Takes middle now second result
         → Takes before now (first ++ second) result }
-    ensures all_is_prefix { (before now : Option (List ℕ)) (text : List ℕ)
+    ensures all_is_prefix { (before now text : List ℕ)
         → Took before now text → TookPrefix before now text }
     // What is a prefix of a text is one of each text that begins with it.
-    ensures longer { (before now : Option (List ℕ)) (text more : List ℕ)
+    ensures longer { (before now text more : List ℕ)
         → IsPrefix text more → TookPrefix before now text → TookPrefix before now more }
     ensures prefix_of_prefix { (a b c : List ℕ) → IsPrefix a b → IsPrefix b c → IsPrefix a c }
     // Without a fault, a put takes the whole piece, or answers want of memory.
-    ensures answered { (told now : Option (List ℕ)) (piece : List ℕ) (faults later : ℕ)
+    ensures answered { (before now piece : List ℕ) (faults later : ℕ)
         (result : Result (Unit {0}) SinkErr)
-        → Takes told now piece result
+        → Takes before now piece result
         → (result ≡ Err PutFailed → Rose faults later) → (Rose faults later → ⊥)
-        → MatchResult result (λ _. Took told now piece) (λ error. error ≡ PutMemory) }
+        → MatchResult result (λ _. Took before now piece) (λ error. error ≡ PutMemory) }
     ensures first_bytes { (count : ℕ) (text : List ℕ) → IsPrefix (take count text) text }
 {}

@@ -5,6 +5,7 @@ pub mod file_shelf;
 pub mod laws;
 pub mod mem_shelf;
 pub mod mem_sink;
+mod note;
 pub mod shelf;
 pub mod sink;
 pub mod std_sink;

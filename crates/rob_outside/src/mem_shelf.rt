@@ -4,6 +4,7 @@ ghost use Rattle.std.specs.Prelude.{◌≡◌, [], ◌∷◌, ◌++◌, MatchBoo
 ghost use Rattle.rob_outside.specs.Files.{Finds, IsAtMost, file_of};
 ghost use Rattle.rob_outside.specs.MemShelf.{after_fetch, empty_shelf, fails_next};
 
+use crate::note::FetchNote;
 use crate::shelf::{Fetched, Shelf, ShelfErr};
 use crate::stored::{StoredFile, find, store};
 use rob_number::{List, Memory};
@@ -17,6 +18,7 @@ pub struct MemShelf {
     files: List<StoredFile>,
     failing: List<u64>,
     calls: u64,
+    log: FetchNote,
     faults: u64,
 }
 
@@ -29,6 +31,7 @@ impl Model for MemShelf {
       files = shelf.files;
       failing = shelf.failing;
       calls = shelf.calls;
+      log = shelf.log.fetches;
       faults = shelf.faults;
     } };
 }
@@ -43,6 +46,7 @@ impl MemShelf {
             files: List::new(alloc),
             failing: List::new(alloc),
             calls: 0,
+            log: FetchNote::new(),
             faults: 0,
         }
     }
@@ -76,12 +80,14 @@ impl MemShelf {
 impl Shelf for MemShelf {
     ghost files = { λ shelf. Some shelf.files };
 
+    ghost log = { λ shelf. shelf.log };
+
     ghost faults = { λ shelf. shelf.faults };
 
     fn fetch(&mut self, alloc: Global, name: &str, max: usize) -> Result<Fetched, ShelfErr>
         ensures found { Finds (Some self.old.files) name.now max result }
         ensures within { IfOk result (IsAtMost max) }
-        ensures after { self.new ≡ after_fetch self.old }
+        ensures after { self.new ≡ after_fetch self.old name.now max result }
         // A fetch that is to fail does; at any other want of memory is the only error.
         ensures fault { MatchBool (fails_next self.old)
             (result ≡ Err ShelfErr.Failed) (IfErr result (λ error. error ≡ ShelfErr.Memory)) }
@@ -91,6 +97,8 @@ impl Shelf for MemShelf {
             self.faults = self.faults.saturating_add(1);
             return Err(ShelfErr::Failed);
         }
-        Ok(find(alloc, self.files.items(), name.as_bytes(), max)?)
+        let fetched = find(alloc, self.files.items(), name.as_bytes(), max)?;
+        self.log.note(name.as_bytes(), max, &fetched);
+        Ok(fetched)
     }
 }

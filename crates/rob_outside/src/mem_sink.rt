@@ -1,6 +1,6 @@
 // A sink in memory with fixed room, whose puts fail where a test wants it.
 
-ghost use Rattle.std.specs.Prelude.{◌≡◌, ◌+◌, ◌≤◌, min, [], ◌∷◌, ◌++◌, length, take, IsOk, IfOk, OnOk, OnErr, MatchBool, Some, vec_capacity};
+ghost use Rattle.std.specs.Prelude.{◌≡◌, ◌+◌, ◌≤◌, min, [], ◌∷◌, ◌++◌, length, take, IsOk, IfOk, OnOk, OnErr, MatchBool, vec_capacity};
 ghost use Rattle.rob_outside.specs.MemSink.{accepts, after_put, empty_sink, first_of};
 ghost use Rattle.rob_outside.specs.Taken.{Takes};
 
@@ -98,13 +98,13 @@ impl MemSink {
 }
 
 impl Sink for MemSink {
-    ghost taken = { λ sink. Some sink.bytes };
+    ghost taken = { λ sink. sink.bytes };
 
     ghost faults = { λ sink. sink.faults };
 
     /// It takes no memory, and never answers `Memory`.
     fn put(&mut self, piece: &[u8]) -> Result<(), SinkErr>
-        ensures took { Takes (Some self.old.bytes) (Some self.new.bytes) piece.now result }
+        ensures took { Takes self.old.bytes self.new.bytes piece.now result }
         ensures after { self.new ≡ after_put self.old piece.now }
         ensures fault { MatchBool (accepts self.old piece.now)
             (IsOk result) (result ≡ Err SinkErr.Failed) }

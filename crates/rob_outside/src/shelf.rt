@@ -1,7 +1,8 @@
 // Files by name: what a program may read.
 
-ghost use Rattle.std.specs.Prelude.{◌≡◌, ◌≤◌, ℕ, List, Option, IfOk};
+ghost use Rattle.std.specs.Prelude.{◌≡◌, ◌≤◌, ◌++◌, ℕ, List, Option, IfOk};
 ghost use Rattle.rob_number.specs.Counts.{Rose};
+ghost use Rattle.rob_outside.specs.Fetches.{Fetch, logged};
 ghost use Rattle.rob_outside.specs.Files.{File, Finds, IsAtMost};
 
 use rob_number::Memory;
@@ -49,10 +50,14 @@ impl From<AllocError> for ShelfErr {
     }
 }
 
-/// Files by name. A shelf may tell its files, and it counts its faults; both are meanings for contracts alone.
+/// Files by name. A shelf may tell its files; it keeps what its fetches answered, and it counts its faults. All are meanings
+/// for contracts alone.
 pub trait Shelf {
     /// The files in their order, where the shelf tells them. Of two files of one name the first counts.
     ghost files: { Self → Option (List File) };
+
+    /// What the fetches answered so far, in their order. A fetch that answered an error isn't among them.
+    ghost log: { Self → List Fetch };
 
     /// The number of faults so far. A count at `u64::MAX` stands.
     ghost faults: { Self → ℕ };
@@ -62,6 +67,7 @@ pub trait Shelf {
         // Where the files are told: the whole file, or that there is none, or that it is longer, each exactly there.
         ensures found { Finds (files self.old) name.now max result }
         ensures within { IfOk result (IsAtMost max) }
+        ensures logged { log self.new ≡ log self.old ++ logged name.now max result }
         ensures unchanged { files self.new ≡ files self.old }
         ensures counted { faults self.old ≤ faults self.new }
         ensures fault { result ≡ Err ShelfErr.Failed → Rose (faults self.old) (faults self.new) };

@@ -1,6 +1,6 @@
 // A place for output.
 
-ghost use Rattle.std.specs.Prelude.{◌≡◌, ◌≤◌, ℕ, List, Option};
+ghost use Rattle.std.specs.Prelude.{◌≡◌, ◌≤◌, ℕ, List};
 ghost use Rattle.rob_number.specs.Counts.{Rose};
 ghost use Rattle.rob_outside.specs.Taken.{Takes};
 
@@ -26,11 +26,10 @@ impl From<Memory> for SinkErr {
     }
 }
 
-/// A place for output. A sink may tell the bytes that it took, and it counts its faults; both are meanings for
-/// contracts alone.
+/// A place for output. A sink keeps the bytes that it took, and it counts its faults; both are meanings for contracts alone.
 pub trait Sink {
-    /// The bytes taken so far, where the sink tells them.
-    ghost taken: { Self → Option (List ℕ) };
+    /// The bytes taken so far, in order.
+    ghost taken: { Self → List ℕ };
 
     /// The number of faults so far. A count at `u64::MAX` stands.
     ghost faults: { Self → ℕ };

@@ -1,54 +1,61 @@
-// The machine's standard output. This is an edge that is trusted: nothing is told of what it shows.
+// The machine's standard output. This is an edge that is trusted: what it tells are the bytes that the machine's writes said
+// they took; nothing is told of what it shows.
 
-ghost use Rattle.std.specs.Prelude.{◌≡◌, ◌≤◌, IfErr, MatchResult, None};
+ghost use Rattle.std.specs.Prelude.{◌≡◌, ◌≤◌, IfErr, MatchResult};
 ghost use Rattle.rob_number.specs.Counts.{Rose, raised};
-ghost use Rattle.rob_outside.specs.Taken.{Takes};
+ghost use Rattle.rob_outside.specs.StdSink.{empty_output};
+ghost use Rattle.rob_outside.specs.Taken.{Takes, TakesKnown};
 
+use crate::note::WriteNote;
 use crate::sink::{Sink, SinkErr};
 use std::io;
 use std::io::Write;
 use std::marker::Model;
 
-/// Standard output. Contracts see the number of its faults so far.
+/// Standard output. Contracts see the bytes that the machine's writes took so far, and the number of its faults.
 #[derive(Drop)]
 pub struct StdSink<'a, R: Print> {
     rt: &'a R,
+    taken: WriteNote,
     faults: u64,
 }
 
 impl<'a, R: Print> Model for StdSink<'a, R> {
-    ghost use Rattle.std.specs.Prelude.{ℕ};
+    ghost use Rattle.rob_outside.specs.StdSink.{OutputState};
 
-    ghost Value = { ℕ };
+    ghost Value = { OutputState };
 
-    ghost view = { λ sink. sink.faults };
+    ghost view = { λ sink. record { taken = sink.taken.bytes; faults = sink.faults } };
 }
 
 impl<'a, R: Print> StdSink<'a, R> {
     /// A sink over standard output. It takes no memory and writes nothing.
     pub fn new(rt: &'a R) -> StdSink<'a, R>
-        ensures no_fault { result ≡ 0 }
+        ensures empty { result ≡ empty_output }
     {
-        StdSink { rt, faults: 0 }
+        StdSink {
+            rt,
+            taken: WriteNote::new(),
+            faults: 0,
+        }
     }
 }
 
 impl<'a, R: Print> Sink for StdSink<'a, R> {
-    ghost taken = { λ _. None };
+    ghost taken = { λ sink. sink.taken };
 
-    ghost faults = { λ sink. sink };
+    ghost faults = { λ sink. sink.faults };
 
     /// An error of the machine is a fault, and so is a write that takes nothing. It takes no memory, and never answers
     /// `Memory`.
     fn put(&mut self, piece: &[u8]) -> Result<(), SinkErr>
-        // It tells no bytes.
-        ensures took { Takes None None piece.now result }
-        ensures exact { MatchResult result (λ _. self.new ≡ self.old)
-            (λ error. (error ≡ SinkErr.Failed) × (self.new ≡ raised self.old)) }
-        ensures counted { self.old ≤ self.new }
-        ensures fault { result ≡ Err SinkErr.Failed → Rose self.old self.new }
+        ensures took { Takes self.old.taken self.new.taken piece.now result }
+        ensures exact { MatchResult result (λ _. self.new.faults ≡ self.old.faults)
+            (λ error. (error ≡ SinkErr.Failed) × (self.new.faults ≡ raised self.old.faults)) }
+        ensures counted { self.old.faults ≤ self.new.faults }
+        ensures fault { result ≡ Err SinkErr.Failed → Rose self.old.faults self.new.faults }
     {
-        let written = write_whole(&mut io::writer(self.rt), piece);
+        let written = write_whole(&mut io::writer(self.rt), piece, &mut self.taken);
         if written.is_err() {
             self.faults = self.faults.saturating_add(1);
         }
@@ -56,17 +63,22 @@ impl<'a, R: Print> Sink for StdSink<'a, R> {
     }
 }
 
-/// Writes until the piece is used up. Each turn writes a byte at least.
-fn write_whole<W: Write>(writer: &mut W, piece: &[u8]) -> Result<(), SinkErr>
+/// Writes until the piece is used up, and notes the bytes that each write took. Each turn writes a byte at least.
+fn write_whole<W: Write>(writer: &mut W, piece: &[u8], taken: &mut WriteNote) -> Result<(), SinkErr>
     // Where the writer's bytes are known: the piece came behind them, or at an error a prefix of it.
-    ensures took { Takes (W.contents writer.old) (W.contents writer.new) piece.now result }
+    ensures took { TakesKnown (W.contents writer.old) (W.contents writer.new) piece.now result }
+    // The bytes that are noted: the piece, or at an error a prefix of it.
+    ensures noted { Takes taken.old.bytes taken.new.bytes piece.now result }
     ensures fault { IfErr result (λ error. error ≡ SinkErr.Failed) }
 {
     let mut rest = piece;
     while !rest.is_empty() {
         match writer.write(rest) {
             Ok(0) | Err(_) => return Err(SinkErr::Failed),
-            Ok(count) => rest = &rest[count..],
+            Ok(count) => {
+                taken.note(&rest[..count]);
+                rest = &rest[count..];
+            }
         }
     }
     Ok(())

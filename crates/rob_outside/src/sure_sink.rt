@@ -1,6 +1,6 @@
 // A sink in memory that grows, and fails only for want of memory.
 
-ghost use Rattle.std.specs.Prelude.{◌≡◌, [], ◌++◌, MatchResult, Some};
+ghost use Rattle.std.specs.Prelude.{◌≡◌, [], ◌++◌, MatchResult};
 ghost use Rattle.rob_outside.specs.Taken.{Takes};
 
 use crate::sink::{Sink, SinkErr};
@@ -41,7 +41,7 @@ impl SureSink {
 }
 
 impl Sink for SureSink {
-    ghost taken = { λ sink. Some sink };
+    ghost taken = { λ sink. sink };
 
     ghost faults = { λ _. 0 };
 

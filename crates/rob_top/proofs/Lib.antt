@@ -10,3 +10,5 @@ pub mod SolvingLemmas
 pub mod StageLemmas
 pub mod TrueAnswerLemmas
 pub mod WorkLemmas
+pub mod KnownLemmas
+pub mod MachineLemmas

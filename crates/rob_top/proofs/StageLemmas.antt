@@ -8,13 +8,14 @@ use Rattle.rob_meaning.specs.RobustModel.{RobustModel}
 use Rattle.rob_meaning.specs.UncertaintySet.{Admits}
 use Rattle.rob_meaning.proofs.StatusLemmas.{optimal_not_infeasible, optimal_not_unbounded, infeasible_not_unbounded}
 use Rattle.rob_parse.specs.Modelled.{ReadsModel}
+use Rattle.rob_outside.specs.Fetches.{Fetch}
 use Rattle.rob_outside.specs.Files.{File, Found, whole, missing, too_long, found_at}
 use Rattle.rob_parse.specs.Reading.{Breaks}
 use Rattle.rob_parse.proofs.OneModel.{not_both, one_model}
 use Rattle.rob_parse.proofs.OneReading.{one_rule}
 use Rattle.rob_model.specs.declared.place.Spot.{Spot}
 use Rattle.rob_top.proofs.CourseLemmas.{Course, accepted_course, cert_course, empty_course, rejected_course, rows_course, solved_course, wide_course}
-use Rattle.rob_top.specs.Calls.{Call, Came, IsFirstAbsent, IsFound, Request, limit_of, model_of, requests}
+use Rattle.rob_top.specs.Calls.{Call, Came, IsFirstAbsent, IsFound, Known, Request, answer_to, by_fetches, by_files, limit_of, model_of, requests}
 use Rattle.rob_top.specs.Headline.{HasModel, IsNoModel, IsSolved, IsWideSpot, Means, checking, elaborating, solving}
 use Rattle.rob_top.specs.Work.{ended_of}
 use Rattle.rob_top.specs.declared.ended.Ended.{Ended}
@@ -56,12 +57,16 @@ stage_of call ReadFault text h = failed refl
 stage_of call WriteFault text h = absurd h
 stage_of call Memory text h = wanting refl
 
--- ---- what is found of a told file is one thing
-pub found_once : (call : Call) (files : List File) (request : Request) (a b : Found) → call.files ≡ Some files → IsFound call request a → IsFound call request b → a ≡ b
-found_once call files request a b told h k = sym (here a h) ∙ here b k
+-- ---- what is found of a known file is one thing
+pub found_once : (call : Call) (request : Request) (a b : Found) → Known call.source → IsFound call request a → IsFound call request b → a ≡ b
+found_once call request a b (by_files files e) h k = sym (here a h) ∙ here b k
   where
     here : (found : Found) → IsFound call request found → found_at request.name request.most files ≡ found
-    here found h = subst (λ (t : Option (List File)). IfSome t (λ fs. found_at request.name request.most fs ≡ found)) told h
+    here found h = subst (λ (t : Option (List File)). IfSome t (λ fs. found_at request.name request.most fs ≡ found)) e h.0
+found_once call request a b (by_fetches fetches e) h k = let same : Some a ≡ Some b = sym (here a h) ∙ here b k in cc
+  where
+    here : (found : Found) → IsFound call request found → answer_to request fetches ≡ Some found
+    here found h = subst (λ (t : Option (List Fetch)). IfSome t (λ fs. answer_to request fs ≡ Some found)) e h.1
 
 -- the model's file is the first
 first_request : (action : Action) → (rest : List Request) × (requests action ≡ model_of action ∷ rest)
@@ -74,7 +79,7 @@ came_at : (call : Call) (before behind : List Request) (request : Request) → E
 came_at call [] behind request h = h.0
 came_at call (r ∷ before) behind request h = came_at call before behind request h.1
 
-module _ (call : Call) (files : List File) (told : call.files ≡ Some files) (line : Line) (spelled : IsSpelled call.words line) where
+module _ (call : Call) (known : Known call.source) (line : Line) (spelled : IsSpelled call.words line) where
   -- a model that was read is of this line
   pub read_here : (l : Line) (m : RobustModel) → HasModel call l m → HasModel call line m
   read_here l m h = subst (λ (x : Line). HasModel call x m) (one_line call.words l line h.spelled spelled) h
@@ -109,14 +114,14 @@ module _ (call : Call) (files : List File) (told : call.files ≡ Some files) (l
       let same = one_line call.words h.line line h.spelled spelled in
       let each = subst (λ (list : List Request). Each (Came call) list) (ap (λ (x : Line). requests x.action) (sym same) ∙ h.order) all in
       let came = came_at call h.before h.behind h.request each in
-      other came.0 (found_once call files h.request found (whole came.0) told h.absent came.1)
+      other came.0 (found_once call h.request found (whole came.0) known h.absent came.1)
 
   pub missing_answer : (ended : Ended) (text : List ℕ) → IsFound call (model_of line.action) missing → Means call ended text
       → (ended ≡ Missing) ⊎ ((ended ≡ ReadFault) ⊎ (ended ≡ Memory))
   missing_answer ended text f means = by (stage_of call ended text means)
     where
       once : (found : Found) → IsFound call (model_of line.action) found → missing ≡ found
-      once found h = found_once call files (model_of line.action) missing found told f h
+      once found h = found_once call (model_of line.action) missing found known f h
 
       not_whole : (bytes : List ℕ) → IsFound call (model_of line.action) (whole bytes) → ⊥
       not_whole bytes h = let e = once (whole bytes) h in cc
@@ -139,7 +144,7 @@ module _ (call : Call) (files : List File) (told : call.files ≡ Some files) (l
   too_long_answer ended text f means = by (stage_of call ended text means)
     where
       once : (found : Found) → IsFound call (model_of line.action) found → too_long ≡ found
-      once found h = found_once call files (model_of line.action) too_long found told f h
+      once found h = found_once call (model_of line.action) too_long found known f h
 
       not_whole : (bytes : List ℕ) → IsFound call (model_of line.action) (whole bytes) → ⊥
       not_whole bytes h = let e = once (whole bytes) h in cc
@@ -163,7 +168,7 @@ module _ (call : Call) (files : List File) (told : call.files ≡ Some files) (l
   broken_answer ended text bytes rule number all f breaks means = by (stage_of call ended text means)
     where
       same_bytes : (other : List ℕ) → IsFound call (model_of line.action) (whole other) → other ≡ bytes
-      same_bytes other h = let e = found_once call files (model_of line.action) (whole other) (whole bytes) told h f in cc
+      same_bytes other h = let e = found_once call (model_of line.action) (whole other) (whole bytes) known h f in cc
 
       is_rule : (r n : ℕ) → Breaks (limit_of line) bytes r n → ended ≡ Model r n → ended ≡ Model rule number
       is_rule r n b e =
@@ -186,10 +191,10 @@ module _ (call : Call) (files : List File) (told : call.files ≡ Some files) (l
       by (wanting e) = inr (inr e)
 
 -- ---- a model has one status
-pub one_model_read : (call : Call) (files : List File) (k l : Line) (a b : RobustModel) → call.files ≡ Some files → HasModel call k a → HasModel call l b → a ≡ b
-one_model_read call files k l a b told h other =
-    let here : HasModel call k b = read_here call files told k h.spelled l b other in
-    let bytes : whole h.bytes ≡ whole here.bytes = found_once call files (model_of k.action) (whole h.bytes) (whole here.bytes) told h.found here.found in
+pub one_model_read : (call : Call) (k l : Line) (a b : RobustModel) → Known call.source → HasModel call k a → HasModel call l b → a ≡ b
+one_model_read call k l a b known h other =
+    let here : HasModel call k b = read_here call known k h.spelled l b other in
+    let bytes : whole h.bytes ≡ whole here.bytes = found_once call (model_of k.action) (whole h.bytes) (whole here.bytes) known h.found here.found in
     let same : h.bytes ≡ here.bytes = cc in
     one_model (limit_of k) here.bytes a b (subst (λ (list : List ℕ). ReadsModel (limit_of k) list a) same h.reads) here.reads
 
@@ -209,12 +214,12 @@ same_status m unbounded optimal v w h k = absurd (optimal_not_unbounded m w k h)
 same_status m unbounded infeasible v w h k = absurd (infeasible_not_unbounded m k h)
 same_status m unbounded unbounded v w h k = refl
 
-pub one_status : (call : Call) (files : List File) (a b : Status) (text other : List ℕ) → call.files ≡ Some files
+pub one_status : (call : Call) (a b : Status) (text other : List ℕ) → Known call.source
     → Means call (ended_of a) text → Means call (ended_of b) other → a ≡ b
-one_status call files a b text other told h k =
+one_status call a b text other known h k =
     let first : IsSolved call a text = solved_by call a text h in
     let second : IsSolved call b other = solved_by call b other k in
-    let same : first.m ≡ second.m = one_model_read call files first.line second.line first.m second.m told first.forms.model second.forms.model in
+    let same : first.m ≡ second.m = one_model_read call first.line second.line first.m second.m known first.forms.model second.forms.model in
     same_status second.m a b first.c.value second.c.value (subst (λ (m : RobustModel). HasStatus m a first.c.value) same first.holds) second.holds
 
 inside_admitted : (m : RobustModel) (c : Certificate) (status : Status) → ProvesAs status m c → Admits m c.inside
@@ -222,10 +227,10 @@ inside_admitted m c optimal h = h.inside
 inside_admitted m c infeasible h = h.inside
 inside_admitted m c unbounded h = h.inside
 
-pub not_empty : (call : Call) (files : List File) (status : Status) (weights : List ℤ) (text other : List ℕ) → call.files ≡ Some files
+pub not_empty : (call : Call) (status : Status) (weights : List ℤ) (text other : List ℕ) → Known call.source
     → Means call (ended_of status) text → Means call (EmptySet weights) other → ⊥
-not_empty call files status weights text other told h empty =
+not_empty call status weights text other known h empty =
     let solved : IsSolved call status text = solved_by call status text h in
-    let same : solved.m ≡ empty.m = one_model_read call files solved.line empty.line solved.m empty.m told solved.forms.model empty.forms.model in
+    let same : solved.m ≡ empty.m = one_model_read call solved.line empty.line solved.m empty.m known solved.forms.model empty.forms.model in
     empty.none_admitted solved.c.inside
     (subst (λ (m : RobustModel). Admits m solved.c.inside) same (inside_admitted solved.m solved.c solved.c.status solved.proves))

@@ -1,6 +1,6 @@
--- Which answer has to come, where the files are told: the first file that doesn't come decides; then the model's text; then the
+-- Which answer has to come, where what is known of the files decides: the first file that doesn't come decides; then the model's text; then the
 -- first wide number; and then the command.
-use Rattle.std.proofs.Common.{◌≡◌, ℕ, ◌-◌, ◌^◌, ◌≤◌, List, [], ◌∷◌, ◌++◌, Some, sym, ◌∙◌, ap, subst, inl, inr, ◌⊎◌}
+use Rattle.std.proofs.Common.{◌≡◌, ℕ, ◌-◌, ◌^◌, ◌≤◌, List, [], ◌∷◌, ◌++◌, sym, ◌∙◌, ap, subst, inl, inr, ◌⊎◌}
 use Rattle.rob_algebra.specs.Fraction.{Fraction}
 use Rattle.rob_cert.specs.Apart.{IsNamedInWords}
 use Rattle.rob_cert.specs.Causes.{HasCause}
@@ -23,7 +23,7 @@ use Rattle.rob_meaning.specs.WellFormed.{IsModel}
 use Rattle.rob_meaning.proofs.EachLemmas.{each_right}
 use Rattle.rob_model.specs.declared.place.Spot.{Spot}
 use Rattle.rob_number.specs.Lowest.{limit_high, limit_low}
-use Rattle.rob_outside.specs.Files.{File, Found, whole, missing, too_long}
+use Rattle.rob_outside.specs.Files.{Found, whole, missing, too_long}
 use Rattle.rob_parse.proofs.ModelLemmas.{well_formed}
 use Rattle.rob_parse.proofs.OneModel.{not_both}
 use Rattle.rob_parse.proofs.WellNamed.{well_named, well_spelled}
@@ -35,7 +35,7 @@ use Rattle.rob_top.proofs.CertificateNameLemmas.{named_in_words}
 use Rattle.rob_top.proofs.CourseLemmas.{Course, course_at, finds, judges, prints, refuses, shows_empty, wide_number, wide_row}
 use Rattle.rob_top.proofs.StageLemmas.{Stage, absent, broken, broken_here, failed, found_once, none_absent, one_model_read, over, read, same_status, stage_of, wanting, wordless}
 use Rattle.rob_top.proofs.WorkLemmas.{limit_is}
-use Rattle.rob_top.specs.Calls.{Call, Came, IsFirstAbsent, IsFound, IsSolving, Request, certificate_file, limit_of, model_of, requests}
+use Rattle.rob_top.specs.Calls.{Call, Came, IsFirstAbsent, IsFound, IsSolving, Known, Request, certificate_file, limit_of, model_of, requests}
 use Rattle.rob_top.specs.Headline.{HasCertificate, HasCertificateFile, HasForms, HasModel, Means}
 use Rattle.rob_top.specs.Work.{IsSolveAnswer, ended_of, verdict_ended}
 use Rattle.rob_top.specs.declared.ended.Ended.{Ended}
@@ -83,16 +83,16 @@ first_of_two : {A B C : Type 0} → (A → B) → A ⊎ C → B ⊎ C
 first_of_two f (inl a) = inl (f a)
 first_of_two f (inr c) = inr c
 
-module _ (call : Call) (files : List File) (told : call.files ≡ Some files) where
+module _ (call : Call) (known : Known call.source) where
   -- ---- one file is the first that doesn't come
   abbrev Lacks : Request → Type 0
   Lacks r = (found : Found) × ((bytes : List ℕ) → found ≡ whole bytes → ⊥) × IsFound call r found
 
   one_absent : (a b : Found) (name other : Word) → ((bytes : List ℕ) → a ≡ whole bytes → ⊥) → ((bytes : List ℕ) → b ≡ whole bytes → ⊥) → IsFirstAbsent call a name → IsFirstAbsent call b other → a ≡ b
-  one_absent a b name other no_a no_b h k = found_once call files k.request a b told (subst (λ (r : Request). IsFound call r a) request h.absent) k.absent
+  one_absent a b name other no_a no_b h k = found_once call k.request a b known (subst (λ (r : Request). IsFound call r a) request h.absent) k.absent
     where
       excludes : (r : Request) → Came call r → Lacks r → ⊥
-      excludes r came lacks = lacks.1 came.0 (found_once call files r lacks.0 (whole came.0) told lacks.2 came.1)
+      excludes r came lacks = lacks.1 came.0 (found_once call r lacks.0 (whole came.0) known lacks.2 came.1)
 
       order : h.before ++ h.request ∷ h.behind ≡ k.before ++ k.request ∷ k.behind
       order = sym h.order ∙ ap (λ (x : Line). requests x.action) (one_line call.words h.line k.line h.spelled k.spelled) ∙ k.order
@@ -114,8 +114,8 @@ module _ (call : Call) (files : List File) (told : call.files ≡ Some files) wh
       by (wordless none) = absurd (none (h.line, h.spelled))
       by (absent other k e) = inl e
       by (over other k e) = absurd (let same : missing ≡ too_long = one_absent missing too_long name other no_missing no_too_long h k in cc)
-      by (broken rule number t k e) = absurd (none_absent call files told k.line k.spelled missing name k.came no_missing h)
-      by (read l m k course) = absurd (none_absent call files told l k.spelled missing name k.came no_missing h)
+      by (broken rule number t k e) = absurd (none_absent call known k.line k.spelled missing name k.came no_missing h)
+      by (read l m k course) = absurd (none_absent call known l k.spelled missing name k.came no_missing h)
       by (failed e) = inr (inl e)
       by (wanting e) = inr (inr e)
 
@@ -127,15 +127,15 @@ module _ (call : Call) (files : List File) (told : call.files ≡ Some files) wh
       by (wordless none) = absurd (none (h.line, h.spelled))
       by (absent other k e) = absurd (let same : too_long ≡ missing = one_absent too_long missing name other no_too_long no_missing h k in cc)
       by (over other k e) = inl e
-      by (broken rule number t k e) = absurd (none_absent call files told k.line k.spelled too_long name k.came no_too_long h)
-      by (read l m k course) = absurd (none_absent call files told l k.spelled too_long name k.came no_too_long h)
+      by (broken rule number t k e) = absurd (none_absent call known k.line k.spelled too_long name k.came no_too_long h)
+      by (read l m k course) = absurd (none_absent call known l k.spelled too_long name k.came no_too_long h)
       by (failed e) = inr (inl e)
       by (wanting e) = inr (inr e)
 
   module _ (line : Line) (m : RobustModel) where
     -- ---- a model was read
     same_bytes : (has : HasModel call line m) (other : List ℕ) → IsFound call (model_of line.action) (whole other) → other ≡ has.bytes
-    same_bytes has other found = let same : whole other ≡ whole has.bytes = found_once call files (model_of line.action) (whole other) (whole has.bytes) told found has.found in cc
+    same_bytes has other found = let same : whole other ≡ whole has.bytes = found_once call (model_of line.action) (whole other) (whole has.bytes) known found has.found in cc
 
     course_of : HasModel call line m → (ended : Ended) (text : List ℕ) → Means call ended text → Course call line m ended ⊎ ((ended ≡ ReadFault) ⊎ (ended ≡ Memory))
     course_of has ended text means = by (stage_of call ended text means)
@@ -146,11 +146,11 @@ module _ (call : Call) (files : List File) (told : call.files ≡ Some files) wh
 
         by : Stage call ended → Course call line m ended ⊎ ((ended ≡ ReadFault) ⊎ (ended ≡ Memory))
         by (wordless none) = absurd (none (line, has.spelled))
-        by (absent name h e) = absurd (none_absent call files told line has.spelled missing name has.came no_missing h)
-        by (over name h e) = absurd (none_absent call files told line has.spelled too_long name has.came no_too_long h)
-        by (broken rule number t h e) = let b = broken_here call files told line has.spelled rule number t h in absurd (no_rule rule number b.0 b.1 b.2)
+        by (absent name h e) = absurd (none_absent call known line has.spelled missing name has.came no_missing h)
+        by (over name h e) = absurd (none_absent call known line has.spelled too_long name has.came no_too_long h)
+        by (broken rule number t h e) = let b = broken_here call known line has.spelled rule number t h in absurd (no_rule rule number b.0 b.1 b.2)
         by (read l k h course) =
-            inl (course_at call l line k m ended (one_line call.words l line h.spelled has.spelled) (one_model_read call files l line k m told h has) course)
+            inl (course_at call l line k m ended (one_line call.words l line h.spelled has.spelled) (one_model_read call l line k m known h has) course)
         by (failed e) = inr (inl e)
         by (wanting e) = inr (inr e)
 
@@ -234,7 +234,7 @@ module _ (call : Call) (files : List File) (told : call.files ≡ Some files) wh
         let commands : check h.model_name h.certificate_name ≡ check k.model_name k.certificate_name = sym h.is_check ∙ k.is_check in
         let names : h.certificate_name ≡ k.certificate_name = cc in
         let found : IsFound call (certificate_file k.certificate_name) (whole bytes) = subst (λ (name : Word). IsFound call (certificate_file name) (whole bytes)) names h.found in
-        let same : whole bytes ≡ whole other = found_once call files (certificate_file k.certificate_name) (whole bytes) (whole other) told found k.found in
+        let same : whole bytes ≡ whole other = found_once call (certificate_file k.certificate_name) (whole bytes) (whole other) known found k.found in
         cc
 
     least : 1 ≤ limit_of line

@@ -1,7 +1,9 @@
 -- What a call of the program was given, what it did to the output, and what is found of the files that its words name.
-use Rattle.std.specs.Prelude.{◌≡◌, ℕ, ◌-◌, ◌^◌, List, [], ◌∷◌, ◌++◌, Option, IfSome}
+use Rattle.std.specs.Prelude.{◌≡◌, ℕ, ◌-◌, ◌^◌, ◌==◌, ◌&&◌, List, [], ◌∷◌, ◌++◌, length, drop, Option, Some, None, IfSome, if◌then◌else◌}
+use Rattle.std.specs.Str.{bytes_eq}
 use Rattle.rob_meaning.specs.Places.{Each}
 use Rattle.rob_number.specs.Counts.{Rose}
+use Rattle.rob_outside.specs.Fetches.{Fetch}
 use Rattle.rob_outside.specs.Files.{File, Found, whole, found_at}
 use Rattle.rob_words.specs.Commands.{Action, Line, rows, solve, prove, check, IsSpelled}
 use Rattle.rob_words.specs.Values.{Word, bits_of}
@@ -18,25 +20,57 @@ count before now = record { before = before; now = now }
 abbrev pub WasRaised : Count → Type 0
 WasRaised count = Rose count.before count.now
 
--- what a call was given: its words, and the files, where the shelf tells them; and two counts, of the shelf's faults and of the
--- wide results in the ledger
+-- what is known of a call's files: those that the shelf tells, where it tells them; and what the fetches of the call answered,
+-- in their order, where that is told. Every shelf tells the second
+pub record Source : Type 0 where
+  pub told : Option (List File)
+  pub came : Option (List Fetch)
+
+-- what stands behind the first list in the second one, where this begins with that
+abbrev pub behind : List Fetch → List Fetch → List Fetch
+behind before now = drop (length before) now
+
+-- the list grew at its end, by these or by none
+pub record Grew (before now : List Fetch) : Type 0 where
+  pub added : List Fetch
+  pub grown : now ≡ before ++ added
+
+-- the files that the shelf tells, and the answers that came in the call, from the shelf's answers before it and now
+abbrev pub source_of : Option (List File) → List Fetch → List Fetch → Source
+source_of told before now = record { told = told; came = Some (behind before now) }
+
+-- what a call was given: its words, and what is known of the files; and two counts, of the shelf's faults and of the wide
+-- results in the ledger
 pub record Call : Type 0 where
   pub words : List Word
-  pub files : Option (List File)
+  pub source : Source
   pub read_faults : Count
   pub wides : Count
 
-abbrev pub call_of : List Word → Option (List File) → Count → Count → Call
-call_of words files read_faults wides =
-    record { words = words; files = files; read_faults = read_faults; wides = wides }
+abbrev pub call_of : List Word → Source → Count → Count → Call
+call_of words source read_faults wides =
+    record { words = words; source = source; read_faults = read_faults; wides = wides }
 
--- what a call did to the output: the bytes before and after it, where the sink tells them, and the count of the sink's faults
+-- a part of what is known that decides what is found: the files that the shelf tells, or the answers that came
+pub data Known (source : Source) : Type 0 where
+  by_files : (files : List File) → source.told ≡ Some files → Known source
+  by_fetches : (fetches : List Fetch) → source.came ≡ Some fetches → Known source
+
+abbrev pub known_source : {source : Source} → Known source → Source
+known_source (by_files files e) = record { told = Some files; came = None }
+known_source (by_fetches fetches e) = record { told = None; came = Some fetches }
+
+-- the call, where no more is known of its files than that part
+abbrev pub known_call : (call : Call) → Known call.source → Call
+known_call call known = record call { source = known_source known }
+
+-- what a call did to the output: the bytes that the sink took before and after it, and the count of the sink's faults
 pub record Output : Type 0 where
-  pub before : Option (List ℕ)
-  pub now : Option (List ℕ)
+  pub before : List ℕ
+  pub now : List ℕ
   pub write_faults : Count
 
-abbrev pub output_of : Option (List ℕ) → Option (List ℕ) → Count → Output
+abbrev pub output_of : List ℕ → List ℕ → Count → Output
 output_of before now write_faults = record { before = before; now = now; write_faults = write_faults }
 
 -- ---- files
@@ -45,6 +79,19 @@ output_of before now write_faults = record { before = before; now = now; write_f
 pub record Request : Type 0 where
   pub name : Word
   pub most : ℕ
+
+-- what the first fetch of the file answered, if one answered
+abbrev pub answer_to : Request → List Fetch → Option Found
+answer_to request [] = None
+answer_to request (fetch ∷ fetches) =
+    if (fetch.most == request.most) && bytes_eq fetch.name request.name then Some fetch.found else answer_to request fetches
+
+-- this is found of the file: the fetch of it in the call answered so, and where the files are told, it is what they hold: all
+-- its bytes, no such file, or more bytes than it may have
+abbrev pub IsFoundIn : Source → Request → Found → Type 0
+IsFoundIn source request found =
+    IfSome source.told (λ files. found_at request.name request.most files ≡ found)
+    × IfSome source.came (λ fetches. answer_to request fetches ≡ Some found)
 
 -- the model's file, of at most 65,536 bytes
 abbrev pub model_file : Word → Request
@@ -80,9 +127,9 @@ abbrev pub limit_of : Line → ℕ
 limit_of line = 2 ^ bits_of line.width - 1
 
 module _ (call : Call) where
-  -- this is what is found of a file, where the files are told: all its bytes, no such file, or more bytes than it may have
+  -- this is what is found of a file
   abbrev pub IsFound : Request → Found → Type 0
-  IsFound request found = IfSome call.files (λ files. found_at request.name request.most files ≡ found)
+  IsFound request found = IsFoundIn call.source request found
 
   -- the file came whole
   abbrev pub Came : Request → Type 0

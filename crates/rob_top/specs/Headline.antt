@@ -4,9 +4,10 @@
 -- every admitted scenario, with worst case v, and no affine plan has a better one; `infeasible` and `unbounded` are true alike;
 -- the printed certificate proves it; and `too wide` names a number of that model's solution that leaves the width.
 --
--- The premises stand here, and nowhere else. The files are those that the shelf tells; the bytes are those that the sink
--- tells; where one tells nothing, what is said of files, or of bytes put, is not said. Want of memory is an answer of its own,
--- and free: nothing is said of when it comes.
+-- The premises stand here, and nowhere else. What a file holds is what the fetch of it answered in this call, whatever the
+-- shelf; where the shelf tells its files too, it is what they hold. What was put is what the sink's puts took, whatever the
+-- sink. That a fetch of the machine's shelf answers what the file holds, and that what its writes took is what one sees, is
+-- trusted. Want of memory is an answer of its own, and free: nothing is said of when it comes.
 use Rattle.std.specs.Prelude.{◌≡◌, ℕ, ℤ, List, ◌++◌, map}
 use Rattle.rob_algebra.specs.Fraction.{Fraction, of_int}
 use Rattle.rob_meaning.specs.Certificates.{Certificate, Status, optimal, infeasible, unbounded}

@@ -4,3 +4,4 @@ pub mod Headline
 pub mod Codes
 pub mod Replies
 pub mod Work
+pub mod Machine

@@ -1,12 +1,14 @@
 -- Answers with their texts, before they are put, and what the files' fetch gives the call that asked for them.
-use Rattle.std.specs.Prelude.{◌≡◌, ◌≤◌, ℕ, List, [], ◌∷◌, Option, IfSome, length}
-use Rattle.rob_outside.specs.Files.{File, whole, missing, too_long, found_at}
+use Rattle.std.specs.Prelude.{◌≡◌, ◌≤◌, ℕ, List, [], ◌∷◌, ◌++◌, length}
+use Rattle.rob_meaning.specs.Places.{Each}
+use Rattle.rob_outside.specs.Fetches.{Fetch}
+use Rattle.rob_outside.specs.Files.{whole, missing, too_long}
 use Rattle.rob_words.specs.Answers.{line_of}
 use Rattle.rob_words.specs.Commands.{Action, Line, rows, solve, prove, check, IsSpelled}
 use Rattle.rob_words.specs.Values.{Word}
 use Rattle.rob_words.specs.declared.line.CommandLine.{CommandLine}
 use Rattle.rob_top.specs.Answers.{missing_text, too_long_text, read_text}
-use Rattle.rob_top.specs.Calls.{Call, Count, Request, WasRaised, IsFound, model_file, model_of, certificate_file, requests}
+use Rattle.rob_top.specs.Calls.{Call, Count, Request, Source, WasRaised, IsFound, IsFoundIn, model_file, model_of, certificate_file, requests}
 use Rattle.rob_top.specs.Headline.{Means}
 use Rattle.rob_top.specs.declared.ended.Ended.{Ended}
 use Rattle.rob_top.specs.declared.ended.Ended.TheVariants.{Missing, TooLong, ReadFault}
@@ -30,19 +32,24 @@ IsLine call line = IsSpelled call.words (line_of line)
 -- ---- files
 
 -- the reply to a file that didn't come: there is none of that name, it is too long, or the outside failed
-abbrev pub IsAbsence : Option (List File) → Request → Count → Ended → List ℕ → Type 0
-IsAbsence told request faults Missing text =
-    IfSome told (λ files. found_at request.name request.most files ≡ missing) × (text ≡ missing_text request.name)
-IsAbsence told request faults TooLong text =
-    IfSome told (λ files. found_at request.name request.most files ≡ too_long) × (text ≡ too_long_text request.name)
-IsAbsence told request faults ReadFault text = WasRaised faults × (text ≡ read_text)
-IsAbsence told request faults _ text = ⊥
+abbrev pub IsAbsence : Source → Request → Count → Ended → List ℕ → Type 0
+IsAbsence source request faults Missing text =
+    IsFoundIn source request missing × (text ≡ missing_text request.name)
+IsAbsence source request faults TooLong text =
+    IsFoundIn source request too_long × (text ≡ too_long_text request.name)
+IsAbsence source request faults ReadFault text = WasRaised faults × (text ≡ read_text)
+IsAbsence source request faults _ text = ⊥
 
 -- what came of a file: its bytes, or a reply
-abbrev pub IsGot : Option (List File) → Request → Count → Got → Type 0
-IsGot told request faults (Bytes bytes) =
-    IfSome told (λ files. found_at request.name request.most files ≡ whole bytes.items)
-IsGot told request faults (Answer reply) = IsAbsence told request faults reply.ended reply.text
+abbrev pub IsGot : Source → Request → Count → Got → Type 0
+IsGot source request faults (Bytes bytes) = IsFoundIn source request (whole bytes.items)
+IsGot source request faults (Answer reply) = IsAbsence source request faults reply.ended reply.text
+
+-- the shelf's answers grew by some of files that may have so many bytes
+pub record GrewBy (most : ℕ) (before now : List Fetch) : Type 0 where
+  pub added : List Fetch
+  pub grown : now ≡ before ++ added
+  pub bound : Each (λ (f : Fetch). f.most ≡ most) added
 
 -- no more bytes came
 abbrev pub IsGotWithin : ℕ → Got → Type 0
@@ -64,15 +71,15 @@ pub record HasTexts (call : Call) (line : Line) (job : Job) : Type 0 where
   pub task : IsTask call line.action job.task
 
 -- what came of the files of a command: a job with their bytes, or the answer
-abbrev pub IsFetched : Action → Option (List File) → Count → Files → Type 0
-IsFetched action told faults (fetch.Job job) =
-    (call : Call) (line : Line) → IsSpelled call.words line → line.action ≡ action → call.files ≡ told → HasTexts call line job
-IsFetched action told faults (fetch.Answer reply) =
-    (call : Call) (line : Line) → IsSpelled call.words line → line.action ≡ action → call.files ≡ told
+abbrev pub IsFetched : Action → Source → Count → Files → Type 0
+IsFetched action source faults (fetch.Job job) =
+    (call : Call) (line : Line) → IsSpelled call.words line → line.action ≡ action → call.source ≡ source → HasTexts call line job
+IsFetched action source faults (fetch.Answer reply) =
+    (call : Call) (line : Line) → IsSpelled call.words line → line.action ≡ action → call.source ≡ source
     → call.read_faults ≡ faults → Means call reply.ended reply.text
 
 -- the same for each command that names this model's file alone, and has the task
-abbrev pub FetchesModel : Word → Task → Option (List File) → Count → Files → Type 0
-FetchesModel name task told faults fetched =
+abbrev pub FetchesModel : Word → Task → Source → Count → Files → Type 0
+FetchesModel name task source faults fetched =
     (action : Action) → requests action ≡ model_file name ∷ [] → ((call : Call) → IsTask call action task)
-    → IsFetched action told faults fetched
+    → IsFetched action source faults fetched

@@ -1,8 +1,10 @@
 // The files that a command names.
 
-ghost use Rattle.std.specs.Prelude.{◌≡◌, ◌≤◌, IfOk};
-ghost use Rattle.rob_top.specs.Calls.{count};
-ghost use Rattle.rob_top.specs.Replies.{FetchesModel, IsFetched, IsGot, IsGotWithin};
+ghost use Rattle.std.specs.Prelude.{◌≡◌, ◌≤◌, Err, IfOk};
+ghost use Rattle.rob_number.specs.Counts.{Rose};
+ghost use Rattle.rob_outside.specs.Files.{IsAtMost, found_of};
+ghost use Rattle.rob_top.specs.Calls.{Grew, IsFoundIn, count, source_of};
+ghost use Rattle.rob_top.specs.Replies.{FetchesModel, GrewBy, IsFetched, IsGot, IsGotWithin};
 ghost use Rattle.rob_top.specs.Work.{IsShortFetch, IsShortTask};
 ghost use Rattle.rob_words.specs.Answers.{action_of};
 ghost use Rattle.rob_words.specs.Commands.{check};
@@ -52,10 +54,11 @@ pub enum Got {
 
 /// Fetches the files of a command, in the order of its words.
 pub fn fetch<S: Shelf>(alloc: Global, command: &Command, shelf: &mut S) -> Result<Files, Memory>
-    ensures fetched { IfOk result (IsFetched (action_of command.now) (S.files shelf.old)
-        (count (S.faults shelf.old) (S.faults shelf.new))) }
+    ensures fetched { IfOk result (IsFetched (action_of command.now) (source_of (S.files shelf.old)
+        (S.log shelf.old) (S.log shelf.new)) (count (S.faults shelf.old) (S.faults shelf.new))) }
     ensures short { IfOk result IsShortFetch }
     ensures unchanged { S.files shelf.new ≡ S.files shelf.old }
+    ensures log { Grew (S.log shelf.old) (S.log shelf.new) }
     ensures counted { S.faults shelf.old ≤ S.faults shelf.new }
 {
     match command {
@@ -76,10 +79,11 @@ fn fetch_model<S: Shelf>(
     shelf: &mut S,
 ) -> Result<Files, Memory>
     requires alone { IsShortTask task }
-    ensures fetched { IfOk result (FetchesModel model.now task (S.files shelf.old)
-        (count (S.faults shelf.old) (S.faults shelf.new))) }
+    ensures fetched { IfOk result (FetchesModel model.now task (source_of (S.files shelf.old)
+        (S.log shelf.old) (S.log shelf.new)) (count (S.faults shelf.old) (S.faults shelf.new))) }
     ensures short { IfOk result IsShortFetch }
     ensures unchanged { S.files shelf.new ≡ S.files shelf.old }
+    ensures log { Grew (S.log shelf.old) (S.log shelf.new) }
     ensures counted { S.faults shelf.old ≤ S.faults shelf.new }
 {
     match get(alloc, model, MODEL_BYTES, shelf)? {
@@ -95,10 +99,11 @@ fn fetch_both<S: Shelf>(
     certificate: &str,
     shelf: &mut S,
 ) -> Result<Files, Memory>
-    ensures fetched { IfOk result (IsFetched (check model.now certificate.now) (S.files shelf.old)
-        (count (S.faults shelf.old) (S.faults shelf.new))) }
+    ensures fetched { IfOk result (IsFetched (check model.now certificate.now) (source_of (S.files shelf.old)
+        (S.log shelf.old) (S.log shelf.new)) (count (S.faults shelf.old) (S.faults shelf.new))) }
     ensures short { IfOk result IsShortFetch }
     ensures unchanged { S.files shelf.new ≡ S.files shelf.old }
+    ensures log { Grew (S.log shelf.old) (S.log shelf.new) }
     ensures counted { S.faults shelf.old ≤ S.faults shelf.new }
 {
     let model = match get(alloc, model, MODEL_BYTES, shelf)? {
@@ -116,13 +121,15 @@ fn fetch_both<S: Shelf>(
 
 /// Fetches a file of at most `most` bytes.
 pub fn get<S: Shelf>(alloc: Global, name: &str, most: usize, shelf: &mut S) -> Result<Got, Memory>
-    ensures got { IfOk result (IsGot (S.files shelf.old) (record { name = name.now; most = most })
+    ensures got { IfOk result (IsGot (source_of (S.files shelf.old)
+        (S.log shelf.old) (S.log shelf.new)) (record { name = name.now; most = most })
         (count (S.faults shelf.old) (S.faults shelf.new))) }
     ensures within { IfOk result (IsGotWithin most) }
     ensures unchanged { S.files shelf.new ≡ S.files shelf.old }
+    ensures log { GrewBy most (S.log shelf.old) (S.log shelf.new) }
     ensures counted { S.faults shelf.old ≤ S.faults shelf.new }
 {
-    let answer = match shelf.fetch(alloc, name, most) {
+    let answer = match ask(alloc, name, most, shelf) {
         Ok(Fetched::Bytes(bytes)) => return Ok(Got::Bytes(bytes)),
         Ok(Fetched::Missing) => fault(alloc, Ended::Missing, b"missing ", name.as_bytes()),
         Ok(Fetched::TooLong) => fault(alloc, Ended::TooLong, b"too long ", name.as_bytes()),
@@ -130,4 +137,17 @@ pub fn get<S: Shelf>(alloc: Global, name: &str, most: usize, shelf: &mut S) -> R
         Err(ShelfErr::Memory) => Err(Memory),
     };
     Ok(Got::Answer(answer?))
+}
+
+/// Fetches a file of at most `most` bytes. What is answered is what is found of the file.
+fn ask<S: Shelf>(alloc: Global, name: &str, most: usize, shelf: &mut S) -> Result<Fetched, ShelfErr>
+    ensures found { IfOk result (λ fetched. IsFoundIn (source_of (S.files shelf.old)
+        (S.log shelf.old) (S.log shelf.new)) (record { name = name.now; most = most }) (found_of fetched)) }
+    ensures within { IfOk result (IsAtMost most) }
+    ensures unchanged { S.files shelf.new ≡ S.files shelf.old }
+    ensures log { GrewBy most (S.log shelf.old) (S.log shelf.new) }
+    ensures counted { S.faults shelf.old ≤ S.faults shelf.new }
+    ensures fault { result ≡ Err ShelfErr.Failed → Rose (S.faults shelf.old) (S.faults shelf.new) }
+{
+    shelf.fetch(alloc, name, most)
 }

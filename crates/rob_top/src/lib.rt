@@ -5,6 +5,7 @@ mod checking;
 mod ended;
 mod files;
 pub mod laws;
+pub mod machine;
 pub mod one_answer;
 mod put;
 mod reply;
@@ -14,4 +15,5 @@ pub mod true_answer;
 mod work;
 
 pub use ended::Ended;
+pub use machine::run_here;
 pub use top::run;

@@ -4,7 +4,7 @@
 // that doesn't come whole decides; the texts are worked on; the whole output is assembled; it is put, line by line.
 
 ghost use Rattle.std.specs.Prelude.{◌≡◌, ◌≤◌, ℕ, List, IfOk, map, string_bytes};
-ghost use Rattle.rob_top.specs.Calls.{Call, call_of, count, output_of};
+ghost use Rattle.rob_top.specs.Calls.{Call, Grew, call_of, count, output_of, source_of};
 ghost use Rattle.rob_top.specs.Headline.{Ends, Means, PutPrefix};
 ghost use Rattle.rob_top.specs.Replies.{IsLine};
 
@@ -31,13 +31,15 @@ pub fn run<S: Shelf, K: Sink, L: Ledger>(
     out: &mut K,
     ledger: &mut L,
 ) -> Ended
-    // What the answer means of the files, and which bytes were put for it.
+    // What the answer means of the files, by the answers of the fetches in this call, and which bytes were put for it.
     ensures headline { Ends
-        (call_of (map string_bytes words.now) (S.files shelf.old)
-        (count (S.faults shelf.old) (S.faults shelf.new)) (count (L.wides ledger.old) (L.wides ledger.new)))
+        (call_of (map string_bytes words.now) (source_of (S.files shelf.old)
+        (S.log shelf.old) (S.log shelf.new)) (count (S.faults shelf.old) (S.faults shelf.new))
+        (count (L.wides ledger.old) (L.wides ledger.new)))
         (output_of (K.taken out.old) (K.taken out.new) (count (K.faults out.old) (K.faults out.new)))
         result }
     ensures files { S.files shelf.new ≡ S.files shelf.old }
+    ensures log { Grew (S.log shelf.old) (S.log shelf.new) }
     ensures counted { (S.faults shelf.old ≤ S.faults shelf.new) × (K.faults out.old ≤ K.faults out.new)
         × (L.wides ledger.old ≤ L.wides ledger.new) }
 {
@@ -58,10 +60,12 @@ fn answer<S: Shelf, L: Ledger>(
     ledger: &mut L,
 ) -> Result<Reply, Memory>
     ensures means { IfOk result (λ reply. Means
-        (call_of (map string_bytes words.now) (S.files shelf.old)
-        (count (S.faults shelf.old) (S.faults shelf.new)) (count (L.wides ledger.old) (L.wides ledger.new)))
+        (call_of (map string_bytes words.now) (source_of (S.files shelf.old)
+        (S.log shelf.old) (S.log shelf.new)) (count (S.faults shelf.old) (S.faults shelf.new))
+        (count (L.wides ledger.old) (L.wides ledger.new)))
         reply.ended reply.text) }
     ensures files { S.files shelf.new ≡ S.files shelf.old }
+    ensures log { Grew (S.log shelf.old) (S.log shelf.new) }
     ensures counted { (S.faults shelf.old ≤ S.faults shelf.new) × (L.wides ledger.old ≤ L.wides ledger.new) }
 {
     match read_words(alloc, words) {
@@ -78,11 +82,12 @@ fn on_line<S: Shelf, L: Ledger>(
     shelf: &mut S,
     ledger: &mut L,
 ) -> Result<Reply, Memory>
-    ensures means { IfOk result (λ reply. (call : Call) → IsLine call line.now → call.files ≡ S.files shelf.old
+    ensures means { IfOk result (λ reply. (call : Call) → IsLine call line.now → call.source ≡ source_of (S.files shelf.old) (S.log shelf.old) (S.log shelf.new)
         → call.read_faults ≡ count (S.faults shelf.old) (S.faults shelf.new)
         → call.wides ≡ count (L.wides ledger.old) (L.wides ledger.new)
         → Means call reply.ended reply.text) }
     ensures files { S.files shelf.new ≡ S.files shelf.old }
+    ensures log { Grew (S.log shelf.old) (S.log shelf.new) }
     ensures counted { (S.faults shelf.old ≤ S.faults shelf.new) × (L.wides ledger.old ≤ L.wides ledger.new) }
 {
     match fetch(alloc, &line.command, shelf)? {

@@ -1,0 +1,48 @@
+-- What the fetches of a shelf answered, in their order.
+--
+--   Fetch                   the name that was asked for, how many bytes at most, and what was found
+--   logged name max result  what a fetch adds: one entry where it answered no error, and else none
+use Rattle.std.specs.Prelude.{ℕ, List, [], ◌∷◌, Option, Some, None, Result, Ok, Err, ◌≡◌, refl}
+use Rattle.std.specs.Coded.{Coded, code_by, coded×, coded_ℕ, coded_list, coded_option}
+use Rattle.rob_outside.specs.Files.{Found, whole, missing, too_long, found_of}
+use Rattle.rob_outside.specs.declared.shelf.Fetched.{Fetched}
+
+-- a fetch that answered: the name, how many bytes at most were asked for, and what was found
+pub record Fetch : Type 0 where
+  pub name : List ℕ
+  pub most : ℕ
+  pub found : Found
+
+-- the fetch of that name, of so many bytes at most, that found this
+abbrev pub fetch_of : List ℕ → ℕ → Found → Fetch
+fetch_of name most found = record { name = name; most = most; found = found }
+
+-- what a fetch adds to the answers: where it answered no error, what it found
+abbrev pub logged : {E : Type 0} → List ℕ → ℕ → Result Fetched E → List Fetch
+logged name max (Ok fetched) = fetch_of name max (found_of fetched) ∷ []
+logged name max (Err error) = []
+
+-- ---- how they are stored
+
+abbrev pub to_option : Found → Option (Option (List ℕ))
+to_option (whole bytes) = Some (Some bytes)
+to_option missing = None
+to_option too_long = Some None
+
+abbrev pub of_option : Option (Option (List ℕ)) → Found
+of_option None = missing
+of_option (Some None) = too_long
+of_option (Some (Some bytes)) = whole bytes
+
+pub found_back : (found : Found) → of_option (to_option found) ≡ found
+found_back (whole bytes) = refl
+found_back missing = refl
+found_back too_long = refl
+
+abbrev pub found_code : Coded Found
+found_code = code_by (Option (Option (List ℕ))) (coded_option (coded_option (coded_list coded_ℕ))) to_option of_option found_back
+
+abbrev pub fetch_code : Coded Fetch
+fetch_code =
+    code_by (List ℕ × (ℕ × Found)) (coded× (coded_list coded_ℕ) (coded× coded_ℕ found_code)) (λ f. (f.name, (f.most, f.found)))
+    (λ p. fetch_of p.0 p.1.0 p.1.1) (λ _. refl)

@@ -1,0 +1,161 @@
+-- An answer means the same where less is known of the files. So what follows from a part of what is known follows from all.
+use Rattle.std.proofs.Common.{◌≡◌, ℕ, List, [], ◌∷◌, Option, Some, IfSome, refl, subst}
+use Rattle.rob_meaning.specs.Certificates.{Certificate, Status, optimal, infeasible, unbounded}
+use Rattle.rob_meaning.specs.Places.{Each}
+use Rattle.rob_meaning.specs.RobustModel.{RobustModel}
+use Rattle.rob_model.specs.declared.place.Spot.{Spot}
+use Rattle.rob_outside.specs.Fetches.{Fetch}
+use Rattle.rob_outside.specs.Files.{File, Found, whole, missing, too_long, found_at}
+use Rattle.rob_top.specs.Calls.{Call, Came, IsFirstAbsent, IsFoundIn, Known, Request, Source, answer_to, by_fetches, by_files, known_call, known_source, requests}
+use Rattle.rob_top.specs.Headline.{HasCertificate, HasCertificateFile, HasForms, HasModel, IsSolved, IsWideSpot, Means, checking, elaborating, solving}
+use Rattle.rob_top.specs.declared.ended.Ended.{Ended}
+use Rattle.rob_top.specs.declared.ended.Ended.TheVariants.{Optimal, Infeasible, Unbounded, Printed, Accepted, Rejected, Words, Missing, TooLong, Model, EmptySet, TooWide, Cert, ReadFault, WriteFault, Memory}
+use Rattle.rob_words.specs.Commands.{Line}
+
+-- the part decides as well
+pub known_again : {source : Source} (known : Known source) → Known (known_source known)
+known_again (by_files files e) = by_files files refl
+known_again (by_fetches fetches e) = by_fetches fetches refl
+
+found_in_part : {source : Source} (known : Known source) (request : Request) (found : Found) → IsFoundIn source request found
+    → IsFoundIn (known_source known) request found
+found_in_part (by_files files e) request found h =
+    (subst (λ (t : Option (List File)). IfSome t (λ fs. found_at request.name request.most fs ≡ found)) e h.0, tt)
+found_in_part (by_fetches fetches e) request found h =
+    (tt, subst (λ (t : Option (List Fetch)). IfSome t (λ fs. answer_to request fs ≡ Some found)) e h.1)
+
+module _ (call : Call) (known : Known call.source) where
+  abbrev part : Call
+  part = known_call call known
+
+  came_all : (list : List Request) → Each (Came call) list → Each (Came part) list
+  came_all [] h = tt
+  came_all (r ∷ list) h = ((h.0.0, found_in_part known r (whole h.0.0) h.0.1), came_all list h.1)
+
+  pub absent_known : (found : Found) (name : _) → IsFirstAbsent call found name → IsFirstAbsent part found name
+  absent_known found name h = record {
+    line = h.line;
+    spelled = h.spelled;
+    before = h.before;
+    request = h.request;
+    behind = h.behind;
+    order = h.order;
+    came = came_all h.before h.came;
+    absent = found_in_part known h.request found h.absent;
+    named = h.named;
+  }
+
+  module _ (line : Line) (m : RobustModel) where
+    pub model_known : HasModel call line m → HasModel part line m
+    model_known h = record {
+      spelled = h.spelled;
+      came = came_all (requests line.action) h.came;
+      bytes = h.bytes;
+      found = found_in_part known _ (whole h.bytes) h.found;
+      reads = h.reads;
+    }
+
+    pub forms_known : HasForms call line m → HasForms part line m
+    forms_known h = record { model = model_known h.model; none_wide = h.none_wide }
+
+    pub file_known : (bytes : List ℕ) → HasCertificateFile call line m bytes → HasCertificateFile part line m bytes
+    file_known bytes h = record {
+      forms = forms_known h.forms;
+      model_name = h.model_name;
+      certificate_name = h.certificate_name;
+      is_check = h.is_check;
+      found = found_in_part known _ (whole bytes) h.found;
+    }
+
+    pub certificate_known : (c : Certificate) → HasCertificate call line m c → HasCertificate part line m c
+    certificate_known c h = record { bytes = h.bytes; file = file_known h.bytes h.file; text = h.text; fits = h.fits }
+
+    spot_known : (spot : Spot) → IsWideSpot call line m spot → IsWideSpot part line m spot
+    spot_known spot (elaborating h first) = elaborating (model_known h) first
+    spot_known spot (solving h is_solving wide) = solving (forms_known h) is_solving wide
+    spot_known spot (checking c place h e verdict) = checking c place (certificate_known c h) e verdict
+
+  solved_known : (status : Status) (text : List ℕ) → IsSolved call status text → IsSolved part status text
+  solved_known status text h = record {
+    line = h.line;
+    m = h.m;
+    forms = forms_known h.line h.m h.forms;
+    c = h.c;
+    status_is = h.status_is;
+    holds = h.holds;
+    kept = h.kept;
+    proves = h.proves;
+    last = h.last;
+    printed = h.printed;
+  }
+
+  pub means_known : (ended : Ended) (text : List ℕ) → Means call ended text → Means part ended text
+  means_known Optimal text h = solved_known optimal text h
+  means_known Infeasible text h = solved_known infeasible text h
+  means_known Unbounded text h = solved_known unbounded text h
+  means_known Printed text h = record {
+    line = h.line;
+    m = h.m;
+    forms = forms_known h.line h.m h.forms;
+    model_name = h.model_name;
+    is_rows = h.is_rows;
+    printed = h.printed;
+  }
+  means_known Accepted text h = record {
+    line = h.line;
+    m = h.m;
+    c = h.c;
+    read = certificate_known h.line h.m h.c h.read;
+    verdict = h.verdict;
+    proves = h.proves;
+    holds = h.holds;
+    printed = h.printed;
+  }
+  means_known (Rejected place) text h = record {
+    line = h.line;
+    m = h.m;
+    c = h.c;
+    read = certificate_known h.line h.m h.c h.read;
+    verdict = h.verdict;
+    proves_not = h.proves_not;
+    printed = h.printed;
+  }
+  means_known Words text h = h
+  means_known Missing text h = (h.0, absent_known missing h.0 h.1, h.2)
+  means_known TooLong text h = (h.0, absent_known too_long h.0 h.1, h.2)
+  means_known (Model rule number) text h = record {
+    line = h.line;
+    spelled = h.spelled;
+    came = came_all (requests h.line.action) h.came;
+    bytes = h.bytes;
+    found = found_in_part known _ (whole h.bytes) h.found;
+    breaks = h.breaks;
+    printed = h.printed;
+  }
+  means_known (EmptySet weights) text h = record {
+    line = h.line;
+    m = h.m;
+    forms = forms_known h.line h.m h.forms;
+    solves = h.solves;
+    none_admitted = h.none_admitted;
+    shown = h.shown;
+    printed = h.printed;
+  }
+  means_known (TooWide spot) text h = record {
+    line = h.line;
+    m = h.m;
+    wide = spot_known h.line h.m spot h.wide;
+    raised = h.raised;
+    printed = h.printed;
+  }
+  means_known (Cert rule number) text h = record {
+    line = h.line;
+    m = h.m;
+    bytes = h.bytes;
+    file = file_known h.line h.m h.bytes h.file;
+    breaks = h.breaks;
+    printed = h.printed;
+  }
+  means_known ReadFault text h = h
+  means_known WriteFault text h = absurd h
+  means_known Memory text h = h
