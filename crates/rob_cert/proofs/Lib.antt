@@ -13,7 +13,6 @@ pub mod EndLemmas
 pub mod HeadLemmas
 pub mod WholeLemmas
 pub mod ShapeLemmas
-pub mod DemandLemmas
 pub mod NameWords
 pub mod ApartLemmas
 pub mod LeadLemmas

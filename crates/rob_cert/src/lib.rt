@@ -19,8 +19,6 @@ mod number;
 mod part;
 pub mod reader;
 pub mod spelling;
-#[cfg(test)]
-mod tests;
 pub mod trace;
 pub mod writer;
 

@@ -12,6 +12,3 @@ pub mod rows;
 pub use elaboration::elaborate;
 pub use forms::Forms;
 pub use rob_sets::ElabErr;
-
-#[cfg(test)]
-mod tests;

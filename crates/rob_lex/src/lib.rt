@@ -13,6 +13,3 @@ pub use error::LexErr;
 pub use offence::Offence;
 pub use reader::tokens;
 pub use token::{Kind, Token};
-
-#[cfg(test)]
-mod tests;

@@ -1,7 +1,6 @@
 pub mod BudgetLemmas
 pub mod ColumnLemmas
 pub mod ConditionLemmas
-pub mod DemandLemmas
 pub mod FlatNames
 pub mod FrontLemmas
 pub mod GroupLemmas

@@ -1,5 +1,5 @@
 -- 0 and 1 fit every limit, and the numbers at the places of a list.
-use Rattle.std.proofs.Common.{◌≡◌, ℕ, zero, suc, ◌<◌, ◌≤◌, List, [], ◌∷◌, map, length, get_or, arith, refl, ap, sym, ◌∙◌, ℤ}
+use Rattle.std.proofs.Common.{◌≡◌, ℕ, zero, suc, ◌<◌, ◌≤◌, List, [], ◌∷◌, ◌++◌, map, length, get_or, arith, refl, ap, sym, ◌∙◌, ℤ}
 use Rattle.std.specs.Prelude.{pos, negsuc, neg_ℤ, nat_abs, ◌*ℤ◌, ◌≤ℤ◌, ◌<ℤ◌, Some}
 use Rattle.std.proofs.lemmas.Int.{ints}
 use Rattle.rob_algebra.specs.Fraction.{Fraction, of_pair, of_int, ratio, ext, same_is, is_self, is_neg, neg_ℚ, sign_of, sign_ℚ}
@@ -36,6 +36,10 @@ pub at_past : {N : Type 0} (value : N → Fraction) (xs : List N) (k : ℕ) → 
 at_past value [] k h = refl
 at_past value (y ∷ ys) zero h = absurd (omega arith)
 at_past value (y ∷ ys) (suc k) h = at_past value ys k (omega arith)
+
+-- what was pushed to an empty list is its one item
+pub one_item : {A : Type 0} {a b : List A} {x : A} → a ≡ [] → b ≡ a ++ x ∷ [] → b ≡ x ∷ []
+one_item {x = x} e f = f ∙ ap (λ xs. xs ++ x ∷ []) e
 
 -- ---- the size of a number
 size_by : (x : Fraction) (z : ℤ) → x.num ≡ z → (sign_of z <ℤ pos 0 → neg_ℚ x ≡ abs_ℚ x) × (pos 0 ≤ℤ sign_of z → x ≡ abs_ℚ x)

@@ -14,8 +14,6 @@ pub mod plan;
 pub mod policy;
 pub mod spelling;
 pub mod statements;
-#[cfg(test)]
-mod tests;
 pub mod value;
 
 pub use admission::{admits, first_broken};

@@ -6,8 +6,6 @@ mod bound;
 mod laws;
 mod power;
 mod sizes;
-#[cfg(test)]
-mod tests;
 
 pub use bound::bound_of;
 pub use laws::narrow_law;

@@ -19,6 +19,3 @@ pub use list::List;
 pub use lp_kind::LpKind;
 pub use memory::Memory;
 pub use text::Text;
-
-#[cfg(test)]
-mod tests;

@@ -32,6 +32,3 @@ pub use fault::Fault;
 pub use model::read_model;
 pub use reader::{Statements, read_statements};
 pub use writer::write_model;
-
-#[cfg(test)]
-mod tests;

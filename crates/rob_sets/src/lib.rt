@@ -20,6 +20,3 @@ pub use set::clear_set;
 pub use set_form::{SetForm, SetRow};
 pub use set_program::set_lp;
 pub use table::{Cell, Table};
-
-#[cfg(test)]
-mod tests;

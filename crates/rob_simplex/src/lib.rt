@@ -20,6 +20,3 @@ mod work;
 
 pub use state::LpStop;
 pub use work::Work;
-
-#[cfg(test)]
-mod tests;

@@ -16,6 +16,3 @@ pub use line::{Command, CommandLine};
 pub use reader::read_words;
 pub use route::Route;
 pub use width::Width;
-
-#[cfg(test)]
-mod tests;

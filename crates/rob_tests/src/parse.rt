@@ -1,10 +1,8 @@
-use crate::error::ModelErr;
-use crate::model::read_model;
-use crate::reader::{Statements, read_statements};
-use crate::syntax::{Statement, Syntax};
-use crate::writer::write_model;
-use rob_model::{Expr, Model};
+// Model texts, each as statements, as a model or as its canonical text, or the rule that it breaks and the line.
+
+use rob_model::Model;
 use rob_number::{Frac, Tally, Text};
+use rob_parse::{ModelErr, read_model, read_statements, write_model};
 use std::test::Fail;
 
 const LIMIT: u64 = (1 << 62) - 1;
@@ -164,25 +162,6 @@ fn joined(rt: &HostRuntime, pieces: [&[u8]; 2]) -> Result<Vec<u8>, Fail> {
     Ok(text)
 }
 
-#[test]
-fn nested_sums_stay_nested(rt: HostRuntime) -> Result<(), Fail> {
-    let text = b"var x\nminimise -(x + 2) * 3 - (x - (x - 1))";
-    let found: Statements = read_statements(rt.alloc(), text, LIMIT)?;
-    let [_, Statement::Goal(goal)] = found.list.items() else {
-        return Err("no goal")?;
-    };
-    let Syntax::Sum(parts) = &goal.objective else {
-        return Err("no sum")?;
-    };
-    let [first, second] = parts.items() else {
-        return Err("not two parts")?;
-    };
-    assert!(rt; first.minus);
-    assert!(rt; matches!(&first.inner, Syntax::Product(factors) if factors.items().len() == 2));
-    assert!(rt; matches!(&second.inner, Syntax::Sum(_)));
-    Ok(())
-}
-
 /// How many parameters, statements on the set, variables, adaptive variables and rows the model of a text has, with numbers
 /// of 8 bits; or the rule and the line that it breaks. Nothing where memory was refused, or where the text is too long.
 fn model_reading(rt: &HostRuntime, text: &[u8]) -> Option<Result<[usize; 5], (u8, u32)>> {
@@ -225,22 +204,6 @@ fn worked_models(rt: HostRuntime) -> Result<(), Fail> {
     for (name, text, want) in MODELS {
         assert_eq!(rt; model_reading(&rt, text), Some(want), "{name}");
     }
-    Ok(())
-}
-
-#[test]
-fn names_are_numbers(rt: HostRuntime) -> Result<(), Fail> {
-    let mut tally = Tally::new();
-    let text = b"var x\nuncertain d\nvar z\nadaptive y(d)\nminimise z + y";
-    let model: Model<Frac<62>> = read_model(rt.alloc(), text, &mut tally)?;
-    let Expr::Sum(parts) = &model.objective else {
-        return Err("no sum")?;
-    };
-    let [first, second] = parts.items() else {
-        return Err("not two parts")?;
-    };
-    assert!(rt; matches!(&first.inner, Expr::Var(1)));
-    assert!(rt; matches!(&second.inner, Expr::Adaptive(0)));
     Ok(())
 }
 

@@ -1,6 +1,6 @@
 ghost use Rattle.std.specs.Prelude.{◌≤◌, ◌^◌, length};
 
-use crate::{Kind, LexErr, tokens};
+use rob_lex::{Kind, LexErr, tokens};
 use std::test::Fail;
 
 /// How many tokens a text has, or the rule and the line that it breaks; nothing where memory was refused.

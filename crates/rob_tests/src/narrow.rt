@@ -3,7 +3,7 @@
 ghost use Rattle.std.specs.Prelude.{◌^◌, ◌-◌};
 ghost use Rattle.rob_rows.specs.LinearPrograms.{HasNumbersWithin};
 
-use crate::{bound_of, greatest};
+use rob_narrow::{bound_of, greatest};
 use rob_number::List;
 use rob_rows::Lp;
 use std::alloc::Global;

@@ -1,10 +1,10 @@
 // What no clause says: that the calls succeed where memory is there, and what the machine's files and output do.
 
-use crate::{
+use rob_number::Memory;
+use rob_outside::{
     Fetched, FileShelf, MemShelf, MemSink, Shelf, ShelfErr, Sink, SinkErr, StdSink, SureShelf,
     SureSink,
 };
-use rob_number::Memory;
 use std::alloc::Global;
 use std::cell::Cell;
 use std::fmt::Display;

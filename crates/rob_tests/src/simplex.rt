@@ -4,9 +4,9 @@ ghost use Rattle.std.specs.Prelude.{◌≡◌};
 ghost use Rattle.rob_rows.specs.LinearPrograms.{program_of};
 ghost use Rattle.rob_simplex.specs.Solvers.{positions, HasPoint, HasOptimum, HasRay, HasWeights, IsMadeFor};
 
-use crate::{LpStop, Work};
 use rob_number::{Exact, Frac, List, LpKind, Tally};
 use rob_rows::Lp;
+use rob_simplex::{LpStop, Work};
 use std::alloc::Global;
 use std::process::Abort;
 

@@ -1,7 +1,7 @@
 use Rattle.std.proofs.Common.{rules, ◌≤◌, nat_abs, arith, to_z, of_z, w64}
 use Rattle.rob_number.specs.Lowest.{limit_of}
 use Rattle.rob_rows.specs.PrimitiveParts.{IsWithin}
-use Rattle.rob_rows.proofs.pivot_row.tests.combined.Goals as goal
+use Rattle.rob_tests.proofs.rows.combined.Goals as goal
 
 pub combine-answer-requires-clause-top_within : goal.combine-answer-requires-clause-top_within
 unfolding limit_of

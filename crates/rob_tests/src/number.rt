@@ -1,6 +1,6 @@
 // Worked results, by hand. The expected values are those of the fractions, in lowest terms.
 
-use crate::{Exact, Frac, Ledger, List, Memory, Tally, Text, Wide, gcd128};
+use rob_number::{Exact, Frac, Ledger, List, Memory, Tally, Text, Wide, gcd128};
 use std::process::Abort;
 use std::test::Fail;
 

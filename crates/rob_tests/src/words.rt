@@ -1,4 +1,6 @@
-use crate::{Command, CommandLine, Width, WordsErr, read_words};
+// Command lines and other words.
+
+use rob_words::{Command, CommandLine, Width, WordsErr, read_words};
 use std::alloc::{AllocError, Global};
 use std::test::Fail;
 

@@ -9,6 +9,7 @@ use Rattle.rob_meaning.specs.Places.{0ℚ, Each}
 use Rattle.rob_meaning.specs.RobustModel.{AdaptiveVariable, Row, column_from}
 use Rattle.rob_meaning.specs.SetRows.{lift_count}
 use Rattle.rob_meaning.specs.WellFormed.{IsExpression, IsSetLine}
+use Rattle.rob_model.proofs.SmallLemmas.{one_item}
 use Rattle.rob_model.specs.Valid.{IsValid}
 use Rattle.rob_model.specs.View.{robust, expression_of, set_line_of, parameter_of, variable_of, adaptive_of, row_of}
 use Rattle.rob_model.specs.declared.expr.Expr.{Expr, the_lemmas}
@@ -21,9 +22,6 @@ use Rattle.rob_model.specs.declared.model.RowDef.{RowDef}
 use Rattle.rob_model.specs.declared.model.SetLine.{SetLine}
 use Rattle.rob_model.specs.declared.model.SetLine.TheVariants.{Budget}
 use Rattle.rob_model.specs.declared.model.Var.{Var}
-
-pub one_item : {A : Type 0} {a b : List A} {x : A} → a ≡ [] → b ≡ a ++ x ∷ [] → b ≡ x ∷ []
-one_item {x = x} e f = f ∙ ap (λ xs. xs ++ x ∷ []) e
 
 pub two_items : {A : Type 0} {a b d : List A} {x y : A} → a ≡ [] → b ≡ a ++ x ∷ [] → d ≡ b ++ y ∷ [] → d ≡ x ∷ y ∷ []
 two_items {y = y} e f h = h ∙ ap (λ xs. xs ++ y ∷ []) (one_item e f)

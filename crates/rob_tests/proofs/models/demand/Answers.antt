@@ -1,9 +1,10 @@
 use Rattle.std.proofs.Common.{refl, ap, ◌∙◌, List, [], ◌∷◌}
 use Rattle.rob_model.specs.declared.model.Member.{Member}
 use Rattle.rob_model.specs.declared.model.SetLine.TheVariants.{Budget}
-use Rattle.rob_model.proofs.DemandLemmas.{demand_valid, one_item, two_items}
-use Rattle.rob_cert.proofs.DemandLemmas.{demand_named}
-use Rattle.rob_cert.proofs.tests.demand.Goals as goal
+use Rattle.rob_model.proofs.SmallLemmas.{one_item}
+use Rattle.rob_tests.proofs.NamedLemmas.{demand_named}
+use Rattle.rob_tests.proofs.ValidLemmas.{demand_valid, two_items}
+use Rattle.rob_tests.proofs.models.demand.Goals as goal
 
 pub returns-clause-valid : goal.returns-clause-valid
 returns-clause-valid g c =
