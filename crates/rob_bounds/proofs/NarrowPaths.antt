@@ -7,7 +7,7 @@ use Rattle.rob_linear.specs.Systems.{System, right, IsTagged, IsSpanned, IsBasis
 use Rattle.rob_linear.specs.Programs.{Program, system_of, auxiliary_row, auxiliary_of, kept_of}
 use Rattle.rob_linear.specs.Turns.{own_of, StandsWith}
 use Rattle.rob_linear.specs.Stages.{truncated, IsStage, IsHalfStage}
-use Rattle.rob_linear.specs.Paths.{HasAuxiliary, Reached}
+use Rattle.rob_linear.specs.Paths.{HasAuxiliary, Reached, IsFeasibleBasis}
 use Rattle.rob_linear.specs.WideRows.{HasWideEntry, IsWideIn, IsWideStage, IsWideAt, HasWideRow, HasWideRowFrom}
 use Rattle.rob_linear.proofs.Starts.{system_tagged, auxiliary_tagged}
 use Rattle.rob_linear.proofs.Costs.{with_objective_at}
@@ -15,7 +15,7 @@ use Rattle.rob_linear.proofs.TwoPhases.{InFirst, kept_tagged, kept_basis, turned
 use Rattle.rob_linear.proofs.Stages.{stage_basis, half_entry, half_spanned}
 use Rattle.rob_linear.proofs.Paths.{path_stands}
 use Rattle.rob_linear.proofs.Extensions.{extended, kept_extended, auxiliary_extended}
-use Rattle.rob_linear.proofs.WideRows.{wide_in_rows, wide_position, no_wide_stage}
+use Rattle.rob_linear.proofs.WideRows.{wide_in_rows, wide_position, no_wide_stage, own_wide}
 use Rattle.rob_bounds.specs.Bounds.{IsOfSize, StartsWithin, IsNarrow, row_bound}
 use Rattle.rob_bounds.proofs.Sizes.{size-mul, size-sum, size-factor}
 use Rattle.rob_bounds.proofs.RowBounds.{row_within, objective_amount}
@@ -106,13 +106,14 @@ module _ (limit a : ℕ) (P : Program) (some : 0 < a) (h : IsOfSize a P) (l : ro
   narrow_row : ¬ (HasWideRow limit P basis i)
   narrow_row w = narrow_at w.reached w.wide
 
-  narrow_row_from : (start : ℕ → ℕ) (rows : ℕ → ℕ → ℤ) → StandsWith (system_of P) start rows → ¬ (HasWideRowFrom limit P start basis i)
-  narrow_row_from start rows s w =
-      let x : (rows' : ℕ → ℕ → ℤ) × StandsWith (system_of P) basis rows' = path_stands (system_of P) start rows w.reached.0 basis (system_tagged P) s w.reached.1 in
-      narrow_second x.0 x.1.is_basis w.wide
+  narrow_row_from : (start : ℕ → ℕ) → ¬ (HasWideRowFrom limit P start basis i)
+  narrow_row_from start w =
+      let f : IsFeasibleBasis P start = w.reached.feasible in
+      let x : (rows' : ℕ → ℕ → ℤ) × StandsWith (system_of P) basis rows' = path_stands (system_of P) start f.rows w.reached.turns basis (system_tagged P) f.stands w.reached.turned in
+      narrow_second x.0 x.1.is_basis (own_wide limit P basis i w.wide)
 
 pub narrow_path : (limit : ℕ) (P : Program) → IsNarrow limit P → (basis : ℕ → ℕ) (i : ℕ) → ¬ (HasWideRow limit P basis i)
 narrow_path limit P n basis i = narrow_row limit n.size P n.positive n.sized n.bound basis i
 
-pub narrow_path_from : (limit : ℕ) (P : Program) → IsNarrow limit P → (basis : ℕ → ℕ) (i : ℕ) (start : ℕ → ℕ) (rows : ℕ → ℕ → ℤ) → StandsWith (system_of P) start rows → ¬ (HasWideRowFrom limit P start basis i)
-narrow_path_from limit P n basis i start rows = narrow_row_from limit n.size P n.positive n.sized n.bound basis i start rows
+pub narrow_path_from : (limit : ℕ) (P : Program) → IsNarrow limit P → (start basis : ℕ → ℕ) (i : ℕ) → ¬ (HasWideRowFrom limit P start basis i)
+narrow_path_from limit P n start basis i = narrow_row_from limit n.size P n.positive n.sized n.bound basis i start

@@ -5,7 +5,6 @@ ghost use Rattle.std.specs.Int.RustNames.{unsigned_abs};
 ghost use Rattle.rob_linear.specs.Vectors.{Columns, Matrix, Vector};
 ghost use Rattle.rob_linear.specs.Systems.{IsBasis};
 ghost use Rattle.rob_linear.specs.Programs.{Program, system_of, auxiliary_of, kept_of};
-ghost use Rattle.rob_linear.specs.Turns.{StandsWith};
 ghost use Rattle.rob_linear.specs.Stages.{IsStage, IsHalfStage};
 ghost use Rattle.rob_linear.specs.WideRows.{HasWideRow, HasWideRowFrom};
 ghost use Rattle.rob_bounds.specs.Bounds.{IsOfSize, StartsWithin, IsNarrow, row_bound, bound_within};
@@ -36,8 +35,7 @@ pub fn narrow_programs()
     ensures path { (limit : ℕ) (P : Program) → IsNarrow limit P → (basis : Columns) (i : ℕ)
         → ¬ (HasWideRow limit P basis i) }
     ensures path_from { (limit : ℕ) (P : Program) → IsNarrow limit P
-        → (basis : Columns) (i : ℕ) (start : Columns) (rows : Matrix)
-        → StandsWith (system_of P) start rows → ¬ (HasWideRowFrom limit P start basis i) }
+        → (start basis : Columns) (i : ℕ) → ¬ (HasWideRowFrom limit P start basis i) }
 {}
 
 /// The bound, made factor by factor: it is found exactly where it is not over the limit.

@@ -9,10 +9,10 @@ use Rattle.rob_linear.specs.Vectors.{Columns, Vector, Matrix}
 use Rattle.rob_linear.specs.Systems.{System, right, RowOf, IsBasis, IsCombined, IsNonnegative, Feasible, EndsOptimal, EndsUnbounded}
 use Rattle.rob_linear.specs.Optimality.{IsScaled, IsBasicPoint, IsBasicMove}
 use Rattle.rob_linear.specs.Programs.{Program, system_of, auxiliary_tag, auxiliary_row, auxiliary_of, kept_row, kept_of}
-use Rattle.rob_linear.specs.Turns.{ComesBefore, own_of, TurnsTo, TurnsFrom}
+use Rattle.rob_linear.specs.Turns.{ComesBefore, own_of, StandsWith, TurnsTo, TurnsFrom}
 use Rattle.rob_linear.specs.Stages.{truncated, IsStage, unit_row, IsHalfStage}
 use Rattle.rob_linear.specs.Paths.{StartsAtSlacks, StartsAtAuxiliary, HasAuxiliary, Steps, Turned, Reached, Last, ReachedFrom, LastFrom}
-use Rattle.rob_linear.specs.WideRows.{HasWideEntry, IsWideIn, IsWideStage, NeedsAuxiliary, IsWideAt, HasWideRow, HasWideRowFrom}
+use Rattle.rob_linear.specs.WideRows.{HasWideEntry, IsWideIn, IsWideStage, NeedsAuxiliary, IsWideAt, HasWideRow, IsOwnWideAt, HasWideRowFrom}
 use Rattle.rob_algebra.specs.Fraction.{Fraction}
 use Rattle.rob_counterpart.specs.Endings.{OptimalEnding, InfeasibleEnding, UnboundedEnding}
 use Rattle.rob_counterpart.specs.SamePrograms.{AreSame}
@@ -196,6 +196,10 @@ module _ (P Q : Program) (h : AreSame P Q) where
       by (inl v) = inl (subst (λ S. IsWideIn limit S basis i) (auxiliaries_same P Q h) v)
       by (inr v) = inr (subst (λ S. IsWideIn limit S basis i) (kept_systems P Q h) v)
 
+  pub own_wide_same : (limit : ℕ) (basis : Columns) (i : ℕ) → IsOwnWideAt limit P basis i → IsOwnWideAt limit Q basis i
+  own_wide_same limit basis i (inl w) = inl (subst (λ S. IsWideIn limit S basis i) (systems_same P Q h) w)
+  own_wide_same limit basis i (inr w) = inr (w.0 ∙ h.height, wide_stage limit basis w.1)
+
   pub wide_row_same : (limit : ℕ) (basis : Columns) (i : ℕ) → HasWideRow limit P basis i → HasWideRow limit Q basis i
   wide_row_same limit basis i w = record { reached = reached_same basis w.reached; wide = wide_same limit basis i w.wide }
 
@@ -208,7 +212,11 @@ module _ (P Q : Program) (h : AreSame P Q) where
 
   -- the same on the path from a given basis
   reached_from : (start basis : Columns) → ReachedFrom P start basis → ReachedFrom Q start basis
-  reached_from start basis r = (r.0, subst (λ S. TurnsFrom S start r.0 basis) (systems_same P Q h) r.1)
+  reached_from start basis r = record {
+    feasible = record { rows = r.feasible.rows; stands = subst (λ S. StandsWith S start r.feasible.rows) (systems_same P Q h) r.feasible.stands };
+    turns = r.turns;
+    turned = subst (λ S. TurnsFrom S start r.turns basis) (systems_same P Q h) r.turned;
+  }
 
   pub last_from : (start basis : Columns) → LastFrom P start basis → LastFrom Q start basis
   last_from start basis l = record {
@@ -218,4 +226,4 @@ module _ (P Q : Program) (h : AreSame P Q) where
 
   pub wide_row_from : (limit : ℕ) (start basis : Columns) (i : ℕ) → HasWideRowFrom limit P start basis i
       → HasWideRowFrom limit Q start basis i
-  wide_row_from limit start basis i w = record { reached = reached_from start basis w.reached; wide = wide_same P Q h limit basis i w.wide }
+  wide_row_from limit start basis i w = record { reached = reached_from start basis w.reached; wide = own_wide_same P Q h limit basis i w.wide }

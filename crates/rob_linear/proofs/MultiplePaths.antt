@@ -19,7 +19,7 @@ path_turn P k basis next rows rows' e col t no_aux s v w p =
 pub path_turn_from : (P : Program) (start basis next : ℕ → ℕ) (rows rows' : ℕ → ℕ → ℤ) (e col : ℕ) → ReachedFrom P start basis → StandsMultiple (system_of P) basis rows → Enters (system_of P) rows col → Leaves (system_of P) rows col e → IsMultiplePivot (system_of P) (own_of (system_of P) basis) (own_of (system_of P) next) rows rows' e col → ReachedFrom P start next × StandsMultiple (system_of P) next rows'
 path_turn_from P start basis next rows rows' e col r s v w p =
     let x : TurnsTo (system_of P) basis next × StandsMultiple (system_of P) next rows' × Rises (system_of P) (rows P.m) (rows' P.m) = multiple_turn (system_of P) basis next rows rows' e col (system_tagged P) s v w p in
-    ((suc r.0, (basis, r.1, x.0)), x.1)
+    (record { feasible = r.feasible; turns = suc r.turns; turned = (basis, r.turned, x.0) }, x.1)
 
 pub multiple_optimum : (P : Program) (basis : ℕ → ℕ) (rows : ℕ → ℕ → ℤ) → StandsMultiple (system_of P) basis rows → IsNonnegative (P.n + P.m) (rows P.m) → EndsAtOptimum P basis
 multiple_optimum P basis rows s n =

@@ -111,4 +111,4 @@ turned_on P (suc d) start basis r no_aux f =
     )
 
 pub reached_on : (P : Program) (d : ℕ → ℤ) (start basis : ℕ → ℕ) → ((j : ℕ) → j < P.n → d j ≡ pos 0) → Reached (with_cost P d) start → ¬ (HasAuxiliary P start) → ReachedFrom P start basis → Reached P basis
-reached_on P d start basis h r no_aux f = (turned_on P f.0 start basis (r.0, free_turned P d r.0 start h r.1) no_aux f.1).0
+reached_on P d start basis h r no_aux f = (turned_on P f.turns start basis (r.0, free_turned P d r.0 start h r.1) no_aux f.turned).0

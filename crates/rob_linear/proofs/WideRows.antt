@@ -10,7 +10,7 @@ use Rattle.rob_linear.specs.Programs.{Program, with_cost, system_of, auxiliary_o
 use Rattle.rob_linear.specs.Turns.{own_of, IsExchange}
 use Rattle.rob_linear.specs.Paths.{HasAuxiliary, Reached}
 use Rattle.rob_linear.specs.Stages.{cost_before}
-use Rattle.rob_linear.specs.WideRows.{HasWideEntry, IsInside, IsWideIn, IsWideStage, NeedsAuxiliary, IsWideAt, HasWideRow, HasWideRowFrom}
+use Rattle.rob_linear.specs.WideRows.{HasWideEntry, IsInside, IsWideIn, IsWideStage, NeedsAuxiliary, IsWideAt, HasWideRow, IsOwnWideAt, HasWideRowFrom}
 use Rattle.rob_linear.proofs.Unique.{row_equal}
 use Rattle.rob_linear.proofs.Costs.{with_objective_low, with_objective_at}
 use Rattle.rob_linear.proofs.Turns.{own_low, own_high}
@@ -49,9 +49,14 @@ wide_in_rows limit S basis rows i b il w =
 pub rows_wide_in : (limit : ℕ) (S : System) (basis : ℕ → ℕ) (rows : ℕ → ℕ → ℤ) (i : ℕ) → IsBasis S (own_of S basis) rows → i ≤ S.m → HasWideEntry limit S (rows i) → IsWideIn limit S basis i
 rows_wide_in limit S basis rows i b il h = (rows i, basis_inside S basis rows b, b.rows_of i il, h)
 
+-- a wide row of the program's own is a wide row, of whatever form
+pub own_wide : (limit : ℕ) (P : Program) (basis : ℕ → ℕ) (i : ℕ) → IsOwnWideAt limit P basis i → IsWideAt limit P basis i
+own_wide limit P basis i (inl w) = inl w
+own_wide limit P basis i (inr w) = inr (inl w)
+
 -- a wide row on the path from a basis where a cost of zeros has ended is one on the program's own path
 pub wide_from : (limit : ℕ) (P : Program) (d : ℕ → ℤ) (start basis : ℕ → ℕ) (i : ℕ) → ((j : ℕ) → j < P.n → d j ≡ pos 0) → Reached (with_cost P d) start → ¬ (HasAuxiliary P start) → HasWideRowFrom limit P start basis i → HasWideRow limit P basis i
-wide_from limit P d start basis i h r no_aux w = record { reached = reached_on P d start basis h r no_aux w.reached; wide = w.wide }
+wide_from limit P d start basis i h r no_aux w = record { reached = reached_on P d start basis h r no_aux w.reached; wide = own_wide limit P basis i w.wide }
 
 -- ---- rows at hand
 

@@ -6,7 +6,7 @@ use Rattle.std.specs.Prelude.{◌≡◌, ℕ, zero, suc, ◌+◌, ◌<◌, ◌�
 use Rattle.rob_linear.specs.Vectors.{Columns, Matrix}
 use Rattle.rob_linear.specs.Systems.{IsBasis, EndsOptimal, EndsUnbounded}
 use Rattle.rob_linear.specs.Programs.{Program, system_of, auxiliary_of, auxiliary_row, EndsInfeasible}
-use Rattle.rob_linear.specs.Turns.{ComesBefore, Enters, own_of, TurnsTo, TurnsFrom}
+use Rattle.rob_linear.specs.Turns.{ComesBefore, Enters, own_of, StandsWith, TurnsTo, TurnsFrom}
 
 -- the auxiliary column stands behind the slack columns
 abbrev pub auxiliary_column : Program → ℕ
@@ -49,9 +49,16 @@ pub record Last (P : Program) (basis : Columns) : Type 0 where
   pub reached : Reached P basis
   pub ends : (next : Columns) → ¬ (Steps P basis next)
 
--- the same for the path that begins at a given basis of the program, without a first phase
-abbrev pub ReachedFrom : Program → Columns → Columns → Type 0
-ReachedFrom P start basis = (k : ℕ) × TurnsFrom (system_of P) start k basis
+-- a basis of the program from which a path can go on: the rows that stand with it are feasible, by the lexicographic rule too
+pub record IsFeasibleBasis (P : Program) (basis : Columns) : Type 0 where
+  pub rows : Matrix
+  pub stands : StandsWith (system_of P) basis rows
+
+-- the same for the path that begins at a given feasible basis of the program, without a first phase
+pub record ReachedFrom (P : Program) (start basis : Columns) : Type 0 where
+  pub feasible : IsFeasibleBasis P start
+  pub turns : ℕ
+  pub turned : TurnsFrom (system_of P) start turns basis
 
 -- and its last basis
 pub record LastFrom (P : Program) (start basis : Columns) : Type 0 where

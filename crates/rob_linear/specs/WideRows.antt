@@ -44,7 +44,11 @@ pub record HasWideRow (limit : ℕ) (P : Program) (basis : Columns) (i : ℕ) : 
   pub reached : Reached P basis
   pub wide : IsWideAt limit P basis i
 
--- the same on the path from a given basis
+-- the same without the auxiliary form: the program's own row, or of the objective's position a stage
+abbrev pub IsOwnWideAt : ℕ → Program → Columns → ℕ → Type 0
+IsOwnWideAt limit P basis i = IsWideIn limit (system_of P) basis i ⊎ ((i ≡ P.m) × IsWideStage limit P basis)
+
+-- the basis is on the path from a given feasible one, on which no auxiliary column plays a part, and a row of position i there is wide
 pub record HasWideRowFrom (limit : ℕ) (P : Program) (start basis : Columns) (i : ℕ) : Type 0 where
   pub reached : ReachedFrom P start basis
-  pub wide : IsWideAt limit P basis i
+  pub wide : IsOwnWideAt limit P basis i
