@@ -18,5 +18,6 @@ mod subtraction;
 mod turn;
 mod work;
 
+pub use rob_number::LpKind;
 pub use state::LpStop;
 pub use work::Work;
