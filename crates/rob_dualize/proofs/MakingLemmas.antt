@@ -35,6 +35,7 @@ use Rattle.rob_counterpart.specs.Splitting.{plus, minus, OneIsZero}
 use Rattle.rob_counterpart.proofs.SetLemmas.{over_set_is, cost_is}
 use Rattle.rob_counterpart.proofs.SplitLemmas.{point_opposite, set_pair}
 use Rattle.rob_dualize.specs.Ending.{HasLastPoint, HasEnded, IsMadeAs, read_from, position_of}
+use Rattle.rob_dualize.specs.Solving.{TellsWideRow}
 use Rattle.rob_dualize.specs.Wholes.{AreOfOneModel, wholes, counterpart_of, set_of_wholes, IsFew}
 use Rattle.rob_dualize.proofs.Soundness.{wholes_are}
 use Rattle.rob_dualize.proofs.SolvingLemmas.{last_basis, last_point}
@@ -100,6 +101,10 @@ unbounded_last Q s h = let o : IsRayOf h.program s = h.solved in record { progra
 pub stopped_row : (limit : ℕ) (P : Program) (stop : LpStop) (s : Solver) → HasStopped limit P stop s → HasWideRow limit P (columns_of s.basis) (position_of stop)
 stopped_row limit P (Wide i) s h = h.1
 
+-- a wide row at a whole basis, of a program with the same numbers
+wide_told : (limit : ℕ) (P Q : Program) → AreSame P Q → (basis : List ℕ) (i : ℕ) → length basis ≡ P.m → HasWideRow limit P (columns_of basis) i → TellsWideRow limit Q basis i
+wide_told limit P Q s basis i e w = record { whole = e ∙ s.height; row = wide_row_same P Q s limit (columns_of basis) i w }
+
 -- ---- of a model
 module _ (forms : Forms) (set : SetForm) (m : RobustModel) (f : IsForms m forms) (st : IsSetForm m set) where
   same_wholes : wholes forms set ≡ robust_of m
@@ -123,11 +128,11 @@ module _ (forms : Forms) (set : SetForm) (m : RobustModel) (f : IsForms m forms)
   pub read_same : (inside : List Fraction) (k : LpKind) (s : Solver) → read_from (wholes forms set) inside k s ≡ read_from (robust_of m) inside k s
   read_same inside k s = ap (λ (q : RobustProgram). read_from q inside k s) same_wholes
 
-  pub set_wide : (limit : ℕ) (before now : Solver) (h : IsMadeAs (set_of_wholes forms set) before) (i : ℕ) → HasWideRow limit h.program (columns_of now.basis) i
-      → HasWideRow limit (set_program m) (columns_of now.basis) i
-  set_wide limit before now h i w = wide_row_same h.program (set_program m) (subst (λ (q : RobustProgram). AreSame h.program (set_of q)) same_wholes h.same) limit (columns_of now.basis) i w
+  pub set_wide : (limit : ℕ) (before now : Solver) (h : IsMadeAs (set_of_wholes forms set) before) → positions now ≡ positions before → (i : ℕ)
+      → HasWideRow limit h.program (columns_of now.basis) i → TellsWideRow limit (set_program m) now.basis i
+  set_wide limit before now h e i w = wide_told limit h.program (set_program m) (subst (λ (q : RobustProgram). AreSame h.program (set_of q)) same_wholes h.same) now.basis i (e ∙ sym h.made.rows) w
 
-  pub counterpart_wide : (limit : ℕ) (before now : Solver) (h : IsMadeAs (counterpart_of forms set) before) (i : ℕ) → HasWideRow limit h.program (columns_of now.basis) i
-      → HasWideRow limit (counterpart m) (columns_of now.basis) i
-  counterpart_wide limit before now h i w =
-      wide_row_same h.program (counterpart m) (subst (λ (q : RobustProgram). AreSame h.program (reform q)) same_wholes h.same) limit (columns_of now.basis) i w
+  pub counterpart_wide : (limit : ℕ) (before now : Solver) (h : IsMadeAs (counterpart_of forms set) before) → positions now ≡ positions before → (i : ℕ)
+      → HasWideRow limit h.program (columns_of now.basis) i → TellsWideRow limit (counterpart m) now.basis i
+  counterpart_wide limit before now h e i w =
+      wide_told limit h.program (counterpart m) (subst (λ (q : RobustProgram). AreSame h.program (reform q)) same_wholes h.same) now.basis i (e ∙ sym h.made.rows) w

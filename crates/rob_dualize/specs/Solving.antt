@@ -1,11 +1,11 @@
 -- What the reformulation route answers for a model: a certificate that proves, read off the last basis of the model's
 -- robust counterpart; or why there is none.
 -- Ben-Tal, El Ghaoui, Nemirovski, Robust Optimization (2009), chapter 1.
-use Rattle.std.specs.Prelude.{◌≡◌, ℕ, ◌≤◌, List, [], map, Result, MatchResult, IfOk, IfErr, ⊤}
+use Rattle.std.specs.Prelude.{◌≡◌, ℕ, ◌≤◌, List, [], length, map, Result, MatchResult, IfOk, IfErr, ⊤}
 use Rattle.rob_algebra.specs.Fraction.{Fraction, of_int}
 use Rattle.rob_linear.specs.Vectors.{Matrix, Columns}
 use Rattle.rob_linear.specs.Systems.{IsBasis}
-use Rattle.rob_linear.specs.Programs.{system_of, auxiliary_of}
+use Rattle.rob_linear.specs.Programs.{Program, system_of, auxiliary_of}
 use Rattle.rob_linear.specs.Turns.{own_of, Enters}
 use Rattle.rob_linear.specs.Paths.{Last}
 use Rattle.rob_linear.specs.Optimality.{IsBasicPoint}
@@ -75,12 +75,17 @@ pub record IsShownEmpty (m : RobustModel) (weights : List Fraction) : Type 0 whe
   pub ending : InfeasibleEnding (set_program m) (own_of (auxiliary_of (set_program m)) basis) rows
   pub weights_are : weights ≡ weights_read m rows
 
--- the row of that position is wide at a basis on the path of the set's program, or, where some scenario is admitted, of the
--- counterpart
+-- the list is the whole basis, a column for each row of the program; it is on the path, and there the row of that position is wide
+pub record TellsWideRow (limit : ℕ) (P : Program) (basis : List ℕ) (i : ℕ) : Type 0 where
+  pub whole : length basis ≡ P.m
+  pub row : HasWideRow limit P (columns_of basis) i
+
+-- the row of that position is wide at the told basis, which is on the path of the set's program, or, where some scenario is
+-- admitted, of the counterpart
 abbrev pub IsWideSpot : ℕ → RobustModel → Spot → Type 0
-IsWideSpot limit m (spot.Dictionary program.Set basis i) = HasWideRow limit (set_program m) (columns_of basis) i
+IsWideSpot limit m (spot.Dictionary program.Set basis i) = TellsWideRow limit (set_program m) basis i
 IsWideSpot limit m (spot.Dictionary program.Reform basis i) =
-    ((scenario : List Fraction) × Admits m scenario) × HasWideRow limit (counterpart m) (columns_of basis) i
+    ((scenario : List Fraction) × Admits m scenario) × TellsWideRow limit (counterpart m) basis i
 IsWideSpot limit m other = ⊥
 
 -- each refusal with what stands behind it; memory is free

@@ -66,7 +66,7 @@ returns-in-Err-solve-clause-solves g c = λ m model f st.
     let found = c.in-Ok.ensures.found m model f st in
     stopped_with g.N.Exact.value g.N.Exact.limit m (g.L.Ledger.wides c.args.ledger.now) (g.L.Ledger.wides c.solve.new.ledger) c.wide.result
     (wide_in_counterpart g.N.Exact.limit m c.solve.new.self.basis c.position.result c.wide.result (scenario_of g.N.Exact.value c.in-Ok.inside) found.found.0
-    (counterpart_wide c.args.forms.now c.args.set.now m f st g.N.Exact.limit c.in-Ok-counterpart_work.work c.solve.new.self c.in-Ok-counterpart_work.ensures.made c.position.result
+    (counterpart_wide c.args.forms.now c.args.set.now m f st g.N.Exact.limit c.in-Ok-counterpart_work.work c.solve.new.self c.in-Ok-counterpart_work.ensures.made c.solve.ensures.positions c.position.result
     (subst (λ (i : ℕ). HasWideRow g.N.Exact.limit c.in-Ok-counterpart_work.ensures.made.program (columns_of c.solve.new.self.basis) i) (sym c.position.ensures.position) (stopped_row g.N.Exact.limit c.in-Ok-counterpart_work.ensures.made.program c.in-Err-solve.stop c.solve.new.self (c.in-Err-solve.ensures.solved c.in-Ok-counterpart_work.ensures.made.program c.in-Ok-counterpart_work.ensures.made.made))))
     c.wide.ensures.stop)
     (wide_counted (g.L.Ledger.wides c.args.ledger.now) (g.L.Ledger.wides c.solve.new.ledger) c.solve.new.self.basis named.Reform c.position.result c.wide.result

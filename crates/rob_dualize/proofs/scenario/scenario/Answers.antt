@@ -35,7 +35,7 @@ pub returns-clause-found : goal.returns-clause-found
 returns-clause-found g c = λ m model f st.
     not_found g.N.Exact.value g.N.Exact.limit m (g.L.Ledger.wides c.args.ledger.now) (g.L.Ledger.wides c.solve.new.ledger) c.wide.result
     (wide_in_set g.N.Exact.limit m c.solve.new.self.basis c.position.result c.wide.result
-    (set_wide c.args.forms.now c.args.set.now m f st g.N.Exact.limit c.in-Ok.work c.solve.new.self c.in-Ok.ensures.made c.position.result (subst (λ (i : ℕ). HasWideRow g.N.Exact.limit c.in-Ok.ensures.made.program (columns_of c.solve.new.self.basis) i) (sym c.position.ensures.position) (stopped_row g.N.Exact.limit c.in-Ok.ensures.made.program c.in-Err-solve.stop c.solve.new.self (c.in-Err-solve.ensures.solved c.in-Ok.ensures.made.program c.in-Ok.ensures.made.made))))
+    (set_wide c.args.forms.now c.args.set.now m f st g.N.Exact.limit c.in-Ok.work c.solve.new.self c.in-Ok.ensures.made c.solve.ensures.positions c.position.result (subst (λ (i : ℕ). HasWideRow g.N.Exact.limit c.in-Ok.ensures.made.program (columns_of c.solve.new.self.basis) i) (sym c.position.ensures.position) (stopped_row g.N.Exact.limit c.in-Ok.ensures.made.program c.in-Err-solve.stop c.solve.new.self (c.in-Err-solve.ensures.solved c.in-Ok.ensures.made.program c.in-Ok.ensures.made.made))))
     c.wide.ensures.stop)
     (wide_counted (g.L.Ledger.wides c.args.ledger.now) (g.L.Ledger.wides c.solve.new.ledger) c.solve.new.self.basis named.Set c.position.result c.wide.result c.in-Err-solve.ensures.counted.wides c.wide.ensures.stop)
 
