@@ -9,3 +9,4 @@ pub mod EntryLemmas
 pub mod CertificateLemmas
 pub mod MakingLemmas
 pub mod SizeLemmas
+pub mod NarrowModels
