@@ -1,10 +1,10 @@
 -- The smallest model is narrow at 62 bits: its numbers are at most 12 in size, its set's program has 2 rows, and its
 -- counterpart 6, so no entry of a row is over (7 * 12) ^ 7.
-use Rattle.std.proofs.Common.{◌≡◌, ℕ, zero, suc, ◌<◌, ◌≤◌, ◌^◌, ◌-◌, refl, arith, Bool, true, false, inl, inr, subst}
+use Rattle.std.proofs.Common.{◌≡◌, ℕ, zero, suc, ◌<◌, ◌^◌, ◌-◌, refl, arith, Bool, true, false, inl, inr, subst}
 use Rattle.std.proofs.lemmas.Bool.{leb-true, cases_eq}
-use Rattle.std.specs.Prelude.{leb, List, [], ◌∷◌}
+use Rattle.std.specs.Prelude.{leb, [], ◌∷◌}
 use Rattle.std.specs.Int.RustNames.{unsigned_abs}
-use Rattle.rob_algebra.specs.Fraction.{Fraction, ratio}
+use Rattle.rob_algebra.specs.Fraction.{ratio}
 use Rattle.rob_bounds.specs.Bounds.{IsOfSize, IsNarrow, row_bound}
 use Rattle.rob_linear.specs.Programs.{Program}
 use Rattle.rob_meaning.specs.Certificates.{Certificate, optimal}
