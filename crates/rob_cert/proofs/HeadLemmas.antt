@@ -231,12 +231,9 @@ module _ (names : Naming) (limit : ℕ) where
     passed = λ kind may m. absurd (let l = none_low s kind (both_true (is_used s kind) (is_behind scales kind) may).0 in omega arith);
   }
 
-  -- what the first lines are
-  pub front_is : (s : Status) (text rest rest' : List ℕ) (line' : ℕ) (v c : Fraction) → text ≡ status_bytes s ++ 10 ∷ rest → Fits limit v → Fits limit c → IsSection names rest 2 (bound_lines s v c) rest' line'
-      → SoFar names limit s text (status_line s ∷ bound_lines s v c) rest' line' 3
-  front_is optimal text rest rest' line' v c is fv fc section = front_plan optimal text rest rest' line' v c (λ e. cc) is fv fc section
-  front_is unbounded text rest rest' line' v c is fv fc section = front_plan unbounded text rest rest' line' v c (λ e. cc) is fv fc section
-  front_is infeasible text rest rest' line' v c is fv fc section = record {
+  -- without a plan the status stands alone
+  pub front_alone : (text rest rest' : List ℕ) (line' : ℕ) → text ≡ status_bytes infeasible ++ 10 ∷ rest → IsSection names rest 2 [] rest' line' → SoFar names limit infeasible text (status_line infeasible ∷ []) rest' line' 3
+  front_alone text rest rest' line' is section = record {
     last = claims;
     form = 0;
     place = 0;
@@ -245,6 +242,13 @@ module _ (names : Naming) (limit : ℕ) where
     ready = ready_claims;
     passed = λ kind may m. absurd (let l = none_low infeasible kind (claims_used kind may) in omega arith);
   }
+
+  -- what the first lines are
+  pub front_is : (s : Status) (text rest rest' : List ℕ) (line' : ℕ) (v c : Fraction) → text ≡ status_bytes s ++ 10 ∷ rest → Fits limit v → Fits limit c → IsSection names rest 2 (bound_lines s v c) rest' line'
+      → SoFar names limit s text (status_line s ∷ bound_lines s v c) rest' line' 3
+  front_is optimal text rest rest' line' v c is fv fc section = front_plan optimal text rest rest' line' v c (λ e. cc) is fv fc section
+  front_is unbounded text rest rest' line' v c is fv fc section = front_plan unbounded text rest rest' line' v c (λ e. cc) is fv fc section
+  front_is infeasible text rest rest' line' v c is fv fc section = front_alone text rest rest' line' is section
 
 -- ---- what the readers answer
 -- two texts that begin with a line have it in common

@@ -21,3 +21,6 @@ pub mod OneBreach
 pub mod OneCertificate
 pub mod FitLemmas
 pub mod ReadLemmas
+pub mod Decisions
+pub mod SomeSections
+pub mod SomeCertificate

@@ -61,13 +61,16 @@ le_trans a b c h k = omega arith
 below_limit : (n : ℕ) → n ≤ 2 ^ 30 → n < 2 ^ 32
 below_limit n h = omega arith
 
-few_items : (names : Naming) (c : Certificate) (text : List ℕ) → length text ≤ 2 ^ 30 → text ≡ lines_text names (lines_of c) → length c.items < 2 ^ 32
+under : (n t : ℕ) → n ≤ t → t < 2 ^ 32 → n < 2 ^ 32
+under n t h k = omega arith
+
+few_items : (names : Naming) (c : Certificate) (text : List ℕ) → length text < 2 ^ 32 → text ≡ lines_text names (lines_of c) → length c.items < 2 ^ 32
 few_items names c text small is =
     let lines = among (status_line c.status) (bound_lines c.status c.value c.scale) (entry_lines Inside 0 c.inside) (entry_lines Plan 0 c.plan) (entry_lines Move 0 (c.step ++ c.step_bound ∷ []))
     (cover_lines Covers c.covers) (cover_lines Holds c.holds) (item_lines c.items) (end_line ∷ []) in
     let a = le_trans (length c.items) (length (item_lines c.items)) (length (lines_of c)) (items_long c.items) lines in
     let b = le_trans (length c.items) (length (lines_of c)) (length (lines_text names (lines_of c))) a (lines_long names (lines_of c)) in
-    below_limit (length c.items) (le_trans (length c.items) (length text) (2 ^ 30) (subst (λ t. length c.items ≤ length t) (sym is) b) small)
+    under (length c.items) (length text) (subst (λ t. length c.items ≤ length t) (sym is) b) small
 
 -- ---- by the model
 good_covers : (m : RobustModel) (cs : List Cover) → Each (IsGoodCover (naming_of m)) cs → Each (IsCoverOf m) cs
@@ -107,7 +110,7 @@ parts_by m c moved unbounded sizes dir lists bounds = record {
 }
 
 -- what is read by a model's names has its shape, and is its text
-pub well_read : (m : RobustModel) (c : Certificate) (text : List ℕ) → length text ≤ 2 ^ 30 → text ≡ lines_text (naming_of m) (lines_of c) → IsWellRead (naming_of m) c → IsTextOf m c text
+pub well_read : (m : RobustModel) (c : Certificate) (text : List ℕ) → length text < 2 ^ 32 → text ≡ lines_text (naming_of m) (lines_of c) → IsWellRead (naming_of m) c → IsTextOf m c text
 well_read m c text small is h = record {
   shape = record {
     inside = omega (arith, h.sizes.inside_size, length-parameter_names m);
@@ -127,7 +130,7 @@ well_read m c text small is h = record {
 pub well_read_both : {T E : Type 0} (m : RobustModel) (names : Naming) (of : T → Certificate) (text : List ℕ) (r : Result T E) → length text ≤ 2 ^ 30 → names ≡ naming_of m
     → IfOk r (λ x. text ≡ lines_text names (lines_of (of x))) → IfOk r (λ x. IsWellRead names (of x)) → IfOk r (λ x. IsTextOf m (of x) text)
 well_read_both m names of text (Ok x) small e is h =
-    well_read m (of x) text small (subst (λ n. text ≡ lines_text n (lines_of (of x))) e is) (subst (λ n. IsWellRead n (of x)) e h)
+    well_read m (of x) text (below_limit (length text) small) (subst (λ n. text ≡ lines_text n (lines_of (of x))) e is) (subst (λ n. IsWellRead n (of x)) e h)
 well_read_both m names of text (Err x) small e is h = tt
 
 -- few names

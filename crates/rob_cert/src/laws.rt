@@ -1,6 +1,6 @@
 //! What the text of a certificate says of it.
 
-ghost use Rattle.std.specs.Prelude.{◌≡◌, ◌-◌, ◌^◌, ◌≤◌, List, ℕ};
+ghost use Rattle.std.specs.Prelude.{◌≡◌, ◌-◌, ◌^◌, ◌<◌, ◌≤◌, ◌⊎◌, List, ℕ, length};
 ghost use Rattle.rob_meaning.specs.Certificates.{Certificate};
 ghost use Rattle.rob_meaning.specs.Named.{IsNamed};
 ghost use Rattle.rob_meaning.specs.RobustModel.{RobustModel};
@@ -12,8 +12,13 @@ ghost use Rattle.rob_cert.specs.Spelling.{naming_of};
 ghost use Rattle.rob_cert.specs.Whole.{IsTextOf};
 ghost use Rattle.rob_cert.specs.declared.error.CertErr.TheVariants.{Rule};
 
-/// Laws of spelling.
+/// Laws of spelling: a text is that of exactly one certificate whose numbers fit, or breaks exactly one rule at one line.
 pub fn spelling_laws()
+    // Each text is that of a certificate whose numbers fit, or breaks a rule. A certificate has fewer than 2^32 items, so the
+    // text of that many would do neither.
+    ensures some { (m : RobustModel) (limit : ℕ) (text : List ℕ) → length text < 2 ^ 32
+        → ((c : Certificate) × IsTextOf m c text × FitsLines limit m c)
+        ⊎ ((rule : ℕ) × (line : ℕ) × HasCause (naming_of m) limit start text 1 (Rule rule line)) }
     // A certificate has one spelling.
     ensures spelled_once { (m : RobustModel) (c : Certificate) (s t : List ℕ) → IsTextOf m c s → IsTextOf m c t → s ≡ t }
     // Where no name has a space or a line's end, the text of a certificate whose numbers fit breaks no rule.
