@@ -1,7 +1,7 @@
 -- What can be decided of a text's next line: its words, the names in it, and whether a word spells a number that fits.
-use Rattle.std.proofs.Common.{◌≡◌, ◌≢◌, ℕ, zero, suc, ◌<◌, ◌≤◌, List, [], ◌∷◌, length, get_or, arith, refl, ap, ap₂, sym, ◌∙◌, subst, inl, inr}
+use Rattle.std.proofs.Common.{◌≡◌, ℕ, zero, suc, ◌<◌, ◌≤◌, List, [], ◌∷◌, length, get_or, arith, refl, ap, ap₂, sym, ◌∙◌, subst, inl, inr}
 use Rattle.std.proofs.lemmas.Bool.Decides.{eqb_tells, leb_tells}
-use Rattle.std.specs.Prelude.{◌⊎◌, ℤ, pos, negsuc, nat_abs, codes}
+use Rattle.std.specs.Prelude.{◌⊎◌, ℤ, pos, negsuc, nat_abs}
 use Rattle.rob_algebra.proofs.WidthLaws.{fits_or_wide, fits_not_wide}
 use Rattle.rob_algebra.specs.Fraction.{Fraction, of_pair, of_pair_parts}
 use Rattle.rob_algebra.specs.Width.{Fits}
@@ -24,16 +24,16 @@ both_decided (inr n) q = inr (λ h. n h.0)
 either_decided : {P Q : Type 0} → Decided P → Decided Q → Decided (P ⊎ Q)
 either_decided (inl p) q = inl (inl p)
 either_decided (inr n) (inl q) = inl (inr q)
-either_decided (inr n) (inr m) = inr (λ h. elim h [ | inl p ↦ n p | inr q ↦ m q ])
+either_decided (inr n) (inr m) = inr (λ h. elim h [ inl p ↦ n p | inr q ↦ m q ])
 
 pub same_number : (a b : ℕ) → Decided (a ≡ b)
-same_number a b = elim (eqb_tells a b) [ | inl h ↦ inl h.1 | inr h ↦ inr h.1 ]
+same_number a b = elim (eqb_tells a b) [ inl h ↦ inl h.1 | inr h ↦ inr h.1 ]
 
 at_least : (a b : ℕ) → Decided (a ≤ b)
-at_least a b = elim (leb_tells a b) [ | inl h ↦ inl h.1 | inr h ↦ inr (λ l. let m : b < a = h.1 in omega arith) ]
+at_least a b = elim (leb_tells a b) [ inl h ↦ inl h.1 | inr h ↦ inr (λ l. let m : b < a = h.1 in omega arith) ]
 
 below : (a b : ℕ) → Decided (a < b)
-below a b = elim (leb_tells b a) [ | inl h ↦ inr (λ l. let m : b ≤ a = h.1 in omega arith) | inr h ↦ inl h.1 ]
+below a b = elim (leb_tells b a) [ inl h ↦ inr (λ l. let m : b ≤ a = h.1 in omega arith) | inr h ↦ inl h.1 ]
 
 pub same_word : (v w : Name) → Decided (v ≡ w)
 same_word [] [] = inl refl
@@ -54,7 +54,7 @@ some_below P decide (suc n) = by (some_below P decide n) (decide n)
     by : Decided ((k : ℕ) × (k < n) × P k) → Decided (P n) → Decided ((k : ℕ) × (k < suc n) × P k)
     by (inl h) q = inl (h.0, (let l : h.0 < n = h.1 in omega arith), h.2)
     by (inr none) (inl p) = inl (n, omega arith, p)
-    by (inr none) (inr other) = inr (λ h. elim (lt_cases h.0 n h.1) [ | inl l ↦ none (h.0, l, h.2) | inr e ↦ other (subst P e h.2) ])
+    by (inr none) (inr other) = inr (λ h. elim (lt_cases h.0 n h.1) [ inl l ↦ none (h.0, l, h.2) | inr e ↦ other (subst P e h.2) ])
 
 -- ---- lines and words
 -- a text begins with a line, or has no line's end
@@ -140,7 +140,7 @@ module _ (limit : ℕ) (word : Name) where
   Spells q = Fits limit q × (word ≡ number_text q)
 
   fits : (q : Fraction) → Decided (Fits limit q)
-  fits q = elim (fits_or_wide limit q) [ | inl f ↦ inl f | inr w ↦ inr (λ f. fits_not_wide limit q f w) ]
+  fits q = elim (fits_or_wide limit q) [ inl f ↦ inl f | inr w ↦ inr (λ f. fits_not_wide limit q f w) ]
 
   spells : (q : Fraction) → Decided (Spells q)
   spells q = both_decided (fits q) (same_word word (number_text q))

@@ -1,6 +1,6 @@
 -- Each text is that of a certificate with numbers that fit, or breaks a rule at a line.
-use Rattle.std.proofs.Common.{◌≡◌, ◌≢◌, ℕ, suc, ◌+◌, ◌-◌, ◌^◌, ◌<◌, ◌≤◌, List, [], ◌∷◌, ◌++◌, length, arith, refl, ap, sym, ◌∙◌, subst, Bool, true, false, inl, inr, append_assoc, length-append}
-use Rattle.std.specs.Prelude.{◌⊎◌, codes, if◌then◌else◌}
+use Rattle.std.proofs.Common.{◌≡◌, ◌≢◌, ℕ, suc, ◌+◌, ◌^◌, ◌<◌, List, [], ◌∷◌, ◌++◌, length, arith, refl, ap, sym, ◌∙◌, subst, Bool, true, false, inl, inr, append_assoc, length-append}
+use Rattle.std.specs.Prelude.{◌⊎◌, codes}
 use Rattle.rob_algebra.specs.Fraction.{Fraction}
 use Rattle.rob_algebra.specs.Width.{Fits}
 use Rattle.rob_meaning.proofs.EachLemmas.{each_append}
@@ -22,7 +22,7 @@ use Rattle.rob_cert.specs.declared.kind.Vector.TheVariants.{Inside, Plan, Move}
 use Rattle.rob_cert.specs.Head.{bound_kind, bound_line, status_bytes, HasBoundFault}
 use Rattle.rob_cert.specs.Lines.{Line, status_line, value_line, scale_line, end_line, bound_lines, entry_lines, cover_lines, item_lines, lines_of}
 use Rattle.rob_cert.specs.Parts.{SoFar}
-use Rattle.rob_cert.specs.Reading.{Lacks, BeginsWithLine, words_in, claims, ends, entries, multipliers, items, rank, is_used, word_of, Stage, start, behind, FitsLine, Leads}
+use Rattle.rob_cert.specs.Reading.{Lacks, BeginsWithLine, words_in, entries, multipliers, items, rank, is_used, word_of, Stage, start, behind, FitsLine, Leads}
 use Rattle.rob_cert.specs.Sections.{IsSection, HasNoLineOf, AreGoodCovers, AreGoodItems}
 use Rattle.rob_cert.specs.Spelling.{Naming, naming_of, entry_names, lines_text}
 use Rattle.rob_cert.specs.Whole.{HasSize, IsMoved, IsTextOf, IsWellRead}
@@ -96,7 +96,7 @@ is_status line = by (same_word line (status_bytes optimal)) (same_word line (sta
     by (inl e) q r = inl (optimal, e)
     by (inr n) (inl e) r = inl (infeasible, e)
     by (inr n) (inr m) (inl e) = inl (unbounded, e)
-    by (inr n) (inr m) (inr k) = inr (λ s. elim s as (λ t. line ≡ status_bytes t → ⊥) [ | optimal ↦ n | infeasible ↦ m | unbounded ↦ k ])
+    by (inr n) (inr m) (inr k) = inr (λ s. elim s as (λ t. line ≡ status_bytes t → ⊥) [ optimal ↦ n | infeasible ↦ m | unbounded ↦ k ])
 
 -- a text begins with a status line, or not
 some_status : (text : List ℕ) → ((s : Status) × (rest : List ℕ) × (text ≡ status_bytes s ++ 10 ∷ rest)) ⊎ ((s : Status) (rest : List ℕ) → text ≡ status_bytes s ++ 10 ∷ rest → ⊥)
@@ -192,6 +192,10 @@ module _ (names : Naming) (limit : ℕ) (text : List ℕ) where
       size : HasSize names s v numbers
       so : SoFar names limit s text (lines ++ entry_lines v 0 numbers) rest line (suc (rank (entries v)))
 
+    -- the lines up to the vector's last
+    abbrev behind_vector : {v : Vector} {lines : List (Line Fraction)} → VectorRead v lines → List (Line Fraction)
+    behind_vector {v} {lines} r = lines ++ entry_lines v 0 r.numbers
+
     some_vector : (v : Vector) (lines : List (Line Fraction)) (rest : List ℕ) (line : ℕ) → rank (entries v) ≢ 8 → SoFar names limit s text lines rest line (rank (entries v)) → VectorRead v lines ⊎ IsBroken
     some_vector v lines rest line ne so = by (is_used s (entries v)) refl
       where
@@ -211,6 +215,9 @@ module _ (names : Naming) (limit : ℕ) (text : List ℕ) where
       line : ℕ
       good : AreGoodCovers names (is_used s (multipliers which)) list
       so : SoFar names limit s text (lines ++ cover_lines which list) rest line (suc (rank (multipliers which)))
+
+    abbrev behind_covers : {which : Multipliers} {lines : List (Line Fraction)} → CoversRead which lines → List (Line Fraction)
+    behind_covers {which} {lines} r = lines ++ cover_lines which r.list
 
     some_list : (which : Multipliers) (lines : List (Line Fraction)) (rest : List ℕ) (line : ℕ) → SoFar names limit s text lines rest line (rank (multipliers which)) → CoversRead which lines ⊎ IsBroken
     some_list which lines rest line so = by (is_used s (multipliers which)) refl
@@ -243,6 +250,9 @@ module _ (names : Naming) (limit : ℕ) (text : List ℕ) where
       line : ℕ
       good : AreGoodItems names (is_used s items) list
       so : SoFar names limit s text (lines ++ item_lines list) rest line 9
+
+    abbrev behind_items : {lines : List (Line Fraction)} → ItemsRead lines → List (Line Fraction)
+    behind_items {lines} r = lines ++ item_lines r.list
 
     some_item_list : (lines : List (Line Fraction)) (rest : List ℕ) (line : ℕ) → SoFar names limit s text lines rest line 8 → ItemsRead lines ⊎ IsBroken
     some_item_list lines rest line so = by (is_used s items) refl
@@ -299,16 +309,9 @@ module _ (names : Naming) (limit : ℕ) (text : List ℕ) where
   regroup : (x : Line Fraction) (b i p t v h l e : List (Line Fraction)) → (((((((x ∷ b) ++ i) ++ p) ++ t) ++ v) ++ h) ++ l) ++ e ≡ x ∷ (b ++ (i ++ (p ++ (t ++ (v ++ (h ++ (l ++ e)))))))
   regroup x b i p t v h l e = simp append_assoc
 
-  whole : (f : Front) (i : VectorRead f.status Inside (status_line f.status ∷ bound_lines f.status f.value f.scale))
-      (p : VectorRead f.status Plan ((status_line f.status ∷ bound_lines f.status f.value f.scale) ++ entry_lines Inside 0 i.numbers))
-      (t : VectorRead f.status Move (((status_line f.status ∷ bound_lines f.status f.value f.scale) ++ entry_lines Inside 0 i.numbers) ++ entry_lines Plan 0 p.numbers))
-      (v : CoversRead f.status Covers ((((status_line f.status ∷ bound_lines f.status f.value f.scale) ++ entry_lines Inside 0 i.numbers) ++ entry_lines Plan 0 p.numbers) ++ entry_lines Move 0 t.numbers))
-      (h : CoversRead f.status Holds (((((status_line f.status ∷ bound_lines f.status f.value f.scale) ++ entry_lines Inside 0 i.numbers) ++ entry_lines Plan 0 p.numbers) ++ entry_lines Move 0 t.numbers) ++ cover_lines Covers v.list))
-      (l : ItemsRead f.status ((((((status_line f.status ∷ bound_lines f.status f.value f.scale) ++ entry_lines Inside 0 i.numbers) ++ entry_lines Plan 0 p.numbers) ++ entry_lines Move 0 t.numbers) ++ cover_lines Covers v.list)
-          ++ cover_lines Holds h.list))
-      → EndRead f.status (((((((status_line f.status ∷ bound_lines f.status f.value f.scale) ++ entry_lines Inside 0 i.numbers) ++ entry_lines Plan 0 p.numbers) ++ entry_lines Move 0 t.numbers) ++ cover_lines Covers v.list)
-          ++ cover_lines Holds h.list) ++ item_lines l.list)
-      → Spelled
+  -- what is read part by part is the text of a certificate
+  whole : (f : Front) (i : VectorRead f.status Inside (status_line f.status ∷ bound_lines f.status f.value f.scale)) (p : VectorRead f.status Plan (behind_vector f.status i)) (t : VectorRead f.status Move (behind_vector f.status p))
+      (v : CoversRead f.status Covers (behind_vector f.status t)) (h : CoversRead f.status Holds (behind_covers f.status v)) (l : ItemsRead f.status (behind_covers f.status h)) → EndRead f.status (behind_items f.status l) → Spelled
   whole f i p t v h l e =
       let (step, bound, direction) = some_direction t.numbers in
       let c : Certificate = record {
@@ -342,13 +345,13 @@ module _ (names : Naming) (limit : ℕ) (text : List ℕ) where
 
   some_cert : Spelled ⊎ IsBroken
   some_cert = and_then some_front (λ f.
-    and_then (some_vector f.status Inside _ f.rest f.line (λ e. omega arith) f.so) (λ i.
-    and_then (some_vector f.status Plan _ i.rest i.line (λ e. omega arith) i.so) (λ p.
-    and_then (some_vector f.status Move _ p.rest p.line (λ e. omega arith) p.so) (λ t.
-    and_then (some_list f.status Covers _ t.rest t.line t.so) (λ v.
-    and_then (some_list f.status Holds _ v.rest v.line v.so) (λ h.
-    and_then (some_item_list f.status _ h.rest h.line h.so) (λ l.
-    and_then (some_end f.status _ l.rest l.line l.so) (λ e. inl (whole f i p t v h l e)))))))))
+      and_then (some_vector f.status Inside _ f.rest f.line (λ e. omega arith) f.so) (λ i.
+      and_then (some_vector f.status Plan _ i.rest i.line (λ e. omega arith) i.so) (λ p.
+      and_then (some_vector f.status Move _ p.rest p.line (λ e. omega arith) p.so) (λ t.
+      and_then (some_list f.status Covers _ t.rest t.line t.so) (λ v.
+      and_then (some_list f.status Holds _ v.rest v.line v.so) (λ h.
+      and_then (some_item_list f.status _ h.rest h.line h.so) (λ l.
+      and_then (some_end f.status _ l.rest l.line l.so) (λ e. inl (whole f i p t v h l e)))))))))
 
 -- each text of fewer than 2^32 bytes is that of a certificate in its shape with numbers that fit, or breaks a rule at a line
 pub some_certificate : (m : RobustModel) (limit : ℕ) (text : List ℕ) → length text < 2 ^ 32

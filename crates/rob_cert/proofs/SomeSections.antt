@@ -31,7 +31,7 @@ zeros (suc n) = 0ℚ ∷ zeros n
 are_zeros : (n : ℕ) → IsZeroVector n (zeros n)
 unfolding zeros
 are_zeros zero = record { size = refl; zero_at = λ k. refl }
-are_zeros (suc n) = let rest = are_zeros n in record { size = ap suc rest.size; zero_at = λ k. elim k as (λ j. get_or (0ℚ ∷ zeros n) j 0ℚ ≡ 0ℚ) [ | zero ↦ refl | suc j ↦ rest.zero_at j ] }
+are_zeros (suc n) = let rest = are_zeros n in record { size = ap suc rest.size; zero_at = λ k. elim k as (λ j. get_or (0ℚ ∷ zeros n) j 0ℚ ≡ 0ℚ) [ zero ↦ refl | suc j ↦ rest.zero_at j ] }
 
 -- a word that is not 0 spells no 0
 spells_other : (limit : ℕ) (word : Name) (q : Fraction) → word ≢ codes "0" → Spells limit word q → q ≢ 0ℚ
