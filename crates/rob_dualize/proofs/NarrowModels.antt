@@ -55,11 +55,13 @@ rights_within a P = all_below P.m (λ i. leb (unsigned_abs (P.b i)) a)
 abbrev costs_within : ℕ → Program → Bool
 costs_within a P = all_below P.n (λ j. leb (unsigned_abs (P.c j)) a)
 
-of_size : (a : ℕ) (P : Program) → rows_within a P ≡ true → rights_within a P ≡ true → costs_within a P ≡ true → IsOfSize a P
+of_size : (a : ℕ) (P : Program) → rows_within a P ≡ true → rights_within a P ≡ true → costs_within a P ≡ true
+    → IsOfSize a P
 of_size a P left right cost = record {
   left = λ i j il jl.
       leb-true (unsigned_abs (P.a i j)) a
-      (each_below P.n (λ j. leb (unsigned_abs (P.a i j)) a) (each_below P.m (λ i. all_below P.n (λ j. leb (unsigned_abs (P.a i j)) a)) left i il) j jl);
+      (each_below P.n (λ j. leb (unsigned_abs (P.a i j)) a)
+      (each_below P.m (λ i. all_below P.n (λ j. leb (unsigned_abs (P.a i j)) a)) left i il) j jl);
   right = λ i il. leb-true (unsigned_abs (P.b i)) a (each_below P.m (λ i. leb (unsigned_abs (P.b i)) a) right i il);
   cost = λ j jl. leb-true (unsigned_abs (P.c j)) a (each_below P.n (λ j. leb (unsigned_abs (P.c j)) a) cost j jl);
 }
@@ -74,7 +76,9 @@ one_demand_admitted = found (test_admits one_demand (int 8 ∷ [])) tt
 
 -- x = 12: the objective x - tau <= 0 and the row at d = 12, 12 - x <= 0, sum to 12 - tau <= 0
 abbrev order_12 : Certificate
-order_12 = best (int 12) (int 8 ∷ []) (int 12 ∷ []) (cover 1 1 1ℚ ∷ []) (item 0 1ℚ (int 12 ∷ []) ∷ item 1 1ℚ (int 12 ∷ []) ∷ [])
+order_12 =
+    best (int 12) (int 8 ∷ []) (int 12 ∷ []) (cover 1 1 1ℚ ∷ [])
+    (item 0 1ℚ (int 12 ∷ []) ∷ item 1 1ℚ (int 12 ∷ []) ∷ [])
 
 pub one_demand_costs_12 : HasStatus one_demand optimal (int 12)
 unfolding ratio

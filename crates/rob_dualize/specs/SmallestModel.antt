@@ -1,4 +1,5 @@
--- The smallest model that decides something: minimise x, where x is at least d in each scenario, and d lies between 8 and 12.
+-- The smallest model that decides something: minimise x, where x is at least d in each scenario, and d lies between 8
+-- and 12.
 use Rattle.std.specs.Prelude.{pos, [], ◌∷◌, Some, None, codes}
 use Rattle.rob_algebra.specs.Fraction.{of_int}
 use Rattle.rob_meaning.specs.Expressions.{parameter, variable}

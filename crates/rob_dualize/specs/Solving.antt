@@ -75,13 +75,14 @@ pub record IsShownEmpty (m : RobustModel) (weights : List Fraction) : Type 0 whe
   pub ending : InfeasibleEnding (set_program m) (own_of (auxiliary_of (set_program m)) basis) rows
   pub weights_are : weights ≡ weights_read m rows
 
--- the list is the whole basis, a column for each row of the program; it is on the path, and there the row of that position is wide
+-- the list is the whole basis, a column for each row of the program; it is on the path, and the row of that position is
+-- wide there
 pub record TellsWideRow (limit : ℕ) (P : Program) (basis : List ℕ) (i : ℕ) : Type 0 where
   pub whole : length basis ≡ P.m
   pub row : HasWideRow limit P (columns_of basis) i
 
--- the row of that position is wide at the told basis, which is on the path of the set's program, or, where some scenario is
--- admitted, of the counterpart
+-- the row of that position is wide at the told basis, which is on the path of the set's program, or, where some scenario
+-- is admitted, of the counterpart
 abbrev pub IsWideSpot : ℕ → RobustModel → Spot → Type 0
 IsWideSpot limit m (spot.Dictionary program.Set basis i) = TellsWideRow limit (set_program m) basis i
 IsWideSpot limit m (spot.Dictionary program.Reform basis i) =

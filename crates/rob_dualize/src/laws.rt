@@ -32,8 +32,8 @@ pub fn narrow_laws()
     ensures same { (limit : ℕ) (P Q : Program) → AreSame P Q → IsNarrow limit P → IsNarrow limit Q }
 {}
 
-/// A model that no row can refuse, so what is said of models without a wide row is said of one. It does nothing, and its
-/// clauses are the claim.
+/// A model that no row can refuse, so what is said of models without a wide row is said of one. It does nothing, and
+/// its clauses are the claim.
 pub fn smallest_model()
     // It is a model, some scenario is admitted, and 12 is its optimum.
     ensures model { IsModel one_demand }

@@ -49,7 +49,7 @@ pub record Last (P : Program) (basis : Columns) : Type 0 where
   pub reached : Reached P basis
   pub ends : (next : Columns) → ¬ (Steps P basis next)
 
--- a basis of the program from which a path can go on: the rows that stand with it are feasible, by the lexicographic rule too
+-- a basis of the program from which a path can go on: its rows are feasible, by the lexicographic rule too
 pub record IsFeasibleBasis (P : Program) (basis : Columns) : Type 0 where
   pub rows : Matrix
   pub stands : StandsWith (system_of P) basis rows

@@ -48,7 +48,7 @@ pub record HasWideRow (limit : ℕ) (P : Program) (basis : Columns) (i : ℕ) : 
 abbrev pub IsOwnWideAt : ℕ → Program → Columns → ℕ → Type 0
 IsOwnWideAt limit P basis i = IsWideIn limit (system_of P) basis i ⊎ ((i ≡ P.m) × IsWideStage limit P basis)
 
--- the basis is on the path from a given feasible one, on which no auxiliary column plays a part, and a row of position i there is wide
+-- the same on the path from a given feasible basis, on which no auxiliary column plays a part
 pub record HasWideRowFrom (limit : ℕ) (P : Program) (start basis : Columns) (i : ℕ) : Type 0 where
   pub reached : ReachedFrom P start basis
   pub wide : IsOwnWideAt limit P basis i
