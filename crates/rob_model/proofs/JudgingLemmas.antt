@@ -18,6 +18,7 @@ use Rattle.rob_meaning.specs.UncertaintySet.{abs_ℚ, Relates, Admits}
 use Rattle.rob_model.specs.FirstBroken.{FailsFirst, IsFirstBroken}
 use Rattle.rob_model.specs.Within.{◌>>=◌, value_within, taken_within, deviation_within, total_within, holds_within, first_within, first_broken_within, admits_within, is_at_most, is_related}
 use Rattle.rob_model.proofs.KeptLemmas.{some_is, through, through_kept, kept_is}
+use Rattle.rob_model.proofs.PartLemmas.{each_get}
 use Rattle.rob_model.proofs.ValueLemmas.{value_is, add-zero_ℚ}
 use Rattle.rob_algebra.specs.FractionLaws.{ℚ-zero-add}
 
@@ -144,11 +145,6 @@ module _ (limit : ℕ) (m : RobustModel) (s : Fraction) (p : List Fraction) wher
   answer_broken fits (Err e) h = tt
 
 -- ---- admission
-each_get : (P : SetCondition → Type 0) (cs : List SetCondition) (k : ℕ) (c : SetCondition) → slice_get cs k ≡ Some c → Each P cs → P c
-each_get P [] k c e all = cc
-each_get P (x ∷ cs) zero c e all = subst P (some_is e) all.0
-each_get P (x ∷ cs) (suc k) c e all = each_get P cs k c e all.1
-
 module _ (m : RobustModel) (u : List Fraction) where
   none_is : (r : Option ℕ) → IsFirstBroken m 1ℚ u r → IsTrue (is_none r) ↔ Admits m u
   none_is None h = (λ e. (admission_law m u).1 h, λ e. refl)

@@ -10,6 +10,7 @@ pub mod PlaceLemmas
 pub mod SearchLemmas
 pub mod NameCountLemmas
 pub mod NamingLemmas
+pub mod OwnNames
 pub mod PartLemmas
 pub mod SmallLemmas
 pub mod ValueLemmas

@@ -3,11 +3,12 @@ use Rattle.std.proofs.Common.{◌≡◌, ℕ, zero, suc, ◌+◌, ◌*◌, ◌�
 use Rattle.std.specs.Prelude.{Option, Some, slice_get, flat_map, codes}
 use Rattle.std.proofs.lemmas.List.{length-map}
 use Rattle.rob_algebra.specs.Fraction.{Fraction}
+use Rattle.rob_meaning.specs.Forms.{forms}
 use Rattle.rob_meaning.specs.Names.{Name}
 use Rattle.rob_model.specs.GroupNames.{numbered, side_names, bound_names, statement_row_names, condition_names, parameter_bound_names}
 use Rattle.rob_meaning.specs.RobustModel.{Parameter, Variable, AdaptiveVariable, Row, Relation, at_most, at_least, equal, SetLine, line, budget, RobustModel, column_from}
-use Rattle.rob_meaning.specs.SetRows.{lift_count}
-use Rattle.rob_meaning.proofs.NameLemmas.{length-column_names, length-set_column_names}
+use Rattle.rob_meaning.specs.SetRows.{lift_count, set_rows}
+use Rattle.rob_meaning.proofs.NameLemmas.{length-column_names, length-form_names, length-set_column_names, length-set_row_names}
 use Rattle.rob_model.specs.Limits.{IsWithinLimits}
 use Rattle.rob_model.specs.NameGroups.{groups, names, together}
 use Rattle.rob_model.specs.declared.group.Kind.{Kind}
@@ -54,43 +55,54 @@ columns_many : (column : ℕ) (ys : List AdaptiveVariable) → column + length y
 columns_many column [] = omega arith
 columns_many column (y ∷ ys) = omega (arith, columns_many (suc column + length y.on) ys)
 
-module _ (m : RobustModel) (limits : IsWithinLimits m) where
-  bounds_few : length (parameter_bound_names m.parameters) ≤ 2 * length m.parameters
-  bounds_few = two_each (λ (d : Parameter). bound_names d.name d.lower d.upper) (λ d. two_bounds d.name d.lower d.upper) m.parameters
+bounds_few : (ps : List Parameter) → length (parameter_bound_names ps) ≤ 2 * length ps
+bounds_few ps = two_each (λ (d : Parameter). bound_names d.name d.lower d.upper) (λ d. two_bounds d.name d.lower d.upper) ps
 
-  flat_conditions_few : length (flat_conditions m) ≤ 2 * length m.parameters + length m.set_lines
-  unfolding flat_conditions
-  flat_conditions_few =
-      omega (arith, bounds_few, conditions_few 1 m.set_lines, length-append (parameter_bound_names m.parameters) (by_statement condition_names 1 m.set_lines))
-
-  names_few : (kind : Kind) → length (flat m kind) ≤ 5000
+module _ (m : RobustModel) where
+  -- two forms at most for each row, variable and adaptive variable, and the objective
+  forms_few : length (flat m Form) ≤ 1 + 2 * (length m.rows + length m.variables + length m.adaptives)
   unfolding flat
-  names_few Form =
+  forms_few =
       let rows = flat_map (λ (r : Row). side_names r.relation r.name) m.rows in
       let vars = flat_map (λ (x : Variable). bound_names x.name x.lower x.upper) m.variables in
       let adaptives = flat_map (λ (y : AdaptiveVariable). bound_names y.name y.lower y.upper) m.adaptives in
       omega (
         arith,
-        limits.rows,
-        limits.columns,
-        columns_many (length m.variables) m.adaptives,
         length-append rows (vars ++ adaptives),
         length-append vars adaptives,
         two_each (λ (r : Row). side_names r.relation r.name) (λ r. two_sides r.relation r.name) m.rows,
         two_each (λ (x : Variable). bound_names x.name x.lower x.upper) (λ x. two_bounds x.name x.lower x.upper) m.variables,
         two_each (λ (y : AdaptiveVariable). bound_names y.name y.lower y.upper) (λ y. two_bounds y.name y.lower y.upper) m.adaptives,
       )
-  names_few Column = omega (arith, limits.columns, length-column_names m, ap length (flat_is m Column))
-  names_few SetRow =
+
+  -- two set rows at most for each parameter, statement and member
+  set_rows_few : length (flat m SetRow) ≤ 2 * (length m.parameters + length m.set_lines + lift_count m.set_lines)
+  unfolding flat
+  set_rows_few =
       omega (
         arith,
-        limits.parameters,
-        limits.set_lines,
-        limits.members,
-        bounds_few,
+        bounds_few m.parameters,
         row_names_few m.parameters 1 m.set_lines,
         length-append (parameter_bound_names m.parameters) (by_statement (statement_row_names m.parameters) 1 m.set_lines),
       )
+
+  pub few_forms : length (forms m) ≤ 1 + 2 * (length m.rows + length m.variables + length m.adaptives)
+  few_forms = omega (arith, forms_few, ap length (flat_is m Form), length-form_names m)
+
+  pub few_set_rows : length (set_rows m) ≤ 2 * (length m.parameters + length m.set_lines + lift_count m.set_lines)
+  few_set_rows = omega (arith, set_rows_few, ap length (flat_is m SetRow), length-set_row_names m)
+
+module _ (m : RobustModel) (limits : IsWithinLimits m) where
+  flat_conditions_few : length (flat_conditions m) ≤ 2 * length m.parameters + length m.set_lines
+  unfolding flat_conditions
+  flat_conditions_few =
+      omega (arith, bounds_few m.parameters, conditions_few 1 m.set_lines, length-append (parameter_bound_names m.parameters) (by_statement condition_names 1 m.set_lines))
+
+  names_few : (kind : Kind) → length (flat m kind) ≤ 5000
+  unfolding flat
+  names_few Form = omega (arith, limits.rows, limits.columns, columns_many (length m.variables) m.adaptives, forms_few m)
+  names_few Column = omega (arith, limits.columns, length-column_names m, ap length (flat_is m Column))
+  names_few SetRow = omega (arith, limits.parameters, limits.set_lines, limits.members, set_rows_few m)
   names_few SetPlace =
       let is : flat m SetPlace ≡ flat_conditions m ++ flat_columns m = refl in
       omega (

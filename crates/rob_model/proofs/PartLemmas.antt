@@ -1,6 +1,6 @@
 -- One term of a sum, or one factor of a product, more.
 use Rattle.std.proofs.Common.{◌≡◌, ℕ, suc, ◌+◌, zero, ◌<◌, ◌≤◌, List, [], ◌∷◌, map, length, get_or, drop, ap, sym, ◌∙◌, add-one, subst, arith, rules}
-use Rattle.std.specs.Prelude.{Option, Some, None}
+use Rattle.std.specs.Prelude.{Option, Some, None, slice_get}
 use Rattle.std.proofs.Math.Seq.{drop-cons}
 use Rattle.std.proofs.lemmas.Grind.{common_steps}
 use Rattle.rob_algebra.specs.Fraction.{Fraction, ◌*ℚ◌}
@@ -13,6 +13,7 @@ use Rattle.rob_model.specs.View.{Signed, expression_of, signed_of, terms_of, fac
 use Rattle.rob_model.specs.Within.{◌>>=◌, joined, value_within, sum_within, product_within}
 use Rattle.rob_model.specs.declared.expr.Expr.{Expr}
 use Rattle.rob_model.specs.declared.expr.Term.{Term, fold_out-Term}
+use Rattle.rob_model.proofs.KeptLemmas.{some_is}
 
 -- the items from a place on are the item there and those behind it
 pub drop_at : {A : Type 0} (xs : List A) (i : ℕ) (x : A) → i < length xs → x ≡ get_or xs i x → drop i xs ≡ x ∷ drop (i + 1) xs
@@ -26,6 +27,12 @@ drop_past (x ∷ xs) (suc i) h = drop_past xs i (omega arith)
 -- what is true of each item from a place on is true of the item there and of those behind it
 pub each_at : {A : Type 0} (P : A → Type 0) (xs : List A) (i : ℕ) (x : A) → i < length xs → x ≡ get_or xs i x → Each P (drop i xs) → P x × Each P (drop (i + 1) xs)
 each_at P xs i x h e all = subst (Each P) (drop_at xs i x h e) all
+
+-- what is true of each item is true of the item at a number
+pub each_get : {A : Type 0} (P : A → Type 0) (xs : List A) (i : ℕ) (x : A) → slice_get xs i ≡ Some x → Each P xs → P x
+each_get P [] i x e all = cc
+each_get P (y ∷ xs) zero x e all = subst P (some_is e) all.0
+each_get P (y ∷ xs) (suc i) x e all = each_get P xs i x e all.1
 
 pub each_at_map : {A B : Type 0} (P : B → Type 0) (f : A → B) (xs : List A) (i : ℕ) (x : A) → i < length xs → x ≡ get_or xs i x
     → Each P (map f (drop i xs)) → P (f x) × Each P (map f (drop (i + 1) xs))

@@ -17,6 +17,10 @@ abbrev pub Finds : List Name → Name → Option ℕ → Type 0
 Finds names name None = Each (λ other. other ≢ name) names
 Finds names name (Some k) = (slice_get names k ≡ Some name) × Each (λ other. other ≢ name) (take k names)
 
+-- each number that has the name in the list is the one that is found
+abbrev pub FindsOwn : List Name → Name → Option ℕ → Type 0
+FindsOwn names name found = (k : ℕ) → slice_get names k ≡ Some name → found ≡ Some k
+
 -- the text has grown by the name of that number
 pub record AppendsName (names : List Name) (k : ℕ) (old new : List ℕ) : Type 0 where
   pub name : Name

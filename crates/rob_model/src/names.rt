@@ -2,9 +2,10 @@
 // the name of a number.
 
 ghost use Rattle.std.specs.Prelude.{◌≡◌, ◌<◌, ◌≤◌, length, OnOk, OnErr};
+ghost use Rattle.rob_meaning.specs.Named.{IsNamed};
 ghost use Rattle.rob_meaning.specs.Names.{form_names, column_names, set_row_names};
 ghost use Rattle.rob_model.specs.NameGroups.{names};
-ghost use Rattle.rob_model.specs.Naming.{Finds, AppendsName, parameter_names, set_place_names};
+ghost use Rattle.rob_model.specs.Naming.{Finds, FindsOwn, AppendsName, parameter_names, set_place_names};
 ghost use Rattle.rob_model.specs.Valid.{IsValid};
 ghost use Rattle.rob_model.specs.View.{robust};
 
@@ -51,6 +52,8 @@ pub fn set_place_count<N: Exact>(model: &Model<N>) -> u32
 pub fn find_form<N: Exact>(model: &Model<N>, name: &[u8]) -> Option<u32>
     requires valid { IsValid N.value model.now }
     ensures found { Finds (form_names (robust N.value model.now)) name.now result }
+    // Where the declared names are plain, free and distinct, each name is found at its own number.
+    ensures own { IsNamed (robust N.value model.now) → FindsOwn (form_names (robust N.value model.now)) name.now result }
 {
     find(model, Kind::Form, name)
 }
@@ -59,6 +62,8 @@ pub fn find_form<N: Exact>(model: &Model<N>, name: &[u8]) -> Option<u32>
 pub fn find_column<N: Exact>(model: &Model<N>, name: &[u8]) -> Option<u32>
     requires valid { IsValid N.value model.now }
     ensures found { Finds (column_names (robust N.value model.now)) name.now result }
+    // Where the declared names are plain, free and distinct, each name is found at its own number.
+    ensures own { IsNamed (robust N.value model.now) → FindsOwn (column_names (robust N.value model.now)) name.now result }
 {
     find(model, Kind::Column, name)
 }
@@ -67,6 +72,8 @@ pub fn find_column<N: Exact>(model: &Model<N>, name: &[u8]) -> Option<u32>
 pub fn find_set_row<N: Exact>(model: &Model<N>, name: &[u8]) -> Option<u32>
     requires valid { IsValid N.value model.now }
     ensures found { Finds (set_row_names (robust N.value model.now)) name.now result }
+    // Where the declared names are plain, free and distinct, each name is found at its own number.
+    ensures own { IsNamed (robust N.value model.now) → FindsOwn (set_row_names (robust N.value model.now)) name.now result }
 {
     find(model, Kind::SetRow, name)
 }
@@ -75,6 +82,8 @@ pub fn find_set_row<N: Exact>(model: &Model<N>, name: &[u8]) -> Option<u32>
 pub fn find_param<N: Exact>(model: &Model<N>, name: &[u8]) -> Option<u32>
     requires valid { IsValid N.value model.now }
     ensures found { Finds (parameter_names (robust N.value model.now)) name.now result }
+    // Where the declared names are plain, free and distinct, each name is found at its own number.
+    ensures own { IsNamed (robust N.value model.now) → FindsOwn (parameter_names (robust N.value model.now)) name.now result }
 {
     find(model, Kind::Parameters, name)
 }

@@ -1,13 +1,14 @@
 -- The model of the tests is valid.
-use Rattle.std.proofs.Common.{◌≡◌, ℕ, ◌<◌, ◌≤◌, List, [], ◌∷◌, ◌++◌, map, length, arith, refl, ap, sym, ◌∙◌, subst, rules}
+use Rattle.std.proofs.Common.{◌≡◌, ℕ, ◌+◌, ◌*◌, ◌<◌, ◌≤◌, List, [], ◌∷◌, ◌++◌, map, length, arith, refl, ap, sym, ◌∙◌, subst, rules}
 use Rattle.std.proofs.lemmas.Int.{ints}
 use Rattle.std.proofs.lemmas.List.{length-map}
 use Rattle.std.specs.Prelude.{pos}
 use Rattle.rob_algebra.specs.Fraction.{Fraction, of_pair, ratio, ◌<ℚ◌}
 use Rattle.rob_meaning.specs.Expressions.{Expression, variable, parameter}
+use Rattle.rob_meaning.specs.Forms.{forms}
 use Rattle.rob_meaning.specs.Places.{0ℚ, Each}
 use Rattle.rob_meaning.specs.RobustModel.{AdaptiveVariable, Row, column_from}
-use Rattle.rob_meaning.specs.SetRows.{lift_count}
+use Rattle.rob_meaning.specs.SetRows.{lift_count, set_rows}
 use Rattle.rob_meaning.specs.WellFormed.{IsExpression, IsSetLine}
 use Rattle.rob_model.proofs.SmallLemmas.{one_item}
 use Rattle.rob_model.specs.Valid.{IsValid}
@@ -22,9 +23,14 @@ use Rattle.rob_model.specs.declared.model.RowDef.{RowDef}
 use Rattle.rob_model.specs.declared.model.SetLine.{SetLine}
 use Rattle.rob_model.specs.declared.model.SetLine.TheVariants.{Budget}
 use Rattle.rob_model.specs.declared.model.Var.{Var}
+use Rattle.rob_model.proofs.NameCountLemmas.{few_forms, few_set_rows}
 
 pub two_items : {A : Type 0} {a b d : List A} {x y : A} → a ≡ [] → b ≡ a ++ x ∷ [] → d ≡ b ++ y ∷ [] → d ≡ x ∷ y ∷ []
 two_items {y = y} e f h = h ∙ ap (λ xs. xs ++ y ∷ []) (one_item e f)
+
+-- two small factors have a small product
+small_product : (a b : ℕ) → a ≤ 50 → b ≤ 50 → a * b ≤ 10000
+small_product a b h k = grind arith
 
 two_positive : 0ℚ <ℚ of_pair (pos 2) 1
 unfolding ratio
@@ -53,6 +59,15 @@ module _ {N : Type 0} (value : N → Fraction) where
     is_parameter e is =
         subst (IsExpression (robust value m)) (sym (ap (expression_of value) is ∙ parameter_is 0)) (omega (arith, params), tt)
 
+    rows_one : length (robust value m).rows ≡ 1
+    rows_one = length-map m.rows (row_of value) ∙ ap length rs
+
+    lines_one : length (robust value m).set_lines ≡ 1
+    lines_one = length-map m.set_lines (set_line_of value) ∙ ap length ls
+
+    members_two : lift_count (robust value m).set_lines ≡ 2
+    members_two = ap (λ (ls : List (SetLine N)). lift_count (map (set_line_of value) ls)) ls
+
     pub demand_valid : IsValid value m
     demand_valid = record {
       well_formed = record {
@@ -73,8 +88,11 @@ module _ {N : Type 0} (value : N → Fraction) where
         parameters = omega (arith, params);
         columns = subst (λ (ys : List (Adaptive N)). column_from (length (robust value m).variables) (map (adaptive_of value) ys) (length (map (adaptive_of value) ys)) ≤ 400) (sym ys)
             (omega (arith, ap length on, length-map m.vars (variable_of value), ap length xs));
-        rows = omega (arith, length-map m.rows (row_of value), ap length rs);
-        set_lines = omega (arith, length-map m.set_lines (set_line_of value), ap length ls);
-        members = subst (λ (ls : List (SetLine N)). lift_count (map (set_line_of value) ls) ≤ 64) (sym ls) (omega arith);
+        rows = omega (arith, rows_one);
+        set_lines = omega (arith, lines_one);
+        members = omega (arith, members_two);
+        size = small_product (length (forms (robust value m))) (length (set_rows (robust value m)) + 2 * (length (robust value m).parameters + lift_count (robust value m).set_lines) + 1)
+            (omega (arith, few_forms (robust value m), rows_one, length-map m.vars (variable_of value), ap length xs, length-map m.adaptives (adaptive_of value), ap length ys))
+            (omega (arith, few_set_rows (robust value m), params, lines_one, members_two));
       };
     }
