@@ -21,45 +21,12 @@ use Rattle.rob_parse.specs.Modelled.{ReadsModel}
 use Rattle.rob_parse.specs.Models.{lower_bound, upper_bound, relation_of, parameter_at, member, model_of}
 use Rattle.rob_parse.specs.Reading.{Follows}
 use Rattle.rob_parse.specs.Scopes.{Earlier, behind, start}
-use Rattle.rob_parse.specs.Sizes.{bound_count, rel_count, start_sizes, counted, size, is_within, most_parameters, most_columns, most_rows, most_set_lines, most_members, greatest_size}
+use Rattle.rob_model.specs.Limits.{most_parameters, most_columns, most_rows, most_set_lines, most_members, most_size}
+use Rattle.rob_parse.specs.Sizes.{bound_count, rel_count, start_sizes, counted, size, sizes_of, is_within}
 use Rattle.rob_parse.specs.Symbols.{lines_of}
-use Rattle.rob_parse.proofs.CountLemmas.{rule_columns, kept_all}
+use Rattle.rob_parse.proofs.CountLemmas.{rule_columns, columns_are, kept_all}
+use Rattle.rob_parse.proofs.ModelSizes.{some_bounds, inequalities, parameter_bounds, variable_bounds, adaptive_bounds, row_inequalities, line_rows, length-forms, length-set_rows}
 use Rattle.rob_parse.proofs.SizeLemmas.{Within, within, kept_start}
-
--- ---- what a model counts
--- how many of two bounds there are
-abbrev pub some_bounds : Option Fraction → Option Fraction → ℕ
-some_bounds None None = 0
-some_bounds (Some _) None = 1
-some_bounds None (Some _) = 1
-some_bounds (Some _) (Some _) = 2
-
--- how many inequalities a relation is
-abbrev pub inequalities : model.Relation → ℕ
-inequalities model.at_most = 1
-inequalities model.at_least = 1
-inequalities model.equal = 2
-
-abbrev pub parameter_bounds : List model.Parameter → ℕ
-parameter_bounds [] = 0
-parameter_bounds (p ∷ ps) = some_bounds p.lower p.upper + parameter_bounds ps
-
-abbrev pub variable_bounds : List model.Variable → ℕ
-variable_bounds [] = 0
-variable_bounds (v ∷ vs) = some_bounds v.lower v.upper + variable_bounds vs
-
-abbrev pub adaptive_bounds : List AdaptiveVariable → ℕ
-adaptive_bounds [] = 0
-adaptive_bounds (y ∷ ys) = some_bounds y.lower y.upper + adaptive_bounds ys
-
-abbrev pub row_inequalities : List model.Row → ℕ
-row_inequalities [] = 0
-row_inequalities (r ∷ rs) = inequalities r.relation + row_inequalities rs
-
-abbrev pub line_rows : List model.SetLine → ℕ
-line_rows [] = 0
-line_rows (model.line left relation right ∷ rest) = inequalities relation + line_rows rest
-line_rows (model.budget limit members ∷ rest) = (1 + 2 * length members) + line_rows rest
 
 -- the sizes behind a model's statements
 abbrev pub added : Sizes → RobustModel → Sizes
@@ -74,10 +41,6 @@ added s m = record {
   forms = s.forms + (variable_bounds m.variables + adaptive_bounds m.adaptives + row_inequalities m.rows);
   set_rows = s.set_rows + (parameter_bounds m.parameters + line_rows m.set_lines);
 }
-
--- the sizes of a model, from its parts alone
-abbrev pub sizes_of : RobustModel → Sizes
-sizes_of m = added start_sizes m
 
 some_bounds_are : (b : Option Bounds) → some_bounds (lower_bound b) (upper_bound b) ≡ bound_count b
 some_bounds_are None = refl
@@ -106,6 +69,12 @@ same_sizes s t parameters variables adaptives columns rows set_lines members for
   set_rows = set_rows i;
 }
 
+-- behind all its statements a model is counted
+added_all : (m : RobustModel) → added start_sizes m ≡ sizes_of m
+added_all m =
+    same_sizes _ _ (omega arith) (omega arith) (omega arith) (omega (arith, columns_are m.adaptives (length m.variables))) (omega arith) (omega arith) (omega arith)
+    (omega (arith, length-forms m)) (omega (arith, length-set_rows m))
+
 module _ (words : List (List ℕ)) (sorts : List (Option Sort)) where
   added_none : (s : Sizes) → s ≡ added s (model_of words sorts [])
   unfolding rule_columns
@@ -131,7 +100,7 @@ module _ (words : List (List ℕ)) (sorts : List (Option Sort)) where
 
   -- the sizes behind some statements are those of their model
   pub sizes_are : (list : List Statement) → fold counted start_sizes list ≡ sizes_of (model_of words sorts list)
-  sizes_are list = sizes_from start_sizes list
+  sizes_are list = sizes_from start_sizes list ∙ added_all (model_of words sorts list)
 
 -- ---- the sizes grow from line to line
 record IsBelow (s t : Sizes) : Type 0 where
@@ -192,7 +161,7 @@ passes a b h = grind (arith, nat_tests)
 within_again : (s : Sizes) → Within s → is_within s ≡ true
 within_again s w = λ i.
     passes s.parameters most_parameters w.parameters i && passes s.columns most_columns w.columns i && passes s.rows most_rows w.rows i
-    && passes s.set_lines most_set_lines w.set_lines i && passes s.members most_members w.members i && passes (size s) greatest_size w.whole i
+    && passes s.set_lines most_set_lines w.set_lines i && passes s.members most_members w.members i && passes (size s) most_size w.whole i
 
 -- smaller sizes are within the limits
 within_below : (s t : Sizes) → IsBelow s t → is_within t ≡ true → is_within s ≡ true

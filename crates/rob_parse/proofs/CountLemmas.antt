@@ -25,7 +25,7 @@ unfoldable pub rule_columns : List AdaptiveVariable → ℕ
 rule_columns [] = 0
 rule_columns (y ∷ ys) = 1 + length y.on + rule_columns ys
 
-columns_are : (ys : List AdaptiveVariable) (c : ℕ) → column_from c ys (length ys) ≡ c + rule_columns ys
+pub columns_are : (ys : List AdaptiveVariable) (c : ℕ) → column_from c ys (length ys) ≡ c + rule_columns ys
 unfolding rule_columns
 columns_are [] c = omega arith
 columns_are (y ∷ ys) c = columns_are ys (suc c + length y.on) ∙ omega arith
@@ -68,25 +68,3 @@ kept_all limit e [] (s ∷ list) f follows kept = absurd follows
 kept_all limit e ([] ∷ lines) list f follows kept = kept_all limit e lines list f follows kept
 kept_all limit e ((x ∷ symbols) ∷ lines) [] f follows kept = absurd follows
 kept_all limit e ((x ∷ symbols) ∷ lines) (s ∷ list) f follows kept = kept_all limit (behind e s) lines list f follows.2 (kept_note limit e (x ∷ symbols) s kept follows.1)
-
--- a model that a text reads as is within the limits
-pub within_limits : (limit : ℕ) (text : List ℕ) (m : RobustModel) → ReadsModel limit text m → IsWithinLimits m
-within_limits limit text m read = subst IsWithinLimits (sym read.model_is) small
-  where
-    begin : Earlier
-    begin = start (length read.words)
-
-    lines : List (List Symbol)
-    lines = lines_of text read.words read.reads.tokens
-
-    small : IsWithinLimits (model_of read.words read.known.sorts read.list)
-    small =
-        let c = counts read.words read.known.sorts limit begin lines read.list read.known read.reads.follows in
-        let w = within read.known.sizes (kept_all limit begin lines read.list read.known read.reads.follows kept_start).within in
-        record {
-          parameters = omega (arith, c.parameters_are, w.parameters);
-          columns = omega (arith, c.columns_are, c.variables_are, w.columns, columns_are (flat_map (adaptives read.words read.known.sorts) read.list) (length (flat_map (variables read.words) read.list)));
-          rows = omega (arith, c.rows_are, w.rows);
-          set_lines = omega (arith, c.set_lines_are, w.set_lines);
-          members = omega (arith, c.members_are, w.members);
-        }

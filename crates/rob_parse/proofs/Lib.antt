@@ -58,6 +58,8 @@ pub mod FitLemmas
 pub mod BuildLemmas
 pub mod TreeLemmas
 pub mod CountLemmas
+pub mod ModelSizes
+pub mod LimitLemmas
 pub mod OneModel
 pub mod SortLemmas
 pub mod DegreeLemmas

@@ -21,13 +21,13 @@ use Rattle.rob_parse.specs.Pages.{IsLine, IsShallow, IsWritable, symbols_on, wor
 use Rattle.rob_parse.specs.Readable.{IsSpelled, IsReadableModel, AreDeclarable, AreStatements, AreReadBack}
 use Rattle.rob_parse.specs.Reading.{Follows}
 use Rattle.rob_parse.specs.Scopes.{Earlier, start}
-use Rattle.rob_parse.specs.Sizes.{start_sizes, counted, is_within}
+use Rattle.rob_parse.specs.Sizes.{start_sizes, counted, sizes_of, is_within}
 use Rattle.rob_parse.specs.Statements.{IsStatement}
 use Rattle.rob_parse.specs.Trees.{tree_of}
 use Rattle.rob_parse.proofs.CanonicalBlocks.{GoalIs, Parted, parted, joined, all_new, one_goal, goal_found, goals_are, sorts_are, goal_is, all_clear}
 use Rattle.rob_parse.proofs.CanonicalScopes.{Kept, canonical_sorts, all_known, all_fresh, behind_adaptives, rows_declared, kept_noted}
 use Rattle.rob_parse.proofs.CanonicalWalk.{Walk, walk_both, walk_pair, walk_statements, each_walk, IsNewThere, IsFirstGoal, kept_to_end}
-use Rattle.rob_parse.proofs.CanonicalSizes.{sizes_of, sizes_are, source_within}
+use Rattle.rob_parse.proofs.CanonicalSizes.{sizes_are, source_within}
 use Rattle.rob_parse.proofs.Clear.{behind_all, AreClear}
 use Rattle.rob_parse.proofs.ClearProducts.{statement_products}
 use Rattle.rob_parse.proofs.DegreeLemmas.{EachName, Clean, Stands}

@@ -5,7 +5,8 @@ use Rattle.std.proofs.lemmas.Bool.Decides.{nat_tests}
 use Rattle.rob_parse.specs.declared.size.Sizes.{Sizes}
 use Rattle.rob_parse.specs.declared.syntax.Statement.{Statement}
 use Rattle.rob_parse.specs.declared.syntax.Statement.TheVariants.{Uncertain, Set, Budget, Var, Adaptive, Goal, Row}
-use Rattle.rob_parse.specs.Sizes.{start_sizes, counted, is_within, size, IsSmall, IsKept, most_parameters, most_columns, most_rows, most_set_lines, most_members, greatest_size}
+use Rattle.rob_model.specs.Limits.{most_parameters, most_columns, most_rows, most_set_lines, most_members, most_size}
+use Rattle.rob_parse.specs.Sizes.{start_sizes, counted, is_within, size, IsSmall, IsKept}
 
 both : (a b : Bool) → (a && b) ≡ true → (a ≡ true) × (b ≡ true)
 both true true h = (refl, refl)
@@ -22,7 +23,7 @@ pub record Within (s : Sizes) : Type 0 where
   pub rows : s.rows ≤ most_rows
   pub set_lines : s.set_lines ≤ most_set_lines
   pub members : s.members ≤ most_members
-  pub whole : size s ≤ greatest_size
+  pub whole : size s ≤ most_size
 
 pub within : (s : Sizes) → is_within s ≡ true → Within s
 within s h =
@@ -37,7 +38,7 @@ within s h =
       rows = at_most s.rows most_rows two.1;
       set_lines = at_most s.set_lines most_set_lines three.1;
       members = at_most s.members most_members four.1;
-      whole = at_most (size s) greatest_size five.1;
+      whole = at_most (size s) most_size five.1;
     }
 
 -- the factors of a product that is at most this
@@ -47,7 +48,7 @@ factors_at_most a b c some h = (grind arith, grind arith)
 pub kept_small : (s : Sizes) → IsKept s → IsSmall s
 kept_small s kept =
     let w = within s kept.within in
-    let f = factors_at_most s.forms (s.set_rows + 2 * (s.parameters + s.members)) greatest_size kept.forms w.whole in
+    let f = factors_at_most s.forms (s.set_rows + 2 * (s.parameters + s.members)) most_size kept.forms w.whole in
     record {
       parameters = omega (arith, w.parameters);
       variables = omega (arith, w.columns, kept.variables);

@@ -15,7 +15,7 @@ use Rattle.rob_parse.specs.Readable.{IsSpelled}
 use Rattle.rob_parse.specs.Reading.{Follows}
 use Rattle.rob_parse.specs.Scopes.{Earlier, start}
 use Rattle.rob_parse.specs.Symbols.{word_in, words_of, lines_of}
-use Rattle.rob_parse.proofs.CountLemmas.{within_limits}
+use Rattle.rob_parse.proofs.LimitLemmas.{within_limits}
 use Rattle.rob_parse.proofs.DeclaredLemmas.{numbers, all_declared, declared_are}
 use Rattle.rob_parse.proofs.ModelLemmas.{each_flat}
 use Rattle.rob_parse.proofs.NamedLemmas.{IsNumber, lines_sound, names_free, names_plain, names_distinct, names_spelled}

@@ -1,5 +1,9 @@
--- How large a model is, and the limits.
+-- How large a model is, counted statement by statement and by its parts, and whether it passes no limit.
 use Rattle.std.specs.Prelude.{◌≡◌, ℕ, ◌+◌, ◌*◌, ◌<◌, ◌≤◌, ◌^◌, Bool, true, ◌&&◌, nat_le, length, Option, Some, None}
+use Rattle.rob_meaning.specs.Forms.{forms}
+use Rattle.rob_meaning.specs.RobustModel.{RobustModel, column_count}
+use Rattle.rob_meaning.specs.SetRows.{lift_count, set_rows as set_rows_of}
+use Rattle.rob_model.specs.Limits.{most_parameters, most_columns, most_rows, most_set_lines, most_members, most_size}
 use Rattle.rob_parse.specs.declared.size.Sizes.{Sizes}
 use Rattle.rob_parse.specs.declared.syntax.Bounds.{Bounds}
 use Rattle.rob_parse.specs.declared.syntax.Bounds.TheVariants.{Between, AtLeast, AtMost}
@@ -7,30 +11,6 @@ use Rattle.rob_parse.specs.declared.syntax.Rel.{Rel}
 use Rattle.rob_parse.specs.declared.syntax.Rel.TheVariants as rel
 use Rattle.rob_parse.specs.declared.syntax.Statement.{Statement}
 use Rattle.rob_parse.specs.declared.syntax.Statement.TheVariants.{Uncertain, Set, Budget, Var, Adaptive, Goal, Row}
-
--- the parameters that a model may have
-abbrev pub most_parameters : ℕ
-most_parameters = 64
-
--- the decision columns that a model may have
-abbrev pub most_columns : ℕ
-most_columns = 400
-
--- the row statements that a model may have
-abbrev pub most_rows : ℕ
-most_rows = 200
-
--- the set statements and budgets that a model may have together
-abbrev pub most_set_lines : ℕ
-most_set_lines = 64
-
--- the members that all budgets may have together
-abbrev pub most_members : ℕ
-most_members = 64
-
--- the size that a model may have
-abbrev pub greatest_size : ℕ
-greatest_size = 10000
 
 -- how many bounds there are
 abbrev pub bound_count : Option Bounds → ℕ
@@ -61,6 +41,20 @@ counted s (Budget b) =
 counted s (Row r) = record s { rows = s.rows + 1; forms = s.forms + rel_count r.relation.rel }
 counted s (Goal g) = s
 
+-- the sizes of a model
+abbrev pub sizes_of : RobustModel → Sizes
+sizes_of m = record {
+  parameters = length m.parameters;
+  variables = length m.variables;
+  adaptives = length m.adaptives;
+  columns = column_count m;
+  rows = length m.rows;
+  set_lines = length m.set_lines;
+  members = lift_count m.set_lines;
+  forms = length (forms m);
+  set_rows = length (set_rows_of m);
+}
+
 -- the size: forms times one more than set rows and twice the parameters and members
 abbrev pub size : Sizes → ℕ
 size s = s.forms * ((s.set_rows + 2 * (s.parameters + s.members)) + 1)
@@ -69,7 +63,7 @@ size s = s.forms * ((s.set_rows + 2 * (s.parameters + s.members)) + 1)
 abbrev pub is_within : Sizes → Bool
 is_within s =
     nat_le s.parameters most_parameters && nat_le s.columns most_columns && nat_le s.rows most_rows
-    && nat_le s.set_lines most_set_lines && nat_le s.members most_members && nat_le (size s) greatest_size
+    && nat_le s.set_lines most_set_lines && nat_le s.members most_members && nat_le (size s) most_size
 
 -- the counts leave room for one more statement
 pub record IsSmall (s : Sizes) : Type 0 where

@@ -16,8 +16,11 @@ ghost use Rattle.rob_parse.specs.Pages.{IsLine, IsReadAs, IsWritable, ended, pag
 ghost use Rattle.rob_parse.specs.Readable.{AreKnown, AreDeclarable, AreReadBack, IsReadable, IsReadableModel, IsReadBack, IsSpelled};
 ghost use Rattle.rob_parse.specs.declared.sort.Sort.{Sort};
 ghost use Rattle.rob_parse.specs.declared.syntax.Statement.{Statement};
-ghost use Rattle.rob_parse.specs.Scopes.{Earlier};
-ghost use Rattle.rob_parse.specs.Reading.{Reads, Breaks, HasReading};
+ghost use Rattle.rob_parse.specs.declared.symbol.Symbol.{Symbol};
+ghost use Rattle.rob_parse.specs.Models.{model_of};
+ghost use Rattle.rob_parse.specs.Scopes.{Earlier, start};
+ghost use Rattle.rob_parse.specs.Sizes.{counted, sizes_of};
+ghost use Rattle.rob_parse.specs.Reading.{Reads, Breaks, Follows, HasReading};
 
 /// Each text reads as exactly one list of statements, or breaks exactly one rule at one line.
 pub fn one_reading()
@@ -44,9 +47,15 @@ pub fn one_model()
         → ReadsModel limit text m → Breaks limit text rule line → ⊥ }
 {}
 
-/// A model that a text reads as is within the limits.
+/// A model that a text reads as is within the limits, and what is counted line by line, which rule 22 judges, are the sizes
+/// of the model of the statements up to there.
 pub fn within_limits()
     ensures limits { (limit : ℕ) (text : List ℕ) (m : RobustModel) → ReadsModel limit text m → IsWithinLimits m }
+    ensures counted { (limit words_count : ℕ)
+        (lines : List (List Symbol)) (list : List Statement) (known : Earlier) (s : Statement)
+        → Follows limit (start words_count) lines list known
+        → (words : List (List ℕ)) (sorts : List (Option Sort))
+        → counted known.sizes s ≡ sizes_of (model_of words sorts (list ++ s ∷ [])) }
 {}
 
 /// A model that a text reads as is well formed.

@@ -1,5 +1,5 @@
-use Rattle.rob_parse.proofs.CountLemmas.{within_limits}
+use Rattle.rob_parse.proofs.LimitLemmas.{within_limits, counted_is}
 use Rattle.rob_parse.proofs.laws.within_limits.Goals as goal
 
 pub returns : goal.returns
-returns c = record { limits = within_limits }
+returns c = record { limits = within_limits; counted = counted_is }

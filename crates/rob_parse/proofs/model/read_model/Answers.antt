@@ -11,7 +11,7 @@ use Rattle.rob_parse.specs.Symbols.{lines_of}
 use Rattle.rob_parse.proofs.FitLemmas.{all_fit, goal_there}
 use Rattle.rob_model.specs.View.{robust}
 use Rattle.rob_parse.specs.Modelled.{ReadsModel}
-use Rattle.rob_parse.proofs.CountLemmas.{within_limits}
+use Rattle.rob_parse.proofs.LimitLemmas.{within_limits}
 use Rattle.rob_parse.proofs.ModelLemmas.{well_formed}
 use Rattle.rob_parse.proofs.WellNamed.{well_named}
 use Rattle.rob_parse.proofs.NumberLemmas.{limit_seen}
