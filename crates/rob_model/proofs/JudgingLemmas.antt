@@ -1,5 +1,5 @@
 -- What the first condition that fails says of the conditions.
-use Rattle.std.proofs.Common.{◌≡◌, ℕ, zero, suc, ◌+◌, List, [], ◌∷◌, length, take, arith, refl, ap, sym, ◌∙◌, subst, Bool, true, false, ap₂}
+use Rattle.std.proofs.Common.{◌≡◌, ℕ, suc, ◌+◌, List, [], ◌∷◌, length, take, arith, refl, ap, sym, ◌∙◌, subst, Bool, true, false, ap₂}
 use Rattle.std.specs.Prelude.{Option, Some, None, if◌then◌else◌, Result, Ok, Err, IfOk, IsTrue, ◌↔◌, is_none, slice_get}
 use Rattle.std.specs.Bool.{Decides}
 use Rattle.std.specs.Ordering.{is_le, MatchOrdering}

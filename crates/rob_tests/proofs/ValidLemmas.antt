@@ -1,10 +1,10 @@
 -- The model of the tests is valid.
-use Rattle.std.proofs.Common.{◌≡◌, ℕ, ◌+◌, ◌*◌, ◌<◌, ◌≤◌, List, [], ◌∷◌, ◌++◌, map, length, arith, refl, ap, sym, ◌∙◌, subst, rules}
+use Rattle.std.proofs.Common.{◌≡◌, ℕ, ◌+◌, ◌*◌, ◌<◌, ◌≤◌, List, [], ◌∷◌, ◌++◌, map, length, arith, ap, sym, ◌∙◌, subst, rules}
 use Rattle.std.proofs.lemmas.Int.{ints}
 use Rattle.std.proofs.lemmas.List.{length-map}
 use Rattle.std.specs.Prelude.{pos}
 use Rattle.rob_algebra.specs.Fraction.{Fraction, of_pair, ratio, ◌<ℚ◌}
-use Rattle.rob_meaning.specs.Expressions.{Expression, variable, parameter}
+use Rattle.rob_meaning.specs.Expressions.{variable, parameter}
 use Rattle.rob_meaning.specs.Forms.{forms}
 use Rattle.rob_meaning.specs.Places.{0ℚ, Each}
 use Rattle.rob_meaning.specs.RobustModel.{AdaptiveVariable, Row, column_from}
