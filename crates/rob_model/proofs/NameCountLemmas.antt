@@ -56,7 +56,8 @@ columns_many column [] = omega arith
 columns_many column (y ∷ ys) = omega (arith, columns_many (suc column + length y.on) ys)
 
 bounds_few : (ps : List Parameter) → length (parameter_bound_names ps) ≤ 2 * length ps
-bounds_few ps = two_each (λ (d : Parameter). bound_names d.name d.lower d.upper) (λ d. two_bounds d.name d.lower d.upper) ps
+bounds_few ps =
+    two_each (λ (d : Parameter). bound_names d.name d.lower d.upper) (λ d. two_bounds d.name d.lower d.upper) ps
 
 module _ (m : RobustModel) where
   -- two forms at most for each row, variable and adaptive variable, and the objective
@@ -96,11 +97,17 @@ module _ (m : RobustModel) (limits : IsWithinLimits m) where
   flat_conditions_few : length (flat_conditions m) ≤ 2 * length m.parameters + length m.set_lines
   unfolding flat_conditions
   flat_conditions_few =
-      omega (arith, bounds_few m.parameters, conditions_few 1 m.set_lines, length-append (parameter_bound_names m.parameters) (by_statement condition_names 1 m.set_lines))
+      omega (
+        arith,
+        bounds_few m.parameters,
+        conditions_few 1 m.set_lines,
+        length-append (parameter_bound_names m.parameters) (by_statement condition_names 1 m.set_lines),
+      )
 
   names_few : (kind : Kind) → length (flat m kind) ≤ 5000
   unfolding flat
-  names_few Form = omega (arith, limits.rows, limits.columns, columns_many (length m.variables) m.adaptives, forms_few m)
+  names_few Form =
+      omega (arith, limits.rows, limits.columns, columns_many (length m.variables) m.adaptives, forms_few m)
   names_few Column = omega (arith, limits.columns, length-column_names m, ap length (flat_is m Column))
   names_few SetRow = omega (arith, limits.parameters, limits.set_lines, limits.members, set_rows_few m)
   names_few SetPlace =

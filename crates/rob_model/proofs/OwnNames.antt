@@ -13,7 +13,8 @@ use Rattle.rob_model.proofs.KeptLemmas.{some_is}
 use Rattle.rob_model.proofs.PartLemmas.{each_get}
 
 -- distinct names stand at one number each
-one_number : (names : List Name) (name : Name) (i k : ℕ) → AreDistinct names → slice_get names i ≡ Some name → slice_get names k ≡ Some name → i ≡ k
+one_number : (names : List Name) (name : Name) (i k : ℕ) → AreDistinct names
+    → slice_get names i ≡ Some name → slice_get names k ≡ Some name → i ≡ k
 one_number [] name i k d a b = cc
 one_number (x ∷ xs) name zero zero d a b = refl
 one_number (x ∷ xs) name zero (suc k) d a b = absurd (each_get (λ y. x ≢ y) xs k name b d.0 (some_is a))
@@ -21,7 +22,8 @@ one_number (x ∷ xs) name (suc i) zero d a b = absurd (each_get (λ y. x ≢ y)
 one_number (x ∷ xs) name (suc i) (suc k) d a b = ap suc (one_number xs name i k d.1 a b)
 
 -- so the first number that has a name is the only one
-pub finds_own : (names : List Name) (name : Name) (found : Option ℕ) → AreDistinct names → Finds names name found → FindsOwn names name found
+pub finds_own : (names : List Name) (name : Name) (found : Option ℕ) → AreDistinct names
+    → Finds names name found → FindsOwn names name found
 finds_own names name None d h k at = absurd (each_get (λ other. other ≢ name) names k name at h refl)
 finds_own names name (Some i) d h k at = ap Some (one_number names name i k d h.0 at)
 
@@ -37,4 +39,5 @@ module _ (m : RobustModel) (model : IsModel m) (named : IsNamed m) where
   set_rows_distinct = distinct_set_rows m model named
 
   pub parameters_distinct : AreDistinct (parameter_names m)
-  parameters_distinct = distinct_left (parameter_names m) (row_names m ++ (variable_names m ++ adaptive_names m)) named.distinct
+  parameters_distinct =
+      distinct_left (parameter_names m) (row_names m ++ (variable_names m ++ adaptive_names m)) named.distinct

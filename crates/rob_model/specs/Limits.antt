@@ -28,13 +28,14 @@ most_members = 64
 abbrev pub most_size : ℕ
 most_size = 10000
 
--- few enough parameters, decision columns, row statements, set statements, members of all budgets together; and not too
--- large: its size is forms times the sum of set rows, twice the parameters and members, and one, which is as many as its
--- robust counterpart has rows and multipliers together
+-- few enough parameters, decision columns, row statements, set statements, and members of all budgets together; and not
+-- too large: the size is forms times the sum of set rows, twice the parameters and members, and one, which is how many
+-- rows and multipliers its robust counterpart has together
 pub record IsWithinLimits (m : RobustModel) : Type 0 where
   pub parameters : length m.parameters ≤ most_parameters
   pub columns : column_count m ≤ most_columns
   pub rows : length m.rows ≤ most_rows
   pub set_lines : length m.set_lines ≤ most_set_lines
   pub members : lift_count m.set_lines ≤ most_members
-  pub size : length (forms m) * (length (set_rows m) + 2 * (length m.parameters + lift_count m.set_lines) + 1) ≤ most_size
+  pub size : length (forms m) * (length (set_rows m) + 2 * (length m.parameters + lift_count m.set_lines) + 1)
+      ≤ most_size

@@ -53,7 +53,8 @@ pub fn find_form<N: Exact>(model: &Model<N>, name: &[u8]) -> Option<u32>
     requires valid { IsValid N.value model.now }
     ensures found { Finds (form_names (robust N.value model.now)) name.now result }
     // Where the declared names are plain, free and distinct, each name is found at its own number.
-    ensures own { IsNamed (robust N.value model.now) → FindsOwn (form_names (robust N.value model.now)) name.now result }
+    ensures own { IsNamed (robust N.value model.now)
+        → FindsOwn (form_names (robust N.value model.now)) name.now result }
 {
     find(model, Kind::Form, name)
 }
@@ -63,7 +64,8 @@ pub fn find_column<N: Exact>(model: &Model<N>, name: &[u8]) -> Option<u32>
     requires valid { IsValid N.value model.now }
     ensures found { Finds (column_names (robust N.value model.now)) name.now result }
     // Where the declared names are plain, free and distinct, each name is found at its own number.
-    ensures own { IsNamed (robust N.value model.now) → FindsOwn (column_names (robust N.value model.now)) name.now result }
+    ensures own { IsNamed (robust N.value model.now)
+        → FindsOwn (column_names (robust N.value model.now)) name.now result }
 {
     find(model, Kind::Column, name)
 }
@@ -73,7 +75,8 @@ pub fn find_set_row<N: Exact>(model: &Model<N>, name: &[u8]) -> Option<u32>
     requires valid { IsValid N.value model.now }
     ensures found { Finds (set_row_names (robust N.value model.now)) name.now result }
     // Where the declared names are plain, free and distinct, each name is found at its own number.
-    ensures own { IsNamed (robust N.value model.now) → FindsOwn (set_row_names (robust N.value model.now)) name.now result }
+    ensures own { IsNamed (robust N.value model.now)
+        → FindsOwn (set_row_names (robust N.value model.now)) name.now result }
 {
     find(model, Kind::SetRow, name)
 }
@@ -83,7 +86,8 @@ pub fn find_param<N: Exact>(model: &Model<N>, name: &[u8]) -> Option<u32>
     requires valid { IsValid N.value model.now }
     ensures found { Finds (parameter_names (robust N.value model.now)) name.now result }
     // Where the declared names are plain, free and distinct, each name is found at its own number.
-    ensures own { IsNamed (robust N.value model.now) → FindsOwn (parameter_names (robust N.value model.now)) name.now result }
+    ensures own { IsNamed (robust N.value model.now)
+        → FindsOwn (parameter_names (robust N.value model.now)) name.now result }
 {
     find(model, Kind::Parameters, name)
 }

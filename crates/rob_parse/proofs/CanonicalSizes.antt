@@ -4,9 +4,7 @@ use Rattle.std.specs.Prelude.{◌&&◌, nat_le, Option, Some, None}
 use Rattle.std.proofs.lemmas.Bool.Decides.{nat_tests}
 use Rattle.std.proofs.lemmas.List.{length-map}
 use Rattle.std.proofs.lemmas.List.Sums.{fold-append}
-use Rattle.rob_algebra.specs.Fraction.{Fraction}
-use Rattle.rob_meaning.specs.RobustModel as model
-use Rattle.rob_meaning.specs.RobustModel.{RobustModel, AdaptiveVariable}
+use Rattle.rob_meaning.specs.RobustModel.{RobustModel}
 use Rattle.rob_meaning.specs.SetRows.{lift_count}
 use Rattle.rob_parse.specs.declared.size.Sizes.{Sizes}
 use Rattle.rob_parse.specs.declared.sort.Sort.{Sort}
@@ -72,7 +70,8 @@ same_sizes s t parameters variables adaptives columns rows set_lines members for
 -- behind all its statements a model is counted
 added_all : (m : RobustModel) → added start_sizes m ≡ sizes_of m
 added_all m =
-    same_sizes _ _ (omega arith) (omega arith) (omega arith) (omega (arith, columns_are m.adaptives (length m.variables))) (omega arith) (omega arith) (omega arith)
+    same_sizes _ _ (omega arith) (omega arith) (omega arith)
+    (omega (arith, columns_are m.adaptives (length m.variables))) (omega arith) (omega arith) (omega arith)
     (omega (arith, length-forms m)) (omega (arith, length-set_rows m))
 
 module _ (words : List (List ℕ)) (sorts : List (Option Sort)) where

@@ -1,24 +1,20 @@
 -- What is counted while a text is read is what its model has.
-use Rattle.std.proofs.Common.{◌≡◌, ℕ, suc, ◌+◌, List, [], ◌∷◌, length, ◌∙◌, subst, arith, sym}
+use Rattle.std.proofs.Common.{◌≡◌, ℕ, suc, ◌+◌, List, [], ◌∷◌, length, ◌∙◌, subst, arith}
 use Rattle.std.specs.Prelude.{Option}
 use Rattle.std.specs.List.{flat_map}
 use Rattle.std.proofs.lemmas.List.{length-map}
-use Rattle.rob_meaning.specs.RobustModel.{AdaptiveVariable, RobustModel, column_from}
+use Rattle.rob_meaning.specs.RobustModel.{AdaptiveVariable, column_from}
 use Rattle.rob_meaning.specs.SetRows.{lift_count}
-use Rattle.rob_model.specs.Limits.{IsWithinLimits}
 use Rattle.rob_parse.specs.declared.sort.Sort.{Sort}
 use Rattle.rob_parse.specs.declared.symbol.Symbol.{Symbol}
 use Rattle.rob_parse.specs.declared.size.Sizes.{Sizes}
 use Rattle.rob_parse.specs.declared.syntax.Statement.{Statement}
 use Rattle.rob_parse.specs.declared.syntax.Statement.TheVariants.{Uncertain, Set, Budget, Var, Adaptive, Goal, Row}
-use Rattle.rob_parse.specs.Models.{parameters, variables, adaptives, set_lines, rows, member, parameter_at, model_of}
-use Rattle.rob_parse.specs.Modelled.{ReadsModel}
+use Rattle.rob_parse.specs.Models.{parameters, variables, adaptives, set_lines, rows, member, parameter_at}
 use Rattle.rob_parse.specs.Reading.{Follows}
-use Rattle.rob_parse.specs.Scopes.{Earlier, behind, start}
+use Rattle.rob_parse.specs.Scopes.{Earlier, behind}
 use Rattle.rob_parse.specs.Sizes.{counted, IsKept}
-use Rattle.rob_parse.specs.Symbols.{lines_of}
 use Rattle.rob_parse.proofs.ReadingLemmas.{kept_note}
-use Rattle.rob_parse.proofs.SizeLemmas.{kept_start, within}
 
 -- the columns of some adaptive variables
 unfoldable pub rule_columns : List AdaptiveVariable → ℕ

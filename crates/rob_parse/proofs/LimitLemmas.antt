@@ -1,5 +1,5 @@
 -- What rule 22 counts are the sizes of a model, and a model that a text reads as is within the limits.
-use Rattle.std.proofs.Common.{◌≡◌, ℕ, List, [], ◌∷◌, ◌++◌, fold, sym, ap, ◌∙◌, arith}
+use Rattle.std.proofs.Common.{◌≡◌, ℕ, List, [], ◌∷◌, ◌++◌, sym, ap, ◌∙◌}
 use Rattle.std.specs.Prelude.{Option}
 use Rattle.std.proofs.lemmas.List.Sums.{fold-append}
 use Rattle.rob_meaning.specs.RobustModel.{RobustModel}
@@ -11,7 +11,7 @@ use Rattle.rob_parse.specs.Modelled.{ReadsModel}
 use Rattle.rob_parse.specs.Models.{model_of}
 use Rattle.rob_parse.specs.Reading.{Follows}
 use Rattle.rob_parse.specs.Scopes.{Earlier, start}
-use Rattle.rob_parse.specs.Sizes.{counted, start_sizes, sizes_of, is_within}
+use Rattle.rob_parse.specs.Sizes.{counted, start_sizes, sizes_of}
 use Rattle.rob_parse.proofs.CanonicalSizes.{sizes_are, sizes_behind, source_within}
 use Rattle.rob_parse.proofs.SizeLemmas.{Within, within}
 
@@ -31,9 +31,11 @@ pub within_limits : (limit : ℕ) (text : List ℕ) (m : RobustModel) → ReadsM
 within_limits limit text m read = limits_of m (within (sizes_of m) (source_within limit text m read))
 
 -- what is counted behind a statement are the sizes of the model of all statements up to it
-pub counted_is : (limit words_count : ℕ) (lines : List (List Symbol)) (list : List Statement) (known : Earlier) (s : Statement)
+pub counted_is : (limit words_count : ℕ) (lines : List (List Symbol))
+    (list : List Statement) (known : Earlier) (s : Statement)
     → Follows limit (start words_count) lines list known
-    → (words : List (List ℕ)) (sorts : List (Option Sort)) → counted known.sizes s ≡ sizes_of (model_of words sorts (list ++ s ∷ []))
+    → (words : List (List ℕ)) (sorts : List (Option Sort))
+    → counted known.sizes s ≡ sizes_of (model_of words sorts (list ++ s ∷ []))
 counted_is limit words_count lines list known s follows words sorts =
     ap (λ sizes. counted sizes s) (sizes_behind limit (start words_count) lines list known follows)
     ∙ sym (fold-append counted start_sizes list (s ∷ []))

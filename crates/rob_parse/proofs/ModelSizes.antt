@@ -1,5 +1,5 @@
 -- What is counted of a model's parts is how many forms and set rows it has.
-use Rattle.std.proofs.Common.{◌≡◌, ℕ, zero, suc, ◌+◌, ◌*◌, List, [], ◌∷◌, ◌++◌, length, refl, ap, ◌∙◌, arith, length-append}
+use Rattle.std.proofs.Common.{◌≡◌, ℕ, zero, suc, ◌+◌, ◌*◌, List, [], ◌∷◌, ◌++◌, length, refl, arith, length-append}
 use Rattle.std.specs.Prelude.{map, Option, Some, None}
 use Rattle.std.proofs.lemmas.List.{length-map}
 use Rattle.rob_algebra.specs.Fraction.{Fraction}
@@ -24,38 +24,46 @@ inequalities model.at_most = 1
 inequalities model.at_least = 1
 inequalities model.equal = 2
 
+-- the declared bounds of the parameters
 abbrev pub parameter_bounds : List model.Parameter → ℕ
 parameter_bounds [] = 0
 parameter_bounds (p ∷ ps) = some_bounds p.lower p.upper + parameter_bounds ps
 
+-- the declared bounds of the variables
 abbrev pub variable_bounds : List model.Variable → ℕ
 variable_bounds [] = 0
 variable_bounds (v ∷ vs) = some_bounds v.lower v.upper + variable_bounds vs
 
+-- the declared bounds of the adaptive variables
 abbrev pub adaptive_bounds : List AdaptiveVariable → ℕ
 adaptive_bounds [] = 0
 adaptive_bounds (y ∷ ys) = some_bounds y.lower y.upper + adaptive_bounds ys
 
+-- the inequalities of the rows
 abbrev pub row_inequalities : List model.Row → ℕ
 row_inequalities [] = 0
 row_inequalities (r ∷ rs) = inequalities r.relation + row_inequalities rs
 
+-- the set rows of the statements: one or two for a line, and for a budget one and two for each member
 abbrev pub line_rows : List model.SetLine → ℕ
 line_rows [] = 0
 line_rows (model.line left relation right ∷ rest) = inequalities relation + line_rows rest
 line_rows (model.budget limit members ∷ rest) = (1 + 2 * length members) + line_rows rest
 
 -- ---- how long the lists are
-length-declared : {A : Type 0} (f g : Fraction → A) (lower upper : Option Fraction) → length (if_declared f lower ++ if_declared g upper) ≡ some_bounds lower upper
+length-declared : {A : Type 0} (f g : Fraction → A) (lower upper : Option Fraction)
+    → length (if_declared f lower ++ if_declared g upper) ≡ some_bounds lower upper
 length-declared f g None None = refl
 length-declared f g None (Some b) = refl
 length-declared f g (Some l) None = refl
 length-declared f g (Some l) (Some b) = refl
 
-length-bound_forms : (e : Expression) (lower upper : Option Fraction) → length (bound_forms e lower upper) ≡ some_bounds lower upper
+length-bound_forms : (e : Expression) (lower upper : Option Fraction)
+    → length (bound_forms e lower upper) ≡ some_bounds lower upper
 length-bound_forms e lower upper = length-declared _ _ lower upper
 
-length-sides : (relation : model.Relation) (left right : Expression) → length (sides relation left right) ≡ inequalities relation
+length-sides : (relation : model.Relation) (left right : Expression)
+    → length (sides relation left right) ≡ inequalities relation
 length-sides model.at_most left right = refl
 length-sides model.at_least left right = refl
 length-sides model.equal left right = refl
@@ -63,7 +71,12 @@ length-sides model.equal left right = refl
 length-row_forms : (rs : List model.Row) → length (row_forms rs) ≡ row_inequalities rs
 length-row_forms [] = refl
 length-row_forms (r ∷ rs) =
-    omega (arith, length-append (sides r.relation r.left r.right) (row_forms rs), length-sides r.relation r.left r.right, length-row_forms rs)
+    omega (
+      arith,
+      length-append (sides r.relation r.left r.right) (row_forms rs),
+      length-sides r.relation r.left r.right,
+      length-row_forms rs,
+    )
 
 length-variable_forms : (k : ℕ) (xs : List model.Variable) → length (variable_forms k xs) ≡ variable_bounds xs
 length-variable_forms k [] = refl
@@ -119,7 +132,8 @@ module _ (m : RobustModel) where
       )
 
   -- the objective, and the forms of rows and of declared bounds
-  pub length-forms : length (forms m) ≡ 1 + (variable_bounds m.variables + adaptive_bounds m.adaptives + row_inequalities m.rows)
+  pub length-forms : length (forms m)
+      ≡ 1 + (variable_bounds m.variables + adaptive_bounds m.adaptives + row_inequalities m.rows)
   length-forms =
       omega (
         arith,

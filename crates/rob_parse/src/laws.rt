@@ -47,8 +47,8 @@ pub fn one_model()
         → ReadsModel limit text m → Breaks limit text rule line → ⊥ }
 {}
 
-/// A model that a text reads as is within the limits, and what is counted line by line, which rule 22 judges, are the sizes
-/// of the model of the statements up to there.
+/// A model that a text reads as is within the limits, and the sizes that are counted line by line, which rule 22 judges, are
+/// those of the model of the statements up to there.
 pub fn within_limits()
     ensures limits { (limit : ℕ) (text : List ℕ) (m : RobustModel) → ReadsModel limit text m → IsWithinLimits m }
     ensures counted { (limit words_count : ℕ)

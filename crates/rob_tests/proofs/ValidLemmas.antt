@@ -68,6 +68,16 @@ module _ {N : Type 0} (value : N → Fraction) where
     members_two : lift_count (robust value m).set_lines ≡ 2
     members_two = ap (λ (ls : List (SetLine N)). lift_count (map (set_line_of value) ls)) ls
 
+    -- at most 7 forms, and 19 for each
+    small_size : length (forms (robust value m))
+        * (length (set_rows (robust value m)) + 2 * (length (robust value m).parameters + lift_count (robust value m).set_lines) + 1) ≤ 10000
+    small_size =
+        let vars = length-map m.vars (variable_of value) ∙ ap length xs in
+        let adaptives = length-map m.adaptives (adaptive_of value) ∙ ap length ys in
+        small_product (length (forms (robust value m))) _
+        (omega (arith, few_forms (robust value m), rows_one, vars, adaptives))
+        (omega (arith, few_set_rows (robust value m), params, lines_one, members_two))
+
     pub demand_valid : IsValid value m
     demand_valid = record {
       well_formed = record {
@@ -91,8 +101,6 @@ module _ {N : Type 0} (value : N → Fraction) where
         rows = omega (arith, rows_one);
         set_lines = omega (arith, lines_one);
         members = omega (arith, members_two);
-        size = small_product (length (forms (robust value m))) (length (set_rows (robust value m)) + 2 * (length (robust value m).parameters + lift_count (robust value m).set_lines) + 1)
-            (omega (arith, few_forms (robust value m), rows_one, length-map m.vars (variable_of value), ap length xs, length-map m.adaptives (adaptive_of value), ap length ys))
-            (omega (arith, few_set_rows (robust value m), params, lines_one, members_two));
+        size = small_size;
       };
     }

@@ -6,4 +6,5 @@ use Rattle.rob_model.proofs.names.find_form.Goals as goal
 pub returns-clause-own : goal.returns-clause-own
 returns-clause-own g c named =
     let m = robust g.N.Exact.value c.args.model.now in
-    finds_own (form_names m) c.args.name.now c.find.result (forms_distinct m c.requires.valid.well_formed named) c.find.ensures.found
+    finds_own (form_names m) c.args.name.now c.find.result
+    (forms_distinct m c.requires.valid.well_formed named) c.find.ensures.found
