@@ -1,3 +1,4 @@
 pub mod FilesLemmas
+pub mod PutsLemmas
 pub mod TakenLemmas
 pub mod WriteLemmas

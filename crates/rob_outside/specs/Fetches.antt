@@ -1,26 +1,30 @@
--- What the fetches of a shelf answered, in their order.
+-- The fetches of a shelf, in their order, and what each answered.
 --
---   Fetch                   the name that was asked for, how many bytes at most, and what was found
---   logged name max result  what a fetch adds: one entry where it answered no error, and else none
+--   Fetch                   the name that was asked for, how many bytes at most, and what was found, if it answered no error
+--   logged name max result  what a fetch adds: one entry, also where it answered an error
 use Rattle.std.specs.Prelude.{ℕ, List, [], ◌∷◌, Option, Some, None, Result, Ok, Err, ◌≡◌, refl}
 use Rattle.std.specs.Coded.{Coded, code_by, coded×, coded_ℕ, coded_list, coded_option}
 use Rattle.rob_outside.specs.Files.{Found, whole, missing, too_long, found_of}
 use Rattle.rob_outside.specs.declared.shelf.Fetched.{Fetched}
 
--- a fetch that answered: the name, how many bytes at most were asked for, and what was found
+-- a fetch: the name, how many bytes at most were asked for, and what was found; nothing, where it answered an error
 pub record Fetch : Type 0 where
   pub name : List ℕ
   pub most : ℕ
-  pub found : Found
+  pub found : Option Found
 
--- the fetch of that name, of so many bytes at most, that found this
-abbrev pub fetch_of : List ℕ → ℕ → Found → Fetch
+-- the fetch of that name, of so many bytes at most, that found this, or answered an error
+abbrev pub fetch_of : List ℕ → ℕ → Option Found → Fetch
 fetch_of name most found = record { name = name; most = most; found = found }
 
--- what a fetch adds to the answers: where it answered no error, what it found
+-- what was found, by what was answered: an error says nothing of the file
+abbrev pub found_by : {E : Type 0} → Result Fetched E → Option Found
+found_by (Ok fetched) = Some (found_of fetched)
+found_by (Err error) = None
+
+-- what a fetch adds: one entry, whatever it answered
 abbrev pub logged : {E : Type 0} → List ℕ → ℕ → Result Fetched E → List Fetch
-logged name max (Ok fetched) = fetch_of name max (found_of fetched) ∷ []
-logged name max (Err error) = []
+logged name max result = fetch_of name max (found_by result) ∷ []
 
 -- ---- how they are stored
 
@@ -44,5 +48,6 @@ found_code = code_by (Option (Option (List ℕ))) (coded_option (coded_option (c
 
 abbrev pub fetch_code : Coded Fetch
 fetch_code =
-    code_by (List ℕ × (ℕ × Found)) (coded× (coded_list coded_ℕ) (coded× coded_ℕ found_code)) (λ f. (f.name, (f.most, f.found)))
+    code_by (List ℕ × (ℕ × Option Found)) (coded× (coded_list coded_ℕ) (coded× coded_ℕ (coded_option found_code)))
+    (λ f. (f.name, (f.most, f.found)))
     (λ p. fetch_of p.0 p.1.0 p.1.1) (λ _. refl)

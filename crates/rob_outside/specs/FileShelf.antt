@@ -6,7 +6,7 @@ use Rattle.rob_outside.specs.Fetches.{Fetch}
 use Rattle.rob_outside.specs.declared.shelf.ShelfErr.{ShelfErr}
 use Rattle.rob_outside.specs.declared.shelf.ShelfErr.TheVariants.{Failed, Memory}
 
--- what the fetches answered so far, and the faults
+-- the fetches so far, and the faults
 pub record FetchState : Type 0 where
   pub log : List Fetch
   pub faults : ℕ

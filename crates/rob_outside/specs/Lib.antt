@@ -1,8 +1,10 @@
 pub mod Files
 pub mod Fetches
 pub mod Taken
+pub mod Puts
 pub mod MemShelf
 pub mod SureShelf
 pub mod MemSink
+pub mod SureSink
 pub mod FileShelf
 pub mod StdSink

@@ -1,10 +1,12 @@
 -- Standard output, as contracts see it.
 use Rattle.std.specs.Prelude.{ℕ, List, []}
+use Rattle.rob_outside.specs.Puts.{Put}
 
--- the bytes that the machine's writes took so far, and the faults
+-- the bytes that the machine's writes took so far, the puts and the faults
 pub record OutputState : Type 0 where
   pub taken : List ℕ
+  pub puts : List Put
   pub faults : ℕ
 
 abbrev pub empty_output : OutputState
-empty_output = record { taken = []; faults = 0 }
+empty_output = record { taken = []; puts = []; faults = 0 }

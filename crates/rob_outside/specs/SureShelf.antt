@@ -3,7 +3,7 @@ use Rattle.std.specs.Prelude.{List, []}
 use Rattle.rob_outside.specs.Fetches.{Fetch}
 use Rattle.rob_outside.specs.Files.{File}
 
--- the files in the order of their adding, and what the fetches answered so far
+-- the files in the order of their adding, and the fetches so far
 pub record SureState : Type 0 where
   pub files : List File
   pub log : List Fetch

@@ -18,7 +18,8 @@ use std::rt::Files;
 /// How many bytes are asked for at a time.
 const CHUNK: usize = 4096;
 
-/// The files of the machine, by their paths. Contracts see what its fetches answered, and the number of its faults so far.
+/// The files of the machine, by their paths. Contracts see its fetches with what each answered, and the number of its faults
+/// so far.
 #[derive(Drop)]
 pub struct FileShelf<'a, R: Files> {
     rt: &'a R,
@@ -63,11 +64,10 @@ impl<'a, R: Files> Shelf for FileShelf<'a, R> {
         ensures counted { self.old.faults ≤ self.new.faults }
         ensures fault { result ≡ Err ShelfErr.Failed → Rose self.old.faults self.new.faults }
     {
-        match read_file(alloc, self.rt, name, max) {
-            Ok(fetched) => {
-                self.log.note(name.as_bytes(), max, &fetched);
-                Ok(fetched)
-            }
+        let result = read_file(alloc, self.rt, name, max);
+        self.log.note(name.as_bytes(), max, &result);
+        match result {
+            Ok(fetched) => Ok(fetched),
             Err(ShelfErr::Failed) => {
                 self.faults = self.faults.saturating_add(1);
                 Err(ShelfErr::Failed)

@@ -1,9 +1,10 @@
 // What follows from the definitions, for the proofs of the layers above. The functions do nothing; their clauses are
 // the claims.
 
-ghost use Rattle.std.specs.Prelude.{◌≡◌, ◌≢◌, ◌<◌, ◌≤◌, ◌↔◌, ℕ, All, List, [], ◌++◌, length, take, Some, None, IsSomeAnd, Result, Err, MatchResult};
+ghost use Rattle.std.specs.Prelude.{◌≡◌, ◌≢◌, ◌<◌, ◌≤◌, ◌↔◌, ℕ, All, List, [], ◌∷◌, ◌++◌, length, take, Some, None, IsSomeAnd, Result, Err, MatchResult};
 ghost use Rattle.rob_number.specs.Counts.{Rose};
 ghost use Rattle.rob_outside.specs.Files.{File, Finds, IsFirst, file_at, found_at, found_of, missing, too_long, whole};
+ghost use Rattle.rob_outside.specs.Puts.{Put, PutAll, PutEach, PutSome, put_of};
 ghost use Rattle.rob_outside.specs.Taken.{IsPrefix, Takes, Took, TookPrefix};
 ghost use Rattle.rob_outside.specs.declared.shelf.Fetched.{Fetched};
 ghost use Rattle.rob_outside.specs.declared.shelf.ShelfErr.{ShelfErr};
@@ -60,4 +61,21 @@ pub fn put_laws()
         → (result ≡ Err PutFailed → Rose faults later) → (Rose faults later → ⊥)
         → MatchResult result (λ _. Took before now piece) (λ error. error ≡ PutMemory) }
     ensures first_bytes { (count : ℕ) (text : List ℕ) → IsPrefix (take count text) text }
+{}
+
+/// Which pieces were put, where they are put one by one until an error is answered.
+pub fn each_laws()
+    ensures nothing { (before : List Put) → PutAll before before [] }
+    // One put.
+    ensures one { (before now : List Put) (piece : List ℕ) (result : Result (Unit {0}) SinkErr)
+        → now ≡ before ++ put_of piece result ∷ [] → PutEach before now (piece ∷ []) result }
+    // Behind pieces that were taken whole.
+    ensures behind { (before middle now : List Put) (first second : List (List ℕ))
+        (result : Result (Unit {0}) SinkErr)
+        → PutAll before middle first → PutEach middle now second result
+        → PutEach before now (first ++ second) result }
+    ensures all_is_some { (before now : List Put) (pieces : List (List ℕ))
+        → PutAll before now pieces → PutSome before now pieces }
+    ensures longer { (before now : List Put) (pieces more : List (List ℕ))
+        → PutSome before now pieces → PutSome before now (pieces ++ more) }
 {}

@@ -95,10 +95,12 @@ impl Shelf for MemShelf {
         self.calls = self.calls.saturating_add(1);
         if self.failing.items().contains(&self.calls) {
             self.faults = self.faults.saturating_add(1);
-            return Err(ShelfErr::Failed);
+            let failed = Err(ShelfErr::Failed);
+            self.log.note(name.as_bytes(), max, &failed);
+            return failed;
         }
-        let fetched = find(alloc, self.files.items(), name.as_bytes(), max)?;
-        self.log.note(name.as_bytes(), max, &fetched);
-        Ok(fetched)
+        let result = find(alloc, self.files.items(), name.as_bytes(), max);
+        self.log.note(name.as_bytes(), max, &result);
+        result
     }
 }

@@ -4,6 +4,7 @@ ghost use Rattle.std.specs.Prelude.{◌≡◌, ◌+◌, ◌≤◌, min, [], ◌�
 ghost use Rattle.rob_outside.specs.MemSink.{accepts, after_put, empty_sink, first_of};
 ghost use Rattle.rob_outside.specs.Taken.{Takes};
 
+use crate::note::PutNote;
 use crate::sink::{Sink, SinkErr};
 use rob_number::{List, Memory};
 use std::alloc::Global;
@@ -33,6 +34,7 @@ pub struct MemSink {
     failing: List<FailingPut>,
     bytes: Vec<u8>,
     calls: u64,
+    puts: PutNote,
     faults: u64,
 }
 
@@ -47,6 +49,7 @@ impl Model for MemSink {
       failing = sink.failing;
       bytes = sink.bytes.items;
       calls = sink.calls;
+      puts = sink.puts.puts;
       faults = sink.faults;
     } };
 
@@ -66,6 +69,7 @@ impl MemSink {
             failing: List::new(alloc),
             bytes,
             calls: 0,
+            puts: PutNote::new(),
             faults: 0,
         })
     }
@@ -100,6 +104,8 @@ impl MemSink {
 impl Sink for MemSink {
     ghost taken = { λ sink. sink.bytes };
 
+    ghost puts = { λ sink. sink.puts };
+
     ghost faults = { λ sink. sink.faults };
 
     /// It takes no memory, and never answers `Memory`.
@@ -113,7 +119,9 @@ impl Sink for MemSink {
         let free = self.room - self.bytes.len();
         let failing = first_bytes(self.failing.items(), self.calls);
         append(&mut self.bytes, piece, failing.unwrap_or(free).min(free));
-        if failing.is_none() && piece.len() <= free {
+        let whole = failing.is_none() && piece.len() <= free;
+        self.puts.note(piece, whole);
+        if whole {
             return Ok(());
         }
         self.faults = self.faults.saturating_add(1);

@@ -50,13 +50,13 @@ impl From<AllocError> for ShelfErr {
     }
 }
 
-/// Files by name. A shelf may tell its files; it keeps what its fetches answered, and it counts its faults. All are meanings
-/// for contracts alone.
+/// Files by name. A shelf may tell its files; it keeps its fetches with what each answered, and it counts its faults. All are
+/// meanings for contracts alone.
 pub trait Shelf {
     /// The files in their order, where the shelf tells them. Of two files of one name the first counts.
     ghost files: { Self → Option (List File) };
 
-    /// What the fetches answered so far, in their order. A fetch that answered an error isn't among them.
+    /// The fetches so far, in their order, with what each answered. Those that answered an error are among them.
     ghost log: { Self → List Fetch };
 
     /// The number of faults so far. A count at `u64::MAX` stands.
@@ -67,6 +67,7 @@ pub trait Shelf {
         // Where the files are told: the whole file, or that there is none, or that it is longer, each exactly there.
         ensures found { Finds (files self.old) name.now max result }
         ensures within { IfOk result (IsAtMost max) }
+        // Every fetch is noted, also one that answers an error, and nothing else is.
         ensures logged { log self.new ≡ log self.old ++ logged name.now max result }
         ensures unchanged { files self.new ≡ files self.old }
         ensures counted { faults self.old ≤ faults self.new }

@@ -1,7 +1,8 @@
 // A place for output.
 
-ghost use Rattle.std.specs.Prelude.{◌≡◌, ◌≤◌, ℕ, List};
+ghost use Rattle.std.specs.Prelude.{◌≡◌, ◌≤◌, ◌++◌, ◌∷◌, ℕ, List, []};
 ghost use Rattle.rob_number.specs.Counts.{Rose};
+ghost use Rattle.rob_outside.specs.Puts.{Put, put_of};
 ghost use Rattle.rob_outside.specs.Taken.{Takes};
 
 use rob_number::Memory;
@@ -26,10 +27,14 @@ impl From<Memory> for SinkErr {
     }
 }
 
-/// A place for output. A sink keeps the bytes that it took, and it counts its faults; both are meanings for contracts alone.
+/// A place for output. A sink keeps the bytes that it took, and its puts with what each answered, and it counts its faults. All
+/// are meanings for contracts alone.
 pub trait Sink {
     /// The bytes taken so far, in order.
     ghost taken: { Self → List ℕ };
+
+    /// The puts so far, in their order, with whether each answered that it took the whole piece.
+    ghost puts: { Self → List Put };
 
     /// The number of faults so far. A count at `u64::MAX` stands.
     ghost faults: { Self → ℕ };
@@ -37,6 +42,8 @@ pub trait Sink {
     /// Appends the piece. After an error a prefix of the piece was appended, which may be nothing or all of it.
     fn put(&mut self, piece: &[u8]) -> Result<(), SinkErr>
         ensures took { Takes (taken self.old) (taken self.new) piece.now result }
+        // Every put is noted, also one that answers an error, and nothing else is.
+        ensures noted { puts self.new ≡ puts self.old ++ put_of piece.now result ∷ [] }
         ensures counted { faults self.old ≤ faults self.new }
         ensures fault { result ≡ Err SinkErr.Failed → Rose (faults self.old) (faults self.new) };
 }

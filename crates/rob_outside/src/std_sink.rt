@@ -1,22 +1,25 @@
 // The machine's standard output. This is an edge that is trusted: what it tells are the bytes that the machine's writes said
 // they took; nothing is told of what it shows.
 
-ghost use Rattle.std.specs.Prelude.{◌≡◌, ◌≤◌, IfErr, MatchResult};
+ghost use Rattle.std.specs.Prelude.{◌≡◌, ◌≤◌, ◌++◌, ◌∷◌, [], IfErr, MatchResult};
 ghost use Rattle.rob_number.specs.Counts.{Rose, raised};
+ghost use Rattle.rob_outside.specs.Puts.{put_of};
 ghost use Rattle.rob_outside.specs.StdSink.{empty_output};
 ghost use Rattle.rob_outside.specs.Taken.{Takes, TakesKnown};
 
-use crate::note::WriteNote;
+use crate::note::{PutNote, WriteNote};
 use crate::sink::{Sink, SinkErr};
 use std::io;
 use std::io::Write;
 use std::marker::Model;
 
-/// Standard output. Contracts see the bytes that the machine's writes took so far, and the number of its faults.
+/// Standard output. Contracts see the bytes that the machine's writes took so far, its puts with what each answered, and the
+/// number of its faults.
 #[derive(Drop)]
 pub struct StdSink<'a, R: Print> {
     rt: &'a R,
     taken: WriteNote,
+    puts: PutNote,
     faults: u64,
 }
 
@@ -25,7 +28,7 @@ impl<'a, R: Print> Model for StdSink<'a, R> {
 
     ghost Value = { OutputState };
 
-    ghost view = { λ sink. record { taken = sink.taken.bytes; faults = sink.faults } };
+    ghost view = { λ sink. record { taken = sink.taken.bytes; puts = sink.puts.puts; faults = sink.faults } };
 }
 
 impl<'a, R: Print> StdSink<'a, R> {
@@ -36,6 +39,7 @@ impl<'a, R: Print> StdSink<'a, R> {
         StdSink {
             rt,
             taken: WriteNote::new(),
+            puts: PutNote::new(),
             faults: 0,
         }
     }
@@ -44,18 +48,22 @@ impl<'a, R: Print> StdSink<'a, R> {
 impl<'a, R: Print> Sink for StdSink<'a, R> {
     ghost taken = { λ sink. sink.taken };
 
+    ghost puts = { λ sink. sink.puts };
+
     ghost faults = { λ sink. sink.faults };
 
     /// An error of the machine is a fault, and so is a write that takes nothing. It takes no memory, and never answers
     /// `Memory`.
     fn put(&mut self, piece: &[u8]) -> Result<(), SinkErr>
         ensures took { Takes self.old.taken self.new.taken piece.now result }
+        ensures noted { self.new.puts ≡ self.old.puts ++ put_of piece.now result ∷ [] }
         ensures exact { MatchResult result (λ _. self.new.faults ≡ self.old.faults)
             (λ error. (error ≡ SinkErr.Failed) × (self.new.faults ≡ raised self.old.faults)) }
         ensures counted { self.old.faults ≤ self.new.faults }
         ensures fault { result ≡ Err SinkErr.Failed → Rose self.old.faults self.new.faults }
     {
         let written = write_whole(&mut io::writer(self.rt), piece, &mut self.taken);
+        self.puts.note(piece, written.is_ok());
         if written.is_err() {
             self.faults = self.faults.saturating_add(1);
         }

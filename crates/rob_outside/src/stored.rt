@@ -1,9 +1,9 @@
 // Files in memory, in the order of their adding.
 
-ghost use Rattle.std.specs.Prelude.{◌≡◌, [], ◌∷◌, ◌++◌, IfOk, OnOk, OnErr, Some};
+ghost use Rattle.std.specs.Prelude.{◌≡◌, [], ◌∷◌, ◌++◌, IfErr, IfOk, OnOk, OnErr, Some};
 ghost use Rattle.rob_outside.specs.Files.{file_of, found_at, found_of, found_within};
 
-use crate::shelf::Fetched;
+use crate::shelf::{Fetched, ShelfErr};
 use rob_number::{List, Memory, Text};
 use std::alloc::Global;
 use std::marker::Model;
@@ -44,8 +44,9 @@ pub(crate) fn find(
     files: &[StoredFile],
     name: &[u8],
     max: usize,
-) -> Result<Fetched, Memory>
+) -> Result<Fetched, ShelfErr>
     ensures found { IfOk result (λ fetched. found_of fetched ≡ found_at name.now max files.now) }
+    ensures memory { IfErr result (λ error. error ≡ ShelfErr.Memory) }
 {
     for file in files {
         if file.name.bytes() == name {
@@ -56,8 +57,9 @@ pub(crate) fn find(
 }
 
 /// A copy of the bytes, if they are at most `max`.
-fn copy_within(alloc: Global, bytes: &[u8], max: usize) -> Result<Fetched, Memory>
+fn copy_within(alloc: Global, bytes: &[u8], max: usize) -> Result<Fetched, ShelfErr>
     ensures found { IfOk result (λ fetched. found_of fetched ≡ found_within max (Some bytes.now)) }
+    ensures memory { IfErr result (λ error. error ≡ ShelfErr.Memory) }
 {
     if bytes.len() > max {
         return Ok(Fetched::TooLong);

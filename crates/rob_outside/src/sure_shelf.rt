@@ -12,7 +12,8 @@ use rob_number::{List, Memory};
 use std::alloc::Global;
 use std::marker::Model;
 
-/// Files in memory. Contracts see the list of the files, in the order of their adding, and what its fetches answered.
+/// Files in memory. Contracts see the list of the files, in the order of their adding, and its fetches with what each
+/// answered.
 #[derive(Drop)]
 pub struct SureShelf {
     alloc: Global,
@@ -63,8 +64,8 @@ impl Shelf for SureShelf {
         // Want of memory is the only error.
         ensures memory { IfErr result (λ error. error ≡ ShelfErr.Memory) }
     {
-        let fetched = find(alloc, self.files.items(), name.as_bytes(), max)?;
-        self.log.note(name.as_bytes(), max, &fetched);
-        Ok(fetched)
+        let result = find(alloc, self.files.items(), name.as_bytes(), max);
+        self.log.note(name.as_bytes(), max, &result);
+        result
     }
 }

@@ -1,5 +1,5 @@
 -- An empty body. The borrow is opened and closed at another ghost value.
-use Rattle.std.proofs.Common.{ℕ, List, [], ◌∷◌, ◌++◌, refl, MutBor}
+use Rattle.std.proofs.Common.{ℕ, List, [], ◌∷◌, ◌++◌, Result, refl, MutBor}
 use seplogic.Ra.Ura.{Ura}
 use mir.Syntax.{named, w64}
 use mir.Val.{Val, vunit, vptr, vint}
@@ -16,7 +16,7 @@ use types.Run.{unit_lit, of_opd, returns, enter}
 use types.SemTy.{Body}
 use types.ByLocal.{alloc_all, pass_all, free_all, look_at, sets}
 use sound.WpLaws.{WpFn-mono}
-use denote.RattleType.{owns}
+use denote.RattleType.{RattleType, owns}
 use denote.Memory.{mem}
 use denote.Ref.{MutRef, mut_vals, mut_Tells, ShrRef, shr_vals, shr_Tells}
 use denote.Signature.{plain}
@@ -26,10 +26,12 @@ use denote.Triple.Spec.{Meets, triple_of}
 use denote.Triple.Table.{entered}
 use denote.Triple.Walked.{says, Stays, stay_ref, stay_dropped, walk_of, AllGo, Goes-ref, Goes-dropped, Walks, ends_at, walked, walk_Meets}
 use Rattle.rob_outside.specs.declared.note.FetchNote.{FetchNote}
-use Rattle.rob_outside.specs.Files.{found_of}
-use Rattle.rob_outside.specs.Fetches.{fetch_of}
+use Rattle.rob_outside.specs.Fetches.{logged}
 use Rattle.rob_outside.specs.declared.shelf.Fetched.{Fetched}
+use Rattle.rob_outside.specs.declared.shelf.ShelfErr.{ShelfErr}
 use Rattle.rob_outside.specs.contracts.shelf.Fetched as F
+use Rattle.rob_outside.specs.contracts.shelf.ShelfErr as E
+use Rattle.std.specs.contracts.result.Result as R
 use Rattle.rob_outside.specs.contracts.note.FetchNote as T
 use Rattle.rob_outside.specs.contracts.note.FetchNote.note.Key.{name as #it}
 use Rattle.rob_outside.specs.contracts.note.FetchNote.note as it
@@ -43,20 +45,24 @@ use denote.Slice.{ShrSlice, slice_val, shr_slice_vals, shr_slice_Tells}
 use denote.Triple.Walked.{stay_none_slice, Goes-none_slice}
 use Rattle.std.proofs.Common.{◌<◌, ◌^◌, length}
 
+-- what a fetch answers
+abbrev answer : RattleType
+answer = R.the_row F.the_row E.the_row
+
 abbrev Arg : Type 0
-Arg = MutBor FetchNote × (Bor (List ℕ) × (ℕ × (Bor Fetched × Unit {0})))
+Arg = MutBor FetchNote × (Bor (List ℕ) × (ℕ × (Bor (Result Fetched ShelfErr) × Unit {0})))
 
 abbrev stayed : Stays (it.ended).signature.params (it.ended).kept
-stayed = (stay_ref (0 ∷ []) tt (plain (λ _. T.the_row)), (stay_none_slice (1 ∷ []) tt (plain (λ _. u8)) yes, (stay_dropped (plain (λ _. usize)) yes, (stay_dropped (RefOf (2 ∷ []) tt (plain (λ _. F.the_row)) (λ _. tt)) yes, tt))))
+stayed = (stay_ref (0 ∷ []) tt (plain (λ _. T.the_row)), (stay_none_slice (1 ∷ []) tt (plain (λ _. u8)) yes, (stay_dropped (plain (λ _. usize)) yes, (stay_dropped (RefOf (2 ∷ []) tt (plain (λ _. answer)) (λ _. tt)) yes, tt))))
 
-module _ {M : Type 1} {𝓤 : Ura M} (𝓛 : Logic 𝓤) (at_mem : Memory → SProp 𝓤) (run : Routine → Fun 𝓤) (κ κ' κ'' : Lft) (q q' q'' : Share) (b o : ℕ) (γ : GName) (h : FetchNote) (s : Bor (List ℕ)) (n : ℕ) (f : Bor Fetched) where
+module _ {M : Type 1} {𝓤 : Ura M} (𝓛 : Logic 𝓤) (at_mem : Memory → SProp 𝓤) (run : Routine → Fun 𝓤) (κ κ' κ'' : Lft) (q q' q'' : Share) (b o : ℕ) (γ : GName) (h : FetchNote) (s : Bor (List ℕ)) (n : ℕ) (f : Bor (Result Fetched ShelfErr)) where
   open 𝓛 use {H, A}
 
   abbrev x : Arg
   x = (record { ref_ptr = (b, o); ghost_name = γ; now = h }, (s, (n, (f, tt))))
 
   abbrev h' : FetchNote
-  h' = record { marker = h.marker; fetches = h.fetches ++ fetch_of s.now n (found_of f.now) ∷ [] }
+  h' = record { marker = h.marker; fetches = h.fetches ++ logged s.now n f.now }
 
   abbrev at : List Val × (List Val × (List Val × (List Val × Unit {0})))
   at = (vptr b o ∷ [], (slice_val s.ref_ptr (length s.now) ∷ [], (vint w64 n ∷ [], (vptr f.ref_ptr.0 f.ref_ptr.1 ∷ [], tt))))
@@ -78,7 +84,7 @@ module _ {M : Type 1} {𝓤 : Ura M} (𝓛 : Logic 𝓤) (at_mem : Memory → SP
   module _ (C : Calls 𝓤 H) (Λ : Loops 𝓤 H) where
     walk : length s.now < 2 ^ 64 → n < 2 ^ 64 → ent 𝓤 (on_entry 𝓛 it.signature (κ, (κ', (κ'', tt))) (q, (q', (q'', tt))) x at) (WpFn 𝓤 H C Λ code.function (vptr b o ∷ slice_val s.ref_ptr (length s.now) ∷ vint w64 n ∷ vptr f.ref_ptr.0 f.ref_ptr.1 ∷ []) Post)
     walk fs fn =
-        qed 𝓛 ((‵ (flft κ q) ⊛ (‵ (flft κ' q') ⊛ (‵ (flft κ'' q'') ⊛ ‵ ftrue))) ∷ ‵ (owns (MutRef (named 0) κ T.the_row ∷ ShrSlice (named 1) κ' u8 ∷ usize ∷ ShrRef (named 2) κ'' F.the_row ∷ []) x at) ∷ []) ∵ split ! $ move ! (2 ∷ []) $ fsplit ! $ fsplit3 ! $ drop ! $ move ! (2 ∷ []) $ fsplit ! $ move ! (1 ∷ []) $ drop ! $ move ! (1 ∷ 2 ∷ 3 ∷ 0 ∷ []) $
+        qed 𝓛 ((‵ (flft κ q) ⊛ (‵ (flft κ' q') ⊛ (‵ (flft κ'' q'') ⊛ ‵ ftrue))) ∷ ‵ (owns (MutRef (named 0) κ T.the_row ∷ ShrSlice (named 1) κ' u8 ∷ usize ∷ ShrRef (named 2) κ'' answer ∷ []) x at) ∷ []) ∵ split ! $ move ! (2 ∷ []) $ fsplit ! $ fsplit3 ! $ drop ! $ move ! (2 ∷ []) $ fsplit ! $ move ! (1 ∷ []) $ drop ! $ move ! (1 ∷ 2 ∷ 3 ∷ 0 ∷ []) $
         enter ! C Λ code.function (vptr b o ∷ slice_val s.ref_ptr (length s.now) ∷ vint w64 n ∷ vptr f.ref_ptr.0 f.ref_ptr.1 ∷ []) _ $
         alloc_all ! (λ l. pass_all ! refl ((tt, tt), ((tt, (tt, (record { fits = fs }, tt))), ((tt, record { fits = fn }), ((tt, tt), tt)))) $
         move ! (0 ∷ 1 ∷ 2 ∷ []) $ opens ! tt T.the_row {h = h} b o (λ vs.
@@ -91,11 +97,11 @@ module _ {M : Type 1} {𝓤 : Ura M} (𝓛 : Logic 𝓤) (at_mem : Memory → SP
   open 𝓛 use {H}
 
   walks : (C : Calls 𝓤 H) (Λ : Loops 𝓤 H) → Walks 𝓛 it.ended stayed (WpFn 𝓤 H C Λ code.function) (it.clauses 𝓛 at_mem run)
-  walks C Λ = walked 𝓛 it.ended stayed (it.clauses 𝓛 at_mem run) (WpFn 𝓤 H C Λ code.function) (λ κs. (mut_vals, (shr_slice_vals, (uint_vals w64, (shr_vals, tt))))) (λ κs. (mut_Tells (named 0) κs.0 T.the_row, (shr_slice_Tells (named 1) κs.1.0 u8, (uint_Tells w64, (shr_Tells (named 2) κs.1.1.0 F.the_row, tt)))))
+  walks C Λ = walked 𝓛 it.ended stayed (it.clauses 𝓛 at_mem run) (WpFn 𝓤 H C Λ code.function) (λ κs. (mut_vals, (shr_slice_vals, (uint_vals w64, (shr_vals, tt))))) (λ κs. (mut_Tells (named 0) κs.0 T.the_row, (shr_slice_Tells (named 1) κs.1.0 u8, (uint_Tells w64, (shr_Tells (named 2) κs.1.1.0 answer, tt)))))
       (λ κs qs bounds a _ are. via 𝓤 _ (fst∗ 𝓤 _ (emp 𝓤)) (walk 𝓛 at_mem run κs.0 κs.1.0 κs.1.1.0 qs.0 qs.1.0 qs.1.1.0 a.0.ref_ptr.0 a.0.ref_ptr.1 a.0.ghost_name a.0.now a.1.0 a.1.1.0 a.1.1.1.0 C Λ are.1.0.0.1.0 are.1.1.0.1))
 
   goes : AllGo 𝓛 3 (it.signature).params (it.ended).kept stayed
-  goes = (Goes-ref 𝓛 3 0 tt (plain (λ _. T.the_row)), (Goes-none_slice 𝓛 3 (1 ∷ []) tt (plain (λ _. u8)) yes, (Goes-dropped 𝓛 3 (plain (λ _. usize)) yes (λ κs x f. refl), (Goes-dropped 𝓛 3 (RefOf (2 ∷ []) tt (plain (λ _. F.the_row)) (λ _. tt)) yes (λ κs x f. refl), tt))))
+  goes = (Goes-ref 𝓛 3 0 tt (plain (λ _. T.the_row)), (Goes-none_slice 𝓛 3 (1 ∷ []) tt (plain (λ _. u8)) yes, (Goes-dropped 𝓛 3 (plain (λ _. usize)) yes (λ κs x f. refl), (Goes-dropped 𝓛 3 (RefOf (2 ∷ []) tt (plain (λ _. answer)) (λ _. tt)) yes (λ κs x f. refl), tt))))
 
 meets : {M : Type 1} {𝓤 : Ura M} (𝓛 : Logic 𝓤) → (at_mem : Memory → SProp 𝓤) (run : Routine → Fun 𝓤) (𝓣 : Tables 𝓤 𝓛.H)
     → Meets 𝓛 it.signature (WpFn 𝓤 𝓛.H 𝓣.C 𝓣.Λ code.function) (it.spec 𝓛 at_mem run)

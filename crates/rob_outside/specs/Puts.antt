@@ -1,0 +1,50 @@
+-- The puts of a sink, in their order.
+--
+--   Put                        the piece that was put, and whether the put answered that it took the whole of it
+--   put_of piece result        what a put adds: one entry, also where it answered an error
+--   PutAll before now pieces   behind the puts before stand those of these pieces, in order, each taken whole
+--   PutInOrder pieces puts     the puts are those of the first pieces, in order, each but the last taken whole
+--   PutSome before now pieces  behind the puts before stand such ones
+--   PutEach .. pieces result   all were put and taken whole; or an error was answered, and nothing was put behind it
+use Rattle.std.specs.Prelude.{◌≡◌, ◌⊎◌, ℕ, Bool, true, List, [], ◌∷◌, ◌++◌, map, Result, MatchResult, is_ok, refl}
+use Rattle.std.specs.Coded.{Coded, code_by, coded×, coded_ℕ, coded_list, coded_bool}
+
+-- a put: the piece, and whether it answered that the whole piece was taken
+pub record Put : Type 0 where
+  pub piece : List ℕ
+  pub whole : Bool
+
+-- the put of that piece
+abbrev pub put_as : Bool → List ℕ → Put
+put_as whole piece = record { piece = piece; whole = whole }
+
+-- what a put adds: one entry, whatever it answered
+abbrev pub put_of : {T E : Type 0} → List ℕ → Result T E → Put
+put_of piece result = put_as (is_ok result) piece
+
+-- behind the puts before stand those of these pieces, in order, each taken whole, and no other
+abbrev pub PutAll : List Put → List Put → List (List ℕ) → Type 0
+PutAll before now pieces = now ≡ before ++ map (put_as true) pieces
+
+-- the puts are those of the first pieces, in order, each but the last taken whole: so there is none behind a refused one
+abbrev pub PutInOrder : List (List ℕ) → List Put → Type 0
+PutInOrder pieces [] = Unit {0}
+PutInOrder [] (put ∷ puts) = ⊥
+PutInOrder (piece ∷ pieces) (put ∷ puts) =
+    (put.piece ≡ piece) × ((puts ≡ []) ⊎ ((put.whole ≡ true) × PutInOrder pieces puts))
+
+-- behind the puts before stand such ones
+pub record PutSome (before now : List Put) (pieces : List (List ℕ)) : Type 0 where
+  pub added : List Put
+  pub grown : now ≡ before ++ added
+  pub in_order : PutInOrder pieces added
+
+-- the pieces were put one by one: each was taken whole, or an error was answered and nothing was put behind it
+abbrev pub PutEach : {T E : Type 0} → List Put → List Put → List (List ℕ) → Result T E → Type 0
+PutEach before now pieces result = MatchResult result (λ _. PutAll before now pieces) (λ _. PutSome before now pieces)
+
+-- ---- how they are stored
+
+abbrev pub put_code : Coded Put
+put_code =
+    code_by (List ℕ × Bool) (coded× (coded_list coded_ℕ) coded_bool) (λ p. (p.piece, p.whole)) (λ p. put_as p.1 p.0) (λ _. refl)
