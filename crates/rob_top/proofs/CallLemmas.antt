@@ -1,46 +1,58 @@
 -- How a call ends, from what was put.
-use Rattle.std.proofs.Common.{ℕ, List, Result, Ok, Err, refl}
+use Rattle.std.proofs.Common.{◌≡◌, ℕ, List, [], ◌∷◌, ◌++◌, Result, Ok, Err, refl}
+use Rattle.rob_outside.specs.Puts.{PutAll, put_of}
 use Rattle.rob_outside.specs.Taken.{Took, Takes}
+use Rattle.rob_outside.proofs.PutsLemmas.{put_all_is_some, put_one}
 use Rattle.rob_outside.proofs.TakenLemmas.{took_is_prefix}
 use Rattle.rob_top.specs.Answers.{memory_text}
 use Rattle.rob_top.specs.Calls.{Call, Output}
 use Rattle.rob_top.specs.Headline.{Means, Ends, PutPrefix}
+use Rattle.rob_top.specs.Lines.{text_lines}
 use Rattle.rob_top.specs.declared.ended.Ended.{Ended}
 use Rattle.rob_top.specs.declared.ended.Ended.TheVariants.{Optimal, Infeasible, Unbounded, Printed, Accepted, Rejected, Words, Missing, TooLong, Model, EmptySet, TooWide, Cert, ReadFault, WriteFault, Memory}
 
 -- the text of an answer was put whole
 pub ends_whole : (call : Call) (output : Output) (ended : Ended) (text : List ℕ)
-    → Means call ended text → Took output.before output.now text → Ends call output ended
-ends_whole call output WriteFault text means took = absurd means
-ends_whole call output Memory text means took = record {
+    → Means call ended text → Took output.before output.now text
+    → PutAll output.puts_before output.puts_now (text_lines text) → Ends call output ended
+ends_whole call output WriteFault text means took puts = absurd means
+ends_whole call output Memory text means took puts = record {
   answer = Memory;
   text = text;
   means = means;
   took = took_is_prefix output.before output.now text took;
+  puts = put_all_is_some output.puts_before output.puts_now (text_lines text) puts;
 }
-ends_whole call output Optimal text means took = record { text = text; means = means; took = took }
-ends_whole call output Infeasible text means took = record { text = text; means = means; took = took }
-ends_whole call output Unbounded text means took = record { text = text; means = means; took = took }
-ends_whole call output Printed text means took = record { text = text; means = means; took = took }
-ends_whole call output Accepted text means took = record { text = text; means = means; took = took }
-ends_whole call output (Rejected place) text means took = record { text = text; means = means; took = took }
-ends_whole call output Words text means took = record { text = text; means = means; took = took }
-ends_whole call output Missing text means took = record { text = text; means = means; took = took }
-ends_whole call output TooLong text means took = record { text = text; means = means; took = took }
-ends_whole call output (Model rule line) text means took = record { text = text; means = means; took = took }
-ends_whole call output (EmptySet weights) text means took = record { text = text; means = means; took = took }
-ends_whole call output (TooWide spot) text means took = record { text = text; means = means; took = took }
-ends_whole call output (Cert rule line) text means took = record { text = text; means = means; took = took }
-ends_whole call output ReadFault text means took = record { text = text; means = means; took = took }
+ends_whole call output Optimal text means took puts = record { text = text; means = means; took = took; puts = puts }
+ends_whole call output Infeasible text means took puts = record { text = text; means = means; took = took; puts = puts }
+ends_whole call output Unbounded text means took puts = record { text = text; means = means; took = took; puts = puts }
+ends_whole call output Printed text means took puts = record { text = text; means = means; took = took; puts = puts }
+ends_whole call output Accepted text means took puts = record { text = text; means = means; took = took; puts = puts }
+ends_whole call output (Rejected place) text means took puts = record { text = text; means = means; took = took; puts = puts }
+ends_whole call output Words text means took puts = record { text = text; means = means; took = took; puts = puts }
+ends_whole call output Missing text means took puts = record { text = text; means = means; took = took; puts = puts }
+ends_whole call output TooLong text means took puts = record { text = text; means = means; took = took; puts = puts }
+ends_whole call output (Model rule line) text means took puts = record { text = text; means = means; took = took; puts = puts }
+ends_whole call output (EmptySet weights) text means took puts = record { text = text; means = means; took = took; puts = puts }
+ends_whole call output (TooWide spot) text means took puts = record { text = text; means = means; took = took; puts = puts }
+ends_whole call output (Cert rule line) text means took puts = record { text = text; means = means; took = took; puts = puts }
+ends_whole call output ReadFault text means took puts = record { text = text; means = means; took = took; puts = puts }
 
--- a put of the text of a want of memory, whatever it answers
+-- a put of the text of a want of memory, which is one line, whatever it answers
 pub ends_memory : {T E : Type 0} (call : Call) (output : Output) (result : Result T E)
-    → Takes output.before output.now memory_text result → PutPrefix call output
-ends_memory call output (Ok value) took = record {
+    → Takes output.before output.now memory_text result → output.puts_now ≡ output.puts_before ++ put_of memory_text result ∷ []
+    → PutPrefix call output
+ends_memory call output (Ok value) took put = record {
   answer = Memory;
   text = memory_text;
   means = refl;
   took = took_is_prefix output.before output.now memory_text took;
+  puts = put_all_is_some output.puts_before output.puts_now (memory_text ∷ []) put;
 }
-ends_memory call output (Err error) took =
-    record { answer = Memory; text = memory_text; means = refl; took = took }
+ends_memory {T = T} {E = E} call output (Err error) took put = record {
+  answer = Memory;
+  text = memory_text;
+  means = refl;
+  took = took;
+  puts = put_one {T = T} {E = E} output.puts_before output.puts_now memory_text (Err error) put;
+}

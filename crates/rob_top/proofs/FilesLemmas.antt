@@ -2,7 +2,6 @@
 use Rattle.std.proofs.Common.{◌≡◌, ◌≤◌, ◌==◌, ◌&&◌, Bool, true, false, if◌then◌else◌, ℕ, List, [], ◌∷◌, ◌++◌, length, drop, append_assoc, Option, Some, None, Result, Ok, Err, IfOk, IfSome, refl, sym, ◌∙◌, ap, subst, arith, Vec, Global}
 use Rattle.std.specs.Str.{bytes_eq}
 use Rattle.std.proofs.lemmas.Bool.Decides.{nat_tests}
-use Rattle.std.proofs.lemmas.List.{append-nil}
 use Rattle.std.proofs.Math.Seq.{drop-append_seam}
 use Rattle.std.proofs.lemmas.Slice.Eq.{bytes_eq-Decides}
 use Rattle.rob_meaning.specs.Places.{Each}
@@ -10,9 +9,9 @@ use Rattle.rob_number.specs.Counts.{Rose}
 use Rattle.rob_outside.specs.Fetches.{Fetch, fetch_of, logged}
 use Rattle.rob_outside.specs.Files.{File, Finds, Found, whole, missing, too_long, found_at, found_of}
 use Rattle.rob_outside.specs.declared.shelf.Fetched.{Fetched}
-use Rattle.rob_top.specs.Calls.{Call, Came, Count, Grew, IsFound, IsFoundIn, Request, Source, WasRaised, answer_to, behind, certificate_file, count, model_file, model_of, requests, source_of}
+use Rattle.rob_top.specs.Calls.{Call, Came, Count, IsFound, IsFoundIn, Request, Source, WasRaised, answer_to, behind, certificate_file, count, model_file, model_of, requests, source_of}
 use Rattle.rob_top.specs.Headline.{Means}
-use Rattle.rob_top.specs.Replies.{FetchesModel, GrewBy, HasTexts, IsAbsence, IsFetched, IsGot, IsLine, IsTask}
+use Rattle.rob_top.specs.Replies.{AsksOnce, FetchesModel, HasTexts, IsAbsence, IsFetched, IsGot, IsLine, IsTask}
 use Rattle.rob_top.specs.declared.ended.Ended.{Ended}
 use Rattle.rob_top.specs.declared.ended.Ended.TheVariants.{Optimal, Infeasible, Unbounded, Printed, Accepted, Rejected, Words, Missing, TooLong, Model, EmptySet, TooWide, Cert, ReadFault, WriteFault, Memory}
 use Rattle.rob_top.specs.declared.files.Files.{Files}
@@ -117,136 +116,113 @@ module _ (source : Source) (faults : Count) where
 -- ---- the answers of several fetches
 
 -- what stands behind a list that another grew from
-behind_grown : (before now added : List Fetch) → now ≡ before ++ added → behind before now ≡ added
+pub behind_grown : (before now added : List Fetch) → now ≡ before ++ added → behind before now ≡ added
 behind_grown before now added e = ap (λ (list : List Fetch). drop (length before) list) e ∙ drop-append_seam before added
 
-pub grew_none : (before : List Fetch) → Grew before before
-grew_none before = record { added = []; grown = sym (append-nil before) }
+-- one fetch behind another
+pub grown_twice : (before middle now : List Fetch) (first second : Fetch) → middle ≡ before ++ first ∷ [] → now ≡ middle ++ second ∷ []
+    → now ≡ before ++ first ∷ second ∷ []
+grown_twice before middle now first second e f =
+    f ∙ ap (λ (list : List Fetch). list ++ second ∷ []) e ∙ append_assoc before (first ∷ []) (second ∷ [])
 
-pub grew_by : (most : ℕ) (before now : List Fetch) → GrewBy most before now → Grew before now
-grew_by most before now h = record { added = h.added; grown = h.grown }
-
-pub grew_both : (before middle now : List Fetch) → Grew before middle → Grew middle now → Grew before now
-grew_both before middle now a b = record {
-  added = a.added ++ b.added;
-  grown = b.grown ∙ ap (λ (list : List Fetch). list ++ b.added) a.grown ∙ append_assoc before a.added b.added;
-}
-
--- one fetch
-pub grew_logged : {E : Type 0} (name : List ℕ) (most : ℕ) (before now : List Fetch) (result : Result Fetched E)
-    → now ≡ before ++ logged name most result → GrewBy most before now
-grew_logged name most before now (Ok fetched) e =
-    record { added = fetch_of name most (found_of fetched) ∷ []; grown = e; bound = (refl, tt) }
-grew_logged name most before now (Err error) e = record { added = []; grown = e; bound = tt }
+-- what a single fetch of the file found is what is found
+pub answer_here : (request : Request) (found : Option Found)
+    → answer_to request (fetch_of request.name request.most found ∷ []) ≡ found
+answer_here request found =
+    let same : bytes_eq request.name request.name ≡ true = (bytes_eq-Decides request.name request.name).1 refl in
+    let most_same : (request.most == request.most) ≡ true = grind (arith, nat_tests) in
+    rw most_same (rw same refl)
 
 -- what one fetch answered is what is found
-pub found_by_fetch : (told : Option (List File)) (name : List ℕ) (most : ℕ) (before now : List Fetch) (fetched : Fetched)
-    → Finds {E = Unit {0}} told name most (Ok fetched) → now ≡ before ++ fetch_of name most (found_of fetched) ∷ []
-    → IsFoundIn (source_of told before now) (record { name = name; most = most }) (found_of fetched)
-found_by_fetch told name most before now fetched finds e = (
+pub found_by_result : {E : Type 0} (told : Option (List File)) (request : Request) (before now : List Fetch) (result : Result Fetched E)
+    → Finds told request.name request.most result → now ≡ before ++ logged request.name request.most result
+    → IfOk result (λ fetched. IsFoundIn (source_of told before now) request (found_of fetched))
+found_by_result told request before now (Err error) finds e = tt
+found_by_result told request before now (Ok fetched) finds e = (
   by told finds,
-  subst (λ (list : List Fetch). answer_to (record { name = name; most = most }) list ≡ Some (found_of fetched))
-      (sym (behind_grown before now (fetch_of name most (found_of fetched) ∷ []) e)) here,
+  subst (λ (list : List Fetch). answer_to request list ≡ Some (found_of fetched))
+      (sym (behind_grown before now (fetch_of request.name request.most (Some (found_of fetched)) ∷ []) e))
+      (answer_here request (Some (found_of fetched))),
 )
   where
-    by : (t : Option (List File)) → Finds {E = Unit {0}} t name most (Ok fetched)
-        → IfSome t (λ files. found_at name most files ≡ found_of fetched)
+    by : (t : Option (List File)) → Finds {E = Unit {0}} t request.name request.most (Ok fetched)
+        → IfSome t (λ files. found_at request.name request.most files ≡ found_of fetched)
     by None h = tt
     by (Some files) h = sym h
 
-    here : answer_to (record { name = name; most = most }) (fetch_of name most (found_of fetched) ∷ []) ≡ Some (found_of fetched)
-    here =
-        let same : bytes_eq name name ≡ true = (bytes_eq-Decides name name).1 refl in
-        let most_same : (most == most) ≡ true = grind (arith, nat_tests) in
-        rw most_same (rw same refl)
-
-pub found_by_result : {E : Type 0} (told : Option (List File)) (name : List ℕ) (most : ℕ) (before now : List Fetch) (result : Result Fetched E)
-    → Finds told name most result → now ≡ before ++ logged name most result
-    → IfOk result (λ fetched. IsFoundIn (source_of told before now) (record { name = name; most = most }) (found_of fetched))
-found_by_result told name most before now (Ok fetched) finds e = found_by_fetch told name most before now fetched finds e
-found_by_result told name most before now (Err error) finds e = tt
-
--- an answer stays the first one when more come behind
-answer_longer : (request : Request) (first more : List Fetch) (found : Found) → answer_to request first ≡ Some found
-    → answer_to request (first ++ more) ≡ Some found
-answer_longer request [] more found e = absurd (cc e)
-answer_longer request (fetch ∷ first) more found e =
-    by (λ h. answer_longer request first more found h) ((fetch.most == request.most) && bytes_eq fetch.name request.name) e
+-- an answer stays the first one when another fetch comes behind
+answer_longer : (request : Request) (first second : Fetch) (found : Found) → answer_to request (first ∷ []) ≡ Some found
+    → answer_to request (first ∷ second ∷ []) ≡ Some found
+answer_longer request first second found e = by ((first.most == request.most) && bytes_eq first.name request.name) e
   where
-    by : (answer_to request first ≡ Some found → answer_to request (first ++ more) ≡ Some found)
-        → (b : Bool) → (if b then Some fetch.found else answer_to request first) ≡ Some found
-        → (if b then Some fetch.found else answer_to request (first ++ more)) ≡ Some found
-    by rest true h = h
-    by rest false h = rest h
+    by : (b : Bool) → (if b then first.found else None) ≡ Some found
+        → (if b then first.found else answer_to request (second ∷ [])) ≡ Some found
+    by true h = h
+    by false h = absurd (cc h)
 
--- answers of files of another bound are passed over
-answer_other : (request : Request) (most : ℕ) (first more : List Fetch) → Each (λ (f : Fetch). f.most ≡ most) first
-    → (most == request.most) ≡ false → answer_to request (first ++ more) ≡ answer_to request more
-answer_other request most [] more all differ = refl
-answer_other request most (fetch ∷ first) more all differ =
-    let other : (fetch.most == request.most) ≡ false = ap (λ n. n == request.most) all.0 ∙ differ in
-    rw other (answer_other request most first more all.1 differ)
+-- a fetch of another bound is passed over
+answer_other : (request : Request) (first second : Fetch) → (first.most == request.most) ≡ false
+    → answer_to request (first ∷ second ∷ []) ≡ answer_to request (second ∷ [])
+answer_other request first second other = rw other refl
 
--- what was found stays so when more answers come behind
-pub found_longer : (told : Option (List File)) (request : Request) (found : Found) (before middle now : List Fetch)
-    → Grew before middle → Grew middle now → IsFoundIn (source_of told before middle) request found
+-- what was found stays so when another fetch comes behind
+pub found_longer : (told : Option (List File)) (request other : Request) (found : Found) (before middle now : List Fetch)
+    → AsksOnce request before middle → AsksOnce other middle now → IsFoundIn (source_of told before middle) request found
     → IsFoundIn (source_of told before now) request found
-unfolding grew_both
-found_longer told request found before middle now a b h =
-    let both : behind before now ≡ a.added ++ b.added =
-    behind_grown before now (a.added ++ b.added) (grew_both before middle now a b).grown in
-    let first : answer_to request a.added ≡ Some found =
-    subst (λ (list : List Fetch). answer_to request list ≡ Some found) (behind_grown before middle a.added a.grown) h.1 in (
+found_longer told request other found before middle now a b h =
+    let first : Fetch = fetch_of request.name request.most a.found in let second : Fetch = fetch_of other.name other.most b.found in
+    let both : behind before now ≡ first ∷ second ∷ [] =
+    behind_grown before now (first ∷ second ∷ []) (grown_twice before middle now first second a.grown b.grown) in
+    let here : answer_to request (first ∷ []) ≡ Some found =
+    subst (λ (list : List Fetch). answer_to request list ≡ Some found) (behind_grown before middle (first ∷ []) a.grown) h.1 in (
       h.0,
-      subst (λ (list : List Fetch). answer_to request list ≡ Some found) (sym both)
-          (answer_longer request a.added b.added found first),
+      subst (λ (list : List Fetch). answer_to request list ≡ Some found) (sym both) (answer_longer request first second found here),
     )
 
--- what was found behind answers of another bound is found in all
-pub found_behind : (told : Option (List File)) (request : Request) (most : ℕ) (found : Found) (before middle now : List Fetch)
-    → GrewBy most before middle → Grew middle now → (most == request.most) ≡ false
+-- what was found behind a fetch of another bound is found in both
+pub found_behind : (told : Option (List File)) (other request : Request) (found : Found) (before middle now : List Fetch)
+    → AsksOnce other before middle → AsksOnce request middle now → (other.most == request.most) ≡ false
     → IsFoundIn (source_of told middle now) request found → IsFoundIn (source_of told before now) request found
-unfolding grew_both grew_by
-found_behind told request most found before middle now a b differ h =
-    let both : behind before now ≡ a.added ++ b.added =
-    behind_grown before now (a.added ++ b.added) (grew_both before middle now (grew_by most before middle a) b).grown in
-    let last : answer_to request b.added ≡ Some found =
-    subst (λ (list : List Fetch). answer_to request list ≡ Some found) (behind_grown middle now b.added b.grown) h.1 in (
+found_behind told other request found before middle now a b differ h =
+    let first : Fetch = fetch_of other.name other.most a.found in let second : Fetch = fetch_of request.name request.most b.found in
+    let both : behind before now ≡ first ∷ second ∷ [] =
+    behind_grown before now (first ∷ second ∷ []) (grown_twice before middle now first second a.grown b.grown) in
+    let last : answer_to request (second ∷ []) ≡ Some found =
+    subst (λ (list : List Fetch). answer_to request list ≡ Some found) (behind_grown middle now (second ∷ []) b.grown) h.1 in (
       h.0,
       subst (λ (list : List Fetch). answer_to request list ≡ Some found) (sym both)
-          (answer_other request most a.added b.added a.bound differ ∙ last),
+          (answer_other request first second differ ∙ last),
     )
 
-absence_behind : (told : Option (List File)) (request : Request) (most : ℕ) (faults : Count) (ended : Ended) (text : List ℕ)
-    (before middle now : List Fetch) → GrewBy most before middle → Grew middle now → (most == request.most) ≡ false
+absence_behind : (told : Option (List File)) (other request : Request) (faults : Count) (ended : Ended) (text : List ℕ)
+    (before middle now : List Fetch) → AsksOnce other before middle → AsksOnce request middle now → (other.most == request.most) ≡ false
     → IsAbsence (source_of told middle now) request faults ended text → IsAbsence (source_of told before now) request faults ended text
-absence_behind told request most faults Missing text before middle now a b differ h =
-    (found_behind told request most missing before middle now a b differ h.0, h.1)
-absence_behind told request most faults TooLong text before middle now a b differ h =
-    (found_behind told request most too_long before middle now a b differ h.0, h.1)
-absence_behind told request most faults ReadFault text before middle now a b differ h = h
-absence_behind told request most faults Optimal text before middle now a b differ h = absurd h
-absence_behind told request most faults Infeasible text before middle now a b differ h = absurd h
-absence_behind told request most faults Unbounded text before middle now a b differ h = absurd h
-absence_behind told request most faults Printed text before middle now a b differ h = absurd h
-absence_behind told request most faults Accepted text before middle now a b differ h = absurd h
-absence_behind told request most faults (Rejected place) text before middle now a b differ h = absurd h
-absence_behind told request most faults Words text before middle now a b differ h = absurd h
-absence_behind told request most faults (Model rule number) text before middle now a b differ h = absurd h
-absence_behind told request most faults (EmptySet weights) text before middle now a b differ h = absurd h
-absence_behind told request most faults (TooWide spot) text before middle now a b differ h = absurd h
-absence_behind told request most faults (Cert rule number) text before middle now a b differ h = absurd h
-absence_behind told request most faults WriteFault text before middle now a b differ h = absurd h
-absence_behind told request most faults Memory text before middle now a b differ h = absurd h
+absence_behind told other request faults Missing text before middle now a b differ h =
+    (found_behind told other request missing before middle now a b differ h.0, h.1)
+absence_behind told other request faults TooLong text before middle now a b differ h =
+    (found_behind told other request too_long before middle now a b differ h.0, h.1)
+absence_behind told other request faults ReadFault text before middle now a b differ h = h
+absence_behind told other request faults Optimal text before middle now a b differ h = absurd h
+absence_behind told other request faults Infeasible text before middle now a b differ h = absurd h
+absence_behind told other request faults Unbounded text before middle now a b differ h = absurd h
+absence_behind told other request faults Printed text before middle now a b differ h = absurd h
+absence_behind told other request faults Accepted text before middle now a b differ h = absurd h
+absence_behind told other request faults (Rejected place) text before middle now a b differ h = absurd h
+absence_behind told other request faults Words text before middle now a b differ h = absurd h
+absence_behind told other request faults (Model rule number) text before middle now a b differ h = absurd h
+absence_behind told other request faults (EmptySet weights) text before middle now a b differ h = absurd h
+absence_behind told other request faults (TooWide spot) text before middle now a b differ h = absurd h
+absence_behind told other request faults (Cert rule number) text before middle now a b differ h = absurd h
+absence_behind told other request faults WriteFault text before middle now a b differ h = absurd h
+absence_behind told other request faults Memory text before middle now a b differ h = absurd h
 
 -- ---- two files
 module _ (told later : Option (List File)) (log middle_log now_log : List Fetch) (model certificate : Word) (same : later ≡ told)
-    (first : GrewBy 65536 log middle_log) (second : GrewBy 4194304 middle_log now_log) (model_bytes : Vec ℕ Global)
-    (came : IsFoundIn (source_of told log middle_log) (model_file model) (whole model_bytes.items)) where
+    (first : AsksOnce (model_file model) log middle_log) (second : AsksOnce (certificate_file certificate) middle_log now_log)
+    (model_bytes : Vec ℕ Global) (came : IsFoundIn (source_of told log middle_log) (model_file model) (whole model_bytes.items)) where
   model_came : IsFoundIn (source_of told log now_log) (model_file model) (whole model_bytes.items)
   model_came =
-      found_longer told (model_file model) (whole model_bytes.items) log middle_log now_log (grew_by 65536 log middle_log first)
-      (grew_by 4194304 middle_log now_log second) came
+      found_longer told (model_file model) (certificate_file certificate) (whole model_bytes.items) log middle_log now_log first second came
 
   -- the first file comes, and the second doesn't
   pub both_second_absent : (before middle now : ℕ) (reply : Reply) → before ≤ middle
@@ -265,8 +241,8 @@ module _ (told later : Option (List File)) (log middle_log now_log : List Fetch)
       (λ r. subst (λ (c : Count). WasRaised c) (sym faults_are) (rose_earlier before middle now rose r))
       (subst (λ (t : Source). IsAbsence t (certificate_file certificate) (count middle now) reply.ended reply.text)
       (sym source_is)
-      (absence_behind told (certificate_file certificate) 65536 (count middle now) reply.ended reply.text log middle_log now_log first
-      (grew_by 4194304 middle_log now_log second) refl
+      (absence_behind told (model_file model) (certificate_file certificate) (count middle now) reply.ended reply.text log middle_log
+      now_log first second refl
       (subst (λ (t : Option (List File)). IsAbsence (source_of t middle_log now_log) (certificate_file certificate) (count middle now)
       reply.ended reply.text) same h)))
 
@@ -282,8 +258,7 @@ module _ (told later : Option (List File)) (log middle_log now_log : List Fetch)
     task = subst (λ (a : Action). IsTask call a job.task) (sym action_is)
         (subst (λ (t : Task). IsTask call (check model certificate) t) (sym task_is)
         (subst (λ (t : Source). IsFoundIn t (certificate_file certificate) (whole bytes.items)) (sym source_is)
-        (found_behind told (certificate_file certificate) 65536 (whole bytes.items) log middle_log now_log first
-        (grew_by 4194304 middle_log now_log second) refl
+        (found_behind told (model_file model) (certificate_file certificate) (whole bytes.items) log middle_log now_log first second refl
         (subst (λ (t : Option (List File)). IsFoundIn (source_of t middle_log now_log) (certificate_file certificate) (whole bytes.items)) same h))));
   }
 

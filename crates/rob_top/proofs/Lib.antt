@@ -4,11 +4,12 @@ pub mod CertificateNameLemmas
 pub mod CheckingLemmas
 pub mod CourseLemmas
 pub mod FilesLemmas
+pub mod FetchesLemmas
 pub mod FrameLemmas
 pub mod PutLemmas
+pub mod LinesLemmas
 pub mod SolvingLemmas
 pub mod StageLemmas
 pub mod TrueAnswerLemmas
 pub mod WorkLemmas
 pub mod KnownLemmas
-pub mod MachineLemmas

@@ -1,10 +1,11 @@
 -- What a call of the program was given, what it did to the output, and what is found of the files that its words name.
-use Rattle.std.specs.Prelude.{◌≡◌, ℕ, ◌-◌, ◌^◌, ◌==◌, ◌&&◌, List, [], ◌∷◌, ◌++◌, length, drop, Option, Some, None, IfSome, if◌then◌else◌}
+use Rattle.std.specs.Prelude.{◌≡◌, ◌⊎◌, ℕ, ◌-◌, ◌^◌, ◌==◌, ◌&&◌, List, [], ◌∷◌, ◌++◌, length, drop, Option, Some, None, IfSome, if◌then◌else◌}
 use Rattle.std.specs.Str.{bytes_eq}
 use Rattle.rob_meaning.specs.Places.{Each}
 use Rattle.rob_number.specs.Counts.{Rose}
 use Rattle.rob_outside.specs.Fetches.{Fetch}
 use Rattle.rob_outside.specs.Files.{File, Found, whole, found_at}
+use Rattle.rob_outside.specs.Puts.{Put}
 use Rattle.rob_words.specs.Commands.{Action, Line, rows, solve, prove, check, IsSpelled}
 use Rattle.rob_words.specs.Values.{Word, bits_of}
 
@@ -20,8 +21,8 @@ count before now = record { before = before; now = now }
 abbrev pub WasRaised : Count → Type 0
 WasRaised count = Rose count.before count.now
 
--- what is known of a call's files: those that the shelf tells, where it tells them; and what the fetches of the call answered,
--- in their order, where that is told. Every shelf tells the second
+-- what is known of a call's files: those that the shelf tells, where it tells them; and the fetches of the call with what each
+-- answered, in their order, where they are told. Every shelf tells the second
 pub record Source : Type 0 where
   pub told : Option (List File)
   pub came : Option (List Fetch)
@@ -30,12 +31,7 @@ pub record Source : Type 0 where
 abbrev pub behind : List Fetch → List Fetch → List Fetch
 behind before now = drop (length before) now
 
--- the list grew at its end, by these or by none
-pub record Grew (before now : List Fetch) : Type 0 where
-  pub added : List Fetch
-  pub grown : now ≡ before ++ added
-
--- the files that the shelf tells, and the answers that came in the call, from the shelf's answers before it and now
+-- the files that the shelf tells, and the fetches of the call, from the shelf's fetches before it and now
 abbrev pub source_of : Option (List File) → List Fetch → List Fetch → Source
 source_of told before now = record { told = told; came = Some (behind before now) }
 
@@ -51,7 +47,7 @@ abbrev pub call_of : List Word → Source → Count → Count → Call
 call_of words source read_faults wides =
     record { words = words; source = source; read_faults = read_faults; wides = wides }
 
--- a part of what is known that decides what is found: the files that the shelf tells, or the answers that came
+-- a part of what is known that decides what is found: the files that the shelf tells, or the fetches of the call
 pub data Known (source : Source) : Type 0 where
   by_files : (files : List File) → source.told ≡ Some files → Known source
   by_fetches : (fetches : List Fetch) → source.came ≡ Some fetches → Known source
@@ -64,14 +60,23 @@ known_source (by_fetches fetches e) = record { told = None; came = Some fetches 
 abbrev pub known_call : (call : Call) → Known call.source → Call
 known_call call known = record call { source = known_source known }
 
--- what a call did to the output: the bytes that the sink took before and after it, and the count of the sink's faults
+-- what a call did to the output: the bytes that the sink took before and after it, its puts before and after it, and the count
+-- of the sink's faults
 pub record Output : Type 0 where
   pub before : List ℕ
   pub now : List ℕ
+  pub puts_before : List Put
+  pub puts_now : List Put
   pub write_faults : Count
 
-abbrev pub output_of : List ℕ → List ℕ → Count → Output
-output_of before now write_faults = record { before = before; now = now; write_faults = write_faults }
+abbrev pub output_of : List ℕ → List ℕ → List Put → List Put → Count → Output
+output_of before now puts_before puts_now write_faults = record {
+  before = before;
+  now = now;
+  puts_before = puts_before;
+  puts_now = puts_now;
+  write_faults = write_faults;
+}
 
 -- ---- files
 
@@ -80,11 +85,11 @@ pub record Request : Type 0 where
   pub name : Word
   pub most : ℕ
 
--- what the first fetch of the file answered, if one answered
+-- what the first fetch of the file found; nothing, where there was no fetch of it, or the first answered an error
 abbrev pub answer_to : Request → List Fetch → Option Found
 answer_to request [] = None
 answer_to request (fetch ∷ fetches) =
-    if (fetch.most == request.most) && bytes_eq fetch.name request.name then Some fetch.found else answer_to request fetches
+    if (fetch.most == request.most) && bytes_eq fetch.name request.name then fetch.found else answer_to request fetches
 
 -- this is found of the file: the fetch of it in the call answered so, and where the files are told, it is what they hold: all
 -- its bytes, no such file, or more bytes than it may have
@@ -114,6 +119,27 @@ requests (rows model) = model_file model ∷ []
 requests (solve model way) = model_file model ∷ []
 requests (prove model way) = model_file model ∷ []
 requests (check model certificate) = model_file model ∷ certificate_file certificate ∷ []
+
+-- the fetch asks for this file
+abbrev pub IsFetchOf : Request → Fetch → Type 0
+IsFetchOf request fetch = (fetch.name ≡ request.name) × (fetch.most ≡ request.most)
+
+-- the fetch found the whole file
+abbrev pub CameWhole : Fetch → Type 0
+CameWhole fetch = (bytes : List ℕ) × (fetch.found ≡ Some (whole bytes))
+
+-- the fetches ask for the first of these files, in order and each once, and none stands behind one that didn't come whole
+abbrev pub AsksInOrder : List Request → List Fetch → Type 0
+AsksInOrder requests [] = Unit {0}
+AsksInOrder [] (fetch ∷ fetches) = ⊥
+AsksInOrder (request ∷ requests) (fetch ∷ fetches) =
+    IsFetchOf request fetch × ((fetches ≡ []) ⊎ (CameWhole fetch × AsksInOrder requests fetches))
+
+-- the fetches of a call with these words stand behind the earlier ones: there is none, or the words are a command line, and its
+-- files are asked for in the order of the words, each once, and none behind one that didn't come whole
+pub record Fetches (words : List Word) (before now : List Fetch) : Type 0 where
+  pub grown : now ≡ before ++ behind before now
+  pub in_order : (behind before now ≡ []) ⊎ ((line : Line) × IsSpelled words line × AsksInOrder (requests line.action) (behind before now))
 
 -- the command solves a model
 abbrev pub IsSolving : Action → Type 0

@@ -5,8 +5,8 @@
 -- the printed certificate proves it; and `too wide` names a number of that model's solution that leaves the width.
 --
 -- The premises stand here, and nowhere else. What a file holds is what the fetch of it answered in this call, whatever the
--- shelf; where the shelf tells its files too, it is what they hold. What was put is what the sink's puts took, whatever the
--- sink. That a fetch of the machine's shelf answers what the file holds, and that what its writes took is what one sees, is
+-- shelf; where the shelf tells its files too, it is what they hold. What was put is what the sink's puts were asked to take and
+-- took, whatever the sink. That a fetch of the machine's shelf answers what the file holds, and that what its writes took is what one sees, is
 -- trusted. Want of memory is an answer of its own, and free: nothing is said of when it comes.
 use Rattle.std.specs.Prelude.{◌≡◌, ℕ, ℤ, List, ◌++◌, map}
 use Rattle.rob_algebra.specs.Fraction.{Fraction, of_int}
@@ -17,6 +17,7 @@ use Rattle.rob_meaning.specs.Proves.{Proves, HasStatus}
 use Rattle.rob_meaning.specs.RobustModel.{RobustModel}
 use Rattle.rob_meaning.specs.UncertaintySet.{Admits}
 use Rattle.rob_outside.specs.Files.{whole, missing, too_long}
+use Rattle.rob_outside.specs.Puts.{PutAll, PutSome}
 use Rattle.rob_outside.specs.Taken.{Took, TookPrefix}
 use Rattle.rob_model.specs.declared.place.Place.{Place}
 use Rattle.rob_model.specs.declared.place.Spot.{Spot}
@@ -40,6 +41,7 @@ use Rattle.rob_report.specs.Rows.{rows_of}
 use Rattle.rob_report.specs.Spots.{too_wide_line, rejected_line, empty_set_lines}
 use Rattle.rob_top.specs.Answers.{accepted_text, missing_text, too_long_text, model_text, certificate_text, words_text, read_text, memory_text}
 use Rattle.rob_top.specs.Calls.{Call, Output, WasRaised, IsFound, Came, IsFirstAbsent, IsSolving, model_of, certificate_file, requests, limit_of}
+use Rattle.rob_top.specs.Lines.{text_lines}
 use Rattle.rob_top.specs.declared.ended.Ended.{Ended}
 use Rattle.rob_top.specs.declared.ended.Ended.TheVariants.{Optimal, Infeasible, Unbounded, Printed, Accepted, Rejected, Words, Missing, TooLong, Model, EmptySet, TooWide, Cert, ReadFault, WriteFault, Memory}
 use Rattle.rob_words.specs.Commands.{Action, Line, rows, solve, prove, check, IsSpelled, IsCommandLine}
@@ -213,18 +215,21 @@ module _ (call : Call) where
 
   -- ---- the whole call
 
-  -- a text of some answer that is allowed here was put, whole or up to some byte
+  -- a text of some answer that is allowed here was put, whole or up to some byte: one put for each of its first lines, in order,
+  -- and none behind one that was refused
   pub record PutPrefix (output : Output) : Type 0 where
     pub answer : Ended
     pub text : List ℕ
     pub means : Means answer text
     pub took : TookPrefix output.before output.now text
+    pub puts : PutSome output.puts_before output.puts_now (text_lines text)
 
-  -- the answer's text was put, all of it
+  -- the answer's text was put, all of it: one put for each of its lines, in order, each taken whole, and no other
   pub record PutWhole (output : Output) (answer : Ended) : Type 0 where
     pub text : List ℕ
     pub means : Means answer text
     pub took : Took output.before output.now text
+    pub puts : PutAll output.puts_before output.puts_now (text_lines text)
 
   -- how a call ends: with an answer whose text was put; or with a put that the outside refused, behind a prefix of a text that
   -- is allowed; or for want of memory, behind such a prefix

@@ -1,7 +1,7 @@
 pub mod Calls
+pub mod Lines
 pub mod Answers
 pub mod Headline
 pub mod Codes
 pub mod Replies
 pub mod Work
-pub mod Machine

@@ -1,14 +1,13 @@
 -- Answers with their texts, before they are put, and what the files' fetch gives the call that asked for them.
-use Rattle.std.specs.Prelude.{◌≡◌, ◌≤◌, ℕ, List, [], ◌∷◌, ◌++◌, length}
-use Rattle.rob_meaning.specs.Places.{Each}
-use Rattle.rob_outside.specs.Fetches.{Fetch}
-use Rattle.rob_outside.specs.Files.{whole, missing, too_long}
+use Rattle.std.specs.Prelude.{◌≡◌, ◌≤◌, ℕ, List, [], ◌∷◌, ◌++◌, length, Option}
+use Rattle.rob_outside.specs.Fetches.{Fetch, fetch_of}
+use Rattle.rob_outside.specs.Files.{Found, whole, missing, too_long}
 use Rattle.rob_words.specs.Answers.{line_of}
 use Rattle.rob_words.specs.Commands.{Action, Line, rows, solve, prove, check, IsSpelled}
 use Rattle.rob_words.specs.Values.{Word}
 use Rattle.rob_words.specs.declared.line.CommandLine.{CommandLine}
 use Rattle.rob_top.specs.Answers.{missing_text, too_long_text, read_text}
-use Rattle.rob_top.specs.Calls.{Call, Count, Request, Source, WasRaised, IsFound, IsFoundIn, model_file, model_of, certificate_file, requests}
+use Rattle.rob_top.specs.Calls.{Call, Count, Request, Source, WasRaised, AsksInOrder, IsFound, IsFoundIn, model_file, model_of, certificate_file, requests}
 use Rattle.rob_top.specs.Headline.{Means}
 use Rattle.rob_top.specs.declared.ended.Ended.{Ended}
 use Rattle.rob_top.specs.declared.ended.Ended.TheVariants.{Missing, TooLong, ReadFault}
@@ -45,11 +44,16 @@ abbrev pub IsGot : Source → Request → Count → Got → Type 0
 IsGot source request faults (Bytes bytes) = IsFoundIn source request (whole bytes.items)
 IsGot source request faults (Answer reply) = IsAbsence source request faults reply.ended reply.text
 
--- the shelf's answers grew by some of files that may have so many bytes
-pub record GrewBy (most : ℕ) (before now : List Fetch) : Type 0 where
+-- behind the fetches before stands one, of this file
+pub record AsksOnce (request : Request) (before now : List Fetch) : Type 0 where
+  pub found : Option Found
+  pub grown : now ≡ before ++ fetch_of request.name request.most found ∷ []
+
+-- behind them stand such ones as ask for these files in order
+pub record Asks (requests : List Request) (before now : List Fetch) : Type 0 where
   pub added : List Fetch
   pub grown : now ≡ before ++ added
-  pub bound : Each (λ (f : Fetch). f.most ≡ most) added
+  pub in_order : AsksInOrder requests added
 
 -- no more bytes came
 abbrev pub IsGotWithin : ℕ → Got → Type 0

@@ -1,10 +1,10 @@
 // The files that a command names.
 
-ghost use Rattle.std.specs.Prelude.{◌≡◌, ◌≤◌, Err, IfOk};
+ghost use Rattle.std.specs.Prelude.{◌≡◌, ◌≤◌, ◌∷◌, [], Err, IfOk};
 ghost use Rattle.rob_number.specs.Counts.{Rose};
 ghost use Rattle.rob_outside.specs.Files.{IsAtMost, found_of};
-ghost use Rattle.rob_top.specs.Calls.{Grew, IsFoundIn, count, source_of};
-ghost use Rattle.rob_top.specs.Replies.{FetchesModel, GrewBy, IsFetched, IsGot, IsGotWithin};
+ghost use Rattle.rob_top.specs.Calls.{IsFoundIn, count, model_file, requests, source_of};
+ghost use Rattle.rob_top.specs.Replies.{Asks, AsksOnce, FetchesModel, IsFetched, IsGot, IsGotWithin};
 ghost use Rattle.rob_top.specs.Work.{IsShortFetch, IsShortTask};
 ghost use Rattle.rob_words.specs.Answers.{action_of};
 ghost use Rattle.rob_words.specs.Commands.{check};
@@ -58,7 +58,7 @@ pub fn fetch<S: Shelf>(alloc: Global, command: &Command, shelf: &mut S) -> Resul
         (S.log shelf.old) (S.log shelf.new)) (count (S.faults shelf.old) (S.faults shelf.new))) }
     ensures short { IfOk result IsShortFetch }
     ensures unchanged { S.files shelf.new ≡ S.files shelf.old }
-    ensures log { Grew (S.log shelf.old) (S.log shelf.new) }
+    ensures asked { Asks (requests (action_of command.now)) (S.log shelf.old) (S.log shelf.new) }
     ensures counted { S.faults shelf.old ≤ S.faults shelf.new }
 {
     match command {
@@ -83,7 +83,7 @@ fn fetch_model<S: Shelf>(
         (S.log shelf.old) (S.log shelf.new)) (count (S.faults shelf.old) (S.faults shelf.new))) }
     ensures short { IfOk result IsShortFetch }
     ensures unchanged { S.files shelf.new ≡ S.files shelf.old }
-    ensures log { Grew (S.log shelf.old) (S.log shelf.new) }
+    ensures asked { Asks (model_file model.now ∷ []) (S.log shelf.old) (S.log shelf.new) }
     ensures counted { S.faults shelf.old ≤ S.faults shelf.new }
 {
     match get(alloc, model, MODEL_BYTES, shelf)? {
@@ -103,7 +103,7 @@ fn fetch_both<S: Shelf>(
         (S.log shelf.old) (S.log shelf.new)) (count (S.faults shelf.old) (S.faults shelf.new))) }
     ensures short { IfOk result IsShortFetch }
     ensures unchanged { S.files shelf.new ≡ S.files shelf.old }
-    ensures log { Grew (S.log shelf.old) (S.log shelf.new) }
+    ensures asked { Asks (requests (check model.now certificate.now)) (S.log shelf.old) (S.log shelf.new) }
     ensures counted { S.faults shelf.old ≤ S.faults shelf.new }
 {
     let model = match get(alloc, model, MODEL_BYTES, shelf)? {
@@ -126,7 +126,7 @@ pub fn get<S: Shelf>(alloc: Global, name: &str, most: usize, shelf: &mut S) -> R
         (count (S.faults shelf.old) (S.faults shelf.new))) }
     ensures within { IfOk result (IsGotWithin most) }
     ensures unchanged { S.files shelf.new ≡ S.files shelf.old }
-    ensures log { GrewBy most (S.log shelf.old) (S.log shelf.new) }
+    ensures asked { AsksOnce (record { name = name.now; most = most }) (S.log shelf.old) (S.log shelf.new) }
     ensures counted { S.faults shelf.old ≤ S.faults shelf.new }
 {
     let answer = match ask(alloc, name, most, shelf) {
@@ -145,7 +145,7 @@ fn ask<S: Shelf>(alloc: Global, name: &str, most: usize, shelf: &mut S) -> Resul
         (S.log shelf.old) (S.log shelf.new)) (record { name = name.now; most = most }) (found_of fetched)) }
     ensures within { IfOk result (IsAtMost most) }
     ensures unchanged { S.files shelf.new ≡ S.files shelf.old }
-    ensures log { GrewBy most (S.log shelf.old) (S.log shelf.new) }
+    ensures asked { AsksOnce (record { name = name.now; most = most }) (S.log shelf.old) (S.log shelf.new) }
     ensures counted { S.faults shelf.old ≤ S.faults shelf.new }
     ensures fault { result ≡ Err ShelfErr.Failed → Rose (S.faults shelf.old) (S.faults shelf.new) }
 {

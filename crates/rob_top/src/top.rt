@@ -4,9 +4,10 @@
 // that doesn't come whole decides; the texts are worked on; the whole output is assembled; it is put, line by line.
 
 ghost use Rattle.std.specs.Prelude.{◌≡◌, ◌≤◌, ℕ, List, IfOk, map, string_bytes};
-ghost use Rattle.rob_top.specs.Calls.{Call, Grew, call_of, count, output_of, source_of};
+ghost use Rattle.rob_top.specs.Calls.{Call, Fetches, call_of, count, output_of, requests, source_of};
 ghost use Rattle.rob_top.specs.Headline.{Ends, Means, PutPrefix};
-ghost use Rattle.rob_top.specs.Replies.{IsLine};
+ghost use Rattle.rob_top.specs.Replies.{Asks, IsLine};
+ghost use Rattle.rob_words.specs.Answers.{action_of};
 
 use crate::ended::Ended;
 use crate::files::{Files, fetch};
@@ -31,15 +32,17 @@ pub fn run<S: Shelf, K: Sink, L: Ledger>(
     out: &mut K,
     ledger: &mut L,
 ) -> Ended
-    // What the answer means of the files, by the answers of the fetches in this call, and which bytes were put for it.
+    // What the answer means of the files, by the answers of the fetches in this call, and which bytes were put for it, one put for
+    // each line.
     ensures headline { Ends
         (call_of (map string_bytes words.now) (source_of (S.files shelf.old)
         (S.log shelf.old) (S.log shelf.new)) (count (S.faults shelf.old) (S.faults shelf.new))
         (count (L.wides ledger.old) (L.wides ledger.new)))
-        (output_of (K.taken out.old) (K.taken out.new) (count (K.faults out.old) (K.faults out.new)))
+        (output_of (K.taken out.old) (K.taken out.new) (K.puts out.old) (K.puts out.new) (count (K.faults out.old) (K.faults out.new)))
         result }
     ensures files { S.files shelf.new ≡ S.files shelf.old }
-    ensures log { Grew (S.log shelf.old) (S.log shelf.new) }
+    // The files are asked for in the order of the words, each once, and none behind the one that decided.
+    ensures fetched { Fetches (map string_bytes words.now) (S.log shelf.old) (S.log shelf.new) }
     ensures counted { (S.faults shelf.old ≤ S.faults shelf.new) × (K.faults out.old ≤ K.faults out.new)
         × (L.wides ledger.old ≤ L.wides ledger.new) }
 {
@@ -65,7 +68,7 @@ fn answer<S: Shelf, L: Ledger>(
         (count (L.wides ledger.old) (L.wides ledger.new)))
         reply.ended reply.text) }
     ensures files { S.files shelf.new ≡ S.files shelf.old }
-    ensures log { Grew (S.log shelf.old) (S.log shelf.new) }
+    ensures fetched { Fetches (map string_bytes words.now) (S.log shelf.old) (S.log shelf.new) }
     ensures counted { (S.faults shelf.old ≤ S.faults shelf.new) × (L.wides ledger.old ≤ L.wides ledger.new) }
 {
     match read_words(alloc, words) {
@@ -87,7 +90,7 @@ fn on_line<S: Shelf, L: Ledger>(
         → call.wides ≡ count (L.wides ledger.old) (L.wides ledger.new)
         → Means call reply.ended reply.text) }
     ensures files { S.files shelf.new ≡ S.files shelf.old }
-    ensures log { Grew (S.log shelf.old) (S.log shelf.new) }
+    ensures asked { Asks (requests (action_of line.now.command)) (S.log shelf.old) (S.log shelf.new) }
     ensures counted { (S.faults shelf.old ≤ S.faults shelf.new) × (L.wides ledger.old ≤ L.wides ledger.new) }
 {
     match fetch(alloc, &line.command, shelf)? {
@@ -99,7 +102,7 @@ fn on_line<S: Shelf, L: Ledger>(
 /// Puts the text of a reply.
 fn put_reply<K: Sink>(reply: Reply, out: &mut K) -> Ended
     ensures ends { (call : Call) → Means call reply.ended reply.text → Ends call
-        (output_of (K.taken out.old) (K.taken out.new) (count (K.faults out.old) (K.faults out.new))) result }
+        (output_of (K.taken out.old) (K.taken out.new) (K.puts out.old) (K.puts out.new) (count (K.faults out.old) (K.faults out.new))) result }
     ensures counted { K.faults out.old ≤ K.faults out.new }
 {
     match put_lines(reply.text.bytes(), out) {
@@ -112,7 +115,7 @@ fn put_reply<K: Sink>(reply: Reply, out: &mut K) -> Ended
 /// Puts the line of a want of memory, which takes no memory. Where that is refused too, nothing changes in the answer.
 fn put_memory<K: Sink>(out: &mut K)
     ensures prefix { (call : Call) → PutPrefix call
-        (output_of (K.taken out.old) (K.taken out.new) (count (K.faults out.old) (K.faults out.new))) }
+        (output_of (K.taken out.old) (K.taken out.new) (K.puts out.old) (K.puts out.new) (count (K.faults out.old) (K.faults out.new))) }
     ensures counted { K.faults out.old ≤ K.faults out.new }
 {
     let _ = out.put(b"fault: memory\n");

@@ -3,7 +3,7 @@
 
 use rob_number::Tally;
 use rob_outside::{FileShelf, StdSink};
-use rob_top::run;
+use rob_top::run_here;
 use std::env;
 use std::io::ErrorKind;
 use std::process::ExitCode;
@@ -25,7 +25,7 @@ fn answer(rt: &HostRuntime) -> u8 {
             let mut shelf = FileShelf::new(rt);
             let mut out = StdSink::new(rt);
             let mut ledger = Tally::new();
-            run(
+            run_here(
                 rt.alloc(),
                 words.as_slice(),
                 &mut shelf,
