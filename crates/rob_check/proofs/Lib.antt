@@ -4,6 +4,7 @@ pub mod DenseLemmas
 pub mod GivenLemmas
 pub mod ItemLemmas
 pub mod JudgeLemmas
+pub mod NarrowLemmas
 pub mod OrderLemmas
 pub mod ProofLaws
 pub mod RunLemmas

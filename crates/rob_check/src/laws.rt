@@ -4,6 +4,7 @@ ghost use Rattle.std.specs.Prelude.{◌≡◌, ℕ, List, length, None, Some};
 ghost use Rattle.rob_algebra.specs.Fraction.{Fraction};
 ghost use Rattle.rob_cert.specs.Shape.{AreCoversOf, HasShape, IsItemOf};
 ghost use Rattle.rob_check.specs.Conditions.{Covering, covering_tests, inside_tests, items_tests, sum_tests, verdict_of};
+ghost use Rattle.rob_check.specs.Narrow.{IsDecided, NoneWide};
 ghost use Rattle.rob_check.specs.Verdicts.{Judges, verdict};
 ghost use Rattle.rob_check.specs.Claims.{SumsToPositive};
 ghost use Rattle.rob_meaning.specs.Certificates.{Certificate, Item};
@@ -35,4 +36,8 @@ pub fn check_laws()
     // The whole: accepted, the certificate proves what it claims; rejected, it doesn't.
     ensures proves { (limit : ℕ) (m : RobustModel) (c : Certificate) → IsModel m → HasShape m c
         → Judges (Proves m c) (verdict_of limit m c) }
+    // Where no number of the check is wide it is accepted exactly where it proves, and else rejected at the first place whose
+    // condition fails.
+    ensures none_wide { (limit : ℕ) (m : RobustModel) (c : Certificate) → IsModel m → HasShape m c → NoneWide limit m c
+        → IsDecided limit m c }
 {}

@@ -1,5 +1,6 @@
 use Rattle.rob_check.proofs.CoverLaws.{covering_judged}
 use Rattle.rob_check.proofs.JudgeLemmas.{inside_judged, items_judged}
+use Rattle.rob_check.proofs.NarrowLemmas.{narrow_decided}
 use Rattle.rob_check.proofs.ProofLaws.{proves_judged}
 use Rattle.rob_check.proofs.SumLaws.{optimal_sums, infeasible_sums}
 use Rattle.rob_check.proofs.laws.check_laws.Goals as goal
@@ -21,3 +22,6 @@ returns-clause-covered c = covering_judged
 
 pub returns-clause-proves : goal.returns-clause-proves
 returns-clause-proves c limit m cert model shape = proves_judged limit m model cert shape
+
+pub returns-clause-none_wide : goal.returns-clause-none_wide
+returns-clause-none_wide c limit m cert model shape narrow = narrow_decided limit m model cert shape narrow
