@@ -1,17 +1,17 @@
 -- What an answer comes from, where a model was read.
-use Rattle.std.proofs.Common.{◌≡◌, ℕ, ℤ, List, ◌++◌, refl, sym, ◌∙◌, ap, subst}
-use Rattle.rob_algebra.specs.Fraction.{Fraction}
+use Rattle.std.proofs.Common.{◌≡◌, ℕ, ℤ, List, ◌++◌, map, refl, sym, ◌∙◌, ap, subst}
+use Rattle.rob_algebra.specs.Fraction.{Fraction, of_int}
 use Rattle.rob_cert.specs.Causes.{HasCause}
 use Rattle.rob_cert.specs.Reading.{start}
 use Rattle.rob_cert.specs.Spelling.{naming_of}
 use Rattle.rob_cert.specs.declared.error.CertErr.TheVariants.{Rule}
 use Rattle.rob_check.specs.Conditions.{verdict_of}
-use Rattle.rob_dualize.specs.Solving.{IsWideSpot as IsWideOnPath}
+use Rattle.rob_dualize.specs.Solving.{IsShownEmpty, IsWideSpot as IsWideOnPath}
 use Rattle.rob_elab.specs.Forms.{judged_forms}
-use Rattle.rob_meaning.specs.Certificates.{Certificate, Status}
-use Rattle.rob_meaning.specs.Proves.{HasStatus}
+use Rattle.rob_meaning.specs.Certificates.{Certificate, Status, optimal, infeasible, unbounded}
+use Rattle.rob_meaning.specs.Proves.{HasStatus, ProvesAs}
 use Rattle.rob_meaning.specs.RobustModel.{RobustModel}
-use Rattle.rob_meaning.specs.UncertaintySet.{IsEmptySet}
+use Rattle.rob_meaning.specs.UncertaintySet.{Admits}
 use Rattle.rob_model.specs.declared.place.Place.{Place}
 use Rattle.rob_model.specs.declared.place.Spot.{Spot}
 use Rattle.rob_sets.specs.FirstWide.{IsFirstWide}
@@ -27,14 +27,20 @@ use Rattle.rob_words.specs.Values.{Word}
 -- what stands behind the answer: a status of the model, or an empty set; printed rows; a verdict, or a certificate's text that
 -- breaks a rule; or a wide number of the set rows and forms, or of a row on the path
 pub data Course (call : Call) (line : Line) (m : RobustModel) (ended : Ended) : Type 0 where
-  finds : (status : Status) (v : Fraction) → HasForms call line m → IsSolving line.action → HasStatus m status v → ended ≡ ended_of status → Course call line m ended
-  shows_empty : (weights : List ℤ) → HasForms call line m → IsSolving line.action → IsEmptySet m → ended ≡ EmptySet weights → Course call line m ended
+  finds : (status : Status) (v : Fraction) (u : List Fraction) → Admits m u → HasForms call line m → IsSolving line.action → HasStatus m status v → ended ≡ ended_of status → Course call line m ended
+  shows_empty : (weights : List ℤ) → HasForms call line m → IsSolving line.action → IsShownEmpty m (map of_int weights) → ended ≡ EmptySet weights → Course call line m ended
   prints : (name : Word) → HasForms call line m → line.action ≡ rows name → ended ≡ Printed → Course call line m ended
   judges : (c : Certificate) → HasCertificate call line m c → ended ≡ verdict_ended (verdict_of (limit_of line) m c) → Course call line m ended
   refuses : (bytes : List ℕ) (rule number : ℕ) → HasCertificateFile call line m bytes → HasCause (naming_of m) (limit_of line) start bytes 1 (Rule rule number) → ended ≡ Cert rule number
       → Course call line m ended
   wide_number : (spot : Spot) → IsFirstWide (limit_of line) m (judged_set m ++ judged_forms m) spot → ended ≡ TooWide spot → Course call line m ended
   wide_row : (spot : Spot) → HasForms call line m → IsSolving line.action → IsWideOnPath (limit_of line) m spot → ended ≡ TooWide spot → Course call line m ended
+
+-- a certificate that proves has an admitted scenario
+pub inside_admitted : (m : RobustModel) (c : Certificate) (status : Status) → ProvesAs status m c → Admits m c.inside
+inside_admitted m c optimal h = h.inside
+inside_admitted m c infeasible h = h.inside
+inside_admitted m c unbounded h = h.inside
 
 module _ (call : Call) where
   -- a certificate is printed by `solve` and `prove` alone
@@ -45,10 +51,10 @@ module _ (call : Call) where
   printing_solves (check name certificate) m c text h = h
 
   pub solved_course : (status : Status) (text : List ℕ) (h : IsSolved call status text) → Course call h.line h.m (ended_of status)
-  solved_course status text h = finds status h.c.value h.forms (printing_solves h.line.action h.m h.c text h.printed) h.holds refl
+  solved_course status text h = finds status h.c.value h.c.inside (inside_admitted h.m h.c h.c.status h.proves) h.forms (printing_solves h.line.action h.m h.c text h.printed) h.holds refl
 
   pub empty_course : (weights : List ℤ) (text : List ℕ) (h : IsShownEmptySet call weights text) → Course call h.line h.m (EmptySet weights)
-  empty_course weights text h = shows_empty weights h.forms h.solves h.none_admitted refl
+  empty_course weights text h = shows_empty weights h.forms h.solves h.shown refl
 
   pub rows_course : (text : List ℕ) (h : IsRows call text) → Course call h.line h.m Printed
   rows_course text h = prints h.model_name h.forms h.is_rows refl

@@ -86,6 +86,8 @@ module _ (call : Call) (known : Known call.source) where
     kept = h.kept;
     proves = h.proves;
     last = h.last;
+    shape = h.shape;
+    fits = h.fits;
     printed = h.printed;
   }
 

@@ -1,6 +1,7 @@
 pub mod AnswerLemmas
 pub mod CallLemmas
 pub mod CertificateNameLemmas
+pub mod CompletenessLemmas
 pub mod CheckingLemmas
 pub mod CourseLemmas
 pub mod FilesLemmas

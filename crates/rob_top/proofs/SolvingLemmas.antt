@@ -4,7 +4,11 @@ use Rattle.std.proofs.Math.Nat.{mul-le-mul}
 use Rattle.std.proofs.lemmas.List.{length-map}
 use Rattle.std.specs.Prelude.{MatchResult}
 use Rattle.rob_algebra.specs.Fraction.{Fraction, of_int, ◌<ℚ◌}
+use Rattle.rob_algebra.specs.Width.{Fits}
+use Rattle.rob_cert.proofs.FitLemmas.{answer_fits}
+use Rattle.rob_cert.specs.Apart.{FitsLines}
 use Rattle.rob_cert.specs.Spelling.{cert_text}
+use Rattle.rob_cert.specs.View.{certificate_of}
 use Rattle.rob_cert.specs.declared.certificate.Cert.{Cert}
 use Rattle.rob_cert.specs.declared.ending.Stop.{Stop}
 use Rattle.rob_cert.specs.declared.ending.Stop.TheVariants as stop
@@ -39,7 +43,7 @@ use Rattle.rob_report.specs.Places.{IsSpotOf}
 use Rattle.rob_report.specs.Report.{report_of}
 use Rattle.rob_sets.specs.SetForm.{IsSetForm, cleared_row}
 use Rattle.rob_sets.specs.declared.set_form.SetForm.{SetForm}
-use Rattle.rob_top.specs.Calls.{Call, Count, count, IsSolving}
+use Rattle.rob_top.specs.Calls.{Call, Count, count, IsSolving, limit_of}
 use Rattle.rob_top.specs.Headline.{HasForms, IsKept, IsPrinted, IsSolved, Means, solving}
 use Rattle.rob_top.specs.Replies.{IsTask, Replies}
 use Rattle.rob_top.specs.Work.{AnswersForms, IsStopOf, RepliesStop, ended_of}
@@ -101,10 +105,14 @@ module _ (m : RobustModel) (model : IsModel m) where
   kept_as call c unbounded h true_of = covered_bound c h.columns h.scale h.covered
 
 -- ---- the certificate that was found
-module _ (limit : ℕ) (m : RobustModel) (model : IsModel m) (c : Certificate) (found : IsSolution m c) where
-  means_solved : (call : Call) (line : Line) (text : List ℕ) (status : Status) → c.status ≡ status → HasForms call line m → IsPrinted call line.action m c text
+pub solution_fits : {N : Type 0} (value : N → Fraction) (limit : ℕ) → ((x : N) → Fits limit (value x)) → (m : RobustModel) (cert : Cert N)
+    → FitsLines limit m (certificate_of value cert)
+solution_fits {N = N} value limit fits m cert = let found : Result (Cert N) Stop = Ok cert in answer_fits value limit fits m found
+
+module _ (limit : ℕ) (m : RobustModel) (model : IsModel m) (c : Certificate) (found : IsSolution m c) (fits : FitsLines limit m c) where
+  means_solved : (call : Call) (line : Line) (text : List ℕ) (status : Status) → limit_of line ≡ limit → c.status ≡ status → HasForms call line m → IsPrinted call line.action m c text
       → Means call (ended_of status) text
-  means_solved call line text status e has printed =
+  means_solved call line text status at e has printed =
       let proves : ProvesAs status m c = subst (λ (s : Status). ProvesAs s m c) e found.proves in
       let holds : HasStatus m status c.value = subst (λ (s : Status). HasStatus m s c.value) e (certificate_true m model c found.proves) in
       by status (record {
@@ -117,6 +125,8 @@ module _ (limit : ℕ) (m : RobustModel) (model : IsModel m) (c : Certificate) (
         kept = kept_as m model call c status proves holds;
         proves = found.proves;
         last = found.read;
+        shape = found.shape;
+        fits = subst (λ (l : ℕ). FitsLines l m c) (sym at) fits;
         printed = printed;
       })
     where
@@ -141,13 +151,13 @@ module _ (limit : ℕ) (m : RobustModel) (model : IsModel m) (c : Certificate) (
   report_answers wides (Err want) is = tt
   report_answers wides (Ok reply) is = λ call line at asked has.
       subst (λ (ended : Ended). Means call ended reply.text) (sym is.0)
-      (means_solved call line reply.text c.status refl has (is_report call line.action reply.text asked is.1))
+      (means_solved call line reply.text c.status at.limit_is refl has (is_report call line.action reply.text asked is.1))
 
   pub certificate_answers : (wides : Count) (r : Result Reply Want) → IfOk r (Replies (ended_of c.status) (cert_text m c)) → IfOk r (AnswersForms limit wides m Prove)
   certificate_answers wides (Err want) is = tt
   certificate_answers wides (Ok reply) is = λ call line at asked has.
       subst (λ (ended : Ended). Means call ended reply.text) (sym is.0)
-      (means_solved call line reply.text c.status refl has (is_certificate call line.action reply.text asked is.1))
+      (means_solved call line reply.text c.status at.limit_is refl has (is_certificate call line.action reply.text asked is.1))
 
 -- ---- the route stopped
 module _ (limit : ℕ) (m : RobustModel) where

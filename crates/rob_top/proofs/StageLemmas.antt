@@ -14,7 +14,7 @@ use Rattle.rob_parse.specs.Reading.{Breaks}
 use Rattle.rob_parse.proofs.OneModel.{not_both, one_model}
 use Rattle.rob_parse.proofs.OneReading.{one_rule}
 use Rattle.rob_model.specs.declared.place.Spot.{Spot}
-use Rattle.rob_top.proofs.CourseLemmas.{Course, accepted_course, cert_course, empty_course, rejected_course, rows_course, solved_course, wide_course}
+use Rattle.rob_top.proofs.CourseLemmas.{Course, accepted_course, cert_course, empty_course, inside_admitted, rejected_course, rows_course, solved_course, wide_course}
 use Rattle.rob_top.specs.Calls.{Call, Came, IsFirstAbsent, IsFound, Known, Request, answer_to, by_fetches, by_files, limit_of, model_of, requests}
 use Rattle.rob_top.specs.Headline.{HasModel, IsNoModel, IsSolved, IsWideSpot, Means, checking, elaborating, solving}
 use Rattle.rob_top.specs.Work.{ended_of}
@@ -68,13 +68,6 @@ found_once call request a b (by_fetches fetches e) h k = let same : Some a ≡ S
     here : (found : Found) → IsFound call request found → answer_to request fetches ≡ Some found
     here found h = subst (λ (t : Option (List Fetch)). IfSome t (λ fs. answer_to request fs ≡ Some found)) e h.1
 
--- the model's file is the first
-first_request : (action : Action) → (rest : List Request) × (requests action ≡ model_of action ∷ rest)
-first_request (rows model) = ([], refl)
-first_request (solve model way) = ([], refl)
-first_request (prove model way) = ([], refl)
-first_request (check model certificate) = (_, refl)
-
 came_at : (call : Call) (before behind : List Request) (request : Request) → Each (Came call) (before ++ request ∷ behind) → Came call request
 came_at call [] behind request h = h.0
 came_at call (r ∷ before) behind request h = came_at call before behind request h.1
@@ -93,21 +86,6 @@ module _ (call : Call) (known : Known call.source) (line : Line) (spelled : IsSp
         subst (λ (x : Line). Breaks (limit_of x) h.bytes rule number) same h.breaks,
       )
 
-  -- the first file that doesn't come is the model's, or else the model's came
-  absent_here : (found : Found) (name : Word) → IsFirstAbsent call found name
-      → IsFound call (model_of line.action) found ⊎ ((bytes : List ℕ) × IsFound call (model_of line.action) (whole bytes))
-  absent_here found name h =
-      by h.before (sym (first_request line.action).1 ∙ ap (λ (x : Line). requests x.action) (sym (one_line call.words h.line line h.spelled spelled)) ∙ h.order) h.came
-    where
-      by : (before : List Request) → model_of line.action ∷ (first_request line.action).0 ≡ before ++ h.request ∷ h.behind → Each (Came call) before
-          → IsFound call (model_of line.action) found ⊎ ((bytes : List ℕ) × IsFound call (model_of line.action) (whole bytes))
-      by [] e came =
-          let same : h.request ≡ model_of line.action = cc in
-          inl (subst (λ (r : Request). IsFound call r found) same h.absent)
-      by (r ∷ rest) e came =
-          let same : r ≡ model_of line.action = cc in
-          inr (subst (λ (q : Request). (bytes : List ℕ) × IsFound call q (whole bytes)) same came.0)
-
   -- where all come, none is the first that doesn't
   pub none_absent : (found : Found) (name : Word) → Each (Came call) (requests line.action) → ((bytes : List ℕ) → found ≡ whole bytes → ⊥) → IsFirstAbsent call found name → ⊥
   none_absent found name all other h =
@@ -115,52 +93,6 @@ module _ (call : Call) (known : Known call.source) (line : Line) (spelled : IsSp
       let each = subst (λ (list : List Request). Each (Came call) list) (ap (λ (x : Line). requests x.action) (sym same) ∙ h.order) all in
       let came = came_at call h.before h.behind h.request each in
       other came.0 (found_once call h.request found (whole came.0) known h.absent came.1)
-
-  pub missing_answer : (ended : Ended) (text : List ℕ) → IsFound call (model_of line.action) missing → Means call ended text
-      → (ended ≡ Missing) ⊎ ((ended ≡ ReadFault) ⊎ (ended ≡ Memory))
-  missing_answer ended text f means = by (stage_of call ended text means)
-    where
-      once : (found : Found) → IsFound call (model_of line.action) found → missing ≡ found
-      once found h = found_once call (model_of line.action) missing found known f h
-
-      not_whole : (bytes : List ℕ) → IsFound call (model_of line.action) (whole bytes) → ⊥
-      not_whole bytes h = let e = once (whole bytes) h in cc
-
-      over_absurd : IsFound call (model_of line.action) too_long ⊎ ((bytes : List ℕ) × IsFound call (model_of line.action) (whole bytes)) → ⊥
-      over_absurd (inl h) = let e = once too_long h in cc
-      over_absurd (inr h) = not_whole h.0 h.1
-
-      by : Stage call ended → (ended ≡ Missing) ⊎ ((ended ≡ ReadFault) ⊎ (ended ≡ Memory))
-      by (wordless none) = absurd (none (line, spelled))
-      by (absent name h e) = inl e
-      by (over name h e) = absurd (over_absurd (absent_here too_long name h))
-      by (broken rule number t h e) = let b = broken_here rule number t h in absurd (not_whole b.0 b.1)
-      by (read l m h course) = let r = read_here l m h in absurd (not_whole r.bytes r.found)
-      by (failed e) = inr (inl e)
-      by (wanting e) = inr (inr e)
-
-  pub too_long_answer : (ended : Ended) (text : List ℕ) → IsFound call (model_of line.action) too_long → Means call ended text
-      → (ended ≡ TooLong) ⊎ ((ended ≡ ReadFault) ⊎ (ended ≡ Memory))
-  too_long_answer ended text f means = by (stage_of call ended text means)
-    where
-      once : (found : Found) → IsFound call (model_of line.action) found → too_long ≡ found
-      once found h = found_once call (model_of line.action) too_long found known f h
-
-      not_whole : (bytes : List ℕ) → IsFound call (model_of line.action) (whole bytes) → ⊥
-      not_whole bytes h = let e = once (whole bytes) h in cc
-
-      absent_absurd : IsFound call (model_of line.action) missing ⊎ ((bytes : List ℕ) × IsFound call (model_of line.action) (whole bytes)) → ⊥
-      absent_absurd (inl h) = let e = once missing h in cc
-      absent_absurd (inr h) = not_whole h.0 h.1
-
-      by : Stage call ended → (ended ≡ TooLong) ⊎ ((ended ≡ ReadFault) ⊎ (ended ≡ Memory))
-      by (wordless none) = absurd (none (line, spelled))
-      by (absent name h e) = absurd (absent_absurd (absent_here missing name h))
-      by (over name h e) = inl e
-      by (broken rule number t h e) = let b = broken_here rule number t h in absurd (not_whole b.0 b.1)
-      by (read l m h course) = let r = read_here l m h in absurd (not_whole r.bytes r.found)
-      by (failed e) = inr (inl e)
-      by (wanting e) = inr (inr e)
 
   pub broken_answer : (ended : Ended) (text bytes : List ℕ) (rule number : ℕ) → Each (Came call) (requests line.action)
       → IsFound call (model_of line.action) (whole bytes) → Breaks (limit_of line) bytes rule number → Means call ended text
@@ -221,11 +153,6 @@ one_status call a b text other known h k =
     let second : IsSolved call b other = solved_by call b other k in
     let same : first.m ≡ second.m = one_model_read call first.line second.line first.m second.m known first.forms.model second.forms.model in
     same_status second.m a b first.c.value second.c.value (subst (λ (m : RobustModel). HasStatus m a first.c.value) same first.holds) second.holds
-
-inside_admitted : (m : RobustModel) (c : Certificate) (status : Status) → ProvesAs status m c → Admits m c.inside
-inside_admitted m c optimal h = h.inside
-inside_admitted m c infeasible h = h.inside
-inside_admitted m c unbounded h = h.inside
 
 pub not_empty : (call : Call) (status : Status) (weights : List ℤ) (text other : List ℕ) → Known call.source
     → Means call (ended_of status) text → Means call (EmptySet weights) other → ⊥

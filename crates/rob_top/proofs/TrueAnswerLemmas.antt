@@ -1,6 +1,6 @@
 -- Which answer has to come, where what is known of the files decides: the first file that doesn't come decides; then the model's text; then the
 -- first wide number; and then the command.
-use Rattle.std.proofs.Common.{◌≡◌, ℕ, ◌-◌, ◌^◌, ◌≤◌, List, [], ◌∷◌, ◌++◌, sym, ◌∙◌, ap, subst, inl, inr, ◌⊎◌}
+use Rattle.std.proofs.Common.{◌≡◌, ℕ, ◌-◌, ◌^◌, ◌≤◌, List, [], ◌∷◌, ◌++◌, refl, sym, ◌∙◌, ap, subst, inl, inr, ◌⊎◌}
 use Rattle.rob_algebra.specs.Fraction.{Fraction}
 use Rattle.rob_cert.specs.Apart.{IsNamedInWords}
 use Rattle.rob_cert.specs.Causes.{HasCause}
@@ -18,10 +18,12 @@ use Rattle.rob_meaning.specs.Named.{IsNamed}
 use Rattle.rob_meaning.specs.Places.{Each}
 use Rattle.rob_meaning.specs.Proves.{HasStatus}
 use Rattle.rob_meaning.specs.RobustModel.{RobustModel}
-use Rattle.rob_meaning.specs.UncertaintySet.{Admits}
+use Rattle.rob_meaning.specs.UncertaintySet.{Admits, IsEmptySet}
 use Rattle.rob_meaning.specs.WellFormed.{IsModel}
 use Rattle.rob_meaning.proofs.EachLemmas.{each_right}
+use Rattle.rob_model.specs.declared.place.Program.TheVariants as programs
 use Rattle.rob_model.specs.declared.place.Spot.{Spot}
+use Rattle.rob_model.specs.declared.place.Spot.TheVariants as spots
 use Rattle.rob_number.specs.Lowest.{limit_high, limit_low}
 use Rattle.rob_outside.specs.Files.{Found, whole, missing, too_long}
 use Rattle.rob_parse.proofs.ModelLemmas.{well_formed}
@@ -37,7 +39,8 @@ use Rattle.rob_top.proofs.StageLemmas.{Stage, absent, broken, broken_here, faile
 use Rattle.rob_top.proofs.WorkLemmas.{limit_is}
 use Rattle.rob_top.specs.Calls.{Call, Came, IsFirstAbsent, IsFound, IsSolving, Known, Request, certificate_file, limit_of, model_of, requests}
 use Rattle.rob_top.specs.Headline.{HasCertificate, HasCertificateFile, HasForms, HasModel, Means}
-use Rattle.rob_top.specs.Work.{IsSolveAnswer, ended_of, verdict_ended}
+use Rattle.rob_top.specs.Completeness.{IsEmptyAnswer, IsSolveAnswer}
+use Rattle.rob_top.specs.Work.{ended_of, verdict_ended}
 use Rattle.rob_top.specs.declared.ended.Ended.{Ended}
 use Rattle.rob_top.specs.declared.ended.Ended.TheVariants.{Printed, Missing, TooLong, EmptySet, TooWide, Cert, ReadFault, Memory}
 use Rattle.rob_words.specs.Commands.{Action, Line, rows, check}
@@ -163,8 +166,8 @@ module _ (call : Call) (known : Known call.source) where
         no_forms forms = none_first (limit_of line) m (judged_set m ++ judged_forms m) spot forms.none_wide first
 
         by : Course call line m ended → ended ≡ TooWide spot
-        by (finds status v forms solves holds e) = absurd (no_forms forms)
-        by (shows_empty weights forms solves none e) = absurd (no_forms forms)
+        by (finds status v u inside forms solves holds e) = absurd (no_forms forms)
+        by (shows_empty weights forms solves shown e) = absurd (no_forms forms)
         by (prints name forms is e) = absurd (no_forms forms)
         by (judges c h e) = absurd (no_forms h.file.forms)
         by (refuses bytes rule number h breach e) = absurd (no_forms h.forms)
@@ -180,8 +183,8 @@ module _ (call : Call) (known : Known call.source) where
     rows_decide has name is_rows ended text means = first_of_two by (course_of has.model ended text means)
       where
         by : Course call line m ended → ended ≡ Printed
-        by (finds status v forms solves holds e) = absurd (solves_no_rows line.action name is_rows solves)
-        by (shows_empty weights forms solves none e) = absurd (solves_no_rows line.action name is_rows solves)
+        by (finds status v u inside forms solves holds e) = absurd (solves_no_rows line.action name is_rows solves)
+        by (shows_empty weights forms solves shown e) = absurd (solves_no_rows line.action name is_rows solves)
         by (prints other forms is e) = e
         by (judges c h e) = absurd (not_rows line.action name h.file.model_name h.file.certificate_name is_rows h.file.is_check)
         by (refuses bytes rule number h breach e) = absurd (not_rows line.action name h.model_name h.certificate_name is_rows h.is_check)
@@ -201,8 +204,8 @@ module _ (call : Call) (known : Known call.source) where
     solve_decides has is_solving ended text means = all (course_of has.model ended text means)
       where
         by : Course call line m ended → IsSolveAnswer (limit_of line) m ended
-        by (finds status v forms solves holds e) = answer_is ended (ended_of status) e (status_answer status v holds)
-        by (shows_empty weights forms solves none e) = answer_is ended (EmptySet weights) e none
+        by (finds status v u inside forms solves holds e) = answer_is ended (ended_of status) e (status_answer status v holds)
+        by (shows_empty weights forms solves shown e) = answer_is ended (EmptySet weights) e shown.empty
         by (prints name forms is e) = absurd (solves_no_rows line.action name is is_solving)
         by (judges c h e) = absurd (solves_no_check line.action h.file.model_name h.file.certificate_name h.file.is_check is_solving)
         by (refuses bytes rule number h breach e) = absurd (solves_no_check line.action h.model_name h.certificate_name h.is_check is_solving)
@@ -211,8 +214,42 @@ module _ (call : Call) (known : Known call.source) where
 
         all : Course call line m ended ⊎ ((ended ≡ ReadFault) ⊎ (ended ≡ Memory)) → IsSolveAnswer (limit_of line) m ended
         all (inl course) = by course
-        all (inr (inl e)) = answer_is ended ReadFault e tt
-        all (inr (inr e)) = answer_is ended Memory e tt
+        all (inr (inl e)) = answer_is ended ReadFault e (inl refl)
+        all (inr (inr e)) = answer_is ended Memory e (inr (inr refl))
+
+    -- an empty set
+    empty_is : (ended other : Ended) → ended ≡ other → IsEmptyAnswer (limit_of line) m other → IsEmptyAnswer (limit_of line) m ended
+    empty_is ended other e h = subst (λ (x : Ended). IsEmptyAnswer (limit_of line) m x) (sym e) h
+
+    -- a row on the path is one of the set's program, since the counterpart is solved for an admitted scenario alone
+    empty_spot : IsEmptySet m → (place : Spot) → IsWideOnPath (limit_of line) m place → IsEmptyAnswer (limit_of line) m (TooWide place)
+    empty_spot none (spots.Dictionary programs.Set basis i) h = h
+    empty_spot none (spots.Dictionary programs.Reform basis i) h = absurd (none h.0.0 h.0.1)
+    empty_spot none (spots.Dictionary programs.Master basis i) h = absurd h
+    empty_spot none (spots.Dictionary (programs.SearchPlan form) basis i) h = absurd h
+    empty_spot none (spots.Dictionary (programs.SearchMove form) basis i) h = absurd h
+    empty_spot none (spots.Coefficient where_it_is) h = absurd h
+    empty_spot none (spots.Clearing where_it_is) h = absurd h
+    empty_spot none (spots.Sum where_it_is j) h = absurd h
+    empty_spot none (spots.Check place) h = absurd h
+    empty_spot none (spots.Replay number) h = absurd h
+
+    pub empty_decides : HasForms call line m → IsSolving line.action → IsEmptySet m → (ended : Ended) (text : List ℕ) → Means call ended text → IsEmptyAnswer (limit_of line) m ended
+    empty_decides has is_solving none ended text means = all (course_of has.model ended text means)
+      where
+        by : Course call line m ended → IsEmptyAnswer (limit_of line) m ended
+        by (finds status v u inside forms solves holds e) = absurd (none u inside)
+        by (shows_empty weights forms solves shown e) = empty_is ended (EmptySet weights) e shown
+        by (prints name forms is e) = absurd (solves_no_rows line.action name is is_solving)
+        by (judges c h e) = absurd (solves_no_check line.action h.file.model_name h.file.certificate_name h.file.is_check is_solving)
+        by (refuses bytes rule number h breach e) = absurd (solves_no_check line.action h.model_name h.certificate_name h.is_check is_solving)
+        by (wide_number spot h e) = absurd (no_first has spot h)
+        by (wide_row spot forms solves wide e) = empty_is ended (TooWide spot) e (empty_spot none spot wide)
+
+        all : Course call line m ended ⊎ ((ended ≡ ReadFault) ⊎ (ended ≡ Memory)) → IsEmptyAnswer (limit_of line) m ended
+        all (inl course) = by course
+        all (inr (inl e)) = empty_is ended ReadFault e (inl refl)
+        all (inr (inr e)) = empty_is ended Memory e (inr (inr refl))
 
     pub status_decides : HasForms call line m → IsSolving line.action → (status : Status) (v : Fraction) → HasStatus m status v → (u : List Fraction) → Admits m u
         → ((spot : Spot) → IsWideOnPath (limit_of line) m spot → ⊥) → (ended : Ended) (text : List ℕ) → Means call ended text
@@ -220,8 +257,8 @@ module _ (call : Call) (known : Known call.source) where
     status_decides has is_solving status v true_of u admitted narrow ended text means = first_of_two by (course_of has.model ended text means)
       where
         by : Course call line m ended → ended ≡ ended_of status
-        by (finds other w forms solves holds e) = e ∙ ap ended_of (same_status m other status w v holds true_of)
-        by (shows_empty weights forms solves none e) = absurd (none u admitted)
+        by (finds other w inner inside forms solves holds e) = e ∙ ap ended_of (same_status m other status w v holds true_of)
+        by (shows_empty weights forms solves shown e) = absurd (shown.empty u admitted)
         by (prints name forms is e) = absurd (solves_no_rows line.action name is is_solving)
         by (judges c h e) = absurd (solves_no_check line.action h.file.model_name h.file.certificate_name h.file.is_check is_solving)
         by (refuses bytes rule number h breach e) = absurd (solves_no_check line.action h.model_name h.certificate_name h.is_check is_solving)
@@ -243,7 +280,7 @@ module _ (call : Call) (known : Known call.source) where
     most : limit_of line ≤ 2 ^ 62 - 1
     most = subst (λ (l : ℕ). l ≤ 2 ^ 62 - 1) (limit_is line.width) (limit_high (bits_of line.width))
 
-    well : HasModel call line m → IsModel m
+    pub well : HasModel call line m → IsModel m
     well has = well_formed (limit_of line) has.bytes m least has.reads
 
     named : HasModel call line m → IsNamed m
@@ -275,8 +312,8 @@ module _ (call : Call) (known : Known call.source) where
         no_solving solves = solves_no_check line.action has.file.model_name has.file.certificate_name has.file.is_check solves
 
         by : Course call line m ended → ended ≡ verdict_ended (verdict_of (limit_of line) m c)
-        by (finds status v forms solves holds e) = absurd (no_solving solves)
-        by (shows_empty weights forms solves none e) = absurd (no_solving solves)
+        by (finds status v u inside forms solves holds e) = absurd (no_solving solves)
+        by (shows_empty weights forms solves shown e) = absurd (no_solving solves)
         by (prints name forms is e) = absurd (not_rows line.action name has.file.model_name has.file.certificate_name is has.file.is_check)
         by (judges d h e) = e ∙ ap (λ (x : Certificate). verdict_ended (verdict_of (limit_of line) m x)) (one_certificate d c h has)
         by (refuses bytes rule number h breach e) = absurd (no_breach c bytes rule number has h breach)
@@ -299,8 +336,8 @@ module _ (call : Call) (known : Known call.source) where
             e ∙ ap (λ k. Cert k n) one.0 ∙ ap (λ k. Cert rule k) one.1
 
         by : Course call line m ended → ended ≡ Cert rule number
-        by (finds status v forms solves holds e) = absurd (no_solving solves)
-        by (shows_empty weights forms solves none e) = absurd (no_solving solves)
+        by (finds status v u inside forms solves holds e) = absurd (no_solving solves)
+        by (shows_empty weights forms solves shown e) = absurd (no_solving solves)
         by (prints name forms is e) = absurd (not_rows line.action name has.model_name has.certificate_name is has.is_check)
         by (judges d h e) = absurd (no_breach d bytes rule number h has breaks)
         by (refuses other r n h breach e) = is_rule other r n h breach e

@@ -28,6 +28,7 @@ use Rattle.rob_sets.specs.FirstWide.{NothingWide, IsFirstWide}
 use Rattle.rob_sets.specs.SetForm.{judged_set}
 use Rattle.rob_elab.specs.Forms.{judged_forms}
 use Rattle.rob_cert.specs.Apart.{FitsLines}
+use Rattle.rob_cert.specs.Shape.{HasShape}
 use Rattle.rob_cert.specs.Whole.{IsTextOf}
 use Rattle.rob_cert.specs.Spelling.{cert_text, naming_of}
 use Rattle.rob_cert.specs.Causes.{HasCause}
@@ -106,7 +107,8 @@ module _ (call : Call) where
   IsKept m c unbounded = HasBound m c.plan c.value
 
   -- the model has the status: a certificate of it was found that proves it, as the last basis of the model's counterpart
-  -- gives it, and it, or its plan, is printed
+  -- gives it, and it, or its plan, is printed. It has its shape and its numbers fit, so that what `prove` prints is the text of a
+  -- certificate
   pub record IsSolved (status : Status) (text : List ℕ) : Type 0 where
     pub line : Line
     pub m : RobustModel
@@ -117,6 +119,8 @@ module _ (call : Call) where
     pub kept : IsKept m c status
     pub proves : Proves m c
     pub last : IsReadAtEnd m c
+    pub shape : HasShape m c
+    pub fits : FitsLines (limit_of line) m c
     pub printed : IsPrinted line.action m c text
 
   -- no scenario is admitted: with these weights the set rows sum to 0 on each column, and to a negative right side
@@ -194,7 +198,7 @@ module _ (call : Call) where
   -- ---- all answers
 
   -- what each answer means, and its text. An answer comes only where this holds; where it must come, because no other may, is
-  -- said by laws of src/laws.rt, src/one_answer.rt and src/true_answer.rt
+  -- said by specs/Completeness.antt
   abbrev pub Means : Ended → List ℕ → Type 0
   Means Optimal text = IsSolved optimal text
   Means Infeasible text = IsSolved infeasible text

@@ -1,5 +1,6 @@
 pub mod Calls
 pub mod Lines
+pub mod Completeness
 pub mod Answers
 pub mod Headline
 pub mod Codes

@@ -1,17 +1,13 @@
 -- What the work on a model answers, whichever call it is done for.
 use Rattle.std.specs.Prelude.{◌≡◌, ℕ, ◌^◌, ◌≤◌, List, length}
-use Rattle.rob_algebra.specs.Fraction.{Fraction}
 use Rattle.rob_cert.specs.declared.ending.Stop.{Stop}
 use Rattle.rob_cert.specs.declared.ending.Stop.TheVariants as stop
 use Rattle.rob_meaning.specs.Certificates as meaning
 use Rattle.rob_meaning.specs.Certificates.{Certificate}
 use Rattle.rob_check.specs.declared.verdict.Verdict.{Verdict}
 use Rattle.rob_check.specs.declared.verdict.Verdict.TheVariants as verdict
-use Rattle.rob_dualize.specs.Solving.{IsWideSpot as IsWideOnPath}
-use Rattle.rob_meaning.specs.Proves.{HasStatus}
 use Rattle.rob_meaning.specs.RobustModel.{RobustModel}
 use Rattle.rob_meaning.specs.SetRows.{set_rows}
-use Rattle.rob_meaning.specs.UncertaintySet.{IsEmptySet}
 use Rattle.rob_model.specs.declared.place.Spot.TheVariants as spots
 use Rattle.rob_report.specs.Places.{IsSpotOf}
 use Rattle.rob_report.specs.Spots.{too_wide_line, empty_set_lines}
@@ -21,7 +17,7 @@ use Rattle.rob_top.specs.Calls.{Call, Count, WasRaised, limit_of}
 use Rattle.rob_top.specs.Headline.{Means, HasModel, HasForms, HasCertificateFile, HasCertificate}
 use Rattle.rob_top.specs.Replies.{HasTexts, IsTask, Replies}
 use Rattle.rob_top.specs.declared.ended.Ended.{Ended}
-use Rattle.rob_top.specs.declared.ended.Ended.TheVariants.{Optimal, Infeasible, Unbounded, Accepted, Rejected, EmptySet, TooWide, ReadFault, Memory}
+use Rattle.rob_top.specs.declared.ended.Ended.TheVariants.{Optimal, Infeasible, Unbounded, Accepted, Rejected, EmptySet, TooWide}
 use Rattle.rob_top.specs.declared.files.Files.{Files}
 use Rattle.rob_top.specs.declared.files.Files.TheVariants as fetch
 use Rattle.rob_top.specs.declared.files.Job.{Job}
@@ -97,18 +93,6 @@ abbrev pub verdict_ended : Verdict → Ended
 verdict_ended verdict.Accepted = Accepted
 verdict_ended (verdict.Rejected place) = Rejected place
 verdict_ended (verdict.TooWide place) = TooWide (spots.Check place)
-
--- the answer is one of `solve` and `prove` for the model: a status that it has; or no scenario is admitted; or a number on the
--- path of its solution is wide; or a read fault or want of memory, which say nothing of the model. No other is
-abbrev pub IsSolveAnswer : ℕ → RobustModel → Ended → Type 0
-IsSolveAnswer limit m Optimal = (v : Fraction) × HasStatus m meaning.optimal v
-IsSolveAnswer limit m Infeasible = (v : Fraction) × HasStatus m meaning.infeasible v
-IsSolveAnswer limit m Unbounded = (v : Fraction) × HasStatus m meaning.unbounded v
-IsSolveAnswer limit m (EmptySet weights) = IsEmptySet m
-IsSolveAnswer limit m (TooWide spot) = IsWideOnPath limit m spot
-IsSolveAnswer limit m ReadFault = Unit {0}
-IsSolveAnswer limit m Memory = Unit {0}
-IsSolveAnswer limit m ended = ⊥
 
 -- ---- refusals
 

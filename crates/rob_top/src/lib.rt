@@ -11,7 +11,6 @@ mod put;
 mod reply;
 mod solving;
 mod top;
-pub mod true_answer;
 mod work;
 
 pub use ended::Ended;

@@ -5,6 +5,7 @@
 
 ghost use Rattle.std.specs.Prelude.{◌≡◌, ◌≤◌, ℕ, List, IfOk, map, string_bytes};
 ghost use Rattle.rob_top.specs.Calls.{Call, Fetches, call_of, count, output_of, requests, source_of};
+ghost use Rattle.rob_top.specs.Completeness.{IsComplete};
 ghost use Rattle.rob_top.specs.Headline.{Ends, Means, PutPrefix};
 ghost use Rattle.rob_top.specs.Replies.{Asks, IsLine};
 ghost use Rattle.rob_words.specs.Answers.{action_of};
@@ -39,6 +40,12 @@ pub fn run<S: Shelf, K: Sink, L: Ledger>(
         (S.log shelf.old) (S.log shelf.new)) (count (S.faults shelf.old) (S.faults shelf.new))
         (count (L.wides ledger.old) (L.wides ledger.new)))
         (output_of (K.taken out.old) (K.taken out.new) (K.puts out.old) (K.puts out.new) (count (K.faults out.old) (K.faults out.new)))
+        result }
+    // Which answer has to come.
+    ensures complete { IsComplete
+        (call_of (map string_bytes words.now) (source_of (S.files shelf.old)
+        (S.log shelf.old) (S.log shelf.new)) (count (S.faults shelf.old) (S.faults shelf.new))
+        (count (L.wides ledger.old) (L.wides ledger.new)))
         result }
     ensures files { S.files shelf.new ≡ S.files shelf.old }
     // The files are asked for in the order of the words, each once, and none behind the one that decided.

@@ -1,7 +1,7 @@
 use Rattle.rob_cert.specs.View.{certificate_of}
 use Rattle.rob_model.specs.View.{robust}
 use Rattle.rob_top.specs.declared.files.Task.TheVariants.{Prove}
-use Rattle.rob_top.proofs.SolvingLemmas.{counterpart_few, of_one_model, certificate_answers, prove_solves, solve_counted, stop_of, stopped_answers}
+use Rattle.rob_top.proofs.SolvingLemmas.{counterpart_few, of_one_model, certificate_answers, prove_solves, solution_fits, solve_counted, stop_of, stopped_answers}
 use Rattle.rob_top.proofs.solving.prove.Goals as goal
 
 pub solve_dual-requires-clause-model : goal.solve_dual-requires-clause-model
@@ -23,7 +23,8 @@ stopped-requires-clause-named g c =
 pub returns-in-Ok-clause-answers : goal.returns-in-Ok-clause-answers
 returns-in-Ok-clause-answers g c =
     certificate_answers g.N.Exact.limit (robust g.N.Exact.value c.args.model.now) c.requires.valid.well_formed (certificate_of g.N.Exact.value c.in-Ok.cert)
-    (c.in-Ok.ensures.solves (robust g.N.Exact.value c.args.model.now) c.requires.valid.well_formed c.requires.forms c.requires.set).solved _ c.proved.result
+    (c.in-Ok.ensures.solves (robust g.N.Exact.value c.args.model.now) c.requires.valid.well_formed c.requires.forms c.requires.set).solved
+    (solution_fits g.N.Exact.value g.N.Exact.limit g.met.N.Exact.fits (robust g.N.Exact.value c.args.model.now) c.in-Ok.cert) _ c.proved.result
     c.proved.ensures.certificate
 
 pub returns-in-Ok-clause-counted : goal.returns-in-Ok-clause-counted

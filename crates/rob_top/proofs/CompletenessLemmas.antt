@@ -1,0 +1,195 @@
+-- How a call must end: what its words and files decide, in one record; and what follows for the text that `prove` prints.
+use Rattle.std.proofs.Common.{◌≡◌, ℕ, ◌-◌, ◌^◌, List, refl, sym, ◌∙◌, ap, subst, inl, inr, ◌⊎◌}
+use Rattle.rob_cert.specs.Apart.{FitsLines}
+use Rattle.rob_cert.specs.Shape.{HasShape}
+use Rattle.rob_check.proofs.NarrowLemmas.{narrow_decided}
+use Rattle.rob_check.proofs.ProofLaws.{proves_judged}
+use Rattle.rob_check.specs.Conditions.{verdict_of}
+use Rattle.rob_check.specs.Narrow.{IsDecided, IsFirstFailing, NoneWide}
+use Rattle.rob_check.specs.Verdicts.{Judges}
+use Rattle.rob_check.specs.declared.verdict.Verdict.{Verdict}
+use Rattle.rob_check.specs.declared.verdict.Verdict.TheVariants as verdicts
+use Rattle.rob_meaning.specs.Certificates.{Certificate, Status}
+use Rattle.rob_meaning.specs.Proves.{Proves}
+use Rattle.rob_meaning.specs.RobustModel.{RobustModel}
+use Rattle.rob_meaning.specs.UncertaintySet.{IsEmptySet}
+use Rattle.rob_meaning.specs.WellFormed.{IsModel}
+use Rattle.rob_model.specs.declared.place.Place.{Place}
+use Rattle.rob_top.proofs.AnswerLemmas.{no_command}
+use Rattle.rob_top.proofs.KnownLemmas.{known_again, means_known}
+use Rattle.rob_top.proofs.StageLemmas.{broken_answer}
+use Rattle.rob_top.proofs.TrueAnswerLemmas.{empty_decides, missing_decides, rows_decide, rule_decides, solve_decides, status_decides, too_long_decides, verdict_decides, well, wide_decides}
+use Rattle.rob_top.specs.Answers.{memory_text}
+use Rattle.rob_top.specs.Calls.{Call, IsSolving, Known, Output, known_call, limit_of}
+use Rattle.rob_top.specs.Completeness.{EndsAs, IsComplete, IsEmptyAnswer, IsOutside, IsProvedAnswer, IsSolveAnswer, IsUnput, MustEnd}
+use Rattle.rob_top.specs.Headline.{Ends, HasCertificate, HasCertificateFile, HasForms, IsPrinted, IsSolved, Means}
+use Rattle.rob_top.specs.Work.{verdict_ended}
+use Rattle.rob_top.specs.declared.ended.Ended.{Ended}
+use Rattle.rob_top.specs.declared.ended.Ended.TheVariants.{Optimal, Infeasible, Unbounded, Printed, Accepted, Rejected, Words, Missing, TooLong, Model, EmptySet, TooWide, Cert, ReadFault, WriteFault, Memory}
+use Rattle.rob_words.specs.Commands.{Action, Line, prove, IsCommandLine}
+use Rattle.rob_words.specs.Values.{Word, bits_of}
+use Rattle.rob_words.specs.declared.route.Route.{Route}
+use Rattle.rob_words.specs.declared.width.Width.{Width}
+
+-- the call has an answer that is allowed, or the put of one was refused
+abbrev Comes : Call → Ended → Type 0
+Comes call ended = ((text : List ℕ) × Means call ended text) ⊎ (ended ≡ WriteFault)
+
+-- ---- one answer, or the outside failed
+
+allowed_ends : (x ended : Ended) → (ended ≡ x) ⊎ ((ended ≡ ReadFault) ⊎ (ended ≡ Memory)) → EndsAs x ended
+allowed_ends x ended (inl e) = inl e
+allowed_ends x ended (inr (inl e)) = inr (inl e)
+allowed_ends x ended (inr (inr e)) = inr (inr (inr e))
+
+comes_ends : (call : Call) (x ended : Ended) → Comes call ended
+    → ((text : List ℕ) → Means call ended text → (ended ≡ x) ⊎ ((ended ≡ ReadFault) ⊎ (ended ≡ Memory))) → EndsAs x ended
+comes_ends call x ended (inl h) decides = allowed_ends x ended (decides h.0 h.1)
+comes_ends call x ended (inr e) decides = inr (inr (inl e))
+
+-- ---- the verdict on a certificate that proves
+module _ (limit : ℕ) (m : RobustModel) (c : Certificate) where
+  proved_outside : (ended : Ended) → IsOutside ended → IsProvedAnswer limit m c ended
+  proved_outside ended (inl e) = subst (λ (x : Ended). IsProvedAnswer limit m c x) (sym e) (inl refl)
+  proved_outside ended (inr (inl e)) = subst (λ (x : Ended). IsProvedAnswer limit m c x) (sym e) (inr (inl refl))
+  proved_outside ended (inr (inr e)) = subst (λ (x : Ended). IsProvedAnswer limit m c x) (sym e) (inr (inr refl))
+
+  proved_ends : IsModel m → HasShape m c → Proves m c → (ended : Ended) → EndsAs (verdict_ended (verdict_of limit m c)) ended
+      → IsProvedAnswer limit m c ended
+  proved_ends model shape proves ended (inr outside) = proved_outside ended outside
+  proved_ends model shape proves ended (inl e) = by (verdict_of limit m c) refl
+    where
+      at : (v : Verdict) → verdict_of limit m c ≡ v → IsProvedAnswer limit m c (verdict_ended v) → IsProvedAnswer limit m c ended
+      at v h answer = subst (λ (x : Ended). IsProvedAnswer limit m c x) (sym (e ∙ ap verdict_ended h)) answer
+
+      by : (v : Verdict) → verdict_of limit m c ≡ v → IsProvedAnswer limit m c ended
+      by verdicts.Accepted h = at verdicts.Accepted h tt
+      by (verdicts.Rejected place) h =
+          let not = subst (λ (v : Verdict). Judges (Proves m c) v) h (proves_judged limit m model c shape) in
+          absurd (not proves)
+      by (verdicts.TooWide place) h = at (verdicts.TooWide place) h h
+
+-- ---- all of it
+
+module _ (call : Call) (known : Known call.source) (ended : Ended) (comes : Comes call ended) where
+  words_end : (IsCommandLine call.words → ⊥) → (ended ≡ Words) ⊎ IsUnput ended
+  words_end none = by comes
+    where
+      unread : (ended ≡ Words) ⊎ (ended ≡ Memory) → (ended ≡ Words) ⊎ IsUnput ended
+      unread (inl e) = inl e
+      unread (inr e) = inr (inr e)
+
+      by : Comes call ended → (ended ≡ Words) ⊎ IsUnput ended
+      by (inl h) = unread (no_command call ended h.0 none h.1)
+      by (inr e) = inr (inl e)
+
+  module _ (line : Line) (m : RobustModel) where
+    solving_ends : HasForms call line m → IsSolving line.action → IsSolveAnswer (limit_of line) m ended
+    solving_ends has solves = by comes
+      where
+        by : Comes call ended → IsSolveAnswer (limit_of line) m ended
+        by (inl h) = solve_decides call known line m has solves ended h.0 h.1
+        by (inr e) = subst (λ (x : Ended). IsSolveAnswer (limit_of line) m x) (sym e) (inr (inl refl))
+
+    empty_ends : HasForms call line m → IsSolving line.action → IsEmptySet m → IsEmptyAnswer (limit_of line) m ended
+    empty_ends has solves none = by comes
+      where
+        by : Comes call ended → IsEmptyAnswer (limit_of line) m ended
+        by (inl h) = empty_decides call known line m has solves none ended h.0 h.1
+        by (inr e) = subst (λ (x : Ended). IsEmptyAnswer (limit_of line) m x) (sym e) (inr (inl refl))
+
+    module _ (c : Certificate) (has : HasCertificate call line m c) where
+      read_model : IsModel m
+      read_model = well call known line m has.file.forms.model
+
+      verdict_ends : EndsAs (verdict_ended (verdict_of (limit_of line) m c)) ended
+      verdict_ends = comes_ends call (verdict_ended (verdict_of (limit_of line) m c)) ended comes (verdict_decides call known line m c has ended)
+
+      verdict_at : (v : Verdict) → verdict_of (limit_of line) m c ≡ v → EndsAs (verdict_ended v) ended
+      verdict_at v e = subst (λ (x : Verdict). EndsAs (verdict_ended x) ended) e verdict_ends
+
+      decided : NoneWide (limit_of line) m c → IsDecided (limit_of line) m c
+      decided narrow = narrow_decided (limit_of line) m read_model c has.text.shape narrow
+
+      rejected_ends : NoneWide (limit_of line) m c → (Proves m c → ⊥)
+          → (place : Place) × IsFirstFailing (limit_of line) m c place × EndsAs (Rejected place) ended
+      rejected_ends narrow not =
+          let flaw = (decided narrow).rejected not in
+          (flaw.0, flaw.1, verdict_at (verdicts.Rejected flaw.0) flaw.2)
+
+  must_end : MustEnd call ended
+  must_end = record {
+    words = words_end;
+    missing = λ name h. comes_ends call Missing ended comes (missing_decides call known name h ended);
+    too_long = λ name h. comes_ends call TooLong ended comes (too_long_decides call known name h ended);
+    model = λ line bytes rule number spelled came found breaks.
+        comes_ends call (Model rule number) ended comes
+        (λ text. broken_answer call known line spelled ended text bytes rule number came found breaks);
+    wide = λ line m spot has first. comes_ends call (TooWide spot) ended comes (wide_decides call known line m has spot first ended);
+    rows = λ line m name has is. comes_ends call Printed ended comes (rows_decide call known line m has name is ended);
+    solving = solving_ends;
+    empty = empty_ends;
+    status = λ line m status v u has solves holds admitted narrow.
+        comes_ends call _ ended comes (status_decides call known line m has solves status v holds u admitted narrow ended);
+    broken = λ line m bytes rule number has breaks.
+        comes_ends call (Cert rule number) ended comes (rule_decides call known line m bytes rule number has breaks ended);
+    verdict = verdict_ends;
+    proved = λ line m c has proves.
+        proved_ends (limit_of line) m c (read_model line m c has) has.text.shape proves ended (verdict_ends line m c has);
+    accepted = λ line m c has narrow proves.
+        verdict_at line m c has verdicts.Accepted ((decided line m c has narrow).accepted.1 proves);
+    rejected = rejected_ends;
+  }
+
+-- ---- by each part of what is known of the files
+
+comes_complete : (call : Call) (ended : Ended) → Comes call ended → IsComplete call ended
+comes_complete call ended (inl h) known =
+    must_end (known_call call known) (known_again known) ended (inl (h.0, means_known call known ended h.0 h.1))
+comes_complete call ended (inr e) known = must_end (known_call call known) (known_again known) ended (inr e)
+
+pub means_complete : (call : Call) (ended : Ended) (text : List ℕ) → Means call ended text → IsComplete call ended
+means_complete call ended text means = comes_complete call ended (inl (text, means))
+
+-- each end of a call comes with an answer that is allowed, unless the put was refused
+ends_come : (call : Call) (output : Output) (ended : Ended) → Ends call output ended → Comes call ended
+ends_come call output WriteFault h = inr refl
+ends_come call output Memory h = inl (memory_text, refl)
+ends_come call output Optimal h = inl (h.text, h.means)
+ends_come call output Infeasible h = inl (h.text, h.means)
+ends_come call output Unbounded h = inl (h.text, h.means)
+ends_come call output Printed h = inl (h.text, h.means)
+ends_come call output Accepted h = inl (h.text, h.means)
+ends_come call output (Rejected place) h = inl (h.text, h.means)
+ends_come call output Words h = inl (h.text, h.means)
+ends_come call output Missing h = inl (h.text, h.means)
+ends_come call output TooLong h = inl (h.text, h.means)
+ends_come call output (Model rule line) h = inl (h.text, h.means)
+ends_come call output (EmptySet weights) h = inl (h.text, h.means)
+ends_come call output (TooWide spot) h = inl (h.text, h.means)
+ends_come call output (Cert rule line) h = inl (h.text, h.means)
+ends_come call output ReadFault h = inl (h.text, h.means)
+
+pub ends_complete : (call : Call) (output : Output) (ended : Ended) → Ends call output ended → IsComplete call ended
+ends_complete call output ended ends = comes_complete call ended (ends_come call output ended ends)
+
+-- ---- the text that `prove` printed, as the file of a certificate
+module _ (proving checking : Call) (known : Known checking.source) (status : Status) (text : List ℕ) (solved : IsSolved proving status text)
+    (line : Line) (model : Word) (way : Route) (ended : Ended) where
+  printed_certificate : solved.line.action ≡ prove model way → line.width ≡ solved.line.width
+      → HasCertificateFile (known_call checking known) line solved.m text → HasCertificate (known_call checking known) line solved.m solved.c
+  printed_certificate is_prove width file = record {
+    bytes = text;
+    file = file;
+    text = record {
+      shape = solved.shape;
+      spelled = subst (λ (a : Action). IsPrinted proving a solved.m solved.c text) is_prove solved.printed;
+    };
+    fits = subst (λ (w : Width). FitsLines (2 ^ bits_of w - 1) solved.m solved.c) (sym width) solved.fits;
+  }
+
+  pub proved_then_checked : solved.line.action ≡ prove model way → line.width ≡ solved.line.width
+      → HasCertificateFile (known_call checking known) line solved.m text → MustEnd (known_call checking known) ended
+      → IsProvedAnswer (limit_of line) solved.m solved.c ended
+  proved_then_checked is_prove width file must =
+      must.proved line solved.m solved.c (printed_certificate is_prove width file) solved.proves

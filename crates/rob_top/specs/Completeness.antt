@@ -1,0 +1,124 @@
+-- Which answer has to come. The words and the files decide it, and a number that is wide is named; a fault of the outside and
+-- want of memory may come in its place, which say nothing of the model.
+use Rattle.std.specs.Prelude.{◌≡◌, ◌⊎◌, ◌++◌, ℕ, List, map}
+use Rattle.rob_algebra.specs.Fraction.{Fraction, of_int}
+use Rattle.rob_cert.specs.Causes.{HasCause}
+use Rattle.rob_cert.specs.Reading.{start}
+use Rattle.rob_cert.specs.Spelling.{naming_of}
+use Rattle.rob_cert.specs.declared.error.CertErr.TheVariants.{Rule}
+use Rattle.rob_check.specs.Conditions.{verdict_of}
+use Rattle.rob_check.specs.Narrow.{IsFirstFailing, NoneWide}
+use Rattle.rob_check.specs.declared.verdict.Verdict.TheVariants as verdict
+use Rattle.rob_dualize.specs.Solving.{IsShownEmpty, IsWideSpot as IsWideOnPath}
+use Rattle.rob_elab.specs.Forms.{judged_forms}
+use Rattle.rob_meaning.specs.Certificates.{Certificate, Status, optimal, infeasible, unbounded}
+use Rattle.rob_meaning.specs.Places.{Each}
+use Rattle.rob_meaning.specs.Proves.{HasStatus, Proves}
+use Rattle.rob_meaning.specs.RobustModel.{RobustModel}
+use Rattle.rob_meaning.specs.UncertaintySet.{Admits, IsEmptySet}
+use Rattle.rob_model.specs.declared.place.Place.{Place}
+use Rattle.rob_model.specs.declared.place.Program.TheVariants as program
+use Rattle.rob_model.specs.declared.place.Spot.{Spot}
+use Rattle.rob_model.specs.declared.place.Spot.TheVariants.{Check, Dictionary}
+use Rattle.rob_outside.specs.Files.{whole, missing, too_long}
+use Rattle.rob_parse.specs.Reading.{Breaks}
+use Rattle.rob_sets.specs.FirstWide.{IsFirstWide}
+use Rattle.rob_sets.specs.SetForm.{judged_set}
+use Rattle.rob_top.specs.Calls.{Call, Came, IsFirstAbsent, IsFound, IsSolving, Known, known_call, limit_of, model_of, requests}
+use Rattle.rob_top.specs.Headline.{HasCertificate, HasCertificateFile, HasForms, HasModel}
+use Rattle.rob_top.specs.Work.{ended_of, verdict_ended}
+use Rattle.rob_top.specs.declared.ended.Ended.{Ended}
+use Rattle.rob_top.specs.declared.ended.Ended.TheVariants.{Optimal, Infeasible, Unbounded, Printed, Accepted, Rejected, Words, Missing, TooLong, Model, EmptySet, TooWide, Cert, ReadFault, WriteFault, Memory}
+use Rattle.rob_words.specs.Commands.{Line, rows, IsCommandLine, IsSpelled}
+use Rattle.rob_words.specs.Values.{Word}
+
+-- ---- how a call may end
+
+-- a put was refused, or memory was
+abbrev pub IsUnput : Ended → Type 0
+IsUnput result = (result ≡ WriteFault) ⊎ (result ≡ Memory)
+
+-- the outside failed, or memory was refused
+abbrev pub IsOutside : Ended → Type 0
+IsOutside result = (result ≡ ReadFault) ⊎ IsUnput result
+
+-- the call ended so, or the outside failed, or memory was refused
+abbrev pub EndsAs : Ended → Ended → Type 0
+EndsAs ended result = (result ≡ ended) ⊎ IsOutside result
+
+-- an answer of `solve` and `prove`: a status that the model has; or an empty set, where no scenario is admitted; or a number on
+-- the path of the solution that is wide; or the outside failed, or memory was refused. No other is
+abbrev pub IsSolveAnswer : ℕ → RobustModel → Ended → Type 0
+IsSolveAnswer limit m Optimal = (v : Fraction) × HasStatus m optimal v
+IsSolveAnswer limit m Infeasible = (v : Fraction) × HasStatus m infeasible v
+IsSolveAnswer limit m Unbounded = (v : Fraction) × HasStatus m unbounded v
+IsSolveAnswer limit m (EmptySet weights) = IsEmptySet m
+IsSolveAnswer limit m (TooWide spot) = IsWideOnPath limit m spot
+IsSolveAnswer limit m ended = IsOutside ended
+
+-- one of them for an empty set: its weights show that it is empty, or a row of a basis on the path of the set's program is wide.
+-- So no status is answered, and no row of the counterpart is named
+abbrev pub IsEmptyAnswer : ℕ → RobustModel → Ended → Type 0
+IsEmptyAnswer limit m (EmptySet weights) = IsShownEmpty m (map of_int weights)
+IsEmptyAnswer limit m (TooWide (Dictionary program.Set basis i)) = IsWideOnPath limit m (Dictionary program.Set basis i)
+IsEmptyAnswer limit m ended = IsOutside ended
+
+-- an answer of `check` for a certificate that proves: accepted, or a number of the check is wide, which is named
+abbrev pub IsProvedAnswer : ℕ → RobustModel → Certificate → Ended → Type 0
+IsProvedAnswer limit m c Accepted = Unit {0}
+IsProvedAnswer limit m c (TooWide (Check place)) = verdict_of limit m c ≡ verdict.TooWide place
+IsProvedAnswer limit m c ended = IsOutside ended
+
+-- ---- how a call must end, by its words and by what is found of its files
+
+module _ (call : Call) (result : Ended) where
+  pub record MustEnd : Type 0 where
+    -- words that are no command line are refused, and no file is read
+    pub words : (IsCommandLine call.words → ⊥) → (result ≡ Words) ⊎ IsUnput result
+    -- the first file that doesn't come isn't there: it is missing
+    pub missing : (name : Word) → IsFirstAbsent call missing name → EndsAs Missing result
+    -- or it is longer than it may be: it is too long
+    pub too_long : (name : Word) → IsFirstAbsent call too_long name → EndsAs TooLong result
+    -- all files come, and the model's text breaks a rule: that rule and its line are named
+    pub model : (line : Line) (bytes : List ℕ) (rule number : ℕ) → IsSpelled call.words line
+        → Each (Came call) (requests line.action) → IsFound call (model_of line.action) (whole bytes)
+        → Breaks (limit_of line) bytes rule number → EndsAs (Model rule number) result
+    -- it reads as a model, and a number of its set rows and forms is wide: the first such number is named, whatever the command
+    pub wide : (line : Line) (m : RobustModel) (spot : Spot) → HasModel call line m
+        → IsFirstWide (limit_of line) m (judged_set m ++ judged_forms m) spot → EndsAs (TooWide spot) result
+
+    -- no such number is wide. `rows`: they are printed
+    pub rows : (line : Line) (m : RobustModel) (name : Word) → HasForms call line m → line.action ≡ rows name
+        → EndsAs Printed result
+    -- `solve` and `prove`: a status that the model has, or an empty set, or a wide number on the path
+    pub solving : (line : Line) (m : RobustModel) → HasForms call line m → IsSolving line.action
+        → IsSolveAnswer (limit_of line) m result
+    -- no scenario is admitted: the empty set is shown, or a row of the set's program is wide
+    pub empty : (line : Line) (m : RobustModel) → HasForms call line m → IsSolving line.action → IsEmptySet m
+        → IsEmptyAnswer (limit_of line) m result
+    -- some scenario is admitted, and no number on the path is wide: the status is the model's
+    pub status : (line : Line) (m : RobustModel) (status : Status) (v : Fraction) (u : List Fraction) → HasForms call line m
+        → IsSolving line.action → HasStatus m status v → Admits m u
+        → ((spot : Spot) → IsWideOnPath (limit_of line) m spot → ⊥) → EndsAs (ended_of status) result
+
+    -- `check`, the certificate's text breaks a rule: that rule and its line are named
+    pub broken : (line : Line) (m : RobustModel) (bytes : List ℕ) (rule number : ℕ) → HasCertificateFile call line m bytes
+        → HasCause (naming_of m) (limit_of line) start bytes 1 (Rule rule number) → EndsAs (Cert rule number) result
+    -- it is the text of a certificate: the answer is the verdict on it
+    pub verdict : (line : Line) (m : RobustModel) (c : Certificate) → HasCertificate call line m c
+        → EndsAs (verdict_ended (verdict_of (limit_of line) m c)) result
+    -- which proves: it is accepted, or a number of the check is wide
+    pub proved : (line : Line) (m : RobustModel) (c : Certificate) → HasCertificate call line m c → Proves m c
+        → IsProvedAnswer (limit_of line) m c result
+    -- and no number of the check is wide: it is accepted
+    pub accepted : (line : Line) (m : RobustModel) (c : Certificate) → HasCertificate call line m c
+        → NoneWide (limit_of line) m c → Proves m c → EndsAs Accepted result
+    -- which doesn't prove, and no number of the check is wide: it is rejected, at the first place whose condition fails
+    pub rejected : (line : Line) (m : RobustModel) (c : Certificate) → HasCertificate call line m c
+        → NoneWide (limit_of line) m c → (Proves m c → ⊥)
+        → (place : Place) × IsFirstFailing (limit_of line) m c place × EndsAs (Rejected place) result
+
+-- the call ends so by each part of what is known of its files: the files that the shelf tells, where it tells them, or the
+-- answers of the fetches in the call, which every shelf gives
+abbrev pub IsComplete : Call → Ended → Type 0
+IsComplete call result = (known : Known call.source) → MustEnd (known_call call known) result
