@@ -1,5 +1,6 @@
 pub mod AnswerLemmas
 pub mod CallLemmas
+pub mod CanonicalReading
 pub mod CertificateNameLemmas
 pub mod CompletenessLemmas
 pub mod CheckingLemmas
@@ -14,3 +15,5 @@ pub mod StageLemmas
 pub mod TrueAnswerLemmas
 pub mod WorkLemmas
 pub mod KnownLemmas
+pub mod NarrowForms
+pub mod WorkedCalls

@@ -2,8 +2,8 @@
 use Rattle.std.proofs.Common.{◌≡◌, ℕ, ℤ, List, [], ◌∷◌, ◌++◌, Option, Some, IfSome, refl, sym, ◌∙◌, ap, subst, inl, inr, ◌⊎◌}
 use Rattle.rob_meaning.specs.Places.{Each}
 use Rattle.rob_algebra.specs.Fraction.{Fraction}
-use Rattle.rob_meaning.specs.Certificates.{Certificate, Status, optimal, infeasible, unbounded}
-use Rattle.rob_meaning.specs.Proves.{HasStatus, ProvesAs}
+use Rattle.rob_meaning.specs.Certificates.{Status, optimal, infeasible, unbounded}
+use Rattle.rob_meaning.specs.Proves.{HasStatus}
 use Rattle.rob_meaning.specs.RobustModel.{RobustModel}
 use Rattle.rob_meaning.specs.UncertaintySet.{Admits}
 use Rattle.rob_meaning.proofs.StatusLemmas.{optimal_not_infeasible, optimal_not_unbounded, infeasible_not_unbounded}
@@ -20,7 +20,7 @@ use Rattle.rob_top.specs.Headline.{HasModel, IsNoModel, IsSolved, IsWideSpot, Me
 use Rattle.rob_top.specs.Work.{ended_of}
 use Rattle.rob_top.specs.declared.ended.Ended.{Ended}
 use Rattle.rob_top.specs.declared.ended.Ended.TheVariants.{Optimal, Infeasible, Unbounded, Printed, Accepted, Rejected, Words, Missing, TooLong, Model, EmptySet, TooWide, Cert, ReadFault, WriteFault, Memory}
-use Rattle.rob_words.specs.Commands.{Action, Line, rows, solve, prove, check, IsCommandLine, IsSpelled}
+use Rattle.rob_words.specs.Commands.{Line, IsCommandLine, IsSpelled}
 use Rattle.rob_words.specs.Values.{Word}
 use Rattle.rob_words.proofs.Spellings.{one_line}
 

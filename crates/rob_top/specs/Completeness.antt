@@ -86,7 +86,6 @@ module _ (call : Call) (result : Ended) where
     -- it reads as a model, and a number of its set rows and forms is wide: the first such number is named, whatever the command
     pub wide : (line : Line) (m : RobustModel) (spot : Spot) → HasModel call line m
         → IsFirstWide (limit_of line) m (judged_set m ++ judged_forms m) spot → EndsAs (TooWide spot) result
-
     -- no such number is wide. `rows`: they are printed
     pub rows : (line : Line) (m : RobustModel) (name : Word) → HasForms call line m → line.action ≡ rows name
         → EndsAs Printed result
@@ -100,7 +99,6 @@ module _ (call : Call) (result : Ended) where
     pub status : (line : Line) (m : RobustModel) (status : Status) (v : Fraction) (u : List Fraction) → HasForms call line m
         → IsSolving line.action → HasStatus m status v → Admits m u
         → ((spot : Spot) → IsWideOnPath (limit_of line) m spot → ⊥) → EndsAs (ended_of status) result
-
     -- `check`, the certificate's text breaks a rule: that rule and its line are named
     pub broken : (line : Line) (m : RobustModel) (bytes : List ℕ) (rule number : ℕ) → HasCertificateFile call line m bytes
         → HasCause (naming_of m) (limit_of line) start bytes 1 (Rule rule number) → EndsAs (Cert rule number) result

@@ -2,6 +2,7 @@
 
 ghost use Rattle.std.specs.Prelude.{◌≡◌, ◌≤◌, None, map, string_bytes};
 ghost use Rattle.rob_top.specs.Calls.{Fetches, call_of, count, output_of, source_of};
+ghost use Rattle.rob_top.specs.Completeness.{IsComplete};
 ghost use Rattle.rob_top.specs.Headline.{Ends};
 
 use crate::ended::Ended;
@@ -25,6 +26,11 @@ pub fn run_here<R: Files, P: Print, L: Ledger>(
         (call_of (map string_bytes words.now) (source_of None shelf.old.log shelf.new.log)
         (count shelf.old.faults shelf.new.faults) (count (L.wides ledger.old) (L.wides ledger.new)))
         (output_of out.old.taken out.new.taken out.old.puts out.new.puts (count out.old.faults out.new.faults))
+        result }
+    // Which answer has to come.
+    ensures complete { IsComplete
+        (call_of (map string_bytes words.now) (source_of None shelf.old.log shelf.new.log)
+        (count shelf.old.faults shelf.new.faults) (count (L.wides ledger.old) (L.wides ledger.new)))
         result }
     // The files are asked for in the order of the words, each once, and none behind the one that decided.
     ensures fetched { Fetches (map string_bytes words.now) shelf.old.log shelf.new.log }

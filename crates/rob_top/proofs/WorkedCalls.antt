@@ -1,0 +1,241 @@
+-- Calls worked by hand: what their words and files say, and so how they must end. So what is asked of a call where a status has
+-- to be answered, or an empty set, is met by some call.
+use Rattle.std.proofs.Common.{arith, refl, inl, inr}
+use Rattle.std.proofs.lemmas.Bool.{leb-true}
+use Rattle.std.specs.Fmt.{digits}
+use Rattle.std.specs.Prelude.{◌≡◌, ◌≢◌, ℕ, ◌<◌, ◌≤◌, ◌-◌, ◌^◌, leb, nat_abs, true, List, [], ◌∷◌, ◌++◌, length, Some, None, codes}
+use Rattle.rob_algebra.specs.Fraction.{Fraction, ratio}
+use Rattle.rob_algebra.specs.Width.{Fits}
+use Rattle.rob_dualize.specs.Solving.{IsWideSpot as IsWideOnPath}
+use Rattle.rob_elab.specs.Forms.{judged_forms}
+use Rattle.rob_meaning.proofs.EmptyLemmas.{shows_empty}
+use Rattle.rob_meaning.proofs.WorkedNotation.{best, cover, int, item, row, uncertain, var}
+use Rattle.rob_meaning.proofs.WorkedTests.{Found, found, test_admits, test_certificate, test_differ, test_empty, test_model}
+use Rattle.rob_meaning.specs.Certificates.{Certificate, optimal}
+use Rattle.rob_meaning.specs.Expressions.{parameter, variable}
+use Rattle.rob_meaning.specs.Named.{IsFree, IsNamed, IsPlain, declared_names}
+use Rattle.rob_meaning.specs.Names.{Name}
+use Rattle.rob_meaning.specs.Places.{1ℚ, Each}
+use Rattle.rob_meaning.specs.Proves.{HasStatus}
+use Rattle.rob_meaning.specs.RobustModel.{RobustModel, at_least, minimise}
+use Rattle.rob_meaning.specs.UncertaintySet.{Admits, IsEmptySet}
+use Rattle.rob_meaning.specs.WellFormed.{IsModel}
+use Rattle.rob_model.specs.declared.place.Spot.{Spot}
+use Rattle.rob_outside.specs.Files.{file_of, found_at, whole}
+use Rattle.rob_parse.proofs.CountLemmas.{rule_columns}
+use Rattle.rob_parse.specs.Canonical.{model_text, naming_of}
+use Rattle.rob_parse.specs.Modelled.{ReadsModel}
+use Rattle.rob_lex.specs.Bytes.{begins_word}
+use Rattle.rob_parse.specs.Symbols.{keyword_among, keywords}
+use Rattle.rob_parse.specs.Readable.{IsReadableModel, IsSpelled as IsSpelledName}
+use Rattle.rob_sets.specs.FirstWide.{NothingWide}
+use Rattle.rob_sets.specs.SetForm.{judged_set}
+use Rattle.rob_top.proofs.CanonicalReading.{canonical_reads}
+use Rattle.rob_top.proofs.NarrowForms.{all_narrow, difference_narrow, greatest}
+use Rattle.rob_top.specs.Calls.{Call, Source, call_of, count}
+use Rattle.rob_top.specs.Completeness.{EndsAs, IsEmptyAnswer, MustEnd}
+use Rattle.rob_top.specs.Headline.{HasForms}
+use Rattle.rob_top.specs.declared.ended.Ended.{Ended}
+use Rattle.rob_top.specs.declared.ended.Ended.TheVariants.{Optimal}
+use Rattle.rob_words.specs.Commands.{Line, own, solve, IsSpelled}
+use Rattle.rob_words.specs.Values.{Word}
+use Rattle.rob_words.specs.declared.route.Route.TheVariants.{Dual}
+use Rattle.rob_words.specs.declared.width.Width.TheVariants.{SixtyTwo}
+
+-- ---- solve one.rob, where the shelf tells a file of that name with the canonical text of a model
+abbrev name : Word
+name = codes "one.rob"
+
+abbrev line : Line
+line = record { action = solve name Dual; width = SixtyTwo }
+
+abbrev call_on : RobustModel → Call
+call_on m =
+    call_of (codes "solve" ∷ name ∷ []) (record { told = Some (file_of name (model_text m) ∷ []); came = None }) (count 0 0) (count 0 0)
+
+line_spelled : IsSpelled (codes "solve" ∷ name ∷ []) line
+line_spelled = (
+  own name ∷ [],
+  record { spelled = refl; files = refl; names = ((λ e. cc), tt); width = inr (refl, refl); route = inr (refl, refl) },
+)
+
+fits_by : (q : Fraction) → leb (nat_abs q.num) greatest ≡ true → leb q.den greatest ≡ true → Fits greatest q
+fits_by q e f = record { num_fits = leb-true (nat_abs q.num) greatest e; den_fits = leb-true q.den greatest f }
+
+-- the model's file comes whole
+abbrev Comes : RobustModel → Type 0
+Comes m = found_at name 65536 (file_of name (model_text m) ∷ []) ≡ whole (model_text m)
+
+forms_on : (m : RobustModel) → Comes m → ReadsModel greatest (model_text m) m → NothingWide greatest m (judged_set m ++ judged_forms m)
+    → HasForms (call_on m) line m
+forms_on m comes reads narrow = record {
+  model = record {
+    spelled = line_spelled;
+    came = ((model_text m, (comes, tt)), tt);
+    bytes = model_text m;
+    found = (comes, tt);
+    reads = reads;
+  };
+  none_wide = narrow;
+}
+
+-- a name of one letter
+letter : (b : ℕ) → begins_word b ≡ true → keyword_among keywords (b ∷ []) ≡ None → IsSpelledName (b ∷ [])
+letter b word no_keyword = record { is_word = (word, tt); no_keyword = no_keyword; is_short = omega arith }
+
+differ : (a b : Name) → Found (test_differ a b) → a ≢ b
+differ a b h = found (test_differ a b) h
+
+free : (a : Name) → Found (test_differ a (codes "objective")) → Found (test_differ a (codes "tau")) → Found (test_differ a (codes "set"))
+    → Found (test_differ a (codes "budget")) → IsFree a
+free a objective tau set budget =
+    (differ a (codes "objective") objective, differ a (codes "tau") tau, differ a (codes "set") set, differ a (codes "budget") budget)
+
+-- ---- minimise x, where x >= d for each d in [8, 12]
+abbrev one_demand : RobustModel
+one_demand = record {
+  parameters = uncertain (codes "d") (Some (int 8)) (Some (int 12)) ∷ [];
+  set_lines = [];
+  variables = var (codes "x") None None ∷ [];
+  adaptives = [];
+  sense = minimise;
+  objective = variable 0;
+  rows = row (codes "r") (variable 0) at_least (parameter 0) ∷ [];
+}
+
+one_demand_model : IsModel one_demand
+one_demand_model = found (test_model one_demand) tt
+
+one_demand_admitted : Admits one_demand (int 8 ∷ [])
+unfolding ratio
+one_demand_admitted = found (test_admits one_demand (int 8 ∷ [])) tt
+
+-- x = 12: the objective x - tau <= 0 and the row at d = 12, 12 - x <= 0, sum to 12 - tau <= 0
+abbrev order_12 : Certificate
+order_12 =
+    best (int 12) (int 8 ∷ []) (int 12 ∷ []) (cover 1 1 1ℚ ∷ [])
+    (item 0 1ℚ (int 12 ∷ []) ∷ item 1 1ℚ (int 12 ∷ []) ∷ [])
+
+one_demand_costs_12 : HasStatus one_demand optimal (int 12)
+unfolding ratio
+one_demand_costs_12 = found (test_certificate one_demand order_12) tt
+
+one_demand_spelled : Each IsSpelledName (declared_names one_demand)
+one_demand_spelled = (letter 100 refl refl, (letter 114 refl refl, (letter 120 refl refl, tt)))
+
+one_demand_named : IsNamed one_demand
+one_demand_named = record {
+  plain = (((λ e. cc), tt), (((λ e. cc), tt), (((λ e. cc), tt), tt)));
+  free = (free (codes "d") tt tt tt tt, (free (codes "r") tt tt tt tt, (free (codes "x") tt tt tt tt, tt)));
+  distinct = ((differ (codes "d") (codes "r") tt, (differ (codes "d") (codes "x") tt, tt)), ((differ (codes "r") (codes "x") tt, tt), (tt, tt)));
+  lists = tt;
+  members = tt;
+  few = omega arith;
+}
+
+one_demand_readable : IsReadableModel greatest (naming_of one_demand) one_demand
+unfolding ratio
+one_demand_readable = record {
+  parameters = ((fits_by (int 8) refl refl, fits_by (int 12) refl refl), tt);
+  set_lines = tt;
+  variables = ((tt, tt), tt);
+  adaptives = tt;
+  objective = omega arith;
+  rows = ((omega arith, omega arith), tt);
+}
+
+one_demand_reads : ReadsModel greatest (model_text one_demand) one_demand
+unfolding ratio rule_columns
+one_demand_reads =
+    canonical_reads greatest (omega arith) (omega arith) one_demand one_demand_spelled one_demand_named one_demand_readable one_demand_model
+    ((tt, (tt, (tt, (tt, (tt, (tt, (tt, (tt, tt)))))))), ((tt, (tt, tt)), ((tt, (tt, tt)), ((tt, (tt, (tt, (tt, (tt, (tt, tt)))))), tt)))) (leb-true _ _ refl) refl
+
+one_demand_narrow : NothingWide greatest one_demand (judged_set one_demand ++ judged_forms one_demand)
+unfolding ratio
+one_demand_narrow =
+    all_narrow one_demand (judged_set one_demand ++ judged_forms one_demand) (
+      tt,
+      (
+        tt,
+        (
+          difference_narrow one_demand (variable 0) 0 1 (λ k j. refl) (variable 1) 0 2 (λ k j. refl),
+          (
+            tt,
+            (difference_narrow one_demand (parameter 0) 1 0 (λ k j. refl) (variable 0) 0 1 (λ k j. refl), (tt, tt)),
+          ),
+        ),
+      ),
+    )
+
+one_demand_comes : Comes one_demand
+unfolding ratio digits
+one_demand_comes = refl
+
+one_demand_forms : HasForms (call_on one_demand) line one_demand
+one_demand_forms = forms_on one_demand one_demand_comes one_demand_reads one_demand_narrow
+
+-- where no row is wide, this call has to answer `optimal`
+one_demand_is_solved : ((spot : Spot) → IsWideOnPath greatest one_demand spot → ⊥) → (result : Ended)
+    → MustEnd (call_on one_demand) result → EndsAs Optimal result
+one_demand_is_solved narrow result must =
+    must.status line one_demand optimal (int 12) (int 8 ∷ []) one_demand_forms tt one_demand_costs_12 one_demand_admitted narrow
+
+-- ---- minimise x, where d lies in [12, 8], so no scenario is admitted
+abbrev empty_interval : RobustModel
+empty_interval = record one_demand { parameters = uncertain (codes "d") (Some (int 12)) (Some (int 8)) ∷ []; rows = [] }
+
+empty_interval_model : IsModel empty_interval
+empty_interval_model = found (test_model empty_interval) tt
+
+-- -d <= -12 and d <= 8 sum to 0 <= -4
+empty_interval_admits_none : IsEmptySet empty_interval
+unfolding ratio
+empty_interval_admits_none =
+    shows_empty empty_interval empty_interval_model (1ℚ ∷ 1ℚ ∷ []) (found (test_empty empty_interval (1ℚ ∷ 1ℚ ∷ [])) tt)
+
+empty_interval_spelled : Each IsSpelledName (declared_names empty_interval)
+empty_interval_spelled = (letter 100 refl refl, (letter 120 refl refl, tt))
+
+empty_interval_named : IsNamed empty_interval
+empty_interval_named = record {
+  plain = (((λ e. cc), tt), (((λ e. cc), tt), tt));
+  free = (free (codes "d") tt tt tt tt, (free (codes "x") tt tt tt tt, tt));
+  distinct = ((differ (codes "d") (codes "x") tt, tt), (tt, tt));
+  lists = tt;
+  members = tt;
+  few = omega arith;
+}
+
+empty_interval_readable : IsReadableModel greatest (naming_of empty_interval) empty_interval
+unfolding ratio
+empty_interval_readable = record {
+  parameters = ((fits_by (int 12) refl refl, fits_by (int 8) refl refl), tt);
+  set_lines = tt;
+  variables = ((tt, tt), tt);
+  adaptives = tt;
+  objective = omega arith;
+  rows = tt;
+}
+
+empty_interval_reads : ReadsModel greatest (model_text empty_interval) empty_interval
+unfolding ratio rule_columns
+empty_interval_reads =
+    canonical_reads greatest (omega arith) (omega arith) empty_interval empty_interval_spelled empty_interval_named empty_interval_readable empty_interval_model
+    ((tt, (tt, (tt, (tt, (tt, (tt, (tt, (tt, tt)))))))), ((tt, (tt, tt)), ((tt, (tt, tt)), tt))) (leb-true _ _ refl) refl
+
+empty_interval_narrow : NothingWide greatest empty_interval (judged_set empty_interval ++ judged_forms empty_interval)
+unfolding ratio
+empty_interval_narrow =
+    all_narrow empty_interval (judged_set empty_interval ++ judged_forms empty_interval)
+    (tt, (tt, (difference_narrow empty_interval (variable 0) 0 1 (λ k j. refl) (variable 1) 0 2 (λ k j. refl), (tt, tt))))
+
+empty_interval_comes : Comes empty_interval
+unfolding ratio digits
+empty_interval_comes = refl
+
+empty_interval_forms : HasForms (call_on empty_interval) line empty_interval
+empty_interval_forms = forms_on empty_interval empty_interval_comes empty_interval_reads empty_interval_narrow
+
+-- this call has to answer that the set is empty, or name a row of the set's program
+empty_interval_is_shown : (result : Ended) → MustEnd (call_on empty_interval) result → IsEmptyAnswer greatest empty_interval result
+empty_interval_is_shown result must = must.empty line empty_interval empty_interval_forms tt empty_interval_admits_none
