@@ -63,6 +63,8 @@ fn a_budget_of_one(rt: HostRuntime) -> Result<(), Fail> {
     let alloc = rt.alloc();
     let mut ledger = Tally::new();
     let model: Model<Frac<62>> = demand(alloc)?;
+    assert_eq!(rt; model.params.items().len(), 2);
+    assert_eq!(rt; model.adaptives.items().len(), 1);
     // |12 - 10| / 2 + |10 - 10| / 2 = 1, and |12 - 10| / 2 + |11 - 10| / 2 = 3/2
     let inside = Scenario {
         values: numbers(alloc, &[12, 10])?,
@@ -124,6 +126,7 @@ fn wide_at_eight_bits(rt: HostRuntime) -> Result<(), Fail> {
     let alloc = rt.alloc();
     let mut ledger = Tally::new();
     let model: Model<Frac<8>> = demand(alloc)?;
+    assert_eq!(rt; model.adaptives.items().len(), 1);
     let inside = Scenario {
         values: numbers(alloc, &[12, 10])?,
     };

@@ -6,8 +6,9 @@ ghost use Rattle.rob_meaning.specs.Named.{IsNamed};
 ghost use Rattle.rob_model.specs.Valid.{IsValid};
 ghost use Rattle.rob_model.specs.View.{robust};
 
-use rob_model::{Adaptive, Expr, Member, Model, Param, Rel, RowDef, Sense, SetLine, Var};
-use rob_number::{Exact, List, Tally, Text};
+use rob_model::Model;
+use rob_number::{Exact, List, Tally};
+use rob_parse::read_model;
 use std::alloc::Global;
 use std::test::Fail;
 
@@ -29,83 +30,16 @@ pub fn numbers<N: Exact>(alloc: Global, nums: &[i64]) -> Result<List<N>, Fail>
     Ok(list)
 }
 
-/// A text of these bytes.
-pub fn text(alloc: Global, bytes: &[u8]) -> Result<Text, Fail>
-    ensures text { IfOk result (λ text. text ≡ bytes.now) }
-{
-    let mut text = Text::new(alloc);
-    text.push(bytes)?;
-    Ok(text)
-}
+/// The text of a small model.
+const DEMAND: &[u8] =
+    b"uncertain d1 in [8, 12]\nuncertain d2 in [8, 12]\nbudget 1: d1 at 10 by 2, d2 at 10 by 2\n\
+    var x >= 0\nadaptive y(d1)\nminimise x\nrow need: x >= d1\n";
 
-/// d1 and d2 in [8, 12], each at 10 by 2 in a budget of 1; x at least 0; y over d1; x is minimised; x is at least d1.
+/// d1 and d2 in [8, 12], each at 10 by 2 in a budget of 1; x at least 0; y over d1; x is minimised; x is at least d1. The model
+/// is read from its text, so that it is valid and well named.
 pub fn demand<N: Exact>(alloc: Global) -> Result<Model<N>, Fail>
     ensures valid { IfOk result (λ m. IsValid N.value m) }
     ensures named { IfOk result (λ m. IsNamed (robust N.value m)) }
-    ensures params { IfOk result (λ m. length m.params ≡ 2) }
-    ensures vars { IfOk result (λ m. length m.vars ≡ 1) }
-    ensures adaptives { IfOk result (λ m. length m.adaptives ≡ 1) }
 {
-    let eight = number(8)?;
-    let twelve = number(12)?;
-    let ten = number(10)?;
-    let two = number(2)?;
-    let mut params = List::new(alloc);
-    params.push(Param {
-        name: text(alloc, b"d1")?,
-        lower: Some(eight),
-        upper: Some(twelve),
-    })?;
-    params.push(Param {
-        name: text(alloc, b"d2")?,
-        lower: Some(eight),
-        upper: Some(twelve),
-    })?;
-    let mut members = List::new(alloc);
-    members.push(Member {
-        param: 0,
-        centre: ten,
-        deviation: two,
-    })?;
-    members.push(Member {
-        param: 1,
-        centre: ten,
-        deviation: two,
-    })?;
-    let mut set_lines = List::new(alloc);
-    set_lines.push(SetLine::Budget {
-        limit: number(1)?,
-        members,
-    })?;
-    let mut vars = List::new(alloc);
-    vars.push(Var {
-        name: text(alloc, b"x")?,
-        lower: Some(number(0)?),
-        upper: None,
-    })?;
-    let mut on = List::new(alloc);
-    on.push(0)?;
-    let mut adaptives = List::new(alloc);
-    adaptives.push(Adaptive {
-        name: text(alloc, b"y")?,
-        on,
-        lower: None,
-        upper: None,
-    })?;
-    let mut rows = List::new(alloc);
-    rows.push(RowDef {
-        name: text(alloc, b"need")?,
-        left: Expr::Var(0),
-        rel: Rel::AtLeast,
-        right: Expr::Param(0),
-    })?;
-    Ok(Model {
-        params,
-        set_lines,
-        vars,
-        adaptives,
-        sense: Sense::Minimise,
-        objective: Expr::Var(0),
-        rows,
-    })
+    Ok(read_model(alloc, DEMAND, &mut Tally::new())?)
 }
