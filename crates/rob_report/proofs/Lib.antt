@@ -4,4 +4,5 @@ mod LabelLemmas
 mod ReportLemmas
 mod TermLemmas
 mod ColumnLemmas
+mod PlaceAnswers
 pub mod SpotLemmas
