@@ -17,3 +17,4 @@ pub mod WorkLemmas
 pub mod KnownLemmas
 pub mod NarrowForms
 pub mod WorkedCalls
+pub mod WorkedChecks

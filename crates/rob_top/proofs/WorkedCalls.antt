@@ -43,7 +43,7 @@ use Rattle.rob_words.specs.declared.route.Route.TheVariants.{Dual}
 use Rattle.rob_words.specs.declared.width.Width.TheVariants.{SixtyTwo}
 
 -- ---- solve one.rob, where the shelf tells a file of that name with the canonical text of a model
-abbrev name : Word
+abbrev pub name : Word
 name = codes "one.rob"
 
 abbrev line : Line
@@ -59,7 +59,7 @@ line_spelled = (
   record { spelled = refl; files = refl; names = ((λ e. cc), tt); width = inr (refl, refl); route = inr (refl, refl) },
 )
 
-fits_by : (q : Fraction) → leb (nat_abs q.num) greatest ≡ true → leb q.den greatest ≡ true → Fits greatest q
+pub fits_by : (q : Fraction) → leb (nat_abs q.num) greatest ≡ true → leb q.den greatest ≡ true → Fits greatest q
 fits_by q e f = record { num_fits = leb-true (nat_abs q.num) greatest e; den_fits = leb-true q.den greatest f }
 
 -- the model's file comes whole
@@ -92,7 +92,7 @@ free a objective tau set budget =
     (differ a (codes "objective") objective, differ a (codes "tau") tau, differ a (codes "set") set, differ a (codes "budget") budget)
 
 -- ---- minimise x, where x >= d for each d in [8, 12]
-abbrev one_demand : RobustModel
+abbrev pub one_demand : RobustModel
 one_demand = record {
   parameters = uncertain (codes "d") (Some (int 8)) (Some (int 12)) ∷ [];
   set_lines = [];
@@ -103,7 +103,7 @@ one_demand = record {
   rows = row (codes "r") (variable 0) at_least (parameter 0) ∷ [];
 }
 
-one_demand_model : IsModel one_demand
+pub one_demand_model : IsModel one_demand
 one_demand_model = found (test_model one_demand) tt
 
 one_demand_admitted : Admits one_demand (int 8 ∷ [])
@@ -111,7 +111,7 @@ unfolding ratio
 one_demand_admitted = found (test_admits one_demand (int 8 ∷ [])) tt
 
 -- x = 12: the objective x - tau <= 0 and the row at d = 12, 12 - x <= 0, sum to 12 - tau <= 0
-abbrev order_12 : Certificate
+abbrev pub order_12 : Certificate
 order_12 =
     best (int 12) (int 8 ∷ []) (int 12 ∷ []) (cover 1 1 1ℚ ∷ [])
     (item 0 1ℚ (int 12 ∷ []) ∷ item 1 1ℚ (int 12 ∷ []) ∷ [])
@@ -144,13 +144,13 @@ one_demand_readable = record {
   rows = ((omega arith, omega arith), tt);
 }
 
-one_demand_reads : ReadsModel greatest (model_text one_demand) one_demand
+pub one_demand_reads : ReadsModel greatest (model_text one_demand) one_demand
 unfolding ratio rule_columns
 one_demand_reads =
     canonical_reads greatest (omega arith) (omega arith) one_demand one_demand_spelled one_demand_named one_demand_readable one_demand_model
     ((tt, (tt, (tt, (tt, (tt, (tt, (tt, (tt, tt)))))))), ((tt, (tt, tt)), ((tt, (tt, tt)), ((tt, (tt, (tt, (tt, (tt, (tt, tt)))))), tt)))) (leb-true _ _ refl) refl
 
-one_demand_narrow : NothingWide greatest one_demand (judged_set one_demand ++ judged_forms one_demand)
+pub one_demand_narrow : NothingWide greatest one_demand (judged_set one_demand ++ judged_forms one_demand)
 unfolding ratio
 one_demand_narrow =
     all_narrow one_demand (judged_set one_demand ++ judged_forms one_demand) (

@@ -73,45 +73,45 @@ IsProvedAnswer limit m c ended = IsOutside ended
 
 module _ (call : Call) (result : Ended) where
   pub record MustEnd : Type 0 where
-    -- words that are no command line are refused, and no file is read
+    -- words: they are no command line, and no read fault comes in the place of that answer
     pub words : (IsCommandLine call.words → ⊥) → (result ≡ Words) ⊎ IsUnput result
-    -- the first file that doesn't come isn't there: it is missing
+    -- files: the first that doesn't come isn't there
     pub missing : (name : Word) → IsFirstAbsent call missing name → EndsAs Missing result
-    -- or it is longer than it may be: it is too long
+    -- or it is longer than it may be
     pub too_long : (name : Word) → IsFirstAbsent call too_long name → EndsAs TooLong result
-    -- all files come, and the model's text breaks a rule: that rule and its line are named
+    -- the model's text: all files come, and it breaks a rule, so that rule and its line are named
     pub model : (line : Line) (bytes : List ℕ) (rule number : ℕ) → IsSpelled call.words line
         → Each (Came call) (requests line.action) → IsFound call (model_of line.action) (whole bytes)
         → Breaks (limit_of line) bytes rule number → EndsAs (Model rule number) result
-    -- it reads as a model, and a number of its set rows and forms is wide: the first such number is named, whatever the command
+    -- set rows and forms: a number of them is wide, so the first such number is named, whatever the command
     pub wide : (line : Line) (m : RobustModel) (spot : Spot) → HasModel call line m
         → IsFirstWide (limit_of line) m (judged_set m ++ judged_forms m) spot → EndsAs (TooWide spot) result
-    -- no such number is wide. `rows`: they are printed
+    -- no number of them is wide, and the command is `rows`, so they are printed
     pub rows : (line : Line) (m : RobustModel) (name : Word) → HasForms call line m → line.action ≡ rows name
         → EndsAs Printed result
-    -- `solve` and `prove`: a status that the model has, or an empty set, or a wide number on the path
+    -- `solve` and `prove`: the answer is a status that the model has, or an empty set, or a wide number on the path
     pub solving : (line : Line) (m : RobustModel) → HasForms call line m → IsSolving line.action
         → IsSolveAnswer (limit_of line) m result
-    -- no scenario is admitted: the empty set is shown, or a row of the set's program is wide
+    -- no scenario is admitted, so it is that, with the weights that show it, or a row of the set's program is wide
     pub empty : (line : Line) (m : RobustModel) → HasForms call line m → IsSolving line.action → IsEmptySet m
         → IsEmptyAnswer (limit_of line) m result
-    -- some scenario is admitted, and no number on the path is wide: the status is the model's
+    -- some scenario is admitted, and no number on the path is wide, so it is the model's status
     pub status : (line : Line) (m : RobustModel) (status : Status) (v : Fraction) (u : List Fraction) → HasForms call line m
         → IsSolving line.action → HasStatus m status v → Admits m u
         → ((spot : Spot) → IsWideOnPath (limit_of line) m spot → ⊥) → EndsAs (ended_of status) result
-    -- `check`, the certificate's text breaks a rule: that rule and its line are named
+    -- `check`: the certificate's text breaks a rule, so that rule and its line are named
     pub broken : (line : Line) (m : RobustModel) (bytes : List ℕ) (rule number : ℕ) → HasCertificateFile call line m bytes
         → HasCause (naming_of m) (limit_of line) start bytes 1 (Rule rule number) → EndsAs (Cert rule number) result
-    -- it is the text of a certificate: the answer is the verdict on it
+    -- it is the text of a certificate, so the answer is the verdict on it
     pub verdict : (line : Line) (m : RobustModel) (c : Certificate) → HasCertificate call line m c
         → EndsAs (verdict_ended (verdict_of (limit_of line) m c)) result
-    -- which proves: it is accepted, or a number of the check is wide
+    -- the certificate proves, so it is accepted, or a number of the check is wide
     pub proved : (line : Line) (m : RobustModel) (c : Certificate) → HasCertificate call line m c → Proves m c
         → IsProvedAnswer (limit_of line) m c result
-    -- and no number of the check is wide: it is accepted
+    -- it proves, and no number of the check is wide, so it is accepted
     pub accepted : (line : Line) (m : RobustModel) (c : Certificate) → HasCertificate call line m c
         → NoneWide (limit_of line) m c → Proves m c → EndsAs Accepted result
-    -- which doesn't prove, and no number of the check is wide: it is rejected, at the first place whose condition fails
+    -- it doesn't prove, and no number of the check is wide, so it is rejected, at the first place whose condition fails
     pub rejected : (line : Line) (m : RobustModel) (c : Certificate) → HasCertificate call line m c
         → NoneWide (limit_of line) m c → (Proves m c → ⊥)
         → (place : Place) × IsFirstFailing (limit_of line) m c place × EndsAs (Rejected place) result
