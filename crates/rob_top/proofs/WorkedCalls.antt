@@ -1,9 +1,9 @@
 -- Calls worked by hand: what their words and files say, and so how they must end. So what is asked of a call where a status has
 -- to be answered, or an empty set, is met by some call.
-use Rattle.std.proofs.Common.{arith, refl, inl, inr}
+use Rattle.std.proofs.Common.{arith, refl, inr}
 use Rattle.std.proofs.lemmas.Bool.{leb-true}
 use Rattle.std.specs.Fmt.{digits}
-use Rattle.std.specs.Prelude.{◌≡◌, ◌≢◌, ℕ, ◌<◌, ◌≤◌, ◌-◌, ◌^◌, leb, nat_abs, true, List, [], ◌∷◌, ◌++◌, length, Some, None, codes}
+use Rattle.std.specs.Prelude.{◌≡◌, ◌≢◌, ℕ, leb, nat_abs, true, [], ◌∷◌, ◌++◌, Some, None, codes}
 use Rattle.rob_algebra.specs.Fraction.{Fraction, ratio}
 use Rattle.rob_algebra.specs.Width.{Fits}
 use Rattle.rob_dualize.specs.Solving.{IsWideSpot as IsWideOnPath}
@@ -13,7 +13,7 @@ use Rattle.rob_meaning.proofs.WorkedNotation.{best, cover, int, item, row, uncer
 use Rattle.rob_meaning.proofs.WorkedTests.{Found, found, test_admits, test_certificate, test_differ, test_empty, test_model}
 use Rattle.rob_meaning.specs.Certificates.{Certificate, optimal}
 use Rattle.rob_meaning.specs.Expressions.{parameter, variable}
-use Rattle.rob_meaning.specs.Named.{IsFree, IsNamed, IsPlain, declared_names}
+use Rattle.rob_meaning.specs.Named.{IsFree, IsNamed, declared_names}
 use Rattle.rob_meaning.specs.Names.{Name}
 use Rattle.rob_meaning.specs.Places.{1ℚ, Each}
 use Rattle.rob_meaning.specs.Proves.{HasStatus}
@@ -32,7 +32,7 @@ use Rattle.rob_sets.specs.FirstWide.{NothingWide}
 use Rattle.rob_sets.specs.SetForm.{judged_set}
 use Rattle.rob_top.proofs.CanonicalReading.{canonical_reads}
 use Rattle.rob_top.proofs.NarrowForms.{all_narrow, difference_narrow, greatest}
-use Rattle.rob_top.specs.Calls.{Call, Source, call_of, count}
+use Rattle.rob_top.specs.Calls.{Call, call_of, count}
 use Rattle.rob_top.specs.Completeness.{EndsAs, IsEmptyAnswer, MustEnd}
 use Rattle.rob_top.specs.Headline.{HasForms}
 use Rattle.rob_top.specs.declared.ended.Ended.{Ended}

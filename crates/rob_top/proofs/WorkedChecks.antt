@@ -1,8 +1,8 @@
 -- Checks worked by hand: a certificate that proves and one that doesn't, neither with a wide number on the way, and so how a call
 -- of `check` on them must end.
-use Rattle.std.proofs.Common.{arith, refl, subst, inl, inr}
+use Rattle.std.proofs.Common.{arith, refl, subst, inr}
 use Rattle.std.specs.Fmt.{digits}
-use Rattle.std.specs.Prelude.{◌≡◌, ◌≢◌, ℕ, true, false, Bool, Option, Some, None, List, [], ◌∷◌, codes}
+use Rattle.std.specs.Prelude.{◌≡◌, ◌≢◌, Bool, Option, Some, None, List, [], ◌∷◌, codes}
 use Rattle.rob_algebra.proofs.Parts.{one_not_zero}
 use Rattle.rob_algebra.specs.Fraction.{ratio}
 use Rattle.rob_cert.specs.Apart.{FitsLines}
@@ -14,8 +14,8 @@ use Rattle.rob_check.specs.Narrow.{IsFirstFailing, IsNarrow, NoneWide}
 use Rattle.rob_check.specs.Verdicts.{Condition, Judges}
 use Rattle.rob_check.specs.declared.verdict.Verdict.{Verdict}
 use Rattle.rob_check.specs.declared.verdict.Verdict.TheVariants as verdicts
-use Rattle.rob_meaning.proofs.WorkedNotation.{best, cover, int, item}
-use Rattle.rob_meaning.proofs.WorkedTests.{Found, found}
+use Rattle.rob_meaning.proofs.WorkedNotation.{int}
+use Rattle.rob_meaning.proofs.WorkedTests.{found}
 use Rattle.rob_meaning.specs.Certificates.{Certificate, optimal}
 use Rattle.rob_meaning.specs.Places.{1ℚ, Each}
 use Rattle.rob_meaning.specs.Proves.{Proves}
@@ -27,7 +27,7 @@ use Rattle.rob_top.proofs.NarrowForms.{greatest}
 use Rattle.rob_top.proofs.WorkedCalls.{fits_by, name, one_demand, one_demand_model, one_demand_narrow, one_demand_reads, order_12}
 use Rattle.rob_top.specs.Calls.{Call, call_of, count}
 use Rattle.rob_top.specs.Completeness.{EndsAs, MustEnd}
-use Rattle.rob_top.specs.Headline.{HasCertificate, HasForms}
+use Rattle.rob_top.specs.Headline.{HasCertificate}
 use Rattle.rob_top.specs.declared.ended.Ended.{Ended}
 use Rattle.rob_top.specs.declared.ended.Ended.TheVariants.{Accepted, Rejected}
 use Rattle.rob_words.specs.Commands.{Line, check, own, IsSpelled}
