@@ -13,9 +13,9 @@ use Rattle.rob_parse.specs.Pages.{IsLine, IsShallow, IsWritable, ended, words_on
 use Rattle.rob_parse.specs.Readable.{IsSpelled, IsReadableModel}
 use Rattle.rob_parse.specs.Reading.{Follows}
 use Rattle.rob_parse.specs.Scopes.{start}
-use Rattle.rob_parse.specs.Sizes.{is_within}
+use Rattle.rob_parse.specs.Sizes.{is_within, sizes_of}
 use Rattle.rob_parse.proofs.CanonicalScopes.{canonical_sorts}
-use Rattle.rob_parse.proofs.CanonicalSizes.{sizes_of, sizes_are}
+use Rattle.rob_parse.proofs.CanonicalSizes.{sizes_are}
 use Rattle.rob_parse.proofs.PageSymbols.{page_is_read}
 use Rattle.rob_parse.proofs.RoundTrip.{followed}
 use Rattle.rob_parse.proofs.WritableLines.{all_fine, all_declarable}

@@ -6,7 +6,8 @@ use Rattle.std.specs.Fmt.{digits}
 use Rattle.std.specs.Prelude.{◌≡◌, ◌≢◌, ℕ, leb, nat_abs, true, [], ◌∷◌, ◌++◌, Some, None, codes}
 use Rattle.rob_algebra.specs.Fraction.{Fraction, ratio}
 use Rattle.rob_algebra.specs.Width.{Fits}
-use Rattle.rob_dualize.specs.Solving.{IsWideSpot as IsWideOnPath}
+use Rattle.rob_dualize.proofs.NarrowModels.{one_demand_not_wide}
+use Rattle.rob_dualize.specs.SmallestModel.{one_demand}
 use Rattle.rob_elab.specs.Forms.{judged_forms}
 use Rattle.rob_meaning.proofs.EmptyLemmas.{shows_empty}
 use Rattle.rob_meaning.proofs.WorkedNotation.{best, cover, int, item, row, uncertain, var}
@@ -20,7 +21,6 @@ use Rattle.rob_meaning.specs.Proves.{HasStatus}
 use Rattle.rob_meaning.specs.RobustModel.{RobustModel, at_least, minimise}
 use Rattle.rob_meaning.specs.UncertaintySet.{Admits, IsEmptySet}
 use Rattle.rob_meaning.specs.WellFormed.{IsModel}
-use Rattle.rob_model.specs.declared.place.Spot.{Spot}
 use Rattle.rob_outside.specs.Files.{file_of, found_at, whole}
 use Rattle.rob_parse.proofs.CountLemmas.{rule_columns}
 use Rattle.rob_parse.specs.Canonical.{model_text, naming_of}
@@ -31,10 +31,10 @@ use Rattle.rob_parse.specs.Readable.{IsReadableModel, IsSpelled as IsSpelledName
 use Rattle.rob_sets.specs.FirstWide.{NothingWide}
 use Rattle.rob_sets.specs.SetForm.{judged_set}
 use Rattle.rob_top.proofs.CanonicalReading.{canonical_reads}
-use Rattle.rob_top.proofs.NarrowForms.{all_narrow, difference_narrow, greatest}
-use Rattle.rob_top.specs.Calls.{Call, call_of, count}
+use Rattle.rob_top.proofs.NarrowForms.{all_narrow, difference_narrow}
 use Rattle.rob_top.specs.Completeness.{EndsAs, IsEmptyAnswer, MustEnd}
 use Rattle.rob_top.specs.Headline.{HasForms}
+use Rattle.rob_top.specs.WorkedCalls.{empty_interval, greatest, model_name, order_12, solve_call}
 use Rattle.rob_top.specs.declared.ended.Ended.{Ended}
 use Rattle.rob_top.specs.declared.ended.Ended.TheVariants.{Optimal}
 use Rattle.rob_words.specs.Commands.{Line, own, solve, IsSpelled}
@@ -43,19 +43,12 @@ use Rattle.rob_words.specs.declared.route.Route.TheVariants.{Dual}
 use Rattle.rob_words.specs.declared.width.Width.TheVariants.{SixtyTwo}
 
 -- ---- solve one.rob, where the shelf tells a file of that name with the canonical text of a model
-abbrev pub name : Word
-name = codes "one.rob"
-
 abbrev line : Line
-line = record { action = solve name Dual; width = SixtyTwo }
+line = record { action = solve model_name Dual; width = SixtyTwo }
 
-abbrev call_on : RobustModel → Call
-call_on m =
-    call_of (codes "solve" ∷ name ∷ []) (record { told = Some (file_of name (model_text m) ∷ []); came = None }) (count 0 0) (count 0 0)
-
-line_spelled : IsSpelled (codes "solve" ∷ name ∷ []) line
+line_spelled : IsSpelled (codes "solve" ∷ model_name ∷ []) line
 line_spelled = (
-  own name ∷ [],
+  own model_name ∷ [],
   record { spelled = refl; files = refl; names = ((λ e. cc), tt); width = inr (refl, refl); route = inr (refl, refl) },
 )
 
@@ -64,10 +57,10 @@ fits_by q e f = record { num_fits = leb-true (nat_abs q.num) greatest e; den_fit
 
 -- the model's file comes whole
 abbrev Comes : RobustModel → Type 0
-Comes m = found_at name 65536 (file_of name (model_text m) ∷ []) ≡ whole (model_text m)
+Comes m = found_at model_name 65536 (file_of model_name (model_text m) ∷ []) ≡ whole (model_text m)
 
 forms_on : (m : RobustModel) → Comes m → ReadsModel greatest (model_text m) m → NothingWide greatest m (judged_set m ++ judged_forms m)
-    → HasForms (call_on m) line m
+    → HasForms (solve_call m) line m
 forms_on m comes reads narrow = record {
   model = record {
     spelled = line_spelled;
@@ -92,29 +85,12 @@ free a objective tau set budget =
     (differ a (codes "objective") objective, differ a (codes "tau") tau, differ a (codes "set") set, differ a (codes "budget") budget)
 
 -- ---- minimise x, where x >= d for each d in [8, 12]
-abbrev pub one_demand : RobustModel
-one_demand = record {
-  parameters = uncertain (codes "d") (Some (int 8)) (Some (int 12)) ∷ [];
-  set_lines = [];
-  variables = var (codes "x") None None ∷ [];
-  adaptives = [];
-  sense = minimise;
-  objective = variable 0;
-  rows = row (codes "r") (variable 0) at_least (parameter 0) ∷ [];
-}
-
 pub one_demand_model : IsModel one_demand
 one_demand_model = found (test_model one_demand) tt
 
 one_demand_admitted : Admits one_demand (int 8 ∷ [])
 unfolding ratio
 one_demand_admitted = found (test_admits one_demand (int 8 ∷ [])) tt
-
--- x = 12: the objective x - tau <= 0 and the row at d = 12, 12 - x <= 0, sum to 12 - tau <= 0
-abbrev pub order_12 : Certificate
-order_12 =
-    best (int 12) (int 8 ∷ []) (int 12 ∷ []) (cover 1 1 1ℚ ∷ [])
-    (item 0 1ℚ (int 12 ∷ []) ∷ item 1 1ℚ (int 12 ∷ []) ∷ [])
 
 one_demand_costs_12 : HasStatus one_demand optimal (int 12)
 unfolding ratio
@@ -171,19 +147,15 @@ one_demand_comes : Comes one_demand
 unfolding ratio digits
 one_demand_comes = refl
 
-one_demand_forms : HasForms (call_on one_demand) line one_demand
+one_demand_forms : HasForms (solve_call one_demand) line one_demand
 one_demand_forms = forms_on one_demand one_demand_comes one_demand_reads one_demand_narrow
 
--- where no row is wide, this call has to answer `optimal`
-one_demand_is_solved : ((spot : Spot) → IsWideOnPath greatest one_demand spot → ⊥) → (result : Ended)
-    → MustEnd (call_on one_demand) result → EndsAs Optimal result
-one_demand_is_solved narrow result must =
-    must.status line one_demand optimal (int 12) (int 8 ∷ []) one_demand_forms tt one_demand_costs_12 one_demand_admitted narrow
+-- no row is wide, so this call has to answer `optimal`
+pub one_demand_is_solved : (result : Ended) → MustEnd (solve_call one_demand) result → EndsAs Optimal result
+one_demand_is_solved result must =
+    must.status line one_demand optimal (int 12) (int 8 ∷ []) one_demand_forms tt one_demand_costs_12 one_demand_admitted one_demand_not_wide
 
 -- ---- minimise x, where d lies in [12, 8], so no scenario is admitted
-abbrev empty_interval : RobustModel
-empty_interval = record one_demand { parameters = uncertain (codes "d") (Some (int 12)) (Some (int 8)) ∷ []; rows = [] }
-
 empty_interval_model : IsModel empty_interval
 empty_interval_model = found (test_model empty_interval) tt
 
@@ -233,9 +205,9 @@ empty_interval_comes : Comes empty_interval
 unfolding ratio digits
 empty_interval_comes = refl
 
-empty_interval_forms : HasForms (call_on empty_interval) line empty_interval
+empty_interval_forms : HasForms (solve_call empty_interval) line empty_interval
 empty_interval_forms = forms_on empty_interval empty_interval_comes empty_interval_reads empty_interval_narrow
 
 -- this call has to answer that the set is empty, or name a row of the set's program
-empty_interval_is_shown : (result : Ended) → MustEnd (call_on empty_interval) result → IsEmptyAnswer greatest empty_interval result
+pub empty_interval_is_shown : (result : Ended) → MustEnd (solve_call empty_interval) result → IsEmptyAnswer greatest empty_interval result
 empty_interval_is_shown result must = must.empty line empty_interval empty_interval_forms tt empty_interval_admits_none

@@ -16,6 +16,7 @@ use Rattle.rob_check.specs.declared.verdict.Verdict.{Verdict}
 use Rattle.rob_check.specs.declared.verdict.Verdict.TheVariants as verdicts
 use Rattle.rob_meaning.proofs.WorkedNotation.{int}
 use Rattle.rob_meaning.proofs.WorkedTests.{found}
+use Rattle.rob_dualize.specs.SmallestModel.{one_demand}
 use Rattle.rob_meaning.specs.Certificates.{Certificate, optimal}
 use Rattle.rob_meaning.specs.Places.{1ℚ, Each}
 use Rattle.rob_meaning.specs.Proves.{Proves}
@@ -23,11 +24,10 @@ use Rattle.rob_model.specs.declared.place.Place.{Place}
 use Rattle.rob_model.specs.declared.place.Place.TheVariants as At
 use Rattle.rob_outside.specs.Files.{file_of, found_at, whole}
 use Rattle.rob_parse.specs.Canonical.{model_text}
-use Rattle.rob_top.proofs.NarrowForms.{greatest}
-use Rattle.rob_top.proofs.WorkedCalls.{fits_by, name, one_demand, one_demand_model, one_demand_narrow, one_demand_reads, order_12}
-use Rattle.rob_top.specs.Calls.{Call, call_of, count}
+use Rattle.rob_top.proofs.WorkedCalls.{fits_by, one_demand_model, one_demand_narrow, one_demand_reads}
 use Rattle.rob_top.specs.Completeness.{EndsAs, MustEnd}
 use Rattle.rob_top.specs.Headline.{HasCertificate}
+use Rattle.rob_top.specs.WorkedCalls.{certificate_name, check_call, greatest, model_name, order_11, order_12}
 use Rattle.rob_top.specs.declared.ended.Ended.{Ended}
 use Rattle.rob_top.specs.declared.ended.Ended.TheVariants.{Accepted, Rejected}
 use Rattle.rob_words.specs.Commands.{Line, check, own, IsSpelled}
@@ -35,32 +35,23 @@ use Rattle.rob_words.specs.Values.{Word}
 use Rattle.rob_words.specs.declared.width.Width.TheVariants.{SixtyTwo}
 
 -- ---- check one.rob one.cert, where the shelf tells both files
-abbrev certificate_name : Word
-certificate_name = codes "one.cert"
-
 abbrev line : Line
-line = record { action = check name certificate_name; width = SixtyTwo }
+line = record { action = check model_name certificate_name; width = SixtyTwo }
 
-abbrev call_on : Certificate → Call
-call_on c =
-    call_of (codes "check" ∷ name ∷ certificate_name ∷ [])
-    (record { told = Some (file_of name (model_text one_demand) ∷ file_of certificate_name (cert_text one_demand c) ∷ []); came = None })
-    (count 0 0) (count 0 0)
-
-line_spelled : IsSpelled (codes "check" ∷ name ∷ certificate_name ∷ []) line
+line_spelled : IsSpelled (codes "check" ∷ model_name ∷ certificate_name ∷ []) line
 line_spelled = (
-  own name ∷ own certificate_name ∷ [],
+  own model_name ∷ own certificate_name ∷ [],
   record { spelled = refl; files = refl; names = ((λ e. cc), ((λ e. cc), tt)); width = inr (refl, refl); route = refl },
 )
 
 -- both files come whole
 record Come (c : Certificate) : Type 0 where
-  model : found_at name 65536 (file_of name (model_text one_demand) ∷ file_of certificate_name (cert_text one_demand c) ∷ [])
+  model : found_at model_name 65536 (file_of model_name (model_text one_demand) ∷ file_of certificate_name (cert_text one_demand c) ∷ [])
       ≡ whole (model_text one_demand)
-  certificate : found_at certificate_name 4194304 (file_of name (model_text one_demand) ∷ file_of certificate_name (cert_text one_demand c) ∷ [])
+  certificate : found_at certificate_name 4194304 (file_of model_name (model_text one_demand) ∷ file_of certificate_name (cert_text one_demand c) ∷ [])
       ≡ whole (cert_text one_demand c)
 
-certificate_on : (c : Certificate) → Come c → HasShape one_demand c → FitsLines greatest one_demand c → HasCertificate (call_on c) line one_demand c
+certificate_on : (c : Certificate) → Come c → HasShape one_demand c → FitsLines greatest one_demand c → HasCertificate (check_call c) line one_demand c
 certificate_on c come shape fits = record {
   bytes = cert_text one_demand c;
   file = record {
@@ -74,7 +65,7 @@ certificate_on c come shape fits = record {
       };
       none_wide = one_demand_narrow;
     };
-    model_name = name;
+    model_name = model_name;
     certificate_name = certificate_name;
     is_check = refl;
     found = (come.certificate, tt);
@@ -152,14 +143,11 @@ order_12_proves =
     (proves_judged greatest one_demand one_demand_model order_12 order_12_shape)
 
 -- this call has to answer `accepted`
-order_12_is_accepted : (result : Ended) → MustEnd (call_on order_12) result → EndsAs Accepted result
+pub order_12_is_accepted : (result : Ended) → MustEnd (check_call order_12) result → EndsAs Accepted result
 order_12_is_accepted result must =
     must.accepted line one_demand order_12 (certificate_on order_12 order_12_comes order_12_shape order_12_fits) order_12_narrow order_12_proves
 
 -- ---- 11 is claimed, and the items show 12
-abbrev order_11 : Certificate
-order_11 = record order_12 { value = int 11; plan = int 11 ∷ [] }
-
 order_11_shape : HasShape one_demand order_11
 unfolding ratio
 order_11_shape = record {
@@ -211,7 +199,7 @@ order_11_proves_not =
     (proves_judged greatest one_demand one_demand_model order_11 order_11_shape)
 
 -- this call has to answer `rejected`, at the first place that fails
-order_11_is_rejected : (result : Ended) → MustEnd (call_on order_11) result
+pub order_11_is_rejected : (result : Ended) → MustEnd (check_call order_11) result
     → (place : Place) × IsFirstFailing greatest one_demand order_11 place × EndsAs (Rejected place) result
 order_11_is_rejected result must =
     must.rejected line one_demand order_11 (certificate_on order_11 order_11_comes order_11_shape order_11_fits) order_11_narrow order_11_proves_not

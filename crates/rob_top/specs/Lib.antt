@@ -6,3 +6,4 @@ pub mod Headline
 pub mod Codes
 pub mod Replies
 pub mod Work
+pub mod WorkedCalls

@@ -1,11 +1,19 @@
-// Which answer has to come, and what `check` says of what `prove` prints. The functions do nothing; their clauses are the claims.
+// Which answer has to come, what two answers say of each other, and what `check` says of what `prove` prints. What is known of a
+// call's files (`Known`) are the told files, or the answers that came in the call, which every shelf gives. The functions do nothing;
+// their clauses are the claims.
 
-ghost use Rattle.std.specs.Prelude.{◌≡◌, ℕ, List};
+ghost use Rattle.std.specs.Prelude.{◌≡◌, ℕ, ℤ, List};
+ghost use Rattle.rob_check.specs.Narrow.{IsFirstFailing};
+ghost use Rattle.rob_dualize.specs.SmallestModel.{one_demand};
 ghost use Rattle.rob_meaning.specs.Certificates.{Status};
+ghost use Rattle.rob_model.specs.declared.place.Place.{Place};
 ghost use Rattle.rob_top.specs.Calls.{Call, Known, known_call, limit_of};
-ghost use Rattle.rob_top.specs.Completeness.{IsComplete, IsProvedAnswer};
+ghost use Rattle.rob_top.specs.Completeness.{EndsAs, IsComplete, IsEmptyAnswer, IsProvedAnswer, MustEnd};
 ghost use Rattle.rob_top.specs.Headline.{HasCertificateFile, IsSolved, Means};
+ghost use Rattle.rob_top.specs.Work.{ended_of};
+ghost use Rattle.rob_top.specs.WorkedCalls.{check_call, empty_interval, greatest, order_11, order_12, solve_call};
 ghost use Rattle.rob_top.specs.declared.ended.Ended.{Ended};
+ghost use Rattle.rob_top.specs.declared.ended.Ended.TheVariants.{Accepted, EmptySet, Optimal, Rejected};
 ghost use Rattle.rob_words.specs.Commands.{Line, prove};
 ghost use Rattle.rob_words.specs.Values.{Word};
 ghost use Rattle.rob_words.specs.declared.route.Route.{Route};
@@ -23,4 +31,29 @@ pub fn prove_then_check()
         (model : Word) (way : Route) → solved.line.action ≡ prove model way → (known : Known checking.source) (line : Line)
         → line.width ≡ solved.line.width → HasCertificateFile (known_call checking known) line solved.m text
         → (ended : Ended) → Means checking ended shown → IsProvedAnswer (limit_of line) solved.m solved.c ended }
+{}
+
+/// A model has one status.
+pub fn status_laws()
+    // No two of `optimal`, `infeasible` and `unbounded` are allowed,
+    ensures one_status { (call : Call) (known : Known call.source) (a b : Status) (text other : List ℕ)
+        → Means call (ended_of a) text → Means call (ended_of b) other → a ≡ b }
+    // and none of them where no scenario is admitted.
+    ensures not_empty { (call : Call) (known : Known call.source) (status : Status) (weights : List ℤ) (text other : List ℕ)
+        → Means call (ended_of status) text → Means call (EmptySet weights) other → ⊥ }
+{}
+
+/// Calls worked by hand: `specs/WorkedCalls.antt`. So what is asked of a call where a status, an empty set or a verdict has to be
+/// answered is met by some call.
+pub fn worked_calls()
+    // `solve` on the smallest model is answered with `optimal`,
+    ensures optimal { (result : Ended) → MustEnd (solve_call one_demand) result → EndsAs Optimal result }
+    // and on a model without a scenario by weights that show it, or a wide row of the set's program.
+    ensures empty { (result : Ended) → MustEnd (solve_call empty_interval) result
+        → IsEmptyAnswer greatest empty_interval result }
+    // `check` accepts a certificate that proves,
+    ensures accepted { (result : Ended) → MustEnd (check_call order_12) result → EndsAs Accepted result }
+    // and rejects one that doesn't, at the first place that fails.
+    ensures rejected { (result : Ended) → MustEnd (check_call order_11) result
+        → (place : Place) × IsFirstFailing greatest one_demand order_11 place × EndsAs (Rejected place) result }
 {}

@@ -1,4 +1,5 @@
-//! The program's one call: words in, bytes out. `specs/Headline.antt` says what each answer means.
+//! The program's call: words in, bytes out. `specs/Headline.antt` says what each answer means, `specs/Completeness.antt` which one
+//! has to come.
 #![tactic(auto)]
 
 mod checking;
@@ -6,7 +7,6 @@ mod ended;
 mod files;
 pub mod laws;
 pub mod machine;
-pub mod one_answer;
 mod put;
 mod reply;
 mod solving;

@@ -1,5 +1,5 @@
 use Rattle.rob_top.proofs.StageLemmas.{not_empty, one_status}
-use Rattle.rob_top.proofs.one_answer.status_laws.Goals as goal
+use Rattle.rob_top.proofs.laws.status_laws.Goals as goal
 
 pub returns : goal.returns
 returns c = record {

@@ -1,0 +1,11 @@
+use Rattle.rob_top.proofs.WorkedCalls.{empty_interval_is_shown, one_demand_is_solved}
+use Rattle.rob_top.proofs.WorkedChecks.{order_11_is_rejected, order_12_is_accepted}
+use Rattle.rob_top.proofs.laws.worked_calls.Goals as goal
+
+pub returns : goal.returns
+returns c = record {
+  optimal = one_demand_is_solved;
+  empty = empty_interval_is_shown;
+  accepted = order_12_is_accepted;
+  rejected = order_11_is_rejected;
+}

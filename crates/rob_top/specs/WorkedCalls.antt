@@ -1,0 +1,65 @@
+-- Calls worked by hand, of which the laws say how they must end: `solve one.rob` and `check one.rob one.cert`, where the shelf tells
+-- files of these names.
+use Rattle.std.specs.Prelude.{ℕ, ◌-◌, ◌^◌, pos, List, [], ◌∷◌, Some, None, codes}
+use Rattle.rob_algebra.specs.Fraction.{of_int}
+use Rattle.rob_cert.specs.Spelling.{cert_text}
+use Rattle.rob_dualize.specs.SmallestModel.{one_demand}
+use Rattle.rob_meaning.specs.Certificates.{Certificate, optimal}
+use Rattle.rob_meaning.specs.Places.{0ℚ, 1ℚ}
+use Rattle.rob_meaning.specs.RobustModel.{RobustModel}
+use Rattle.rob_outside.specs.Files.{File, file_of}
+use Rattle.rob_parse.specs.Canonical.{model_text}
+use Rattle.rob_top.specs.Calls.{Call, call_of, count}
+use Rattle.rob_words.specs.Values.{Word}
+
+-- the limit of 62 bits
+abbrev pub greatest : ℕ
+greatest = 2 ^ 62 - 1
+
+abbrev pub model_name : Word
+model_name = codes "one.rob"
+
+abbrev pub certificate_name : Word
+certificate_name = codes "one.cert"
+
+-- a call with these words, where the shelf tells these files
+abbrev pub call_over : List Word → List File → Call
+call_over words files = call_of words (record { told = Some files; came = None }) (count 0 0) (count 0 0)
+
+-- `solve` on the canonical text of a model
+abbrev pub solve_call : RobustModel → Call
+solve_call m = call_over (codes "solve" ∷ model_name ∷ []) (file_of model_name (model_text m) ∷ [])
+
+-- `check` on the text of a certificate of the smallest model, to minimise x where x >= d for each d in [8, 12]
+abbrev pub check_call : Certificate → Call
+check_call c =
+    call_over (codes "check" ∷ model_name ∷ certificate_name ∷ [])
+    (file_of model_name (model_text one_demand) ∷ file_of certificate_name (cert_text one_demand c) ∷ [])
+
+-- minimise x, where d lies in [12, 8], so no scenario is admitted
+abbrev pub empty_interval : RobustModel
+empty_interval = record one_demand {
+  parameters = record { name = codes "d"; lower = Some (of_int (pos 12)); upper = Some (of_int (pos 8)) } ∷ [];
+  rows = [];
+}
+
+-- x = 12: the objective x - tau <= 0 and the row at d = 12, 12 - x <= 0, sum to 12 - tau <= 0
+abbrev pub order_12 : Certificate
+order_12 = record {
+  status = optimal;
+  value = of_int (pos 12);
+  scale = 1ℚ;
+  inside = of_int (pos 8) ∷ [];
+  plan = of_int (pos 12) ∷ [];
+  step = [];
+  step_bound = 0ℚ;
+  covers = record { form = 1; set_row = 1; amount = 1ℚ } ∷ [];
+  holds = [];
+  items =
+      record { form = 0; weight = 1ℚ; base = 1ℚ; vector = of_int (pos 12) ∷ [] }
+      ∷ record { form = 1; weight = 1ℚ; base = 1ℚ; vector = of_int (pos 12) ∷ [] } ∷ [];
+}
+
+-- 11 is claimed, and the items show 12
+abbrev pub order_11 : Certificate
+order_11 = record order_12 { value = of_int (pos 11); plan = of_int (pos 11) ∷ [] }
