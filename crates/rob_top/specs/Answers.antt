@@ -1,4 +1,4 @@
--- The texts of answers. Each is one line.
+-- The texts of answers. Each is one line, where no name in it has a line end.
 use Rattle.std.specs.Fmt.{decimal}
 use Rattle.std.specs.Prelude.{ℕ, List, ◌++◌, codes}
 use Rattle.rob_algebra.specs.Fraction.{Fraction}

@@ -13,7 +13,7 @@ use std::alloc::Global;
 use std::rt::Files;
 
 /// `run` over the machine's files and output: all that it says, of these two. They tell nothing of the files themselves, nor of
-/// what is seen: what a file holds is what its fetch answered, and what was put is what the writes took.
+/// what is seen: what a file holds is what its fetch answered, and what was put is what the output noted behind its writes.
 pub fn run_here<R: Files, P: Print, L: Ledger>(
     alloc: Global,
     words: &[String],
