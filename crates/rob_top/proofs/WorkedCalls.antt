@@ -3,22 +3,22 @@
 use Rattle.std.proofs.Common.{arith, refl, inr}
 use Rattle.std.proofs.lemmas.Bool.{leb-true}
 use Rattle.std.specs.Fmt.{digits}
-use Rattle.std.specs.Prelude.{◌≡◌, ◌≢◌, ℕ, leb, nat_abs, true, [], ◌∷◌, ◌++◌, Some, None, codes}
+use Rattle.std.specs.Prelude.{◌≡◌, ◌≢◌, ℕ, leb, nat_abs, true, [], ◌∷◌, ◌++◌, None, codes}
 use Rattle.rob_algebra.specs.Fraction.{Fraction, ratio}
 use Rattle.rob_algebra.specs.Width.{Fits}
 use Rattle.rob_dualize.proofs.NarrowModels.{one_demand_not_wide}
 use Rattle.rob_dualize.specs.SmallestModel.{one_demand}
 use Rattle.rob_elab.specs.Forms.{judged_forms}
 use Rattle.rob_meaning.proofs.EmptyLemmas.{shows_empty}
-use Rattle.rob_meaning.proofs.WorkedNotation.{best, cover, int, item, row, uncertain, var}
+use Rattle.rob_meaning.proofs.WorkedNotation.{int}
 use Rattle.rob_meaning.proofs.WorkedTests.{Found, found, test_admits, test_certificate, test_differ, test_empty, test_model}
-use Rattle.rob_meaning.specs.Certificates.{Certificate, optimal}
+use Rattle.rob_meaning.specs.Certificates.{optimal}
 use Rattle.rob_meaning.specs.Expressions.{parameter, variable}
 use Rattle.rob_meaning.specs.Named.{IsFree, IsNamed, declared_names}
 use Rattle.rob_meaning.specs.Names.{Name}
 use Rattle.rob_meaning.specs.Places.{1ℚ, Each}
 use Rattle.rob_meaning.specs.Proves.{HasStatus}
-use Rattle.rob_meaning.specs.RobustModel.{RobustModel, at_least, minimise}
+use Rattle.rob_meaning.specs.RobustModel.{RobustModel}
 use Rattle.rob_meaning.specs.UncertaintySet.{Admits, IsEmptySet}
 use Rattle.rob_meaning.specs.WellFormed.{IsModel}
 use Rattle.rob_outside.specs.Files.{file_of, found_at, whole}
@@ -38,7 +38,6 @@ use Rattle.rob_top.specs.WorkedCalls.{empty_interval, greatest, model_name, orde
 use Rattle.rob_top.specs.declared.ended.Ended.{Ended}
 use Rattle.rob_top.specs.declared.ended.Ended.TheVariants.{Optimal}
 use Rattle.rob_words.specs.Commands.{Line, own, solve, IsSpelled}
-use Rattle.rob_words.specs.Values.{Word}
 use Rattle.rob_words.specs.declared.route.Route.TheVariants.{Dual}
 use Rattle.rob_words.specs.declared.width.Width.TheVariants.{SixtyTwo}
 

@@ -31,7 +31,6 @@ use Rattle.rob_top.specs.WorkedCalls.{certificate_name, check_call, greatest, mo
 use Rattle.rob_top.specs.declared.ended.Ended.{Ended}
 use Rattle.rob_top.specs.declared.ended.Ended.TheVariants.{Accepted, Rejected}
 use Rattle.rob_words.specs.Commands.{Line, check, own, IsSpelled}
-use Rattle.rob_words.specs.Values.{Word}
 use Rattle.rob_words.specs.declared.width.Width.TheVariants.{SixtyTwo}
 
 -- ---- check one.rob one.cert, where the shelf tells both files
