@@ -3,10 +3,9 @@
 --   Put                        the piece that was put, and whether the put answered that it took the whole of it
 --   put_of piece result        what a put adds: one entry, also where it answered an error
 --   PutAll before now pieces   behind the puts before stand those of these pieces, in order, each taken whole
---   PutInOrder pieces puts     the puts are those of the first pieces, in order, each but the last taken whole
---   PutSome before now pieces  behind the puts before stand such ones
+--   PutUntil before now pieces behind them stand those of the first pieces, each taken whole, and then one that was refused
 --   PutEach .. pieces result   all were put and taken whole; or an error was answered, and nothing was put behind it
-use Rattle.std.specs.Prelude.{◌≡◌, ◌⊎◌, ℕ, Bool, true, List, [], ◌∷◌, ◌++◌, map, Result, MatchResult, is_ok, refl}
+use Rattle.std.specs.Prelude.{◌≡◌, ℕ, Bool, true, false, List, [], ◌∷◌, ◌++◌, map, Result, MatchResult, is_ok, refl}
 use Rattle.std.specs.Coded.{Coded, code_by, coded×, coded_ℕ, coded_list, coded_bool}
 
 -- a put: the piece, and whether it answered that the whole piece was taken
@@ -26,22 +25,18 @@ put_of piece result = put_as (is_ok result) piece
 abbrev pub PutAll : List Put → List Put → List (List ℕ) → Type 0
 PutAll before now pieces = now ≡ before ++ map (put_as true) pieces
 
--- the puts are those of the first pieces, in order, each but the last taken whole: so there is none behind a refused one
-abbrev pub PutInOrder : List (List ℕ) → List Put → Type 0
-PutInOrder pieces [] = Unit {0}
-PutInOrder [] (put ∷ puts) = ⊥
-PutInOrder (piece ∷ pieces) (put ∷ puts) =
-    (put.piece ≡ piece) × ((puts ≡ []) ⊎ ((put.whole ≡ true) × PutInOrder pieces puts))
+-- behind the puts before stand those of the first of these pieces, in order, each taken whole, then that of the next one, which
+-- was refused, and no other
+pub record PutUntil (before now : List Put) (pieces : List (List ℕ)) : Type 0 where
+  pub done : List (List ℕ)
+  pub refused : List ℕ
+  pub left : List (List ℕ)
+  pub split : pieces ≡ done ++ refused ∷ left
+  pub grown : now ≡ before ++ (map (put_as true) done ++ put_as false refused ∷ [])
 
--- behind the puts before stand such ones
-pub record PutSome (before now : List Put) (pieces : List (List ℕ)) : Type 0 where
-  pub added : List Put
-  pub grown : now ≡ before ++ added
-  pub in_order : PutInOrder pieces added
-
--- the pieces were put one by one: each was taken whole, or an error was answered and nothing was put behind it
+-- the pieces were put one by one: each was taken whole, or one was refused, which was answered, and nothing was put behind it
 abbrev pub PutEach : {T E : Type 0} → List Put → List Put → List (List ℕ) → Result T E → Type 0
-PutEach before now pieces result = MatchResult result (λ _. PutAll before now pieces) (λ _. PutSome before now pieces)
+PutEach before now pieces result = MatchResult result (λ _. PutAll before now pieces) (λ _. PutUntil before now pieces)
 
 -- ---- how they are stored
 

@@ -4,6 +4,7 @@
 --   Took before now bytes          behind what was taken before stand these bytes, all of them
 --   TookPrefix before now bytes    behind what was taken before stands a prefix of these bytes
 --   Takes before now piece result  a put took the whole piece, or answered an error and took a prefix of it
+--   TookBoth held now before noted  the same bytes came behind a writer's bytes, where these are known
 --
 -- `before` and `now` are the bytes that the sink took.
 use Rattle.std.specs.Prelude.{◌≡◌, ℕ, List, ◌++◌, Option, Some, Result, MatchResult, IfSome}
@@ -32,3 +33,9 @@ TookKnown before now bytes = IfSome before (λ held. now ≡ Some (held ++ bytes
 abbrev pub TakesKnown : {T E : Type 0} → Option (List ℕ) → Option (List ℕ) → List ℕ → Result T E → Type 0
 TakesKnown before now piece result =
     MatchResult result (λ _. TookKnown before now piece) (λ _. (front : List ℕ) × IsPrefix front piece × TookKnown before now front)
+
+-- the bytes that were taken are those that came behind a writer's bytes, where these are known
+pub record TookBoth (held now : Option (List ℕ)) (before noted : List ℕ) : Type 0 where
+  pub added : List ℕ
+  pub took : Took before noted added
+  pub written : TookKnown held now added

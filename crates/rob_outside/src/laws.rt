@@ -4,7 +4,7 @@
 ghost use Rattle.std.specs.Prelude.{◌≡◌, ◌≢◌, ◌<◌, ◌≤◌, ◌↔◌, ℕ, All, List, [], ◌∷◌, ◌++◌, length, take, Some, None, IsSomeAnd, Result, Err, MatchResult};
 ghost use Rattle.rob_number.specs.Counts.{Rose};
 ghost use Rattle.rob_outside.specs.Files.{File, Finds, IsFirst, file_at, found_at, found_of, missing, too_long, whole};
-ghost use Rattle.rob_outside.specs.Puts.{Put, PutAll, PutEach, PutSome, put_of};
+ghost use Rattle.rob_outside.specs.Puts.{Put, PutAll, PutEach, PutUntil, put_of};
 ghost use Rattle.rob_outside.specs.Taken.{IsPrefix, Takes, Took, TookPrefix};
 ghost use Rattle.rob_outside.specs.declared.shelf.Fetched.{Fetched};
 ghost use Rattle.rob_outside.specs.declared.shelf.ShelfErr.{ShelfErr};
@@ -74,8 +74,7 @@ pub fn each_laws()
         (result : Result (Unit {0}) SinkErr)
         → PutAll before middle first → PutEach middle now second result
         → PutEach before now (first ++ second) result }
-    ensures all_is_some { (before now : List Put) (pieces : List (List ℕ))
-        → PutAll before now pieces → PutSome before now pieces }
+    // In front of pieces that weren't put.
     ensures longer { (before now : List Put) (pieces more : List (List ℕ))
-        → PutSome before now pieces → PutSome before now (pieces ++ more) }
+        → PutUntil before now pieces → PutUntil before now (pieces ++ more) }
 {}

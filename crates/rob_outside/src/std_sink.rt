@@ -5,7 +5,7 @@ ghost use Rattle.std.specs.Prelude.{◌≡◌, ◌≤◌, ◌++◌, ◌∷◌, [
 ghost use Rattle.rob_number.specs.Counts.{Rose, raised};
 ghost use Rattle.rob_outside.specs.Puts.{put_of};
 ghost use Rattle.rob_outside.specs.StdSink.{empty_output};
-ghost use Rattle.rob_outside.specs.Taken.{Takes, TakesKnown};
+ghost use Rattle.rob_outside.specs.Taken.{Takes, TakesKnown, TookBoth};
 
 use crate::note::{PutNote, WriteNote};
 use crate::sink::{Sink, SinkErr};
@@ -75,8 +75,10 @@ impl<'a, R: Print> Sink for StdSink<'a, R> {
 fn write_whole<W: Write>(writer: &mut W, piece: &[u8], taken: &mut WriteNote) -> Result<(), SinkErr>
     // Where the writer's bytes are known: the piece came behind them, or at an error a prefix of it.
     ensures took { TakesKnown (W.contents writer.old) (W.contents writer.new) piece.now result }
-    // The bytes that are noted: the piece, or at an error a prefix of it.
+    // The bytes that are noted: the piece, or at an error a prefix of it,
     ensures noted { Takes taken.old.bytes taken.new.bytes piece.now result }
+    // and they are those that came behind the writer's bytes.
+    ensures same { TookBoth (W.contents writer.old) (W.contents writer.new) taken.old.bytes taken.new.bytes }
     ensures fault { IfErr result (λ error. error ≡ SinkErr.Failed) }
 {
     let mut rest = piece;

@@ -1,12 +1,11 @@
 -- How a call ends, from what was put.
-use Rattle.std.proofs.Common.{◌≡◌, ℕ, List, [], ◌∷◌, ◌++◌, Result, Ok, Err, refl}
-use Rattle.rob_outside.specs.Puts.{PutAll, put_of}
-use Rattle.rob_outside.specs.Taken.{Took, Takes}
-use Rattle.rob_outside.proofs.PutsLemmas.{put_all_is_some, put_one}
+use Rattle.std.proofs.Common.{◌≡◌, ℕ, true, false, List, [], ◌∷◌, ◌++◌, Result, Ok, Err, inr, subst}
+use Rattle.rob_outside.specs.Puts.{PutAll, PutUntil, put_of}
+use Rattle.rob_outside.specs.Taken.{Took, TookPrefix, Takes}
 use Rattle.rob_outside.proofs.TakenLemmas.{took_is_prefix}
 use Rattle.rob_top.specs.Answers.{memory_text}
 use Rattle.rob_top.specs.Calls.{Call, Output}
-use Rattle.rob_top.specs.Headline.{Means, Ends, PutPrefix}
+use Rattle.rob_top.specs.Headline.{Means, Ends, PutMemory, PutRefused}
 use Rattle.rob_top.specs.Lines.{text_lines}
 use Rattle.rob_top.specs.declared.ended.Ended.{Ended}
 use Rattle.rob_top.specs.declared.ended.Ended.TheVariants.{Optimal, Infeasible, Unbounded, Printed, Accepted, Rejected, Words, Missing, TooLong, Model, EmptySet, TooWide, Cert, ReadFault, WriteFault, Memory}
@@ -16,12 +15,10 @@ pub ends_whole : (call : Call) (output : Output) (ended : Ended) (text : List �
     → Means call ended text → Took output.before output.now text
     → PutAll output.puts_before output.puts_now (text_lines text) → Ends call output ended
 ends_whole call output WriteFault text means took puts = absurd means
-ends_whole call output Memory text means took puts = record {
-  answer = Memory;
-  text = text;
-  means = means;
-  took = took_is_prefix output.before output.now text took;
-  puts = put_all_is_some output.puts_before output.puts_now (text_lines text) puts;
+ends_whole call output Memory text means took puts = inr record {
+  whole = true;
+  took = took_is_prefix output.before output.now memory_text (subst (λ (t : List ℕ). Took output.before output.now t) means took);
+  puts = subst (λ (t : List ℕ). PutAll output.puts_before output.puts_now (text_lines t)) means puts;
 }
 ends_whole call output Optimal text means took puts = record { text = text; means = means; took = took; puts = puts }
 ends_whole call output Infeasible text means took puts = record { text = text; means = means; took = took; puts = puts }
@@ -38,21 +35,16 @@ ends_whole call output (TooWide spot) text means took puts = record { text = tex
 ends_whole call output (Cert rule line) text means took puts = record { text = text; means = means; took = took; puts = puts }
 ends_whole call output ReadFault text means took puts = record { text = text; means = means; took = took; puts = puts }
 
--- a put of the text of a want of memory, which is one line, whatever it answers
-pub ends_memory : {T E : Type 0} (call : Call) (output : Output) (result : Result T E)
+-- a put of the text was refused
+pub ends_refused : (call : Call) (output : Output) (ended : Ended) (text : List ℕ) → Means call ended text
+    → TookPrefix output.before output.now text → PutUntil output.puts_before output.puts_now (text_lines text) → PutRefused call output
+ends_refused call output ended text means took puts =
+    record { answer = ended; text = text; means = means; took = took; puts = puts }
+
+-- a put of the line of a want of memory, whatever it answers
+pub ends_memory : {T E : Type 0} (output : Output) (result : Result T E)
     → Takes output.before output.now memory_text result → output.puts_now ≡ output.puts_before ++ put_of memory_text result ∷ []
-    → PutPrefix call output
-ends_memory call output (Ok value) took put = record {
-  answer = Memory;
-  text = memory_text;
-  means = refl;
-  took = took_is_prefix output.before output.now memory_text took;
-  puts = put_all_is_some output.puts_before output.puts_now (memory_text ∷ []) put;
-}
-ends_memory {T = T} {E = E} call output (Err error) took put = record {
-  answer = Memory;
-  text = memory_text;
-  means = refl;
-  took = took;
-  puts = put_one {T = T} {E = E} output.puts_before output.puts_now memory_text (Err error) put;
-}
+    → PutMemory output
+ends_memory output (Ok value) took put =
+    record { whole = true; took = took_is_prefix output.before output.now memory_text took; puts = put }
+ends_memory output (Err error) took put = record { whole = false; took = took; puts = put }

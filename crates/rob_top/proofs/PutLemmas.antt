@@ -1,9 +1,9 @@
 -- A text that is put piece by piece.
 use Rattle.std.proofs.Common.{◌≡◌, ℕ, true, List, [], ◌∷◌, ◌++◌, Ok, Err, refl, sym, ◌∙◌, ap, subst, append_assoc}
 use Rattle.std.proofs.lemmas.List.{append-nil}
-use Rattle.rob_outside.specs.Puts.{Put, PutAll, PutSome, put_as, put_of}
+use Rattle.rob_outside.specs.Puts.{Put, PutAll, PutUntil, put_as, put_of}
 use Rattle.rob_outside.specs.Taken.{Took, TookPrefix}
-use Rattle.rob_outside.proofs.PutsLemmas.{put_none, put_one, put_some_of_more, put_then}
+use Rattle.rob_outside.proofs.PutsLemmas.{put_none, put_one, put_then, put_until_of_more}
 use Rattle.rob_outside.proofs.TakenLemmas.{took_nothing, took_both, took_then_put, took_prefix_of_more}
 use Rattle.rob_top.specs.Lines.{text_lines}
 
@@ -68,12 +68,12 @@ lines_all before now noted notes text rest p empty =
 -- after an error in a line none was put behind it
 pub lines_some : {E : Type 0} (before middle : List ℕ) (noted some notes : List Put) (text rest piece behind : List ℕ) (error : E)
     → PutsMore before middle noted some text rest → text_lines rest ≡ piece ∷ text_lines behind
-    → notes ≡ some ++ put_of {T = Unit {0}} piece (Err error) ∷ [] → PutSome noted notes (text_lines text)
+    → notes ≡ some ++ put_of {T = Unit {0}} piece (Err error) ∷ [] → PutUntil noted notes (text_lines text)
 lines_some {E = E} before middle noted some notes text rest piece behind error p f put =
-    let part : PutSome noted notes (p.lines ++ piece ∷ []) =
+    let part : PutUntil noted notes (p.lines ++ piece ∷ []) =
     put_then {T = Unit {0}} {E = E} noted some notes p.lines (piece ∷ []) (Err error) p.puts
     (put_one {T = Unit {0}} some notes piece (Err error) put) in
     let split : (p.lines ++ piece ∷ []) ++ text_lines behind ≡ text_lines text =
     append_assoc p.lines (piece ∷ []) (text_lines behind) ∙ sym (p.split ∙ ap (λ (r : List (List ℕ)). p.lines ++ r) f) in
-    subst (λ (list : List (List ℕ)). PutSome noted notes list) split
-    (put_some_of_more noted notes (p.lines ++ piece ∷ []) (text_lines behind) part)
+    subst (λ (list : List (List ℕ)). PutUntil noted notes list) split
+    (put_until_of_more noted notes (p.lines ++ piece ∷ []) (text_lines behind) part)

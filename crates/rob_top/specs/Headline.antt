@@ -6,9 +6,10 @@
 --
 -- The premises stand here, and nowhere else. What a file holds is what the fetch of it answered in this call, whatever the
 -- shelf; where the shelf tells its files too, it is what they hold. What was put is what the sink's puts were asked to take and
--- took, whatever the sink. That a fetch of the machine's shelf answers what the file holds, and that what its writes took is what one sees, is
--- trusted. Want of memory is an answer of its own, and free: nothing is said of when it comes.
-use Rattle.std.specs.Prelude.{◌≡◌, ℕ, ℤ, List, ◌++◌, map}
+-- answered that they took, whatever the sink. That a fetch of the machine's shelf reads the file of its name, that a put of
+-- standard output writes its piece, and that what was written is what one sees, is trusted. Want of memory is an answer of its
+-- own, and free: nothing is said of when it comes.
+use Rattle.std.specs.Prelude.{◌≡◌, ◌⊎◌, ℕ, ℤ, Bool, List, [], ◌∷◌, ◌++◌, map}
 use Rattle.rob_algebra.specs.Fraction.{Fraction, of_int}
 use Rattle.rob_meaning.specs.Certificates.{Certificate, Status, optimal, infeasible, unbounded}
 use Rattle.rob_meaning.specs.Guarantee.{HasBound, HasWorstCase}
@@ -17,7 +18,7 @@ use Rattle.rob_meaning.specs.Proves.{Proves, HasStatus}
 use Rattle.rob_meaning.specs.RobustModel.{RobustModel}
 use Rattle.rob_meaning.specs.UncertaintySet.{Admits}
 use Rattle.rob_outside.specs.Files.{whole, missing, too_long}
-use Rattle.rob_outside.specs.Puts.{PutAll, PutSome}
+use Rattle.rob_outside.specs.Puts.{PutAll, PutUntil, put_as}
 use Rattle.rob_outside.specs.Taken.{Took, TookPrefix}
 use Rattle.rob_model.specs.declared.place.Place.{Place}
 use Rattle.rob_model.specs.declared.place.Spot.{Spot}
@@ -47,6 +48,12 @@ use Rattle.rob_top.specs.declared.ended.Ended.{Ended}
 use Rattle.rob_top.specs.declared.ended.Ended.TheVariants.{Optimal, Infeasible, Unbounded, Printed, Accepted, Rejected, Words, Missing, TooLong, Model, EmptySet, TooWide, Cert, ReadFault, WriteFault, Memory}
 use Rattle.rob_words.specs.Commands.{Action, Line, rows, solve, prove, check, IsSpelled, IsCommandLine}
 use Rattle.rob_words.specs.Values.{Word}
+
+-- the line of a want of memory was put, by one put, whole or up to some byte
+pub record PutMemory (output : Output) : Type 0 where
+  pub whole : Bool
+  pub took : TookPrefix output.before output.now memory_text
+  pub puts : output.puts_now ≡ output.puts_before ++ put_as whole memory_text ∷ []
 
 module _ (call : Call) where
   -- ---- what was read
@@ -219,14 +226,14 @@ module _ (call : Call) where
 
   -- ---- the whole call
 
-  -- a text of some answer that is allowed here was put, whole or up to some byte: one put for each of its first lines, in order,
-  -- and none behind one that was refused
-  pub record PutPrefix (output : Output) : Type 0 where
+  -- a put was refused: a text of some answer that is allowed here was put up to some byte, one put for each of its first lines, in
+  -- order, each taken whole but the last one, which was refused, and none behind it
+  pub record PutRefused (output : Output) : Type 0 where
     pub answer : Ended
     pub text : List ℕ
     pub means : Means answer text
     pub took : TookPrefix output.before output.now text
-    pub puts : PutSome output.puts_before output.puts_now (text_lines text)
+    pub puts : PutUntil output.puts_before output.puts_now (text_lines text)
 
   -- the answer's text was put, all of it: one put for each of its lines, in order, each taken whole, and no other
   pub record PutWhole (output : Output) (answer : Ended) : Type 0 where
@@ -235,9 +242,9 @@ module _ (call : Call) where
     pub took : Took output.before output.now text
     pub puts : PutAll output.puts_before output.puts_now (text_lines text)
 
-  -- how a call ends: with an answer whose text was put; or with a put that the outside refused, behind a prefix of a text that
-  -- is allowed; or for want of memory, behind such a prefix
+  -- how a call ends: with an answer whose text was put; or with a put that the outside refused; or for want of memory, at a put or
+  -- before the first one, and then the line that says so was put
   abbrev pub Ends : Output → Ended → Type 0
-  Ends output WriteFault = WasRaised output.write_faults × PutPrefix output
-  Ends output Memory = PutPrefix output
+  Ends output WriteFault = WasRaised output.write_faults × PutRefused output
+  Ends output Memory = PutRefused output ⊎ PutMemory output
   Ends output answer = PutWhole output answer

@@ -6,7 +6,7 @@
 ghost use Rattle.std.specs.Prelude.{◌≡◌, ◌≤◌, ℕ, List, IfOk, map, string_bytes};
 ghost use Rattle.rob_top.specs.Calls.{Call, Fetches, call_of, count, output_of, requests, source_of};
 ghost use Rattle.rob_top.specs.Completeness.{IsComplete};
-ghost use Rattle.rob_top.specs.Headline.{Ends, Means, PutPrefix};
+ghost use Rattle.rob_top.specs.Headline.{Ends, Means, PutMemory};
 ghost use Rattle.rob_top.specs.Replies.{Asks, IsLine};
 ghost use Rattle.rob_words.specs.Answers.{action_of};
 
@@ -121,7 +121,7 @@ fn put_reply<K: Sink>(reply: Reply, out: &mut K) -> Ended
 
 /// Puts the line of a want of memory, which takes no memory. Where that is refused too, nothing changes in the answer.
 fn put_memory<K: Sink>(out: &mut K)
-    ensures prefix { (call : Call) → PutPrefix call
+    ensures line { PutMemory
         (output_of (K.taken out.old) (K.taken out.new) (K.puts out.old) (K.puts out.new) (count (K.faults out.old) (K.faults out.new))) }
     ensures counted { K.faults out.old ≤ K.faults out.new }
 {

@@ -1,3 +1,4 @@
+use Rattle.std.proofs.Common.{inr}
 use Rattle.std.specs.Prelude.{map, refl, string_bytes}
 use Rattle.rob_top.proofs.CompletenessLemmas.{ends_complete, means_complete}
 use Rattle.rob_top.specs.Answers.{memory_text}
@@ -14,3 +15,6 @@ returns-in-Err-clause-complete g c =
     (call_of (map string_bytes c.args.words.now) (source_of (g.S.Shelf.files c.args.shelf.now) (g.S.Shelf.log c.args.shelf.now) (g.S.Shelf.log c.answer.new.shelf))
     (count (g.S.Shelf.faults c.args.shelf.now) (g.S.Shelf.faults c.answer.new.shelf)) (count (g.L.Ledger.wides c.args.ledger.now) (g.L.Ledger.wides c.answer.new.ledger)))
     Memory memory_text refl
+
+pub returns-in-Err-clause-headline : goal.returns-in-Err-clause-headline
+returns-in-Err-clause-headline g c = inr c.put_memory.ensures.line
