@@ -1,7 +1,9 @@
 -- Several puts, one behind the other.
 use Rattle.std.proofs.Common.{◌≡◌, ℕ, true, false, List, [], ◌∷◌, ◌++◌, map, Result, Ok, Err, sym, refl, append_assoc, ap, ◌∙◌}
 use Rattle.std.proofs.lemmas.List.{append-nil, map-append}
-use Rattle.rob_outside.specs.Puts.{Put, PutAll, PutEach, PutUntil, put_as, put_of}
+use Rattle.rob_outside.specs.declared.sink.SinkErr.{SinkErr}
+use Rattle.rob_outside.specs.declared.sink.SinkErr.TheVariants.{Failed, Memory}
+use Rattle.rob_outside.specs.Puts.{Put, PutAll, PutEach, PutUntil, StandsBut, put_as, put_of}
 
 -- the pieces were put one by one, each taken whole
 abbrev whole : List (List ℕ) → List Put
@@ -52,3 +54,9 @@ put_then before middle now first second (Err error) p q =
           ∙ ap (λ (list : List Put). before ++ list)
           (sym (append_assoc (whole first) (whole q.done) last) ∙ ap (λ (list : List Put). list ++ last) (sym (map-append (put_as true) first q.done)));
     }
+
+-- where the count stood before a put that answered an error, it stands behind it in the same way
+pub stands_behind : (before middle now : ℕ) (error : SinkErr) → middle ≡ before
+    → StandsBut {T = Unit {0}} middle now (Err error) → StandsBut {T = Unit {0}} before now (Err error)
+stands_behind before middle now Failed e h = tt
+stands_behind before middle now Memory e h = h ∙ e

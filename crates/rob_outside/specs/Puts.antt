@@ -2,11 +2,14 @@
 --
 --   Put                        the piece that was put, and whether the put answered that it took the whole of it
 --   put_of piece result        what a put adds: one entry, also where it answered an error
+--   StandsBut before now result  the count of faults stands, unless the outside failed
 --   PutAll before now pieces   behind the puts before stand those of these pieces, in order, each taken whole
 --   PutUntil before now pieces behind them stand those of the first pieces, each taken whole, and then one that was refused
 --   PutEach .. pieces result   all were put and taken whole; or an error was answered, and nothing was put behind it
-use Rattle.std.specs.Prelude.{◌≡◌, ℕ, Bool, true, false, List, [], ◌∷◌, ◌++◌, map, Result, MatchResult, is_ok, refl}
+use Rattle.std.specs.Prelude.{◌≡◌, ℕ, Bool, true, false, List, [], ◌∷◌, ◌++◌, map, Result, Ok, Err, MatchResult, is_ok, refl}
 use Rattle.std.specs.Coded.{Coded, code_by, coded×, coded_ℕ, coded_list, coded_bool}
+use Rattle.rob_outside.specs.declared.sink.SinkErr.{SinkErr}
+use Rattle.rob_outside.specs.declared.sink.SinkErr.TheVariants.{Failed, Memory}
 
 -- a put: the piece, and whether it answered that the whole piece was taken
 pub record Put : Type 0 where
@@ -20,6 +23,12 @@ put_as whole piece = record { piece = piece; whole = whole }
 -- what a put adds: one entry, whatever it answered
 abbrev pub put_of : {T E : Type 0} → List ℕ → Result T E → Put
 put_of piece result = put_as (is_ok result) piece
+
+-- the count of faults stands, unless the outside failed
+abbrev pub StandsBut : {T : Type 0} → ℕ → ℕ → Result T SinkErr → Type 0
+StandsBut before now (Ok value) = now ≡ before
+StandsBut before now (Err Failed) = Unit {0}
+StandsBut before now (Err Memory) = now ≡ before
 
 -- behind the puts before stand those of these pieces, in order, each taken whole, and no other
 abbrev pub PutAll : List Put → List Put → List (List ℕ) → Type 0

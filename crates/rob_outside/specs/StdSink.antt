@@ -2,7 +2,7 @@
 use Rattle.std.specs.Prelude.{ℕ, List, []}
 use Rattle.rob_outside.specs.Puts.{Put}
 
--- the bytes that the machine's writes took so far, the puts and the faults
+-- the bytes that it noted as taken so far, the puts and the faults
 pub record OutputState : Type 0 where
   pub taken : List ℕ
   pub puts : List Put

@@ -2,7 +2,7 @@
 
 ghost use Rattle.std.specs.Prelude.{◌≡◌, ◌≤◌, ◌++◌, ◌∷◌, ℕ, List, []};
 ghost use Rattle.rob_number.specs.Counts.{Rose};
-ghost use Rattle.rob_outside.specs.Puts.{Put, put_of};
+ghost use Rattle.rob_outside.specs.Puts.{Put, StandsBut, put_of};
 ghost use Rattle.rob_outside.specs.Taken.{Takes};
 
 use rob_number::Memory;
@@ -45,5 +45,6 @@ pub trait Sink {
         // Every put is noted, also one that answers an error, and nothing else is.
         ensures noted { puts self.new ≡ puts self.old ++ put_of piece.now result ∷ [] }
         ensures counted { faults self.old ≤ faults self.new }
+        ensures stands { StandsBut (faults self.old) (faults self.new) result }
         ensures fault { result ≡ Err SinkErr.Failed → Rose (faults self.old) (faults self.new) };
 }

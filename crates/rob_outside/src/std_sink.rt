@@ -1,9 +1,10 @@
-// The machine's standard output. This is an edge that is trusted: what it tells are the bytes that the machine's writes said
-// they took; nothing is told of what it shows.
+// The machine's standard output. This is an edge that is trusted: what it tells are the bytes that it noted. That it notes behind
+// each write what the write said it took is proved over a writer whose bytes are known, and read over the machine's; nothing is
+// told of what it shows.
 
 ghost use Rattle.std.specs.Prelude.{◌≡◌, ◌≤◌, ◌++◌, ◌∷◌, [], IfErr, MatchResult};
 ghost use Rattle.rob_number.specs.Counts.{Rose, raised};
-ghost use Rattle.rob_outside.specs.Puts.{put_of};
+ghost use Rattle.rob_outside.specs.Puts.{StandsBut, put_of};
 ghost use Rattle.rob_outside.specs.StdSink.{empty_output};
 ghost use Rattle.rob_outside.specs.Taken.{Takes, TakesKnown, TookBoth};
 
@@ -13,8 +14,8 @@ use std::io;
 use std::io::Write;
 use std::marker::Model;
 
-/// Standard output. Contracts see the bytes that the machine's writes took so far, its puts with what each answered, and the
-/// number of its faults.
+/// Standard output. Contracts see the bytes that it noted as taken so far, its puts with what each answered, and the number of
+/// its faults.
 #[derive(Drop)]
 pub struct StdSink<'a, R: Print> {
     rt: &'a R,
@@ -60,6 +61,7 @@ impl<'a, R: Print> Sink for StdSink<'a, R> {
         ensures exact { MatchResult result (λ _. self.new.faults ≡ self.old.faults)
             (λ error. (error ≡ SinkErr.Failed) × (self.new.faults ≡ raised self.old.faults)) }
         ensures counted { self.old.faults ≤ self.new.faults }
+        ensures stands { StandsBut self.old.faults self.new.faults result }
         ensures fault { result ≡ Err SinkErr.Failed → Rose self.old.faults self.new.faults }
     {
         let written = write_whole(&mut io::writer(self.rt), piece, &mut self.taken);

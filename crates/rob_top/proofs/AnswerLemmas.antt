@@ -1,5 +1,5 @@
 -- Where an answer has to come.
-use Rattle.std.proofs.Common.{◌≡◌, ◌⊎◌, ℕ, List, refl, inl, inr}
+use Rattle.std.proofs.Common.{◌≡◌, ℕ, List, refl}
 use Rattle.rob_meaning.specs.RobustModel.{RobustModel}
 use Rattle.rob_model.specs.declared.place.Spot.{Spot}
 use Rattle.rob_top.specs.Calls.{Call}
@@ -16,9 +16,9 @@ wide_line call line m spot (checking c place h e verdict) = (line, h.file.forms.
 
 -- words that are no command line have no other answer
 pub no_command : (call : Call) (ended : Ended) (text : List ℕ) → (IsCommandLine call.words → ⊥) → Means call ended text
-    → (ended ≡ Words) ⊎ (ended ≡ Memory)
-no_command call Words text none h = inl refl
-no_command call Memory text none h = inr refl
+    → ended ≡ Words
+no_command call Words text none h = refl
+no_command call Memory text none h = absurd h
 no_command call WriteFault text none h = absurd h
 no_command call Optimal text none h = absurd (none ((h.line, h.forms.model.spelled)))
 no_command call Infeasible text none h = absurd (none ((h.line, h.forms.model.spelled)))

@@ -15,11 +15,7 @@ pub ends_whole : (call : Call) (output : Output) (ended : Ended) (text : List �
     → Means call ended text → Took output.before output.now text
     → PutAll output.puts_before output.puts_now (text_lines text) → Ends call output ended
 ends_whole call output WriteFault text means took puts = absurd means
-ends_whole call output Memory text means took puts = inr record {
-  whole = true;
-  took = took_is_prefix output.before output.now memory_text (subst (λ (t : List ℕ). Took output.before output.now t) means took);
-  puts = subst (λ (t : List ℕ). PutAll output.puts_before output.puts_now (text_lines t)) means puts;
-}
+ends_whole call output Memory text means took puts = absurd means
 ends_whole call output Optimal text means took puts = record { text = text; means = means; took = took; puts = puts }
 ends_whole call output Infeasible text means took puts = record { text = text; means = means; took = took; puts = puts }
 ends_whole call output Unbounded text means took puts = record { text = text; means = means; took = took; puts = puts }

@@ -31,9 +31,9 @@ use Rattle.rob_words.specs.Values.{Word, bits_of}
 use Rattle.rob_words.specs.declared.route.Route.{Route}
 use Rattle.rob_words.specs.declared.width.Width.{Width}
 
--- the call has an answer that is allowed, or the put of one was refused
+-- the call has an answer that is allowed, or a put or memory was refused
 abbrev Comes : Call → Ended → Type 0
-Comes call ended = ((text : List ℕ) × Means call ended text) ⊎ (ended ≡ WriteFault)
+Comes call ended = ((text : List ℕ) × Means call ended text) ⊎ IsUnput ended
 
 -- ---- one answer, or the outside failed
 
@@ -45,7 +45,7 @@ allowed_ends x ended (inr (inr e)) = inr (inr (inr e))
 comes_ends : (call : Call) (x ended : Ended) → Comes call ended
     → ((text : List ℕ) → Means call ended text → (ended ≡ x) ⊎ ((ended ≡ ReadFault) ⊎ (ended ≡ Memory))) → EndsAs x ended
 comes_ends call x ended (inl h) decides = allowed_ends x ended (decides h.0 h.1)
-comes_ends call x ended (inr e) decides = inr (inr (inl e))
+comes_ends call x ended (inr e) decides = inr (inr e)
 
 -- ---- the verdict on a certificate that proves
 module _ (limit : ℕ) (m : RobustModel) (c : Certificate) where
@@ -75,13 +75,9 @@ module _ (call : Call) (known : Known call.source) (ended : Ended) (comes : Come
   words_end : (IsCommandLine call.words → ⊥) → (ended ≡ Words) ⊎ IsUnput ended
   words_end none = by comes
     where
-      unread : (ended ≡ Words) ⊎ (ended ≡ Memory) → (ended ≡ Words) ⊎ IsUnput ended
-      unread (inl e) = inl e
-      unread (inr e) = inr (inr e)
-
       by : Comes call ended → (ended ≡ Words) ⊎ IsUnput ended
-      by (inl h) = unread (no_command call ended h.0 none h.1)
-      by (inr e) = inr (inl e)
+      by (inl h) = inl (no_command call ended h.0 none h.1)
+      by (inr e) = inr e
 
   module _ (line : Line) (m : RobustModel) where
     solving_ends : HasForms call line m → IsSolving line.action → IsSolveAnswer (limit_of line) m ended
@@ -89,14 +85,16 @@ module _ (call : Call) (known : Known call.source) (ended : Ended) (comes : Come
       where
         by : Comes call ended → IsSolveAnswer (limit_of line) m ended
         by (inl h) = solve_decides call known line m has solves ended h.0 h.1
-        by (inr e) = subst (λ (x : Ended). IsSolveAnswer (limit_of line) m x) (sym e) (inr (inl refl))
+        by (inr (inl e)) = subst (λ (x : Ended). IsSolveAnswer (limit_of line) m x) (sym e) (inr (inl refl))
+        by (inr (inr e)) = subst (λ (x : Ended). IsSolveAnswer (limit_of line) m x) (sym e) (inr (inr refl))
 
     empty_ends : HasForms call line m → IsSolving line.action → IsEmptySet m → IsEmptyAnswer (limit_of line) m ended
     empty_ends has solves none = by comes
       where
         by : Comes call ended → IsEmptyAnswer (limit_of line) m ended
         by (inl h) = empty_decides call known line m has solves none ended h.0 h.1
-        by (inr e) = subst (λ (x : Ended). IsEmptyAnswer (limit_of line) m x) (sym e) (inr (inl refl))
+        by (inr (inl e)) = subst (λ (x : Ended). IsEmptyAnswer (limit_of line) m x) (sym e) (inr (inl refl))
+        by (inr (inr e)) = subst (λ (x : Ended). IsEmptyAnswer (limit_of line) m x) (sym e) (inr (inr refl))
 
     module _ (c : Certificate) (has : HasCertificate call line m c) where
       read_model : IsModel m
@@ -148,13 +146,17 @@ comes_complete call ended (inl h) known =
     must_end (known_call call known) (known_again known) ended (inl (h.0, means_known call known ended h.0 h.1))
 comes_complete call ended (inr e) known = must_end (known_call call known) (known_again known) ended (inr e)
 
+-- where a put or memory was refused, any answer may be due
+pub unput_complete : (call : Call) (ended : Ended) → IsUnput ended → IsComplete call ended
+unput_complete call ended e = comes_complete call ended (inr e)
+
 pub means_complete : (call : Call) (ended : Ended) (text : List ℕ) → Means call ended text → IsComplete call ended
 means_complete call ended text means = comes_complete call ended (inl (text, means))
 
 -- each end of a call comes with an answer that is allowed, unless the put was refused
 ends_come : (call : Call) (output : Output) (ended : Ended) → Ends call output ended → Comes call ended
-ends_come call output WriteFault h = inr refl
-ends_come call output Memory h = inl (memory_text, refl)
+ends_come call output WriteFault h = inr (inl refl)
+ends_come call output Memory h = inr (inr refl)
 ends_come call output Optimal h = inl (h.text, h.means)
 ends_come call output Infeasible h = inl (h.text, h.means)
 ends_come call output Unbounded h = inl (h.text, h.means)

@@ -160,4 +160,4 @@ module _ (call : Call) (known : Known call.source) where
   }
   means_known ReadFault text h = h
   means_known WriteFault text h = absurd h
-  means_known Memory text h = h
+  means_known Memory text h = absurd h

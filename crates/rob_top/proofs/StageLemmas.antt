@@ -55,7 +55,7 @@ stage_of call (TooWide spot) text h = read h.line h.m (wide_model call h.line h.
 stage_of call (Cert rule number) text h = read h.line h.m h.file.forms.model (cert_course call rule number text h)
 stage_of call ReadFault text h = failed refl
 stage_of call WriteFault text h = absurd h
-stage_of call Memory text h = wanting refl
+stage_of call Memory text h = absurd h
 
 -- ---- what is found of a known file is one thing
 pub found_once : (call : Call) (request : Request) (a b : Found) → Known call.source → IsFound call request a → IsFound call request b → a ≡ b

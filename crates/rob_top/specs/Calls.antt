@@ -128,7 +128,7 @@ IsFetchOf request fetch = (fetch.name ≡ request.name) × (fetch.most ≡ reque
 abbrev pub CameWhole : Fetch → Type 0
 CameWhole fetch = (bytes : List ℕ) × (fetch.found ≡ Some (whole bytes))
 
--- the fetches ask for the first of these files, in order and each once, and none stands behind one that didn't come whole
+-- the fetches ask for the first of these files, in order and each at most once, and none stands behind one that didn't come whole
 abbrev pub AsksInOrder : List Request → List Fetch → Type 0
 AsksInOrder requests [] = Unit {0}
 AsksInOrder [] (fetch ∷ fetches) = ⊥
@@ -136,7 +136,7 @@ AsksInOrder (request ∷ requests) (fetch ∷ fetches) =
     IsFetchOf request fetch × ((fetches ≡ []) ⊎ (CameWhole fetch × AsksInOrder requests fetches))
 
 -- the fetches of a call with these words stand behind the earlier ones: there is none, or the words are a command line, and its
--- files are asked for in the order of the words, each once, and none behind one that didn't come whole
+-- files are asked for in the order of the words, each at most once, and none behind one that didn't come whole
 pub record Fetches (words : List Word) (before now : List Fetch) : Type 0 where
   pub grown : now ≡ before ++ behind before now
   pub in_order : (behind before now ≡ []) ⊎ ((line : Line) × IsSpelled words line × AsksInOrder (requests line.action) (behind before now))

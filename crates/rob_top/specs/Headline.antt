@@ -221,8 +221,9 @@ module _ (call : Call) where
   Means (TooWide spot) text = IsTooWide spot text
   Means (Cert rule line) text = IsNoCertificate rule line text
   Means ReadFault text = IsCommandLine call.words × WasRaised call.read_faults × (text ≡ read_text)
+  -- of a refused put and of want of memory `Ends` says what was put
   Means WriteFault text = ⊥
-  Means Memory text = text ≡ memory_text
+  Means Memory text = ⊥
 
   -- ---- the whole call
 
@@ -242,9 +243,10 @@ module _ (call : Call) where
     pub took : Took output.before output.now text
     pub puts : PutAll output.puts_before output.puts_now (text_lines text)
 
-  -- how a call ends: with an answer whose text was put; or with a put that the outside refused; or for want of memory, at a put or
-  -- before the first one, and then the line that says so was put
+  -- how a call ends: with an answer whose text was put; or with a put that the outside refused; or for want of memory, at a put,
+  -- and then no put failed, or before the first one, and then the line that says so was put
   abbrev pub Ends : Output → Ended → Type 0
   Ends output WriteFault = WasRaised output.write_faults × PutRefused output
-  Ends output Memory = PutRefused output ⊎ PutMemory output
+  Ends output Memory =
+      (output.write_faults.now ≡ output.write_faults.before) × PutRefused output ⊎ PutMemory output
   Ends output answer = PutWhole output answer

@@ -44,7 +44,7 @@ pub fn status_laws()
 {}
 
 /// Calls worked by hand: `specs/WorkedCalls.antt`. So what is asked of a call where a status, an empty set or a verdict has to be
-/// answered is met by some call.
+/// answered is met by some call. A fault of the outside and want of memory may come in the place of each answer.
 pub fn worked_calls()
     // `solve` on the smallest model is answered with `optimal`,
     ensures optimal { (result : Ended) → MustEnd (solve_call one_demand) result → EndsAs Optimal result }

@@ -13,7 +13,8 @@ use std::alloc::Global;
 use std::rt::Files;
 
 /// `run` over the machine's files and output: all that it says, of these two. They tell nothing of the files themselves, nor of
-/// what is seen: what a file holds is what its fetch answered, and what was put is what the output noted behind its writes.
+/// what is seen: what a file holds is what its fetch answered, and what was put is what the output's puts were asked to take
+/// and answered that they took.
 pub fn run_here<R: Files, P: Print, L: Ledger>(
     alloc: Global,
     words: &[String],
@@ -21,7 +22,7 @@ pub fn run_here<R: Files, P: Print, L: Ledger>(
     out: &mut StdSink<'_, P>,
     ledger: &mut L,
 ) -> Ended
-    // What the answer means of the bytes that came, and which bytes were written for it, one put for each line.
+    // What the answer means of the bytes that came, and which bytes were put for it, one put for each line.
     ensures headline { Ends
         (call_of (map string_bytes words.now) (source_of None shelf.old.log shelf.new.log)
         (count shelf.old.faults shelf.new.faults) (count (L.wides ledger.old) (L.wides ledger.new)))
@@ -32,7 +33,7 @@ pub fn run_here<R: Files, P: Print, L: Ledger>(
         (call_of (map string_bytes words.now) (source_of None shelf.old.log shelf.new.log)
         (count shelf.old.faults shelf.new.faults) (count (L.wides ledger.old) (L.wides ledger.new)))
         result }
-    // The files are asked for in the order of the words, each once, and none behind the one that decided.
+    // The files are asked for in the order of the words, each at most once, and none behind the one that decided.
     ensures fetched { Fetches (map string_bytes words.now) shelf.old.log shelf.new.log }
     ensures counted { (shelf.old.faults ≤ shelf.new.faults) × (out.old.faults ≤ out.new.faults)
         × (L.wides ledger.old ≤ L.wides ledger.new) }

@@ -2,7 +2,7 @@
 
 ghost use Rattle.std.specs.Prelude.{◌≡◌, ◌≤◌, ◌<◌, ◌++◌, ◌∷◌, Err, length, position};
 ghost use Rattle.rob_number.specs.Counts.{Rose};
-ghost use Rattle.rob_outside.specs.Puts.{PutEach};
+ghost use Rattle.rob_outside.specs.Puts.{PutEach, StandsBut};
 ghost use Rattle.rob_outside.specs.Taken.{Takes};
 ghost use Rattle.rob_top.specs.Lines.{is_line_end, text_lines};
 
@@ -14,6 +14,7 @@ pub fn put_lines<K: Sink>(text: &[u8], out: &mut K) -> Result<(), SinkErr>
     ensures took { Takes (K.taken out.old) (K.taken out.new) text.now result }
     ensures puts { PutEach (K.puts out.old) (K.puts out.new) (text_lines text.now) result }
     ensures counted { K.faults out.old ≤ K.faults out.new }
+    ensures stands { StandsBut (K.faults out.old) (K.faults out.new) result }
     ensures fault { result ≡ Err SinkErr.Failed → Rose (K.faults out.old) (K.faults out.new) }
 {
     let mut rest = text;

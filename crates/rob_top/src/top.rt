@@ -22,7 +22,7 @@ use std::alloc::Global;
 
 /// Does what the words say: reads the files that they name from the shelf, and puts its answer into the sink, one put for
 /// each line with its line end. `words` are those of the command line, without the program's own name. The ledger counts the
-/// operations on exact numbers and the results found wide.
+/// results found wide.
 ///
 /// After a refused put nothing more is put. Where memory is refused before the output is put, the line `fault: memory` is
 /// put, and where that is refused too, the answer stays want of memory.
@@ -48,7 +48,7 @@ pub fn run<S: Shelf, K: Sink, L: Ledger>(
         (count (L.wides ledger.old) (L.wides ledger.new)))
         result }
     ensures files { S.files shelf.new ≡ S.files shelf.old }
-    // The files are asked for in the order of the words, each once, and none behind the one that decided.
+    // The files are asked for in the order of the words, each at most once, and none behind the one that decided.
     ensures fetched { Fetches (map string_bytes words.now) (S.log shelf.old) (S.log shelf.new) }
     ensures counted { (S.faults shelf.old ≤ S.faults shelf.new) × (K.faults out.old ≤ K.faults out.new)
         × (L.wides ledger.old ≤ L.wides ledger.new) }
