@@ -1,15 +1,16 @@
 -- Names that are joined from words are words, so the names of a model's parts are.
-use Rattle.std.proofs.Common.{◌≡◌, ◌≢◌, ℕ, zero, suc, ◌+◌, ◌<◌, ◌^◌, List, [], ◌∷◌, ◌++◌, length, map, arith, refl, Bool, true, false}
+use Rattle.std.proofs.Common.{◌≡◌, ◌≢◌, ℕ, zero, suc, ◌+◌, ◌<◌, ◌^◌, List, [], ◌∷◌, ◌++◌, length, map, arith, refl, sym, subst, Bool, true, false}
 use Rattle.std.proofs.lemmas.Bool.{ltb-true}
 use Rattle.std.specs.Fmt.{decimal}
 use Rattle.std.specs.Prelude.{codes, flat_map, ltb, if◌then◌else◌, Option, Some, None}
 use Rattle.rob_algebra.specs.Fraction.{Fraction}
 use Rattle.rob_meaning.proofs.EachLemmas.{each_append, each_left, each_right, each_both}
 use Rattle.rob_meaning.proofs.NamedLemmas.{is_plain_word, each_mapped, each_unmapped, each_all, each_flat, number_each}
-use Rattle.rob_meaning.specs.Named.{parameter_names, row_names, variable_names, adaptive_names}
+use Rattle.rob_meaning.specs.Named.{parameter_names, written_names, row_names, variable_names, adaptive_names}
 use Rattle.rob_meaning.specs.Names.{Name, Parts, joined, behind_dots, parameter_name, bound_parts, side_parts, rule_parts, column_parts, column_names, form_parts, form_names, parameter_bound_parts, member_parts, statement_parts, by_number, set_row_names}
 use Rattle.rob_meaning.specs.Places.{Each}
-use Rattle.rob_meaning.specs.RobustModel.{Relation, at_most, at_least, equal, Parameter, Variable, AdaptiveVariable, Member, SetLine, line, budget, Row, RobustModel}
+use Rattle.rob_meaning.specs.RobustModel.{Relation, at_most, at_least, equal, Parameter, Variable, AdaptiveVariable, Member, SetLine, line, budget, Row, RobustModel, in_set, joint_parameters, written_parameters}
+use Rattle.rob_meaning.specs.WellFormed.{IsModel}
 use Rattle.rob_cert.specs.Apart.{IsWord, IsNamedInWords}
 use Rattle.rob_cert.proofs.NumberLemmas.{decimal_lacks}
 
@@ -68,15 +69,32 @@ parameter_word (p ∷ ps) h zero = h.0
 parameter_word (p ∷ ps) h (suc k) = parameter_word ps h.1 k
 
 -- ---- the names of a model's parts
-module _ (m : RobustModel) (words : IsNamedInWords m) where
+module _ (m : RobustModel) (model : IsModel m) (words : IsNamedInWords m) where
+  behind : Each IsWord (m.sets ++ (row_names m ++ (variable_names m ++ adaptive_names m)))
+  behind = each_right IsWord (written_names m) (m.sets ++ (row_names m ++ (variable_names m ++ adaptive_names m))) words
+
   later : Each IsWord (row_names m ++ (variable_names m ++ adaptive_names m))
-  later = each_right IsWord (parameter_names m) (row_names m ++ (variable_names m ++ adaptive_names m)) words
+  later = each_right IsWord m.sets (row_names m ++ (variable_names m ++ adaptive_names m)) behind
 
   last : Each IsWord (variable_names m ++ adaptive_names m)
   last = each_right IsWord (row_names m) (variable_names m ++ adaptive_names m) later
 
+  on_written : Each (λ (p : Parameter). IsWord p.name) (written_parameters m)
+  on_written = each_unmapped IsWord (λ (p : Parameter). p.name) (written_parameters m)
+      (each_left IsWord (written_names m) (m.sets ++ (row_names m ++ (variable_names m ++ adaptive_names m))) words)
+
   pub words_of_parameters : Each IsWord (parameter_names m)
-  words_of_parameters = each_left IsWord (parameter_names m) (row_names m ++ (variable_names m ++ adaptive_names m)) words
+  words_of_parameters =
+      subst (λ (ps : List Parameter). Each IsWord (map (λ (p : Parameter). p.name) ps)) (sym model.parameters)
+      (each_mapped IsWord (λ (p : Parameter). p.name) (λ (p : Parameter). IsWord p.name) (λ p h. h)
+      (joint_parameters (written_parameters m) m.sets)
+      (each_append (λ (p : Parameter). IsWord p.name) (written_parameters m) (flat_map (λ set. map (in_set set) (written_parameters m)) m.sets)
+      on_written
+      (each_flat (λ (p : Parameter). IsWord p.name) IsWord (λ set. map (in_set set) (written_parameters m))
+      (λ set h. each_mapped (λ (p : Parameter). IsWord p.name) (in_set set) (λ (p : Parameter). IsWord p.name)
+      (λ p k. each_append (λ byte. (byte ≢ 32) × (byte ≢ 10)) set (46 ∷ p.name) h ((λ s. omega arith, λ n. omega arith), k))
+      (written_parameters m) on_written)
+      m.sets (each_left IsWord m.sets (row_names m ++ (variable_names m ++ adaptive_names m)) behind))))
 
   on_rows : Each (λ (r : Row). IsWord r.name) m.rows
   on_rows = each_unmapped IsWord (λ (r : Row). r.name) m.rows (each_left IsWord (row_names m) (variable_names m ++ adaptive_names m) later)

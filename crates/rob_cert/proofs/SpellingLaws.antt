@@ -39,21 +39,21 @@ model_tells_apart m model named words =
     let tau : Each IsWord (codes "tau" ∷ []) = (letters (codes "tau") refl, tt) in
     record {
       distinct_entries = λ v. elim v as (λ u. AreDistinct (entry_names (naming_of m) u)) [
-        | Inside ↦ parameters_distinct m named
+        | Inside ↦ parameters_distinct m model named
         | Plan ↦ distinct_left (column_names m) (codes "tau" ∷ []) (distinct_columns m model named)
         | Move ↦ distinct_columns m model named
-        | At ↦ parameters_distinct m named
+        | At ↦ parameters_distinct m model named
       ];
       distinct_forms = distinct_forms m model named;
       distinct_set_rows = distinct_set_rows m model named;
       words_of_entries = λ v. elim v as (λ u. Each IsWord (entry_names (naming_of m) u)) [
-        | Inside ↦ words_of_parameters m words
-        | Plan ↦ words_of_columns m words
-        | Move ↦ each_append IsWord (column_names m) (codes "tau" ∷ []) (words_of_columns m words) tau
-        | At ↦ words_of_parameters m words
+        | Inside ↦ words_of_parameters m model words
+        | Plan ↦ words_of_columns m model words
+        | Move ↦ each_append IsWord (column_names m) (codes "tau" ∷ []) (words_of_columns m model words) tau
+        | At ↦ words_of_parameters m model words
       ];
-      words_of_forms = words_of_forms m words;
-      words_of_set_rows = words_of_set_rows m words (omega (arith, named.few));
+      words_of_forms = words_of_forms m model words;
+      words_of_set_rows = words_of_set_rows m model words (omega (arith, named.few));
     }
 
 -- ---- the words of a line that may stand at a stage

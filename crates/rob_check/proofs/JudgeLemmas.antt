@@ -5,7 +5,7 @@ use Rattle.std.specs.Prelude.{Option, Some, None, if◌then◌else◌}
 use Rattle.rob_algebra.specs.Fraction.{Fraction, ◌≤ℚ◌, ◌<ℚ◌}
 use Rattle.rob_algebra.specs.FractionLaws.{le_total_ℚ, not_lt_ℚ}
 use Rattle.rob_cert.specs.Shape.{IsItemOf}
-use Rattle.rob_meaning.proofs.AdmissionLemmas.{admission_law}
+use Rattle.rob_meaning.proofs.AdmittedLemmas.{admission_law}
 use Rattle.rob_meaning.proofs.ConeLemmas.{taken_law}
 use Rattle.rob_meaning.specs.Certificates.{Item}
 use Rattle.rob_meaning.specs.Places.{0ℚ, 1ℚ, Each}
@@ -86,10 +86,10 @@ module _ (limit : ℕ) (m : RobustModel) where
       judges_first (Holds m s p c) (Each (Holds m s p) cs) (place k) (holds_within limit m s p c) (verdict (set_tests limit m place s p (suc k) cs))
       (tells_by (Holds m s p c) (holds_within limit m s p c) (holds_is limit m s p c)) (set_judged place s p (suc k) cs)
 
-  pub inside_judged : (u : List Fraction) → length u ≡ length m.parameters → Judges (Admits m u) (verdict (inside_tests limit m u))
-  inside_judged u fits =
+  pub inside_judged : IsModel m → (u : List Fraction) → length u ≡ length m.parameters → Judges (Admits m u) (verdict (inside_tests limit m u))
+  inside_judged model u fits =
       judges_as (Each (Holds m 1ℚ u) (set_conditions m)) (Admits m u) (verdict (inside_tests limit m u))
-      (λ h. (admission_law m u).1 (record { numbers = fits; conditions = h })) (λ h. ((admission_law m u).0 h).conditions)
+      (λ h. (admission_law m model u).1 (record { numbers = fits; conditions = h })) (λ h. ((admission_law m model u).0 h).conditions)
       (set_judged At.Inside 1ℚ u zero (set_conditions m))
 
   module _ (model : IsModel m) where

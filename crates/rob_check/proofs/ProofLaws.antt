@@ -40,7 +40,7 @@ module _ (limit : ℕ) (m : RobustModel) (model : IsModel m) (c : Certificate) (
   base_judged : Judges base (verdict (base_tests limit m c))
   base_judged =
       judges_append (Admits m c.inside) (Each (IsItem m) c.items) (inside_tests limit m c.inside) (items_tests limit m zero c.items)
-      (inside_judged limit m c.inside shape.inside) (items_judged limit m model zero c.items shape.items.each)
+      (inside_judged limit m model c.inside shape.inside) (items_judged limit m model zero c.items shape.items.each)
 
   abbrev planned : Type 0
   planned = EachCovered m c.covers c.scale (plan_vector 1ℚ c.plan c.value)

@@ -18,7 +18,7 @@ ghost use Rattle.rob_meaning.specs.WellFormed.{IsModel};
 /// Where no number is wide the conditions are what it means that a certificate proves.
 pub fn check_laws()
     // The scenario `inside` is admitted.
-    ensures inside { (limit : ℕ) (m : RobustModel) (u : List Fraction) → length u ≡ length m.parameters
+    ensures inside { (limit : ℕ) (m : RobustModel) (u : List Fraction) → IsModel m → length u ≡ length m.parameters
         → Judges (Admits m u) (verdict (inside_tests limit m u)) }
     // The items are multiples of forms at multiples of scenarios and at rays.
     ensures items { (limit : ℕ) (m : RobustModel) → IsModel m → (i : ℕ) (items : List Item) → Each (IsItemOf m) items

@@ -19,7 +19,7 @@ use Rattle.rob_meaning.specs.UncertaintySet.{Admits}
 use Rattle.rob_meaning.specs.SetConditions.{Meets}
 use Rattle.rob_meaning.specs.WellFormed.{IsModel}
 use Rattle.rob_meaning.specs.Multipliers.{set_matrix, set_limits, ShowsEmpty}
-use Rattle.rob_meaning.proofs.AdmissionLemmas.{meets_admits}
+use Rattle.rob_meaning.proofs.AdmittedLemmas.{meets_admits}
 use Rattle.rob_counterpart.specs.SetPrograms.{IsOverSet}
 use Rattle.rob_counterpart.proofs.EndingScales.{IsOver, difference-over}
 use Rattle.rob_counterpart.specs.Splitting.{difference}
@@ -84,7 +84,7 @@ module _ (m : RobustModel) where
   point_admitted : IsModel m → (s : ℤ) (x : ℕ → ℤ) → pos 0 <ℤ s → LiesInSet (robust_of m) s (pair x)
       → Admits m (tabulate (length m.parameters) (λ c. over (pair x c) s))
   point_admitted model s x sp lies =
-      meets_admits m (tabulate (length m.parameters) (λ c. over (pair x c) s))
+      meets_admits m model (tabulate (length m.parameters) (λ c. over (pair x c) s))
       (subst (λ y. Meets m y (tabulate (length m.parameters) (λ c. over (pair x c) s))) (over-self s sp) (meets_over m s s (pair x) sp lies model))
 
   -- the point of a feasible basis, in any program over the set

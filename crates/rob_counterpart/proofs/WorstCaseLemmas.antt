@@ -26,7 +26,7 @@ use Rattle.rob_meaning.specs.SetConditions.{Meets}
 use Rattle.rob_meaning.specs.UncertaintySet.{Admits}
 use Rattle.rob_meaning.specs.WellFormed.{IsModel}
 use Rattle.rob_meaning.specs.Multipliers.{set_matrix, set_limits, Covers}
-use Rattle.rob_meaning.proofs.AdmissionLemmas.{admits_meets}
+use Rattle.rob_meaning.proofs.AdmittedLemmas.{admits_meets}
 use Rattle.rob_meaning.proofs.ClearingLemmas.{dot-append}
 use Rattle.rob_meaning.proofs.CoverLemmas.{dot_le, rows_shape, rows_le, form_at-parts}
 use Rattle.rob_meaning.proofs.MatrixLemmas.{dot-scale_right}
@@ -107,7 +107,7 @@ module _ (m : RobustModel) (i : ℕ) (some : i < length (matrices m)) (z : ℕ �
         (subst (λ v. 1ℚ *ℚ constant_part m i (whole_plan m z) +ℚ dot (parameter_part m i (whole_plan m z)) u ≤ℚ v) (sym (form_at-parts m i some 1ℚ scenario (whole_plan m z)))
         (Q.add_mono_ℚ (1ℚ *ℚ constant_part m i (whole_plan m z)) (1ℚ *ℚ constant_part m i (whole_plan m z)) (dot (parameter_part m i (whole_plan m z)) u) (dot (parameter_part m i (whole_plan m z)) scenario)
         (Q.le_refl_ℚ (1ℚ *ℚ constant_part m i (whole_plan m z)))
-        (subst (λ v. dot (parameter_part m i (whole_plan m z)) u ≤ℚ v) peak (lifted_bound u (lifted_of m model 1ℚ u (admits_meets m u admitted))))))
+        (subst (λ v. dot (parameter_part m i (whole_plan m z)) u ≤ℚ v) peak (lifted_bound u (lifted_of m model 1ℚ u (admits_meets m model u admitted))))))
 
 -- ---- the two endings
 module _ (m : RobustModel) (model : IsModel m) (i : ℕ) (some : i < length (matrices m)) (z : ℕ → ℤ) (own : Columns) (rows : Matrix) where

@@ -68,11 +68,12 @@ of_size a P left right cost = record {
 
 -- ---- the smallest model
 pub one_demand_model : IsModel one_demand
+unfolding ratio
 one_demand_model = found (test_model one_demand) tt
 
 pub one_demand_admitted : Admits one_demand (int 8 ∷ [])
 unfolding ratio
-one_demand_admitted = found (test_admits one_demand (int 8 ∷ [])) tt
+one_demand_admitted = found (test_admits one_demand one_demand_model (int 8 ∷ [])) tt
 
 -- x = 12: the objective x - tau <= 0 and the row at d = 12, 12 - x <= 0, sum to 12 - tau <= 0
 abbrev order_12 : Certificate

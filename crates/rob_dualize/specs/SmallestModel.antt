@@ -9,10 +9,14 @@ use Rattle.rob_meaning.specs.RobustModel.{RobustModel, at_least, minimise}
 abbrev pub one_demand : RobustModel
 one_demand = record {
   parameters = record { name = codes "d"; lower = Some (of_int (pos 8)); upper = Some (of_int (pos 12)) } ∷ [];
+  sets = [];
   set_lines = [];
+  line_sets = [];
   variables = record { name = codes "x"; lower = None; upper = None } ∷ [];
   adaptives = [];
   sense = minimise;
   objective = variable 0;
+  objective_set = 0;
   rows = record { name = codes "r"; left = variable 0; relation = at_least; right = parameter 0 } ∷ [];
+  row_sets = [];
 }

@@ -3,7 +3,8 @@
 ghost use Rattle.std.specs.Prelude.{◌≡◌, ℕ, List, length, ◌↔◌};
 ghost use Rattle.rob_algebra.specs.Fraction.{Fraction, ◌≤ℚ◌};
 ghost use Rattle.rob_meaning.specs.Forms.{FormHolds, plan_vector};
-ghost use Rattle.rob_meaning.specs.Guarantee.{HasBound, Keeps};
+ghost use Rattle.rob_meaning.specs.Guarantee.{HasBound};
+ghost use Rattle.rob_meaning.specs.JointMeaning.{Keeps};
 ghost use Rattle.rob_meaning.specs.Places.{0ℚ, 1ℚ};
 ghost use Rattle.rob_meaning.specs.RobustModel.{RobustModel, column_count};
 ghost use Rattle.rob_meaning.specs.UncertaintySet.{Admits};
@@ -21,8 +22,8 @@ pub fn forms_laws()
     ensures keeps { (m : RobustModel) (forms : Forms) (u plan : List Fraction) (tau : Fraction) → IsModel m → IsForms m forms
         → length u ≡ length m.parameters → length plan ≡ column_count m
         → Keeps m plan tau u ↔ ((i : ℕ) → whole_sum forms i 1ℚ u (plan_vector 1ℚ plan tau) ≤ℚ 0ℚ) }
-    // A plan has a bound exactly where all whole sums are at most 0 in every admitted scenario.
+    // Where some joint scenario is admitted, a plan has a bound exactly where all whole sums are at most 0 in every one.
     ensures bound { (m : RobustModel) (forms : Forms) (plan : List Fraction) (tau : Fraction) → IsModel m → IsForms m forms
-        → HasBound m plan tau ↔ ((length plan ≡ column_count m) × ((u : List Fraction) → Admits m u
+        → (inside : List Fraction) → Admits m inside → HasBound m plan tau ↔ ((length plan ≡ column_count m) × ((u : List Fraction) → Admits m u
         → (i : ℕ) → whole_sum forms i 1ℚ u (plan_vector 1ℚ plan tau) ≤ℚ 0ℚ)) }
 {}

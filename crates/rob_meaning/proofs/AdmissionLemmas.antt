@@ -1,15 +1,16 @@
--- A scenario is admitted exactly where it meets the set conditions taken once.
+-- A joint scenario is admitted condition by condition exactly where it meets the set conditions taken once.
 use Rattle.std.proofs.Common.{sym, ap, ap₂, subst, refl}
-use Rattle.std.specs.Prelude.{◌≡◌, ℕ, zero, suc, pos, List, [], ◌∷◌, Option, Some, None, ◌↔◌}
+use Rattle.std.specs.Prelude.{◌≡◌, ℕ, zero, suc, pos, List, [], ◌∷◌, Option, Some, None}
 use Rattle.rob_algebra.specs.Fraction.{Fraction, ◌+ℚ◌, ◌-ℚ◌, ◌*ℚ◌, ◌/ℚ◌, ◌≤ℚ◌}
 use Rattle.rob_algebra.specs.FractionLaws as Q
 use Rattle.rob_algebra.specs.Ring.{lit, ◌:+◌, ◌:-◌, ◌:*◌, v0, v1}
 use Rattle.rob_meaning.proofs.EachLemmas.{each_append, each_left, each_right}
 use Rattle.rob_meaning.specs.Expressions.{Expression}
+use Rattle.rob_meaning.specs.JointMeaning.{AdmitsJointly}
 use Rattle.rob_meaning.specs.Places.{1ℚ, at, Each, EachFrom}
 use Rattle.rob_meaning.specs.RobustModel.{Parameter, Member, SetLine, line, budget, RobustModel}
 use Rattle.rob_meaning.specs.SetConditions.{lower_bound, upper_bound, stated, if_declared, bounds_of, bounds_from, all_stated, taken, taken_deviation, total_taken, Holds, Meets}
-use Rattle.rob_meaning.specs.UncertaintySet.{abs_ℚ, Relates, KeepsLower, KeepsUpper, KeepsBounds, scaled_deviation, total_deviation, KeepsLine, Admits}
+use Rattle.rob_meaning.specs.UncertaintySet.{abs_ℚ, Relates, KeepsLower, KeepsUpper, KeepsBounds, scaled_deviation, total_deviation, KeepsLine}
 use Rattle.rob_meaning.specs.Values.{value}
 
 module _ (m : RobustModel) (u : List Fraction) where
@@ -92,8 +93,8 @@ module _ (m : RobustModel) (u : List Fraction) where
       )
 
   -- ---- admission
-  pub admits_meets : Admits m u → Meets m 1ℚ u
-  admits_meets h =
+  pub jointly_meets : AdmitsJointly m u → Meets m 1ℚ u
+  jointly_meets h =
       record {
         numbers = h.numbers;
         conditions =
@@ -101,8 +102,8 @@ module _ (m : RobustModel) (u : List Fraction) where
             (bounds_in zero m.parameters h.bounds) (lines_in m.set_lines h.lines);
       }
 
-  pub meets_admits : Meets m 1ℚ u → Admits m u
-  meets_admits h =
+  pub meets_jointly : Meets m 1ℚ u → AdmitsJointly m u
+  meets_jointly h =
       record {
         numbers = h.numbers;
         bounds =
@@ -112,6 +113,3 @@ module _ (m : RobustModel) (u : List Fraction) where
             lines_out m.set_lines
             (each_right (Holds m 1ℚ u) (bounds_from zero m.parameters) (all_stated m.set_lines) h.conditions);
       }
-
-  pub admission_law : Admits m u ↔ Meets m 1ℚ u
-  admission_law = (admits_meets, meets_admits)

@@ -5,6 +5,8 @@ use Rattle.rob_algebra.specs.Fraction.{Fraction, ◌+ℚ◌, ◌*ℚ◌, ◌≤�
 use Rattle.rob_algebra.specs.FractionLaws as Q
 use Rattle.rob_algebra.specs.FractionLaws.{ℚ_ring}
 use Rattle.rob_algebra.specs.Lists.{dot, scale, plus_all, mat_vec, dot-scale, dot-plus}
+use Rattle.rob_meaning.proofs.AdmittedLemmas.{admits_jointly, jointly_admits}
+use Rattle.rob_meaning.proofs.JointBoundLemmas.{bound_joint, joint_bound}
 use Rattle.rob_meaning.proofs.EachLemmas.{each_both}
 use Rattle.rob_meaning.proofs.FormLemmas.{Nonpositive, keeps_forms, forms_keep, forms_linear}
 use Rattle.rob_meaning.proofs.MatrixLemmas.{dot-scale_right, dot-plus_right, length-mat_vec, sum_in, sum_out, matrix_in, matrix_out}
@@ -12,7 +14,8 @@ use Rattle.rob_meaning.specs.Clearing.{fractions}
 use Rattle.rob_meaning.specs.Degrees.{IsLinear}
 use Rattle.rob_meaning.specs.Expressions.{Expression}
 use Rattle.rob_meaning.specs.Forms.{FormHolds, form_at, forms, matrices, matrix_at, matrix_of, numbers_at, plan_vector, sum_at}
-use Rattle.rob_meaning.specs.Guarantee.{HasBound, Keeps}
+use Rattle.rob_meaning.specs.Guarantee.{HasBound}
+use Rattle.rob_meaning.specs.JointMeaning.{Keeps}
 use Rattle.rob_meaning.specs.Places.{0ℚ, 1ℚ, Each}
 use Rattle.rob_meaning.specs.RobustModel.{RobustModel, column_count}
 use Rattle.rob_meaning.specs.UncertaintySet.{Admits}
@@ -88,12 +91,18 @@ module _ (m : RobustModel) (model : IsModel m) (plan : List Fraction) (tau : Fra
   -- a bound, by the sums of the forms in every admitted scenario
   pub bound_at : HasBound m plan tau → (u : List Fraction) → Admits m u →
       (i : ℕ) → form_at m i 1ℚ u (plan_vector 1ℚ plan tau) ≤ℚ 0ℚ
-  bound_at h u admitted = keeps_at u admitted.numbers h.columns (h.keeps u admitted)
+  bound_at h u admitted =
+      keeps_at u admitted.numbers h.columns ((bound_joint m model plan tau h).keeps u (admits_jointly m model u admitted))
 
-  pub at_bound : length plan ≡ column_count m →
+  pub at_bound : (inside : List Fraction) → Admits m inside → length plan ≡ column_count m →
       ((u : List Fraction) → Admits m u → (i : ℕ) → i < length (matrices m) → form_at m i 1ℚ u (plan_vector 1ℚ plan tau) ≤ℚ 0ℚ) →
       HasBound m plan tau
-  at_bound fits h = record { columns = fits; keeps = λ u admitted. at_keeps u admitted.numbers fits (h u admitted) }
+  at_bound inside some fits h =
+      joint_bound m model plan tau inside (admits_jointly m model inside some)
+      (record {
+        columns = fits;
+        keeps = λ u jointly. at_keeps u jointly.numbers fits (h u (jointly_admits m model u jointly));
+      })
 
   some_form : (es : List Expression) (i : ℕ) (u : List Fraction) → Each (IsLinear m) es →
       length u ≡ length m.parameters → length plan ≡ column_count m →
@@ -111,7 +120,8 @@ module _ (m : RobustModel) (model : IsModel m) (plan : List Fraction) (tau : Fra
       FormHolds m i u plan tau ↔ (form_at m i 1ℚ u (plan_vector 1ℚ plan tau) ≤ℚ 0ℚ)
   form_law i u hu fits = some_form (forms m) i u (forms_linear m model) hu fits
 
-  pub bound_law : HasBound m plan tau ↔
+  pub bound_law : (inside : List Fraction) → Admits m inside → HasBound m plan tau ↔
       ((length plan ≡ column_count m)
       × ((u : List Fraction) → Admits m u → (i : ℕ) → form_at m i 1ℚ u (plan_vector 1ℚ plan tau) ≤ℚ 0ℚ))
-  bound_law = (λ h. (h.columns, bound_at h), λ h. at_bound h.0 (λ u admitted i k. h.1 u admitted i))
+  bound_law inside some =
+      (λ h. (h.columns, bound_at h), λ h. at_bound inside some h.0 (λ u admitted i k. h.1 u admitted i))

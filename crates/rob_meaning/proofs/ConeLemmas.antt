@@ -6,7 +6,7 @@ use Rattle.rob_algebra.specs.FractionLaws as Q
 use Rattle.rob_algebra.specs.FractionLaws.{ℚ_ring}
 use Rattle.rob_algebra.specs.Lists.{scale, plus_all, length-scale, length-plus_all}
 use Rattle.rob_algebra.specs.Ring.{lit, ◌:+◌, ◌:*◌, v0, v1, v2, v3, v4, v5, v6}
-use Rattle.rob_meaning.proofs.AdmissionLemmas.{admits_meets, meets_admits}
+use Rattle.rob_meaning.proofs.AdmittedLemmas.{admits_meets, meets_admits}
 use Rattle.rob_meaning.proofs.AlongLemmas.{along-plus_list, along-scale_list}
 use Rattle.rob_meaning.proofs.EachLemmas.{each_map, each_both}
 use Rattle.rob_meaning.proofs.LinearLemmas.{le_along, zero_le_one}
@@ -108,10 +108,10 @@ module _ (m : RobustModel) (model : IsModel m) where
   pub along_ray : (u r : List Fraction) (t : Fraction) → Admits m u → IsRay m r → 0ℚ ≤ℚ t →
       Admits m (plus_all ℚ_ring u (scale ℚ_ring t r))
   along_ray u r t admitted is_ray some =
-      meets_admits m (plus_all ℚ_ring u (scale ℚ_ring t r))
+      meets_admits m model (plus_all ℚ_ring u (scale ℚ_ring t r))
       (subst (λ y. Meets m y (plus_all ℚ_ring u (scale ℚ_ring t r)))
       (Q.ring (t ∷ []) (lit (pos 1) :+ v0 :* lit (pos 0)) (lit (pos 1)) refl)
-      (meets_sum 1ℚ (t *ℚ 0ℚ) u (scale ℚ_ring t r) (admits_meets m u admitted) (meets_scaled t 0ℚ r some is_ray)))
+      (meets_sum 1ℚ (t *ℚ 0ℚ) u (scale ℚ_ring t r) (admits_meets m model u admitted) (meets_scaled t 0ℚ r some is_ray)))
 
   -- ---- s times an admitted scenario, or a ray, is what meets the conditions taken s times, with s at least 0
   pub taken_meets : (s : Fraction) (p : List Fraction) → IsTaken m s p → (0ℚ ≤ℚ s) × Meets m s p
@@ -120,7 +120,7 @@ module _ (m : RobustModel) (model : IsModel m) where
     subst (λ z. Meets m z p) (Q.ring (s ∷ []) (v0 :* lit (pos 1)) v0 refl)
         (subst (λ (q : List Fraction). Meets m (s *ℚ 1ℚ) q) (scale_scale s (inv_ℚ s) p (Q.mul_inv s (pos_some s h.0)))
         (meets_scaled s 1ℚ (scale ℚ_ring (inv_ℚ s) p) (Q.le_of_lt_ℚ 0ℚ s h.0)
-        (admits_meets m (scale ℚ_ring (inv_ℚ s) p) h.1))),
+        (admits_meets m model (scale ℚ_ring (inv_ℚ s) p) h.1))),
   )
   taken_meets s p (inr h) = (subst (λ z. 0ℚ ≤ℚ z) (sym h.0) (Q.le_refl_ℚ 0ℚ), subst (λ z. Meets m z p) (sym h.0) h.1)
 
@@ -132,7 +132,7 @@ module _ (m : RobustModel) (model : IsModel m) where
       by (inr k) =
           inl (
             k,
-            meets_admits m (scale ℚ_ring (inv_ℚ s) p)
+            meets_admits m model (scale ℚ_ring (inv_ℚ s) p)
                 (subst (λ z. Meets m z (scale ℚ_ring (inv_ℚ s) p))
                 (Q.ℚ-mul_comm (inv_ℚ s) s ∙ Q.mul_inv s (pos_some s k))
                 (meets_scaled (inv_ℚ s) s p (Q.le_of_lt_ℚ 0ℚ (inv_ℚ s) (inv_pos s k)) h)),

@@ -5,7 +5,7 @@ use Rattle.rob_algebra.specs.Fraction.{Fraction, ◌≤ℚ◌}
 use Rattle.rob_algebra.specs.FractionLaws as Q
 use Rattle.rob_algebra.specs.FractionLaws.{ℚ_ring}
 use Rattle.rob_algebra.specs.Lists.{dot, scale, mat_vec, dot-zeros, dot-vec_mat}
-use Rattle.rob_meaning.proofs.AdmissionLemmas.{admits_meets}
+use Rattle.rob_meaning.proofs.AdmittedLemmas.{admits_meets}
 use Rattle.rob_meaning.proofs.CoverLemmas.{dot_le, rows_shape, rows_le}
 use Rattle.rob_meaning.proofs.MatrixLemmas.{dot-scale_right}
 use Rattle.rob_meaning.proofs.WholeRowLemmas.{lifted_of}
@@ -36,4 +36,4 @@ module _ (m : RobustModel) (model : IsModel m) (weights : List Fraction) (w : Sh
           ∙ dot-zeros ℚ_ring (set_column_count m) (u ++ a.lifts)
 
   pub shows_empty : IsEmptySet m
-  shows_empty u admitted = no_lifted u (lifted_of m model 1ℚ u (admits_meets m u admitted))
+  shows_empty u admitted = no_lifted u (lifted_of m model 1ℚ u (admits_meets m model u admitted))

@@ -11,7 +11,8 @@ use Rattle.rob_meaning.proofs.TauLemmas.{at-end, value_more, variable_more, rule
 use Rattle.rob_meaning.specs.Degrees.{IsLinear}
 use Rattle.rob_meaning.specs.Expressions.{Expression, adaptive, number, variable}
 use Rattle.rob_meaning.specs.Forms.{adaptive_forms, bound_forms, difference, forms, objective_form, row_forms, sides, tau_column, variable_forms}
-use Rattle.rob_meaning.specs.Guarantee.{IsNoWorse, Keeps}
+use Rattle.rob_meaning.specs.Guarantee.{IsNoWorse}
+use Rattle.rob_meaning.specs.JointMeaning.{Keeps}
 use Rattle.rob_meaning.specs.Places.{0ℚ, Each, EachFrom, at}
 use Rattle.rob_meaning.specs.RobustModel.{AdaptiveVariable, Relation, RobustModel, Row, Sense, Variable, at_least, at_most, column_count, equal, maximise, minimise}
 use Rattle.rob_meaning.specs.SetConditions.{if_declared}

@@ -6,13 +6,18 @@ pub mod TableLemmas
 pub mod EntryLemmas
 pub mod ClearingLemmas
 pub mod LeastLemmas
+pub mod ListLemmas
+pub mod JointScenarioLemmas
 pub mod AdmissionLemmas
+pub mod AdmittedLemmas
 pub mod SetRowLemmas
 pub mod ConeLemmas
 pub mod WholeRowLemmas
 pub mod TauLemmas
 pub mod FormLemmas
 pub mod MatrixLemmas
+pub mod AloneLemmas
+pub mod JointBoundLemmas
 pub mod AtLemmas
 pub mod StatusLemmas
 pub mod CoverLemmas
@@ -24,6 +29,7 @@ pub mod NameLemmas
 pub mod DistinctLemmas
 pub mod JoinedLemmas
 pub mod NamedLemmas
+pub mod FineNames
 pub mod DeclaredLemmas
 pub mod NamedFormLemmas
 pub mod NamedSetLemmas
@@ -32,3 +38,4 @@ pub mod WorkedNotation
 mod WorkedModels
 mod WorkedBudgets
 mod WorkedSets
+mod WorkedNamedSets

@@ -4,33 +4,34 @@ use Rattle.std.proofs.lemmas.List.{map-append}
 use Rattle.std.proofs.lemmas.List.Concat.{flat_map_single}
 use Rattle.std.specs.Prelude.{◌≡◌, ◌≢◌, zero, suc, ◌<◌, List, [], ◌∷◌, ◌++◌, length, map, flat_map, codes}
 use Rattle.rob_meaning.proofs.DistinctLemmas.{distinct_append, apart_append, apart_by, distinct_map, Keyed, flat_distinct, flat_apart}
-use Rattle.rob_meaning.proofs.EachLemmas.{each_append, each_map}
+use Rattle.rob_meaning.proofs.EachLemmas.{each_append, each_both, each_map}
 use Rattle.rob_meaning.proofs.JoinedLemmas.{ArePlain, distinct_joined}
 use Rattle.rob_meaning.proofs.NamedLemmas.{part, plain_word, bounds_distinct, bounds_keyed, bounds_plain, sides_distinct, sides_plain, row_keyed, each_mapped, each_unmapped, each_all, each_flat, keyed_has}
 use Rattle.rob_meaning.specs.Named.{AreDistinct, IsPlain, IsFree, IsNamed}
 use Rattle.rob_meaning.specs.Names.{Parts, joined, parameter_name, bound_parts, side_parts, rule_parts, column_parts, column_names_with_tau, form_parts, form_names}
 use Rattle.rob_meaning.specs.Places.{Each}
-use Rattle.rob_meaning.specs.RobustModel.{Variable, AdaptiveVariable, Row, RobustModel}
+use Rattle.rob_meaning.specs.RobustModel.{Variable, AdaptiveVariable, Row, RobustModel, written_count}
 use Rattle.rob_meaning.specs.WellFormed.{IsModel}
-use Rattle.rob_meaning.proofs.DeclaredLemmas.{rows_distinct, variables_distinct, adaptives_distinct, variables_apart_adaptives, rows_apart_variables, rows_apart_adaptives, on_rows, on_variables, on_adaptives, pname_plain, pname_same}
+use Rattle.rob_meaning.proofs.DeclaredLemmas.{rows_distinct, variables_distinct, adaptives_distinct, variables_apart_adaptives, rows_apart_variables, rows_apart_adaptives, on_rows, on_variables, on_adaptives, wname_plain, pname_same, written_below}
 
 module _ (m : RobustModel) (model : IsModel m) (named : IsNamed m) where
   -- ---- decision columns
-  rule_distinct : (y : AdaptiveVariable) → Each (λ k. k < length m.parameters) y.on → AreDistinct y.on →
+  rule_distinct : (y : AdaptiveVariable) → Each (λ k. k < written_count m) y.on → AreDistinct y.on →
       AreDistinct (rule_parts m.parameters y)
   rule_distinct y inside d = (
     each_mapped (λ q. (y.name ∷ []) ≢ q) (λ d. y.name ∷ parameter_name m.parameters d ∷ [])
-        (λ k. k < length m.parameters)
+        (λ k. k < written_count m)
         (λ k some e. shorter (ap length e)) y.on inside,
-    distinct_map (λ k. k < length m.parameters) (λ d. y.name ∷ parameter_name m.parameters d ∷ [])
-        (λ i j hi hj e. pname_same m named i j hi hj (ap (part 1) e)) y.on inside d,
+    distinct_map (λ k. k < written_count m) (λ d. y.name ∷ parameter_name m.parameters d ∷ [])
+        (λ i j hi hj e. pname_same m model named i j (written_below m model named i hi) (written_below m model named j hj)
+        (ap (part 1) e)) y.on inside d,
   )
     where
       shorter : suc zero ≡ suc (suc zero) → ⊥
       shorter e = omega arith
 
   rules_distinct : (as_listed : List AdaptiveVariable) →
-      Each (λ (y : AdaptiveVariable). Each (λ k. k < length m.parameters) y.on) as_listed →
+      Each (λ (y : AdaptiveVariable). Each (λ k. k < written_count m) y.on) as_listed →
       Each (λ (y : AdaptiveVariable). AreDistinct y.on) as_listed → Each
       (λ y. AreDistinct (rule_parts m.parameters y)) as_listed
   rules_distinct [] h k = tt
@@ -73,12 +74,12 @@ module _ (m : RobustModel) (model : IsModel m) (named : IsNamed m) where
       (rule_parts m.parameters) m.adaptives
       (variables_apart_adaptives m named) variables_keyed rules_keyed)
 
-  rule_plain : (y : AdaptiveVariable) → IsPlain y.name → Each ArePlain (rule_parts m.parameters y)
+  rule_plain : (y : AdaptiveVariable) → IsPlain y.name × Each (λ k. k < written_count m) y.on →
+      Each ArePlain (rule_parts m.parameters y)
   rule_plain y h = (
-    (h, tt),
-    each_mapped ArePlain (λ d. y.name ∷ parameter_name m.parameters d ∷ []) (λ d. Unit {0})
-        (λ d k. (h, (pname_plain m named d, tt))) y.on
-        (each_all (λ d. Unit {0}) (λ d. tt) y.on),
+    (h.0, tt),
+    each_mapped ArePlain (λ d. y.name ∷ parameter_name m.parameters d ∷ []) (λ k. k < written_count m)
+        (λ d k. (h.0, (wname_plain m model named d k, tt))) y.on h.1,
   )
 
   columns_plain : Each ArePlain columns
@@ -86,8 +87,12 @@ module _ (m : RobustModel) (model : IsModel m) (named : IsNamed m) where
       each_append ArePlain (flat_map variable_part m.variables) (flat_map (rule_parts m.parameters) m.adaptives)
       (each_flat ArePlain (λ (x : Variable). IsPlain x.name) variable_part (λ x h. ((h, tt), tt)) m.variables
       (each_unmapped IsPlain (λ (x : Variable). x.name) m.variables (on_variables m named IsPlain named.plain)))
-      (each_flat ArePlain (λ (y : AdaptiveVariable). IsPlain y.name) (rule_parts m.parameters) rule_plain m.adaptives
-      (each_unmapped IsPlain (λ (y : AdaptiveVariable). y.name) m.adaptives (on_adaptives m named IsPlain named.plain)))
+      (each_flat ArePlain (λ (y : AdaptiveVariable). IsPlain y.name × Each (λ k. k < written_count m) y.on)
+      (rule_parts m.parameters) rule_plain m.adaptives
+      (each_both (λ (y : AdaptiveVariable). IsPlain y.name) (λ y. Each (λ k. k < written_count m) y.on)
+      (λ y. IsPlain y.name × Each (λ k. k < written_count m) y.on) (λ y h k. (h, k)) m.adaptives
+      (each_unmapped IsPlain (λ (y : AdaptiveVariable). y.name) m.adaptives (on_adaptives m named IsPlain named.plain))
+      model.lists))
 
   -- none of them begins with a word that is kept
   columns_free : Each (λ p. IsFree (part 0 p)) columns

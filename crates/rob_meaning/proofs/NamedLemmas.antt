@@ -25,7 +25,7 @@ word_differs x y xs ys ne e = ne (ap (λ (zs : Name). get_or zs 0 0) e)
 le_is_not_ge : codes "le" ≢ codes "ge"
 le_is_not_ge = word_differs 108 103 (codes "e") (codes "e") (λ e. omega arith)
 
-lower_is_not_upper : codes "lower" ≢ codes "upper"
+pub lower_is_not_upper : codes "lower" ≢ codes "upper"
 lower_is_not_upper = word_differs 108 117 (codes "ower") (codes "pper") (λ e. omega arith)
 
 pub up_is_not_down : codes "up" ≢ codes "down"
@@ -72,7 +72,7 @@ bounds_plain name (Some l) None h = ((h, (plain_word (codes "lower") refl, tt)),
 bounds_plain name (Some l) (Some b) h =
     ((h, (plain_word (codes "lower") refl, tt)), ((h, (plain_word (codes "upper") refl, tt)), tt))
 
-last_part : (ps : Parts) (x : Name) → part (length ps) (ps ++ x ∷ []) ≡ x
+pub last_part : (ps : Parts) (x : Name) → part (length ps) (ps ++ x ∷ []) ≡ x
 last_part [] x = refl
 last_part (p ∷ ps) x = last_part ps x
 

@@ -7,7 +7,7 @@ use Rattle.rob_algebra.specs.FractionLaws.{ℚ_ring}
 use Rattle.rob_algebra.specs.Lists.{dot, scale, plus_all, length-scale, length-plus_all}
 use Rattle.rob_algebra.specs.Ring as Solver
 use Rattle.rob_algebra.specs.Ring.{lit, minus, ◌:+◌, ◌:-◌, ◌:*◌, v0, v1, v2, v3, v4, v5}
-use Rattle.rob_meaning.proofs.AdmissionLemmas.{admits_meets}
+use Rattle.rob_meaning.proofs.AdmittedLemmas.{admits_meets}
 use Rattle.rob_meaning.proofs.AlongLemmas.{suc_same}
 use Rattle.rob_meaning.proofs.AtLemmas.{bound_at, at_bound, sum_at-plus_plan, sum_at-scale_plan}
 use Rattle.rob_meaning.proofs.CoverLemmas.{covered_at}
@@ -114,7 +114,7 @@ module _ (m : RobustModel) (model : IsModel m) where
   covered : (covers : List Cover) (s : Fraction) (z : List Fraction) → 0ℚ <ℚ s → EachCovered m covers s z →
       (u : List Fraction) → Admits m u → (i : ℕ) → i < length (matrices m) → form_at m i 1ℚ u z ≤ℚ 0ℚ
   covered covers s z some h u admitted i k =
-      covered_at m model i k s z (amounts_of m covers i) (h i k) 1ℚ u some zero_le_one (admits_meets m u admitted)
+      covered_at m model i k s z (amounts_of m covers i) (h i k) 1ℚ u some zero_le_one (admits_meets m model u admitted)
 
   -- the items are at most 0 at every plan with its bound
   items_at : (inside : List Fraction) → Admits m inside → (plan : List Fraction) (tau : Fraction) →
@@ -136,7 +136,7 @@ module _ (m : RobustModel) (model : IsModel m) where
 
   optimal_bound : (c : Certificate) → ProvesOptimal m c → HasBound m c.plan c.value
   optimal_bound c h =
-      at_bound m model c.plan c.value h.columns (covered c.covers c.scale
+      at_bound m model c.plan c.value c.inside h.inside h.columns (covered c.covers c.scale
       (plan_vector 1ℚ c.plan c.value) h.scale h.covered)
 
   pub proves_optimal : (c : Certificate) → ProvesOptimal m c → IsOptimal m c.value
@@ -175,6 +175,7 @@ module _ (m : RobustModel) (model : IsModel m) where
       HasBound m (plus_all ℚ_ring c.plan (scale ℚ_ring times c.step)) (c.value +ℚ times *ℚ c.step_bound)
   moved_bound c h times some =
       at_bound m model (plus_all ℚ_ring c.plan (scale ℚ_ring times c.step)) (c.value +ℚ times *ℚ c.step_bound)
+      c.inside h.inside
       (length-plus_all ℚ_ring c.plan (scale ℚ_ring times c.step)
       (h.columns ∙ sym (length-scale ℚ_ring times c.step ∙ h.step_columns))
       ∙ length-scale ℚ_ring times c.step ∙ h.step_columns)
@@ -207,7 +208,7 @@ module _ (m : RobustModel) (model : IsModel m) where
           (plan : List Fraction) × HasBound m plan t
       by (inl k) = (
         c.plan,
-        bound_weakens m c.plan c.value t k (at_bound m model c.plan c.value h.columns
+        bound_weakens m c.plan c.value t k (at_bound m model c.plan c.value c.inside h.inside h.columns
             (covered c.covers c.scale (plan_vector 1ℚ c.plan c.value) h.scale h.covered)),
       )
       by (inr k) = (

@@ -5,12 +5,13 @@ use Rattle.rob_algebra.specs.Fraction.{Fraction, ◌+ℚ◌, ◌-ℚ◌}
 use Rattle.rob_algebra.specs.FractionLaws as Q
 use Rattle.rob_algebra.specs.Ring.{lit, ◌:+◌, ◌:-◌, v0}
 use Rattle.rob_meaning.proofs.LinearLemmas.{zero_lt_one}
-use Rattle.rob_meaning.specs.Guarantee.{HasWorstCase, HasBound, IsNoWorse, Keeps}
+use Rattle.rob_meaning.specs.Guarantee.{HasWorstCase, HasBound, IsNoWorse, KeepsIn}
 use Rattle.rob_meaning.specs.Places.{0ℚ, 1ℚ}
 use Rattle.rob_meaning.specs.RobustModel.{RobustModel, Sense, maximise, minimise}
 use Rattle.rob_meaning.specs.Status.{IsInfeasible, IsOptimal, IsUnbounded}
-use Rattle.rob_meaning.specs.UncertaintySet.{Admits}
+use Rattle.rob_meaning.specs.UncertaintySet.{AdmitsIn, in_each_set}
 use Rattle.rob_meaning.specs.Values.{value}
+use Rattle.rob_meaning.specs.WellFormed.{IsModel}
 
 no_worse_both : (sense : Sense) (a b : Fraction) → IsNoWorse sense a b → IsNoWorse sense b a → a ≡ b
 no_worse_both minimise a b h k = Q.le_antisym_ℚ a b h k
@@ -53,14 +54,14 @@ pub bound_weakens : (m : RobustModel) (plan : List Fraction) (v tau : Fraction) 
 bound_weakens m plan v tau h b =
     record {
       columns = b.columns;
-      keeps = λ u admitted.
-          (let k : Keeps m plan v u = b.keeps u admitted in
+      keeps = λ S some u admitted.
+          (let k : KeepsIn m plan v S u = b.keeps S some u admitted in
           record {
-            objective = no_worse_trans m.sense _ v tau k.objective h;
+            objective = λ e. no_worse_trans m.sense _ v tau (k.objective e) h;
             rows = k.rows;
-            variables = k.variables;
             adaptives = k.adaptives;
           });
+      variables = b.variables;
     }
 
 -- a bound that is the optimum is its plan's worst case
@@ -69,14 +70,15 @@ pub optimum_is_worst_case : (m : RobustModel) (plan : List Fraction) (v : Fracti
     HasWorstCase m plan v
 optimum_is_worst_case m plan v h b = record { bound = b; none_better = λ tau k. h.none_better plan tau k }
 
--- a bound that the objective attains in an admitted scenario is the plan's worst case
-pub attained_is_worst_case : (m : RobustModel) (plan u : List Fraction) (v : Fraction) → HasBound m plan v →
-    Admits m u →
-    value m plan u m.objective ≡ v → HasWorstCase m plan v
-attained_is_worst_case m plan u v b admitted e =
+-- a bound that the objective attains in a scenario that its set admits is the plan's worst case
+pub attained_is_worst_case : (m : RobustModel) (plan u : List Fraction) (v : Fraction) → IsModel m → HasBound m plan v →
+    AdmitsIn m m.objective_set u →
+    value m plan (in_each_set m u) m.objective ≡ v → HasWorstCase m plan v
+attained_is_worst_case m plan u v model b admitted e =
     record {
       bound = b;
-      none_better = λ tau k. subst (λ x. IsNoWorse m.sense x tau) e (k.keeps u admitted).objective;
+      none_better = λ tau k.
+          subst (λ x. IsNoWorse m.sense x tau) e ((k.keeps m.objective_set model.own_objective.0 u admitted).objective refl);
     }
 
 -- a plan has one worst case

@@ -1,5 +1,5 @@
 -- The value of an expression is the sum of its table at the scenario and the plan.
-use Rattle.std.specs.Prelude.{◌≡◌, ℕ, zero, suc, ◌+◌, ◌≤◌, pos, Bool, true, false, List, [], ◌∷◌, refl}
+use Rattle.std.specs.Prelude.{◌≡◌, ℕ, zero, suc, ◌+◌, ◌≤◌, pos, Bool, true, false, List, [], ◌∷◌, map, refl}
 use Rattle.std.proofs.Common.{sym, ◌∙◌, ap, ap₂, arith}
 use Rattle.rob_algebra.specs.Fraction.{Fraction, ◌+ℚ◌, ◌*ℚ◌, neg_ℚ}
 use Rattle.rob_algebra.specs.FractionLaws as Q
@@ -7,9 +7,9 @@ use Rattle.rob_algebra.specs.Ring.{var, lit, minus, ◌:+◌, ◌:*◌, v0, v1, 
 use Rattle.rob_meaning.proofs.AlongLemmas.{along-same, along-none, table_at-same, table_at-plus, table_at-neg, table_at-scale, table_at-zero, table_at-products, table_at-single}
 use Rattle.rob_meaning.specs.Coefficients.{Table, product_table, rule_table, single, sum_table, table, table_at, table_times, unit}
 use Rattle.rob_meaning.specs.Degrees.{AreLinear, FactorsLinear, IsLinear, decision_degree, one_if_some, uncertain_degree}
-use Rattle.rob_meaning.specs.Expressions.{Expression, Factors, Terms, adaptive, factor, no_factors, no_terms, number, parameter, product, sum, term, variable}
+use Rattle.rob_meaning.specs.Expressions.{Expression, Factors, Terms, adaptive, adaptive_in, factor, no_factors, no_terms, number, parameter, product, sum, term, variable}
 use Rattle.rob_meaning.specs.Places.{0ℚ, 1ℚ, along, at}
-use Rattle.rob_meaning.specs.RobustModel.{RobustModel, column_of, list_of}
+use Rattle.rob_meaning.specs.RobustModel.{RobustModel, column_of, joint_number, list_in_set, list_of}
 use Rattle.rob_meaning.specs.Values.{product_value, rule_part, signed, sum_value, value}
 
 abbrev pub NoParams : Table → Type 0
@@ -179,6 +179,10 @@ no_rule : (ks : List ℕ) (column k j : ℕ) → one_if_some ks ≡ 0 → rule_t
 no_rule [] column k j h = refl
 no_rule (d ∷ ds) column k j h = cc
 
+one_if_mapped : (f : ℕ → ℕ) (ks : List ℕ) → one_if_some (map f ks) ≡ one_if_some ks
+one_if_mapped f [] = refl
+one_if_mapped f (k ∷ ks) = refl
+
 module _ (m : RobustModel) where
   mutual
     pub no_params : (e : Expression) → uncertain_degree m e ≡ 0 → NoParams (table m e)
@@ -187,6 +191,12 @@ module _ (m : RobustModel) where
     no_params (variable v) h k j = zero_times (unit (suc v) j)
     no_params (adaptive y) h k j =
         rw (zero_times (unit (suc (column_of m y)) j), no_rule (list_of m y) (suc (column_of m y)) k j h) zero_and_zero
+    no_params (adaptive_in y S) h k j =
+        rw (
+          zero_times (unit (suc (column_of m y)) j),
+          no_rule (list_in_set m S y) (suc (column_of m y)) k j (one_if_mapped (joint_number m S) (list_of m y) ∙ h),
+        )
+        zero_and_zero
     no_params (sum ts) h k j = sum_no_params ts h k j
     no_params (product fs) h k j = product_no_params fs h k j
 
@@ -212,6 +222,7 @@ module _ (m : RobustModel) where
     no_columns (parameter d) h k j = times_zero (unit (suc d) k)
     no_columns (variable v) h k j = cc
     no_columns (adaptive y) h k j = cc
+    no_columns (adaptive_in y S) h k j = cc
     no_columns (sum ts) h k j = sum_no_columns ts h k j
     no_columns (product fs) h k j = product_no_columns fs h k j
 
@@ -263,6 +274,11 @@ module _ (m : RobustModel) (u plan : List Fraction) where
         (1ℚ ∷ u) (1ℚ ∷ plan)
         ∙ ap₂ ◌+ℚ◌ (table_at-single 0 (suc (column_of m y)) (1ℚ ∷ u) (1ℚ ∷ plan) ∙ one_times (at plan (column_of m y)))
         (rule-table (list_of m y) (suc (column_of m y)))
+    value-table (adaptive_in y S) h =
+        table_at-plus (single 0 (suc (column_of m y))) (rule_table (list_in_set m S y) (suc (column_of m y)))
+        (1ℚ ∷ u) (1ℚ ∷ plan)
+        ∙ ap₂ ◌+ℚ◌ (table_at-single 0 (suc (column_of m y)) (1ℚ ∷ u) (1ℚ ∷ plan) ∙ one_times (at plan (column_of m y)))
+        (rule-table (list_in_set m S y) (suc (column_of m y)))
     value-table (sum ts) h = sum_value-table ts h
     value-table (product fs) h = product_value-table fs h.0 h.1 h.2
 

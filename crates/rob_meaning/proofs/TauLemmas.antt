@@ -1,11 +1,12 @@
 -- The column of tau stands behind all columns that an expression uses.
-use Rattle.std.specs.Prelude.{◌≡◌, ℕ, zero, suc, ◌+◌, ◌<◌, ◌≤◌, List, [], ◌∷◌, ◌++◌, length, refl}
+use Rattle.std.specs.Prelude.{◌≡◌, ℕ, zero, suc, ◌+◌, ◌<◌, ◌≤◌, List, [], ◌∷◌, ◌++◌, length, map, refl}
 use Rattle.std.proofs.Common.{ap₂, arith}
+use Rattle.std.proofs.lemmas.List.{length-map}
 use Rattle.rob_algebra.specs.Fraction.{Fraction, ◌+ℚ◌, ◌*ℚ◌}
-use Rattle.rob_meaning.specs.Expressions.{Expression, Factors, Terms, adaptive, factor, no_factors, no_terms, number, parameter, product, sum, term, variable}
+use Rattle.rob_meaning.specs.Expressions.{Expression, Factors, Terms, adaptive, adaptive_in, factor, no_factors, no_terms, number, parameter, product, sum, term, variable}
 use Rattle.rob_meaning.specs.Places.{at}
-use Rattle.rob_meaning.specs.RobustModel.{AdaptiveVariable, RobustModel, column_count, column_from, column_of, list_in, list_of}
-use Rattle.rob_meaning.specs.Values.{product_value, rule_part, rule_value, signed, sum_value, value}
+use Rattle.rob_meaning.specs.RobustModel.{AdaptiveVariable, RobustModel, column_count, column_from, column_of, joint_number, list_in, list_of}
+use Rattle.rob_meaning.specs.Values.{product_value, rule_part, rule_value, rule_value_in, signed, sum_value, value}
 use Rattle.rob_meaning.specs.WellFormed.{FactorsInside, IsInside, TermsInside}
 
 pub at-left : (xs ys : List Fraction) (k : ℕ) → k < length xs → at (xs ++ ys) k ≡ at xs k
@@ -44,6 +45,15 @@ module _ (m : RobustModel) (plan more u : List Fraction) (fits : length plan ≡
       ap₂ ◌+ℚ◌ (at-left plan more (column_of m y) (omega arith))
       (rule_part_more (list_of m y) (suc (column_of m y)) (omega arith))
 
+  -- the same in another set: its list is as long
+  pub rule_in_more : (S y : ℕ) → y < length m.adaptives →
+      rule_value_in m (plan ++ more) u S y ≡ rule_value_in m plan u S y
+  rule_in_more S y h =
+      let room = column_room (length m.variables) m.adaptives y h in
+      let same = length-map (list_of m y) (joint_number m S) in
+      ap₂ ◌+ℚ◌ (at-left plan more (column_of m y) (omega arith))
+      (rule_part_more (map (joint_number m S) (list_of m y)) (suc (column_of m y)) (omega arith))
+
   pub variable_more : (k : ℕ) → k < length m.variables → at (plan ++ more) k ≡ at plan k
   variable_more k h = at-left plan more k (omega (arith, column_grows (length m.variables) m.adaptives))
 
@@ -53,6 +63,7 @@ module _ (m : RobustModel) (plan more u : List Fraction) (fits : length plan ≡
     value_more (parameter k) h = refl
     value_more (variable k) h = variable_more k h
     value_more (adaptive y) h = rule_more y h
+    value_more (adaptive_in y S) h = rule_in_more S y h.0
     value_more (sum ts) h = sum_value_more ts h
     value_more (product fs) h = product_value_more fs h
 

@@ -1,9 +1,10 @@
 -- Uncertainty sets, orders and names, worked by hand.
 use Rattle.std.proofs.Common.{arith, refl}
 use Rattle.std.specs.Fmt.{digits}
-use Rattle.std.specs.Prelude.{◌≡◌, ◌≤◌, ℕ, suc, List, length, pos, negsuc, map, [], ◌∷◌, Some, None, codes}
+use Rattle.std.specs.Prelude.{◌≡◌, ◌<◌, ◌≤◌, ℕ, zero, suc, List, length, pos, negsuc, map, [], ◌∷◌, Some, None, codes}
 use Rattle.rob_algebra.specs.Fraction.{Fraction, ratio}
 use Rattle.rob_algebra.specs.FractionLaws.{not_lt_ℚ}
+use Rattle.rob_meaning.proofs.AdmittedLemmas.{admits_jointly, jointly_admits, one_set_law}
 use Rattle.rob_meaning.proofs.EmptyLemmas.{shows_empty}
 use Rattle.rob_meaning.proofs.WorkedNotation.{int, over, times, uncertain, var, rule, around, row}
 use Rattle.rob_meaning.proofs.NamedLemmas.{plain_word}
@@ -11,6 +12,7 @@ use Rattle.rob_meaning.proofs.WorkedTests.{found, test_differ, test_lt, test_mod
 use Rattle.rob_meaning.specs.Degrees.{IsLinear}
 use Rattle.rob_meaning.specs.Expressions.{number, parameter, variable, adaptive}
 use Rattle.rob_meaning.specs.Forms.{difference, forms, matrices}
+use Rattle.rob_meaning.specs.Guarantee.{KeepsIn}
 use Rattle.rob_meaning.specs.Named.{IsNamed}
 use Rattle.rob_meaning.specs.Names.{column_names, column_names_with_tau, form_names, set_row_names, set_column_names, set_condition_names}
 use Rattle.rob_meaning.specs.Places.{0ℚ, 1ℚ}
@@ -18,8 +20,9 @@ use Rattle.rob_meaning.specs.RobustModel.{RobustModel, at_most, at_least, equal,
 use Rattle.rob_meaning.specs.SetConditions.{IsRay}
 use Rattle.rob_meaning.specs.SetRows.{set_rows, whole_row, whole_limit}
 use Rattle.rob_meaning.specs.Status.{IsUnbounded}
-use Rattle.rob_meaning.specs.UncertaintySet.{Admits, IsEmptySet}
+use Rattle.rob_meaning.specs.UncertaintySet.{Admits, AdmitsIn, IsEmptySet}
 use Rattle.rob_meaning.specs.Values.{value}
+use Rattle.rob_meaning.specs.WellFormed.{IsModel}
 
 -- ---- d in [3, 2]
 abbrev an_empty_interval : RobustModel
@@ -28,6 +31,10 @@ an_empty_interval = record {
   set_lines = [];
   variables = var (codes "x") None None ∷ [];
   adaptives = [];
+  sets = [];
+  line_sets = [];
+  objective_set = 0;
+  row_sets = [];
   sense = minimise;
   objective = variable 0;
   rows = [];
@@ -40,10 +47,20 @@ empty_interval_admits_nothing =
     shows_empty an_empty_interval (found (test_model an_empty_interval) tt) (1ℚ ∷ 1ℚ ∷ [])
     (found (test_empty an_empty_interval (1ℚ ∷ 1ℚ ∷ [])) tt)
 
+empty_interval_is_a_model : IsModel an_empty_interval
+unfolding ratio
+empty_interval_is_a_model = found (test_model an_empty_interval) tt
+
 -- so each plan has each bound, and the model is unbounded
 empty_interval_is_unbounded : IsUnbounded an_empty_interval
-empty_interval_is_unbounded tau =
-    (0ℚ ∷ [], record { columns = refl; keeps = λ u h. absurd (empty_interval_admits_nothing u h) })
+empty_interval_is_unbounded tau = (0ℚ ∷ [], record { columns = refl; keeps = none; variables = ((tt, tt), tt) })
+  where
+    none : (S : ℕ) → S < 1 → (u : List Fraction) → AdmitsIn an_empty_interval S u → KeepsIn an_empty_interval (0ℚ ∷ []) tau S u
+    none zero some u h =
+        absurd (empty_interval_admits_nothing u
+        (jointly_admits an_empty_interval empty_interval_is_a_model u
+        ((one_set_law an_empty_interval empty_interval_is_a_model refl u).0 h)))
+    none (suc S) some u h = absurd (omega arith)
 
 -- ---- no parameter
 abbrev nothing_uncertain : RobustModel
@@ -51,7 +68,7 @@ nothing_uncertain = record an_empty_interval { parameters = [] }
 
 -- one scenario is admitted, the empty one
 empty_scenario_is_admitted : Admits nothing_uncertain []
-empty_scenario_is_admitted = record { numbers = refl; bounds = tt; lines = tt }
+empty_scenario_is_admitted = found (test_admits nothing_uncertain (found (test_model nothing_uncertain) tt) []) tt
 
 no_other_scenario : (u : List Fraction) → Admits nothing_uncertain u → u ≡ []
 no_other_scenario [] h = refl
@@ -70,11 +87,12 @@ a_budget_of_0 = record an_empty_interval {
 -- the centre is admitted, and no other number
 centre_is_admitted : Admits a_budget_of_0 (over 1 2 ∷ [])
 unfolding ratio
-centre_is_admitted = found (test_admits a_budget_of_0 (over 1 2 ∷ [])) tt
+centre_is_admitted = found (test_admits a_budget_of_0 (found (test_model a_budget_of_0) tt) (over 1 2 ∷ [])) tt
 
 one_is_not_admitted : Admits a_budget_of_0 (1ℚ ∷ []) → ⊥
 unfolding ratio
-one_is_not_admitted h = not_lt_ℚ (over 1 2) 0ℚ h.lines.0 (found (test_lt 0ℚ (over 1 2)) tt)
+one_is_not_admitted h =
+    not_lt_ℚ (over 1 2) 0ℚ (admits_jointly a_budget_of_0 (found (test_model a_budget_of_0) tt) (1ℚ ∷ []) h).lines.0 (found (test_lt 0ℚ (over 1 2)) tt)
 
 -- a ray is 0 in a budget's member
 zero_is_a_ray : IsRay a_budget_of_0 (0ℚ ∷ [])
@@ -92,6 +110,10 @@ a_rule_under_a_budget = record {
   set_lines = budget (over 3 2) (around 0 (int 10) (int 2) ∷ []) ∷ [];
   variables = [];
   adaptives = rule (codes "y") (0 ∷ []) (Some 0ℚ) ∷ [];
+  sets = [];
+  line_sets = [];
+  objective_set = 0;
+  row_sets = [];
   sense = minimise;
   objective = times (number (over 1 2)) (adaptive 0);
   rows = row (codes "lo") (adaptive 0) at_least (parameter 0) ∷ [];
@@ -191,6 +213,10 @@ every_kind_of_form = record {
   adaptives =
       rule (codes "y0") (0 ∷ []) None
       ∷ record { name = codes "y1"; on = []; lower = Some (over 1 2); upper = Some 1ℚ } ∷ [];
+  sets = [];
+  line_sets = [];
+  objective_set = 0;
+  row_sets = [];
   sense = maximise;
   objective = variable 0;
   rows = row (codes "r") (variable 0) equal (adaptive 0) ∷ row (codes "q") (variable 1) at_most (adaptive 1) ∷ [];

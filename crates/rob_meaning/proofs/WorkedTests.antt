@@ -1,28 +1,28 @@
 -- Tests for worked examples: each gives the fact itself, where it holds of data without variables.
-use Rattle.std.proofs.Common.{ap, sym, ap₂, subst, refl, arith, Ordering, Less, Equal, Greater}
+use Rattle.std.proofs.Common.{ap, sym, ◌∙◌, ap₂, subst, refl, arith, Ordering, Less, Equal, Greater}
 use Rattle.std.proofs.lemmas.Bool.{eqb-true, leb-true, ltb-true}
 use Rattle.std.specs.Ordering.{MatchOrdering}
-use Rattle.std.specs.Prelude.{◌≡◌, ◌<◌, ◌≤◌, ℕ, zero, suc, Bool, true, false, eqb, leb, ltb, get_or, ◌≢◌, ◌+◌, List, [], ◌∷◌, ◌++◌, length, Option, Some, None}
+use Rattle.std.specs.Prelude.{◌≡◌, ◌<◌, ◌≤◌, ℕ, zero, suc, Bool, true, false, eqb, leb, ltb, get_or, ◌≢◌, ◌+◌, ◌-◌, ◌*◌, List, [], ◌∷◌, ◌++◌, length, Option, Some, None}
 use Rattle.rob_algebra.specs.Fraction.{Fraction, ◌<ℚ◌, ◌≤ℚ◌, ◌+ℚ◌, ◌*ℚ◌}
 use Rattle.rob_algebra.specs.FractionLists.{AllNonneg}
 use Rattle.rob_algebra.specs.FractionOrder.{cmp_ℚ, cmp_ℚ-ranks}
 use Rattle.rob_algebra.specs.FractionLaws as Q
-use Rattle.rob_meaning.proofs.AdmissionLemmas.{meets_admits}
+use Rattle.rob_meaning.proofs.AdmittedLemmas.{meets_admits}
 use Rattle.rob_meaning.proofs.ConeLemmas.{meets_taken}
 use Rattle.rob_meaning.proofs.ProvesLemmas.{certificate_true}
 use Rattle.rob_meaning.specs.Certificates.{Status, optimal, infeasible, unbounded, Cover, Item, Certificate}
 use Rattle.rob_meaning.specs.Degrees.{uncertain_degree, decision_degree, IsLinear, AreLinear, FactorsLinear}
-use Rattle.rob_meaning.specs.Expressions.{Expression, number, parameter, variable, adaptive, sum, product, Terms, no_terms, term, Factors, no_factors, factor}
+use Rattle.rob_meaning.specs.Expressions.{Expression, number, parameter, variable, adaptive, adaptive_in, sum, product, Terms, no_terms, term, Factors, no_factors, factor}
 use Rattle.rob_meaning.specs.Forms.{matrices, plan_vector, constant_part, parameter_part}
 use Rattle.rob_meaning.specs.Multipliers.{set_matrix, set_limits, Covers, ShowsEmpty}
-use Rattle.rob_meaning.specs.Places.{0ℚ, 1ℚ, at, Each}
+use Rattle.rob_meaning.specs.Places.{0ℚ, 1ℚ, at, Each, EachFrom}
 use Rattle.rob_meaning.specs.Proves.{amounts_of, EachCovered, IsItem, combination, target, Improves, ProvesOptimal, ProvesInfeasible, ProvesUnbounded, ProvesAs, HasStatus}
-use Rattle.rob_meaning.specs.RobustModel.{Relation, at_most, at_least, equal, Sense, minimise, maximise, AdaptiveVariable, SetLine, line, budget, Row, RobustModel, column_count}
+use Rattle.rob_meaning.specs.RobustModel.{Relation, at_most, at_least, equal, Sense, minimise, maximise, Parameter, Member, AdaptiveVariable, SetLine, line, budget, Row, RobustModel, joint_parameters, set_count, written_count, written_parameters, joint_number, line_set, row_set, column_count}
 use Rattle.rob_meaning.specs.SetConditions.{SetCondition, lower_bound, upper_bound, stated, set_conditions, taken, total_taken, Holds, Meets}
 use Rattle.rob_meaning.specs.SetRows.{set_rows, set_column_count, lift_count}
 use Rattle.rob_meaning.specs.UncertaintySet.{Relates, Admits}
 use Rattle.rob_meaning.specs.Vectors.{dot, scale, zeros, vec_mat}
-use Rattle.rob_meaning.specs.WellFormed.{IsInside, TermsInside, FactorsInside, IsExpression, IsSetSide, IsMember, IsSetLine, IsModel}
+use Rattle.rob_meaning.specs.WellFormed.{IsInside, TermsInside, FactorsInside, IsExpression, IsSetSide, IsMember, IsSetLine, IsParameterOf, IsOf, TermsOf, FactorsOf, IsLineOf, IsModel}
 
 -- the test found the fact
 abbrev pub Found : {A : Type 0} → Option A → Type 0
@@ -134,6 +134,41 @@ test_list (x ∷ xs) [] = None
 test_list (x ∷ xs) (y ∷ ys) =
     so (λ h. ap₂ (λ (z : Fraction) (zs : List Fraction). z ∷ zs) h.0 h.1) (both (test_same x y) (test_list xs ys))
 
+abbrev test_each_from : {A : Type 0} (P : ℕ → A → Type 0) → ((i : ℕ) (x : A) → Option (P i x)) → (k : ℕ) (xs : List A) →
+    Option (EachFrom k P xs)
+test_each_from P test k [] = Some tt
+test_each_from P test k (x ∷ xs) = both (test k x) (test_each_from P test (suc k) xs)
+
+-- ---- parameters
+abbrev test_name : (xs ys : List ℕ) → Option (xs ≡ ys)
+test_name [] [] = Some refl
+test_name [] (y ∷ ys) = None
+test_name (x ∷ xs) [] = None
+test_name (x ∷ xs) (y ∷ ys) =
+    so (λ h. ap₂ (λ (z : ℕ) (zs : List ℕ). z ∷ zs) h.0 h.1) (both (test_count x y) (test_name xs ys))
+
+abbrev test_bound : (a b : Option Fraction) → Option (a ≡ b)
+test_bound None None = Some refl
+test_bound None (Some y) = None
+test_bound (Some x) None = None
+test_bound (Some x) (Some y) = so (λ e. ap (λ z. Some z) e) (test_same x y)
+
+abbrev declared_as : List ℕ → Option Fraction → Option Fraction → Parameter
+declared_as name lower upper = record { name = name; lower = lower; upper = upper }
+
+abbrev test_parameter : (p q : Parameter) → Option (p ≡ q)
+test_parameter p q =
+    so
+    (λ h. ap (λ a. declared_as a p.lower p.upper) h.0 ∙ ap₂ (λ b c. declared_as q.name b c) h.1.0 h.1.1)
+    (both (test_name p.name q.name) (both (test_bound p.lower q.lower) (test_bound p.upper q.upper)))
+
+abbrev test_parameters : (ps qs : List Parameter) → Option (ps ≡ qs)
+test_parameters [] [] = Some refl
+test_parameters [] (q ∷ qs) = None
+test_parameters (p ∷ ps) [] = None
+test_parameters (p ∷ ps) (q ∷ qs) =
+    so (λ h. ap₂ (λ (x : Parameter) (xs : List Parameter). x ∷ xs) h.0 h.1) (both (test_parameter p q) (test_parameters ps qs))
+
 module _ (m : RobustModel) where
   -- ---- models
   abbrev mutual
@@ -142,6 +177,9 @@ module _ (m : RobustModel) where
     test_inside (parameter k) = test_below k (length m.parameters)
     test_inside (variable k) = test_below k (length m.variables)
     test_inside (adaptive k) = test_below k (length m.adaptives)
+    test_inside (adaptive_in k S) =
+        so (λ h. (h.0, h.1.0, h.1.1))
+        (both (test_below k (length m.adaptives)) (both (test_below 0 S) (test_below S (set_count m))))
     test_inside (sum ts) = test_terms_inside ts
     test_inside (product fs) = test_factors_inside fs
 
@@ -159,6 +197,7 @@ module _ (m : RobustModel) where
     test_linear (parameter k) = Some tt
     test_linear (variable k) = Some tt
     test_linear (adaptive k) = Some tt
+    test_linear (adaptive_in k S) = Some tt
     test_linear (sum ts) = test_terms_linear ts
     test_linear (product fs) =
         so (λ h. (h.0.0, h.0.1, h.1))
@@ -185,16 +224,64 @@ module _ (m : RobustModel) where
   test_set_line (budget limit members) =
       test_each (IsMember m) (λ h. both (test_below h.parameter (length m.parameters)) (test_lt 0ℚ h.deviation)) members
 
+  -- what stands in a row or statement is of set S
+  abbrev test_parameter_of : (S k : ℕ) → Option (IsParameterOf m S k)
+  test_parameter_of S k =
+      so (λ h. (k - S * written_count m, h.0, h.1))
+      (both (test_below (k - S * written_count m) (written_count m)) (test_count k (joint_number m S (k - S * written_count m))))
+
+  abbrev mutual
+    test_of : (S : ℕ) (e : Expression) → Option (IsOf m S e)
+    test_of S (number q) = Some tt
+    test_of S (parameter k) = test_parameter_of S k
+    test_of S (variable k) = Some tt
+    test_of S (adaptive k) = test_count 0 S
+    test_of S (adaptive_in k T) = test_count T S
+    test_of S (sum ts) = test_terms_of S ts
+    test_of S (product fs) = test_factors_of S fs
+
+    test_terms_of : (S : ℕ) (ts : Terms) → Option (TermsOf m S ts)
+    test_terms_of S no_terms = Some tt
+    test_terms_of S (term minus e ts) = both (test_of S e) (test_terms_of S ts)
+
+    test_factors_of : (S : ℕ) (fs : Factors) → Option (FactorsOf m S fs)
+    test_factors_of S no_factors = Some tt
+    test_factors_of S (factor e fs) = both (test_of S e) (test_factors_of S fs)
+
+  abbrev test_line_of : (S : ℕ) (c : SetLine) → Option (IsLineOf m S c)
+  test_line_of S (line l relation r) = both (test_of S l) (test_of S r)
+  test_line_of S (budget limit members) =
+      test_each (λ (h : Member). IsParameterOf m S h.parameter) (λ h. test_parameter_of S h.parameter) members
+
   abbrev pub test_model : Option (IsModel m)
   test_model =
-      so (λ h. record { set_lines = h.0.0; lists = h.0.1; objective = h.1.0; rows = h.1.1 })
+      so (λ h. record {
+        set_lines = h.0.0.0;
+        lists = h.0.0.1;
+        objective = h.0.1.0;
+        rows = h.0.1.1;
+        parameters = h.1.0.0;
+        own_lines = h.1.0.1;
+        own_objective = h.1.1.0;
+        own_rows = h.1.1.1;
+      })
+      (both
       (both
       (both (test_each (IsSetLine m) test_set_line m.set_lines)
-      (test_each (λ (y : AdaptiveVariable). Each (λ k. k < length m.parameters) y.on)
-      (λ y. test_each (λ k. k < length m.parameters) (λ k. test_below k (length m.parameters)) y.on) m.adaptives))
+      (test_each (λ (y : AdaptiveVariable). Each (λ k. k < written_count m) y.on)
+      (λ y. test_each (λ k. k < written_count m) (λ k. test_below k (written_count m)) y.on) m.adaptives))
       (both (test_expression m.objective)
       (test_each (λ (r : Row). IsExpression m r.left × IsExpression m r.right)
       (λ r. both (test_expression r.left) (test_expression r.right)) m.rows)))
+      (both
+      (both (test_parameters m.parameters (joint_parameters (written_parameters m) m.sets))
+      (test_each_from (λ i (c : SetLine). (line_set m i < set_count m) × IsLineOf m (line_set m i) c)
+      (λ i c. both (test_below (line_set m i) (set_count m)) (test_line_of (line_set m i) c)) 0 m.set_lines))
+      (both (both (test_below m.objective_set (set_count m)) (test_of m.objective_set m.objective))
+      (test_each_from
+      (λ i (r : Row). (row_set m i < set_count m) × (IsOf m (row_set m i) r.left × IsOf m (row_set m i) r.right))
+      (λ i r. both (test_below (row_set m i) (set_count m)) (both (test_of (row_set m i) r.left) (test_of (row_set m i) r.right)))
+      0 m.rows))))
 
   -- ---- the uncertainty set
   abbrev test_relates : (relation : Relation) (a b : Fraction) → Option (Relates relation a b)
@@ -213,8 +300,8 @@ module _ (m : RobustModel) where
       so (λ h. record { numbers = h.0; conditions = h.1 })
       (both (test_count (length p) (length m.parameters)) (test_each (Holds m s p) (test_holds s p) (set_conditions m)))
 
-  abbrev pub test_admits : (u : List Fraction) → Option (Admits m u)
-  test_admits u = so (meets_admits m u) (test_meets 1ℚ u)
+  abbrev pub test_admits : IsModel m → (u : List Fraction) → Option (Admits m u)
+  test_admits model u = so (meets_admits m model u) (test_meets 1ℚ u)
 
   -- ---- multipliers
   abbrev test_covers : (i : ℕ) (s : Fraction) (z amounts : List Fraction) → Option (Covers m i s z amounts)
@@ -254,7 +341,7 @@ module _ (m : RobustModel) where
     test_improves maximise d = test_lt 0ℚ d
 
     abbrev test_inside_and_items : (c : Certificate) → Option (Admits m c.inside × Each (IsItem m) c.items)
-    test_inside_and_items c = both (test_admits c.inside) (test_each (IsItem m) test_item c.items)
+    test_inside_and_items c = both (test_admits model c.inside) (test_each (IsItem m) test_item c.items)
 
     abbrev test_plan : (c : Certificate) → Option ((0ℚ <ℚ c.scale) ×
         ((length c.plan ≡ column_count m) × EachCovered m c.covers c.scale (plan_vector 1ℚ c.plan c.value)))

@@ -5,6 +5,7 @@ pub mod Values
 pub mod UncertaintySet
 pub mod Guarantee
 pub mod Status
+pub mod JointMeaning
 pub mod Degrees
 pub mod WellFormed
 pub mod Vectors

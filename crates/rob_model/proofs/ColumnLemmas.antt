@@ -1,12 +1,14 @@
 -- Where the decision columns of the adaptive variables stand.
-use Rattle.std.proofs.Common.{◌≡◌, ℕ, zero, suc, ◌+◌, ◌<◌, ◌≤◌, List, [], ◌∷◌, map, length, get_or, take, arith, refl, ap, sym, ◌∙◌}
+use Rattle.std.proofs.Common.{◌≡◌, ℕ, zero, suc, ◌+◌, ◌<◌, ◌≤◌, List, [], ◌∷◌, map, length, get_or, take, drop, arith, ◌*◌, ◌/◌, zero-add, div-mul-le_self, mul-le-mul_right, mul_comm, refl, ap, sym, ◌∙◌}
 use Rattle.std.proofs.lemmas.List.{length-take, get_or-take, length-map}
-use Rattle.rob_algebra.specs.Fraction.{Fraction}
+use Rattle.std.specs.Prelude.{Option, Some, None}
+use Rattle.rob_algebra.specs.Fraction.{Fraction, ◌+ℚ◌, ◌*ℚ◌}
+use Rattle.rob_algebra.specs.Width.{kept}
 use Rattle.rob_meaning.specs.Places.{at}
-use Rattle.rob_meaning.specs.RobustModel.{AdaptiveVariable, list_in, column_from, column_of, column_count}
+use Rattle.rob_meaning.specs.RobustModel.{AdaptiveVariable, list_in, column_from, column_of, column_count, joint_number, set_count, written_count}
 use Rattle.rob_model.specs.Limits.{most_columns}
-use Rattle.rob_model.specs.View.{robust, adaptive_of, variable_of}
-use Rattle.rob_model.specs.Within.{rule_within, policy_within}
+use Rattle.rob_model.specs.View.{robust, adaptive_of, parameter_of, variable_of}
+use Rattle.rob_model.specs.Within.{◌>>=◌, rule_within, policy_within, policy_in_within}
 use Rattle.rob_model.specs.declared.model.Adaptive.{Adaptive}
 use Rattle.rob_model.specs.declared.model.Model.{Model}
 
@@ -33,6 +35,28 @@ column_before column (y ∷ ys) (suc k) (suc n) h = column_before (suc column + 
 pub column_zero : (column : ℕ) (ys : List AdaptiveVariable) → column_from column ys 0 ≡ column
 column_zero column [] = refl
 column_zero column (y ∷ ys) = refl
+
+bind_same : {A B : Type 0} (o : Option A) (f g : A → Option B) → ((x : A) → f x ≡ g x) → (o >>= f) ≡ (o >>= g)
+bind_same None f g h = refl
+bind_same (Some x) f g h = h x
+
+-- ---- numbers behind a place
+at_behind : {N : Type 0} (value : N → Fraction) (vs : List N) (place k : ℕ) →
+    at (map value (drop place vs)) k ≡ at (map value vs) (place + k)
+at_behind value vs zero k = ap (at (map value vs)) (sym (zero-add k))
+at_behind value [] (suc place) k = refl
+at_behind value (v ∷ vs) (suc place) k =
+    at_behind value vs place k ∙ ap (at (map value (v ∷ vs))) (let e : suc (place + k) ≡ suc place + k = omega arith in e)
+
+-- the products with the parameters behind a place
+pub rule_behind : {N : Type 0} (value : N → Fraction) (limit : ℕ) (plan : List Fraction) (vs : List N) (place : ℕ) (ks : List ℕ) (column : ℕ) (so_far : Fraction)
+    → rule_within limit plan (map value (drop place vs)) ks column so_far ≡ rule_within limit plan (map value vs) (map (λ k. place + k) ks) column so_far
+rule_behind value limit plan vs place [] column so_far = refl
+rule_behind value limit plan vs place (k ∷ ks) column so_far =
+    ap (λ x. kept limit (at plan column *ℚ x) >>= (λ part. kept limit (so_far +ℚ part) >>= (λ next. rule_within limit plan (map value (drop place vs)) ks (column + 1) next)))
+    (at_behind value vs place k)
+    ∙ bind_same (kept limit (at plan column *ℚ at (map value vs) (place + k))) _ _
+    (λ part. bind_same (kept limit (so_far +ℚ part)) _ _ (λ next. rule_behind value limit plan vs place ks (column + 1) next))
 
 module _ {N : Type 0} (value : N → Fraction) where
   -- one adaptive variable more stands before
@@ -94,3 +118,23 @@ module _ {N : Type 0} (value : N → Fraction) where
       rule_of_policy limit plan scenario =
           ap (λ xs. rule_within limit plan scenario xs (column + 1) (at plan column)) (on_is ∙ sym (list_at m.adaptives k y h is))
           ∙ ap (λ c. rule_within limit plan scenario (list_in (robust value m).adaptives k) (c + 1) (at plan c)) column_is
+
+      -- the same with the parameters of a set, which stand behind those of the sets before it
+      pub rule_of_set : (limit : ℕ) (plan : List Fraction) (vs : List N) (S first : ℕ) → first ≡ S * written_count (robust value m)
+          → rule_within limit plan (map value (drop first vs)) on (column + 1) (at plan column) ≡ policy_in_within limit (robust value m) plan (map value vs) S k
+      rule_of_set limit plan vs S first is_first =
+          rule_behind value limit plan vs first on (column + 1) (at plan column)
+          ∙ ap (λ f. rule_within limit plan (map value vs) (map (λ k. f + k) on) (column + 1) (at plan column)) is_first
+          ∙ ap (λ xs. rule_within limit plan (map value vs) (map (joint_number (robust value m) S) xs) (column + 1) (at plan column)) (on_is ∙ sym (list_at m.adaptives k y h is))
+          ∙ ap (λ c. rule_within limit plan (map value vs) (map (joint_number (robust value m) S) (list_in (robust value m).adaptives k)) (c + 1) (at plan c)) column_is
+
+    -- the first joint parameter of a set is among all
+    pub first_fits : (S : ℕ) → S < set_count (robust value m) → S * written_count (robust value m) ≤ length m.params
+    first_fits S some =
+        omega (
+          arith,
+          mul-le-mul_right (written_count (robust value m)) (let le : S ≤ set_count (robust value m) = omega arith in le),
+          div-mul-le_self (length (robust value m).parameters) (set_count (robust value m)),
+          mul_comm (set_count (robust value m)) (written_count (robust value m)),
+          length-map m.params (parameter_of value),
+        )

@@ -9,7 +9,8 @@ use Rattle.rob_algebra.specs.Fraction.{Fraction, ◌+ℚ◌, ◌-ℚ◌, ◌*ℚ
 use Rattle.rob_algebra.specs.FractionLaws.{ℚ-add_assoc, le_refl_ℚ, le_of_lt_ℚ, not_lt_ℚ}
 use Rattle.rob_algebra.specs.FractionOrder.{cmp_ℚ, cmp_ℚ-ranks, eq_ℚ-decides}
 use Rattle.rob_algebra.specs.Width.{kept}
-use Rattle.rob_meaning.proofs.AdmissionLemmas.{admission_law}
+use Rattle.rob_meaning.proofs.AdmittedLemmas.{admission_law}
+use Rattle.rob_meaning.specs.WellFormed.{IsModel}
 use Rattle.rob_meaning.specs.Expressions.{Expression}
 use Rattle.rob_meaning.specs.Places.{0ℚ, 1ℚ, at, Each}
 use Rattle.rob_meaning.specs.RobustModel.{RobustModel, Relation, at_most, at_least, equal, Member, line, budget}
@@ -145,12 +146,12 @@ module _ (limit : ℕ) (m : RobustModel) (s : Fraction) (p : List Fraction) wher
   answer_broken fits (Err e) h = tt
 
 -- ---- admission
-module _ (m : RobustModel) (u : List Fraction) where
+module _ (m : RobustModel) (model : IsModel m) (u : List Fraction) where
   none_is : (r : Option ℕ) → IsFirstBroken m 1ℚ u r → IsTrue (is_none r) ↔ Admits m u
-  none_is None h = (λ e. (admission_law m u).1 h, λ e. refl)
+  none_is None h = (λ e. (admission_law m model u).1 h, λ e. refl)
   none_is (Some k) h = (
     λ e. cc,
-    λ e. absurd (h.fails (each_get (Holds m 1ℚ u) (set_conditions m) k h.condition h.number ((admission_law m u).0 e).conditions)),
+    λ e. absurd (h.fails (each_get (Holds m 1ℚ u) (set_conditions m) k h.condition h.number ((admission_law m model u).0 e).conditions)),
   )
 
   -- a scenario is admitted where no condition fails

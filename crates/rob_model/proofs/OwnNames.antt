@@ -1,10 +1,11 @@
 -- Where a model's names are distinct, each is found at its own number.
 use Rattle.std.proofs.Common.{◌≡◌, ℕ, zero, suc, List, [], ◌∷◌, ◌++◌, ap, refl}
 use Rattle.std.specs.Prelude.{◌≢◌, Option, Some, None, slice_get, codes}
-use Rattle.rob_meaning.specs.Named.{AreDistinct, IsNamed, row_names, variable_names, adaptive_names}
+use Rattle.rob_meaning.specs.Named.{AreDistinct, IsNamed}
 use Rattle.rob_meaning.specs.Names.{Name, column_names, form_names, set_row_names}
 use Rattle.rob_meaning.specs.RobustModel.{RobustModel}
 use Rattle.rob_meaning.specs.WellFormed.{IsModel}
+use Rattle.rob_meaning.proofs.DeclaredLemmas.{parameters_distinct as joint_distinct}
 use Rattle.rob_meaning.proofs.DistinctLemmas.{distinct_left}
 use Rattle.rob_meaning.proofs.NamedFormLemmas.{distinct_columns, distinct_forms}
 use Rattle.rob_meaning.proofs.NamedSetLemmas.{distinct_set_rows}
@@ -39,5 +40,4 @@ module _ (m : RobustModel) (model : IsModel m) (named : IsNamed m) where
   set_rows_distinct = distinct_set_rows m model named
 
   pub parameters_distinct : AreDistinct (parameter_names m)
-  parameters_distinct =
-      distinct_left (parameter_names m) (row_names m ++ (variable_names m ++ adaptive_names m)) named.distinct
+  parameters_distinct = joint_distinct m model named

@@ -5,11 +5,11 @@ use Rattle.rob_algebra.specs.Fraction.{Fraction, ◌+ℚ◌, ◌*ℚ◌}
 use Rattle.rob_algebra.specs.FractionLaws.{ℚ-add_assoc, ℚ-add_comm, ℚ-zero-add, ℚ-mul_assoc, ℚ-mul_comm, ℚ-one-mul}
 use Rattle.rob_algebra.specs.Width.{kept}
 use Rattle.rob_number.specs.Answer.{answer}
-use Rattle.rob_meaning.specs.Expressions.{Expression, number, parameter, variable, adaptive, sum, product, Terms, no_terms, term, Factors, no_factors, factor}
+use Rattle.rob_meaning.specs.Expressions.{Expression, number, parameter, variable, adaptive, adaptive_in, sum, product, Terms, no_terms, term, Factors, no_factors, factor}
 use Rattle.rob_meaning.specs.Places.{0ℚ, 1ℚ, at}
-use Rattle.rob_meaning.specs.RobustModel.{RobustModel, list_of, column_of}
-use Rattle.rob_meaning.specs.Values.{signed, rule_part, rule_value, value, sum_value, product_value}
-use Rattle.rob_model.specs.Within.{◌>>=◌, joined, rule_within, policy_within, value_within, sum_within, product_within}
+use Rattle.rob_meaning.specs.RobustModel.{RobustModel, list_of, list_in_set, column_of}
+use Rattle.rob_meaning.specs.Values.{signed, rule_part, rule_value, rule_value_in, value, sum_value, product_value}
+use Rattle.rob_model.specs.Within.{◌>>=◌, joined, rule_within, policy_within, policy_in_within, value_within, sum_within, product_within}
 use Rattle.rob_model.proofs.KeptLemmas.{some_is, through, through_kept}
 
 pub add-zero_ℚ : (x : Fraction) → x +ℚ 0ℚ ≡ x
@@ -42,6 +42,13 @@ module _ (limit : ℕ) (m : RobustModel) (plan scenario : List Fraction) where
       ap (λ c. at plan column +ℚ rule_part m plan scenario (list_of m y) c) (sym (add-one column))
       ∙ rule_is (list_of m y) (column + 1) (at plan column) v h
 
+  -- its value in a set
+  pub policy_in_is : (S y : ℕ) (v : Fraction) → policy_in_within limit m plan scenario S y ≡ Some v → rule_value_in m plan scenario S y ≡ v
+  policy_in_is S y v h =
+      let column = column_of m y in
+      ap (λ c. at plan column +ℚ rule_part m plan scenario (list_in_set m S y) c) (sym (add-one column))
+      ∙ rule_is (list_in_set m S y) (column + 1) (at plan column) v h
+
   mutual
     -- an expression's value
     pub value_is : (e : Expression) (v : Fraction) → value_within limit m plan scenario e ≡ Some v → value m plan scenario e ≡ v
@@ -49,6 +56,7 @@ module _ (limit : ℕ) (m : RobustModel) (plan scenario : List Fraction) where
     value_is (parameter k) v h = some_is h
     value_is (variable k) v h = some_is h
     value_is (adaptive y) v h = policy_is y v h
+    value_is (adaptive_in y S) v h = policy_in_is S y v h
     value_is (sum ts) v h = sym (ℚ-zero-add (sum_value m plan scenario ts)) ∙ sum_is ts 0ℚ v h
     value_is (product fs) v h = sym (ℚ-one-mul (product_value m plan scenario fs)) ∙ product_is fs 1ℚ v h
 

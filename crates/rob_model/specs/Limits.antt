@@ -8,6 +8,10 @@ use Rattle.rob_meaning.specs.SetRows.{lift_count, set_rows}
 abbrev pub most_parameters : ℕ
 most_parameters = 64
 
+-- the named sets that a model may have
+abbrev pub most_sets : ℕ
+most_sets = 8
+
 -- the decision columns that a model may have
 abbrev pub most_columns : ℕ
 most_columns = 400
@@ -28,11 +32,12 @@ most_members = 64
 abbrev pub most_size : ℕ
 most_size = 10000
 
--- few enough parameters, decision columns, row statements, set statements, and members of all budgets together; and not
+-- few enough joint parameters, named sets, decision columns, row statements, set statements, and members of all budgets together; and not
 -- too large: the size is forms times the sum of set rows, twice the parameters and members, and one, which is how many
 -- rows and multipliers its robust counterpart has together
 pub record IsWithinLimits (m : RobustModel) : Type 0 where
   pub parameters : length m.parameters ≤ most_parameters
+  pub sets : length m.sets ≤ most_sets
   pub columns : column_count m ≤ most_columns
   pub rows : length m.rows ≤ most_rows
   pub set_lines : length m.set_lines ≤ most_set_lines

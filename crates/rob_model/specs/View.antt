@@ -2,7 +2,7 @@
 -- `value` tells the fraction of a number.
 use Rattle.std.specs.Prelude.{List, [], ◌∷◌, map, Bool, option_map}
 use Rattle.rob_algebra.specs.Fraction.{Fraction}
-use Rattle.rob_meaning.specs.Expressions.{Expression, number, parameter, variable, adaptive, sum, product, Terms, no_terms, term, Factors, no_factors, factor}
+use Rattle.rob_meaning.specs.Expressions.{Expression, number, parameter, variable, adaptive, adaptive_in, sum, product, Terms, no_terms, term, Factors, no_factors, factor}
 use Rattle.rob_meaning.specs.RobustModel as meaning
 use Rattle.rob_model.specs.declared.expr.Expr.{Expr, Expr-F, fold-Expr}
 use Rattle.rob_model.specs.declared.expr.Term.{Term, Term-F, fold-Term}
@@ -49,6 +49,7 @@ module _ {N : Type 0} (value : N → Fraction) where
   expression_step (Expr-F.Param k) = parameter k
   expression_step (Expr-F.Var k) = variable k
   expression_step (Expr-F.Adaptive k) = adaptive k
+  expression_step (Expr-F.AdaptiveIn k set) = adaptive_in k set
   expression_step (Expr-F.Sum ts) = sum (terms_of ts)
   expression_step (Expr-F.Product fs) = product (factors_of fs)
 
@@ -86,12 +87,16 @@ module _ {N : Type 0} (value : N → Fraction) where
   abbrev pub robust : Model N → meaning.RobustModel
   robust m = record {
     parameters = map parameter_of m.params;
+    sets = m.sets;
     set_lines = map set_line_of m.set_lines;
+    line_sets = m.line_sets;
     variables = map variable_of m.vars;
     adaptives = map adaptive_of m.adaptives;
     sense = sense_of m.sense;
     objective = expression_of m.objective;
+    objective_set = m.objective_set;
     rows = map row_of m.rows;
+    row_sets = m.row_sets;
   }
 
   -- the numbers of a plan's columns

@@ -5,9 +5,9 @@ use Rattle.std.specs.Ordering.{is_le}
 use Rattle.rob_algebra.specs.Fraction.{Fraction, ◌+ℚ◌, ◌-ℚ◌, ◌*ℚ◌, ◌/ℚ◌}
 use Rattle.rob_algebra.specs.FractionOrder.{cmp_ℚ, eq_ℚ}
 use Rattle.rob_algebra.specs.Width.{kept}
-use Rattle.rob_meaning.specs.Expressions.{Expression, number, parameter, variable, adaptive, sum, product, Terms, no_terms, term, Factors, no_factors, factor}
+use Rattle.rob_meaning.specs.Expressions.{Expression, number, parameter, variable, adaptive, adaptive_in, sum, product, Terms, no_terms, term, Factors, no_factors, factor}
 use Rattle.rob_meaning.specs.Places.{0ℚ, 1ℚ, at}
-use Rattle.rob_meaning.specs.RobustModel.{Relation, at_most, at_least, equal, Member, line, budget, RobustModel, list_of, column_of}
+use Rattle.rob_meaning.specs.RobustModel.{Relation, at_most, at_least, equal, Member, line, budget, RobustModel, list_of, list_in_set, column_of}
 use Rattle.rob_meaning.specs.SetConditions.{SetCondition, lower_bound, upper_bound, stated, set_conditions}
 use Rattle.rob_meaning.specs.UncertaintySet.{abs_ℚ}
 
@@ -36,6 +36,10 @@ module _ (limit : ℕ) (m : RobustModel) (plan scenario : List Fraction) where
   abbrev pub policy_within : ℕ → Option Fraction
   policy_within y = rule_within limit plan scenario (list_of m y) (column_of m y + 1) (at plan (column_of m y))
 
+  -- the same with the parameters of set `S`
+  abbrev pub policy_in_within : ℕ → ℕ → Option Fraction
+  policy_in_within S y = rule_within limit plan scenario (list_in_set m S y) (column_of m y + 1) (at plan (column_of m y))
+
   -- a sum begins with 0 and a product with 1, so the first prefix of a sum is its first part with its sign, and that of a
   -- product its first factor
   abbrev mutual
@@ -44,6 +48,7 @@ module _ (limit : ℕ) (m : RobustModel) (plan scenario : List Fraction) where
     value_within (parameter k) = Some (at scenario k)
     value_within (variable k) = Some (at plan k)
     value_within (adaptive y) = policy_within y
+    value_within (adaptive_in y S) = policy_in_within S y
     value_within (sum ts) = sum_within ts 0ℚ
     value_within (product fs) = product_within fs 1ℚ
 

@@ -17,12 +17,14 @@ pub struct Term<N> {
 #[derive(Debug, Drop)]
 pub enum Expr<N> {
     Number(N),
-    /// The parameter of that number, from 0 in order of declaration.
+    /// The joint parameter of that number, from 0.
     Param(u32),
     /// The here-and-now variable of that number, from 0 in order of declaration.
     Var(u32),
     /// The adaptive variable of that number, from 0 in order of declaration.
     Adaptive(u32),
+    /// The adaptive variable of the first number, taken in the named set of the second.
+    AdaptiveIn(u32, u32),
     Sum(List<Term<N>>),
     Product(List<Expr<N>>),
 }

@@ -25,5 +25,5 @@ pub use names::{
 };
 pub use place::{Place, Program, Spot, Where};
 pub use plan::{Plan, Scenario};
-pub use policy::policy_at;
+pub use policy::{policy_at, set_count, written_count};
 pub use value::value_at;

@@ -83,11 +83,19 @@ pub struct RowDef<N> {
 /// A robust linear model with affine decision rules and fixed recourse.
 #[derive(Debug, Drop)]
 pub struct Model<N> {
+    /// The joint parameters: those of the default set, then those of each named set.
     pub params: List<Param<N>>,
+    /// The named sets, numbered from 1.
+    pub sets: List<Text>,
     pub set_lines: List<SetLine<N>>,
+    /// The set of each statement.
+    pub line_sets: List<u32>,
     pub vars: List<Var<N>>,
     pub adaptives: List<Adaptive<N>>,
     pub sense: Sense,
     pub objective: Expr<N>,
+    pub objective_set: u32,
     pub rows: List<RowDef<N>>,
+    /// The set of each row.
+    pub row_sets: List<u32>,
 }

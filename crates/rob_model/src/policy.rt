@@ -1,15 +1,15 @@
 // The values of adaptive variables.
 
-ghost use Rattle.std.specs.Prelude.{◌≡◌, ◌≤◌, ◌<◌, ◌+◌, length, map, IfOk, List};
+ghost use Rattle.std.specs.Prelude.{◌≡◌, ◌≤◌, ◌<◌, ◌+◌, ◌^◌, length, map, drop, IfOk, List};
 ghost use Rattle.rob_number.specs.Answer.{answer};
 ghost use Rattle.rob_number.specs.Counts.{Told};
 ghost use Rattle.rob_meaning.specs.Places.{at};
-ghost use Rattle.rob_meaning.specs.RobustModel.{column_of as column_of_rule, column_count};
+ghost use Rattle.rob_meaning.specs.RobustModel.{column_of as column_of_rule, column_count, set_count as set_count_of, written_count as count_of_written};
 ghost use Rattle.rob_meaning.specs.Values.{rule_value as value_of_rule};
 ghost use Rattle.rob_model.specs.Limits.{most_columns};
 ghost use Rattle.rob_model.specs.Valid.{IsValid};
 ghost use Rattle.rob_model.specs.View.{robust, plan_of, scenario_of};
-ghost use Rattle.rob_model.specs.Within.{rule_within, policy_within};
+ghost use Rattle.rob_model.specs.Within.{rule_within, policy_within, policy_in_within};
 
 use crate::model::Model;
 use crate::numbers::number_at;
@@ -62,6 +62,56 @@ pub fn rule_value<N: Exact, L: Ledger>(
     let on = model.adaptives.items()[adaptive as usize].on.items();
     let column = column_of(model, adaptive);
     rule(on, column, columns, values, ledger)
+}
+
+/// The same with the parameters of a set.
+pub fn rule_value_in<N: Exact, L: Ledger>(
+    model: &Model<N>,
+    set: u32,
+    adaptive: u32,
+    columns: &[N],
+    values: &[N],
+    ledger: &mut L,
+) -> Result<N, Wide>
+    requires inside { adaptive < length model.now.adaptives }
+    requires set { set < set_count_of (robust N.value model.now) }
+    requires few { column_count (robust N.value model.now) ≤ most_columns }
+    ensures exact { answer N.value result ≡ policy_in_within N.limit (robust N.value model.now)
+        (map N.value columns.now) (map N.value values.now) set adaptive }
+    ensures told { Told (L.wides ledger.old) (L.wides ledger.new) result }
+    ensures ops { L.ops ledger.old ≤ L.ops ledger.new }
+{
+    let on = model.adaptives.items()[adaptive as usize].on.items();
+    let column = column_of(model, adaptive);
+    let first = set as usize * written_count(model);
+    rule(on, column, columns, behind(values, first), ledger)
+}
+
+/// The numbers from a place on.
+fn behind<N>(values: &[N], place: usize) -> &[N]
+    ensures rest { result.now ≡ drop place values.now }
+{
+    if place < values.len() {
+        &values[place..]
+    } else {
+        &values[..0]
+    }
+}
+
+/// The number of sets: the default set and the named ones. It takes no memory.
+pub fn set_count<N: Exact>(model: &Model<N>) -> u32
+    requires valid { IsValid N.value model.now }
+    ensures count { result ≡ set_count_of (robust N.value model.now) }
+{
+    model.sets.items().len() as u32 + 1
+}
+
+/// The number of written parameters: the joint parameters are as many for each set.
+pub fn written_count<N: Exact>(model: &Model<N>) -> usize
+    ensures count { result ≡ count_of_written (robust N.value model.now) }
+    ensures few { length model.now.params < 2 ^ 64 }
+{
+    model.params.items().len() / (model.sets.items().len() + 1)
 }
 
 /// A constant and the products of the columns behind it with parameters.

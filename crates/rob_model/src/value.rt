@@ -17,7 +17,7 @@ use crate::expr::{Expr, Term};
 use crate::model::Model;
 use crate::numbers::{number_at, one, zero};
 use crate::plan::{Plan, Scenario};
-use crate::policy::rule_value;
+use crate::policy::{rule_value, rule_value_in};
 use rob_number::{Exact, Ledger, Wide};
 
 /// The value of an expression under a plan in a scenario, by recursion on the tree as it is written. Numbers that the plan
@@ -69,6 +69,7 @@ pub fn evaluate<N: Exact, L: Ledger>(
         Expr::Param(k) => Ok(number_at(values, *k as usize, ledger)),
         Expr::Var(k) => Ok(number_at(columns, *k as usize, ledger)),
         Expr::Adaptive(k) => rule_value(model, *k, columns, values, ledger),
+        Expr::AdaptiveIn(k, set) => rule_value_in(model, *set, *k, columns, values, ledger),
         Expr::Sum(terms) => sum(terms.items(), model, columns, values, ledger),
         Expr::Product(factors) => product(factors.items(), model, columns, values, ledger),
     }

@@ -11,6 +11,7 @@ use Rattle.rob_parse.specs.declared.syntax.Statement.{Statement}
 use Rattle.rob_parse.specs.declared.syntax.Statement.TheVariants as parsed
 use Rattle.rob_parse.specs.Building.{FitsTree, FitsStatement, HasAdded}
 use Rattle.rob_parse.specs.Models.{parameters, variables, adaptives, set_lines, rows, goal_in, sense_in, sense_of, expression, objective_of, model_of}
+use Rattle.rob_parse.specs.Readable.{IsAlone}
 use Rattle.rob_parse.specs.Trees.{tree_of}
 
 flat_step : {A B : Type 0} (f : A → List B) (old new : List B) (x : A) (rest all : List A) → new ≡ old ++ f x → old ++ flat_map f (x ∷ rest) ≡ flat_map f all → new ++ flat_map f rest ≡ flat_map f all
@@ -26,11 +27,12 @@ module _ (words : List (List ℕ)) (sorts : List (Option Sort)) (all : List Stat
     pub rows_are : m.rows ++ flat_map (rows words sorts) rest ≡ flat_map (rows words sorts) all
     pub sense_is : m.sense ≡ sense_in (goal_in all)
     pub objective_is : m.objective ≡ objective_of sorts (goal_in all)
+    pub alone : IsAlone m
 
   -- the model with the goal alone
   pub grows_start : (m : RobustModel) (o : Option Goal) (g : Goal) → o ≡ goal_in all → o ≡ Some g → m.parameters ≡ [] → m.set_lines ≡ [] → m.variables ≡ [] → m.adaptives ≡ [] → m.rows ≡ []
-      → m.sense ≡ sense_of g.sense → m.objective ≡ expression sorts (tree_of g.objective) → Grows all m
-  grows_start m o g is some p s v a r sense objective =
+      → m.sense ≡ sense_of g.sense → m.objective ≡ expression sorts (tree_of g.objective) → IsAlone m → Grows all m
+  grows_start m o g is some p s v a r sense objective alone =
       let there : Some g ≡ goal_in all = sym some ∙ is in
       record {
         parameters_are = ap (λ l. l ++ flat_map (parameters words) all) p;
@@ -40,6 +42,7 @@ module _ (words : List (List ℕ)) (sorts : List (Option Sort)) (all : List Stat
         rows_are = ap (λ l. l ++ flat_map (rows words sorts) all) r;
         sense_is = sense ∙ ap sense_in there;
         objective_is = objective ∙ ap (objective_of sorts) there;
+        alone = alone;
       }
 
   grows_by : (s : Statement) (rest : List Statement) (m n : RobustModel) → HasAdded words sorts s m n → Grows (s ∷ rest) m → Grows rest n
@@ -51,6 +54,12 @@ module _ (words : List (List ℕ)) (sorts : List (Option Sort)) (all : List Stat
     rows_are = flat_step (rows words sorts) m.rows n.rows s rest all a.rows_are so_far.rows_are;
     sense_is = a.sense_is ∙ so_far.sense_is;
     objective_is = a.objective_is ∙ so_far.objective_is;
+    alone = record {
+      sets = a.sets_are ∙ so_far.alone.sets;
+      line_sets = a.line_sets_are ∙ so_far.alone.line_sets;
+      objective_set = a.objective_set_is ∙ so_far.alone.objective_set;
+      row_sets = a.row_sets_are ∙ so_far.alone.row_sets;
+    };
   }
 
   -- one statement more
@@ -63,12 +72,16 @@ module _ (words : List (List ℕ)) (sorts : List (Option Sort)) (all : List Stat
       let g : Grows [] m = subst (λ l. Grows l m) (drop_past all i past) so_far in
       λ j. record {
         parameters = (sym (append-nil m.parameters) ∙ g.parameters_are) j;
+        sets = g.alone.sets j;
         set_lines = (sym (append-nil m.set_lines) ∙ g.set_lines_are) j;
+        line_sets = g.alone.line_sets j;
         variables = (sym (append-nil m.variables) ∙ g.variables_are) j;
         adaptives = (sym (append-nil m.adaptives) ∙ g.adaptives_are) j;
         sense = g.sense_is j;
         objective = g.objective_is j;
+        objective_set = g.alone.objective_set j;
         rows = (sym (append-nil m.rows) ∙ g.rows_are) j;
+        row_sets = g.alone.row_sets j;
       }
 
 -- the goal is one of the statements

@@ -123,7 +123,7 @@ parted words m list are =
 module _ (limit : ℕ) (words : List (List ℕ)) (m : RobustModel) (d : AreDeclarable words m)
     (spelled : Each IsSpelled (declared_names m)) (named : IsNamed m) (readable : IsReadableModel limit (naming_of m) m) where
   fresh : AllFresh words m
-  fresh = all_fresh words m d spelled named.distinct
+  fresh = all_fresh words m d readable.alone.sets spelled named.distinct
 
   module _ (list : List Statement) (p : Parted words m list) where
     abbrev first : Earlier
@@ -290,8 +290,8 @@ module _ (limit : ℕ) (words : List (List ℕ)) (m : RobustModel) (d : AreDecla
 
       pub all_clear : Walk words Clears first (lines_of m) statements
       all_clear =
-          let parameters_later = parameters_known words m d spelled named.distinct in
-          let all_later = all_known words m d spelled named.distinct in
+          let parameters_later = parameters_known words m d readable.alone.sets spelled named.distinct in
+          let all_later = all_known words m d readable.alone.sets spelled named.distinct in
           let behind_fourth = kept_as (behind_parameters words m) (behind_variables words m) fourth.sorts (kept_noted (behind_parameters words m) (variables_declared words m) fresh.variables) variable_block.0.sorts_are in
           let behind_fifth = kept_as (behind_adaptives words m) (behind_adaptives words m) fifth.sorts (λ k x is. is) adaptive_block.0.sorts_are in
           along Clears

@@ -17,6 +17,7 @@ use Rattle.rob_parse.specs.Pages.{IsWord}
 use Rattle.rob_parse.specs.Readable.{IsSpelled, StandsFor, AreKnown, IsDeclarable, AreDeclarable}
 use Rattle.rob_parse.specs.Scopes.{has_some}
 use Rattle.rob_parse.specs.Symbols.{number_of}
+use Rattle.rob_parse.proofs.AloneNames.{names_alone, declared_alone}
 use Rattle.rob_parse.proofs.Clear.{parameters_only}
 use Rattle.rob_parse.proofs.DeclaredLemmas.{IsNew}
 use Rattle.rob_parse.proofs.SortLemmas.{nothing_there, set_kept}
@@ -157,7 +158,13 @@ module _ (words : List (List ℕ)) (m : RobustModel) where
     pub adaptives : AreFresh behind_variables adaptives_declared
     pub rows : AreFresh behind_adaptives rows_declared
 
-  module _ (d : AreDeclarable words m) (spelled : Each IsSpelled (declared_names m)) (distinct : AreDistinct (declared_names m)) where
+  module _ (d : AreDeclarable words m) (alone : m.sets ≡ []) (declared_spelled : Each IsSpelled (declared_names m)) (declared_distinct : AreDistinct (declared_names m)) where
+    spelled : Each IsSpelled (names_alone m)
+    spelled = subst (Each IsSpelled) (declared_alone m alone) declared_spelled
+
+    distinct : AreDistinct (names_alone m)
+    distinct = subst AreDistinct (declared_alone m alone) declared_distinct
+
     abbrev names : List (List ℕ)
     names = parameter_names m ++ (variable_names m ++ (adaptive_names m ++ row_names m))
 

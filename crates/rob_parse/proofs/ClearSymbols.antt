@@ -124,6 +124,7 @@ module _ (limit : ℕ) (names : Naming) (m : RobustModel) where
     no_decision (meaning.parameter k) h none = h
     no_decision (meaning.variable k) h none = absurd (omega (arith, none))
     no_decision (meaning.adaptive y) h none = absurd (omega (arith, none))
+    no_decision (meaning.adaptive_in y S) h none = absurd h
     no_decision (meaning.sum ts) h none = (h.0, no_decisions ts h.1 none)
     no_decision (meaning.product fs) h none = (h.0, no_factor fs h.1 none)
 

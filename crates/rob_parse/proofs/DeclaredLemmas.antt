@@ -15,6 +15,7 @@ use Rattle.rob_parse.specs.Faults.{is_declared}
 use Rattle.rob_parse.specs.Models.{word_of, parameters, variables, adaptives, rows, model_of}
 use Rattle.rob_parse.specs.Reading.{Follows}
 use Rattle.rob_parse.specs.Scopes.{Earlier, behind, start, declared_by, declare}
+use Rattle.rob_parse.proofs.AloneNames.{declared_alone}
 use Rattle.rob_parse.proofs.SortLemmas.{is_new}
 use Rattle.rob_parse.proofs.WordSetLemmas.{distinct_between}
 use Rattle.rob_parse.proofs.NamedLemmas.{IsNumber, IsSound, IsDeclared, declared_sound}
@@ -95,7 +96,8 @@ module _ (words : List (List ℕ)) (sorts : List (Option Sort)) where
       let r = flat_map row_numbers list in
       let v = flat_map variable_numbers list in
       let a = flat_map adaptive_numbers list in
-      (λ i. flat_names (parameters words) (λ (x : model.Parameter). x.name) parameter_numbers w parameter_names_are list i
+      declared_alone (model_of words sorts list) refl
+      ∙ (λ i. flat_names (parameters words) (λ (x : model.Parameter). x.name) parameter_numbers w parameter_names_are list i
       ++ (flat_names (rows words sorts) (λ (x : model.Row). x.name) row_numbers w row_names_are list i
       ++ (flat_names (variables words) (λ (x : model.Variable). x.name) variable_numbers w variable_names_are list i
       ++ flat_names (adaptives words sorts) (λ (x : model.AdaptiveVariable). x.name) adaptive_numbers w adaptive_names_are list i)))

@@ -204,6 +204,7 @@ module _ (limit : ℕ) (small : limit < 2 ^ 62) (words : List (List ℕ)) (sorts
         let bytes = get_or names.adaptives y [] in
         let is = known.adaptives y h in
         from_factor (meaning.adaptive y) (g_name (number_of words bytes)) refl refl (named_back bytes (Policy y is.0) is.1) (named_tree bytes (Policy y is.0) is.1)
+    shown (meaning.adaptive_in y S) h = absurd h
     shown (meaning.sum meaning.no_terms) h = absurd h.0
     shown (meaning.sum (meaning.term true e ts)) h = from_sum true e ts (shown e h.1.0) (shown_terms ts h.1.1) tt
     shown (meaning.sum (meaning.term false e meaning.no_terms)) h = absurd h.0

@@ -232,6 +232,7 @@ module _ (limit : ℕ) (small : limit < 2 ^ 62) (IsFine : ℕ → Type 0) (words
       expression_fit (meaning.parameter k) h = of_parameter k h
       expression_fit (meaning.variable k) h = of_variable k h
       expression_fit (meaning.adaptive y) h = of_adaptive y h
+      expression_fit (meaning.adaptive_in y S) h = absurd h
       expression_fit (meaning.sum ts) h = terms_fit true ts h.1
       expression_fit (meaning.product fs) h = factors_fit true fs h.1
 

@@ -1,4 +1,5 @@
 pub mod WordLemmas
+pub mod AloneNames
 pub mod FactorLemmas
 pub mod TermLemmas
 pub mod ExprLemmas

@@ -1,5 +1,5 @@
 -- What rule 22 counts are the sizes of a model, and a model that a text reads as is within the limits.
-use Rattle.std.proofs.Common.{◌≡◌, ℕ, List, [], ◌∷◌, ◌++◌, sym, ap, ◌∙◌}
+use Rattle.std.proofs.Common.{◌≡◌, ℕ, List, [], ◌∷◌, ◌++◌, length, arith, sym, ap, ◌∙◌}
 use Rattle.std.specs.Prelude.{Option}
 use Rattle.std.proofs.lemmas.List.Sums.{fold-append}
 use Rattle.rob_meaning.specs.RobustModel.{RobustModel}
@@ -16,9 +16,10 @@ use Rattle.rob_parse.proofs.CanonicalSizes.{sizes_are, sizes_behind, source_with
 use Rattle.rob_parse.proofs.SizeLemmas.{Within, within}
 
 -- the sizes within the limits are those of a model within them
-limits_of : (m : RobustModel) → Within (sizes_of m) → IsWithinLimits m
-limits_of m w = record {
+limits_of : (m : RobustModel) → m.sets ≡ [] → Within (sizes_of m) → IsWithinLimits m
+limits_of m alone w = record {
   parameters = w.parameters;
+  sets = omega (arith, ap length alone);
   columns = w.columns;
   rows = w.rows;
   set_lines = w.set_lines;
@@ -28,7 +29,7 @@ limits_of m w = record {
 
 -- a model that a text reads as is within the limits
 pub within_limits : (limit : ℕ) (text : List ℕ) (m : RobustModel) → ReadsModel limit text m → IsWithinLimits m
-within_limits limit text m read = limits_of m (within (sizes_of m) (source_within limit text m read))
+within_limits limit text m read = limits_of m (ap (λ (x : RobustModel). x.sets) read.model_is) (within (sizes_of m) (source_within limit text m read))
 
 -- what is counted behind a statement are the sizes of the model of all statements up to it
 pub counted_is : (limit words_count : ℕ) (lines : List (List Symbol))

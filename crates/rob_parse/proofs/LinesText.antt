@@ -293,12 +293,16 @@ module _ (limit : ℕ) (small : limit < 2 ^ 62) (words : List (List ℕ)) (sorts
               (are_append (map (adaptive_words names) m.adaptives) _ d.list last d.are (spelled, e.are)))),
           λ i. record {
             parameters = (ap (λ (p : Parts). p.parameters) parts ∙ append-nil m.parameters) i;
+            sets = sym readable.alone.sets i;
             set_lines = (ap (λ (p : Parts). p.set_lines) parts ∙ append-nil m.set_lines) i;
+            line_sets = sym readable.alone.line_sets i;
             variables = (ap (λ (p : Parts). p.variables) parts ∙ append-nil m.variables) i;
             adaptives = (ap (λ (p : Parts). p.adaptives) parts ∙ append-nil m.adaptives) i;
             sense = (ap sense_in found ∙ sense_back m.sense) i;
             objective = (ap (objective_of sorts) found ∙ objective.tree_is) i;
+            objective_set = sym readable.alone.objective_set i;
             rows = ap (λ (p : Parts). p.rows) parts i;
+            row_sets = sym readable.alone.row_sets i;
           },
         )
 

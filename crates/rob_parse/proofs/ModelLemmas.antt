@@ -6,6 +6,7 @@ use Rattle.rob_algebra.specs.Fraction.{◌<ℚ◌}
 use Rattle.rob_meaning.specs.Places.{0ℚ, Each}
 use Rattle.rob_meaning.specs.RobustModel as model
 use Rattle.rob_meaning.specs.RobustModel.{RobustModel, AdaptiveVariable}
+use Rattle.rob_meaning.proofs.AloneLemmas.{model_alone}
 use Rattle.rob_meaning.specs.WellFormed.{IsModel, IsExpression, IsSetSide, IsSetLine, IsMember}
 use Rattle.rob_parse.specs.declared.sort.Sort.{Sort}
 use Rattle.rob_parse.specs.declared.sort.Sort.TheVariants.{Parameter, Decision, Policy, RowName}
@@ -229,12 +230,12 @@ module _ (limit : ℕ) (low : 1 ≤ limit) (m : RobustModel) (f : Earlier) (name
   pub model_parts : (words : List (List ℕ)) (list : List Statement) (e : Earlier) (lines : List (List Symbol)) → Follows limit e lines list f → m ≡ model_of words f.sorts list → IsModel m
   model_parts words list e lines follows is =
       let good = all_good e lines list follows in
-      record {
-        set_lines = subst (Each (IsSetLine m)) (ap (λ (x : RobustModel). x.set_lines) (sym is)) (each_flat (IsSetLine m) (set_lines f.sorts) Good good_set_lines list good);
-        lists = subst (Each (λ (y : AdaptiveVariable). Each (λ k. k < length m.parameters) y.on)) (ap (λ (x : RobustModel). x.adaptives) (sym is)) (each_flat _ (adaptives words f.sorts) Good (good_lists words) list good);
-        objective = subst (IsExpression m) (ap (λ (x : RobustModel). x.objective) (sym is)) (good_goal list good);
-        rows = subst (Each (λ (r : model.Row). IsExpression m r.left × IsExpression m r.right)) (ap (λ (x : RobustModel). x.rows) (sym is)) (each_flat _ (rows words f.sorts) Good (good_rows words) list good);
-      }
+      model_alone m (ap (λ (x : RobustModel). x.sets) is)
+      (λ i. ap (λ (x : RobustModel). get_or x.line_sets i 0) is) (λ i. ap (λ (x : RobustModel). get_or x.row_sets i 0) is) (ap (λ (x : RobustModel). x.objective_set) is)
+      (subst (Each (IsSetLine m)) (ap (λ (x : RobustModel). x.set_lines) (sym is)) (each_flat (IsSetLine m) (set_lines f.sorts) Good good_set_lines list good))
+      (subst (Each (λ (y : AdaptiveVariable). Each (λ k. k < length m.parameters) y.on)) (ap (λ (x : RobustModel). x.adaptives) (sym is)) (each_flat _ (adaptives words f.sorts) Good (good_lists words) list good))
+      (subst (IsExpression m) (ap (λ (x : RobustModel). x.objective) (sym is)) (good_goal list good))
+      (subst (Each (λ (r : model.Row). IsExpression m r.left × IsExpression m r.right)) (ap (λ (x : RobustModel). x.rows) (sym is)) (each_flat _ (rows words f.sorts) Good (good_rows words) list good))
 
 -- what the names of a text stand for names what its model has
 pub model_names : (limit : ℕ) (text : List ℕ) (m : RobustModel) (read : ReadsModel limit text m) (k : ℕ) → Names (length m.parameters) (length m.variables) m.adaptives (sort_at read.known.sorts k)

@@ -186,6 +186,12 @@ module _ (limit : ℕ) (low : 1 ≤ limit) (m : RobustModel) (f : Earlier) (name
   model_readable words list e lines follows goal none is =
       let good = all_good e lines list follows in
       record {
+        alone = record {
+          sets = ap (λ (x : RobustModel). x.sets) is;
+          line_sets = ap (λ (x : RobustModel). x.line_sets) is;
+          objective_set = ap (λ (x : RobustModel). x.objective_set) is;
+          row_sets = ap (λ (x : RobustModel). x.row_sets) is;
+        };
         parameters = subst (Each (λ (p : model.Parameter). IsBound limit p.lower × IsBound limit p.upper)) (ap (λ (x : RobustModel). x.parameters) (sym is)) (each_flat _ (parameters words) Good (of_parameters words) list good);
         set_lines = subst (Each (IsReadableSetLine limit (naming_of m))) (ap (λ (x : RobustModel). x.set_lines) (sym is)) (each_flat _ (set_lines f.sorts) Good of_set_lines list good);
         variables = subst (Each (λ (x : model.Variable). IsBound limit x.lower × IsBound limit x.upper)) (ap (λ (x : RobustModel). x.variables) (sym is)) (each_flat _ (variables words) Good (of_variables words) list good);

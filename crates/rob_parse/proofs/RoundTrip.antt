@@ -47,9 +47,9 @@ use Rattle.rob_parse.proofs.WritableLines.{all_fine, all_declarable}
 pub lines_read : (words : List (List ℕ)) (m : RobustModel) → AreDeclarable words m → Each IsSpelled (declared_names m) → IsNamed m → (limit : ℕ)
     → limit < 2 ^ 62 → IsReadableModel limit (naming_of m) m → AreReadBack words (canonical_sorts words m) m
 lines_read words m d spelled named limit small readable =
-    let fresh = all_fresh words m d spelled named.distinct in
+    let fresh = all_fresh words m d readable.alone.sets spelled named.distinct in
     lines_back limit small words (canonical_sorts words m) m
-    (all_known words m d spelled named.distinct (canonical_sorts words m) (kept_noted (behind_adaptives words m) (rows_declared words m) fresh.rows)) d readable
+    (all_known words m d readable.alone.sets spelled named.distinct (canonical_sorts words m) (kept_noted (behind_adaptives words m) (rows_declared words m) fresh.rows)) d readable
 
 module _ (limit : ℕ) (low : 1 ≤ limit) (small : limit < 2 ^ 62) (words : List (List ℕ)) (m : RobustModel) (d : AreDeclarable words m)
     (spelled : Each IsSpelled (declared_names m)) (named : IsNamed m) (readable : IsReadableModel limit (naming_of m) m) (good : IsModel m) where
@@ -173,7 +173,7 @@ round_trip limit text m low small read =
     let lines : Each IsLine (lines_of m) =
     each_both (Each IsWritable) (IsShallow 0) IsLine (λ l a b. record { writable = a; shallow = b }) (lines_of m) (all_fine limit small m spelled readable) (canonical_shallow limit text m low read) in
     let page = page_is_read (lines_of m) lines (canonical_tokens limit text m low read) in
-    let r = followed limit low small words m (all_declarable m spelled) spelled named readable (well_formed limit text m low read)
+    let r = followed limit low small words m (all_declarable m readable.alone.sets spelled) spelled named readable (well_formed limit text m low read)
     (λ list is. ap is_within (sizes_are words (canonical_sorts words m) list ∙ ap sizes_of is) ∙ source_within limit text m read) in
     record {
       words = words;

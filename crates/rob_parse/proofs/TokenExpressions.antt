@@ -100,6 +100,7 @@ sum_is_compound (meaning.number q) h = refl
 sum_is_compound (meaning.parameter k) h = refl
 sum_is_compound (meaning.variable k) h = refl
 sum_is_compound (meaning.adaptive y) h = refl
+sum_is_compound (meaning.adaptive_in y S) h = refl
 sum_is_compound (meaning.sum ts) h = h
 sum_is_compound (meaning.product fs) h = refl
 

@@ -21,6 +21,7 @@ use Rattle.rob_parse.specs.Canonical.{Written, name, digits, keyword, sign, nega
 use Rattle.rob_parse.specs.Pages.{IsWord, IsWritable, ended, kind_of, words_on}
 use Rattle.rob_parse.specs.Readable.{IsSpelled, IsPlainNumber, IsBound, IsReadable, TermsReadable, FactorsReadable, IsReadableMember, IsReadableSetLine, IsReadableModel, IsDeclarable, AreDeclarable}
 use Rattle.rob_parse.specs.Symbols.{keywords, keyword_among, longest_name, number_of, word_symbol, word_at, add_word}
+use Rattle.rob_parse.proofs.AloneNames.{names_alone, declared_alone}
 use Rattle.rob_parse.proofs.WordSetLemmas.{In, words_in, number_found}
 
 -- ---- items of lists behind each other
@@ -123,6 +124,7 @@ module _ (limit : ℕ) (small : limit < 2 ^ 62) (names : Naming) (ps : Each IsSp
     expression_fine (meaning.parameter k) h = name_fine names.parameters k ps h
     expression_fine (meaning.variable k) h = name_fine names.variables k xs h
     expression_fine (meaning.adaptive y) h = name_fine names.adaptives y ys h
+    expression_fine (meaning.adaptive_in y S) h = absurd h
     expression_fine (meaning.sum ts) h = terms_fine true ts h.1
     expression_fine (meaning.product fs) h = factors_fine true fs h.1
 
@@ -154,11 +156,14 @@ module _ (limit : ℕ) (small : limit < 2 ^ 62) (names : Naming) (ps : Each IsSp
 
 -- ---- all lines
 module _ (limit : ℕ) (small : limit < 2 ^ 62) (m : RobustModel) (spelled : Each IsSpelled (declared_names m)) (readable : IsReadableModel limit (naming_of m) m) where
+  all_spelled : Each IsSpelled (names_alone m)
+  all_spelled = subst (Each IsSpelled) (declared_alone m readable.alone.sets) spelled
+
   of_parameters : Each IsSpelled (parameter_names m)
-  of_parameters = (apart IsSpelled (parameter_names m) (row_names m ++ (variable_names m ++ adaptive_names m)) spelled).0
+  of_parameters = (apart IsSpelled (parameter_names m) (row_names m ++ (variable_names m ++ adaptive_names m)) all_spelled).0
 
   rest : Each IsSpelled (row_names m ++ (variable_names m ++ adaptive_names m))
-  rest = (apart IsSpelled (parameter_names m) (row_names m ++ (variable_names m ++ adaptive_names m)) spelled).1
+  rest = (apart IsSpelled (parameter_names m) (row_names m ++ (variable_names m ++ adaptive_names m)) all_spelled).1
 
   of_rows : Each IsSpelled (row_names m)
   of_rows = (apart IsSpelled (row_names m) (variable_names m ++ adaptive_names m) rest).0
@@ -245,12 +250,12 @@ declarable_each : {A : Type 0} (words : List (List ℕ)) (named : A → List ℕ
 declarable_each words named [] a b = tt
 declarable_each words named (z ∷ zs) a b = (name_read words (named z) a.0 b.0, declarable_each words named zs a.1 b.1)
 
-module _ (m : RobustModel) (spelled : Each IsSpelled (declared_names m)) where
+module _ (m : RobustModel) (alone : m.sets ≡ []) (spelled : Each IsSpelled (declared_names m)) where
   pub all_declarable : AreDeclarable (words_on (lines_of m)) m
   all_declarable =
       let names = naming_of m in
       let words = words_on (lines_of m) in
-      let s = apart IsSpelled (parameter_names m) (row_names m ++ (variable_names m ++ adaptive_names m)) spelled in
+      let s = apart IsSpelled (parameter_names m) (row_names m ++ (variable_names m ++ adaptive_names m)) (subst (Each IsSpelled) (declared_alone m alone) spelled) in
       let r = apart IsSpelled (row_names m) (variable_names m ++ adaptive_names m) s.1 in
       let v = apart IsSpelled (variable_names m) (adaptive_names m) r.1 in
       let all : Each (In words) (words_in_line (ended (lines_of m))) = words_in (words_in_line (ended (lines_of m))) [] in

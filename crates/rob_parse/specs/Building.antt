@@ -67,3 +67,7 @@ pub record HasAdded (words : List (List ℕ)) (sorts : List (Option Sort)) (s : 
   pub rows_are : new.rows ≡ old.rows ++ rows words sorts s
   pub sense_is : new.sense ≡ old.sense
   pub objective_is : new.objective ≡ old.objective
+  pub sets_are : new.sets ≡ old.sets
+  pub line_sets_are : new.line_sets ≡ old.line_sets
+  pub objective_set_is : new.objective_set ≡ old.objective_set
+  pub row_sets_are : new.row_sets ≡ old.row_sets

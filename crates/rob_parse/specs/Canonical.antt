@@ -3,7 +3,7 @@
 use Rattle.std.specs.Fmt.{decimal}
 use Rattle.std.specs.Prelude.{ℕ, ◌++◌, ◌==◌, ◌||◌, Bool, true, false, List, [], ◌∷◌, map, fold, get_or, codes, nat_abs, int_lt, pos, if◌then◌else◌, Option, Some, None}
 use Rattle.rob_algebra.specs.Fraction.{Fraction}
-use Rattle.rob_meaning.specs.Expressions.{Expression, number, parameter, variable, adaptive, sum, product, Terms, no_terms, term, Factors, no_factors, factor}
+use Rattle.rob_meaning.specs.Expressions.{Expression, number, parameter, variable, adaptive, adaptive_in, sum, product, Terms, no_terms, term, Factors, no_factors, factor}
 use Rattle.rob_meaning.specs.Named.{parameter_names, variable_names, adaptive_names}
 use Rattle.rob_meaning.specs.Names.{Name}
 use Rattle.rob_meaning.specs.RobustModel.{Relation, at_most, at_least, equal, Sense, minimise, maximise, Parameter, Variable, AdaptiveVariable, Member, SetLine, line, budget, Row, RobustModel}
@@ -186,6 +186,7 @@ module _ (names : Naming) where
     expression_words (parameter k) = name_at names.parameters k ∷ []
     expression_words (variable k) = name_at names.variables k ∷ []
     expression_words (adaptive y) = name_at names.adaptives y ∷ []
+    expression_words (adaptive_in y S) = name_at names.adaptives y ∷ []
     expression_words (sum ts) = term_words true ts
     expression_words (product fs) = factor_words true fs
 

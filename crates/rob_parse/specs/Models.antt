@@ -150,10 +150,14 @@ module _ (words : List (List ℕ)) (sorts : List (Option Sort)) where
   abbrev pub model_of : List Statement → model.RobustModel
   model_of list = record {
     parameters = flat_map (parameters words) list;
+    sets = [];
     set_lines = flat_map (set_lines sorts) list;
+    line_sets = [];
     variables = flat_map (variables words) list;
     adaptives = flat_map adaptives list;
     sense = sense_in (goal_in list);
     objective = objective_of sorts (goal_in list);
+    objective_set = 0;
     rows = flat_map rows list;
+    row_sets = [];
   }

@@ -3,7 +3,7 @@ use Rattle.std.specs.Prelude.{◌≡◌, ℕ, ◌<◌, ◌≤◌, Bool, true, fa
 use Rattle.rob_algebra.specs.Fraction.{Fraction}
 use Rattle.rob_algebra.specs.Width.{Fits}
 use Rattle.rob_lex.specs.declared.token.Kind.TheVariants.{Word}
-use Rattle.rob_meaning.specs.Expressions.{Expression, number, parameter, variable, adaptive, sum, product, Terms, no_terms, term, Factors, no_factors, factor}
+use Rattle.rob_meaning.specs.Expressions.{Expression, number, parameter, variable, adaptive, adaptive_in, sum, product, Terms, no_terms, term, Factors, no_factors, factor}
 use Rattle.rob_meaning.specs.Names.{Name}
 use Rattle.rob_meaning.specs.Places.{Each}
 use Rattle.rob_meaning.specs.RobustModel as model
@@ -48,6 +48,7 @@ module _ (limit : ℕ) (names : Naming) where
     IsReadable (parameter k) = k < length names.parameters
     IsReadable (variable k) = k < length names.variables
     IsReadable (adaptive y) = y < length names.adaptives
+    IsReadable (adaptive_in y S) = ⊥
     IsReadable (sum ts) = IsRealSum ts × TermsReadable ts
     IsReadable (product fs) = IsRealProduct fs × FactorsReadable fs
 
@@ -87,6 +88,13 @@ IsBound limit (Some q) = Fits limit q
 abbrev pub IsPlainNumber : ℕ → Fraction → Type 0
 IsPlainNumber limit q = Fits limit q × (int_lt q.num (pos 0) ≡ false)
 
+-- the model names no set, and all that it has belongs to the default set
+pub record IsAlone (m : RobustModel) : Type 0 where
+  pub sets : m.sets ≡ []
+  pub line_sets : m.line_sets ≡ []
+  pub objective_set : m.objective_set ≡ 0
+  pub row_sets : m.row_sets ≡ []
+
 module _ (limit : ℕ) (names : Naming) where
   -- a budget has a member, and its limit and deviations aren't negative
   pub record IsReadableMember (h : Member) : Type 0 where
@@ -101,6 +109,7 @@ module _ (limit : ℕ) (names : Naming) where
 
   -- what each statement keeps
   pub record IsReadableModel (m : RobustModel) : Type 0 where
+    pub alone : IsAlone m
     pub parameters : Each (λ (p : model.Parameter). IsBound limit p.lower × IsBound limit p.upper) m.parameters
     pub set_lines : Each IsReadableSetLine m.set_lines
     pub variables : Each (λ (x : Variable). IsBound limit x.lower × IsBound limit x.upper) m.variables

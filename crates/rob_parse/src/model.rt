@@ -71,12 +71,16 @@ fn model<N: Exact, L: Ledger>(
     };
     let mut model = Model {
         params: List::new(alloc),
+        sets: List::new(alloc),
         set_lines: List::new(alloc),
+        line_sets: List::new(alloc),
         vars: List::new(alloc),
         adaptives: List::new(alloc),
         sense: sense(goal.sense),
         objective: expression(alloc, sorts, &goal.objective, ledger)?,
+        objective_set: 0,
         rows: List::new(alloc),
+        row_sets: List::new(alloc),
     };
     for statement in list {
         add(alloc, words, sorts, statement, &mut model, ledger)?;

@@ -414,7 +414,7 @@ fn put_expression<N: Exact>(
         Expr::Number(number) => put_number(page, *number),
         Expr::Param(k) => put_parameter_name(page, model, *k),
         Expr::Var(k) => page.name(variable_name(model.vars.items(), *k)),
-        Expr::Adaptive(k) => page.name(adaptive_name(model.adaptives.items(), *k)),
+        Expr::Adaptive(k) | Expr::AdaptiveIn(k, _) => page.name(adaptive_name(model.adaptives.items(), *k)),
         Expr::Sum(terms) => put_terms(page, model, terms.items()),
         Expr::Product(factors) => put_factors(page, model, factors.items()),
     }

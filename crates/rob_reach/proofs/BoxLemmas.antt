@@ -7,13 +7,12 @@ use Rattle.rob_algebra.specs.Fraction.{Fraction, of_int, ◌≤ℚ◌, ◌<ℚ�
 use Rattle.rob_algebra.specs.FractionLaws as Q
 use Rattle.rob_algebra.specs.FractionOrder.{cmp_ℚ, cmp_ℚ-ranks}
 use Rattle.rob_algebra.specs.Integer as Z
-use Rattle.rob_meaning.specs.Guarantee.{HasBound, Keeps}
+use Rattle.rob_meaning.specs.Guarantee.{HasBound}
 use Rattle.rob_meaning.specs.Places.{at, EachFrom}
 use Rattle.rob_meaning.specs.RobustModel.{Variable, RobustModel}
-use Rattle.rob_meaning.specs.UncertaintySet.{Admits, KeepsBounds, KeepsLower, KeepsUpper, KeepsLine}
+use Rattle.rob_meaning.specs.UncertaintySet.{part_of, Admits, AdmitsIn, KeepsBounds, KeepsLower, KeepsUpper}
 use Rattle.rob_meaning.specs.WellFormed.{IsModel}
 use Rattle.rob_reach.proofs.SameColumns as Same
-use Rattle.rob_reach.proofs.SameColumns.{each_map, each_from_map}
 use Rattle.rob_reach.proofs.WholeNumberLemmas.{whole_is, int_le_in}
 use Rattle.rob_reach.specs.Boxes.{lesser_by, lesser, greater, change_at, Branch, tightened, behind, box, box_below, box_above, at_most_branch, at_least_branch}
 use Rattle.rob_reach.specs.Trees.{IsIn}
@@ -112,25 +111,31 @@ module _ (m : RobustModel) (b : Branch) where
 
   pub model_behind : IsModel m → IsModel (behind m b)
   unfolding variables
-  model_behind h = Same.model-other m m.set_lines variables fits h h.set_lines
+  model_behind h = Same.model-other m m.set_lines variables fits h h.set_lines h.own_lines
+
+  set_admits_in : (S : ℕ) (u : List Fraction) → AdmitsIn m S u → AdmitsIn (behind m b) S u
+  unfolding variables
+  set_admits_in S u h =
+      record {
+        numbers = h.numbers;
+        bounds = h.bounds;
+        lines = Same.set_lines_in m m.set_lines variables fits S u zero m.set_lines h.lines;
+      }
+
+  set_admits_out : (S : ℕ) (u : List Fraction) → AdmitsIn (behind m b) S u → AdmitsIn m S u
+  unfolding variables
+  set_admits_out S u h =
+      record {
+        numbers = h.numbers;
+        bounds = h.bounds;
+        lines = Same.set_lines_out m m.set_lines variables fits S u zero m.set_lines h.lines;
+      }
 
   pub admits_in : (u : List Fraction) → Admits m u → Admits (behind m b) u
-  unfolding variables
-  admits_in u h =
-      record {
-        numbers = h.numbers;
-        bounds = h.bounds;
-        lines = each_map (KeepsLine m u) (KeepsLine (behind m b) u) (Same.keeps_line_in m m.set_lines variables fits u) m.set_lines h.lines;
-      }
+  admits_in u h = record { numbers = h.numbers; parts = λ S l. set_admits_in S (part_of m S u) (h.parts S l) }
 
   pub admits_out : (u : List Fraction) → Admits (behind m b) u → Admits m u
-  unfolding variables
-  admits_out u h =
-      record {
-        numbers = h.numbers;
-        bounds = h.bounds;
-        lines = each_map (KeepsLine (behind m b) u) (KeepsLine m u) (Same.keeps_line_out m m.set_lines variables fits u) m.set_lines h.lines;
-      }
+  admits_out u h = record { numbers = h.numbers; parts = λ S l. set_admits_out S (part_of m S u) (h.parts S l) }
 
   module _ (plan : List Fraction) (tau : Fraction) where
     -- a bound in the box is a bound in the model
@@ -139,11 +144,11 @@ module _ (m : RobustModel) (b : Branch) where
     bound_out h =
         record {
           columns = h.columns ∙ Same.column_count-other m m.set_lines variables fits;
-          keeps = λ u admitted.
-              (let k : Keeps (behind m b) plan tau u = h.keeps u (admits_in u admitted) in
-              Same.keeps_out m m.set_lines variables fits plan u tau k
-              (change_out (tightened b.is_upper b.bound) (λ k x. KeepsBounds x.lower x.upper (at plan k)) b.variable zero m.variables
-              (λ x g. tightened_out b.is_upper b.bound x (at plan (zero + b.variable)) g) k.variables));
+          keeps = λ S some u admitted.
+              Same.keeps_out m m.set_lines variables fits plan u tau S (h.keeps S some u (set_admits_in S u admitted));
+          variables =
+              change_out (tightened b.is_upper b.bound) (λ k x. KeepsBounds x.lower x.upper (at plan k)) b.variable zero m.variables
+              (λ x g. tightened_out b.is_upper b.bound x (at plan (zero + b.variable)) g) h.variables;
         }
 
     -- where the variable's number is on the box's side, a bound in the model is a bound in the box
@@ -152,12 +157,12 @@ module _ (m : RobustModel) (b : Branch) where
     bound_in side h =
         record {
           columns = h.columns ∙ sym (Same.column_count-other m m.set_lines variables fits);
-          keeps = λ u admitted.
-              (let k : Keeps m plan tau u = h.keeps u (admits_out u admitted) in
-              Same.keeps_in m m.set_lines variables fits plan u tau k
-              (change_in (tightened b.is_upper b.bound) (λ k x. KeepsBounds x.lower x.upper (at plan k)) b.variable zero m.variables
+          keeps = λ S some u admitted.
+              Same.keeps_in m m.set_lines variables fits plan u tau S (h.keeps S some u (set_admits_out S u admitted));
+          variables =
+              change_in (tightened b.is_upper b.bound) (λ k x. KeepsBounds x.lower x.upper (at plan k)) b.variable zero m.variables
               (λ x g. tightened_in b.is_upper b.bound x (at plan (zero + b.variable)) g
-              (subst (λ n. IsOnSide b.is_upper b.bound (at plan n)) (omega arith) side)) k.variables));
+              (subst (λ n. IsOnSide b.is_upper b.bound (at plan n)) (omega arith) side)) h.variables;
         }
 
 -- a whole number is at most k, or at least k + 1

@@ -9,7 +9,7 @@ use Rattle.rob_algebra.specs.Lists.{scale, plus_all, length-scale, length-plus_a
 use Rattle.rob_algebra.specs.Ring as Solver
 use Rattle.rob_algebra.specs.Ring.{lit, minus, ◌:+◌, ◌:-◌, ◌:*◌, v0, v1, v2, v3}
 use Rattle.rob_meaning.proofs.AbsoluteLemmas.{pos_some, inv_pos}
-use Rattle.rob_meaning.proofs.AdmissionLemmas.{admits_meets}
+use Rattle.rob_meaning.proofs.AdmittedLemmas.{admits_meets}
 use Rattle.rob_meaning.proofs.AlongLemmas.{suc_same}
 use Rattle.rob_meaning.proofs.AtLemmas.{at_bound, sum_at-plus_plan, sum_at-scale_plan}
 use Rattle.rob_meaning.proofs.CoverLemmas.{covered_at}
@@ -114,23 +114,23 @@ module _ (m : RobustModel) (model : IsModel m) where
   covered : (covers : List Cover) (s : Fraction) (z : List Fraction) → 0ℚ <ℚ s → EachCovered m covers s z →
       (u : List Fraction) → Admits m u → (i : ℕ) → i < length (matrices m) → form_at m i 1ℚ u z ≤ℚ 0ℚ
   covered covers s z some h u admitted i k =
-      covered_at m model i k s z (amounts_of m covers i) (h i k) 1ℚ u some zero_le_one (admits_meets m u admitted)
+      covered_at m model i k s z (amounts_of m covers i) (h i k) 1ℚ u some zero_le_one (admits_meets m model u admitted)
 
   pub optimal_bound : (c : Certificate) → ProvesOptimal m c → HasBound m c.plan c.value
   optimal_bound c h =
-      at_bound m model c.plan c.value h.columns (covered c.covers c.scale
+      at_bound m model c.plan c.value c.inside h.inside h.columns (covered c.covers c.scale
       (plan_vector 1ℚ c.plan c.value) h.scale h.covered)
 
   pub unbounded_bound : (c : Certificate) → ProvesUnbounded m c → HasBound m c.plan c.value
   unbounded_bound c h =
-      at_bound m model c.plan c.value h.columns (covered c.covers c.scale
+      at_bound m model c.plan c.value c.inside h.inside h.columns (covered c.covers c.scale
       (plan_vector 1ℚ c.plan c.value) h.scale h.covered)
 
   -- the plan moved along the step, any number of times
   pub moved_bound : (c : Certificate) → ProvesUnbounded m c → (times : Fraction) → 0ℚ ≤ℚ times →
       HasBound m (plus_all ℚ_ring c.plan (scale ℚ_ring times c.step)) (c.value +ℚ times *ℚ c.step_bound)
   moved_bound c h times some =
-      at_bound m model (plus_all ℚ_ring c.plan (scale ℚ_ring times c.step)) (c.value +ℚ times *ℚ c.step_bound)
+      at_bound m model (plus_all ℚ_ring c.plan (scale ℚ_ring times c.step)) (c.value +ℚ times *ℚ c.step_bound) c.inside h.inside
       (length-plus_all ℚ_ring c.plan (scale ℚ_ring times c.step)
       (h.columns ∙ sym (length-scale ℚ_ring times c.step ∙ h.step_columns))
       ∙ length-scale ℚ_ring times c.step ∙ h.step_columns)

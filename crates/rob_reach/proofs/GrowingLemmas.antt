@@ -9,7 +9,6 @@ use Rattle.rob_meaning.specs.Guarantee.{HasBound}
 use Rattle.rob_meaning.specs.Places.{at}
 use Rattle.rob_meaning.specs.Proves.{Proves, ProvesAs}
 use Rattle.rob_meaning.specs.RobustModel.{RobustModel, Sense}
-use Rattle.rob_meaning.specs.UncertaintySet.{Admits}
 use Rattle.rob_meaning.specs.WellFormed.{IsModel}
 use Rattle.rob_reach.proofs.BoxLemmas.{model_behind}
 use Rattle.rob_reach.proofs.CertificateLemmas.{optimal_bound, unbounded_bound}
@@ -84,13 +83,13 @@ asks_branch names sense s c j k e =
     by unbounded beaten None t b e = cc
     by unbounded beaten (Some i) t b e = taken i b e (inr t)
 
--- the certificate of a branched box has a plan with a bound, in an admitted scenario
+-- the certificate of a branched box has a plan with a bound
 branched_plan : (m : RobustModel) → IsModel m → (c : Certificate) → Proves m c → (c.status ≡ optimal) ⊎ (c.status ≡ unbounded) →
-    HasBound m c.plan c.value × ((u : List Fraction) × Admits m u)
+    HasBound m c.plan c.value
 branched_plan m model c h (inl e) =
-    let p = subst (λ s. ProvesAs s m c) e h in (optimal_bound m model c p, (c.inside, p.inside))
+    let p = subst (λ s. ProvesAs s m c) e h in optimal_bound m model c p
 branched_plan m model c h (inr e) =
-    let p = subst (λ s. ProvesAs s m c) e h in (unbounded_bound m model c p, (c.inside, p.inside))
+    let p = subst (λ s. ProvesAs s m c) e h in unbounded_bound m model c p
 
 -- what a search branches on is allowed
 pub allows_branch : (m : RobustModel) (names : List ℕ) (s : Search) (c : Certificate) (j : ℕ) (k : ℤ) →
@@ -112,7 +111,7 @@ module _ (m : RobustModel) (model : IsModel m) (names : List ℕ) (bounded : T (
   measure_splits =
       let some = bounded_in m.variables names j a.named bounded in
       let plan = branched_plan m model c a.proves a.planned in
-      let between = number_between c.plan zero m.variables j some (plan.0.keeps plan.1.0 plan.1.1).variables in
+      let between = number_between c.plan zero m.variables j some plan.variables in
       let here = subst (λ n. (lower_at m.variables j ≤ℚ at c.plan n) × (at c.plan n ≤ℚ upper_at m.variables j))
       (zero_plus j) between in
       subst (λ z. product_of_ranges (box_below m j z).variables names + product_of_ranges (box_above m j z).variables names

@@ -3,7 +3,7 @@
 use Rattle.std.specs.Prelude.{◌≡◌, ℕ, zero, suc, ℤ, Bool, true, false, T, List, [], ◌∷◌, ◌++◌, map, flat_map, codes, Option, Some, None, refl}
 use Rattle.std.proofs.Common.{ap, sym, subst}
 use Rattle.rob_algebra.specs.Fraction.{Fraction}
-use Rattle.rob_meaning.specs.Named.{IsNamed, AreDistinct, variable_names, parameter_names, row_names, adaptive_names, IsPlain, IsFree}
+use Rattle.rob_meaning.specs.Named.{IsNamed, AreDistinct, variable_names, written_names, row_names, adaptive_names, IsPlain, IsFree}
 use Rattle.rob_meaning.specs.Names.{Name, Parts, joined, bound_parts, column_names, rule_parts, side_parts, form_names, set_row_names, by_number, statement_parts, parameter_bound_parts}
 use Rattle.rob_meaning.specs.Places.{Each}
 use Rattle.rob_meaning.specs.RobustModel.{Variable, AdaptiveVariable, Row, SetLine, line, budget, RobustModel}
@@ -72,11 +72,11 @@ module _ (m : RobustModel) (b : Branch) where
   pub named_behind : IsNamed m → IsNamed (behind m b)
   named_behind h =
       record {
-        plain = subst (λ (ns : List Name). Each IsPlain (parameter_names m ++ (row_names m ++ (ns ++ adaptive_names m))))
+        plain = subst (λ (ns : List Name). Each IsPlain (written_names m ++ (m.sets ++ (row_names m ++ (ns ++ adaptive_names m)))))
             (sym variable_names-behind) h.plain;
-        free = subst (λ (ns : List Name). Each IsFree (parameter_names m ++ (row_names m ++ (ns ++ adaptive_names m))))
+        free = subst (λ (ns : List Name). Each IsFree (written_names m ++ (m.sets ++ (row_names m ++ (ns ++ adaptive_names m)))))
             (sym variable_names-behind) h.free;
-        distinct = subst (λ (ns : List Name). AreDistinct (parameter_names m ++ (row_names m ++ (ns ++ adaptive_names m))))
+        distinct = subst (λ (ns : List Name). AreDistinct (written_names m ++ (m.sets ++ (row_names m ++ (ns ++ adaptive_names m)))))
             (sym variable_names-behind) h.distinct;
         lists = h.lists;
         members = h.members;

@@ -4,13 +4,13 @@ use Rattle.std.proofs.Common.{ap, ap₂, sym, subst, arith}
 use Rattle.rob_algebra.specs.Fraction.{Fraction, ◌≤ℚ◌, ◌<ℚ◌}
 use Rattle.rob_algebra.specs.FractionLaws as Q
 use Rattle.rob_meaning.proofs.StatusLemmas.{one_optimum, optimal_not_infeasible, optimal_not_unbounded, infeasible_not_unbounded}
-use Rattle.rob_meaning.specs.Guarantee.{HasBound, IsNoWorse, Keeps}
+use Rattle.rob_meaning.specs.Guarantee.{HasBound, IsNoWorse}
 use Rattle.rob_meaning.specs.Named.{IsNamed, HasDistinctMembers}
-use Rattle.rob_meaning.specs.Places.{Each}
-use Rattle.rob_meaning.specs.RobustModel.{SetLine, line, budget, Member, RobustModel}
+use Rattle.rob_meaning.specs.Places.{Each, EachFrom}
+use Rattle.rob_meaning.specs.RobustModel.{SetLine, line, budget, Member, RobustModel, set_count, line_set}
 use Rattle.rob_meaning.specs.Status.{IsOptimal, IsInfeasible, IsUnbounded}
-use Rattle.rob_meaning.specs.UncertaintySet.{Admits, IsEmptySet, KeepsLine, total_deviation}
-use Rattle.rob_meaning.specs.WellFormed.{IsModel, IsSetLine}
+use Rattle.rob_meaning.specs.UncertaintySet.{in_each_set, part_of, Admits, AdmitsIn, IsEmptySet, KeepsLine, total_deviation}
+use Rattle.rob_meaning.specs.WellFormed.{IsModel, IsSetLine, IsLineOf}
 use Rattle.rob_reach.proofs.SameColumns as Same
 use Rattle.rob_reach.proofs.SameColumns.{each_map}
 use Rattle.rob_reach.specs.Sweeps.{limited, limit_at, with_budget, Rises, SweepAnswer, is_optimal, is_infeasible, is_unbounded, is_empty, Answers, Swept, GrowsHarder}
@@ -45,13 +45,26 @@ limit_each P g f zero (c ∷ cs) h = h
 limit_each P g f (suc zero) (c ∷ cs) h = (f c h.0, h.1)
 limit_each P g f (suc (suc n)) (c ∷ cs) h = (h.0, limit_each P g f (suc n) cs h.1)
 
+limit_each_from : (P : ℕ → SetLine → Type 0) (g : Fraction) → ((i : ℕ) (c : SetLine) → P i c → P i (limited g c)) →
+    (n k : ℕ) (cs : List SetLine) → EachFrom k P cs → EachFrom k P (limit_at n g cs)
+limit_each_from P g f n k [] h = tt
+limit_each_from P g f zero k (c ∷ cs) h = h
+limit_each_from P g f (suc zero) k (c ∷ cs) h = (f k c h.0, h.1)
+limit_each_from P g f (suc (suc n)) k (c ∷ cs) h = (h.0, limit_each_from P g f (suc n) (suc k) cs h.1)
+
 pub with_budget_model : (m : RobustModel) (n : ℕ) (g : Fraction) → IsModel m → IsModel (with_budget m n g)
 with_budget_model m n g h =
     Same.model-other m (limit_at n g m.set_lines) m.variables refl h (limit_each (IsSetLine m) g kept n m.set_lines h.set_lines)
+    (limit_each_from (λ i c. (line_set m i < set_count m) × IsLineOf m (line_set m i) c) g own n zero m.set_lines h.own_lines)
   where
     kept : (c : SetLine) → IsSetLine m c → IsSetLine m (limited g c)
     kept (line l relation r) h = h
     kept (budget limit members) h = h
+
+    own : (i : ℕ) (c : SetLine) → (line_set m i < set_count m) × IsLineOf m (line_set m i) c →
+        (line_set m i < set_count m) × IsLineOf m (line_set m i) (limited g c)
+    own i (line l relation r) h = h
+    own i (budget limit members) h = h
 
 pub with_budget_named : (m : RobustModel) (n : ℕ) (g : Fraction) → IsNamed m → IsNamed (with_budget m n g)
 with_budget_named m n g h =
@@ -70,28 +83,30 @@ with_budget_named m n g h =
 
 -- ---- a greater budget admits more
 module _ (m : RobustModel) (n : ℕ) (g h : Fraction) (le : g ≤ℚ h) where
-  lines_at : (u : List Fraction) (n : ℕ) (cs : List SetLine) → Each (KeepsLine m u) (limit_at n g cs) →
-      Each (KeepsLine m u) (limit_at n h cs)
-  lines_at u n [] k = tt
-  lines_at u zero (c ∷ cs) k = k
-  lines_at u (suc zero) (line l relation r ∷ cs) k = k
-  lines_at u (suc zero) (budget limit members ∷ cs) k =
-      (Q.le_trans_ℚ (total_deviation m u members) g h k.0 le, k.1)
-  lines_at u (suc (suc n)) (c ∷ cs) k = (k.0, lines_at u (suc n) cs k.1)
+  lines_at : (S : ℕ) (u : List Fraction) (n k : ℕ) (cs : List SetLine) →
+      EachFrom k (λ i c. line_set m i ≡ S → KeepsLine m u c) (limit_at n g cs) →
+      EachFrom k (λ i c. line_set m i ≡ S → KeepsLine m u c) (limit_at n h cs)
+  lines_at S u n k [] e = tt
+  lines_at S u zero k (c ∷ cs) e = e
+  lines_at S u (suc zero) k (line l relation r ∷ cs) e = e
+  lines_at S u (suc zero) k (budget limit members ∷ cs) e =
+      (λ own. Q.le_trans_ℚ (total_deviation m u members) g h (e.0 own) le, e.1)
+  lines_at S u (suc (suc n)) k (c ∷ cs) e = (e.0, lines_at S u (suc n) (suc k) cs e.1)
 
-  -- a scenario admitted at the smaller budget is admitted at the greater one
-  pub admits_more : (u : List Fraction) → Admits (with_budget m n g) u → Admits (with_budget m n h) u
-  admits_more u k =
+  -- a scenario that a set admits at the smaller budget it admits at the greater one
+  set_admits_more : (S : ℕ) (u : List Fraction) → AdmitsIn (with_budget m n g) S u → AdmitsIn (with_budget m n h) S u
+  set_admits_more S u k =
       record {
         numbers = k.numbers;
         bounds = k.bounds;
         lines =
-            each_map (KeepsLine m u) (KeepsLine (with_budget m n h) u)
-            (Same.keeps_line_in m (limit_at n h m.set_lines) m.variables refl u) (limit_at n h m.set_lines)
-            (lines_at u n m.set_lines
-            (each_map (KeepsLine (with_budget m n g) u) (KeepsLine m u)
-            (Same.keeps_line_out m (limit_at n g m.set_lines) m.variables refl u) (limit_at n g m.set_lines) k.lines));
+            Same.set_lines_in m (limit_at n h m.set_lines) m.variables refl S u zero (limit_at n h m.set_lines)
+            (lines_at S (in_each_set m u) n zero m.set_lines
+            (Same.set_lines_out m (limit_at n g m.set_lines) m.variables refl S u zero (limit_at n g m.set_lines) k.lines));
       }
+
+  pub admits_more : (u : List Fraction) → Admits (with_budget m n g) u → Admits (with_budget m n h) u
+  admits_more u k = record { numbers = k.numbers; parts = λ S l. set_admits_more S (part_of m S u) (k.parts S l) }
 
   -- a bound at the greater budget is a bound at the smaller one
   pub bound_at_less : (plan : List Fraction) (tau : Fraction) → HasBound (with_budget m n h) plan tau →
@@ -99,10 +114,10 @@ module _ (m : RobustModel) (n : ℕ) (g h : Fraction) (le : g ≤ℚ h) where
   bound_at_less plan tau k =
       record {
         columns = k.columns;
-        keeps = λ u admitted.
-            (let keeps : Keeps (with_budget m n h) plan tau u = k.keeps u (admits_more u admitted) in
-            Same.keeps_in m (limit_at n g m.set_lines) m.variables refl plan u tau
-            (Same.keeps_out m (limit_at n h m.set_lines) m.variables refl plan u tau keeps keeps.variables) keeps.variables);
+        keeps = λ S some u admitted.
+            Same.keeps_in m (limit_at n g m.set_lines) m.variables refl plan u tau S
+            (Same.keeps_out m (limit_at n h m.set_lines) m.variables refl plan u tau S (k.keeps S some u (set_admits_more S u admitted)));
+        variables = k.variables;
       }
 
   pub empty_before : IsEmptySet (with_budget m n h) → IsEmptySet (with_budget m n g)

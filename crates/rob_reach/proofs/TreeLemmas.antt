@@ -188,7 +188,7 @@ module _ (m : RobustModel) (model : IsModel m) (names : List ℕ) (bounded : T (
       (subst (λ n. (lower_at m.variables j ≤ℚ at (plus_all ℚ_ring c.plan (scale ℚ_ring t c.step)) n)
       × (at (plus_all ℚ_ring c.plan (scale ℚ_ring t c.step)) n ≤ℚ upper_at m.variables j)) (omega arith)
       (number_between (plus_all ℚ_ring c.plan (scale ℚ_ring t c.step)) zero m.variables j some
-      ((moved_bound m model c h t nonneg).keeps c.inside h.inside).variables)))
+      (moved_bound m model c h t nonneg).variables)))
 
   moved_whole : (t : Fraction) (js : List ℕ) → T (are_bounded m.variables js) → IsWholeOn js c.plan →
       IsWholeOn js (plus_all ℚ_ring c.plan (scale ℚ_ring t c.step))

@@ -2,11 +2,11 @@
 use Rattle.std.specs.Prelude.{[], ◌∷◌, Some, None, codes}
 use Rattle.rob_algebra.specs.Fraction.{ratio}
 use Rattle.rob_meaning.proofs.WorkedNotation.{int, over, ◌⊕◌, uncertain, var, around, row, cover, item, best}
-use Rattle.rob_meaning.proofs.WorkedTests.{found, test_admits, test_certificate}
+use Rattle.rob_meaning.proofs.WorkedTests.{found, test_certificate}
 use Rattle.rob_meaning.specs.Expressions.{parameter, variable}
 use Rattle.rob_meaning.specs.Places.{0ℚ, 1ℚ}
 use Rattle.rob_meaning.specs.RobustModel.{RobustModel, at_least, budget, minimise}
-use Rattle.rob_reach.proofs.WorkedTests.{test_empty_set}
+use Rattle.rob_reach.proofs.WorkedTests.{test_admitted, test_empty_set}
 use Rattle.rob_reach.specs.Sweeps.{Swept, IsBudgetAt, is_optimal, is_empty, with_budget}
 
 -- ---- d1 and d2 in [8, 12], |d1 - 10| / 2 + |d2 - 10| / 2 <= g; minimise x where x >= d1 + d2
@@ -18,6 +18,10 @@ two_demands = record {
   set_lines = budget 1ℚ (around 0 (int 10) (int 2) ∷ around 1 (int 10) (int 2) ∷ []) ∷ [];
   variables = var (codes "x") None None ∷ [];
   adaptives = [];
+  sets = [];
+  line_sets = [];
+  objective_set = 0;
+  row_sets = [];
   sense = minimise;
   objective = variable 0;
   rows = row (codes "need") (variable 0) at_least (parameter 0 ⊕ parameter 1) ∷ [];
@@ -30,7 +34,7 @@ price_of_robustness :
 unfolding ratio
 price_of_robustness = (
   (
-    λ none. none (int 10 ∷ int 10 ∷ []) (found (test_admits (with_budget two_demands 1 0ℚ) (int 10 ∷ int 10 ∷ [])) tt),
+    λ none. none (int 10 ∷ int 10 ∷ []) (found (test_admitted (with_budget two_demands 1 0ℚ) (int 10 ∷ int 10 ∷ [])) tt),
     found (test_certificate (with_budget two_demands 1 0ℚ)
         (best (int 20) (int 10 ∷ int 10 ∷ []) (int 20 ∷ [])
         (cover 1 4 1ℚ ∷ cover 1 6 1ℚ ∷ cover 1 8 (int 2) ∷ [])
@@ -38,7 +42,7 @@ price_of_robustness = (
   ),
   (
     (
-      λ none. none (int 10 ∷ int 10 ∷ []) (found (test_admits (with_budget two_demands 1 1ℚ) (int 10 ∷ int 10 ∷ [])) tt),
+      λ none. none (int 10 ∷ int 10 ∷ []) (found (test_admitted (with_budget two_demands 1 1ℚ) (int 10 ∷ int 10 ∷ [])) tt),
       found (test_certificate (with_budget two_demands 1 1ℚ)
           (best (int 22) (int 10 ∷ int 10 ∷ []) (int 22 ∷ [])
           (cover 1 4 1ℚ ∷ cover 1 6 1ℚ ∷ cover 1 8 (int 2) ∷ [])
@@ -47,7 +51,7 @@ price_of_robustness = (
     (
       (
         λ none. none (int 10 ∷ int 10 ∷ [])
-            (found (test_admits (with_budget two_demands 1 (over 3 2)) (int 10 ∷ int 10 ∷ [])) tt),
+            (found (test_admitted (with_budget two_demands 1 (over 3 2)) (int 10 ∷ int 10 ∷ [])) tt),
         found (test_certificate (with_budget two_demands 1 (over 3 2))
             (best (int 23) (int 10 ∷ int 10 ∷ []) (int 23 ∷ [])
             (cover 1 4 1ℚ ∷ cover 1 6 1ℚ ∷ cover 1 8 1ℚ ∷ [])
@@ -56,7 +60,7 @@ price_of_robustness = (
       (
         (
           λ none. none (int 10 ∷ int 10 ∷ [])
-              (found (test_admits (with_budget two_demands 1 (int 2)) (int 10 ∷ int 10 ∷ [])) tt),
+              (found (test_admitted (with_budget two_demands 1 (int 2)) (int 10 ∷ int 10 ∷ [])) tt),
           found (test_certificate (with_budget two_demands 1 (int 2))
               (best (int 24) (int 10 ∷ int 10 ∷ []) (int 24 ∷ [])
               (cover 1 1 1ℚ ∷ cover 1 3 1ℚ ∷ [])
@@ -89,7 +93,7 @@ empty_and_22 = (
   (
     (
       λ none. none (int 12 ∷ int 10 ∷ [])
-          (found (test_admits (with_budget a_centre_outside 1 (over 1 2)) (int 12 ∷ int 10 ∷ [])) tt),
+          (found (test_admitted (with_budget a_centre_outside 1 (over 1 2)) (int 12 ∷ int 10 ∷ [])) tt),
       found (test_certificate (with_budget a_centre_outside 1 (over 1 2))
           (best (int 22) (int 12 ∷ int 10 ∷ []) (int 22 ∷ [])
           (cover 1 1 (int 2) ∷ cover 1 5 1ℚ ∷ cover 1 6 1ℚ ∷ cover 1 8 1ℚ ∷ [])

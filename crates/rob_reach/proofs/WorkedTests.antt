@@ -98,7 +98,7 @@ module _ (m : RobustModel) where
     test_improves maximise d = test_lt 0ℚ d
 
     abbrev test_inside_and_items : (c : Certificate) → Option (Admits m c.inside × Each (IsItem m) c.items)
-    test_inside_and_items c = both (test_admits m c.inside) (test_each (IsItem m) test_item c.items)
+    test_inside_and_items c = both (test_admits m model c.inside) (test_each (IsItem m) test_item c.items)
 
     abbrev test_plan : (c : Certificate) → Option ((0ℚ <ℚ c.scale) ×
         ((length c.plan ≡ column_count m) × EachCovered m c.covers c.scale (plan_vector 1ℚ c.plan c.value)))
@@ -143,6 +143,14 @@ module _ (m : RobustModel) where
   -- the certificate proves, where the model is well formed
   abbrev pub test_proves : (c : Certificate) → Option (Proves m c)
   test_proves c = with_model c (test_model m)
+
+  -- the scenario is admitted, where the model is well formed
+  abbrev with_model_admitted : (u : List Fraction) → Option (IsModel m) → Option (Admits m u)
+  with_model_admitted u None = None
+  with_model_admitted u (Some model) = test_admits m model u
+
+  abbrev pub test_admitted : (u : List Fraction) → Option (Admits m u)
+  test_admitted u = with_model_admitted u (test_model m)
 
   -- the set is empty, where the weights show it
   abbrev with_model_empty : (weights : List Fraction) → Option (IsModel m) → Option (IsEmptySet m)

@@ -1,11 +1,11 @@
 -- A subexpression more: what its table says, and what of it is wide.
-use Rattle.std.specs.Prelude.{◌≡◌, ℕ, ◌+◌, ◌<◌, ◌≤◌, List, [], ◌∷◌, ◌++◌, map, length, Result, Ok, Err, IfOk, OnOk}
+use Rattle.std.specs.Prelude.{◌≡◌, ℕ, ◌+◌, ◌<◌, ◌≤◌, List, [], ◌∷◌, ◌++◌, map, length, Result, Ok, Err, IfOk, IfErr, OnOk}
 use Rattle.std.proofs.Common.{sym, ◌∙◌, ap, ap₂, subst, get_or, inl, inr, rules, add-one}
 use Rattle.rob_algebra.specs.Fraction.{Fraction, ◌+ℚ◌}
-use Rattle.rob_algebra.specs.Width.{Fits}
+use Rattle.rob_algebra.specs.Width.{Fits, IsWide}
 use Rattle.rob_algebra.proofs.WidthLaws.{fits_not_wide}
 use Rattle.rob_meaning.specs.Coefficients.{single, table, sum_table, product_table, table_times}
-use Rattle.rob_meaning.specs.Expressions.{Expression, number, parameter, variable, adaptive, sum, product}
+use Rattle.rob_meaning.specs.Expressions.{Expression, number, parameter, variable, adaptive, adaptive_in, sum, product}
 use Rattle.rob_meaning.specs.Places.{Each}
 use Rattle.rob_meaning.specs.RobustModel.{RobustModel}
 use Rattle.rob_meaning.specs.Values.{signed}
@@ -16,9 +16,12 @@ use Rattle.rob_model.specs.declared.expr.Term.{Term}
 use Rattle.rob_sets.specs.FirstWide.{Some_of}
 use Rattle.rob_sets.specs.Subexpressions.{subexpressions, HasWideCoefficient}
 use Rattle.rob_sets.specs.Tables.{numbers_of}
+use Rattle.rob_sets.specs.Stops.{StopsFor}
 use Rattle.rob_sets.specs.declared.error.Stop.{Stop}
+use Rattle.rob_sets.specs.declared.error.Stop.TheVariants.{Wide as StopWide, Memory as StopMemory}
 use Rattle.rob_sets.specs.declared.table.Table.{Table}
 use Rattle.rob_sets.proofs.NumberLemmas.{number_fits}
+use Rattle.rob_sets.proofs.RuleLemmas.{default_table}
 use Rattle.rob_sets.proofs.SubexpressionLemmas.{each_both, some_left, some_right, first_terms, first_terms-more, first_factors, first_factors-more, sum_table-with, product_table-with}
 
 -- ---- lists: some items, then one, then the rest
@@ -49,6 +52,9 @@ module _ {N : Type 0} (value : N → Fraction) (e : Expr N) where
   pub adaptive_is : (y : ℕ) → e ≡ Is.Adaptive y → expression_of value e ≡ adaptive y
   adaptive_is y h = search (rules, the_lemmas)
 
+  pub adaptive_in_is : (y S : ℕ) → e ≡ Is.AdaptiveIn y S → expression_of value e ≡ adaptive_in y S
+  adaptive_in_is y S h = search (rules, the_lemmas)
+
   pub sum_is : (ts us : List (Term N)) → e ≡ Is.Sum ts → us ≡ ts → expression_of value e ≡ sum (terms_of (map (signed_of value) us))
   sum_is ts us h same = search (rules, the_lemmas)
 
@@ -72,6 +78,23 @@ module _ {N : Type 0} (value : N → Fraction) (limit : ℕ) (fits : (x : N) →
       → IfOk r (λ t. (k j : ℕ) → numbers_of value t k j ≡ table m x k j) → IfOk r (λ t. (k j : ℕ) → numbers_of value t k j ≡ table m y k j)
   table_along y x e (Ok t) h = λ k j. h k j ∙ ap (λ (z : Expression). table m z k j) (sym e)
   table_along y x e (Err d) h = tt
+
+  -- an adaptive variable in the default set
+  pub default_ok : (y : ℕ) (r : Result (Table N) Stop) → IfOk r (λ t. (k j : ℕ) → numbers_of value t k j ≡ table m (adaptive_in y 0) k j)
+      → IfOk r (λ t. (k j : ℕ) → numbers_of value t k j ≡ table m (adaptive y) k j)
+  default_ok y (Ok t) h = λ k j. h k j ∙ default_table m y k j
+  default_ok y (Err d) h = tt
+
+  pub default_wide : (y : ℕ) (x : Expression) (A : Type 0) → x ≡ adaptive y → (r : Result (Table N) Stop)
+      → IfErr r (StopsFor (A × HasWideCoefficient limit m (adaptive_in y 0)))
+      → IfErr r (StopsFor (A × Some_of (HasWideCoefficient limit m) (subexpressions x)))
+  default_wide y x A e (Ok t) h = tt
+  default_wide y x A e (Err StopMemory) h = tt
+  default_wide y x A e (Err StopWide) h = (
+    h.0,
+    subst (λ (x : Expression). Some_of (HasWideCoefficient limit m) (subexpressions x)) (sym e)
+        (inl (h.1.0, h.1.1, subst (IsWide limit) (default_table m y h.1.0 h.1.1) h.1.2)),
+  )
 
   pub parts_along : (y x : Expression) → y ≡ x → (r : Result (Table N) Stop) → OnOk r (Each (λ s. HasWideCoefficient limit m s → ⊥) (subexpressions x))
       → OnOk r (Each (λ s. HasWideCoefficient limit m s → ⊥) (subexpressions y))

@@ -3,7 +3,7 @@
 use Rattle.std.specs.Prelude.{ℕ, List, [], ◌∷◌, ◌++◌, Bool}
 use Rattle.rob_algebra.specs.Width.{IsWide}
 use Rattle.rob_meaning.specs.Coefficients.{table}
-use Rattle.rob_meaning.specs.Expressions.{Expression, number, parameter, variable, adaptive, sum, product, Terms, no_terms, term, Factors, no_factors, factor}
+use Rattle.rob_meaning.specs.Expressions.{Expression, number, parameter, variable, adaptive, adaptive_in, sum, product, Terms, no_terms, term, Factors, no_factors, factor}
 use Rattle.rob_meaning.specs.RobustModel.{RobustModel}
 
 -- the terms with one more behind them
@@ -23,6 +23,7 @@ abbrev mutual
   subexpressions (parameter k) = parameter k ∷ []
   subexpressions (variable k) = variable k ∷ []
   subexpressions (adaptive y) = adaptive y ∷ []
+  subexpressions (adaptive_in y S) = adaptive_in y S ∷ []
   subexpressions (sum ts) = sums_from no_terms ts
   subexpressions (product fs) = products_from no_factors fs
 

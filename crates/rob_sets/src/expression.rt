@@ -4,8 +4,9 @@ ghost use Rattle.std.specs.Prelude.{◌≡◌, ◌≤◌, ◌<◌, ℕ, map, len
 ghost use Rattle.rob_number.specs.Counts.{Rose};
 ghost use Rattle.rob_meaning.specs.Coefficients.{single, table as table_of, sum_table, product_table};
 ghost use Rattle.rob_meaning.specs.Degrees.{IsLinear, AreLinear, FactorsLinear, uncertain_degree, decision_degree};
-ghost use Rattle.rob_meaning.specs.Expressions.{adaptive as rule, sum as sum_of, product as product_of, no_terms, no_factors};
+ghost use Rattle.rob_meaning.specs.Expressions.{adaptive_in as rule_in, sum as sum_of, product as product_of, no_terms, no_factors};
 ghost use Rattle.rob_meaning.specs.Places.{Each};
+ghost use Rattle.rob_meaning.specs.RobustModel.{set_count};
 ghost use Rattle.rob_meaning.specs.WellFormed.{IsInside, TermsInside, FactorsInside};
 ghost use Rattle.rob_model.specs.Valid.{IsValid};
 ghost use Rattle.rob_model.specs.View.{robust, expression_of, signed_of, terms_of, factors_of};
@@ -17,7 +18,7 @@ ghost use Rattle.rob_sets.specs.Tables.{numbers_of};
 use crate::error::Stop;
 use crate::table::{Cell, Table};
 use rob_model::numbers::one;
-use rob_model::policy::column_of;
+use rob_model::policy::{column_of, written_count};
 use rob_model::{Expr, Model, Term};
 use rob_number::{Exact, Ledger};
 use std::alloc::Global;
@@ -60,7 +61,8 @@ pub fn coefficients<N: Exact, L: Ledger>(
             },
             ledger,
         ),
-        Expr::Adaptive(y) => rule_table(alloc, model, *y, ledger),
+        Expr::Adaptive(y) => rule_table(alloc, model, 0, *y, ledger),
+        Expr::AdaptiveIn(y, set) => rule_table(alloc, model, *set, *y, ledger),
         Expr::Sum(terms) => sum(alloc, terms.items(), model, ledger),
         Expr::Product(factors) => product(alloc, factors.items(), model, ledger),
     }
@@ -144,31 +146,34 @@ pub fn unit<N: Exact, L: Ledger>(
     Table::single(alloc, cell, number, ledger)
 }
 
-/// The coefficients of an adaptive variable: 1 in the column of its constant, and for each parameter of its list 1 in that
-/// parameter's row and in the column of its coefficient.
+/// The coefficients of an adaptive variable in a set: 1 in the column of its constant, and for each parameter of its list 1
+/// in the row of that set's parameter and in the column of its coefficient.
 fn rule_table<N: Exact, L: Ledger>(
     alloc: Global,
     model: &Model<N>,
+    set: u32,
     adaptive: u32,
     ledger: &mut L,
 ) -> Result<Table<N>, Stop>
     requires valid { IsValid N.value model.now }
     requires inside { adaptive < length model.now.adaptives }
+    requires set { set < set_count (robust N.value model.now) }
     ensures table { IfOk result (λ t. (k j : ℕ) → numbers_of N.value t k j
-        ≡ table_of (robust N.value model.now) (rule adaptive) k j) }
+        ≡ table_of (robust N.value model.now) (rule_in adaptive set) k j) }
     ensures wide { IfErr result (StopsFor (Rose (L.wides ledger.old) (L.wides ledger.new)
-        × HasWideCoefficient N.limit (robust N.value model.now) (rule adaptive))) }
+        × HasWideCoefficient N.limit (robust N.value model.now) (rule_in adaptive set))) }
     ensures ops { L.ops ledger.old ≤ L.ops ledger.new }
     ensures wides { L.wides ledger.old ≤ L.wides ledger.new }
 {
     let mut column = column_of(model, adaptive) as u32 + 1;
+    let first = (set as usize * written_count(model)) as u32;
     let mut table = unit(alloc, Cell { row: 0, column }, ledger)?;
     for parameter in model.adaptives.items()[adaptive as usize].on.items() {
         column += 1;
         let number = one(ledger);
         table.add(
             Cell {
-                row: *parameter + 1,
+                row: first + *parameter + 1,
                 column,
             },
             number,

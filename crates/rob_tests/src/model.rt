@@ -19,12 +19,16 @@ fn a_model_of_nothing(rt: HostRuntime) -> Result<(), Fail> {
     let minus_seven: Frac<62> = number(-7)?;
     let model = Model {
         params: List::new(alloc),
+        sets: List::new(alloc),
         set_lines: List::new(alloc),
+        line_sets: List::new(alloc),
         vars: List::new(alloc),
         adaptives: List::new(alloc),
         sense: Sense::Minimise,
         objective: Expr::Number(seven),
+        objective_set: 0,
         rows: List::new(alloc),
+        row_sets: List::new(alloc),
     };
     let scenario = Scenario {
         values: List::new(alloc),

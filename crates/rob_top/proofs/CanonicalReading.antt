@@ -29,7 +29,7 @@ module _ (limit : ℕ) (low : 1 ≤ limit) (small : limit < 2 ^ 62) (m : RobustM
       let lines : Each IsLine (lines_of m) =
       each_both (Each IsWritable) (IsShallow 0) IsLine (λ l a b. record { writable = a; shallow = b }) (lines_of m) (all_fine limit small m spelled readable) shallow in
       let page = page_is_read (lines_of m) lines few in
-      let r = followed limit low small words m (all_declarable m spelled) spelled named readable good
+      let r = followed limit low small words m (all_declarable m readable.alone.sets spelled) spelled named readable good
       (λ list is. ap is_within (sizes_are words (canonical_sorts words m) list ∙ ap sizes_of is) ∙ within) in
       record {
         words = words;

@@ -23,8 +23,9 @@ use Rattle.rob_meaning.specs.Places.{0ℚ, 1ℚ}
 use Rattle.rob_meaning.specs.Proves.{EachCovered, HasStatus, ProvesAs, amounts_of}
 use Rattle.rob_meaning.specs.RobustModel.{RobustModel, column_count}
 use Rattle.rob_meaning.specs.SetRows.{set_rows}
+use Rattle.rob_meaning.specs.UncertaintySet.{Admits}
 use Rattle.rob_meaning.specs.WellFormed.{IsModel}
-use Rattle.rob_meaning.proofs.AdmissionLemmas.{admits_meets}
+use Rattle.rob_meaning.proofs.AdmittedLemmas.{admits_meets}
 use Rattle.rob_meaning.proofs.AtLemmas.{at_bound}
 use Rattle.rob_meaning.proofs.CoverLemmas.{covered_at}
 use Rattle.rob_meaning.proofs.LinearLemmas.{zero_le_one}
@@ -93,16 +94,16 @@ solve_counted {N = N} value limit m before now r h = by r h.counted
 
 -- ---- what a certificate that proves says of its plan
 module _ (m : RobustModel) (model : IsModel m) where
-  covered_bound : (c : Certificate) → length c.plan ≡ column_count m → 0ℚ <ℚ c.scale → EachCovered m c.covers c.scale (plan_vector 1ℚ c.plan c.value) → HasBound m c.plan c.value
-  covered_bound c columns some covered =
-      at_bound m model c.plan c.value columns
+  covered_bound : (c : Certificate) → Admits m c.inside → length c.plan ≡ column_count m → 0ℚ <ℚ c.scale → EachCovered m c.covers c.scale (plan_vector 1ℚ c.plan c.value) → HasBound m c.plan c.value
+  covered_bound c inside columns some covered =
+      at_bound m model c.plan c.value c.inside inside columns
       (λ u admitted i k.
-      covered_at m model i k c.scale (plan_vector 1ℚ c.plan c.value) (amounts_of m c.covers i) (covered i k) 1ℚ u some zero_le_one (admits_meets m u admitted))
+      covered_at m model i k c.scale (plan_vector 1ℚ c.plan c.value) (amounts_of m c.covers i) (covered i k) 1ℚ u some zero_le_one (admits_meets m model u admitted))
 
   kept_as : (call : Call) (c : Certificate) (status : Status) → ProvesAs status m c → HasStatus m status c.value → IsKept call m c status
-  kept_as call c optimal h true_of = optimum_is_worst_case m c.plan c.value true_of (covered_bound c h.columns h.scale h.covered)
+  kept_as call c optimal h true_of = optimum_is_worst_case m c.plan c.value true_of (covered_bound c h.inside h.columns h.scale h.covered)
   kept_as call c infeasible h true_of = tt
-  kept_as call c unbounded h true_of = covered_bound c h.columns h.scale h.covered
+  kept_as call c unbounded h true_of = covered_bound c h.inside h.columns h.scale h.covered
 
 -- ---- the certificate that was found
 pub solution_fits : {N : Type 0} (value : N → Fraction) (limit : ℕ) → ((x : N) → Fits limit (value x)) → (m : RobustModel) (cert : Cert N)

@@ -85,11 +85,12 @@ free a objective tau set budget =
 
 -- ---- minimise x, where x >= d for each d in [8, 12]
 pub one_demand_model : IsModel one_demand
+unfolding ratio
 one_demand_model = found (test_model one_demand) tt
 
 one_demand_admitted : Admits one_demand (int 8 ∷ [])
 unfolding ratio
-one_demand_admitted = found (test_admits one_demand (int 8 ∷ [])) tt
+one_demand_admitted = found (test_admits one_demand one_demand_model (int 8 ∷ [])) tt
 
 one_demand_costs_12 : HasStatus one_demand optimal (int 12)
 unfolding ratio
@@ -111,6 +112,7 @@ one_demand_named = record {
 one_demand_readable : IsReadableModel greatest (naming_of one_demand) one_demand
 unfolding ratio
 one_demand_readable = record {
+  alone = record { sets = refl; line_sets = refl; objective_set = refl; row_sets = refl };
   parameters = ((fits_by (int 8) refl refl, fits_by (int 12) refl refl), tt);
   set_lines = tt;
   variables = ((tt, tt), tt);
@@ -156,6 +158,7 @@ one_demand_is_solved result must =
 
 -- ---- minimise x, where d lies in [12, 8], so no scenario is admitted
 empty_interval_model : IsModel empty_interval
+unfolding ratio
 empty_interval_model = found (test_model empty_interval) tt
 
 -- -d <= -12 and d <= 8 sum to 0 <= -4
@@ -180,6 +183,7 @@ empty_interval_named = record {
 empty_interval_readable : IsReadableModel greatest (naming_of empty_interval) empty_interval
 unfolding ratio
 empty_interval_readable = record {
+  alone = record { sets = refl; line_sets = refl; objective_set = refl; row_sets = refl };
   parameters = ((fits_by (int 12) refl refl, fits_by (int 8) refl refl), tt);
   set_lines = tt;
   variables = ((tt, tt), tt);

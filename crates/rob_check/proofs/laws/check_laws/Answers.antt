@@ -6,7 +6,7 @@ use Rattle.rob_check.proofs.SumLaws.{optimal_sums, infeasible_sums}
 use Rattle.rob_check.proofs.laws.check_laws.Goals as goal
 
 pub returns-clause-inside : goal.returns-clause-inside
-returns-clause-inside c = inside_judged
+returns-clause-inside c limit m u model = inside_judged limit m model u
 
 pub returns-clause-items : goal.returns-clause-items
 returns-clause-items c = items_judged

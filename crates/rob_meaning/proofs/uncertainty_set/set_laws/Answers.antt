@@ -1,4 +1,4 @@
-use Rattle.rob_meaning.proofs.AdmissionLemmas.{admission_law}
+use Rattle.rob_meaning.proofs.AdmittedLemmas.{admission_law}
 use Rattle.rob_meaning.proofs.ConeLemmas.{along_ray, taken_law}
 use Rattle.rob_meaning.proofs.EmptyLemmas.{shows_empty}
 use Rattle.rob_meaning.proofs.WholeRowLemmas.{lifted_law}
@@ -6,7 +6,7 @@ use Rattle.rob_meaning.proofs.uncertainty_set.set_laws.Goals as goal
 
 pub returns : goal.returns
 returns c = record {
-  admitted = admission_law;
+  admitted = λ m u model. admission_law m model u;
   ray = λ m u r t model. along_ray m model u r t;
   taken = λ m s p model. taken_law m model s p;
   lifted = λ m s p model. lifted_law m model s p;

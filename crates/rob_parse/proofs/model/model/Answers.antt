@@ -1,4 +1,4 @@
-use Rattle.std.proofs.Common.{arith, map, ap, ◌∙◌}
+use Rattle.std.proofs.Common.{arith, map, ap, refl, ◌∙◌}
 use Rattle.std.specs.Prelude.{option_copied}
 use Rattle.rob_model.specs.View.{robust, parameter_of, set_line_of, variable_of, adaptive_of, row_of}
 use Rattle.rob_model.proofs.PartLemmas.{each_at}
@@ -16,8 +16,9 @@ loop-statement-init g c =
     let value = g.N.Exact.value in
     record {
       grows = grows_start (texts c.args.words.now.keys) c.args.sorts.now c.args.list.now _ _ c.in-Some.goal.now c.goal.ensures (ap option_copied c.in-Some.is)
-          (ap (map (parameter_of value)) c.new.ensures.empty) (ap (map (set_line_of value)) c.new-2.ensures.empty) (ap (map (variable_of value)) c.new-3.ensures.empty)
-          (ap (map (adaptive_of value)) c.new-4.ensures.empty) (ap (map (row_of value)) c.new-5.ensures.empty) c.sense.ensures c.in_ok-expression.ensures.read;
+          (ap (map (parameter_of value)) c.new.ensures.empty) (ap (map (set_line_of value)) c.new-3.ensures.empty) (ap (map (variable_of value)) c.new-5.ensures.empty)
+          (ap (map (adaptive_of value)) c.new-6.ensures.empty) (ap (map (row_of value)) c.new-7.ensures.empty) c.sense.ensures c.in_ok-expression.ensures.read
+          (record { sets = c.new-2.ensures.empty; line_sets = c.new-4.ensures.empty; objective_set = refl; row_sets = c.new-8.ensures.empty });
       fits = c.requires.fits;
       ops = c.expression.ensures.ops;
       wides = c.expression.ensures.wides;

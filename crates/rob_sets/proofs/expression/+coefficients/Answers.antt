@@ -7,7 +7,7 @@ use Rattle.rob_algebra.specs.Width.{IsWide}
 use Rattle.rob_number.specs.Counts.{Rose}
 use Rattle.rob_meaning.specs.Coefficients.{table_times}
 use Rattle.rob_meaning.specs.Degrees.{AreLinear, FactorsLinear}
-use Rattle.rob_meaning.specs.Expressions.{Expression, number, parameter, variable, adaptive, sum, product}
+use Rattle.rob_meaning.specs.Expressions.{Expression, number, parameter, variable, adaptive, adaptive_in, sum, product}
 use Rattle.rob_meaning.specs.Values.{signed}
 use Rattle.rob_meaning.specs.WellFormed.{IsInside}
 use Rattle.rob_model.specs.View.{robust, expression_of, signed_of, terms_of, factors_of, adaptive_of}
@@ -17,7 +17,7 @@ use Rattle.rob_sets.specs.Subexpressions.{subexpressions, HasWideCoefficient}
 use Rattle.rob_sets.specs.Tables.{numbers_of}
 use Rattle.rob_sets.proofs.StopLemmas.{stops_more}
 use Rattle.rob_sets.proofs.SubexpressionLemmas.{apart, first_terms, first_factors, sums_at, products_at, degree_left, few_variables}
-use Rattle.rob_sets.proofs.PrefixLemmas.{number_is, parameter_is, variable_is, adaptive_is, sum_is, product_is, leaf, table_along, parts_along, parameter_table, variable_table, none_wide, each_from, some_first, some_here, some_rest, sum_more, product_more}
+use Rattle.rob_sets.proofs.PrefixLemmas.{number_is, parameter_is, variable_is, adaptive_is, adaptive_in_is, default_ok, default_wide, sum_is, product_is, leaf, table_along, parts_along, parameter_table, variable_table, none_wide, each_from, some_first, some_here, some_rest, sum_more, product_more}
 use Rattle.rob_sets.proofs.expression.+coefficients.Goals as goal
 
 -- ---- leaves
@@ -77,7 +77,29 @@ pub coefficients-returns-in-Adaptive-clause-none_wide : goal.coefficients-return
 coefficients-returns-in-Adaptive-clause-none_wide g t c =
     let value = g.N.Exact.value in
     leaf value g.N.Exact.limit g.met.N.Exact.fits g.met.N.Exact.limit_low (robust value c.args.model.now) (expression_of value c.args.e.now) (adaptive c.in-Adaptive.y)
-    (adaptive_is value c.args.e.now c.in-Adaptive.y c.in-Adaptive.is) refl c.rule_table.result c.rule_table.ensures.table
+    (adaptive_is value c.args.e.now c.in-Adaptive.y c.in-Adaptive.is) refl c.rule_table.result
+    (default_ok value g.N.Exact.limit g.met.N.Exact.fits g.met.N.Exact.limit_low (robust value c.args.model.now) c.in-Adaptive.y c.rule_table.result c.rule_table.ensures.table)
+
+pub coefficients-returns-in-Adaptive-clause-table : goal.coefficients-returns-in-Adaptive-clause-table
+coefficients-returns-in-Adaptive-clause-table g t c =
+    let value = g.N.Exact.value in
+    let m = robust value c.args.model.now in
+    table_along value g.N.Exact.limit g.met.N.Exact.fits g.met.N.Exact.limit_low m (expression_of value c.args.e.now) (adaptive c.in-Adaptive.y)
+    (adaptive_is value c.args.e.now c.in-Adaptive.y c.in-Adaptive.is) c.rule_table.result
+    (default_ok value g.N.Exact.limit g.met.N.Exact.fits g.met.N.Exact.limit_low m c.in-Adaptive.y c.rule_table.result c.rule_table.ensures.table)
+
+pub coefficients-returns-in-Adaptive-clause-wide : goal.coefficients-returns-in-Adaptive-clause-wide
+coefficients-returns-in-Adaptive-clause-wide g t c =
+    let value = g.N.Exact.value in
+    default_wide value g.N.Exact.limit g.met.N.Exact.fits g.met.N.Exact.limit_low (robust value c.args.model.now) c.in-Adaptive.y (expression_of value c.args.e.now) _
+    (adaptive_is value c.args.e.now c.in-Adaptive.y c.in-Adaptive.is) c.rule_table.result c.rule_table.ensures.wide
+
+pub coefficients-returns-in-AdaptiveIn-clause-none_wide : goal.coefficients-returns-in-AdaptiveIn-clause-none_wide
+coefficients-returns-in-AdaptiveIn-clause-none_wide g t c =
+    let value = g.N.Exact.value in
+    leaf value g.N.Exact.limit g.met.N.Exact.fits g.met.N.Exact.limit_low (robust value c.args.model.now) (expression_of value c.args.e.now)
+    (adaptive_in c.in-AdaptiveIn.y c.in-AdaptiveIn.set)
+    (adaptive_in_is value c.args.e.now c.in-AdaptiveIn.y c.in-AdaptiveIn.set c.in-AdaptiveIn.is) refl c.rule_table-in-AdaptiveIn.result c.rule_table-in-AdaptiveIn.ensures.table
 
 -- ---- sums and products
 pub coefficients-returns-in-Sum-clause-table : goal.coefficients-returns-in-Sum-clause-table
