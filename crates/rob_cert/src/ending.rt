@@ -37,7 +37,7 @@ pub enum Worst<N> {
 /// Why a route has no certificate.
 #[derive(Debug, Drop)]
 pub enum Stop {
-    /// No scenario is admitted: weights of the set rows that show it, by Farkas's lemma.
+    /// No joint scenario is admitted: weights of the set rows that show it, by Farkas's lemma.
     EmptySet(List<i64>),
     /// A number is wide: its place, and the rounds before it.
     Wide(Spot, Trace),

@@ -23,6 +23,7 @@ pub mod MasterLemmas
 pub mod SetLemmas
 pub mod SearchLemmas
 pub mod ScenarioLemmas
+pub mod OwnSetLemmas
 pub mod WorstCaseLemmas
 pub mod CutItemLemmas
 pub mod MasterEndings

@@ -8,9 +8,9 @@ ghost use Rattle.rob_counterpart.specs.ReadCertificates.{scenario_read, weights_
 ghost use Rattle.rob_linear.specs.Optimality.{IsBasicPoint};
 ghost use Rattle.rob_linear.specs.Programs.{system_of};
 ghost use Rattle.rob_linear.specs.Systems.{IsBasis, Feasible};
-ghost use Rattle.rob_meaning.specs.Multipliers.{ShowsEmpty};
+ghost use Rattle.rob_meaning.specs.Multipliers.{ShowsEmpty, ShowsEmptyIn};
 ghost use Rattle.rob_meaning.specs.RobustModel.{RobustModel};
-ghost use Rattle.rob_meaning.specs.UncertaintySet.{Admits, IsEmptySet};
+ghost use Rattle.rob_meaning.specs.UncertaintySet.{Admits, IsEmptyIn, IsEmptySet};
 ghost use Rattle.rob_meaning.specs.WellFormed.{IsModel};
 ghost use Rattle.std.specs.Prelude.{ℕ, ℤ};
 
@@ -21,6 +21,10 @@ pub fn set_laws()
         → InfeasibleEnding (set_program m) own rows → ShowsEmpty m (weights_read m rows) }
     ensures empty { (m : RobustModel) (own : Columns) (rows : Matrix) → IsModel m
         → InfeasibleEnding (set_program m) own rows → IsEmptySet m }
+    // They belong to rows of one set alone, which admits nothing.
+    ensures one_set { (m : RobustModel) (own : Columns) (rows : Matrix) → IsModel m
+        → InfeasibleEnding (set_program m) own rows
+        → (S : ℕ) × ShowsEmptyIn m S (weights_read m rows) × IsEmptyIn m S }
     ensures scenario { (m : RobustModel) (own : Columns) (rows : Matrix) (x : ℕ → Fraction)
         → IsModel m → IsBasis (system_of (set_program m)) own rows
         → Feasible (system_of (set_program m)) rows

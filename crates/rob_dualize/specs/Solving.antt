@@ -12,10 +12,10 @@ use Rattle.rob_linear.specs.Optimality.{IsBasicPoint}
 use Rattle.rob_linear.specs.WideRows.{HasWideRow}
 use Rattle.rob_bounds.specs.Bounds.{IsNarrow}
 use Rattle.rob_meaning.specs.Certificates.{Status, optimal, infeasible, unbounded, Certificate}
-use Rattle.rob_meaning.specs.Multipliers.{ShowsEmpty}
+use Rattle.rob_meaning.specs.Multipliers.{ShowsEmpty, ShowsEmptyIn}
 use Rattle.rob_meaning.specs.Proves.{Proves}
 use Rattle.rob_meaning.specs.RobustModel.{RobustModel}
-use Rattle.rob_meaning.specs.UncertaintySet.{Admits, IsEmptySet}
+use Rattle.rob_meaning.specs.UncertaintySet.{Admits, IsEmptyIn, IsEmptySet}
 use Rattle.rob_counterpart.specs.Counterpart.{set_program, counterpart}
 use Rattle.rob_counterpart.specs.Endings.{InfeasibleEnding}
 use Rattle.rob_counterpart.specs.ReadCertificates.{scenario_read, weights_read, IsReadOptimal, IsReadInfeasible, IsReadUnbounded}
@@ -65,10 +65,14 @@ pub record IsSolution (m : RobustModel) (c : Certificate) : Type 0 where
   pub read : IsReadAtEnd m c
   pub inside : IsLastScenario m c.inside
 
--- no scenario is admitted, as the Farkas weights of the last basis of the set's program show
+-- no joint scenario is admitted, as the Farkas weights of the last basis of the set's program show. They belong to rows of one set,
+-- which admits nothing itself
 pub record IsShownEmpty (m : RobustModel) (weights : List Fraction) : Type 0 where
   pub empty : IsEmptySet m
   pub shows : ShowsEmpty m weights
+  pub set : ℕ
+  pub shows_in : ShowsEmptyIn m set weights
+  pub empty_in : IsEmptyIn m set
   pub basis : Columns
   pub rows : Matrix
   pub last : Last (set_program m) basis

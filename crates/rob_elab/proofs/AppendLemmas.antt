@@ -1,6 +1,6 @@
 -- Forms that are appended one after another: those done so far, and those that are left.
-use Rattle.std.specs.Prelude.{◌≡◌, ℕ, zero, suc, ◌+◌, ◌≤◌, ◌<◌, ℤ, List, [], ◌∷◌, ◌++◌, length, map, Result, Ok, Err, OnOk, IfErr, refl}
-use Rattle.std.proofs.Common.{sym, ◌∙◌, ap, ap₂, arith, subst, append_assoc}
+use Rattle.std.specs.Prelude.{◌≡◌, ℕ, suc, ◌+◌, ◌≤◌, ℤ, List, [], ◌∷◌, ◌++◌, length, map, Result, Ok, Err, OnOk, IfErr, refl}
+use Rattle.std.proofs.Common.{sym, ◌∙◌, ap, arith, subst, append_assoc}
 use Rattle.std.proofs.lemmas.List.{length-map}
 use Rattle.rob_number.specs.Counts.{Rose}
 use Rattle.rob_meaning.specs.Clearing.{cleared, entries}
@@ -9,7 +9,6 @@ use Rattle.rob_meaning.specs.Expressions.{Expression}
 use Rattle.rob_meaning.specs.Forms.{entries_of, matrix_of}
 use Rattle.rob_meaning.specs.Places.{Each}
 use Rattle.rob_meaning.specs.RobustModel.{RobustModel}
-use Rattle.rob_model.specs.declared.place.Spot.{Spot}
 use Rattle.rob_model.specs.declared.place.Spot.TheVariants.{Clearing}
 use Rattle.rob_model.specs.declared.place.Where.TheVariants.{Form}
 use Rattle.rob_sets.specs.Appending.{StopsAt}
@@ -20,7 +19,7 @@ use Rattle.rob_sets.specs.Subexpressions.{subexpressions, HasWideCoefficient}
 use Rattle.rob_sets.specs.declared.error.ElabErr.{ElabErr}
 use Rattle.rob_sets.specs.declared.error.ElabErr.TheVariants as Refused
 use Rattle.rob_sets.proofs.DifferenceLemmas.{each_none}
-use Rattle.rob_sets.proofs.JudgedLemmas.{first_here, stops_left, stops_right}
+use Rattle.rob_sets.proofs.JudgedLemmas.{stops_left, stops_right}
 use Rattle.rob_sets.proofs.ProgressLemmas.{append-nil, length-both}
 use Rattle.rob_sets.proofs.RowLemmas.{map-append}
 use Rattle.rob_sets.proofs.SubexpressionLemmas.{each_both}

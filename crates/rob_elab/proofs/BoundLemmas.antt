@@ -1,5 +1,5 @@
 -- The form of a declared bound: `l - e` of a lower one, `e - b` of an upper one.
-use Rattle.std.proofs.Common.{ap, refl, subst, sym, ◌∙◌}
+use Rattle.std.proofs.Common.{ap, refl, sym, ◌∙◌}
 use Rattle.std.specs.Prelude.{◌≡◌, List, [], ◌∷◌, Bool, true, false, Option, Some, option_map, if◌then◌else◌}
 use Rattle.rob_algebra.specs.Fraction.{Fraction}
 use Rattle.rob_meaning.specs.Expressions.{Expression, number as constant}

@@ -1,8 +1,8 @@
 -- The number of decision columns, rule by rule.
-use Rattle.std.specs.Prelude.{◌≡◌, ℕ, zero, suc, ◌+◌, ◌≤◌, ◌<◌, List, [], ◌∷◌, map, length, drop, refl}
+use Rattle.std.specs.Prelude.{◌≡◌, ℕ, suc, ◌+◌, ◌≤◌, ◌<◌, List, map, length, drop}
 use Rattle.std.proofs.Common.{sym, ◌∙◌, ap, arith, get_or}
 use Rattle.rob_algebra.specs.Fraction.{Fraction}
-use Rattle.rob_meaning.specs.RobustModel.{AdaptiveVariable, column_from}
+use Rattle.rob_meaning.specs.RobustModel.{column_from}
 use Rattle.rob_model.specs.View.{adaptive_of}
 use Rattle.rob_model.specs.declared.model.Adaptive.{Adaptive}
 use Rattle.rob_model.proofs.PartLemmas.{drop_at, drop_past}

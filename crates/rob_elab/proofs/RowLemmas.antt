@@ -1,11 +1,10 @@
 -- The rows of a table, one after another, and their common denominator.
-use Rattle.std.specs.Prelude.{◌≡◌, ℕ, zero, suc, ◌+◌, ◌≤◌, ◌<◌, ℤ, List, [], ◌∷◌, ◌++◌, map, length, take, drop, nat_abs, ◌⊎◌, Result, Ok, Err, IfOk, OnOk, refl}
+use Rattle.std.specs.Prelude.{◌≡◌, ℕ, ◌+◌, ◌≤◌, ◌<◌, ℤ, List, [], ◌∷◌, ◌++◌, map, length, take, drop, nat_abs, ◌⊎◌, Result, Ok, Err, IfOk, OnOk, refl}
 use Rattle.std.proofs.Common.{sym, ◌∙◌, ap, ap₂, arith, subst, get_or, append_assoc, inl, inr}
 use Rattle.rob_algebra.specs.Fraction.{Fraction}
 use Rattle.rob_algebra.specs.Width.{IsWideWhole}
-use Rattle.rob_meaning.specs.Clearing.{cleared, denominator, entries, whole_at}
+use Rattle.rob_meaning.specs.Clearing.{denominator, entries, whole_at}
 use Rattle.rob_meaning.specs.Places.{Each, tabulate}
-use Rattle.rob_meaning.proofs.LeastLemmas.{denominator_least, whole_by_denominator}
 use Rattle.rob_meaning.specs.Coefficients.{Table}
 use Rattle.rob_meaning.specs.Forms.{entries_of, form_columns, form_rows}
 use Rattle.rob_meaning.specs.RobustModel.{RobustModel}
@@ -14,7 +13,7 @@ use Rattle.rob_sets.specs.FirstWide.{IsWideCleared, Some_of}
 use Rattle.rob_sets.specs.declared.error.Stop.{Stop}
 use Rattle.rob_sets.proofs.ClearingSteps.{denominator-first, parted}
 use Rattle.rob_sets.proofs.RowLemmas.{map-append, tabulate-more}
-use Rattle.rob_sets.proofs.SubexpressionLemmas.{each_both, some_left, some_right, take_one_more, take_past}
+use Rattle.rob_sets.proofs.SubexpressionLemmas.{some_left, some_right, take_one_more, take_past}
 
 one_more : {A B : Type 0} (f : A → B) (items new : List A) (x : A) (n : ℕ) (g : ℕ → B) → map f items ≡ tabulate n g → new ≡ items ++ x ∷ [] → f x ≡ g n
     → map f new ≡ tabulate (n + 1) g

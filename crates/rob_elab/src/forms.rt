@@ -3,17 +3,17 @@
 use rob_model::Sense;
 use rob_number::List;
 
-/// The robust constraints of a model, each an expression that is at most 0 in every scenario, times its least common
+/// The robust constraints of a model, each an expression that is at most 0 in every joint scenario, times its least common
 /// denominator. Form 0 is the objective's, with `tau` for its bound; the rows follow, and the declared bounds of variables and
 /// adaptive variables. (Ben-Tal, El Ghaoui, Nemirovski, Robust Optimization, chapter 1.)
 #[derive(Debug, Drop)]
 pub struct Forms {
     /// The number of decision columns.
     pub columns: u32,
-    /// The number of parameters.
+    /// The number of joint parameters.
     pub params: u32,
     /// Whether `tau` is to be small or large.
     pub sense: Sense,
-    /// Form, then the constant and the parameters, then the constant, the decision columns and `tau`.
+    /// Form, then the constant and the joint parameters, then the constant, the decision columns and `tau`.
     pub matrices: List<List<List<i64>>>,
 }

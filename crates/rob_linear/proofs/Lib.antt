@@ -10,6 +10,7 @@ pub mod Unique
 pub mod Paths
 pub mod Starts
 pub mod Auxiliary
+pub mod Blocks
 pub mod Exact
 pub mod Primitive
 pub mod Costs

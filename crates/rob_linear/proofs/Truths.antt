@@ -81,7 +81,7 @@ weights_show_empty P w h s x adm =
     let g : s *ℤ neg_ℤ (dot P.m w P.b) ≡ neg_ℤ (s *ℤ dot P.m w P.b) = simp ring in
     omega (arith, ints)
 
-auxiliary_spanned : (P : Program) (r : ℕ → ℤ) (k : ℕ) (f : ℕ → ℤ) → IsSpanned (auxiliary_of P) r → k ≤ right (auxiliary_of P) → ((t : ℕ) → t < P.m → auxiliary_row P t k ≡ f t) → auxiliary_row P P.m k ≡ pos 0 → r k ≡ sum_to P.m (λ i. r (P.n + i) *ℤ f i)
+pub auxiliary_spanned : (P : Program) (r : ℕ → ℤ) (k : ℕ) (f : ℕ → ℤ) → IsSpanned (auxiliary_of P) r → k ≤ right (auxiliary_of P) → ((t : ℕ) → t < P.m → auxiliary_row P t k ≡ f t) → auxiliary_row P P.m k ≡ pos 0 → r k ≡ sum_to P.m (λ i. r (P.n + i) *ℤ f i)
 auxiliary_spanned P r k f h kl e z =
     let all : r k ≡ sum_to P.m (λ t. r (auxiliary_tag P t) *ℤ auxiliary_row P t k) +ℤ (r (auxiliary_tag P P.m) *ℤ auxiliary_row P P.m k) = h k kl in
     let a : sum_to P.m (λ t. r (auxiliary_tag P t) *ℤ auxiliary_row P t k) ≡ sum_to P.m (λ i. r (P.n + i) *ℤ f i) =

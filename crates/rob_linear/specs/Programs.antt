@@ -1,7 +1,7 @@
 -- Programs in whole numbers: maximise c * x with A * x at most b and x at least 0. Points are scaled: z and s stand for z / s.
 -- A program's columns are n structural ones, then m slack ones; in the auxiliary form one auxiliary column stands behind these.
 -- Chvatal, Linear Programming (1983), chapters 1, 3 (the auxiliary problem) and 5 (duality).
-use Rattle.std.specs.Prelude.{ℕ, suc, ◌+◌, ◌<◌, nat_lt, nat_eq, cond, ℤ, pos, negsuc, ◌*ℤ◌, ◌≤ℤ◌, ◌<ℤ◌, neg_ℤ}
+use Rattle.std.specs.Prelude.{◌≡◌, ◌≢◌, ℕ, suc, ◌+◌, ◌<◌, nat_lt, nat_eq, cond, ℤ, pos, negsuc, ◌*ℤ◌, ◌≤ℤ◌, ◌<ℤ◌, neg_ℤ}
 use Rattle.rob_linear.specs.Vectors.{Matrix, Vector, sum_to, dot}
 use Rattle.rob_linear.specs.Systems.{System, right, IsNonnegative, Feasible, with_objective}
 
@@ -90,6 +90,15 @@ pub record ShowsEmpty (P : Program) (w : Vector) : Type 0 where
   pub nonnegative : (i : ℕ) → i < P.m → pos 0 ≤ℤ w i
   pub columns : (j : ℕ) → j < P.n → pos 0 ≤ℤ sum_to P.m (λ i. w i *ℤ P.a i j)
   pub below : dot P.m w P.b <ℤ pos 0
+
+-- the program falls into blocks: each row and each column has a label, and a row is 0 in the columns of other labels
+abbrev pub FallsIntoBlocks : Program → (ℕ → ℕ) → (ℕ → ℕ) → Type 0
+FallsIntoBlocks P of_row of_column = (i j : ℕ) → i < P.m → j < P.n → of_row i ≢ of_column j → P.a i j ≡ pos 0
+
+-- the weights lie in one block: some row has a weight other than 0, and each row that has one has the label of that row
+abbrev pub LieInOneBlock : Program → (ℕ → ℕ) → Vector → Type 0
+LieInOneBlock P of_row w =
+    (r : ℕ) × (r < P.m) × (w r ≢ pos 0) × ((i : ℕ) → i < P.m → w i ≢ pos 0 → of_row i ≡ of_row r)
 
 -- dual values y / d: in each column they sum the rows to at least the cost
 pub record IsDual (P : Program) (d : ℤ) (y : Vector) : Type 0 where

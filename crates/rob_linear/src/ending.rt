@@ -4,7 +4,7 @@ ghost use Rattle.std.specs.Prelude.{◌≡◌, ℕ, ◌+◌, ◌<◌, ℤ, pos, 
 ghost use Rattle.rob_algebra.specs.Fraction.{Fraction};
 ghost use Rattle.rob_linear.specs.Vectors.{dot, Columns, Matrix, Vector};
 ghost use Rattle.rob_linear.specs.Systems.{System, IsBasis, IsSolution, Feasible, Point, Move, EndsOptimal, EndsUnbounded, IsPrimitive};
-ghost use Rattle.rob_linear.specs.Programs.{Program, system_of, auxiliary_of, IsBest, IsDual, ShowsEmpty, Admits, Keeps, HasNoGreatest, EndsInfeasible};
+ghost use Rattle.rob_linear.specs.Programs.{Program, system_of, auxiliary_of, IsBest, IsDual, ShowsEmpty, Admits, Keeps, HasNoGreatest, EndsInfeasible, FallsIntoBlocks, LieInOneBlock};
 ghost use Rattle.rob_linear.specs.Optimality.{IsFeasible, objective_at, IsOptimal, IsInfeasible, IsUnbounded, IsDualFeasible, dual_objective_at, IsImprovingRay, IsScaled, IsBasicPoint, IsBasicMove};
 
 /// An optimal ending: the basic solution is a best point, and the slack entries of the objective's
@@ -35,6 +35,11 @@ pub fn infeasible_ending()
     ensures primitive { (P : Program) (own : Columns) (rows : Matrix) (e : ℕ)
         → IsBasis (auxiliary_of P) own rows → e < P.m → own e ≡ P.n + P.m
         → IsPrimitive P.m (λ i. rows P.m (P.n + i)) }
+    // Where the rows and columns fall into blocks, the weights lie in one of them.
+    ensures one_block { (P : Program) (own : Columns) (rows : Matrix) (of_row of_column : ℕ → ℕ)
+        → IsBasis (auxiliary_of P) own rows → EndsInfeasible P rows
+        → FallsIntoBlocks P of_row of_column
+        → LieInOneBlock P of_row (λ i. rows P.m (P.n + i)) }
 {}
 
 /// An unbounded ending: the basic solution is feasible, the basic direction of the entering column

@@ -25,7 +25,7 @@ module _ (m : RobustModel) (u : List Fraction) where
   total-once [] = refl
   total-once (h ∷ hs) = ap₂ ◌+ℚ◌ (deviation-once h) (total-once hs)
 
-  line_in : (c : SetLine) → KeepsLine m u c → Holds m 1ℚ u (stated c)
+  pub line_in : (c : SetLine) → KeepsLine m u c → Holds m 1ℚ u (stated c)
   line_in (line l relation r) h =
       subst (λ x. Relates relation x (taken m 1ℚ u r)) (sym (taken-once l))
       (subst (λ y. Relates relation (value m [] u l) y) (sym (taken-once r)) h)
@@ -68,7 +68,7 @@ module _ (m : RobustModel) (u : List Fraction) where
   upper_out k None h = tt
   upper_out k (Some b) h = subst (λ x. at u k ≤ℚ x) (Q.ℚ-one-mul b) h.0
 
-  bounds_in : (k : ℕ) (ps : List Parameter) →
+  pub bounds_in : (k : ℕ) (ps : List Parameter) →
       EachFrom k (λ k (d : Parameter). KeepsBounds d.lower d.upper (at u k)) ps →
       Each (Holds m 1ℚ u) (bounds_from k ps)
   bounds_in k [] h = tt

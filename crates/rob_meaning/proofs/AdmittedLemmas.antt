@@ -138,7 +138,8 @@ module _ (m : RobustModel) (model : IsModel m) where
 
   module _ (u : List Fraction) where
     -- ---- bounds
-    bounds_joint : ((S : ℕ) → S < set_count m → AdmitsIn m S (part_of m S u)) → EachFrom zero (Bounded u) m.parameters
+    pub bounds_joint : ((S : ℕ) → S < set_count m → EachFrom zero (Bounded (part_of m S u)) (written_parameters m)) →
+        EachFrom zero (Bounded u) m.parameters
     bounds_joint h =
         subst (λ (ps : List Parameter). EachFrom zero (Bounded u) ps) (sym model.parameters)
         (blocks_in u (written_parameters m) m.sets zero
@@ -155,7 +156,7 @@ module _ (m : RobustModel) (model : IsModel m) where
         (ap (λ l. S * l + i) (sym length-written)
         ∙ (let e : S * length (written_parameters m) + i ≡ zero + S * length (written_parameters m) + i = omega arith in e)))
         k))
-        (h S some).bounds))
+        (h S some)))
 
     bounds_apart : EachFrom zero (Bounded u) m.parameters → (S : ℕ) → S < set_count m →
         EachFrom zero (Bounded (part_of m S u)) (written_parameters m)
@@ -201,7 +202,7 @@ module _ (m : RobustModel) (model : IsModel m) where
     pub admits_jointly : Admits m u → AdmitsJointly m u
     admits_jointly h = record {
       numbers = h.numbers;
-      bounds = bounds_joint h.parts;
+      bounds = bounds_joint (λ S some. (h.parts S some).bounds);
       lines =
           lines_joint zero m.set_lines model.own_lines
           (each_from_over (set_count m) (λ S i c. line_set m i ≡ S → KeepsLine m (in_each_set m (part_of m S u)) c) zero m.set_lines

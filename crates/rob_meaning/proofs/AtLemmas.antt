@@ -15,7 +15,7 @@ use Rattle.rob_meaning.specs.Degrees.{IsLinear}
 use Rattle.rob_meaning.specs.Expressions.{Expression}
 use Rattle.rob_meaning.specs.Forms.{FormHolds, form_at, forms, matrices, matrix_at, matrix_of, numbers_at, plan_vector, sum_at}
 use Rattle.rob_meaning.specs.Guarantee.{HasBound}
-use Rattle.rob_meaning.specs.JointMeaning.{Keeps}
+use Rattle.rob_meaning.specs.JointMeaning.{HasJointBound, Keeps}
 use Rattle.rob_meaning.specs.Places.{0ℚ, 1ℚ, Each}
 use Rattle.rob_meaning.specs.RobustModel.{RobustModel, column_count}
 use Rattle.rob_meaning.specs.UncertaintySet.{Admits}
@@ -88,21 +88,35 @@ module _ (m : RobustModel) (model : IsModel m) (plan : List Fraction) (tau : Fra
       Keeps m plan tau u ↔ ((i : ℕ) → form_at m i 1ℚ u (plan_vector 1ℚ plan tau) ≤ℚ 0ℚ)
   keeps_law u hu fits = (keeps_at u hu fits, λ h. at_keeps u hu fits (λ i k. h i))
 
-  -- a bound, by the sums of the forms in every admitted scenario
+  -- a bound over joint scenarios, by the sums of the forms in every admitted one
+  pub joint_bound_at : HasJointBound m plan tau → (u : List Fraction) → Admits m u →
+      (i : ℕ) → form_at m i 1ℚ u (plan_vector 1ℚ plan tau) ≤ℚ 0ℚ
+  joint_bound_at h u admitted = keeps_at u admitted.numbers h.columns (h.keeps u (admits_jointly m model u admitted))
+
+  pub at_joint_bound : length plan ≡ column_count m →
+      ((u : List Fraction) → Admits m u → (i : ℕ) → i < length (matrices m) → form_at m i 1ℚ u (plan_vector 1ℚ plan tau) ≤ℚ 0ℚ) →
+      HasJointBound m plan tau
+  at_joint_bound fits h = record {
+    columns = fits;
+    keeps = λ u jointly. at_keeps u jointly.numbers fits (h u (jointly_admits m model u jointly));
+  }
+
+  pub joint_bound_law : HasJointBound m plan tau ↔
+      ((length plan ≡ column_count m)
+      × ((u : List Fraction) → Admits m u → (i : ℕ) → form_at m i 1ℚ u (plan_vector 1ℚ plan tau) ≤ℚ 0ℚ))
+  joint_bound_law =
+      (λ h. (h.columns, joint_bound_at h), λ h. at_joint_bound h.0 (λ u admitted i k. h.1 u admitted i))
+
+  -- the same of a bound
   pub bound_at : HasBound m plan tau → (u : List Fraction) → Admits m u →
       (i : ℕ) → form_at m i 1ℚ u (plan_vector 1ℚ plan tau) ≤ℚ 0ℚ
-  bound_at h u admitted =
-      keeps_at u admitted.numbers h.columns ((bound_joint m model plan tau h).keeps u (admits_jointly m model u admitted))
+  bound_at h = joint_bound_at (bound_joint m model plan tau h)
 
   pub at_bound : (inside : List Fraction) → Admits m inside → length plan ≡ column_count m →
       ((u : List Fraction) → Admits m u → (i : ℕ) → i < length (matrices m) → form_at m i 1ℚ u (plan_vector 1ℚ plan tau) ≤ℚ 0ℚ) →
       HasBound m plan tau
   at_bound inside some fits h =
-      joint_bound m model plan tau inside (admits_jointly m model inside some)
-      (record {
-        columns = fits;
-        keeps = λ u jointly. at_keeps u jointly.numbers fits (h u (jointly_admits m model u jointly));
-      })
+      joint_bound m model plan tau inside (admits_jointly m model inside some) (at_joint_bound fits h)
 
   some_form : (es : List Expression) (i : ℕ) (u : List Fraction) → Each (IsLinear m) es →
       length u ≡ length m.parameters → length plan ≡ column_count m →

@@ -4,14 +4,14 @@ use Rattle.std.specs.Prelude.{◌≡◌, ℕ, zero, suc, ◌<◌, Bool, true, fa
 use Rattle.std.proofs.Common.{sym, ◌∙◌, ap, subst, arith}
 use Rattle.std.proofs.lemmas.Bool.{eqb-true, eqb-false}
 use Rattle.rob_algebra.specs.Fraction.{Fraction}
-use Rattle.rob_meaning.proofs.AdmittedLemmas.{admits_jointly, each_from_over, joined_admits, jointly_admits}
+use Rattle.rob_meaning.proofs.AdmittedLemmas.{admits_jointly, each_from_over, joined_admits, jointly_admits, some_admitted_law}
 use Rattle.rob_meaning.proofs.JointScenarioLemmas.{Agree, agree_in_each, agree_part, at-joined, rule_same, sides_same, value_same}
 use Rattle.rob_meaning.specs.Guarantee.{HasBound, IsNoWorse, KeepsIn}
 use Rattle.rob_meaning.specs.JointMeaning.{AdmitsJointly, HasJointBound, IsJointlyInfeasible, IsJointlyOptimal, IsJointlyUnbounded, Keeps}
 use Rattle.rob_meaning.specs.Places.{at, Each, EachFrom}
 use Rattle.rob_meaning.specs.RobustModel.{AdaptiveVariable, RobustModel, Row, row_set, set_count, written_count}
 use Rattle.rob_meaning.specs.Status.{IsInfeasible, IsOptimal, IsUnbounded}
-use Rattle.rob_meaning.specs.UncertaintySet.{Admits, AdmitsIn, KeepsBounds, Relates, in_each_set, joined_scenarios, part_of}
+use Rattle.rob_meaning.specs.UncertaintySet.{Admits, AdmitsIn, EachSetAdmits, KeepsBounds, Relates, in_each_set, joined_scenarios, part_of}
 use Rattle.rob_meaning.specs.Values.{rule_value, value}
 use Rattle.rob_meaning.specs.WellFormed.{IsModel, IsOf}
 
@@ -88,7 +88,7 @@ module _ (m : RobustModel) (model : IsModel m) (plan : List Fraction) (tau : Fra
     rows_apart S u w agree (suc k) rs own.1 h.1,
   )
 
-  keeps_apart : (S : ℕ) (u w : List Fraction) → Agree m S w (in_each_set m u) → Keeps m plan tau w → KeepsIn m plan tau S u
+  pub keeps_apart : (S : ℕ) (u w : List Fraction) → Agree m S w (in_each_set m u) → Keeps m plan tau w → KeepsIn m plan tau S u
   keeps_apart S u w agree h = record {
     objective = λ e.
         subst (λ x. IsNoWorse m.sense x tau)
@@ -145,30 +145,43 @@ module _ (m : RobustModel) (model : IsModel m) (plan : List Fraction) (tau : Fra
     variables = (h.keeps inside admitted).variables;
   }
 
-module _ (m : RobustModel) (model : IsModel m) (inside : List Fraction) (admitted : AdmitsJointly m inside) where
+-- each set admits something exactly where some joint scenario is admitted
+pub some_jointly : (m : RobustModel) → IsModel m → EachSetAdmits m ↔ ((u : List Fraction) × AdmitsJointly m u)
+some_jointly m model = (
+  λ h. (let some = (some_admitted_law m model).1 h in (some.0, admits_jointly m model some.0 some.1)),
+  λ h. (some_admitted_law m model).0 (h.0, jointly_admits m model h.0 h.1),
+)
+
+module _ (m : RobustModel) (model : IsModel m) (some : EachSetAdmits m) where
+  inside : (u : List Fraction) × AdmitsJointly m u
+  inside = (some_jointly m model).0 some
+
+  agree_back : (plan : List Fraction) (tau : Fraction) → HasJointBound m plan tau → HasBound m plan tau
+  agree_back plan tau = joint_bound m model plan tau inside.0 inside.1
+
   pub bounds_agree : (plan : List Fraction) (tau : Fraction) → HasBound m plan tau ↔ HasJointBound m plan tau
-  bounds_agree plan tau = (bound_joint m model plan tau, joint_bound m model plan tau inside admitted)
+  bounds_agree plan tau = (bound_joint m model plan tau, agree_back plan tau)
 
   pub optimal_agree : (v : Fraction) → IsOptimal m v ↔ IsJointlyOptimal m v
   optimal_agree v = (
     λ h. record {
       attained = (h.attained.0, bound_joint m model h.attained.0 v h.attained.1);
-      none_better = λ plan tau b. h.none_better plan tau (joint_bound m model plan tau inside admitted b);
+      none_better = λ plan tau b. h.none_better plan tau (agree_back plan tau b);
     },
     λ h. record {
-      attained = (h.attained.0, joint_bound m model h.attained.0 v inside admitted h.attained.1);
+      attained = (h.attained.0, agree_back h.attained.0 v h.attained.1);
       none_better = λ plan tau b. h.none_better plan tau (bound_joint m model plan tau b);
     },
   )
 
   pub infeasible_agree : IsInfeasible m ↔ IsJointlyInfeasible m
   infeasible_agree = (
-    λ h plan tau b. h plan tau (joint_bound m model plan tau inside admitted b),
+    λ h plan tau b. h plan tau (agree_back plan tau b),
     λ h plan tau b. h plan tau (bound_joint m model plan tau b),
   )
 
   pub unbounded_agree : IsUnbounded m ↔ IsJointlyUnbounded m
   unbounded_agree = (
     λ h tau. ((h tau).0, bound_joint m model (h tau).0 tau (h tau).1),
-    λ h tau. ((h tau).0, joint_bound m model (h tau).0 tau inside admitted (h tau).1),
+    λ h tau. ((h tau).0, agree_back (h tau).0 tau (h tau).1),
   )

@@ -18,10 +18,13 @@ pub mod FormLemmas
 pub mod MatrixLemmas
 pub mod AloneLemmas
 pub mod JointBoundLemmas
+pub mod OneSetLemmas
 pub mod AtLemmas
 pub mod StatusLemmas
 pub mod CoverLemmas
 pub mod EmptyLemmas
+pub mod OwnRowLemmas
+pub mod EmptyInLemmas
 pub mod ItemLemmas
 pub mod PlaceLemmas
 pub mod ProvesLemmas
@@ -39,3 +42,4 @@ mod WorkedModels
 mod WorkedBudgets
 mod WorkedSets
 mod WorkedNamedSets
+mod WorkedEachSet

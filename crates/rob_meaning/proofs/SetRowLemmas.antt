@@ -73,7 +73,7 @@ module _ (m : RobustModel) (s : Fraction) (p : List Fraction) where
     upper_out k b h =
         le_by (s ∷ b ∷ at p k ∷ []) v2 (v0 :* v1) (v2 :+ lit (pos 0)) (v0 :* v1) refl (along_le (upper_sum k) h.at_most)
 
-    bounds_in : (k : ℕ) (ps : List Parameter) → Each (Holds m s p) (bounds_from k ps) →
+    pub bounds_in : (k : ℕ) (ps : List Parameter) → Each (Holds m s p) (bounds_from k ps) →
         Each (RowHolds s p T) (bound_rows k ps)
     bounds_in k [] h = tt
     bounds_in k (b ∷ bs) h =
@@ -239,7 +239,7 @@ module _ (m : RobustModel) (s : Fraction) (p : List Fraction) where
     HasLifts t (line l relation r ∷ rest) = HasLifts t rest
     HasLifts t (budget limit hs ∷ rest) = HasDeviations t hs × HasLifts (length hs + t) rest
 
-    statements_in : (t : ℕ) (lines : List SetLine) → Each (IsSetLine m) lines → HasLifts t lines →
+    pub statements_in : (t : ℕ) (lines : List SetLine) → Each (IsSetLine m) lines → HasLifts t lines →
         Each (Holds m s p) (all_stated lines) → Each (RowHolds s p T) (statement_rows m t lines)
     statements_in t [] ok d h = tt
     statements_in t (line l relation r ∷ rest) ok d h =

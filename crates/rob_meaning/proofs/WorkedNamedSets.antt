@@ -1,19 +1,24 @@
 -- Models with named sets, worked by hand.
-use Rattle.std.proofs.Common.{refl}
+use Rattle.std.proofs.Common.{refl, subst, arith}
 use Rattle.std.specs.Fmt.{digits}
-use Rattle.std.specs.Prelude.{◌≡◌, pos, negsuc, map, [], ◌∷◌, Some, None, codes}
-use Rattle.rob_algebra.specs.Fraction.{ratio}
+use Rattle.std.specs.Prelude.{◌≡◌, ◌≢◌, ℕ, zero, suc, pos, negsuc, map, List, [], ◌∷◌, Some, None, codes}
+use Rattle.rob_algebra.specs.Fraction.{Fraction, ratio, ◌<ℚ◌}
+use Rattle.rob_algebra.specs.FractionLaws.{lt_irrefl_ℚ}
+use Rattle.rob_meaning.proofs.EmptyInLemmas.{shows_empty_in}
 use Rattle.rob_meaning.proofs.EmptyLemmas.{shows_empty}
+use Rattle.rob_meaning.proofs.LinearLemmas.{zero_lt_one}
 use Rattle.rob_meaning.proofs.WorkedNotation.{int, ◌⊕◌, uncertain, var, rule, around, row, cover, item, best, none}
 use Rattle.rob_meaning.proofs.WorkedTests.{found, test_certificate, test_empty, test_model}
 use Rattle.rob_meaning.specs.Expressions.{number, parameter, variable, adaptive, adaptive_in}
 use Rattle.rob_meaning.specs.Forms.{matrices}
+use Rattle.rob_meaning.specs.Multipliers.{ShowsEmptyIn}
 use Rattle.rob_meaning.specs.Names.{column_names_with_tau, form_names, set_row_names, set_column_names, set_condition_names}
-use Rattle.rob_meaning.specs.Places.{0ℚ, 1ℚ}
-use Rattle.rob_meaning.specs.RobustModel.{RobustModel, at_most, at_least, line, budget, minimise}
-use Rattle.rob_meaning.specs.SetRows.{set_rows, whole_row, whole_limit}
+use Rattle.rob_meaning.specs.Places.{0ℚ, 1ℚ, at}
+use Rattle.rob_meaning.specs.RobustModel.{RobustModel, at_most, at_least, equal, line, budget, minimise}
+use Rattle.rob_meaning.specs.SetRows.{set_of_set_row, set_row_sets, set_rows, whole_row, whole_limit}
 use Rattle.rob_meaning.specs.Status.{IsInfeasible, IsOptimal}
-use Rattle.rob_meaning.specs.UncertaintySet.{IsEmptySet}
+use Rattle.rob_meaning.specs.UncertaintySet.{IsEmptyIn, IsEmptySet}
+use Rattle.rob_meaning.specs.WellFormed.{IsModel}
 
 -- ---- d in [8, 12], and d <= 10 over calm; minimise x + z where x >= d, and z >= d over calm
 abbrev hard_and_soft : RobustModel
@@ -57,6 +62,35 @@ its_limits : map (whole_limit hard_and_soft) (set_rows hard_and_soft) ≡
 unfolding ratio
 its_limits = refl
 
+-- d has the first two, calm.d the others
+its_row_sets : set_row_sets hard_and_soft ≡ 0 ∷ 0 ∷ 1 ∷ 1 ∷ 1 ∷ []
+its_row_sets = refl
+
+-- an equality has two rows
+abbrev calm_at_nine : RobustModel
+calm_at_nine = record hard_and_soft { set_lines = line (parameter 1) equal (number (int 9)) ∷ [] }
+
+its_row_sets_at_nine : set_row_sets calm_at_nine ≡ 0 ∷ 0 ∷ 1 ∷ 1 ∷ 1 ∷ 1 ∷ []
+its_row_sets_at_nine = refl
+
+-- without a named set each row belongs to the default set
+abbrev hard_alone : RobustModel
+hard_alone = record hard_and_soft {
+  parameters = uncertain (codes "d") (Some (int 8)) (Some (int 12)) ∷ [];
+  sets = [];
+  set_lines = line (parameter 0) at_most (number (int 10)) ∷ [];
+  line_sets = 0 ∷ [];
+  rows = row (codes "hard") (variable 0) at_least (parameter 0) ∷ [];
+  row_sets = 0 ∷ [];
+}
+
+hard_alone_model : IsModel hard_alone
+unfolding ratio
+hard_alone_model = found (test_model hard_alone) tt
+
+its_row_sets_alone : set_row_sets hard_alone ≡ 0 ∷ 0 ∷ 0 ∷ []
+its_row_sets_alone = refl
+
 -- rows: the constant, d, calm.d; columns: the constant, x, z, tau
 its_matrices : matrices hard_and_soft ≡
     ((pos 0 ∷ pos 1 ∷ pos 1 ∷ negsuc 0 ∷ []) ∷ (pos 0 ∷ pos 0 ∷ pos 0 ∷ pos 0 ∷ []) ∷ (pos 0 ∷ pos 0 ∷ pos 0 ∷ pos 0 ∷ []) ∷ [])
@@ -87,6 +121,37 @@ unfolding ratio
 never_calm_admits_nothing =
     shows_empty never_calm (found (test_model never_calm) tt) (0ℚ ∷ 0ℚ ∷ 0ℚ ∷ 1ℚ ∷ 1ℚ ∷ [])
     (found (test_empty never_calm (0ℚ ∷ 0ℚ ∷ 0ℚ ∷ 1ℚ ∷ 1ℚ ∷ [])) tt)
+
+-- both weights belong to rows of set 1, so that it is calm that admits nothing
+abbrev calm_weights : List Fraction
+calm_weights = 0ℚ ∷ 0ℚ ∷ 0ℚ ∷ 1ℚ ∷ 1ℚ ∷ []
+
+they_are_calm : (i : ℕ) → at calm_weights i ≢ 0ℚ → set_of_set_row never_calm i ≡ 1
+they_are_calm zero some = absurd (some refl)
+they_are_calm (suc zero) some = absurd (some refl)
+they_are_calm (suc (suc zero)) some = absurd (some refl)
+they_are_calm (suc (suc (suc zero))) some = refl
+they_are_calm (suc (suc (suc (suc zero)))) some = refl
+they_are_calm (suc (suc (suc (suc (suc i))))) some = absurd (some refl)
+
+they_show_calm_empty : ShowsEmptyIn never_calm 1 calm_weights
+unfolding ratio
+they_show_calm_empty =
+    record { is_set = omega arith; shows = found (test_empty never_calm calm_weights) tt; own = they_are_calm }
+
+-- they say nothing of the default set
+they_are_not_hard : ShowsEmptyIn never_calm 0 calm_weights → ⊥
+they_are_not_hard h = zero_or_one (h.own 3 one_is_some)
+  where
+    zero_or_one : suc zero ≡ zero → ⊥
+    zero_or_one e = omega arith
+
+    one_is_some : 1ℚ ≢ 0ℚ
+    one_is_some e = lt_irrefl_ℚ 0ℚ (subst (λ x. 0ℚ <ℚ x) e zero_lt_one)
+
+calm_admits_nothing : IsEmptyIn never_calm 1
+unfolding ratio
+calm_admits_nothing = shows_empty_in never_calm (found (test_model never_calm) tt) 1 calm_weights they_show_calm_empty
 
 -- ---- the same sets; minimise y(d) where y >= d, and y <= 11 over calm
 abbrev a_rule_in_two_sets : RobustModel
@@ -140,6 +205,9 @@ its_budget_names : set_row_names a_calm_budget ≡
     ∷ codes "budget.1.calm.d.down" ∷ codes "budget.1.sum" ∷ []
 unfolding digits
 its_budget_names = refl
+
+its_budget_row_sets : set_row_sets a_calm_budget ≡ 0 ∷ 0 ∷ 1 ∷ 1 ∷ 1 ∷ 1 ∷ 1 ∷ []
+its_budget_row_sets = refl
 
 its_budget_columns : set_column_names a_calm_budget ≡ codes "d" ∷ codes "calm.d" ∷ codes "t.1.calm.d" ∷ []
 unfolding digits

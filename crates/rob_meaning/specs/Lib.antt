@@ -5,9 +5,9 @@ pub mod Values
 pub mod UncertaintySet
 pub mod Guarantee
 pub mod Status
-pub mod JointMeaning
 pub mod Degrees
 pub mod WellFormed
+pub mod JointMeaning
 pub mod Vectors
 pub mod SetConditions
 pub mod Coefficients

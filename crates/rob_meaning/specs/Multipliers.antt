@@ -1,12 +1,12 @@
 -- Multipliers of the set rows: what shows that a form is kept in every scenario, and what shows that there is no scenario.
 -- This is Farkas's lemma, and its affine form: Schrijver, Theory of Linear and Integer Programming (1986), chapter 7.
-use Rattle.std.specs.Prelude.{◌≡◌, ℕ, List, ◌++◌, length, map}
+use Rattle.std.specs.Prelude.{◌≡◌, ◌≢◌, ◌<◌, ℕ, List, ◌++◌, length, map}
 use Rattle.rob_algebra.specs.Fraction.{Fraction, of_int, ◌+ℚ◌, ◌*ℚ◌, ◌≤ℚ◌, ◌<ℚ◌}
 use Rattle.rob_algebra.specs.FractionLists.{AllNonneg}
 use Rattle.rob_meaning.specs.Forms.{constant_part, parameter_part}
-use Rattle.rob_meaning.specs.Places.{0ℚ}
-use Rattle.rob_meaning.specs.RobustModel.{RobustModel}
-use Rattle.rob_meaning.specs.SetRows.{set_rows, set_column_count, lift_count, whole_row, whole_limit}
+use Rattle.rob_meaning.specs.Places.{0ℚ, at}
+use Rattle.rob_meaning.specs.RobustModel.{RobustModel, set_count}
+use Rattle.rob_meaning.specs.SetRows.{set_rows, set_of_set_row, set_column_count, lift_count, whole_row, whole_limit}
 use Rattle.rob_meaning.specs.Vectors.{dot, scale, zeros, vec_mat}
 
 module _ (m : RobustModel) where
@@ -35,3 +35,9 @@ pub record ShowsEmpty (m : RobustModel) (weights : List Fraction) : Type 0 where
   pub nonnegative : AllNonneg weights
   pub columns : vec_mat (set_column_count m) weights (set_matrix m) ≡ zeros (set_column_count m)
   pub negative : dot weights (set_limits m) <ℚ 0ℚ
+
+-- the weights show that set S is empty: they show that the joint set is, and each row with a weight other than 0 belongs to S
+pub record ShowsEmptyIn (m : RobustModel) (S : ℕ) (weights : List Fraction) : Type 0 where
+  pub is_set : S < set_count m
+  pub shows : ShowsEmpty m weights
+  pub own : (i : ℕ) → at weights i ≢ 0ℚ → set_of_set_row m i ≡ S

@@ -1,14 +1,14 @@
 -- The lifted set: the uncertainty set as linear rows in the parameters and in one more column t for each budget's member.
 -- A set row says: the sum over the parameters, plus the sum over the columns t, is at most its right side.
 -- Bertsimas and Sim, The Price of Robustness (2004): a budget's absolute values as linear rows.
-use Rattle.std.specs.Prelude.{◌≡◌, ℕ, zero, suc, ◌+◌, ℤ, List, [], ◌∷◌, ◌++◌, length, map}
+use Rattle.std.specs.Prelude.{◌≡◌, ℕ, zero, suc, ◌+◌, ◌/◌, ℤ, List, [], ◌∷◌, ◌++◌, length, map, get_or, slice_index_or, pos}
 use Rattle.rob_algebra.specs.Fraction.{Fraction, of_int, ◌+ℚ◌, ◌*ℚ◌, neg_ℚ, ◌≤ℚ◌}
 use Rattle.rob_meaning.specs.Clearing.{denominator, whole_at}
 use Rattle.rob_meaning.specs.Coefficients.{unit, table}
 use Rattle.rob_meaning.specs.Expressions.{Expression}
 use Rattle.rob_meaning.specs.Forms.{sides}
 use Rattle.rob_meaning.specs.Places.{0ℚ, tabulate, Each}
-use Rattle.rob_meaning.specs.RobustModel.{Parameter, Member, SetLine, line, budget, RobustModel}
+use Rattle.rob_meaning.specs.RobustModel.{Parameter, Member, SetLine, line, budget, RobustModel, written_count, line_set}
 use Rattle.rob_meaning.specs.SetConditions.{if_declared}
 use Rattle.rob_meaning.specs.Vectors.{dot}
 
@@ -90,6 +90,50 @@ module _ (m : RobustModel) where
   abbrev pub set_column_count : ℕ
   set_column_count = length m.parameters + lift_count m.set_lines
 
+  -- ---- the set that each set row belongs to
+
+  -- the set of joint parameter `k`
+  abbrev pub set_of_parameter : ℕ → ℕ
+  set_of_parameter k = k / written_count m
+
+  -- the sets of the rows of the declared bounds, the first parameter having number `k`
+  abbrev pub bound_row_sets : ℕ → List Parameter → List ℕ
+  bound_row_sets k [] = []
+  bound_row_sets k (p ∷ ps) =
+      (if_declared (λ l. set_of_parameter k) p.lower ++ if_declared (λ b. set_of_parameter k) p.upper)
+      ++ bound_row_sets (suc k) ps
+
+  -- the sets of the rows of the members of a budget on set `S`, two for each
+  abbrev pub member_row_sets : ℕ → List Member → List ℕ
+  member_row_sets S [] = []
+  member_row_sets S (h ∷ hs) = S ∷ (S ∷ member_row_sets S hs)
+
+  -- the sets of the rows of the statements, the first statement having number `i`: each row belongs to its statement's set
+  abbrev pub statement_row_sets : ℕ → List SetLine → List ℕ
+  statement_row_sets i [] = []
+  statement_row_sets i (line left relation right ∷ rest) =
+      map (λ side. line_set m i) (sides relation left right) ++ statement_row_sets (suc i) rest
+  statement_row_sets i (budget limit members ∷ rest) =
+      member_row_sets (line_set m i) members ++ (line_set m i ∷ statement_row_sets (suc i) rest)
+
+  -- the sets of the set rows, in their order
+  abbrev pub set_row_sets : List ℕ
+  set_row_sets = bound_row_sets zero m.parameters ++ statement_row_sets zero m.set_lines
+
+  -- the set of set row `i`
+  abbrev pub set_of_set_row : ℕ → ℕ
+  set_of_set_row i = get_or set_row_sets i 0
+
+  -- the sets of the columns t, the first statement having number `i`: a member's column belongs to its budget's set
+  abbrev pub lift_sets : ℕ → List SetLine → List ℕ
+  lift_sets i [] = []
+  lift_sets i (line left relation right ∷ rest) = lift_sets (suc i) rest
+  lift_sets i (budget limit members ∷ rest) = map (λ h. line_set m i) members ++ lift_sets (suc i) rest
+
+  -- the set of set column `c`
+  abbrev pub set_of_set_column : ℕ → ℕ
+  set_of_set_column c = get_or (tabulate (length m.parameters) set_of_parameter ++ lift_sets zero m.set_lines) c 0
+
   -- a set row's coefficients, one for each set column
   abbrev pub coefficients : SetRow → List Fraction
   coefficients r = tabulate (length m.parameters) r.on_parameters ++ tabulate (lift_count m.set_lines) r.on_lifts
@@ -105,6 +149,10 @@ module _ (m : RobustModel) where
   -- a set row's right side in whole numbers
   abbrev pub whole_limit : SetRow → ℤ
   whole_limit r = whole_at (row_denominator r) r.limit
+
+-- the number of set row `i` in set column `c`, 0 past the end
+abbrev pub set_number : RobustModel → ℕ → ℕ → ℤ
+set_number m i c = slice_index_or (slice_index_or (map (whole_row m) (set_rows m)) i []) c (pos 0)
 
 -- a set row in whole numbers, its right side taken s times, holds in the set columns
 pub record WholeRowHolds (m : RobustModel) (s : Fraction) (columns : List Fraction) (r : SetRow) : Type 0 where

@@ -1,7 +1,7 @@
 //! The names of a model's parts.
 
 ghost use Rattle.rob_meaning.specs.Forms.{forms};
-ghost use Rattle.rob_meaning.specs.Named.{AreDistinct, IsNamed};
+ghost use Rattle.rob_meaning.specs.Named.{AreDistinct, IsNamed, parameter_names};
 ghost use Rattle.rob_meaning.specs.Names.{column_names, column_names_with_tau, form_names, set_column_names, set_condition_names, set_row_names};
 ghost use Rattle.rob_meaning.specs.RobustModel.{RobustModel, column_count};
 ghost use Rattle.rob_meaning.specs.SetConditions.{set_conditions};
@@ -24,6 +24,8 @@ pub fn name_laws()
 /// In a well-formed model whose declared names are plain, free and distinct, each name names one
 /// thing of its kind.
 pub fn distinct_laws()
+    ensures parameters { (m : RobustModel) → IsModel m → IsNamed m
+        → AreDistinct (parameter_names m) }
     ensures columns { (m : RobustModel) → IsModel m → IsNamed m
         → AreDistinct (column_names_with_tau m) }
     ensures forms { (m : RobustModel) → IsModel m → IsNamed m → AreDistinct (form_names m) }

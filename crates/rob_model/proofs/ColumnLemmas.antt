@@ -1,5 +1,5 @@
 -- Where the decision columns of the adaptive variables stand.
-use Rattle.std.proofs.Common.{◌≡◌, ℕ, zero, suc, ◌+◌, ◌<◌, ◌≤◌, List, [], ◌∷◌, map, length, get_or, take, drop, arith, ◌*◌, ◌/◌, zero-add, div-mul-le_self, mul-le-mul_right, mul_comm, refl, ap, sym, ◌∙◌}
+use Rattle.std.proofs.Common.{◌≡◌, ℕ, zero, suc, ◌+◌, ◌<◌, ◌≤◌, List, [], ◌∷◌, map, length, get_or, take, drop, arith, ◌*◌, zero-add, div-mul-le_self, mul-le-mul_right, mul_comm, refl, ap, sym, ◌∙◌}
 use Rattle.std.proofs.lemmas.List.{length-take, get_or-take, length-map}
 use Rattle.std.specs.Prelude.{Option, Some, None}
 use Rattle.rob_algebra.specs.Fraction.{Fraction, ◌+ℚ◌, ◌*ℚ◌}

@@ -1,5 +1,5 @@
 -- Where a model's names are distinct, each is found at its own number.
-use Rattle.std.proofs.Common.{◌≡◌, ℕ, zero, suc, List, [], ◌∷◌, ◌++◌, ap, refl}
+use Rattle.std.proofs.Common.{◌≡◌, ℕ, zero, suc, List, [], ◌∷◌, ap, refl}
 use Rattle.std.specs.Prelude.{◌≢◌, Option, Some, None, slice_get, codes}
 use Rattle.rob_meaning.specs.Named.{AreDistinct, IsNamed}
 use Rattle.rob_meaning.specs.Names.{Name, column_names, form_names, set_row_names}

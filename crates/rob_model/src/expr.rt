@@ -21,7 +21,7 @@ pub enum Expr<N> {
     Param(u32),
     /// The here-and-now variable of that number, from 0 in order of declaration.
     Var(u32),
-    /// The adaptive variable of that number, from 0 in order of declaration.
+    /// The adaptive variable of that number, from 0 in order of declaration, taken in the default set.
     Adaptive(u32),
     /// The adaptive variable of the first number, taken in the named set of the second.
     AdaptiveIn(u32, u32),

@@ -38,7 +38,7 @@ pub struct Var<N> {
 #[derive(Debug, Drop)]
 pub struct Adaptive<N> {
     pub name: Text,
-    /// The numbers of the parameters that the rule may use.
+    /// The numbers of the written parameters that the rule may use.
     pub on: List<u32>,
     pub lower: Option<N>,
     pub upper: Option<N>,
@@ -47,14 +47,14 @@ pub struct Adaptive<N> {
 /// A member of a budget of uncertainty.
 #[derive(Clone, Copy, Debug)]
 pub struct Member<N> {
-    /// The parameter's number.
+    /// The joint parameter's number.
     pub param: u32,
     pub centre: N,
     /// Above 0.
     pub deviation: N,
 }
 
-/// A statement on the uncertainty set. Statements of both kinds are numbered together.
+/// A statement on an uncertainty set. Statements of both kinds, and of all sets, are numbered together.
 #[derive(Debug, Drop)]
 pub enum SetLine<N> {
     /// A linear condition on the parameters.
@@ -71,7 +71,7 @@ pub enum SetLine<N> {
     },
 }
 
-/// A robust constraint, kept in every scenario.
+/// A robust constraint, kept in every scenario of its set.
 #[derive(Debug, Drop)]
 pub struct RowDef<N> {
     pub name: Text,

@@ -11,7 +11,7 @@ pub struct Plan<N> {
     pub bound: N,
 }
 
-/// A scenario: a number for each parameter, in order of declaration.
+/// A joint scenario: a number for each joint parameter, those of the default set first, then those of each named set.
 #[derive(Debug, Drop)]
 pub struct Scenario<N> {
     pub values: List<N>,

@@ -16,8 +16,9 @@ use crate::numbers::number_at;
 use crate::plan::{Plan, Scenario};
 use rob_number::{Exact, Ledger, Wide};
 
-/// The value of an adaptive variable under a plan in a scenario, by its decision rule: the constant, plus coefficient
-/// times parameter for each parameter of its list. Numbers that the plan or the scenario lacks count as 0.
+/// The value of an adaptive variable in the default set, under a plan in a joint scenario, by its decision rule: the
+/// constant, plus coefficient times that set's parameter for each parameter of its list. Numbers that the plan or the
+/// scenario lacks count as 0.
 pub fn policy_at<N: Exact, L: Ledger>(
     model: &Model<N>,
     adaptive: u32,
@@ -44,7 +45,7 @@ pub fn policy_at<N: Exact, L: Ledger>(
     )
 }
 
-/// The same at the numbers of a plan's columns and of a scenario.
+/// The same at the numbers of a plan's columns and of a joint scenario.
 pub fn rule_value<N: Exact, L: Ledger>(
     model: &Model<N>,
     adaptive: u32,

@@ -46,7 +46,7 @@ IsOutside result = (result ≡ ReadFault) ⊎ IsUnput result
 abbrev pub EndsAs : Ended → Ended → Type 0
 EndsAs ended result = (result ≡ ended) ⊎ IsOutside result
 
--- an answer of `solve` and `prove`: a status that the model has; or an empty set, where no scenario is admitted; or a number on
+-- an answer of `solve` and `prove`: a status that the model has; or an empty set, where no joint scenario is admitted; or a number on
 -- the path of the solution that is wide; or the outside failed, or memory was refused. No other is
 abbrev pub IsSolveAnswer : ℕ → RobustModel → Ended → Type 0
 IsSolveAnswer limit m Optimal = (v : Fraction) × HasStatus m optimal v
@@ -92,10 +92,11 @@ module _ (call : Call) (result : Ended) where
     -- `solve` and `prove`: the answer is a status that the model has, or an empty set, or a wide number on the path
     pub solving : (line : Line) (m : RobustModel) → HasForms call line m → IsSolving line.action
         → IsSolveAnswer (limit_of line) m result
-    -- no scenario is admitted, so it is that, with the weights that show it, or a row of the set's program is wide
+    -- no joint scenario is admitted, as where any set is empty, so it is that, with the weights that show it, or a row of the set's
+    -- program is wide
     pub empty : (line : Line) (m : RobustModel) → HasForms call line m → IsSolving line.action → IsEmptySet m
         → IsEmptyAnswer (limit_of line) m result
-    -- some scenario is admitted, and no number on the path is wide, so it is the model's status
+    -- some joint scenario is admitted, and no number on the path is wide, so it is the model's status
     pub status : (line : Line) (m : RobustModel) (status : Status) (v : Fraction) (u : List Fraction) → HasForms call line m
         → IsSolving line.action → HasStatus m status v → Admits m u
         → ((spot : Spot) → IsWideOnPath (limit_of line) m spot → ⊥) → EndsAs (ended_of status) result

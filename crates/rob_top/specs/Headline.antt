@@ -2,21 +2,24 @@
 --
 -- In short, for every text that is read as a model whose set isn't empty: `optimal v` comes with a plan that keeps every row in
 -- every admitted scenario, with worst case v, and no affine plan has a better one; `infeasible` and `unbounded` are true alike;
--- the printed certificate proves it; and `too wide` names a number of that model's solution that leaves the width.
+-- the printed certificate proves it; and `too wide` names a number of that model's solution that leaves the width. Of a model
+-- with several sets read: a set isn't empty where each named set and the default set admit some scenario; and a row is kept in
+-- every scenario that the row's own set admits.
 --
 -- The premises stand here, and nowhere else. What a file holds is what the fetch of it answered in this call, whatever the
 -- shelf; where the shelf tells its files too, it is what they hold. What was put is what the sink's puts were asked to take and
 -- answered that they took, whatever the sink. That a fetch of the machine's shelf reads the file of its name, that a put of
 -- standard output writes its piece, and that what was written is what one sees, is trusted. Want of memory is an answer of its
 -- own, and free: nothing is said of when it comes.
-use Rattle.std.specs.Prelude.{◌≡◌, ◌⊎◌, ℕ, ℤ, Bool, List, [], ◌∷◌, ◌++◌, map}
+use Rattle.std.specs.Prelude.{◌≡◌, ◌≢◌, ◌<◌, ◌⊎◌, ℕ, ℤ, Bool, List, [], ◌∷◌, ◌++◌, map}
 use Rattle.rob_algebra.specs.Fraction.{Fraction, of_int}
 use Rattle.rob_meaning.specs.Certificates.{Certificate, Status, optimal, infeasible, unbounded}
 use Rattle.rob_meaning.specs.Guarantee.{HasBound, HasWorstCase}
-use Rattle.rob_meaning.specs.Places.{Each}
+use Rattle.rob_meaning.specs.Places.{0ℚ, at, Each}
 use Rattle.rob_meaning.specs.Proves.{Proves, HasStatus}
-use Rattle.rob_meaning.specs.RobustModel.{RobustModel}
-use Rattle.rob_meaning.specs.UncertaintySet.{Admits}
+use Rattle.rob_meaning.specs.RobustModel.{RobustModel, set_count}
+use Rattle.rob_meaning.specs.SetRows.{set_of_set_row}
+use Rattle.rob_meaning.specs.UncertaintySet.{Admits, AdmitsIn}
 use Rattle.rob_outside.specs.Files.{whole, missing, too_long}
 use Rattle.rob_outside.specs.Puts.{PutAll, PutUntil, put_as}
 use Rattle.rob_outside.specs.Taken.{Took, TookPrefix}
@@ -107,7 +110,8 @@ module _ (call : Call) where
   IsPrinted (rows model) m c text = ⊥
   IsPrinted (check model certificate) m c text = ⊥
 
-  -- the plan is kept in every admitted scenario, and its worst case is the value; of an unbounded model's plan it is a bound
+  -- the plan keeps each row in every scenario that the row's set admits, and its worst case is the value; of an unbounded model's
+  -- plan it is a bound
   abbrev pub IsKept : RobustModel → Certificate → Status → Type 0
   IsKept m c optimal = HasWorstCase m c.plan c.value
   IsKept m c infeasible = Unit {0}
@@ -130,7 +134,8 @@ module _ (call : Call) where
     pub fits : FitsLines (limit_of line) m c
     pub printed : IsPrinted line.action m c text
 
-  -- no scenario is admitted: with these weights the set rows sum to 0 on each column, and to a negative right side
+  -- no joint scenario is admitted: with these weights the set rows sum to 0 on each column, and to a negative right side. The rows
+  -- whose weight isn't 0 belong to one set, which admits nothing itself
   pub record IsEmptySet (weights : List ℤ) (text : List ℕ) : Type 0 where
     pub line : Line
     pub m : RobustModel
@@ -138,6 +143,10 @@ module _ (call : Call) where
     pub solves : IsSolving line.action
     pub none_admitted : (u : List Fraction) → Admits m u → ⊥
     pub shown : IsShownEmpty m (map of_int weights)
+    pub set : ℕ
+    pub is_set : set < set_count m
+    pub own : (i : ℕ) → at (map of_int weights) i ≢ 0ℚ → set_of_set_row m i ≡ set
+    pub none_in_set : (u : List Fraction) → AdmitsIn m set u → ⊥
     pub printed : text ≡ empty_set_lines m weights
 
   -- ---- the answers of `check`

@@ -11,7 +11,7 @@ use rob_number::List;
 pub enum Ended {
     /// The model is optimal.
     Optimal,
-    /// No plan keeps every row in every scenario.
+    /// No plan keeps every row in every scenario of its set.
     Infeasible,
     /// Every number is a bound of some plan.
     Unbounded,
@@ -29,7 +29,7 @@ pub enum Ended {
     TooLong,
     /// The model's text can't be read.
     Model(u8, u32),
-    /// No scenario is admitted: with these weights, one for each set row, the set rows sum to 0 on each column, and to a
+    /// No joint scenario is admitted: with these weights, one for each set row, the set rows sum to 0 on each column, and to a
     /// negative right side.
     EmptySet(List<i64>),
     /// A number is wider than the program computes with.

@@ -1,8 +1,7 @@
 use Rattle.std.proofs.Common.{arith, ap, ◌∙◌, get_or, refl, subst, sym}
 use Rattle.std.proofs.lemmas.List.{length-map}
 use Rattle.std.proofs.lemmas.Result.{err_from_is_err_and}
-use Rattle.std.specs.Prelude.{◌≡◌, ◌+◌, ◌<◌, zero, List, length, map, option_map}
-use Rattle.rob_meaning.specs.Expressions.{Expression}
+use Rattle.std.specs.Prelude.{◌≡◌, ◌+◌, ◌<◌, zero, List, length, option_map}
 use Rattle.rob_meaning.specs.Forms.{variable_forms, bound_forms}
 use Rattle.rob_meaning.specs.WellFormed.{IsExpression}
 use Rattle.rob_model.specs.View.{variable_of, expression_of, robust}

@@ -1,7 +1,6 @@
-use Rattle.std.proofs.Common.{arith, ap, sym, ◌∙◌, subst, refl}
+use Rattle.std.proofs.Common.{arith, ap, subst, refl}
 use Rattle.std.proofs.lemmas.Result.{err_from_is_err_and}
-use Rattle.std.specs.Prelude.{◌≡◌, ◌++◌, ◌∷◌, [], zero, length, List}
-use Rattle.rob_meaning.specs.Expressions.{Expression}
+use Rattle.std.specs.Prelude.{◌++◌, ◌∷◌, [], zero, length}
 use Rattle.rob_meaning.specs.Forms.{adaptive_forms, forms, objective_form, row_forms, tau_column, variable_forms}
 use Rattle.rob_model.specs.View.{robust}
 use Rattle.rob_elab.specs.Appending.{Appends}

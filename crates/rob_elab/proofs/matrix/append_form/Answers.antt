@@ -3,7 +3,7 @@ use Rattle.std.proofs.lemmas.List.{length-map}
 use Rattle.std.specs.Prelude.{◌≡◌, ◌+◌, ◌++◌, ◌∷◌, [], List, ℤ, length, map}
 use Rattle.rob_meaning.specs.Clearing.{cleared, entries}
 use Rattle.rob_algebra.specs.Fraction.{Fraction}
-use Rattle.rob_meaning.specs.Forms.{entries_of, form_columns, form_rows}
+use Rattle.rob_meaning.specs.Forms.{form_columns, form_rows}
 use Rattle.rob_model.specs.View.{parameter_of, robust}
 use Rattle.rob_elab.specs.Forms.{MatrixFits}
 use Rattle.rob_sets.specs.FirstWide.{IsWideCleared}

@@ -1,6 +1,6 @@
-use Rattle.std.proofs.Common.{arith, ap, sym, ◌∙◌, subst}
+use Rattle.std.proofs.Common.{arith, sym, subst}
 use Rattle.std.proofs.lemmas.Result.{err_from_is_err_and}
-use Rattle.std.specs.Prelude.{◌≤◌, ◌++◌, ◌∷◌, [], List, ℤ, map, nat_abs}
+use Rattle.std.specs.Prelude.{◌≤◌, ◌∷◌, [], List, ℤ, map, nat_abs}
 use Rattle.rob_algebra.specs.Width.{IsWideWhole}
 use Rattle.rob_algebra.specs.Fraction.{Fraction}
 use Rattle.rob_number.specs.Counts.{Rose}

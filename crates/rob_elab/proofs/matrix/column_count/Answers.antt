@@ -1,11 +1,11 @@
 use Rattle.std.proofs.Common.{arith, ap, ◌∙◌, get_or}
 use Rattle.std.proofs.lemmas.List.{length-map}
-use Rattle.std.specs.Prelude.{◌≡◌, ◌<◌, ◌+◌, List, length}
+use Rattle.std.specs.Prelude.{◌≡◌, ◌<◌, List, length}
 use Rattle.rob_meaning.specs.RobustModel.{column_count}
 use Rattle.rob_model.specs.View.{robust, variable_of}
 use Rattle.rob_model.specs.declared.model.Adaptive.{Adaptive}
 use Rattle.rob_sets.proofs.SubexpressionLemmas.{few_variables}
-use Rattle.rob_elab.proofs.ColumnLemmas.{columns_end, columns_fit, columns_step}
+use Rattle.rob_elab.proofs.ColumnLemmas.{columns_fit, columns_step}
 use Rattle.rob_elab.proofs.matrix.column_count.Goals as goal
 
 pub overflow_cast-count : goal.overflow_cast-count

@@ -1,4 +1,4 @@
-use Rattle.std.specs.Prelude.{◌≡◌, ◌<◌, ◌≤◌}
+use Rattle.std.specs.Prelude.{◌≡◌, ◌≤◌}
 use Rattle.rob_meaning.specs.Clearing.{denominator}
 use Rattle.rob_elab.proofs.RowLemmas.{first_entries}
 use Rattle.rob_elab.proofs.matrix.common_denominator.Given as goal

@@ -1,5 +1,4 @@
 use Rattle.std.proofs.Common.{arith}
-use Rattle.std.specs.Prelude.{map}
 use Rattle.rob_meaning.specs.Places.{tabulate}
 use Rattle.rob_sets.specs.Tables.{numbers_of}
 use Rattle.rob_elab.proofs.RowLemmas.{rows_more}

@@ -1,5 +1,5 @@
-use Rattle.std.proofs.Common.{arith, ap, sym, ◌∙◌, subst}
-use Rattle.std.specs.Prelude.{◌∷◌, [], length, List, ℤ, ℕ}
+use Rattle.std.proofs.Common.{arith, ap, sym}
+use Rattle.std.specs.Prelude.{◌∷◌, [], length, List, ℤ}
 use Rattle.rob_meaning.specs.Clearing.{entries}
 use Rattle.rob_meaning.specs.Coefficients.{table}
 use Rattle.rob_meaning.specs.Forms.{difference, entries_of}

@@ -1,7 +1,6 @@
 use Rattle.std.proofs.Common.{arith, ap, ◌∙◌, get_or}
-use Rattle.std.proofs.lemmas.List.{length-map}
 use Rattle.std.proofs.lemmas.Result.{err_from_is_err_and}
-use Rattle.std.specs.Prelude.{◌≡◌, ◌+◌, ◌<◌, List, length, map}
+use Rattle.std.specs.Prelude.{◌≡◌, ◌+◌, ◌<◌, List, length}
 use Rattle.rob_meaning.specs.Forms.{row_forms, sides}
 use Rattle.rob_meaning.specs.RobustModel.{Row}
 use Rattle.rob_meaning.specs.WellFormed.{IsExpression}

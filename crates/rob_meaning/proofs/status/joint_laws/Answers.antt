@@ -1,10 +1,11 @@
-use Rattle.rob_meaning.proofs.JointBoundLemmas.{bounds_agree, infeasible_agree, optimal_agree, unbounded_agree}
+use Rattle.rob_meaning.proofs.JointBoundLemmas.{bounds_agree, infeasible_agree, optimal_agree, some_jointly, unbounded_agree}
 use Rattle.rob_meaning.proofs.status.joint_laws.Goals as goal
 
 pub returns : goal.returns
 returns c = record {
-  bound = λ m inside plan tau model admitted. bounds_agree m model inside admitted plan tau;
-  optimal = λ m inside v model admitted. optimal_agree m model inside admitted v;
-  infeasible = λ m inside model admitted. infeasible_agree m model inside admitted;
-  unbounded = λ m inside model admitted. unbounded_agree m model inside admitted;
+  some_scenario = some_jointly;
+  bound = λ m plan tau model some. bounds_agree m model some plan tau;
+  optimal = λ m v model some. optimal_agree m model some v;
+  infeasible = infeasible_agree;
+  unbounded = unbounded_agree;
 }

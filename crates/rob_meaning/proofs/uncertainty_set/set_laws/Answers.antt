@@ -1,5 +1,6 @@
 use Rattle.rob_meaning.proofs.AdmittedLemmas.{admission_law}
 use Rattle.rob_meaning.proofs.ConeLemmas.{along_ray, taken_law}
+use Rattle.rob_meaning.proofs.EmptyInLemmas.{shows_empty_in}
 use Rattle.rob_meaning.proofs.EmptyLemmas.{shows_empty}
 use Rattle.rob_meaning.proofs.WholeRowLemmas.{lifted_law}
 use Rattle.rob_meaning.proofs.uncertainty_set.set_laws.Goals as goal
@@ -11,4 +12,5 @@ returns c = record {
   taken = λ m s p model. taken_law m model s p;
   lifted = λ m s p model. lifted_law m model s p;
   empty = λ m weights model. shows_empty m model weights;
+  empty_in = λ m S weights model. shows_empty_in m model S weights;
 }
