@@ -19,6 +19,7 @@ use Rattle.rob_meaning.specs.RobustModel.{RobustModel}
 use Rattle.rob_meaning.specs.SetRows.{set_rows}
 use Rattle.rob_meaning.specs.UncertaintySet.{Admits}
 use Rattle.rob_meaning.specs.WellFormed.{IsModel}
+use Rattle.rob_meaning.proofs.EmptyInLemmas.{shows_empty_in}
 use Rattle.rob_meaning.proofs.EmptyLemmas.{shows_empty}
 use Rattle.rob_model.specs.View.{scenario_of}
 use Rattle.rob_model.specs.declared.place.Spot.{Spot}
@@ -41,6 +42,7 @@ use Rattle.rob_counterpart.specs.Endings.{InfeasibleEnding}
 use Rattle.rob_counterpart.specs.ReadCertificates.{weight_of, weights_read, scenario_read}
 use Rattle.rob_counterpart.proofs.SamePaths.{last_same}
 use Rattle.rob_counterpart.proofs.SameSystems.{systems_same}
+use Rattle.rob_counterpart.proofs.OwnSetLemmas.{weights_in}
 use Rattle.rob_counterpart.proofs.ScenarioLemmas.{set_weights, basis_admitted}
 use Rattle.rob_counterpart.proofs.TabulateLemmas.{tabulate-same}
 use Rattle.rob_dualize.specs.Ending.{HasEnded, HasLastPoint, StopsAt, IsTold}
@@ -159,10 +161,14 @@ module _ (m : RobustModel) (model : IsModel m) (s : Solver) where
       let e : tabulate (length (set_rows m)) (λ i. of_int (weights_of s i)) ≡ weights_read m en.0 =
       tabulate-same (length (set_rows m)) (λ i. of_int (weights_of s i)) (weight_of (set_program m) en.0) en.2 in
       let shown = set_weights m (own_of (auxiliary_of (set_program m)) (columns_of s.basis)) en.0 en.1 in
+      let of_one = weights_in m model (own_of (auxiliary_of (set_program m)) (columns_of s.basis)) en.0 en.1 in
       subst (IsShownEmpty m) (sym e)
       (record {
         empty = shows_empty m model (weights_read m en.0) shown;
         shows = shown;
+        set = of_one.0;
+        shows_in = of_one.1;
+        empty_in = shows_empty_in m model of_one.0 (weights_read m en.0) of_one.1;
         basis = columns_of s.basis;
         rows = en.0;
         last = last_same h.program (set_program m) h.same (columns_of s.basis) o.last;

@@ -18,5 +18,5 @@ one_demand = record {
   objective = variable 0;
   objective_set = 0;
   rows = record { name = codes "r"; left = variable 0; relation = at_least; right = parameter 0 } ∷ [];
-  row_sets = [];
+  row_sets = 0 ∷ [];
 }

@@ -32,9 +32,13 @@ most_members = 64
 abbrev pub most_size : ℕ
 most_size = 10000
 
--- few enough joint parameters, named sets, decision columns, row statements, set statements, and members of all budgets together; and not
--- too large: the size is forms times the sum of set rows, twice the parameters and members, and one, which is how many
--- rows and multipliers its robust counterpart has together
+-- the size of a model: its forms times the sum of its set rows, twice its joint parameters and members, and one, which is how
+-- many rows and multipliers its robust counterpart has together
+abbrev pub model_size : RobustModel → ℕ
+model_size m = length (forms m) * (length (set_rows m) + 2 * (length m.parameters + lift_count m.set_lines) + 1)
+
+-- few enough joint parameters, named sets, decision columns, row statements, set statements, and members of all budgets
+-- together; and not too large
 pub record IsWithinLimits (m : RobustModel) : Type 0 where
   pub parameters : length m.parameters ≤ most_parameters
   pub sets : length m.sets ≤ most_sets
@@ -42,5 +46,4 @@ pub record IsWithinLimits (m : RobustModel) : Type 0 where
   pub rows : length m.rows ≤ most_rows
   pub set_lines : length m.set_lines ≤ most_set_lines
   pub members : lift_count m.set_lines ≤ most_members
-  pub size : length (forms m) * (length (set_rows m) + 2 * (length m.parameters + lift_count m.set_lines) + 1)
-      ≤ most_size
+  pub size : model_size m ≤ most_size

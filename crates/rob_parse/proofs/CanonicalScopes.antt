@@ -1,14 +1,15 @@
 -- What names stand for behind the canonical lines of a model, from the model alone.
-use Rattle.std.proofs.Common.{◌≡◌, ◌≢◌, ℕ, zero, suc, ◌+◌, ◌<◌, List, [], ◌∷◌, ◌++◌, length, length-set, map, set, fold, get_or, replicate, Bool, refl, sym, ap, ◌∙◌, subst, arith}
+use Rattle.std.proofs.Common.{◌≡◌, ◌≢◌, ℕ, zero, suc, ◌+◌, ◌<◌, List, [], ◌∷◌, ◌++◌, length, length-set, map, set, fold, get_or, replicate, Bool, refl, sym, ap, ◌∙◌, subst, arith, append_assoc}
 use Rattle.std.specs.Prelude.{Option, Some, None, is_some}
 use Rattle.std.proofs.lemmas.List.{map-append, length-replicate, get_or-set_other, get_or-set_same}
 use Rattle.rob_meaning.proofs.DistinctLemmas.{Apart, distinct_append, distinct_left, distinct_right, distinct_apart, distinct_map, apart_left, apart_right, apart_append}
 use Rattle.rob_meaning.proofs.EachLemmas.{each_append, each_left, each_right, each_map, each_both}
-use Rattle.rob_meaning.specs.Named.{AreDistinct, declared_names, parameter_names, variable_names, adaptive_names, row_names}
+use Rattle.rob_meaning.specs.Named.{AreDistinct, declared_names, written_names, variable_names, adaptive_names, row_names}
 use Rattle.rob_meaning.specs.Places.{Each}
 use Rattle.rob_meaning.specs.RobustModel as model
-use Rattle.rob_meaning.specs.RobustModel.{RobustModel}
+use Rattle.rob_meaning.specs.RobustModel.{RobustModel, written_parameters}
 use Rattle.rob_parse.specs.declared.sort.Sort.{Sort}
+use Rattle.rob_parse.specs.declared.sort.Sort.TheVariants as sort
 use Rattle.rob_parse.specs.declared.sort.Sort.TheVariants.{Parameter, Decision, Policy, RowName}
 use Rattle.rob_parse.specs.Canonical.{naming_of}
 use Rattle.rob_parse.specs.Degrees.{sort_at}
@@ -17,7 +18,6 @@ use Rattle.rob_parse.specs.Pages.{IsWord}
 use Rattle.rob_parse.specs.Readable.{IsSpelled, StandsFor, AreKnown, IsDeclarable, AreDeclarable}
 use Rattle.rob_parse.specs.Scopes.{has_some}
 use Rattle.rob_parse.specs.Symbols.{number_of}
-use Rattle.rob_parse.proofs.AloneNames.{names_alone, declared_alone}
 use Rattle.rob_parse.proofs.Clear.{parameters_only}
 use Rattle.rob_parse.proofs.DeclaredLemmas.{IsNew}
 use Rattle.rob_parse.proofs.SortLemmas.{nothing_there, set_kept}
@@ -121,10 +121,22 @@ rows_last {A = A} p r v a d =
       turned xs ys (each_map (λ x. Each (λ z. x ≢ z) (y ∷ ys)) (λ x. Each (λ z. x ≢ z) ys) (λ x k. k.1) xs h),
     )
 
+-- and so they may where sets are declared behind the first
+rows_behind : {A : Type 0} (p s r v a : List A) → AreDistinct (p ++ (s ++ (r ++ (v ++ a)))) → AreDistinct (p ++ (s ++ (v ++ (a ++ r))))
+rows_behind p s r v a d =
+    subst AreDistinct (append_assoc p s (v ++ (a ++ r))) (rows_last (p ++ s) r v a (subst AreDistinct (sym (append_assoc p s (r ++ (v ++ a)))) d))
+
+map_same : (l : List (List ℕ)) → map (λ (n : List ℕ). n) l ≡ l
+map_same [] = refl
+map_same (n ∷ l) = ap (λ (x : List (List ℕ)). n ∷ x) (map_same l)
+
 module _ (words : List (List ℕ)) (m : RobustModel) where
   -- the declarations of each kind
   abbrev pub parameters_declared : List (ℕ × Sort)
-  parameters_declared = numbered words (λ (p : model.Parameter). p.name) (λ k p. Parameter k) 0 m.parameters
+  parameters_declared = numbered words (λ (p : model.Parameter). p.name) (λ k p. Parameter k) 0 (written_parameters m)
+
+  abbrev pub sets_declared : List (ℕ × Sort)
+  sets_declared = numbered words (λ (n : List ℕ). n) (λ k n. sort.Set (k + 1)) 0 m.sets
 
   abbrev pub variables_declared : List (ℕ × Sort)
   variables_declared = numbered words (λ (x : model.Variable). x.name) (λ k x. Decision k) 0 m.variables
@@ -142,8 +154,11 @@ module _ (words : List (List ℕ)) (m : RobustModel) where
   abbrev pub behind_parameters : List (Option Sort)
   behind_parameters = noted no_sorts parameters_declared
 
+  abbrev pub behind_sets : List (Option Sort)
+  behind_sets = noted behind_parameters sets_declared
+
   abbrev pub behind_variables : List (Option Sort)
-  behind_variables = noted behind_parameters variables_declared
+  behind_variables = noted behind_sets variables_declared
 
   abbrev pub behind_adaptives : List (Option Sort)
   behind_adaptives = noted behind_variables adaptives_declared
@@ -154,51 +169,53 @@ module _ (words : List (List ℕ)) (m : RobustModel) where
   -- no line declares what is declared
   pub record AllFresh : Type 0 where
     pub parameters : AreFresh no_sorts parameters_declared
-    pub variables : AreFresh behind_parameters variables_declared
+    pub sets : AreFresh behind_parameters sets_declared
+    pub variables : AreFresh behind_sets variables_declared
     pub adaptives : AreFresh behind_variables adaptives_declared
     pub rows : AreFresh behind_adaptives rows_declared
 
-  module _ (d : AreDeclarable words m) (alone : m.sets ≡ []) (declared_spelled : Each IsSpelled (declared_names m)) (declared_distinct : AreDistinct (declared_names m)) where
-    spelled : Each IsSpelled (names_alone m)
-    spelled = subst (Each IsSpelled) (declared_alone m alone) declared_spelled
-
-    distinct : AreDistinct (names_alone m)
-    distinct = subst AreDistinct (declared_alone m alone) declared_distinct
-
+  module _ (d : AreDeclarable words m) (spelled : Each IsSpelled (declared_names m)) (distinct : AreDistinct (declared_names m)) where
     abbrev names : List (List ℕ)
-    names = parameter_names m ++ (variable_names m ++ (adaptive_names m ++ row_names m))
+    names = written_names m ++ (m.sets ++ (variable_names m ++ (adaptive_names m ++ row_names m)))
 
     abbrev IsSound : List ℕ → Type 0
     IsSound n = IsDeclarable words n × IsSpelled n
 
     all_sound : Each IsSound names
     all_sound =
-        let ps = each_left IsSpelled (parameter_names m) (row_names m ++ (variable_names m ++ adaptive_names m)) spelled in
-        let rest = each_right IsSpelled (parameter_names m) (row_names m ++ (variable_names m ++ adaptive_names m)) spelled in
+        let of_rows = row_names m ++ (variable_names m ++ adaptive_names m) in
+        let ps = each_left IsSpelled (written_names m) (m.sets ++ of_rows) spelled in
+        let behind = each_right IsSpelled (written_names m) (m.sets ++ of_rows) spelled in
+        let ss = each_left IsSpelled m.sets of_rows behind in
+        let rest = each_right IsSpelled m.sets of_rows behind in
         let rs = each_left IsSpelled (row_names m) (variable_names m ++ adaptive_names m) rest in
         let vas = each_right IsSpelled (row_names m) (variable_names m ++ adaptive_names m) rest in
         let vs = each_left IsSpelled (variable_names m) (adaptive_names m) vas in
         let ys = each_right IsSpelled (variable_names m) (adaptive_names m) vas in
         let both = each_both (IsDeclarable words) IsSpelled IsSound (λ n a b. (a, b)) in
-        each_append IsSound (parameter_names m) _ (both (parameter_names m) (each_mapped (IsDeclarable words) (λ (p : model.Parameter). p.name) m.parameters d.parameters) ps)
+        each_append IsSound (written_names m) _ (both (written_names m) (each_mapped (IsDeclarable words) (λ (p : model.Parameter). p.name) (written_parameters m) d.parameters) ps)
+        (each_append IsSound m.sets _ (both m.sets d.sets ss)
         (each_append IsSound (variable_names m) _ (both (variable_names m) (each_mapped (IsDeclarable words) (λ (x : model.Variable). x.name) m.variables d.variables) vs)
         (each_append IsSound (adaptive_names m) _ (both (adaptive_names m) (each_mapped (IsDeclarable words) (λ (y : model.AdaptiveVariable). y.name) m.adaptives d.adaptives) ys)
-        (both (row_names m) (each_mapped (IsDeclarable words) (λ (r : model.Row). r.name) m.rows d.rows) rs)))
+        (both (row_names m) (each_mapped (IsDeclarable words) (λ (r : model.Row). r.name) m.rows d.rows) rs))))
 
-    numbers_of_names : numbers_in (parameters_declared ++ (variables_declared ++ (adaptives_declared ++ rows_declared))) ≡ map (number_of words) names
+    numbers_of_names : numbers_in (parameters_declared ++ (sets_declared ++ (variables_declared ++ (adaptives_declared ++ rows_declared)))) ≡ map (number_of words) names
     numbers_of_names =
         let f : ℕ × Sort → ℕ = λ d. d.0 in
         let n = number_of words in
-        map-append f parameters_declared (variables_declared ++ (adaptives_declared ++ rows_declared))
-        ∙ (λ i. numbers_are words (λ (p : model.Parameter). p.name) (λ k p. Parameter k) 0 m.parameters i ++ (map-append f variables_declared (adaptives_declared ++ rows_declared)
+        let last = variables_declared ++ (adaptives_declared ++ rows_declared) in
+        map-append f parameters_declared (sets_declared ++ last)
+        ∙ (λ h. numbers_are words (λ (p : model.Parameter). p.name) (λ k p. Parameter k) 0 (written_parameters m) h ++ (map-append f sets_declared last
+        ∙ (λ i. (numbers_are words (λ (l : List ℕ). l) (λ k l. sort.Set (k + 1)) 0 m.sets ∙ ap (map n) (map_same m.sets)) i ++ (map-append f variables_declared (adaptives_declared ++ rows_declared)
         ∙ (λ j. numbers_are words (λ (x : model.Variable). x.name) (λ k x. Decision k) 0 m.variables j ++ (map-append f adaptives_declared rows_declared
         ∙ (λ l. numbers_are words (λ (y : model.AdaptiveVariable). y.name) (λ k y. Policy k (has_some y.on)) 0 m.adaptives l
-        ++ numbers_are words (λ (r : model.Row). r.name) (λ k r. RowName) 0 m.rows l)) j)) i)
-        ∙ (λ i. map n (parameter_names m) ++ (map n (variable_names m) ++ sym (map-append n (adaptive_names m) (row_names m)) i))
-        ∙ (λ i. map n (parameter_names m) ++ sym (map-append n (variable_names m) (adaptive_names m ++ row_names m)) i)
-        ∙ sym (map-append n (parameter_names m) (variable_names m ++ (adaptive_names m ++ row_names m)))
+        ++ numbers_are words (λ (r : model.Row). r.name) (λ k r. RowName) 0 m.rows l)) j)) i)) h)
+        ∙ (λ i. map n (written_names m) ++ (map n m.sets ++ (map n (variable_names m) ++ sym (map-append n (adaptive_names m) (row_names m)) i)))
+        ∙ (λ i. map n (written_names m) ++ (map n m.sets ++ sym (map-append n (variable_names m) (adaptive_names m ++ row_names m)) i))
+        ∙ (λ i. map n (written_names m) ++ sym (map-append n m.sets (variable_names m ++ (adaptive_names m ++ row_names m))) i)
+        ∙ sym (map-append n (written_names m) (m.sets ++ (variable_names m ++ (adaptive_names m ++ row_names m))))
 
-    fresh : AreFresh no_sorts (parameters_declared ++ (variables_declared ++ (adaptives_declared ++ rows_declared)))
+    fresh : AreFresh no_sorts (parameters_declared ++ (sets_declared ++ (variables_declared ++ (adaptives_declared ++ rows_declared))))
     fresh =
         let P : ℕ → Type 0 = λ k. IsNew no_sorts k × (k < length no_sorts) in
         fresh_from no_sorts _
@@ -209,14 +226,15 @@ module _ (words : List (List ℕ)) (m : RobustModel) where
         )) names all_sound)))
         (subst AreDistinct (sym numbers_of_names)
         (distinct_map IsSound (number_of words) (λ x y p q e. sym p.0.word_is ∙ ap (word_of words) e ∙ q.0.word_is) names all_sound
-        (rows_last (parameter_names m) (row_names m) (variable_names m) (adaptive_names m) distinct)))
+        (rows_behind (written_names m) m.sets (row_names m) (variable_names m) (adaptive_names m) distinct)))
 
     pub all_fresh : AllFresh
     all_fresh =
-        let a = fresh_apart no_sorts parameters_declared (variables_declared ++ (adaptives_declared ++ rows_declared)) fresh in
-        let b = fresh_apart behind_parameters variables_declared (adaptives_declared ++ rows_declared) a.1 in
+        let a = fresh_apart no_sorts parameters_declared (sets_declared ++ (variables_declared ++ (adaptives_declared ++ rows_declared))) fresh in
+        let s = fresh_apart behind_parameters sets_declared (variables_declared ++ (adaptives_declared ++ rows_declared)) a.1 in
+        let b = fresh_apart behind_sets variables_declared (adaptives_declared ++ rows_declared) s.1 in
         let c = fresh_apart behind_variables adaptives_declared rows_declared b.1 in
-        record { parameters = a.0; variables = b.0; adaptives = c.0; rows = c.1 }
+        record { parameters = a.0; sets = s.0; variables = b.0; adaptives = c.0; rows = c.1 }
 
     name_stands : (sorts : List (Option Sort)) (ns : List (List ℕ)) → Each (IsDeclarable words) ns → (k : ℕ) → k < length ns → (x : Sort)
         → sort_at sorts (number_of words (get_or ns k [])) ≡ Some x → StandsFor words sorts (get_or ns k []) x
@@ -225,18 +243,26 @@ module _ (words : List (List ℕ)) (m : RobustModel) where
     name_stands sorts (n ∷ ns) h (suc k) inside x is = name_stands sorts ns h.1 k (omega arith) x is
 
     -- parameters stand for themselves behind their lines
-    pub parameters_stand : (sorts : List (Option Sort)) → Kept behind_parameters sorts → (k : ℕ) → k < length (parameter_names m)
-        → StandsFor words sorts (get_or (parameter_names m) k []) (Parameter k)
+    pub parameters_stand : (sorts : List (Option Sort)) → Kept behind_parameters sorts → (k : ℕ) → k < length (written_names m)
+        → StandsFor words sorts (get_or (written_names m) k []) (Parameter k)
     parameters_stand sorts kept k inside =
-        let f = found_at words (λ (p : model.Parameter). p.name) (λ k p. Parameter k) no_sorts 0 m.parameters all_fresh.parameters k inside in
+        let f = found_at words (λ (p : model.Parameter). p.name) (λ k p. Parameter k) no_sorts 0 (written_parameters m) all_fresh.parameters k inside in
         let same : 0 + k ≡ k = omega arith in
-        name_stands sorts (parameter_names m) (each_mapped (IsDeclarable words) (λ (p : model.Parameter). p.name) m.parameters d.parameters) k inside (Parameter k)
+        name_stands sorts (written_names m) (each_mapped (IsDeclarable words) (λ (p : model.Parameter). p.name) (written_parameters m) d.parameters) k inside (Parameter k)
         (kept _ _ (f.1 ∙ ap (λ (n : ℕ). Some (Parameter n)) same))
+
+    pub sets_stand : (sorts : List (Option Sort)) → Kept behind_sets sorts → (k : ℕ) → k < length m.sets → StandsFor words sorts (get_or m.sets k []) (sort.Set (suc k))
+    sets_stand sorts kept k inside =
+        let same_names = map_same m.sets in
+        let f = found_at words (λ (n : List ℕ). n) (λ k n. sort.Set (k + 1)) behind_parameters 0 m.sets all_fresh.sets k (subst (λ (l : List (List ℕ)). k < length l) (sym same_names) inside) in
+        let same : (0 + k) + 1 ≡ suc k = omega arith in
+        name_stands sorts m.sets d.sets k inside (sort.Set (suc k))
+        (kept _ _ (subst (λ (l : List (List ℕ)). sort_at behind_sets (number_of words (get_or l k [])) ≡ Some (sort.Set ((0 + k) + 1))) same_names f.1 ∙ ap (λ (n : ℕ). Some (sort.Set n)) same))
 
     variables_stand : (sorts : List (Option Sort)) → Kept behind_variables sorts → (k : ℕ) → k < length (variable_names m)
         → StandsFor words sorts (get_or (variable_names m) k []) (Decision k)
     variables_stand sorts kept k inside =
-        let f = found_at words (λ (x : model.Variable). x.name) (λ k x. Decision k) behind_parameters 0 m.variables all_fresh.variables k inside in
+        let f = found_at words (λ (x : model.Variable). x.name) (λ k x. Decision k) behind_sets 0 m.variables all_fresh.variables k inside in
         let same : 0 + k ≡ k = omega arith in
         name_stands sorts (variable_names m) (each_mapped (IsDeclarable words) (λ (x : model.Variable). x.name) m.variables d.variables) k inside (Decision k)
         (kept _ _ (f.1 ∙ ap (λ (n : ℕ). Some (Decision n)) same))
@@ -255,6 +281,7 @@ module _ (words : List (List ℕ)) (m : RobustModel) where
     pub parameters_known : (sorts : List (Option Sort)) → Kept behind_parameters sorts → AreKnown words sorts (parameters_only (naming_of m))
     parameters_known sorts kept = record {
       parameters = parameters_stand sorts kept;
+      sets = λ k inside. absurd (omega arith);
       variables = λ k inside. absurd (omega arith);
       adaptives = λ k inside. absurd (omega arith);
     }
@@ -263,8 +290,10 @@ module _ (words : List (List ℕ)) (m : RobustModel) where
     pub all_known : (sorts : List (Option Sort)) → Kept behind_adaptives sorts → AreKnown words sorts (naming_of m)
     all_known sorts kept =
         let variables_kept = kept_more behind_variables behind_adaptives sorts (kept_noted behind_variables adaptives_declared all_fresh.adaptives) kept in
+        let sets_kept = kept_more behind_sets behind_variables sorts (kept_noted behind_sets variables_declared all_fresh.variables) variables_kept in
         record {
-          parameters = parameters_stand sorts (kept_more behind_parameters behind_variables sorts (kept_noted behind_parameters variables_declared all_fresh.variables) variables_kept);
+          parameters = parameters_stand sorts (kept_more behind_parameters behind_sets sorts (kept_noted behind_parameters sets_declared all_fresh.sets) sets_kept);
+          sets = sets_stand sorts sets_kept;
           variables = variables_stand sorts variables_kept;
           adaptives = adaptives_stand sorts kept;
         }

@@ -9,6 +9,7 @@ use Rattle.rob_meaning.specs.Expressions.{Expression, Terms, Factors}
 use Rattle.rob_meaning.specs.Places.{Each}
 use Rattle.rob_meaning.specs.RobustModel.{RobustModel, list_of}
 use Rattle.rob_parse.specs.declared.sort.Sort.{Sort}
+use Rattle.rob_parse.specs.declared.sort.Sort.TheVariants as sort
 use Rattle.rob_parse.specs.declared.sort.Sort.TheVariants.{Parameter, Decision, Policy, RowName}
 use Rattle.rob_parse.specs.declared.syntax.Statement.{Statement}
 use Rattle.rob_parse.specs.Degrees.{Degree, sort_at, degree_of_sort, times, degree, sum_degree, product_degree, products, sum_products, more_products}
@@ -66,6 +67,7 @@ module _ (m : RobustModel) (sorts before : List (Option Sort)) where
   named_degree (Some (Policy j true)) usable names = record { uncertain = names.1; decision = refl }
   named_degree (Some (Policy j false)) usable names = record { uncertain = names.1; decision = refl }
   named_degree (Some RowName) usable names = cc
+  named_degree (Some (sort.Set S)) usable names = cc
   named_degree None usable names = cc
 
   mutual

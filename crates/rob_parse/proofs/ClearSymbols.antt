@@ -1,6 +1,9 @@
 -- No symbol of a canonical line is at fault.
-use Rattle.std.proofs.Common.{◌≡◌, ◌≢◌, ℕ, ◌^◌, ◌<◌, Bool, true, false, List, [], ◌∷◌, ◌++◌, length, map, get_or, refl, sym, ap, ◌∙◌, subst, arith, append-nil}
-use Rattle.std.specs.Prelude.{◌&&◌, not, drop, Option}
+use Rattle.std.proofs.Common.{◌≡◌, ◌≢◌, ℕ, zero, suc, ◌^◌, ◌<◌, Bool, true, false, List, [], ◌∷◌, ◌++◌, length, map, get_or, refl, sym, ap, ◌∙◌, subst, arith, append-nil, append_assoc}
+use Rattle.std.specs.Prelude.{◌&&◌, ◌||◌, not, drop, Option, Some, None}
+use Rattle.rob_parse.specs.declared.fault.Lead.{Lead}
+use Rattle.rob_parse.proofs.BareLines.{before_over_is}
+use Rattle.rob_parse.proofs.OverScan.{over_alone, over_in, over_line}
 use Rattle.std.specs.List.{list_any}
 use Rattle.rob_algebra.specs.Fraction.{Fraction, ◌<ℚ◌}
 use Rattle.rob_algebra.specs.Width.{Fits}
@@ -13,25 +16,26 @@ use Rattle.rob_meaning.specs.RobustModel.{RobustModel}
 use Rattle.rob_meaning.specs.WellFormed.{IsMember, IsSetLine}
 use Rattle.rob_parse.specs.declared.fault.Lead.TheVariants as lead_of
 use Rattle.rob_parse.specs.declared.sort.Sort.{Sort}
+use Rattle.rob_parse.specs.declared.sort.Sort.TheVariants as sort
 use Rattle.rob_parse.specs.declared.symbol.Keyword.TheVariants as word
 use Rattle.rob_parse.specs.declared.symbol.Mark.TheVariants as mark
 use Rattle.rob_parse.specs.declared.symbol.Symbol.{Symbol}
 use Rattle.rob_parse.specs.declared.symbol.Symbol.TheVariants.{Name, Sign, Reserved}
 use Rattle.rob_parse.specs.declared.syntax.Sense.TheVariants as sense
 use Rattle.rob_parse.specs.declared.syntax.Statement.{Statement}
-use Rattle.rob_parse.specs.Canonical.{Written, keyword, sign, Naming, name_at, number_words, bound_words, comma, listed, expression_words, member_words, comparison_words, parameter_words, variable_words, adaptive_words, set_words, row_words, goal_words}
+use Rattle.rob_parse.specs.Canonical.{Written, declared_set_words, over_words, keyword, sign, Naming, name_at, number_words, bound_words, comma, listed, expression_words, member_words, comparison_words, parameter_words, variable_words, adaptive_words, set_words, row_words, goal_words}
 use Rattle.rob_parse.specs.Degrees.{sort_at}
-use Rattle.rob_parse.specs.Faults.{head_length, is_listing, is_of_set, is_usable, is_decision, is_unknown, names_decision, has_twice}
+use Rattle.rob_parse.specs.Faults.{begins_with_zero, before_over, has_zero_behind, is_lead, is_over, is_over_none, over_of, used as used_in, head_length, is_listing, is_of_set, is_usable, is_decision, is_set, is_unknown, names_decision, has_twice}
 use Rattle.rob_parse.specs.Models.{parameter_number}
 use Rattle.rob_parse.specs.Pages.{symbols_on}
-use Rattle.rob_parse.specs.Readable.{IsBound, IsReadable, TermsReadable, FactorsReadable, IsReadableMember, IsReadableSetLine, AreKnown, IsDeclarable}
-use Rattle.rob_parse.specs.Statements.{IsStatement, Line, spell_line, statement_of}
+use Rattle.rob_parse.specs.Readable.{IsBound, IsReadable, TermsReadable, FactorsReadable, IsReadableMember, IsReadableSetLine, AreKnown, IsDeclarable, StandsFor}
+use Rattle.rob_parse.specs.Statements.{IsStatement, Line, spell_line, spell_over, statement_of}
 use Rattle.rob_parse.specs.Statements as line
 use Rattle.rob_parse.specs.Symbols.{number_of}
 use Rattle.rob_parse.proofs.Clear.{parameters_only, AreClear}
 use Rattle.rob_parse.proofs.ExpressionText.{symbols_append}
 use Rattle.rob_parse.proofs.SymbolNames.{names_in, names_in-append, no_names, once}
-use Rattle.rob_parse.proofs.FitSymbols.{AreFit, join, free_of, within, no_zero_behind, weaken, ReadFit, both, number_fit, deviation_fit, bounds_fit, list_fit, name_back, name_fit, expression_fit, comparison_fit}
+use Rattle.rob_parse.proofs.FitSymbols.{AreFit, fit_passes, join, free_of, within, no_zero_behind, weaken, ReadFit, both, number_fit, deviation_fit, bounds_fit, list_fit, name_back, name_fit, expression_fit, comparison_fit}
 
 -- ---- the first symbol of a line tells of its statement
 -- the first symbol; a line without symbols is no statement
@@ -45,6 +49,7 @@ head_of (Reserved word.Uncertain) = 2
 head_of (Reserved word.Var) = 2
 head_of (Reserved word.Adaptive) = 2
 head_of (Reserved word.Row) = 2
+head_of (Reserved word.Over) = 2
 head_of _ = 1
 
 -- a list stands behind the keyword
@@ -60,26 +65,52 @@ is_for_set (Reserved word.Budget) = true
 is_for_set (Reserved word.Adaptive) = true
 is_for_set _ = false
 
+-- no set stands behind a line that begins so
+abbrev ends_plain : Symbol → Bool
+ends_plain (Reserved word.Set) = false
+ends_plain (Reserved word.Budget) = false
+ends_plain (Reserved word.Minimise) = false
+ends_plain (Reserved word.Maximise) = false
+ends_plain (Reserved word.Row) = false
+ends_plain _ = true
+
 -- the statement begins as its first symbol says
 record IsTold (symbols : List Symbol) (s : Statement) : Type 0 where
   head_is : head_length s ≡ head_of (first_of symbols)
   listing_is : is_listing s ≡ lists (first_of symbols)
   set_is : is_of_set s ≡ is_for_set (first_of symbols)
+  over_is : ends_plain (first_of symbols) ≡ true → over_of s ≡ None
+  ending_is : ends_plain (first_of symbols) ≡ false → over_of s ≡ over_in symbols
 
 told_line : (l : Line) → IsTold (spell_line l) (statement_of l)
-told_line (line.uncertain d) = record { head_is = refl; listing_is = refl; set_is = refl }
-told_line (line.set s) = record { head_is = refl; listing_is = refl; set_is = refl }
-told_line (line.budget s) = record { head_is = refl; listing_is = refl; set_is = refl }
-told_line (line.variable d) = record { head_is = refl; listing_is = refl; set_is = refl }
-told_line (line.adaptive p) = record { head_is = refl; listing_is = refl; set_is = refl }
-told_line (line.goal sense.Minimise e) = record { head_is = refl; listing_is = refl; set_is = refl }
-told_line (line.goal sense.Maximise e) = record { head_is = refl; listing_is = refl; set_is = refl }
-told_line (line.row t) = record { head_is = refl; listing_is = refl; set_is = refl }
+told_line (line.uncertain d) = record { head_is = refl; listing_is = refl; set_is = refl; over_is = λ h. refl; ending_is = λ h. cc }
+told_line (line.over k) = record { head_is = refl; listing_is = refl; set_is = refl; over_is = λ h. refl; ending_is = λ h. cc }
+told_line (line.set s) = record { head_is = refl; listing_is = refl; set_is = refl; over_is = λ h. cc; ending_is = λ h. sym (over_line (line.set s) tt) }
+told_line (line.budget s) = record { head_is = refl; listing_is = refl; set_is = refl; over_is = λ h. cc; ending_is = λ h. sym (over_line (line.budget s) tt) }
+told_line (line.variable d) = record { head_is = refl; listing_is = refl; set_is = refl; over_is = λ h. refl; ending_is = λ h. cc }
+told_line (line.adaptive p) = record { head_is = refl; listing_is = refl; set_is = refl; over_is = λ h. refl; ending_is = λ h. cc }
+told_line (line.goal sense.Minimise e) = record { head_is = refl; listing_is = refl; set_is = refl; over_is = λ h. cc; ending_is = λ h. sym (over_line (line.goal sense.Minimise e) tt) }
+told_line (line.goal sense.Maximise e) = record { head_is = refl; listing_is = refl; set_is = refl; over_is = λ h. cc; ending_is = λ h. sym (over_line (line.goal sense.Maximise e) tt) }
+told_line (line.row t) = record { head_is = refl; listing_is = refl; set_is = refl; over_is = λ h. cc; ending_is = λ h. sym (over_line (line.row t) tt) }
 
 told : (symbols : List Symbol) (s : Statement) → IsStatement symbols s → IsTold symbols s
 told symbols s is =
     subst (IsTold symbols) is.statement_is
     (subst (λ (y : List Symbol). IsTold y (statement_of is.line)) (sym is.spelled) (told_line is.line))
+
+-- what ends a line holds no digits
+none_over : (test : Symbol → Bool) (xs : List Symbol) (o : Option ℕ) → ((k : ℕ) → test (Name k) ≡ false) → test (Reserved word.Over) ≡ false
+    → list_any test (xs ++ spell_over o) ≡ list_any test xs
+none_over test xs None named reserved = ap (list_any test) (append-nil xs)
+none_over test [] (Some k) named reserved = λ i. reserved i || (named k i || false)
+none_over test (x ∷ xs) (Some k) named reserved = ap (λ (b : Bool). test x || b) (none_over test xs (Some k) named reserved)
+
+no_zero_then : (l : Lead) (xs : List Symbol) (o : Option ℕ) → has_zero_behind l (xs ++ spell_over o) ≡ has_zero_behind l xs
+no_zero_then l xs None = ap (has_zero_behind l) (append-nil xs)
+no_zero_then lead_of.By [] (Some k) = refl
+no_zero_then lead_of.Slash [] (Some k) = refl
+no_zero_then l (x ∷ []) (Some k) = λ i. (is_lead l x && false) || no_zero_then l [] (Some k) i
+no_zero_then l (x ∷ (y ∷ xs)) (Some k) = ap (λ (b : Bool). (is_lead l x && begins_with_zero (y ∷ xs)) || b) (no_zero_then l (y ∷ xs) (Some k))
 
 -- a name that stands for a parameter, as far as the tests go
 abbrev OfSet : List (Option Sort) → ℕ → Type 0
@@ -87,29 +118,45 @@ OfSet sorts k = (is_usable (sort_at sorts k) ≡ true) × (is_decision (sort_at 
 
 module _ (limit : ℕ) (sorts : List (Option Sort)) (IsFine : ℕ → Type 0) (usable : (k : ℕ) → IsFine k → is_usable (sort_at sorts k) ≡ true) where
   -- a line with a head and, behind it, the symbols of what the statement uses
-  assemble : (symbols head used : List Symbol) (s : Statement) → symbols ≡ head ++ used → drop (head_of (first_of (head ++ used))) (head ++ used) ≡ used
+  assemble : (symbols head used : List Symbol) (o : Option ℕ) (s : Statement) → symbols ≡ head ++ (used ++ spell_over o)
+      → drop (head_of (first_of (head ++ (used ++ spell_over o)))) (head ++ (used ++ spell_over o)) ≡ used ++ spell_over o
       → AreFit limit (λ k. Unit {0}) false head → AreFit limit IsFine false used
-      → (lists (first_of (head ++ used)) && has_twice used) ≡ false
-      → (is_for_set (first_of (head ++ used)) && list_any (names_decision sorts) used) ≡ false
+      → (lists (first_of (head ++ (used ++ spell_over o))) && has_twice used) ≡ false
+      → (is_for_set (first_of (head ++ (used ++ spell_over o))) && list_any (names_decision sorts) used) ≡ false
+      → over_of s ≡ o → is_over_none sorts o ≡ false
       → IsStatement symbols s → AreClear limit sorts symbols s
-  assemble symbols head used s is cut first fit listed decided statement =
-      let whole = head ++ used in
+  assemble symbols head used o s is cut first fit listed decided answers known statement =
+      let whole = head ++ (used ++ spell_over o) in
       let tells = told whole s (subst (λ (y : List Symbol). IsStatement y s) is statement) in
-      let behind : drop (head_length s) whole ≡ used = ap (λ (n : ℕ). drop n whole) tells.head_is ∙ cut in
-      let all : AreFit limit (λ k. Unit {0}) false whole =
+      let behind : drop (head_length s) whole ≡ used ++ spell_over o = ap (λ (n : ℕ). drop n whole) tells.head_is ∙ cut in
+      let uses : used_in whole s ≡ used = (λ i. before_over (answers i) (behind i)) ∙ before_over_is o used in
+      let front : AreFit limit (λ k. Unit {0}) false (head ++ used) =
       join limit (λ k. Unit {0}) false head used first (weaken limit IsFine (λ k. Unit {0}) (λ k h. tt) false used fit) in
+      let cut_so : whole ≡ (head ++ used) ++ spell_over o = sym (append_assoc head used (spell_over o)) in
       let clear : AreClear limit sorts whole s =
       record {
         unknown =
-            ap (list_any (is_unknown sorts)) behind
+            ap (list_any (is_unknown sorts)) uses
             ∙ free_of limit IsFine (is_unknown sorts) (λ k fine. ap not (usable k fine)) (λ n. refl) (λ m. refl) (λ w. refl) false used fit;
-        over = within limit (λ k. Unit {0}) false whole all;
-        deviation = no_zero_behind limit (λ k. Unit {0}) lead_of.By false whole all;
-        divisor = no_zero_behind limit (λ k. Unit {0}) lead_of.Slash false whole all;
-        listed = (λ i. tells.listing_is i && has_twice (behind i)) ∙ listed;
-        decision = (λ i. tells.set_is i && list_any (names_decision sorts) (behind i)) ∙ decided;
+        set_known = ap (is_over_none sorts) answers ∙ known;
+        over = ap (list_any (is_over limit)) cut_so ∙ none_over (is_over limit) (head ++ used) o (λ k. refl) refl ∙ within limit (λ k. Unit {0}) false (head ++ used) front;
+        deviation = ap (has_zero_behind lead_of.By) cut_so ∙ no_zero_then lead_of.By (head ++ used) o ∙ no_zero_behind limit (λ k. Unit {0}) lead_of.By false (head ++ used) front;
+        divisor = ap (has_zero_behind lead_of.Slash) cut_so ∙ no_zero_then lead_of.Slash (head ++ used) o ∙ no_zero_behind limit (λ k. Unit {0}) lead_of.Slash false (head ++ used) front;
+        listed = (λ i. tells.listing_is i && has_twice (uses i)) ∙ listed;
+        decision = (λ i. tells.set_is i && list_any (names_decision sorts) (uses i)) ∙ decided;
       } in
       subst (λ (y : List Symbol). AreClear limit sorts y s) (sym is) clear
+
+-- a line that answers to no set that it names
+plain_answers : (symbols : List Symbol) (s : Statement) → IsStatement symbols s → ends_plain (first_of symbols) ≡ true → over_of s ≡ None
+plain_answers symbols s is plain = (told symbols s is).over_is plain
+
+-- a line whose symbols name its set at their end
+ending_answers : (limit : ℕ) (IsFine : ℕ → Type 0) (symbols head used : List Symbol) (o : Option ℕ) (s : Statement) → IsStatement symbols s → symbols ≡ head ++ (used ++ spell_over o)
+    → AreFit limit (λ k. Unit {0}) false head → AreFit limit IsFine false used → ends_plain (first_of symbols) ≡ false → over_of s ≡ o
+ending_answers limit IsFine symbols head used o s statement is first fit ends =
+    (told symbols s statement).ending_is ends ∙ ap over_in is ∙ fit_passes limit (λ k. Unit {0}) false head first (used ++ spell_over o)
+    ∙ fit_passes limit IsFine false used fit (spell_over o) ∙ over_alone o
 
 -- names of the set are no decisions
 undecided : (limit : ℕ) (sorts : List (Option Sort)) (used : List Symbol) → AreFit limit (OfSet sorts) false used → list_any (names_decision sorts) used ≡ false
@@ -142,17 +189,53 @@ module _ (limit : ℕ) (small : limit < 2 ^ 62) (words : List (List ℕ)) (sorts
       → (s : Statement) → IsStatement (symbols_on words (parameter_words p)) s → AreClear limit sorts (symbols_on words (parameter_words p)) s
   parameter_clear p d l u s is =
       assemble limit sorts (λ k. ⊥) (λ k none. absurd none) (symbols_on words (parameter_words p))
-      (Reserved word.Uncertain ∷ Name (number_of words p.name) ∷ []) (symbols_on words (bound_words p.lower p.upper)) s
-      (ap (λ (x : List Symbol). Reserved word.Uncertain ∷ x) (name_back words p.name (bound_words p.lower p.upper) d.is_name)) refl (tt, (tt, refl))
-      (bounds_fit limit small (λ k. ⊥) words p.lower p.upper l u) refl refl is
+      (Reserved word.Uncertain ∷ Name (number_of words p.name) ∷ []) (symbols_on words (bound_words p.lower p.upper)) None s
+      (ap (λ (x : List Symbol). Reserved word.Uncertain ∷ x) (name_back words p.name (bound_words p.lower p.upper) d.is_name ∙ ap (λ (y : List Symbol). Name (number_of words p.name) ∷ y) (sym (append-nil (symbols_on words (bound_words p.lower p.upper)))))) refl (tt, (tt, refl))
+      (bounds_fit limit small (λ k. ⊥) words p.lower p.upper l u) refl refl (plain_answers (symbols_on words (parameter_words p)) s is refl) refl is
 
   pub variable_clear : (x : model.Variable) → IsDeclarable words x.name → IsBound limit x.lower → IsBound limit x.upper
       → (s : Statement) → IsStatement (symbols_on words (variable_words x)) s → AreClear limit sorts (symbols_on words (variable_words x)) s
   variable_clear x d l u s is =
       assemble limit sorts (λ k. ⊥) (λ k none. absurd none) (symbols_on words (variable_words x))
-      (Reserved word.Var ∷ Name (number_of words x.name) ∷ []) (symbols_on words (bound_words x.lower x.upper)) s
-      (ap (λ (y : List Symbol). Reserved word.Var ∷ y) (name_back words x.name (bound_words x.lower x.upper) d.is_name)) refl (tt, (tt, refl))
-      (bounds_fit limit small (λ k. ⊥) words x.lower x.upper l u) refl refl is
+      (Reserved word.Var ∷ Name (number_of words x.name) ∷ []) (symbols_on words (bound_words x.lower x.upper)) None s
+      (ap (λ (y : List Symbol). Reserved word.Var ∷ y) (name_back words x.name (bound_words x.lower x.upper) d.is_name ∙ ap (λ (z : List Symbol). Name (number_of words x.name) ∷ z) (sym (append-nil (symbols_on words (bound_words x.lower x.upper)))))) refl (tt, (tt, refl))
+      (bounds_fit limit small (λ k. ⊥) words x.lower x.upper l u) refl refl (plain_answers (symbols_on words (variable_words x)) s is refl) refl is
+
+  pub declared_set_clear : (n : List ℕ) → IsDeclarable words n
+      → (s : Statement) → IsStatement (symbols_on words (declared_set_words n)) s → AreClear limit sorts (symbols_on words (declared_set_words n)) s
+  declared_set_clear n d s is =
+      let whole : List Symbol = Reserved word.Over ∷ Name (number_of words n) ∷ [] in
+      let same : symbols_on words (declared_set_words n) ≡ whole = ap (λ (y : List Symbol). Reserved word.Over ∷ y) (name_back words n [] d.is_name) in
+      let tells = told whole s (subst (λ (y : List Symbol). IsStatement y s) same is) in
+      let plain = tells.over_is refl in
+      let uses : used_in whole s ≡ [] = λ i. before_over (plain i) (drop (tells.head_is i) whole) in
+      subst (λ (y : List Symbol). AreClear limit sorts y s) (sym same)
+      (record {
+        unknown = ap (list_any (is_unknown sorts)) uses;
+        set_known = ap (is_over_none sorts) plain;
+        over = refl;
+        deviation = refl;
+        divisor = refl;
+        listed = λ i. tells.listing_is i && has_twice (uses i);
+        decision = λ i. tells.set_is i && list_any (names_decision sorts) (uses i);
+      })
+
+  -- ---- the set that a line answers to
+  pub record IsAnswer (sets : List (List ℕ)) (S : ℕ) : Type 0 where
+    pub over : Option ℕ
+    pub spelled : symbols_on words (over_words sets S) ≡ spell_over over
+    pub known : is_over_none sorts over ≡ false
+
+  pub answer_of : (sets : List (List ℕ)) → ((k : ℕ) → k < length sets → StandsFor words sorts (get_or sets k []) (sort.Set (suc k)))
+      → (S : ℕ) → S < suc (length sets) → IsAnswer sets S
+  answer_of sets stands zero h = record { over = None; spelled = refl; known = refl }
+  answer_of sets stands (suc S) h =
+      let is = stands S (omega arith) in
+      record {
+        over = Some (number_of words (get_or sets S []));
+        spelled = ap (λ (l : List Symbol). Reserved word.Over ∷ l) (name_back words (get_or sets S []) [] is.is_name);
+        known = ap (λ (o : Option Sort). not (is_set o)) is.sort_is;
+      }
 
   -- ---- lines over all names
   module _ (names : Naming) (known : AreKnown words sorts names) where
@@ -175,25 +258,44 @@ module _ (limit : ℕ) (small : limit < 2 ^ 62) (words : List (List ℕ)) (sorts
         let is = (known.adaptives y h).1 in
         name_fit limit small IsUsed words (get_or names.adaptives y []) [] is.is_name (ap is_usable is.sort_is) refl
 
-    pub goal_clear : (sense : model.Sense) (objective : meaning.Expression) → IsReadable limit names objective
-        → (s : Statement) → IsStatement (symbols_on words (goal_words names sense objective)) s → AreClear limit sorts (symbols_on words (goal_words names sense objective)) s
-    goal_clear model.minimise objective h s is =
-        assemble limit sorts IsUsed (λ k used. used) (symbols_on words (goal_words names model.minimise objective))
-        (Reserved word.Minimise ∷ []) (symbols_on words (expression_words names objective)) s
-        refl refl (tt, refl) (expression_fit limit small IsUsed words names names parameter_used variable_used adaptive_used objective h) refl refl is
-    goal_clear model.maximise objective h s is =
-        assemble limit sorts IsUsed (λ k used. used) (symbols_on words (goal_words names model.maximise objective))
-        (Reserved word.Maximise ∷ []) (symbols_on words (expression_words names objective)) s
-        refl refl (tt, refl) (expression_fit limit small IsUsed words names names parameter_used variable_used adaptive_used objective h) refl refl is
+    -- words in front of a line's end
+    front_of : (ws : List Written) (S : ℕ) (a : IsAnswer names.sets S) → symbols_on words (ws ++ over_words names.sets S) ≡ symbols_on words ws ++ spell_over a.over
+    front_of ws S a = symbols_append words ws (over_words names.sets S) ∙ ap (λ (l : List Symbol). symbols_on words ws ++ l) a.spelled
 
-    pub row_clear : (r : model.Row) → IsDeclarable words r.name → IsReadable limit names r.left → IsReadable limit names r.right
-        → (s : Statement) → IsStatement (symbols_on words (row_words names r)) s → AreClear limit sorts (symbols_on words (row_words names r)) s
-    row_clear r d h k s is =
+    pub goal_clear : (sense : model.Sense) (objective : meaning.Expression) → IsReadable limit names objective → (S : ℕ) → IsAnswer names.sets S
+        → (s : Statement) → IsStatement (symbols_on words (goal_words names sense objective ++ over_words names.sets S)) s
+        → AreClear limit sorts (symbols_on words (goal_words names sense objective ++ over_words names.sets S)) s
+    goal_clear model.minimise objective h S a s is =
+        let whole = symbols_on words (goal_words names model.minimise objective ++ over_words names.sets S) in
+        let used = symbols_on words (expression_words names objective) in
+        let head = Reserved word.Minimise ∷ [] in
+        let cut : whole ≡ head ++ (used ++ spell_over a.over) = ap (λ (l : List Symbol). Reserved word.Minimise ∷ l) (front_of (expression_words names objective) S a) in
+        let fit = expression_fit limit small IsUsed words names names parameter_used variable_used adaptive_used objective h in
+        assemble limit sorts IsUsed (λ k used. used) whole head used a.over s cut refl (tt, refl) fit refl refl
+        (ending_answers limit IsUsed whole head used a.over s is cut (tt, refl) fit refl) a.known is
+    goal_clear model.maximise objective h S a s is =
+        let whole = symbols_on words (goal_words names model.maximise objective ++ over_words names.sets S) in
+        let used = symbols_on words (expression_words names objective) in
+        let head = Reserved word.Maximise ∷ [] in
+        let cut : whole ≡ head ++ (used ++ spell_over a.over) = ap (λ (l : List Symbol). Reserved word.Maximise ∷ l) (front_of (expression_words names objective) S a) in
+        let fit = expression_fit limit small IsUsed words names names parameter_used variable_used adaptive_used objective h in
+        assemble limit sorts IsUsed (λ k used. used) whole head used a.over s cut refl (tt, refl) fit refl refl
+        (ending_answers limit IsUsed whole head used a.over s is cut (tt, refl) fit refl) a.known is
+
+    pub row_clear : (r : model.Row) → IsDeclarable words r.name → IsReadable limit names r.left → IsReadable limit names r.right → (S : ℕ) → IsAnswer names.sets S
+        → (s : Statement) → IsStatement (symbols_on words (row_words names r ++ over_words names.sets S)) s
+        → AreClear limit sorts (symbols_on words (row_words names r ++ over_words names.sets S)) s
+    row_clear r d h k S a s is =
         let sides = comparison_words names r.left r.relation r.right in
-        assemble limit sorts IsUsed (λ k used. used) (symbols_on words (row_words names r))
-        (Reserved word.Row ∷ Name (number_of words r.name) ∷ []) (Sign mark.Colon ∷ symbols_on words sides) s
-        (ap (λ (x : List Symbol). Reserved word.Row ∷ x) (name_back words r.name (sign mark.Colon ∷ sides) d.is_name)) refl (tt, (tt, refl))
-        (tt, comparison_fit limit small IsUsed words names names parameter_used variable_used adaptive_used r.left r.relation r.right h k) refl refl is
+        let whole = symbols_on words (row_words names r ++ over_words names.sets S) in
+        let head = Reserved word.Row ∷ Name (number_of words r.name) ∷ [] in
+        let used = Sign mark.Colon ∷ symbols_on words sides in
+        let cut : whole ≡ head ++ (used ++ spell_over a.over) =
+        ap (λ (x : List Symbol). Reserved word.Row ∷ x)
+        (name_back words r.name (sign mark.Colon ∷ (sides ++ over_words names.sets S)) d.is_name ∙ ap (λ (x : List Symbol). Name (number_of words r.name) ∷ Sign mark.Colon ∷ x) (front_of sides S a)) in
+        let fit : AreFit limit IsUsed false used = (tt, comparison_fit limit small IsUsed words names names parameter_used variable_used adaptive_used r.left r.relation r.right h k) in
+        assemble limit sorts IsUsed (λ k used. used) whole head used a.over s cut refl (tt, (tt, refl)) fit refl refl
+        (ending_answers limit IsUsed whole head used a.over s is cut (tt, (tt, refl)) fit refl) a.known is
 
   -- ---- lines over the parameters
   module _ (names : Naming) (known : AreKnown words sorts (parameters_only names)) where
@@ -298,24 +400,33 @@ module _ (limit : ℕ) (small : limit < 2 ^ 62) (words : List (List ℕ)) (sorts
     no_adaptive : (y : ℕ) → y < length (parameters_only names).adaptives → ReadFit limit small (OfSet sorts) words (name_at names.adaptives y ∷ [])
     no_adaptive y h = absurd (omega arith)
 
-    pub set_clear : (m : RobustModel) (c : model.SetLine) → IsReadableSetLine limit names c → IsSetLine m c → HasDistinctMembers c
-        → (s : Statement) → IsStatement (symbols_on words (set_words names c)) s → AreClear limit sorts (symbols_on words (set_words names c)) s
-    set_clear m (model.line left r right) h of_set apart s is =
+    front_so : (ws : List Written) (S : ℕ) (a : IsAnswer names.sets S) → symbols_on words (ws ++ over_words names.sets S) ≡ symbols_on words ws ++ spell_over a.over
+    front_so ws S a = symbols_append words ws (over_words names.sets S) ∙ ap (λ (l : List Symbol). symbols_on words ws ++ l) a.spelled
+
+    pub set_clear : (m : RobustModel) (c : model.SetLine) → IsReadableSetLine limit names c → IsSetLine m c → HasDistinctMembers c → (S : ℕ) → IsAnswer names.sets S
+        → (s : Statement) → IsStatement (symbols_on words (set_words names c ++ over_words names.sets S)) s
+        → AreClear limit sorts (symbols_on words (set_words names c ++ over_words names.sets S)) s
+    set_clear m (model.line left r right) h of_set apart S a s is =
         let fit = comparison_fit limit small (OfSet sorts) words names (parameters_only names) parameter_fit no_variable no_adaptive left r right
         (no_decision limit names m left h.0 of_set.0.1) (no_decision limit names m right h.1 of_set.1.1) in
         let used = symbols_on words (comparison_words names left r right) in
-        assemble limit sorts (OfSet sorts) (λ k fine. fine.0) (symbols_on words (set_words names (model.line left r right))) (Reserved word.Set ∷ []) used s
-        refl refl (tt, refl) fit refl (undecided limit sorts used fit) is
-    set_clear m (model.budget bound []) h of_set apart s is = absurd h
-    set_clear m (model.budget bound (x ∷ xs)) h of_set apart s is =
+        let whole = symbols_on words (set_words names (model.line left r right) ++ over_words names.sets S) in
+        let head = Reserved word.Set ∷ [] in
+        let cut : whole ≡ head ++ (used ++ spell_over a.over) = ap (λ (l : List Symbol). Reserved word.Set ∷ l) (front_so (comparison_words names left r right) S a) in
+        assemble limit sorts (OfSet sorts) (λ k fine. fine.0) whole head used a.over s cut refl (tt, refl) fit refl (undecided limit sorts used fit)
+        (ending_answers limit (OfSet sorts) whole head used a.over s is cut (tt, refl) fit refl) a.known is
+    set_clear m (model.budget bound []) h of_set apart S a s is = absurd h
+    set_clear m (model.budget bound (x ∷ xs)) h of_set apart S a s is =
         let all = full m (x ∷ xs) h.1 of_set in
         let members = listed (member_words names) true (x ∷ xs) in
         let fit = both limit small (OfSet sorts) words (number_words bound) (sign mark.Colon ∷ members) (number_fit limit small (OfSet sorts) words bound h.0.0)
         (tt, list_fit limit small (OfSet sorts) words (member_words names) IsFull member_fit true (x ∷ xs) all) in
         let used = symbols_on words (number_words bound ++ sign mark.Colon ∷ members) in
-        assemble limit sorts (OfSet sorts) (λ k fine. fine.0) (symbols_on words (set_words names (model.budget bound (x ∷ xs))))
-        (Reserved word.Budget ∷ []) used s
-        refl refl (tt, refl) fit (budget_once bound (x ∷ xs) h.0.0 all apart) (undecided limit sorts used fit) is
+        let whole = symbols_on words (set_words names (model.budget bound (x ∷ xs)) ++ over_words names.sets S) in
+        let head = Reserved word.Budget ∷ [] in
+        let cut : whole ≡ head ++ (used ++ spell_over a.over) = ap (λ (l : List Symbol). Reserved word.Budget ∷ l) (front_so (number_words bound ++ sign mark.Colon ∷ members) S a) in
+        assemble limit sorts (OfSet sorts) (λ k fine. fine.0) whole head used a.over s cut refl (tt, refl) fit (budget_once bound (x ∷ xs) h.0.0 all apart) (undecided limit sorts used fit)
+        (ending_answers limit (OfSet sorts) whole head used a.over s is cut (tt, refl) fit refl) a.known is
 
     -- ---- adaptive variables
     abbrev name_only : ℕ → List Written
@@ -344,6 +455,7 @@ module _ (limit : ℕ) (small : limit < 2 ^ 62) (words : List (List ℕ)) (sorts
               (tt, bounds_fit limit small (OfSet sorts) words y.lower y.upper l u),
         ) in
         assemble limit sorts (OfSet sorts) (λ k fine. fine.0) (symbols_on words (adaptive_words names y))
-        (Reserved word.Adaptive ∷ Name (number_of words y.name) ∷ []) used s
-        (ap (λ (x : List Symbol). Reserved word.Adaptive ∷ x) (name_back words y.name (sign mark.Open ∷ behind) d.is_name)) refl (tt, (tt, refl)) fit
-        (list_once y.on y.lower y.upper all apart l u) (undecided limit sorts used fit) is
+        (Reserved word.Adaptive ∷ Name (number_of words y.name) ∷ []) used None s
+        (ap (λ (x : List Symbol). Reserved word.Adaptive ∷ x)
+        (name_back words y.name (sign mark.Open ∷ behind) d.is_name ∙ ap (λ (x : List Symbol). Name (number_of words y.name) ∷ x) (sym (append-nil used)))) refl (tt, (tt, refl)) fit
+        (list_once y.on y.lower y.upper all apart l u) (undecided limit sorts used fit) (plain_answers (symbols_on words (adaptive_words names y)) s is refl) refl is

@@ -105,6 +105,40 @@ module _ {M A : Type 0} (mark : M → Symbol) (one : (m n : M) → mark m ≡ ma
       (λ (none : (m : M) (behind : List Symbol) → symbols ≡ mark m ∷ behind → ⊥). inr (λ other end same stop. none other.lead (spell other.part ++ end) same))
       first
 
+-- two parts, the second of which may be nothing
+module _ {A B : Type 0} (spell_a : A → List Symbol) (more : Symbol → Bool) (spell_b : B → List Symbol) (P : List Symbol → Type 0)
+    (stops : (b : B) (end : List Symbol) → P end → Stops more (spell_b b ++ end)) where
+  pub record Two : Type 0 where
+    pub first : A
+    pub last : B
+
+  abbrev pub spell_two : Two → List Symbol
+  spell_two t = spell_a t.first ++ spell_b t.last
+
+  pub two_settled : (symbols : List Symbol) → Settled spell_a (Stops more) symbols → ((rest : List Symbol) → Settled spell_b P rest) → Settled spell_two P symbols
+  two_settled symbols first last =
+      ⊎_elim
+      (λ (a : Seen spell_a (Stops more) symbols).
+      ⊎_elim
+      (λ (b : Seen spell_b P a.rest). inl (record {
+        rest = b.rest;
+        item = record { first = a.item; last = b.item };
+        found = record {
+          spelled = a.found.spelled ∙ ap (λ (l : List Symbol). spell_a a.item ++ l) b.found.spelled ∙ sym (append_assoc (spell_a a.item) (spell_b b.item) b.rest);
+          only = λ other end same stop.
+              let one = a.found.only other.first (spell_b other.last ++ end) (same ∙ append_assoc (spell_a other.first) (spell_b other.last) end) (stops other.last end stop) in
+              let two = b.found.only other.last end (sym one.1) stop in
+              ((λ i. record { first = one.0 i; last = two.0 i }), two.1);
+        };
+      }))
+      (λ (missing : MissingAs spell_b P a.rest). inr (λ other end same stop.
+      let one = a.found.only other.first (spell_b other.last ++ end) (same ∙ append_assoc (spell_a other.first) (spell_b other.last) end) (stops other.last end stop) in
+      missing other.last end (sym one.1) stop))
+      (last a.rest))
+      (λ (missing : MissingAs spell_a (Stops more) symbols). inr (λ other end same stop.
+      missing other.first (spell_b other.last ++ end) (same ∙ append_assoc (spell_a other.first) (spell_b other.last) end) (stops other.last end stop)))
+      first
+
 -- two parts with a mark between them
 module _ {A M B : Type 0} (spell_a : A → List Symbol) (more : Symbol → Bool) (mark : M → Symbol) (stops : (m : M) → more (mark m) ≡ false) (one : (m n : M) → mark m ≡ mark n → m ≡ n) (spell_b : B → List Symbol) where
   pub record Three : Type 0 where

@@ -12,10 +12,10 @@ use Rattle.rob_parse.specs.declared.syntax.Statement.{Statement}
 use Rattle.rob_parse.specs.declared.syntax.Statement.TheVariants as parsed
 use Rattle.rob_parse.specs.Degrees.{sort_at}
 use Rattle.rob_parse.specs.Faults.{is_declared}
-use Rattle.rob_parse.specs.Models.{word_of, parameters, variables, adaptives, rows, model_of}
+use Rattle.rob_parse.specs.Models.{goal_in, line_sets, objective_set, row_sets, sets, written_of, word_of, parameters, variables, adaptives, rows, model_of}
 use Rattle.rob_parse.specs.Reading.{Follows}
 use Rattle.rob_parse.specs.Scopes.{Earlier, behind, start, declared_by, declare}
-use Rattle.rob_parse.proofs.AloneNames.{declared_alone}
+use Rattle.rob_parse.proofs.InSets.{names_taken, parameters_are}
 use Rattle.rob_parse.proofs.SortLemmas.{is_new}
 use Rattle.rob_parse.proofs.WordSetLemmas.{distinct_between}
 use Rattle.rob_parse.proofs.NamedLemmas.{IsNumber, IsSound, IsDeclared, declared_sound}
@@ -24,6 +24,10 @@ use Rattle.rob_parse.proofs.NamedLemmas.{IsNumber, IsSound, IsDeclared, declared
 unfoldable pub parameter_numbers : Statement → List ℕ
 parameter_numbers (parsed.Uncertain d) = d.name ∷ []
 parameter_numbers _ = []
+
+unfoldable pub set_numbers : Statement → List ℕ
+set_numbers (parsed.Over k) = k ∷ []
+set_numbers _ = []
 
 unfoldable pub variable_numbers : Statement → List ℕ
 variable_numbers (parsed.Var d) = d.name ∷ []
@@ -39,17 +43,18 @@ row_numbers _ = []
 
 -- all of them
 unfoldable pub numbers : List Statement → List ℕ
-numbers list = flat_map parameter_numbers list ++ (flat_map row_numbers list ++ (flat_map variable_numbers list ++ flat_map adaptive_numbers list))
+numbers list = flat_map parameter_numbers list ++ (flat_map set_numbers list ++ (flat_map row_numbers list ++ (flat_map variable_numbers list ++ flat_map adaptive_numbers list)))
 
-flat_names : {A B C D : Type 0} (f : A → List B) (n : B → D) (g : A → List C) (h : C → D) → ((x : A) → map n (f x) ≡ map h (g x)) → (xs : List A) → map n (flat_map f xs) ≡ map h (flat_map g xs)
+pub flat_names : {A B C D : Type 0} (f : A → List B) (n : B → D) (g : A → List C) (h : C → D) → ((x : A) → map n (f x) ≡ map h (g x)) → (xs : List A) → map n (flat_map f xs) ≡ map h (flat_map g xs)
 flat_names f n g h same [] = refl
 flat_names f n g h same (x ∷ xs) =
     map-append n (f x) (flat_map f xs) ∙ (λ i. same x i ++ flat_names f n g h same xs i) ∙ sym (map-append h (g x) (flat_map g xs))
 
 module _ (words : List (List ℕ)) (sorts : List (Option Sort)) where
-  parameter_names_are : (s : Statement) → map (λ (p : model.Parameter). p.name) (parameters words s) ≡ map (word_of words) (parameter_numbers s)
+  pub parameter_names_are : (s : Statement) → map (λ (p : model.Parameter). p.name) (parameters words s) ≡ map (word_of words) (parameter_numbers s)
   unfolding parameter_numbers
   parameter_names_are (parsed.Uncertain d) = refl
+  parameter_names_are (parsed.Over k) = refl
   parameter_names_are (parsed.Set r) = refl
   parameter_names_are (parsed.Budget b) = refl
   parameter_names_are (parsed.Var d) = refl
@@ -57,9 +62,10 @@ module _ (words : List (List ℕ)) (sorts : List (Option Sort)) where
   parameter_names_are (parsed.Goal g) = refl
   parameter_names_are (parsed.Row r) = refl
 
-  variable_names_are : (s : Statement) → map (λ (x : model.Variable). x.name) (variables words s) ≡ map (word_of words) (variable_numbers s)
+  pub variable_names_are : (s : Statement) → map (λ (x : model.Variable). x.name) (variables words s) ≡ map (word_of words) (variable_numbers s)
   unfolding variable_numbers
   variable_names_are (parsed.Uncertain d) = refl
+  variable_names_are (parsed.Over k) = refl
   variable_names_are (parsed.Set r) = refl
   variable_names_are (parsed.Budget b) = refl
   variable_names_are (parsed.Var d) = refl
@@ -67,9 +73,10 @@ module _ (words : List (List ℕ)) (sorts : List (Option Sort)) where
   variable_names_are (parsed.Goal g) = refl
   variable_names_are (parsed.Row r) = refl
 
-  adaptive_names_are : (s : Statement) → map (λ (y : model.AdaptiveVariable). y.name) (adaptives words sorts s) ≡ map (word_of words) (adaptive_numbers s)
+  pub adaptive_names_are : (s : Statement) → map (λ (y : model.AdaptiveVariable). y.name) (adaptives words sorts s) ≡ map (word_of words) (adaptive_numbers s)
   unfolding adaptive_numbers
   adaptive_names_are (parsed.Uncertain d) = refl
+  adaptive_names_are (parsed.Over k) = refl
   adaptive_names_are (parsed.Set r) = refl
   adaptive_names_are (parsed.Budget b) = refl
   adaptive_names_are (parsed.Var d) = refl
@@ -77,9 +84,10 @@ module _ (words : List (List ℕ)) (sorts : List (Option Sort)) where
   adaptive_names_are (parsed.Goal g) = refl
   adaptive_names_are (parsed.Row r) = refl
 
-  row_names_are : (s : Statement) → map (λ (r : model.Row). r.name) (rows words sorts s) ≡ map (word_of words) (row_numbers s)
+  pub row_names_are : (s : Statement) → map (λ (r : model.Row). r.name) (rows words sorts s) ≡ map (word_of words) (row_numbers s)
   unfolding row_numbers
   row_names_are (parsed.Uncertain d) = refl
+  row_names_are (parsed.Over k) = refl
   row_names_are (parsed.Set r) = refl
   row_names_are (parsed.Budget b) = refl
   row_names_are (parsed.Var d) = refl
@@ -87,23 +95,42 @@ module _ (words : List (List ℕ)) (sorts : List (Option Sort)) where
   row_names_are (parsed.Goal g) = refl
   row_names_are (parsed.Row r) = refl
 
+  set_names_are : (s : Statement) → sets words s ≡ map (word_of words) (set_numbers s)
+  unfolding set_numbers
+  set_names_are (parsed.Uncertain d) = refl
+  set_names_are (parsed.Over k) = refl
+  set_names_are (parsed.Set r) = refl
+  set_names_are (parsed.Budget b) = refl
+  set_names_are (parsed.Var d) = refl
+  set_names_are (parsed.Adaptive p) = refl
+  set_names_are (parsed.Goal g) = refl
+  set_names_are (parsed.Row r) = refl
+
+  pub flat_sets : (list : List Statement) → flat_map (sets words) list ≡ map (word_of words) (flat_map set_numbers list)
+  flat_sets [] = refl
+  flat_sets (s ∷ list) = (λ i. set_names_are s i ++ flat_sets list i) ∙ sym (map-append (word_of words) (set_numbers s) (flat_map set_numbers list))
+
   -- the declared names of the model are the words of these numbers
   pub declared_are : (list : List Statement) → declared_names (model_of words sorts list) ≡ map (word_of words) (numbers list)
   unfolding numbers
   declared_are list =
       let w = word_of words in
       let p = flat_map parameter_numbers list in
+      let s = flat_map set_numbers list in
       let r = flat_map row_numbers list in
       let v = flat_map variable_numbers list in
       let a = flat_map adaptive_numbers list in
-      declared_alone (model_of words sorts list) refl
+      (λ i. map (λ (x : model.Parameter). x.name) (parameters_are (written_of words sorts list) refl (flat_map (sets words) list) (flat_map (line_sets sorts) list) (objective_set sorts (goal_in list)) (flat_map (row_sets sorts) list) i)
+      ++ (flat_map (sets words) list ++ (names_taken (length (flat_map (parameters words) list)) (flat_map (rows words sorts) list) (flat_map (row_sets sorts) list) i
+      ++ (map (λ (x : model.Variable). x.name) (flat_map (variables words) list) ++ map (λ (x : model.AdaptiveVariable). x.name) (flat_map (adaptives words sorts) list)))))
       ∙ (λ i. flat_names (parameters words) (λ (x : model.Parameter). x.name) parameter_numbers w parameter_names_are list i
-      ++ (flat_names (rows words sorts) (λ (x : model.Row). x.name) row_numbers w row_names_are list i
+      ++ (flat_sets list i ++ (flat_names (rows words sorts) (λ (x : model.Row). x.name) row_numbers w row_names_are list i
       ++ (flat_names (variables words) (λ (x : model.Variable). x.name) variable_numbers w variable_names_are list i
-      ++ flat_names (adaptives words sorts) (λ (x : model.AdaptiveVariable). x.name) adaptive_numbers w adaptive_names_are list i)))
-      ∙ (λ i. map w p ++ (map w r ++ sym (map-append w v a) i))
-      ∙ (λ i. map w p ++ sym (map-append w r (v ++ a)) i)
-      ∙ sym (map-append w p (r ++ (v ++ a)))
+      ++ flat_names (adaptives words sorts) (λ (x : model.AdaptiveVariable). x.name) adaptive_numbers w adaptive_names_are list i))))
+      ∙ (λ i. map w p ++ (map w s ++ (map w r ++ sym (map-append w v a) i)))
+      ∙ (λ i. map w p ++ (map w s ++ sym (map-append w r (v ++ a)) i))
+      ∙ (λ i. map w p ++ sym (map-append w s (r ++ (v ++ a))) i)
+      ∙ sym (map-append w p (s ++ (r ++ (v ++ a))))
 
 -- ---- what is true of the numbers behind a statement is true in front of it
 module _ (P : ℕ → Type 0) where
@@ -117,25 +144,35 @@ data Puts (old new : List ℕ) (d : Option (ℕ × Sort)) : Type 0 where
   one : (k : ℕ) (v : Sort) (xs ys : List ℕ) → d ≡ Some (k, v) → old ≡ xs ++ ys → new ≡ xs ++ k ∷ ys → Puts old new d
 
 puts : (e : Earlier) (s : Statement) (list : List Statement) → Puts (numbers list) (numbers (s ∷ list)) (declared_by e.sizes s)
-unfolding numbers parameter_numbers row_numbers variable_numbers adaptive_numbers
+unfolding numbers parameter_numbers set_numbers row_numbers variable_numbers adaptive_numbers
 puts e (parsed.Uncertain d) list = one d.name _ [] (numbers list) refl refl refl
 puts e (parsed.Set r) list = none refl
 puts e (parsed.Budget b) list = none refl
 puts e (parsed.Goal g) list = none refl
-puts e (parsed.Row r) list = one r.name _ (flat_map parameter_numbers list) (flat_map row_numbers list ++ (flat_map variable_numbers list ++ flat_map adaptive_numbers list)) refl refl refl
+puts e (parsed.Over k) list =
+    one k _ (flat_map parameter_numbers list) (flat_map set_numbers list ++ (flat_map row_numbers list ++ (flat_map variable_numbers list ++ flat_map adaptive_numbers list))) refl refl refl
+puts e (parsed.Row r) list =
+    let p = flat_map parameter_numbers list in
+    let s = flat_map set_numbers list in
+    let rest = flat_map row_numbers list ++ (flat_map variable_numbers list ++ flat_map adaptive_numbers list) in
+    one r.name _ (p ++ s) rest refl (sym (append_assoc p s rest)) (sym (append_assoc p s (r.name ∷ rest)))
 puts e (parsed.Var d) list =
     let p = flat_map parameter_numbers list in
+    let s = flat_map set_numbers list in
     let r = flat_map row_numbers list in
     let rest = flat_map variable_numbers list ++ flat_map adaptive_numbers list in
-    one d.name _ (p ++ r) rest refl (sym (append_assoc p r rest)) (sym (append_assoc p r (d.name ∷ rest)))
+    one d.name _ (p ++ (s ++ r)) rest refl
+    ((λ i. p ++ sym (append_assoc s r rest) i) ∙ sym (append_assoc p (s ++ r) rest))
+    ((λ i. p ++ sym (append_assoc s r (d.name ∷ rest)) i) ∙ sym (append_assoc p (s ++ r) (d.name ∷ rest)))
 puts e (parsed.Adaptive y) list =
     let p = flat_map parameter_numbers list in
+    let s = flat_map set_numbers list in
     let r = flat_map row_numbers list in
     let v = flat_map variable_numbers list in
     let a = flat_map adaptive_numbers list in
-    one y.name _ (p ++ (r ++ v)) a refl
-    ((λ i. p ++ sym (append_assoc r v a) i) ∙ sym (append_assoc p (r ++ v) a))
-    ((λ i. p ++ sym (append_assoc r v (y.name ∷ a)) i) ∙ sym (append_assoc p (r ++ v) (y.name ∷ a)))
+    one y.name _ (p ++ (s ++ (r ++ v))) a refl
+    ((λ i. p ++ (s ++ sym (append_assoc r v a) i)) ∙ (λ i. p ++ sym (append_assoc s (r ++ v) a) i) ∙ sym (append_assoc p (s ++ (r ++ v)) a))
+    ((λ i. p ++ (s ++ sym (append_assoc r v (y.name ∷ a)) i)) ∙ (λ i. p ++ sym (append_assoc s (r ++ v) (y.name ∷ a)) i) ∙ sym (append_assoc p (s ++ (r ++ v)) (y.name ∷ a)))
 
 -- ---- each name is declared once
 set_there : (sorts : List (Option Sort)) (i : ℕ) (v : Sort) → i < length sorts → sort_at (set sorts i (Some v)) i ≡ Some v
@@ -150,7 +187,7 @@ set_new (o ∷ sorts) zero (suc k) v h = h
 set_new (o ∷ sorts) (suc i) zero v h = h
 set_new (o ∷ sorts) (suc i) (suc k) v h = set_new sorts i k v h
 
-declare_length : (sorts : List (Option Sort)) (d : Option (ℕ × Sort)) → length (declare sorts d) ≡ length sorts
+pub declare_length : (sorts : List (Option Sort)) (d : Option (ℕ × Sort)) → length (declare sorts d) ≡ length sorts
 declare_length sorts None = refl
 declare_length sorts (Some d) = length-set sorts d.0 (Some d.1)
 

@@ -8,6 +8,7 @@ use Rattle.rob_meaning.specs.Expressions.{Expression, Terms, Factors}
 use Rattle.rob_meaning.specs.RobustModel.{RobustModel, list_of}
 use Rattle.rob_meaning.specs.WellFormed.{IsInside, TermsInside, FactorsInside}
 use Rattle.rob_parse.specs.declared.sort.Sort.{Sort}
+use Rattle.rob_parse.specs.declared.sort.Sort.TheVariants as sort
 use Rattle.rob_parse.specs.declared.sort.Sort.TheVariants.{Parameter, Decision, Policy, RowName}
 use Rattle.rob_parse.specs.Degrees.{Degree, sort_at, degree_of_sort, times, degree, sum_degree, product_degree, products, sum_products, more_products}
 use Rattle.rob_parse.specs.Faults.{has_two_decisions, has_two_uncertain, has_random_recourse, is_usable, is_decision}
@@ -100,6 +101,7 @@ module _ (m : RobustModel) (sorts before : List (Option Sort)) where
   named_linear (Some (Policy j true)) usable names = record { inside = names.0; linear = tt; uncertain_is = names.1; decision_is = refl; uncertain = omega arith; decision = omega arith }
   named_linear (Some (Policy j false)) usable names = record { inside = names.0; linear = tt; uncertain_is = names.1; decision_is = refl; uncertain = omega arith; decision = omega arith }
   named_linear (Some RowName) usable names = cc
+  named_linear (Some (sort.Set S)) usable names = cc
   named_linear None usable names = cc
 
   mutual
@@ -170,6 +172,7 @@ module _ (m : RobustModel) (sorts before : List (Option Sort)) where
         no_degree (Some (Decision j)) h = cc
         no_degree (Some (Policy j d)) h = cc
         no_degree (Some RowName) h = refl
+        no_degree (Some (sort.Set S)) h = refl
         no_degree None h = refl
     without_decision (sum ts) none = without_summands ts none
     without_decision (product fs) none = without_operands fs none

@@ -1,5 +1,5 @@
 -- Where no digits of value 0 stand behind `by`, deviations are positive.
-use Rattle.std.proofs.Common.{◌≡◌, ℕ, zero, suc, ◌<◌, false, List, [], ◌∷◌, ◌++◌, arith}
+use Rattle.std.proofs.Common.{◌≡◌, ℕ, zero, suc, ◌<◌, false, List, [], ◌∷◌, ◌++◌, subst, append_assoc, arith}
 use Rattle.std.specs.Prelude.{◌&&◌, ◌==◌, pos, unwrap_or, ◌<ℤ◌}
 use Rattle.std.proofs.lemmas.Int.{ints}
 use Rattle.rob_algebra.specs.Fraction.{is_of_pair, ◌<ℚ◌}
@@ -51,8 +51,10 @@ deviation_positive limit h rest fine fits =
         go [] fine = (neither _ _ fine).0
         go (x ∷ xs) fine = go xs (behind_first x ((xs ++ Reserved word.By ∷ spell_number h.spread.deviation) ++ rest) fine)
 
-pub deviations_positive : (limit : ℕ) (ms : List Member) → Deviates (spell_more spell_member ms) → Each (FitsMember limit) ms → Each (λ (h : Member). 0ℚ <ℚ fraction h.spread.deviation) ms
-deviations_positive limit [] fine fits = tt
-deviations_positive limit (h ∷ ms) fine fits =
-    let rest = behind_first (Sign mark.Comma) (spell_member h ++ spell_more spell_member ms) fine in
-    (deviation_positive limit h (spell_more spell_member ms) rest fits.0, deviations_positive limit ms (behind_front (spell_member h) (spell_more spell_member ms) rest) fits.1)
+pub deviations_positive : (limit : ℕ) (ms : List Member) (end : List Symbol) → Deviates (spell_more spell_member ms ++ end) → Each (FitsMember limit) ms → Each (λ (h : Member). 0ℚ <ℚ fraction h.spread.deviation) ms
+deviations_positive limit [] end fine fits = tt
+deviations_positive limit (h ∷ ms) end fine fits =
+    let more = spell_more spell_member ms in
+    let rest = behind_first (Sign mark.Comma) (spell_member h ++ (more ++ end))
+    (subst (λ (xs : List Symbol). Deviates (Sign mark.Comma ∷ xs)) (append_assoc (spell_member h) more end) fine) in
+    (deviation_positive limit h (more ++ end) rest fits.0, deviations_positive limit ms end (behind_front (spell_member h) (more ++ end) rest) fits.1)

@@ -1,26 +1,24 @@
 -- The words of an expression are read as an expression of the grammar, whose tree is that expression.
-use Rattle.std.proofs.Common.{◌≡◌, ℕ, ◌^◌, ◌<◌, Bool, true, false, List, [], ◌∷◌, ◌++◌, map, get_or, refl, sym, ap, ◌∙◌, subst, append-nil, append_assoc}
-use Rattle.std.specs.Prelude.{Option, Some, None, if◌then◌else◌}
+use Rattle.std.proofs.Common.{◌≡◌, ℕ, ◌^◌, ◌<◌, Bool, true, false, List, [], ◌∷◌, ◌++◌, map, get_or, refl, sym, ap, ◌∙◌, append-nil}
+use Rattle.std.specs.Prelude.{Option, Some, if◌then◌else◌}
 use Rattle.std.proofs.lemmas.Grind.{flat_map-append}
-use Rattle.rob_algebra.specs.Fraction.{Fraction}
 use Rattle.rob_meaning.specs.Expressions as meaning
 use Rattle.rob_parse.specs.declared.sort.Sort.{Sort}
 use Rattle.rob_parse.specs.declared.sort.Sort.TheVariants.{Parameter, Decision, Policy}
 use Rattle.rob_parse.specs.declared.symbol.Symbol.{Symbol}
 use Rattle.rob_parse.specs.declared.symbol.Symbol.TheVariants.{Name, Sign}
-use Rattle.rob_parse.specs.declared.symbol.Mark.{Mark}
 use Rattle.rob_parse.specs.declared.symbol.Mark.TheVariants as mark
 use Rattle.rob_parse.specs.declared.syntax.Syntax.{Syntax}
 use Rattle.rob_parse.specs.declared.syntax.Syntax.TheVariants as syntax
 use Rattle.rob_parse.specs.declared.syntax.Summand.{Summand}
-use Rattle.rob_parse.specs.Canonical.{Written, name, sign, bytes_of, Naming, expression_words, term_words, factor_words, is_sum, is_compound, enclosed, paren, lead, times}
+use Rattle.rob_parse.specs.Canonical.{Written, name, sign, bytes_of, Naming, expression_words, term_words, factor_words, is_sum, is_compound, enclosed, lead}
 use Rattle.rob_parse.specs.Grammar.{Factor, Factors, Term, Terms, Expr, number, parens, no_factors, times as g_times, term, no_terms, signed, expr, name as g_name, spell_minus, sign_of, spell_factor, spell_factors, spell_term, spell_terms, spell_expr, tree_factor, tree_factors, tree_term, tree_terms, tree_expr}
 use Rattle.rob_parse.specs.Models.{expression, terms, factors, named}
 use Rattle.rob_parse.specs.Pages.{kind_of, symbols_on}
-use Rattle.rob_parse.specs.Readable.{IsReadable, TermsReadable, FactorsReadable, IsRealSum, IsRealProduct, StandsFor, AreKnown, IsReadBack}
+use Rattle.rob_parse.specs.Readable.{IsReadable, TermsReadable, FactorsReadable, StandsFor, AreKnown, IsReadBack}
 use Rattle.rob_lex.specs.declared.token.Kind.TheVariants as kind
 use Rattle.rob_parse.specs.Symbols.{number_of, symbol_at}
-use Rattle.rob_parse.specs.Trees.{Tree, Part, tree_of, part_of, summands_of, operands_of}
+use Rattle.rob_parse.specs.Trees.{Part, tree_of, part_of, summands_of, operands_of}
 use Rattle.rob_parse.proofs.NumberText.{numeral_of, number_back, fraction_back}
 use Rattle.rob_parse.proofs.TreeLemmas.{number_is, name_is, sum_is, product_is}
 use Rattle.rob_parse.proofs.WalkLemmas.{part_is}
@@ -28,21 +26,6 @@ use Rattle.rob_parse.proofs.WalkLemmas.{part_is}
 -- the symbols of words behind words
 pub symbols_append : (words : List (List ℕ)) (xs ys : List Written) → symbols_on words (xs ++ ys) ≡ symbols_on words xs ++ symbols_on words ys
 symbols_append words xs ys = flat_map-append (λ w. symbol_at words (kind_of w) (bytes_of w)) xs ys
-
-sign_back : (words : List (List ℕ)) (m : Mark) → symbols_on words (sign m ∷ []) ≡ Sign m ∷ []
-sign_back words mark.Plus = refl
-sign_back words mark.Minus = refl
-sign_back words mark.Star = refl
-sign_back words mark.Slash = refl
-sign_back words mark.Open = refl
-sign_back words mark.Close = refl
-sign_back words mark.OpenBracket = refl
-sign_back words mark.CloseBracket = refl
-sign_back words mark.Comma = refl
-sign_back words mark.Colon = refl
-sign_back words mark.Equal = refl
-sign_back words mark.AtMost = refl
-sign_back words mark.AtLeast = refl
 
 -- a sum of several terms, or of one that is subtracted, is a `Sum`
 abbrev IsReal : Bool → Terms → Type 0

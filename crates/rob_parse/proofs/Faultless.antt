@@ -1,6 +1,6 @@
 -- What the statements of canonical lines keep: the names and the degrees of their expressions, and the sizes in front of them.
 use Rattle.std.proofs.Common.{◌≡◌, ℕ, Bool, true, List, [], ◌∷◌, ◌++◌, map, refl, sym, ap, ◌∙◌, subst, append-nil, append_assoc}
-use Rattle.std.specs.Prelude.{drop, fold, Option, None}
+use Rattle.std.specs.Prelude.{fold, Option, None}
 use Rattle.std.specs.List.{flat_map}
 use Rattle.rob_meaning.proofs.EachLemmas.{each_left, each_right}
 use Rattle.rob_meaning.specs.Degrees.{IsLinear}
@@ -17,7 +17,7 @@ use Rattle.rob_parse.specs.declared.syntax.Goal.{Goal}
 use Rattle.rob_parse.specs.declared.syntax.Statement.{Statement}
 use Rattle.rob_parse.specs.declared.syntax.Statement.TheVariants as parsed
 use Rattle.rob_parse.specs.Canonical.{Written}
-use Rattle.rob_parse.specs.Faults.{head_length, expressions, first_fault}
+use Rattle.rob_parse.specs.Faults.{used, expressions, first_fault}
 use Rattle.rob_parse.specs.Grammar.{spell_expr}
 use Rattle.rob_parse.specs.Models.{expression, adaptives, set_lines, rows}
 use Rattle.rob_parse.specs.Pages.{symbols_on}
@@ -25,8 +25,9 @@ use Rattle.rob_parse.specs.Readable.{AreStatements}
 use Rattle.rob_parse.specs.Reading.{Follows}
 use Rattle.rob_parse.specs.Scopes.{Earlier, behind}
 use Rattle.rob_parse.specs.Sizes.{start_sizes, counted, is_within}
-use Rattle.rob_parse.specs.Statements.{IsStatement, Line, Sides, uncertain, set, budget, variable, adaptive, goal, row, spell_line, spell_sides, spell_rel, statement_of}
+use Rattle.rob_parse.specs.Statements.{IsStatement, Line, Sides, uncertain, over, set, budget, variable, adaptive, goal, row, spell_line, spell_rel, statement_of}
 use Rattle.rob_parse.specs.Trees.{tree_of}
+use Rattle.rob_parse.proofs.BareLines.{bare_sides, bare_line, used_is}
 use Rattle.rob_parse.proofs.CanonicalBlocks.{GoalIs}
 use Rattle.rob_parse.proofs.CanonicalWalk.{Walk}
 use Rattle.rob_parse.proofs.CanonicalSizes.{within_front}
@@ -39,25 +40,28 @@ use Rattle.rob_parse.proofs.UsedLemmas.{Free, IsFreeName, left, right, tail, fre
 
 -- ---- the names of a statement's expressions
 module _ (test : Symbol → Bool) where
-  free_sides : (s : Sides) → Free test (spell_sides s) → Each (EachName (IsFreeName test)) (expressions (statement_of (set s)))
+  free_sides : (s : Sides) → Free test (bare_sides s) → Each (EachName (IsFreeName test)) (expressions (statement_of (set s)))
   free_sides s free =
-      let rest = spell_rel s.rel ∷ spell_expr s.right in
-      (free_expr test s.left (left test (spell_expr s.left) rest free), (free_expr test s.right (tail test (spell_rel s.rel) (spell_expr s.right) (right test (spell_expr s.left) rest free)), tt))
+      let inner = s.right.inner in
+      let rest = spell_rel s.rel ∷ spell_expr inner in
+      (free_expr test s.left (left test (spell_expr s.left) rest free), (free_expr test inner (tail test (spell_rel s.rel) (spell_expr inner) (right test (spell_expr s.left) rest free)), tt))
 
-  free_line : (l : Line) → Free test (drop (head_length (statement_of l)) (spell_line l)) → Each (EachName (IsFreeName test)) (expressions (statement_of l))
+  free_line : (l : Line) → Free test (bare_line l) → Each (EachName (IsFreeName test)) (expressions (statement_of l))
   free_line (uncertain d) free = tt
+  free_line (over j) free = tt
   free_line (set s) free = free_sides s free
   free_line (budget b) free = tt
   free_line (variable d) free = tt
   free_line (adaptive p) free = tt
-  free_line (goal sense x) free = (free_expr test x free, tt)
-  free_line (row t) free = free_sides t.sides (tail test (Sign mark.Colon) (spell_sides t.sides) free)
+  free_line (goal sense x) free = (free_expr test x.inner free, tt)
+  free_line (row t) free = free_sides t.sides (tail test (Sign mark.Colon) (bare_sides t.sides) free)
 
-  pub free_expressions : (symbols : List Symbol) (s : Statement) → IsStatement symbols s → Free test (drop (head_length s) symbols)
+  pub free_expressions : (symbols : List Symbol) (s : Statement) → IsStatement symbols s → Free test (used symbols s)
       → Each (EachName (IsFreeName test)) (expressions s)
   free_expressions symbols s is free =
       subst (λ (t : Statement). Each (EachName (IsFreeName test)) (expressions t)) is.statement_is
-      (free_line is.line (subst (λ (t : Statement). Free test (drop (head_length t) (spell_line is.line))) (sym is.statement_is) (subst (λ (y : List Symbol). Free test (drop (head_length s) y)) is.spelled free)))
+      (free_line is.line (subst (Free test) (used_is is.line)
+      (subst (λ (t : Statement). Free test (used (spell_line is.line) t)) (sym is.statement_is) (subst (λ (y : List Symbol). Free test (used y s)) is.spelled free))))
 
 -- ---- the expressions of a well formed model's statements are linear
 pub each_flat_apart : {A B : Type 0} (P : B → Type 0) (f : A → List B) (xs : List A) → Each P (flat_map f xs) → Each (λ x. Each P (f x)) xs
@@ -71,6 +75,7 @@ module _ (m : RobustModel) (words : List (List ℕ)) (sorts : List (Option Sort)
   pub linear_statement : (g : Goal) → IsLinear m (expression sorts (tree_of g.objective)) → (s : Statement) → GoalIs g s → Each (IsSetLine m) (set_lines sorts s)
       → Each (λ (r : model.Row). IsExpression m r.left × IsExpression m r.right) (rows words sorts s) → IsLinearStatement s
   linear_statement g objective (parsed.Uncertain d) is h k = tt
+  linear_statement g objective (parsed.Over j) is h k = tt
   linear_statement g objective (parsed.Set r) is h k = (h.0.0.0.1, (h.0.1.0.1, tt))
   linear_statement g objective (parsed.Budget b) is h k = tt
   linear_statement g objective (parsed.Var d) is h k = tt

@@ -27,7 +27,7 @@ use Rattle.rob_parse.specs.Lists.{spell_more, spell_list}
 use Rattle.rob_parse.specs.Models.{goal_in}
 use Rattle.rob_parse.specs.Scopes.{Earlier, behind}
 use Rattle.rob_parse.specs.Reading.{Follows}
-use Rattle.rob_parse.specs.Statements.{IsStatement, Line, Sides, spell_line, statement_of, relation_of, spell_sides, spell_signed, spell_name, spell_optional, spell_member}
+use Rattle.rob_parse.specs.Statements.{spell_over, IsStatement, Line, Sides, spell_line, statement_of, relation_of, spell_sides, spell_signed, spell_name, spell_optional, spell_member}
 use Rattle.rob_parse.specs.Statements as line
 use Rattle.rob_parse.specs.Trees.{Part, tree_of, part_of, summands_of, operands_of}
 use Rattle.rob_parse.proofs.ReadingLemmas.{none_found}
@@ -164,20 +164,22 @@ module _ (limit : ℕ) (low : 1 ≤ limit) where
   fits_sides : (s : Sides) → Fine limit (spell_sides s) → FitsRelation limit (relation_of s)
   fits_sides s fine =
       let both = apart (spell_expr s.left) _ fine in
-      (fits_expr s.left both.0, fits_expr s.right (tail _ _ both.1))
+      (fits_expr s.left both.0, fits_expr s.right.inner (left (spell_expr s.right.inner) (spell_over s.right.over) (tail _ _ both.1)))
 
   fits_line : (l : Line) → Fine limit (spell_line l) → FitsStatement limit (statement_of l)
   fits_line (line.uncertain d) fine = fits_optional d.bounds (tail _ _ (tail _ _ fine))
+  fits_line (line.over k) fine = tt
   fits_line (line.set s) fine = fits_sides s (tail _ _ fine)
   fits_line (line.budget s) fine =
       let both = apart (spell_number s.limit) _ (tail _ _ fine) in
-      let members = apart (spell_member s.members.first) _ (tail _ _ both.1) in
+      let bare = left (spell_member s.members.first ++ spell_more spell_member s.members.more) (spell_over s.members.over) (tail _ _ both.1) in
+      let members = apart (spell_member s.members.first) (spell_more spell_member s.members.more) bare in
       (fits_number s.limit both.0, (fits_member s.members.first members.0, fits_more s.members.more members.1))
   fits_line (line.variable d) fine = fits_optional d.bounds (tail _ _ (tail _ _ fine))
   fits_line (line.adaptive p) fine =
       let behind = right (spell_list spell_name p.on) (Sign mark.Close ∷ spell_optional p.bounds) (tail _ _ (tail _ _ (tail _ _ fine))) in
       fits_optional p.bounds (tail _ _ behind)
-  fits_line (line.goal sense e) fine = fits_expr e (tail _ _ fine)
+  fits_line (line.goal sense e) fine = fits_expr e.inner (left (spell_expr e.inner) (spell_over e.over) (tail _ _ fine))
   fits_line (line.row t) fine = fits_sides t.sides (tail _ _ (tail _ _ (tail _ _ fine)))
 
   pub statement_fits : (e : Earlier) (symbols : List Symbol) (s : Statement) → IsStatement symbols s → first_fault limit e symbols s ≡ None → FitsStatement limit s
@@ -205,6 +207,7 @@ goal_there limit e ((x ∷ symbols) ∷ lines) [] f follows there none = absurd 
 goal_there limit e ((x ∷ symbols) ∷ lines) (parsed.Goal g ∷ list) f follows there none = refl
 goal_there limit e ((x ∷ symbols) ∷ lines) (parsed.Uncertain d ∷ list) f follows there none = goal_there limit (behind e (parsed.Uncertain d)) lines list f follows.2 there none
 goal_there limit e ((x ∷ symbols) ∷ lines) (parsed.Set r ∷ list) f follows there none = goal_there limit (behind e (parsed.Set r)) lines list f follows.2 there none
+goal_there limit e ((x ∷ symbols) ∷ lines) (parsed.Over k ∷ list) f follows there none = goal_there limit (behind e (parsed.Over k)) lines list f follows.2 there none
 goal_there limit e ((x ∷ symbols) ∷ lines) (parsed.Budget b ∷ list) f follows there none = goal_there limit (behind e (parsed.Budget b)) lines list f follows.2 there none
 goal_there limit e ((x ∷ symbols) ∷ lines) (parsed.Var d ∷ list) f follows there none = goal_there limit (behind e (parsed.Var d)) lines list f follows.2 there none
 goal_there limit e ((x ∷ symbols) ∷ lines) (parsed.Adaptive p ∷ list) f follows there none = goal_there limit (behind e (parsed.Adaptive p)) lines list f follows.2 there none

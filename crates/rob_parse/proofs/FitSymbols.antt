@@ -26,6 +26,7 @@ use Rattle.rob_parse.specs.Pages.{symbols_on}
 use Rattle.rob_parse.specs.Readable.{IsPlainNumber, IsBound, IsReadable, TermsReadable, FactorsReadable}
 use Rattle.rob_parse.specs.Symbols.{number_of, symbol_at}
 use Rattle.rob_parse.proofs.ExpressionText.{symbols_append}
+use Rattle.rob_parse.proofs.OverScan.{Passes, over_in}
 use Rattle.rob_parse.proofs.NumberText.{numeral_of, divisor_of, number_back, signed_back}
 
 -- the word `by`, or the sign `/`: no digits of value 0 stand behind it
@@ -33,6 +34,11 @@ abbrev pub is_strict : Symbol → Bool
 is_strict (Reserved word.By) = true
 is_strict (Sign mark.Slash) = true
 is_strict _ = false
+
+-- a keyword that doesn't stand in front of a line's set
+abbrev pub EndsNot : Keyword → Type 0
+EndsNot word.Over = ⊥
+EndsNot _ = Unit {0}
 
 -- digits within the limit, and positive where they must be
 abbrev pub FitsDigits : ℕ → Bool → ℕ → Type 0
@@ -45,7 +51,7 @@ module _ (limit : ℕ) (IsFine : ℕ → Type 0) where
   IsFit strict (Name k) = IsFine k
   IsFit strict (Digits n) = FitsDigits limit strict n
   IsFit strict (Sign m) = Unit {0}
-  IsFit strict (Reserved w) = Unit {0}
+  IsFit strict (Reserved w) = EndsNot w
 
   -- each symbol is so, and the last is neither `by` nor `/`; `strict` says whether one of these stands in front
   abbrev pub AreFit : Bool → List Symbol → Type 0
@@ -70,6 +76,29 @@ module _ (limit : ℕ) (IsFine : ℕ → Type 0) where
       first (Digits n) fine = numbers n
       first (Sign m) fine = signs m
       first (Reserved w) fine = keywords w
+
+  -- what is behind such symbols decides on the set
+  pub fit_passes : (strict : Bool) (xs : List Symbol) → AreFit strict xs → Passes xs
+  fit_passes strict [] fit end = refl
+  fit_passes strict (Name k ∷ xs) fit end = fit_passes false xs fit.1 end
+  fit_passes strict (Digits n ∷ xs) fit end = fit_passes false xs fit.1 end
+  fit_passes strict (Sign m ∷ xs) fit end = fit_passes (is_strict (Sign m)) xs fit.1 end
+  fit_passes strict (Reserved w ∷ xs) fit end = go w fit.0 (xs ++ end) ∙ fit_passes (is_strict (Reserved w)) xs fit.1 end
+    where
+      go : (w : Keyword) → EndsNot w → (rest : List Symbol) → over_in (Reserved w ∷ rest) ≡ over_in rest
+      go word.Over h rest = absurd h
+      go word.Uncertain h rest = refl
+      go word.Set h rest = refl
+      go word.Budget h rest = refl
+      go word.Var h rest = refl
+      go word.Adaptive h rest = refl
+      go word.Minimise h rest = refl
+      go word.Maximise h rest = refl
+      go word.Row h rest = refl
+      go word.In h rest = refl
+      go word.At h rest = refl
+      go word.By h rest = refl
+      go word.Unused h rest = refl
 
   not_over : (n : ℕ) → n ≤ limit → nat_lt limit n ≡ false
   not_over n h = grind (arith, nat_tests)
@@ -131,7 +160,7 @@ weaken limit P Q to strict (x ∷ xs) fit = (first x fit.0, weaken limit P Q to 
     first (Name k) fine = to k fine
     first (Digits n) fine = fine
     first (Sign m) fine = tt
-    first (Reserved w) fine = tt
+    first (Reserved w) fine = fine
 
 -- ---- the symbols of words
 pub name_back : (words : List (List ℕ)) (bytes : List ℕ) (rest : List Written) → symbol_at words kind.Word bytes ≡ Name (number_of words bytes) ∷ []

@@ -9,16 +9,16 @@ use Rattle.rob_parse.specs.declared.syntax.Declared.{Declared}
 use Rattle.rob_parse.specs.declared.syntax.Policy.{Policy}
 use Rattle.rob_parse.specs.declared.syntax.Sense.TheVariants as sense
 use Rattle.rob_parse.specs.declared.syntax.Statement.{Statement}
-use Rattle.rob_parse.specs.Grammar.{Expr, spell_expr}
 use Rattle.rob_parse.specs.Readers.{IsWhole, IsNone}
-use Rattle.rob_parse.specs.Statements.{Sides, Shares, Titled, Line, uncertain, set, budget, variable, adaptive, goal, row, spell_declared, spell_shares, spell_policy, spell_sides, spell_titled, spell_line, statement_of, IsStatement, IsNoStatement}
+use Rattle.rob_parse.specs.Statements.{Ending, Sides, Shares, Titled, Line, uncertain, over, set, budget, variable, adaptive, goal, row, spell_name, spell_ending, spell_declared, spell_shares, spell_policy, spell_sides, spell_titled, spell_line, statement_of, IsStatement, IsNoStatement}
 use Rattle.rob_parse.proofs.Decisions.{Settled, IsEmpty, whole_settled}
 use Rattle.rob_parse.proofs.LineDecisions.{declared_settled}
-use Rattle.rob_parse.proofs.StatementDecisions.{shares_settled, policy_settled, last_settled, sides_settled, titled_settled}
+use Rattle.rob_parse.proofs.StatementDecisions.{alone_settled, shares_settled, policy_settled, last_settled, sides_settled, titled_settled}
 
 -- a line begins with its keyword
 no_line : (l : Line) → [] ≡ spell_line l → ⊥
 no_line (uncertain d) same = cc
+no_line (over j) same = cc
 no_line (set d) same = cc
 no_line (budget d) same = cc
 no_line (variable d) same = cc
@@ -29,6 +29,7 @@ no_line (row d) same = cc
 
 no_name : (l : Line) (k : ℕ) (rest : List Symbol) → Name k ∷ rest ≡ spell_line l → ⊥
 no_name (uncertain d) k rest same = cc
+no_name (over j) k rest same = cc
 no_name (set d) k rest same = cc
 no_name (budget d) k rest same = cc
 no_name (variable d) k rest same = cc
@@ -39,6 +40,7 @@ no_name (row d) k rest same = cc
 
 no_digits : (l : Line) (k : ℕ) (rest : List Symbol) → Digits k ∷ rest ≡ spell_line l → ⊥
 no_digits (uncertain d) k rest same = cc
+no_digits (over j) k rest same = cc
 no_digits (set d) k rest same = cc
 no_digits (budget d) k rest same = cc
 no_digits (variable d) k rest same = cc
@@ -49,6 +51,7 @@ no_digits (row d) k rest same = cc
 
 no_sign : (l : Line) (m : Mark) (rest : List Symbol) → Sign m ∷ rest ≡ spell_line l → ⊥
 no_sign (uncertain d) m rest same = cc
+no_sign (over j) m rest same = cc
 no_sign (set d) m rest same = cc
 no_sign (budget d) m rest same = cc
 no_sign (variable d) m rest same = cc
@@ -59,6 +62,7 @@ no_sign (row d) m rest same = cc
 
 no_in : (l : Line) (rest : List Symbol) → Reserved word.In ∷ rest ≡ spell_line l → ⊥
 no_in (uncertain d) rest same = cc
+no_in (over j) rest same = cc
 no_in (set d) rest same = cc
 no_in (budget d) rest same = cc
 no_in (variable d) rest same = cc
@@ -69,6 +73,7 @@ no_in (row d) rest same = cc
 
 no_at : (l : Line) (rest : List Symbol) → Reserved word.At ∷ rest ≡ spell_line l → ⊥
 no_at (uncertain d) rest same = cc
+no_at (over j) rest same = cc
 no_at (set d) rest same = cc
 no_at (budget d) rest same = cc
 no_at (variable d) rest same = cc
@@ -79,6 +84,7 @@ no_at (row d) rest same = cc
 
 no_by : (l : Line) (rest : List Symbol) → Reserved word.By ∷ rest ≡ spell_line l → ⊥
 no_by (uncertain d) rest same = cc
+no_by (over j) rest same = cc
 no_by (set d) rest same = cc
 no_by (budget d) rest same = cc
 no_by (variable d) rest same = cc
@@ -89,6 +95,7 @@ no_by (row d) rest same = cc
 
 no_unused : (l : Line) (rest : List Symbol) → Reserved word.Unused ∷ rest ≡ spell_line l → ⊥
 no_unused (uncertain d) rest same = cc
+no_unused (over j) rest same = cc
 no_unused (set d) rest same = cc
 no_unused (budget d) rest same = cc
 no_unused (variable d) rest same = cc
@@ -99,6 +106,7 @@ no_unused (row d) rest same = cc
 
 of_uncertain : (l : Line) (rest : List Symbol) → Reserved word.Uncertain ∷ rest ≡ spell_line l → (a : Declared) × (l ≡ uncertain a) × (rest ≡ spell_declared a)
 of_uncertain (uncertain d) rest same = (d, refl, cc)
+of_uncertain (over j) rest same = cc
 of_uncertain (set d) rest same = cc
 of_uncertain (budget d) rest same = cc
 of_uncertain (variable d) rest same = cc
@@ -107,8 +115,20 @@ of_uncertain (goal sense.Minimise d) rest same = cc
 of_uncertain (goal sense.Maximise d) rest same = cc
 of_uncertain (row d) rest same = cc
 
+of_over : (l : Line) (rest : List Symbol) → Reserved word.Over ∷ rest ≡ spell_line l → (a : ℕ) × (l ≡ over a) × (rest ≡ spell_name a)
+of_over (uncertain d) rest same = cc
+of_over (over j) rest same = (j, refl, cc)
+of_over (set d) rest same = cc
+of_over (budget d) rest same = cc
+of_over (variable d) rest same = cc
+of_over (adaptive d) rest same = cc
+of_over (goal sense.Minimise d) rest same = cc
+of_over (goal sense.Maximise d) rest same = cc
+of_over (row d) rest same = cc
+
 of_set : (l : Line) (rest : List Symbol) → Reserved word.Set ∷ rest ≡ spell_line l → (a : Sides) × (l ≡ set a) × (rest ≡ spell_sides a)
 of_set (uncertain d) rest same = cc
+of_set (over j) rest same = cc
 of_set (set d) rest same = (d, refl, cc)
 of_set (budget d) rest same = cc
 of_set (variable d) rest same = cc
@@ -119,6 +139,7 @@ of_set (row d) rest same = cc
 
 of_budget : (l : Line) (rest : List Symbol) → Reserved word.Budget ∷ rest ≡ spell_line l → (a : Shares) × (l ≡ budget a) × (rest ≡ spell_shares a)
 of_budget (uncertain d) rest same = cc
+of_budget (over j) rest same = cc
 of_budget (set d) rest same = cc
 of_budget (budget d) rest same = (d, refl, cc)
 of_budget (variable d) rest same = cc
@@ -129,6 +150,7 @@ of_budget (row d) rest same = cc
 
 of_var : (l : Line) (rest : List Symbol) → Reserved word.Var ∷ rest ≡ spell_line l → (a : Declared) × (l ≡ variable a) × (rest ≡ spell_declared a)
 of_var (uncertain d) rest same = cc
+of_var (over j) rest same = cc
 of_var (set d) rest same = cc
 of_var (budget d) rest same = cc
 of_var (variable d) rest same = (d, refl, cc)
@@ -139,6 +161,7 @@ of_var (row d) rest same = cc
 
 of_adaptive : (l : Line) (rest : List Symbol) → Reserved word.Adaptive ∷ rest ≡ spell_line l → (a : Policy) × (l ≡ adaptive a) × (rest ≡ spell_policy a)
 of_adaptive (uncertain d) rest same = cc
+of_adaptive (over j) rest same = cc
 of_adaptive (set d) rest same = cc
 of_adaptive (budget d) rest same = cc
 of_adaptive (variable d) rest same = cc
@@ -147,8 +170,9 @@ of_adaptive (goal sense.Minimise d) rest same = cc
 of_adaptive (goal sense.Maximise d) rest same = cc
 of_adaptive (row d) rest same = cc
 
-of_minimise : (l : Line) (rest : List Symbol) → Reserved word.Minimise ∷ rest ≡ spell_line l → (a : Expr) × (l ≡ goal sense.Minimise a) × (rest ≡ spell_expr a)
+of_minimise : (l : Line) (rest : List Symbol) → Reserved word.Minimise ∷ rest ≡ spell_line l → (a : Ending) × (l ≡ goal sense.Minimise a) × (rest ≡ spell_ending a)
 of_minimise (uncertain d) rest same = cc
+of_minimise (over j) rest same = cc
 of_minimise (set d) rest same = cc
 of_minimise (budget d) rest same = cc
 of_minimise (variable d) rest same = cc
@@ -157,8 +181,9 @@ of_minimise (goal sense.Minimise d) rest same = (d, refl, cc)
 of_minimise (goal sense.Maximise d) rest same = cc
 of_minimise (row d) rest same = cc
 
-of_maximise : (l : Line) (rest : List Symbol) → Reserved word.Maximise ∷ rest ≡ spell_line l → (a : Expr) × (l ≡ goal sense.Maximise a) × (rest ≡ spell_expr a)
+of_maximise : (l : Line) (rest : List Symbol) → Reserved word.Maximise ∷ rest ≡ spell_line l → (a : Ending) × (l ≡ goal sense.Maximise a) × (rest ≡ spell_ending a)
 of_maximise (uncertain d) rest same = cc
+of_maximise (over j) rest same = cc
 of_maximise (set d) rest same = cc
 of_maximise (budget d) rest same = cc
 of_maximise (variable d) rest same = cc
@@ -169,6 +194,7 @@ of_maximise (row d) rest same = cc
 
 of_row : (l : Line) (rest : List Symbol) → Reserved word.Row ∷ rest ≡ spell_line l → (a : Titled) × (l ≡ row a) × (rest ≡ spell_titled a)
 of_row (uncertain d) rest same = cc
+of_row (over j) rest same = cc
 of_row (set d) rest same = cc
 of_row (budget d) rest same = cc
 of_row (variable d) rest same = cc
@@ -193,12 +219,13 @@ kind_settled {A} to spell w spells rest back way =
 
 reserved_settled : (w : Keyword) (rest : List Symbol) → ((l : Line) × IsWhole spell_line (Reserved w ∷ rest) l) ⊎ IsNone spell_line (Reserved w ∷ rest)
 reserved_settled word.Uncertain rest = kind_settled uncertain spell_declared word.Uncertain (λ a. refl) rest (λ l same. of_uncertain l rest same) (declared_settled rest)
+reserved_settled word.Over rest = kind_settled over spell_name word.Over (λ a. refl) rest (λ l same. of_over l rest same) (alone_settled rest)
 reserved_settled word.Set rest = kind_settled set spell_sides word.Set (λ a. refl) rest (λ l same. of_set l rest same) (sides_settled rest)
 reserved_settled word.Budget rest = kind_settled budget spell_shares word.Budget (λ a. refl) rest (λ l same. of_budget l rest same) (shares_settled rest)
 reserved_settled word.Var rest = kind_settled variable spell_declared word.Var (λ a. refl) rest (λ l same. of_var l rest same) (declared_settled rest)
 reserved_settled word.Adaptive rest = kind_settled adaptive spell_policy word.Adaptive (λ a. refl) rest (λ l same. of_adaptive l rest same) (policy_settled rest)
-reserved_settled word.Minimise rest = kind_settled (goal sense.Minimise) spell_expr word.Minimise (λ a. refl) rest (λ l same. of_minimise l rest same) (last_settled rest)
-reserved_settled word.Maximise rest = kind_settled (goal sense.Maximise) spell_expr word.Maximise (λ a. refl) rest (λ l same. of_maximise l rest same) (last_settled rest)
+reserved_settled word.Minimise rest = kind_settled (goal sense.Minimise) spell_ending word.Minimise (λ a. refl) rest (λ l same. of_minimise l rest same) (last_settled rest)
+reserved_settled word.Maximise rest = kind_settled (goal sense.Maximise) spell_ending word.Maximise (λ a. refl) rest (λ l same. of_maximise l rest same) (last_settled rest)
 reserved_settled word.Row rest = kind_settled row spell_titled word.Row (λ a. refl) rest (λ l same. of_row l rest same) (titled_settled rest)
 reserved_settled word.In rest = inr (λ l same. no_in l rest same)
 reserved_settled word.At rest = inr (λ l same. no_at l rest same)

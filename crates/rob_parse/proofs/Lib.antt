@@ -1,5 +1,12 @@
 pub mod WordLemmas
-pub mod AloneNames
+pub mod OverLemmas
+pub mod OverScan
+pub mod BareLines
+pub mod InSets
+pub mod SetNumbers
+pub mod PlacedLemmas
+pub mod RoomLemmas
+pub mod JoinLemmas
 pub mod FactorLemmas
 pub mod TermLemmas
 pub mod ExprLemmas
@@ -38,6 +45,7 @@ pub mod CanonicalScopes
 pub mod CanonicalWalk
 pub mod CanonicalBlocks
 pub mod Faultless
+pub mod CanonicalReading
 pub mod RoundTrip
 pub mod SizeLemmas
 pub mod ReadingLemmas
@@ -72,3 +80,5 @@ pub mod NamedLemmas
 pub mod DeclaredLemmas
 pub mod OnceLemmas
 pub mod WellNamed
+pub mod KnownNames
+pub mod WithoutSets

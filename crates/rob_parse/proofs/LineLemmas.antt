@@ -1,5 +1,5 @@
 -- Whole lines from their parts.
-use Rattle.std.proofs.Common.{◌≡◌, ℕ, false, List, [], ◌∷◌, ◌++◌, refl, sym, ap, ◌∙◌, subst, append-nil}
+use Rattle.std.proofs.Common.{◌≡◌, ℕ, false, List, [], ◌∷◌, ◌++◌, refl, sym, ap, ◌∙◌, subst}
 use Rattle.rob_parse.specs.declared.symbol.Symbol.{Symbol}
 use Rattle.rob_parse.specs.declared.symbol.Symbol.TheVariants.{Name, Digits, Sign, Reserved}
 use Rattle.rob_parse.specs.declared.symbol.Mark.{Mark}
@@ -13,8 +13,10 @@ use Rattle.rob_parse.specs.declared.syntax.Rel.{Rel}
 use Rattle.rob_parse.specs.declared.syntax.Rel.TheVariants.{AtMost, AtLeast, Equal}
 use Rattle.rob_parse.specs.Grammar.{Expr, spell_number, spell_expr, tree_expr}
 use Rattle.rob_parse.specs.Lists.{spell_more}
-use Rattle.rob_parse.specs.Readers.{goes_on_number, goes_on_list, goes_on_names, goes_on_expr, Stops, Found, IsMissing, Reads, ReadsMore, IsNone, ReadsWhole, HasCause, HasWholeCause}
-use Rattle.rob_parse.specs.Statements.{Sides, spell_rel, spell_sides, relation_of, spell_name, spell_member, Members, spell_members, members_of, Shares, spell_shares, budget_of}
+use Rattle.rob_parse.specs.Readers.{goes_on_number, goes_on_list, goes_on_names, goes_on_expr, Stops, Found, IsMissing, Reads, ReadsMore, IsWhole, IsNone, ReadsWhole, HasCause, HasWholeCause}
+use Rattle.std.specs.Prelude.{Option}
+use Rattle.rob_parse.proofs.OverLemmas.{over_stops}
+use Rattle.rob_parse.specs.Statements.{Ending, Sides, spell_ending, tree_ending, spell_over, spell_rel, spell_sides, relation_of, spell_name, spell_member, Members, spell_members, members_over, Shares, spell_shares, budget_of}
 use Rattle.rob_parse.proofs.ListLemmas.{some_found, some_refused, some_refused_behind}
 
 -- a relation sign ends an expression
@@ -35,54 +37,55 @@ one_rel Equal AtLeast same = cc
 one_rel Equal Equal same = refl
 
 -- both sides of a relation
-pub sides_read : {symbols rest behind : List Symbol} {left right : Syntax} (rel : Rel) → Reads spell_expr tree_expr goes_on_expr symbols rest left → rest ≡ spell_rel rel ∷ behind → ReadsWhole spell_expr tree_expr behind right → ReadsWhole spell_sides relation_of symbols (record { left = left; rel = rel; right = right })
-sides_read {symbols} {rest} {behind} {left} {right} rel first sign second = record {
+pub sides_read : {symbols rest behind : List Symbol} {left right : Syntax} {over : Option ℕ} (rel : Rel) → Reads spell_expr tree_expr goes_on_expr symbols rest left → rest ≡ spell_rel rel ∷ behind → ReadsWhole spell_ending tree_ending behind (right, over) → ReadsWhole spell_sides relation_of symbols (record { left = left; rel = rel; right = right; over = over })
+sides_read {symbols} {rest} {behind} {left} {right} {over} rel first sign second = record {
   item = record { left = first.item; rel = rel; right = second.item };
   whole = record {
     spelled = first.found.spelled ∙ ap (λ (l : List Symbol). spell_expr first.item ++ l) (sign ∙ ap (λ (l : List Symbol). spell_rel rel ∷ l) second.whole.spelled);
     only = λ other same. only other.left other.rel other.right same;
   };
-  tree_is = λ i. record { left = first.tree_is i; rel = rel; right = second.tree_is i };
+  tree_is = λ i. record { left = first.tree_is i; rel = rel; right = (second.tree_is i).0; over = (second.tree_is i).1 };
 }
   where
-    only : (a : Expr) (r : Rel) (b : Expr) → symbols ≡ spell_expr a ++ spell_rel r ∷ spell_expr b → ◌≡◌ {A = Sides} (record { left = a; rel = r; right = b }) (record { left = first.item; rel = rel; right = second.item })
+    only : (a : Expr) (r : Rel) (b : Ending) → symbols ≡ spell_expr a ++ spell_rel r ∷ spell_ending b → ◌≡◌ {A = Sides} (record { left = a; rel = r; right = b }) (record { left = first.item; rel = rel; right = second.item })
     only a r b same =
-        let one = first.found.only a (spell_rel r ∷ spell_expr b) same (rel_stops r) in
-        let two : spell_rel r ∷ spell_expr b ≡ spell_rel rel ∷ behind = one.1 ∙ sign in
+        let one = first.found.only a (spell_rel r ∷ spell_ending b) same (rel_stops r) in
+        let two : spell_rel r ∷ spell_ending b ≡ spell_rel rel ∷ behind = one.1 ∙ sign in
         let mark : spell_rel r ≡ spell_rel rel = cc in
-        let three : behind ≡ spell_expr b = cc in
+        let three : behind ≡ spell_ending b = cc in
         λ i. record { left = one.0 i; rel = one_rel r rel mark i; right = second.whole.only b three i }
 
 -- the members of a budget, as the rest of a line
-pub members_read : {symbols rest end : List Symbol} {old new : List Member} (x : Member) → Found spell_member goes_on_number symbols rest x → old ≡ x ∷ [] → ReadsMore spell_member rest end old new → end ≡ [] → ReadsWhole spell_members members_of symbols new
-members_read {symbols} {rest} {end} {old} {new} x first start more empty =
+pub members_read : {symbols rest end : List Symbol} {old new : List Member} (x : Member) → Found spell_member goes_on_number symbols rest x → old ≡ x ∷ [] → ReadsMore spell_member rest end old new → (over : Option ℕ) → IsWhole spell_over end over → ReadsWhole spell_members members_over symbols (new, over)
+members_read {symbols} {rest} {end} {old} {new} x first start more over last =
     let moved = subst (λ (l : List Member). ReadsMore spell_member rest end l new) start more in
     let parts = some_found spell_member x first moved in
     record {
-      item = record { first = x; more = moved.items };
+      item = record { first = x; more = moved.items; over = over };
       whole = record {
-        spelled = parts.1 ∙ ap (λ (l : List Symbol). (spell_member x ++ spell_more spell_member moved.items) ++ l) empty ∙ append-nil (spell_member x ++ spell_more spell_member moved.items);
+        spelled = parts.1 ∙ ap (λ (l : List Symbol). (spell_member x ++ spell_more spell_member moved.items) ++ l) last.spelled;
         only = λ other same.
-            let one = parts.2 other.first other.more [] (same ∙ sym (append-nil (spell_members other))) tt in
-            λ i. record { first = one.0 i; more = one.1 i };
+            let one = parts.2 other.first other.more (spell_over other.over) same (over_stops goes_on_list refl other.over) in
+            let two = last.only other.over (sym one.2) in
+            λ i. record { first = one.0 i; more = one.1 i; over = two i };
       };
-      tree_is = sym parts.0;
+      tree_is = λ i. (sym parts.0 i, over);
     }
 
 pub no_members : {symbols : List Symbol} → IsMissing spell_member goes_on_number symbols → IsNone spell_members symbols
 no_members {symbols} missing item same =
-    some_refused spell_member missing item.first item.more [] (same ∙ sym (append-nil (spell_members item))) tt
+    some_refused spell_member missing item.first item.more (spell_over item.over) same (over_stops goes_on_list refl item.over)
 
 pub no_members_behind : {symbols rest : List Symbol} (x : Member) → Found spell_member goes_on_number symbols rest x → (e : ParseErr) → HasCause (spell_more spell_member) goes_on_list rest e → HasWholeCause spell_members symbols e
 no_members_behind {symbols} {rest} x first NotAStatement missing =
-    λ item same. some_refused_behind spell_member x first missing item.first item.more [] (same ∙ sym (append-nil (spell_members item))) tt
+    λ item same. some_refused_behind spell_member x first missing item.first item.more (spell_over item.over) same (over_stops goes_on_list refl item.over)
 no_members_behind {symbols} {rest} x first Memory missing = tt
 
-pub no_members_then : {symbols rest end : List Symbol} {old new : List Member} (x : Member) → Found spell_member goes_on_number symbols rest x → old ≡ x ∷ [] → ReadsMore spell_member rest end old new → (end ≡ [] → ⊥) → IsNone spell_members symbols
-no_members_then {symbols} {rest} {end} {old} {new} x first start more some item same =
+pub no_members_then : {symbols rest end : List Symbol} {old new : List Member} (x : Member) → Found spell_member goes_on_number symbols rest x → old ≡ x ∷ [] → ReadsMore spell_member rest end old new → IsNone spell_over end → IsNone spell_members symbols
+no_members_then {symbols} {rest} {end} {old} {new} x first start more none item same =
     let parts = some_found spell_member x first (subst (λ (l : List Member). ReadsMore spell_member rest end l new) start more) in
-    let one = parts.2 item.first item.more [] (same ∙ sym (append-nil (spell_members item))) tt in
-    some (sym one.2)
+    let one = parts.2 item.first item.more (spell_over item.over) same (over_stops goes_on_list refl item.over) in
+    none item.over (sym one.2)
 
 -- one name
 pub name_found : {symbols rest : List Symbol} (k : ℕ) → symbols ≡ Name k ∷ rest → Found spell_name goes_on_number symbols rest k
@@ -108,14 +111,14 @@ stops_list (Sign m ∷ end) stop = mark m stop
     mark _ h = refl
 
 -- a budget
-pub shares_read : {symbols rest behind : List Symbol} {members : List Member} (limit : Numeral) → Found spell_number goes_on_number symbols rest limit → rest ≡ Sign Colon ∷ behind → ReadsWhole spell_members members_of behind members → ReadsWhole spell_shares budget_of symbols (record { limit = limit; members = members })
-shares_read {symbols} {rest} {behind} {members} limit first sign second = record {
+pub shares_read : {symbols rest behind : List Symbol} {members : List Member} {over : Option ℕ} (limit : Numeral) → Found spell_number goes_on_number symbols rest limit → rest ≡ Sign Colon ∷ behind → ReadsWhole spell_members members_over behind (members, over) → ReadsWhole spell_shares budget_of symbols (record { limit = limit; members = members; over = over })
+shares_read {symbols} {rest} {behind} {members} {over} limit first sign second = record {
   item = record { limit = limit; members = second.item };
   whole = record {
     spelled = first.spelled ∙ ap (λ (l : List Symbol). spell_number limit ++ l) (sign ∙ ap (λ (l : List Symbol). Sign Colon ∷ l) second.whole.spelled);
     only = λ other same. only other.limit other.members same;
   };
-  tree_is = ap (λ (l : List Member). record { limit = limit; members = l }) second.tree_is;
+  tree_is = λ i. record { limit = limit; members = (second.tree_is i).0; over = (second.tree_is i).1 };
 }
   where
     only : (n : Numeral) (m : Members) → symbols ≡ spell_number n ++ Sign Colon ∷ spell_members m → ◌≡◌ {A = Shares} (record { limit = n; members = m }) (record { limit = limit; members = second.item })

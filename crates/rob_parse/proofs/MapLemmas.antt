@@ -11,7 +11,7 @@ use Rattle.rob_parse.specs.declared.syntax.Member.{Member}
 use Rattle.rob_parse.specs.declared.syntax.Syntax.{Syntax}
 use Rattle.rob_parse.specs.declared.syntax.Summand.{Summand}
 use Rattle.rob_parse.specs.Building.{FitsTree, FitsSummands, FitsOperands}
-use Rattle.rob_parse.specs.Models.{expression, terms, factors, word_of}
+use Rattle.rob_parse.specs.Models.{factors_taken, taken, terms_taken, expression, terms, factors, word_of}
 use Rattle.rob_parse.specs.Trees.{Part, tree_of, part_of, summands_of, operands_of}
 use Rattle.rob_parse.proofs.WalkLemmas.{part_is}
 
@@ -35,33 +35,38 @@ module _ {A B C : Type 0} (g : A → C) (f : B → C) where
   pub map_end : (list : List A) (xs : List B) (i : ℕ) → length xs ≤ i → map g list ++ map f (drop i xs) ≡ map f xs → map g list ≡ map f xs
   map_end list xs i all so_far = sym (append-nil (map g list)) ∙ ap (λ (l : List B). map g list ++ map f l) (sym (drop_past xs i all)) ∙ so_far
 
-module _ (sorts : List (Option Sort)) where
-  -- a part of a sum, with its sign
+module _ (sorts : List (Option Sort)) (count S : ℕ) where
+  -- a part of a sum as the set takes it, with its sign
   unfoldable pub signed_at : Summand → SignedPart
-  signed_at x = (x.minus, expression sorts (tree_of x.inner))
+  signed_at x = (x.minus, taken count S (expression sorts (tree_of x.inner)))
 
-  pub signed_same : (x : Summand) {e : Expression} → e ≡ expression sorts (tree_of x.inner) → ◌≡◌ {A = SignedPart} (x.minus, e) (signed_at x)
+  pub signed_same : (x : Summand) {e : Expression} → e ≡ taken count S (expression sorts (tree_of x.inner)) → ◌≡◌ {A = SignedPart} (x.minus, e) (signed_at x)
   unfolding signed_at
   signed_same x same = ap (λ (e : Expression). (x.minus, e)) same
 
-  pub terms_are : (xs : List Summand) → terms_of (map signed_at xs) ≡ terms sorts (summands_of (map part_of xs))
+  pub terms_are : (xs : List Summand) → terms_of (map signed_at xs) ≡ terms_taken count S (terms sorts (summands_of (map part_of xs)))
   unfolding signed_at
   terms_are [] = refl
   terms_are (x ∷ xs) =
-      ap (term x.minus (expression sorts (tree_of x.inner))) (terms_are xs)
-      ∙ ap (λ (p : Part). term p.minus (expression sorts p.inner) (terms sorts (summands_of (map part_of xs)))) (sym (part_is x))
+      ap (term x.minus (taken count S (expression sorts (tree_of x.inner)))) (terms_are xs)
+      ∙ ap (λ (p : Part). term p.minus (taken count S (expression sorts p.inner)) (terms_taken count S (terms sorts (summands_of (map part_of xs))))) (sym (part_is x))
 
   unfoldable pub factor_at : Syntax → Expression
-  factor_at x = expression sorts (tree_of x)
+  factor_at x = taken count S (expression sorts (tree_of x))
 
-  pub factor_same : (x : Syntax) {e : Expression} → e ≡ expression sorts (tree_of x) → e ≡ factor_at x
+  pub factor_same : (x : Syntax) {e : Expression} → e ≡ taken count S (expression sorts (tree_of x)) → e ≡ factor_at x
   unfolding factor_at
   factor_same x same = same
 
-  pub factors_are : (xs : List Syntax) → factors_of (map factor_at xs) ≡ factors sorts (operands_of (map tree_of xs))
+  pub factors_are : (xs : List Syntax) → factors_of (map factor_at xs) ≡ factors_taken count S (factors sorts (operands_of (map tree_of xs)))
   unfolding factor_at
   factors_are [] = refl
-  factors_are (x ∷ xs) = ap (factor (expression sorts (tree_of x))) (factors_are xs)
+  factors_are (x ∷ xs) = ap (factor (taken count S (expression sorts (tree_of x)))) (factors_are xs)
+
+-- one map behind another
+pub map_behind : {A B C : Type 0} (f : B → C) (g : A → B) (xs : List A) → map (λ x. f (g x)) xs ≡ map f (map g xs)
+map_behind f g [] = refl
+map_behind f g (x ∷ xs) = λ i. f (g x) ∷ map_behind f g xs i
 
 module _ (limit : ℕ) where
   -- the parts from a place on fit: so do the part there and those behind it

@@ -1,7 +1,7 @@
 -- A model that a text reads as is well formed.
-use Rattle.std.proofs.Common.{◌≡◌, ℕ, ◌<◌, ◌≤◌, true, false, get_or, List, [], ◌∷◌, ◌++◌, length, map, refl, sym, ap, ◌∙◌, subst, arith}
-use Rattle.std.specs.Prelude.{Option, Some, None}
-use Rattle.std.specs.List.{flat_map}
+use Rattle.std.proofs.Common.{Bool, append_assoc, ◌≡◌, ℕ, ◌<◌, ◌≤◌, true, false, get_or, List, [], ◌∷◌, ◌++◌, length, map, refl, sym, ap, ◌∙◌, subst, arith}
+use Rattle.std.specs.Prelude.{◌&&◌, Option, Some, None}
+use Rattle.std.specs.List.{list_any, flat_map}
 use Rattle.rob_algebra.specs.Fraction.{◌<ℚ◌}
 use Rattle.rob_meaning.specs.Places.{0ℚ, Each}
 use Rattle.rob_meaning.specs.RobustModel as model
@@ -9,6 +9,7 @@ use Rattle.rob_meaning.specs.RobustModel.{RobustModel, AdaptiveVariable}
 use Rattle.rob_meaning.proofs.AloneLemmas.{model_alone}
 use Rattle.rob_meaning.specs.WellFormed.{IsModel, IsExpression, IsSetSide, IsSetLine, IsMember}
 use Rattle.rob_parse.specs.declared.sort.Sort.{Sort}
+use Rattle.rob_parse.specs.declared.sort.Sort.TheVariants as sort
 use Rattle.rob_parse.specs.declared.sort.Sort.TheVariants.{Parameter, Decision, Policy, RowName}
 use Rattle.rob_parse.specs.declared.symbol.Symbol.{Symbol}
 use Rattle.rob_parse.specs.declared.symbol.Symbol.TheVariants.{Sign, Reserved}
@@ -19,20 +20,21 @@ use Rattle.rob_parse.specs.declared.syntax.Member.{Member}
 use Rattle.rob_parse.specs.declared.syntax.Statement.{Statement}
 use Rattle.rob_parse.specs.declared.syntax.Statement.TheVariants as parsed
 use Rattle.rob_parse.specs.Degrees.{sort_at, products}
-use Rattle.rob_parse.specs.Faults.{is_unknown, names_decision, is_usable, is_decision, has_fault, in_order, first_fault, expressions}
+use Rattle.rob_parse.specs.Faults.{is_of_set, used, is_unknown, names_decision, is_usable, is_decision, has_fault, in_order, first_fault, expressions}
 use Rattle.rob_parse.specs.Grammar.{Expr, spell_expr, spell_number, tree_expr}
 use Rattle.rob_parse.specs.Lists.{spell_more, spell_list}
 use Rattle.rob_parse.specs.Modelled.{ReadsModel}
-use Rattle.rob_parse.specs.Models.{fraction, expression, member, parameter_number, parameter_at, adaptives, set_lines, rows, goal_in, objective_of, model_of}
+use Rattle.rob_parse.specs.Models.{fraction, expression, member, parameter_number, parameter_at, adaptives, set_lines, rows, goal_in, objective_of, written_of}
 use Rattle.rob_parse.specs.Reading.{Follows}
 use Rattle.rob_parse.specs.Scopes.{Earlier, behind, start}
-use Rattle.rob_parse.specs.Statements.{IsStatement, Line, Sides, spell_line, statement_of, spell_sides, spell_rel, spell_member, spell_name, spell_optional}
+use Rattle.rob_parse.specs.Statements.{spell_over, IsStatement, Line, Sides, spell_line, statement_of, spell_sides, spell_rel, spell_member, spell_name, spell_optional}
 use Rattle.rob_parse.specs.Statements as line
 use Rattle.rob_parse.specs.Symbols.{lines_of}
 use Rattle.rob_parse.specs.Trees.{Tree, number, name, sum, product, Summands, no_summands, summand, Operands, no_operands, operand, tree_of}
+use Rattle.rob_parse.proofs.BareLines.{bare_sides, bare_line, used_is}
 use Rattle.rob_parse.proofs.CountLemmas.{counts}
 use Rattle.rob_parse.proofs.DegreeLemmas.{EachName, EachSummand, EachOperand, Clean, clean_apart, Stands, inside_and_linear, no_decision}
-use Rattle.rob_parse.proofs.DeviationLemmas.{behind_first, behind_front, deviation_positive, deviations_positive}
+use Rattle.rob_parse.proofs.DeviationLemmas.{Deviates, behind_first, behind_front, deviation_positive, deviations_positive}
 use Rattle.rob_parse.proofs.FitLemmas.{statement_fits}
 use Rattle.rob_parse.proofs.ReadingLemmas.{none_found, true_of_not}
 use Rattle.rob_parse.proofs.SortLemmas.{Names, all_named, none_named, stays, neither}
@@ -94,6 +96,7 @@ module _ (limit : ℕ) (low : 1 ≤ limit) (m : RobustModel) (f : Earlier) (name
         go (Some (Decision j)) u d n = cc
         go (Some (Policy j b)) u d n = cc
         go (Some RowName) u d n = cc
+        go (Some (sort.Set S)) u d n = cc
         go None u d n = cc
 
     side : (x : Expr) → Free (is_unknown e.sorts) (spell_expr x) → Clean (products e.sorts (tree_of (tree_expr x))) → IsExpression m (expression f.sorts (tree_of (tree_expr x)))
@@ -111,30 +114,42 @@ module _ (limit : ℕ) (low : 1 ≤ limit) (m : RobustModel) (f : Earlier) (name
     are_members [] known other positive = tt
     are_members (h ∷ ms) known other positive = ((is_parameter h.name known.0 other.0, positive.0), are_members ms known.1 other.1 positive.1)
 
-    both_sides : (s : Sides) → Free (is_unknown e.sorts) (spell_sides s) → Clean (products e.sorts (tree_of (tree_expr s.left)) ++ (products e.sorts (tree_of (tree_expr s.right)) ++ []))
-        → IsExpression m (expression f.sorts (tree_of (tree_expr s.left))) × IsExpression m (expression f.sorts (tree_of (tree_expr s.right)))
+    both_sides : (s : Sides) → Free (is_unknown e.sorts) (bare_sides s) → Clean (products e.sorts (tree_of (tree_expr s.left)) ++ (products e.sorts (tree_of (tree_expr s.right.inner)) ++ []))
+        → IsExpression m (expression f.sorts (tree_of (tree_expr s.left))) × IsExpression m (expression f.sorts (tree_of (tree_expr s.right.inner)))
     both_sides s known clean =
         let test = is_unknown e.sorts in
-        let c = clean_apart (products e.sorts (tree_of (tree_expr s.left))) (products e.sorts (tree_of (tree_expr s.right)) ++ []) clean in
-        let behind_left = right test (spell_expr s.left) (spell_rel s.rel ∷ spell_expr s.right) known in (
-          side s.left (left test (spell_expr s.left) (spell_rel s.rel ∷ spell_expr s.right) known) c.0,
-          side s.right (tail test (spell_rel s.rel) (spell_expr s.right) behind_left) (clean_apart (products e.sorts (tree_of (tree_expr s.right))) [] c.1).0,
+        let c = clean_apart (products e.sorts (tree_of (tree_expr s.left))) (products e.sorts (tree_of (tree_expr s.right.inner)) ++ []) clean in
+        let behind_left = right test (spell_expr s.left) (spell_rel s.rel ∷ spell_expr s.right.inner) known in (
+          side s.left (left test (spell_expr s.left) (spell_rel s.rel ∷ spell_expr s.right.inner) known) c.0,
+          side s.right.inner (tail test (spell_rel s.rel) (spell_expr s.right.inner) behind_left) (clean_apart (products e.sorts (tree_of (tree_expr s.right.inner))) [] c.1).0,
         )
 
-    set_sides : (s : Sides) → Free (is_unknown e.sorts) (spell_sides s) → Free (names_decision e.sorts) (spell_sides s) → Clean (products e.sorts (tree_of (tree_expr s.left)) ++ (products e.sorts (tree_of (tree_expr s.right)) ++ []))
-        → IsSetSide m (expression f.sorts (tree_of (tree_expr s.left))) × IsSetSide m (expression f.sorts (tree_of (tree_expr s.right)))
+    set_sides : (s : Sides) → Free (is_unknown e.sorts) (bare_sides s) → Free (names_decision e.sorts) (bare_sides s) → Clean (products e.sorts (tree_of (tree_expr s.left)) ++ (products e.sorts (tree_of (tree_expr s.right.inner)) ++ []))
+        → IsSetSide m (expression f.sorts (tree_of (tree_expr s.left))) × IsSetSide m (expression f.sorts (tree_of (tree_expr s.right.inner)))
     set_sides s known other clean =
         let test = is_unknown e.sorts in
         let second = names_decision e.sorts in
-        let rest = spell_rel s.rel ∷ spell_expr s.right in
-        let c = clean_apart (products e.sorts (tree_of (tree_expr s.left))) (products e.sorts (tree_of (tree_expr s.right)) ++ []) clean in (
+        let rest = spell_rel s.rel ∷ spell_expr s.right.inner in
+        let c = clean_apart (products e.sorts (tree_of (tree_expr s.left))) (products e.sorts (tree_of (tree_expr s.right.inner)) ++ []) clean in (
           set_side s.left (left test (spell_expr s.left) rest known) (left second (spell_expr s.left) rest other) c.0,
-          set_side s.right (tail test (spell_rel s.rel) (spell_expr s.right) (right test (spell_expr s.left) rest known)) (tail second (spell_rel s.rel) (spell_expr s.right) (right second (spell_expr s.left) rest other)) (clean_apart (products e.sorts (tree_of (tree_expr s.right))) [] c.1).0,
+          set_side s.right.inner (tail test (spell_rel s.rel) (spell_expr s.right.inner) (right test (spell_expr s.left) rest known)) (tail second (spell_rel s.rel) (spell_expr s.right.inner) (right second (spell_expr s.left) rest other)) (clean_apart (products e.sorts (tree_of (tree_expr s.right.inner))) [] c.1).0,
         )
 
     module _ (symbols : List Symbol) (s : Statement) (none : first_fault limit e symbols s ≡ None) where
       fault_free : (i : ℕ) → i < 11 → has_fault limit e symbols s (get_or in_order i NoObjective) ≡ false
       fault_free i inside = none_found (has_fault limit e symbols s) in_order i NoObjective none inside
+
+    -- no name of a line is unknown, and where it is of the set, none is a decision
+    pub known_names : (l : Line) → first_fault limit e (spell_line l) (statement_of l) ≡ None → Free (is_unknown e.sorts) (bare_line l)
+    known_names l none =
+        subst (Free (is_unknown e.sorts)) (used_is l)
+        (neither (list_any (is_unknown e.sorts) (used (spell_line l) (statement_of l))) _ (fault_free (spell_line l) (statement_of l) none 1 (omega arith))).0
+
+    pub other_names : (l : Line) → is_of_set (statement_of l) ≡ true → first_fault limit e (spell_line l) (statement_of l) ≡ None
+        → Free (names_decision e.sorts) (bare_line l)
+    other_names l of_set none =
+        subst (Free (names_decision e.sorts)) (used_is l)
+        (ap (λ (b : Bool). b && list_any (names_decision e.sorts) (used (spell_line l) (statement_of l))) (sym of_set) ∙ fault_free (spell_line l) (statement_of l) none 7 (omega arith))
 
     clean_products : (symbols : List Symbol) (s : Statement) → first_fault limit e symbols s ≡ None → Clean (flat_map (products e.sorts) (expressions s))
     clean_products symbols s none = record {
@@ -149,32 +164,35 @@ module _ (limit : ℕ) (low : 1 ≤ limit) (m : RobustModel) (f : Earlier) (name
         let s = statement_of (line.budget b) in
         let rest = spell_member b.members.first ++ spell_more spell_member b.members.more in
         let fits = statement_fits limit low e symbols s (record { line = line.budget b; spelled = refl; statement_is = refl }) none in
-        let known = tail (is_unknown e.sorts) (Sign mark.Colon) rest (right (is_unknown e.sorts) (spell_number b.limit) (Sign mark.Colon ∷ rest) (fault_free symbols s none 1 (omega arith))) in
-        let other = tail (names_decision e.sorts) (Sign mark.Colon) rest (right (names_decision e.sorts) (spell_number b.limit) (Sign mark.Colon ∷ rest) (fault_free symbols s none 7 (omega arith))) in
-        let deviates = behind_first (Sign mark.Colon) rest (behind_front (spell_number b.limit) (Sign mark.Colon ∷ rest) (behind_first (Reserved word.Budget) (spell_number b.limit ++ Sign mark.Colon ∷ rest) (fault_free symbols s none 3 (omega arith)))) in
+        let known = tail (is_unknown e.sorts) (Sign mark.Colon) rest (right (is_unknown e.sorts) (spell_number b.limit) (Sign mark.Colon ∷ rest) (known_names (line.budget b) none)) in
+        let other = tail (names_decision e.sorts) (Sign mark.Colon) rest (right (names_decision e.sorts) (spell_number b.limit) (Sign mark.Colon ∷ rest) (other_names (line.budget b) refl none)) in
+        let whole = rest ++ spell_over b.members.over in
+        let split = append_assoc (spell_member b.members.first) (spell_more spell_member b.members.more) (spell_over b.members.over) in
+        let deviates = subst Deviates split (behind_first (Sign mark.Colon) whole (behind_front (spell_number b.limit) (Sign mark.Colon ∷ whole) (behind_first (Reserved word.Budget) (spell_number b.limit ++ Sign mark.Colon ∷ whole) (fault_free symbols s none 3 (omega arith))))) in
         are_members (b.members.first ∷ b.members.more)
         ((neither _ _ known).0, free_members (is_unknown e.sorts) b.members.more (right (is_unknown e.sorts) (spell_member b.members.first) (spell_more spell_member b.members.more) known))
         ((neither _ _ other).0, free_members (names_decision e.sorts) b.members.more (right (names_decision e.sorts) (spell_member b.members.first) (spell_more spell_member b.members.more) other)) (
-          deviation_positive limit b.members.first (spell_more spell_member b.members.more) deviates fits.1.0,
-          deviations_positive limit b.members.more (behind_front (spell_member b.members.first) (spell_more spell_member b.members.more) deviates) fits.1.1,
+          deviation_positive limit b.members.first (spell_more spell_member b.members.more ++ spell_over b.members.over) deviates fits.1.0,
+          deviations_positive limit b.members.more (spell_over b.members.over) (behind_front (spell_member b.members.first) (spell_more spell_member b.members.more ++ spell_over b.members.over) deviates) fits.1.1,
         )
 
     good_line : (l : Line) → first_fault limit e (spell_line l) (statement_of l) ≡ None → Good (statement_of l)
     good_line (line.uncertain d) none = tt
+    good_line (line.over k) none = tt
     good_line (line.variable d) none = tt
     good_line (line.set s) none =
-        set_sides s (fault_free (spell_line (line.set s)) (statement_of (line.set s)) none 1 (omega arith)) (fault_free (spell_line (line.set s)) (statement_of (line.set s)) none 7 (omega arith)) (clean_products (spell_line (line.set s)) (statement_of (line.set s)) none)
+        set_sides s (known_names (line.set s) none) (other_names (line.set s) refl none) (clean_products (spell_line (line.set s)) (statement_of (line.set s)) none)
     good_line (line.budget b) none = good_budget b none
     good_line (line.adaptive p) none =
         let behind = Sign mark.Close ∷ spell_optional p.bounds in
-        let known = tail (is_unknown e.sorts) (Sign mark.Open) (spell_list spell_name p.on ++ behind) (fault_free (spell_line (line.adaptive p)) (statement_of (line.adaptive p)) none 1 (omega arith)) in
-        let other = tail (names_decision e.sorts) (Sign mark.Open) (spell_list spell_name p.on ++ behind) (fault_free (spell_line (line.adaptive p)) (statement_of (line.adaptive p)) none 7 (omega arith)) in
+        let known = tail (is_unknown e.sorts) (Sign mark.Open) (spell_list spell_name p.on ++ behind) (known_names (line.adaptive p) none) in
+        let other = tail (names_decision e.sorts) (Sign mark.Open) (spell_list spell_name p.on ++ behind) (other_names (line.adaptive p) refl none) in
         are_parameters p.on (free_list (is_unknown e.sorts) p.on (left (is_unknown e.sorts) (spell_list spell_name p.on) behind known)) (free_list (names_decision e.sorts) p.on (left (names_decision e.sorts) (spell_list spell_name p.on) behind other))
     good_line (line.goal sense x) none =
-        side x (fault_free (spell_line (line.goal sense x)) (statement_of (line.goal sense x)) none 1 (omega arith))
-        (clean_apart (products e.sorts (tree_of (tree_expr x))) [] (clean_products (spell_line (line.goal sense x)) (statement_of (line.goal sense x)) none)).0
+        side x.inner (known_names (line.goal sense x) none)
+        (clean_apart (products e.sorts (tree_of (tree_expr x.inner))) [] (clean_products (spell_line (line.goal sense x)) (statement_of (line.goal sense x)) none)).0
     good_line (line.row t) none =
-        both_sides t.sides (tail (is_unknown e.sorts) (Sign mark.Colon) (spell_sides t.sides) (fault_free (spell_line (line.row t)) (statement_of (line.row t)) none 1 (omega arith)))
+        both_sides t.sides (tail (is_unknown e.sorts) (Sign mark.Colon) (bare_sides t.sides) (known_names (line.row t) none))
         (clean_products (spell_line (line.row t)) (statement_of (line.row t)) none)
 
     good_statement : (symbols : List Symbol) (s : Statement) → IsStatement symbols s → first_fault limit e symbols s ≡ None → Good s
@@ -194,6 +212,7 @@ module _ (limit : ℕ) (low : 1 ≤ limit) (m : RobustModel) (f : Earlier) (name
   good_set_lines (parsed.Set r) good = (good, tt)
   good_set_lines (parsed.Budget b) good = (good, tt)
   good_set_lines (parsed.Uncertain d) good = tt
+  good_set_lines (parsed.Over k) good = tt
   good_set_lines (parsed.Var d) good = tt
   good_set_lines (parsed.Adaptive p) good = tt
   good_set_lines (parsed.Goal g) good = tt
@@ -204,6 +223,7 @@ module _ (limit : ℕ) (low : 1 ≤ limit) (m : RobustModel) (f : Earlier) (name
   good_lists words (parsed.Set r) good = tt
   good_lists words (parsed.Budget b) good = tt
   good_lists words (parsed.Uncertain d) good = tt
+  good_lists words (parsed.Over k) good = tt
   good_lists words (parsed.Var d) good = tt
   good_lists words (parsed.Goal g) good = tt
   good_lists words (parsed.Row r) good = tt
@@ -213,6 +233,7 @@ module _ (limit : ℕ) (low : 1 ≤ limit) (m : RobustModel) (f : Earlier) (name
   good_rows words (parsed.Set r) good = tt
   good_rows words (parsed.Budget b) good = tt
   good_rows words (parsed.Uncertain d) good = tt
+  good_rows words (parsed.Over k) good = tt
   good_rows words (parsed.Var d) good = tt
   good_rows words (parsed.Adaptive p) good = tt
   good_rows words (parsed.Goal g) good = tt
@@ -223,11 +244,12 @@ module _ (limit : ℕ) (low : 1 ≤ limit) (m : RobustModel) (f : Earlier) (name
   good_goal (parsed.Set r ∷ list) good = good_goal list good.1
   good_goal (parsed.Budget b ∷ list) good = good_goal list good.1
   good_goal (parsed.Uncertain d ∷ list) good = good_goal list good.1
+  good_goal (parsed.Over k ∷ list) good = good_goal list good.1
   good_goal (parsed.Var d ∷ list) good = good_goal list good.1
   good_goal (parsed.Adaptive p ∷ list) good = good_goal list good.1
   good_goal (parsed.Row r ∷ list) good = good_goal list good.1
 
-  pub model_parts : (words : List (List ℕ)) (list : List Statement) (e : Earlier) (lines : List (List Symbol)) → Follows limit e lines list f → m ≡ model_of words f.sorts list → IsModel m
+  pub model_parts : (words : List (List ℕ)) (list : List Statement) (e : Earlier) (lines : List (List Symbol)) → Follows limit e lines list f → m ≡ written_of words f.sorts list → IsModel m
   model_parts words list e lines follows is =
       let good = all_good e lines list follows in
       model_alone m (ap (λ (x : RobustModel). x.sets) is)
@@ -237,21 +259,26 @@ module _ (limit : ℕ) (low : 1 ≤ limit) (m : RobustModel) (f : Earlier) (name
       (subst (IsExpression m) (ap (λ (x : RobustModel). x.objective) (sym is)) (good_goal list good))
       (subst (Each (λ (r : model.Row). IsExpression m r.left × IsExpression m r.right)) (ap (λ (x : RobustModel). x.rows) (sym is)) (each_flat _ (rows words f.sorts) Good (good_rows words) list good))
 
--- what the names of a text stand for names what its model has
-pub model_names : (limit : ℕ) (text : List ℕ) (m : RobustModel) (read : ReadsModel limit text m) (k : ℕ) → Names (length m.parameters) (length m.variables) m.adaptives (sort_at read.known.sorts k)
+-- what the statements of a text write
+abbrev pub written_by : (limit : ℕ) (text : List ℕ) (m : RobustModel) → ReadsModel limit text m → RobustModel
+written_by limit text m read = written_of read.words read.known.sorts read.list
+
+-- what the names of a text stand for names what is written
+pub model_names : (limit : ℕ) (text : List ℕ) (m : RobustModel) (read : ReadsModel limit text m) (k : ℕ)
+    → Names (length (written_by limit text m read).parameters) (length (written_by limit text m read).variables) (written_by limit text m read).adaptives (sort_at read.known.sorts k)
 model_names limit text m read k =
     let begin = start (length read.words) in
     let lines = lines_of text read.words read.reads.tokens in
+    let w = written_by limit text m read in
     let c = counts read.words read.known.sorts limit begin lines read.list read.known read.reads.follows in
     let all = all_named read.words read.known.sorts limit begin lines read.list read.known [] read.reads.follows (none_named (length read.words)) in
-    let p : read.known.sizes.parameters ≡ length m.parameters = omega (arith, c.parameters_are, ap (λ (x : RobustModel). length x.parameters) read.model_is) in
-    let v : read.known.sizes.variables ≡ length m.variables = omega (arith, c.variables_are, ap (λ (x : RobustModel). length x.variables) read.model_is) in
-    let ys : flat_map (adaptives read.words read.known.sorts) read.list ≡ m.adaptives = ap (λ (x : RobustModel). x.adaptives) (sym read.model_is) in
-    subst (λ (n : ℕ). Names n (length m.variables) m.adaptives (sort_at read.known.sorts k)) p
-    (subst (λ (n : ℕ). Names read.known.sizes.parameters n m.adaptives (sort_at read.known.sorts k)) v
-    (subst (λ (y : List AdaptiveVariable). Names read.known.sizes.parameters read.known.sizes.variables y (sort_at read.known.sorts k)) ys (all.1 k)))
+    let p : read.known.sizes.parameters ≡ length w.parameters = omega (arith, c.parameters_are) in
+    let v : read.known.sizes.variables ≡ length w.variables = omega (arith, c.variables_are) in
+    subst (λ (n : ℕ). Names n (length w.variables) w.adaptives (sort_at read.known.sorts k)) p
+    (subst (λ (n : ℕ). Names read.known.sizes.parameters n w.adaptives (sort_at read.known.sorts k)) v (all.1 k))
 
--- a model that a text reads as is well formed
-pub well_formed : (limit : ℕ) (text : List ℕ) (m : RobustModel) → 1 ≤ limit → ReadsModel limit text m → IsModel m
-well_formed limit text m low read =
-    model_parts limit low m read.known (model_names limit text m read) read.words read.list (start (length read.words)) (lines_of text read.words read.reads.tokens) read.reads.follows read.model_is
+-- what a text writes is a well formed model without sets
+pub well_formed_written : (limit : ℕ) (text : List ℕ) (m : RobustModel) → 1 ≤ limit → (read : ReadsModel limit text m) → IsModel (written_by limit text m read)
+well_formed_written limit text m low read =
+    model_parts limit low (written_by limit text m read) read.known (model_names limit text m read) read.words read.list (start (length read.words))
+    (lines_of text read.words read.reads.tokens) read.reads.follows refl

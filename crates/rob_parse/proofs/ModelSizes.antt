@@ -1,14 +1,16 @@
--- What is counted of a model's parts is how many forms and set rows it has.
-use Rattle.std.proofs.Common.{◌≡◌, ℕ, zero, suc, ◌+◌, ◌*◌, List, [], ◌∷◌, ◌++◌, length, refl, arith, length-append}
+-- What is counted of a model's parts is how many forms and set rows it has, and what is counted of them in sets.
+use Rattle.std.proofs.Common.{◌≡◌, ℕ, zero, suc, ◌+◌, ◌*◌, List, [], ◌∷◌, ◌++◌, length, refl, sym, ap, ◌∙◌, arith, length-append, suc-mul, zero-mul}
+use Rattle.std.specs.List.{flat_map}
 use Rattle.std.specs.Prelude.{map, Option, Some, None}
 use Rattle.std.proofs.lemmas.List.{length-map}
 use Rattle.rob_algebra.specs.Fraction.{Fraction}
 use Rattle.rob_meaning.specs.Expressions.{Expression, variable, adaptive}
 use Rattle.rob_meaning.specs.Forms.{sides, row_forms, bound_forms, variable_forms, adaptive_forms, forms}
 use Rattle.rob_meaning.specs.RobustModel as model
-use Rattle.rob_meaning.specs.RobustModel.{RobustModel, AdaptiveVariable}
+use Rattle.rob_meaning.specs.RobustModel.{RobustModel, AdaptiveVariable, in_set, joint_parameters}
 use Rattle.rob_meaning.specs.SetConditions.{if_declared}
 use Rattle.rob_meaning.specs.SetRows.{lower_row, upper_row, bound_rows, member_rows, budget_row, expression_row, statement_rows, set_rows}
+use Rattle.rob_parse.specs.Models.{each_taken, line_taken, member_taken, row_taken}
 
 -- ---- what a model counts
 -- how many of two bounds there are
@@ -153,3 +155,46 @@ module _ (m : RobustModel) where
         length-bound_rows zero m.parameters,
         length-statement_rows zero m.set_lines,
       )
+
+-- ---- parts in sets
+pub rows_taken : (p : ℕ) (rs : List model.Row) (Ss : List ℕ)
+    → row_inequalities (each_taken (row_taken p) rs Ss) ≡ row_inequalities rs
+rows_taken p [] Ss = refl
+rows_taken p (r ∷ rs) [] = refl
+rows_taken p (r ∷ rs) (S ∷ Ss) = ap (λ (n : ℕ). inequalities r.relation + n) (rows_taken p rs Ss)
+
+pub lines_taken : (p : ℕ) (cs : List model.SetLine) (Ss : List ℕ)
+    → line_rows (each_taken (line_taken p) cs Ss) ≡ line_rows cs
+lines_taken p [] Ss = refl
+lines_taken p (c ∷ cs) [] = refl
+lines_taken p (model.line left relation right ∷ cs) (S ∷ Ss) =
+    ap (λ (n : ℕ). inequalities relation + n) (lines_taken p cs Ss)
+lines_taken p (model.budget limit hs ∷ cs) (S ∷ Ss) =
+    λ i. (1 + 2 * length-map hs (member_taken p S) i) + lines_taken p cs Ss i
+
+bounds-append : (ps qs : List model.Parameter) → parameter_bounds (ps ++ qs) ≡ parameter_bounds ps + parameter_bounds qs
+bounds-append [] qs = omega arith
+bounds-append (p ∷ ps) qs = omega (arith, bounds-append ps qs)
+
+bounds-in_set : (name : List ℕ) (ps : List model.Parameter)
+    → parameter_bounds (map (in_set name) ps) ≡ parameter_bounds ps
+bounds-in_set name [] = refl
+bounds-in_set name (p ∷ ps) = ap (λ (n : ℕ). some_bounds p.lower p.upper + n) (bounds-in_set name ps)
+
+bounds-copies : (ps : List model.Parameter) (names : List (List ℕ))
+    → parameter_bounds (flat_map (λ name. map (in_set name) ps) names) ≡ length names * parameter_bounds ps
+bounds-copies ps [] = sym (zero-mul (parameter_bounds ps))
+bounds-copies ps (name ∷ names) =
+    bounds-append (map (in_set name) ps) (flat_map (λ name. map (in_set name) ps) names)
+    ∙ (let e : parameter_bounds (map (in_set name) ps) + parameter_bounds (flat_map (λ name. map (in_set name) ps) names)
+    ≡ suc (length names) * parameter_bounds ps
+    = omega (arith, bounds-in_set name ps, bounds-copies ps names, suc-mul (length names) (parameter_bounds ps)) in e)
+
+-- each set has the declared bounds of the written parameters
+pub bounds-joint : (ps : List model.Parameter) (names : List (List ℕ))
+    → parameter_bounds (joint_parameters ps names) ≡ suc (length names) * parameter_bounds ps
+bounds-joint ps names =
+    bounds-append ps (flat_map (λ name. map (in_set name) ps) names)
+    ∙ (let e : parameter_bounds ps + parameter_bounds (flat_map (λ name. map (in_set name) ps) names)
+    ≡ suc (length names) * parameter_bounds ps
+    = omega (arith, bounds-copies ps names, suc-mul (length names) (parameter_bounds ps)) in e)

@@ -105,6 +105,7 @@ module _ (words : List (List ℕ)) where
 
   declared_line : (e : Earlier) (l : Line) → Each IsSound (spell_line l) → IsDeclared (declared_by e.sizes (statement_of l))
   declared_line e (line.uncertain d) sound = sound.1.0
+  declared_line e (line.over k) sound = sound.1.0
   declared_line e (line.set s) sound = tt
   declared_line e (line.budget s) sound = tt
   declared_line e (line.variable d) sound = sound.1.0

@@ -3,7 +3,7 @@ use Rattle.std.proofs.Common.{◌≡◌, ℕ, Bool, true, false, cond, List, [],
 use Rattle.std.specs.Prelude.{◌||◌, ◌&&◌, not, Some, None}
 use Rattle.std.specs.List.{find, flat_map}
 use Rattle.rob_meaning.specs.Places.{Each}
-use Rattle.rob_parse.specs.declared.fault.Fault.TheVariants.{NameTwice}
+use Rattle.rob_parse.specs.declared.fault.Fault.TheVariants.{NameTwice, NameUnknown}
 use Rattle.rob_parse.specs.declared.symbol.Symbol.{Symbol}
 use Rattle.rob_parse.specs.declared.syntax.Statement.{Statement}
 use Rattle.rob_parse.specs.Degrees.{products}
@@ -25,5 +25,6 @@ pub no_fault : (limit : ℕ) (e : Earlier) (symbols : List Symbol) (s : Statemen
     → (is_goal s && e.goal) ≡ false → is_within (counted e.sizes s) ≡ true → first_fault limit e symbols s ≡ None
 no_fault limit e symbols s clear new clean goal small =
     let twice : has_fault limit e symbols s NameTwice ≡ false = λ i. new i || clear.listed i in
+    let unknown : has_fault limit e symbols s NameUnknown ≡ false = λ i. clear.unknown i || clear.set_known i in
     nothing_found (has_fault limit e symbols s) in_order
-    (twice, (clear.unknown, (clear.over, (clear.deviation, (clean.decisions, (clean.uncertain, (clean.recourse, (clear.decision, (goal, (ap not small, (clear.divisor, tt)))))))))))
+    (twice, (unknown, (clear.over, (clear.deviation, (clean.decisions, (clean.uncertain, (clean.recourse, (clear.decision, (goal, (ap not small, (clear.divisor, tt)))))))))))

@@ -1,9 +1,7 @@
 -- Numbers in lowest terms are read as they were written.
-use Rattle.std.proofs.Common.{◌≡◌, ℕ, ◌+◌, ◌*◌, ◌-◌, ◌^◌, ◌<◌, ◌≤◌, Bool, true, false, List, [], ◌∷◌, ◌++◌, refl, sym, ap, ◌∙◌, subst, arith}
+use Rattle.std.proofs.Common.{◌≡◌, ℕ, ◌^◌, ◌<◌, Bool, true, false, List, [], ◌∷◌, ◌++◌, refl, ap, ◌∙◌, arith}
 use Rattle.std.specs.Prelude.{ℤ, pos, negsuc, nat_abs, neg_ℤ, ◌*ℤ◌, int_lt, min, ◌==◌, if◌then◌else◌, Option, Some, None, unwrap_or}
-use Rattle.std.specs.List.{flat_map}
 use Rattle.std.specs.Fmt.{decimal}
-use Rattle.std.proofs.lemmas.Int.{ints}
 use Rattle.std.proofs.lemmas.Bool.Decides.{nat_tests}
 use Rattle.rob_algebra.specs.Fraction.{Fraction, of_pair, of_pair_parts, neg_ℚ, is_neg, is_of_pair, is_self, same_is, den_pos}
 use Rattle.rob_lex.specs.declared.token.Kind.TheVariants as kind
@@ -12,14 +10,14 @@ use Rattle.rob_parse.specs.declared.symbol.Symbol.TheVariants.{Digits, Sign}
 use Rattle.rob_parse.specs.declared.symbol.Mark.TheVariants as mark
 use Rattle.rob_parse.specs.declared.syntax.Numeral.{Numeral}
 use Rattle.rob_parse.specs.declared.syntax.Signed.{Signed}
-use Rattle.rob_parse.specs.Canonical.{Written, digits, sign, negative, bytes_of, divisor_words, minus_words, number_words}
+use Rattle.rob_parse.specs.Canonical.{digits, sign, divisor_words, minus_words, number_words}
 use Rattle.rob_parse.specs.Grammar.{spell_divisor, spell_number, spell_minus}
 use Rattle.rob_meaning.specs.Values.{signed}
 use Rattle.rob_parse.specs.Models.{fraction, signed_fraction}
-use Rattle.rob_parse.specs.Pages.{kind_of, symbols_on}
+use Rattle.rob_parse.specs.Pages.{symbols_on}
 use Rattle.rob_algebra.specs.Width.{Fits}
 use Rattle.rob_parse.specs.Statements.{spell_signed}
-use Rattle.rob_parse.specs.Symbols.{symbol_at, value_of, greatest_digits}
+use Rattle.rob_parse.specs.Symbols.{symbol_at, greatest_digits}
 use Rattle.rob_parse.proofs.DigitLemmas.{decimal_value}
 
 -- the numeral of a number in lowest terms, without its sign

@@ -1,12 +1,14 @@
 -- No list and no budget has a parameter twice.
-use Rattle.std.proofs.Common.{◌≡◌, ◌≢◌, ℕ, zero, suc, ◌<◌, ◌⊎◌, inl, inr, true, false, List, [], ◌∷◌, ◌++◌, map, get_or, set, refl, sym, ap, ◌∙◌, subst, arith}
-use Rattle.std.specs.Prelude.{◌==◌, Option, Some, None, is_some}
+use Rattle.rob_parse.proofs.BareLines.{bare_line, used_is}
+use Rattle.std.proofs.Common.{Bool, ◌≡◌, ◌≢◌, ℕ, zero, suc, ◌<◌, ◌⊎◌, inl, inr, true, false, List, [], ◌∷◌, ◌++◌, map, get_or, set, refl, sym, ap, ◌∙◌, subst, arith}
+use Rattle.std.specs.Prelude.{◌&&◌, ◌==◌, Option, Some, None, is_some}
 use Rattle.std.specs.List.{list_any}
 use Rattle.std.proofs.lemmas.Bool.Decides.{nat_tests}
 use Rattle.rob_meaning.specs.Named.{AreDistinct}
 use Rattle.rob_meaning.specs.Places.{Each}
 use Rattle.rob_meaning.specs.RobustModel as model
 use Rattle.rob_parse.specs.declared.sort.Sort.{Sort}
+use Rattle.rob_parse.specs.declared.sort.Sort.TheVariants as sort
 use Rattle.rob_parse.specs.declared.sort.Sort.TheVariants.{Parameter, Decision, Policy, RowName}
 use Rattle.rob_parse.specs.declared.symbol.Symbol.{Symbol}
 use Rattle.rob_parse.specs.declared.symbol.Symbol.TheVariants.{Name, Digits, Sign, Reserved}
@@ -17,7 +19,7 @@ use Rattle.rob_parse.specs.declared.syntax.Member.{Member}
 use Rattle.rob_parse.specs.declared.syntax.Statement.{Statement}
 use Rattle.rob_parse.specs.declared.syntax.Statement.TheVariants as parsed
 use Rattle.rob_parse.specs.Degrees.{sort_at}
-use Rattle.rob_parse.specs.Faults.{is_name, is_unknown, is_usable, is_decision, names_decision, has_twice, has_fault, in_order, first_fault, is_declared}
+use Rattle.rob_parse.specs.Faults.{is_of_set, is_listing, used, is_name, is_unknown, is_usable, is_decision, names_decision, has_twice, has_fault, in_order, first_fault, is_declared}
 use Rattle.rob_parse.specs.Grammar.{spell_number}
 use Rattle.rob_parse.specs.Lists.{spell_more, spell_list}
 use Rattle.rob_parse.specs.Models.{parameter_number, parameter_at, member, adaptives}
@@ -28,7 +30,7 @@ use Rattle.rob_parse.specs.Statements as line
 use Rattle.rob_parse.proofs.DegreeLemmas.{any_apart}
 use Rattle.rob_parse.proofs.ReadingLemmas.{none_found, true_of_not}
 use Rattle.rob_parse.proofs.SortLemmas.{Names, neither, set_cases, is_new, stays, AllNamed, named_behind, nothing_there}
-use Rattle.rob_parse.proofs.UsedLemmas.{IsFreeName, left, right, tail, free_list, free_more, free_members}
+use Rattle.rob_parse.proofs.UsedLemmas.{Free, IsFreeName, left, right, tail, free_list, free_more, free_members}
 
 -- ---- names that stand once
 abbrev Once : List Symbol → Type 0
@@ -116,6 +118,7 @@ module _ (limit : ℕ) (words : List (List ℕ)) (sorts : List (Option Sort)) wh
   injective_behind e (parsed.Var d) ys all fresh inj = injective_set e.sorts d.name _ e.sizes.parameters (below_all e ys all) fresh (λ n same. cc) inj
   injective_behind e (parsed.Adaptive p) ys all fresh inj = injective_set e.sorts p.name _ e.sizes.parameters (below_all e ys all) fresh (λ n same. cc) inj
   injective_behind e (parsed.Row r) ys all fresh inj = injective_set e.sorts r.name _ e.sizes.parameters (below_all e ys all) fresh (λ n same. cc) inj
+  injective_behind e (parsed.Over k) ys all fresh inj = injective_set e.sorts k _ e.sizes.parameters (below_all e ys all) fresh (λ n same. cc) inj
   injective_behind e (parsed.Set r) ys all fresh inj = inj
   injective_behind e (parsed.Budget b) ys all fresh inj = inj
   injective_behind e (parsed.Goal g) ys all fresh inj = inj
@@ -171,6 +174,7 @@ module _ (limit : ℕ) (f : Earlier) (inj : IsInjective f.sorts) where
         go (Some (Decision n)) is u d = cc
         go (Some (Policy n b)) is u d = cc
         go (Some RowName) is u d = cc
+        go (Some (sort.Set S)) is u d = cc
         go None is u d = cc
 
     parameters_of : (on : List ℕ) → Each (IsFreeName (is_unknown e.sorts)) on → Each (IsFreeName (names_decision e.sorts)) on → Each (IsParameter f.sorts) on
@@ -184,17 +188,32 @@ module _ (limit : ℕ) (f : Earlier) (inj : IsInjective f.sorts) where
     free_of : (symbols : List Symbol) (s : Statement) → first_fault limit e symbols s ≡ None → (i : ℕ) → i < 11 → has_fault limit e symbols s (get_or in_order i NoObjective) ≡ false
     free_of symbols s clean i inside = none_found (has_fault limit e symbols s) in_order i NoObjective clean inside
 
+    known_in : (l : Line) → first_fault limit e (spell_line l) (statement_of l) ≡ None → Free (is_unknown e.sorts) (bare_line l)
+    known_in l clean =
+        subst (Free (is_unknown e.sorts)) (used_is l)
+        (neither (list_any (is_unknown e.sorts) (used (spell_line l) (statement_of l))) _ (free_of (spell_line l) (statement_of l) clean 1 (omega arith))).0
+
+    undecided_in : (l : Line) → is_of_set (statement_of l) ≡ true → first_fault limit e (spell_line l) (statement_of l) ≡ None
+        → Free (names_decision e.sorts) (bare_line l)
+    undecided_in l of_set clean =
+        subst (Free (names_decision e.sorts)) (used_is l)
+        (ap (λ (b : Bool). b && list_any (names_decision e.sorts) (used (spell_line l) (statement_of l))) (sym of_set) ∙ free_of (spell_line l) (statement_of l) clean 7 (omega arith))
+
+    once_in : (l : Line) → is_listing (statement_of l) ≡ true → first_fault limit e (spell_line l) (statement_of l) ≡ None → Once (bare_line l)
+    once_in l listing clean =
+        subst Once (used_is l)
+        (ap (λ (b : Bool). b && has_twice (used (spell_line l) (statement_of l))) (sym listing)
+        ∙ (neither (is_declared e.sorts (declared_by e.sizes (statement_of l))) _ (free_of (spell_line l) (statement_of l) clean 0 (omega arith))).1)
+
     once_budget : (b : line.Shares) → first_fault limit e (spell_line (line.budget b)) (statement_of (line.budget b)) ≡ None → IsOnce (statement_of (line.budget b))
     once_budget b clean =
-        let symbols = spell_line (line.budget b) in
-        let s = statement_of (line.budget b) in
         let more = spell_more spell_member b.members.more in
         let rest = spell_member b.members.first ++ more in
         let unknown = is_unknown e.sorts in
         let decided = names_decision e.sorts in
-        let known = tail unknown (Sign mark.Colon) rest (right unknown (spell_number b.limit) (Sign mark.Colon ∷ rest) (free_of symbols s clean 1 (omega arith))) in
-        let undecided = tail decided (Sign mark.Colon) rest (right decided (spell_number b.limit) (Sign mark.Colon ∷ rest) (free_of symbols s clean 7 (omega arith))) in
-        let once = once_tail (Sign mark.Colon) rest (once_behind (spell_number b.limit) (Sign mark.Colon ∷ rest) (free_of symbols s clean 0 (omega arith))) in
+        let known = tail unknown (Sign mark.Colon) rest (right unknown (spell_number b.limit) (Sign mark.Colon ∷ rest) (known_in (line.budget b) clean)) in
+        let undecided = tail decided (Sign mark.Colon) rest (right decided (spell_number b.limit) (Sign mark.Colon ∷ rest) (undecided_in (line.budget b) refl clean)) in
+        let once = once_tail (Sign mark.Colon) rest (once_behind (spell_number b.limit) (Sign mark.Colon ∷ rest) (once_in (line.budget b) refl clean)) in
         let ms = b.members.first ∷ b.members.more in
         subst AreDistinct (sym (members_numbers f.sorts ms))
         (numbers_distinct f.sorts inj (map (λ (h : Member). h.name) ms)
@@ -205,21 +224,20 @@ module _ (limit : ℕ) (f : Earlier) (inj : IsInjective f.sorts) where
 
     once_line : (l : Line) → first_fault limit e (spell_line l) (statement_of l) ≡ None → IsOnce (statement_of l)
     once_line (line.uncertain d) clean = tt
+    once_line (line.over k) clean = tt
     once_line (line.set s) clean = tt
     once_line (line.budget b) clean = once_budget b clean
     once_line (line.variable d) clean = tt
     once_line (line.goal sense x) clean = tt
     once_line (line.row t) clean = tt
     once_line (line.adaptive p) clean =
-        let symbols = spell_line (line.adaptive p) in
-        let s = statement_of (line.adaptive p) in
         let names = spell_list spell_name p.on in
         let rest = Sign mark.Close ∷ spell_optional p.bounds in
         let unknown = is_unknown e.sorts in
         let decided = names_decision e.sorts in
-        let known = left unknown names rest (tail unknown (Sign mark.Open) (names ++ rest) (free_of symbols s clean 1 (omega arith))) in
-        let undecided = left decided names rest (tail decided (Sign mark.Open) (names ++ rest) (free_of symbols s clean 7 (omega arith))) in
-        let once = once_tail (Sign mark.Open) (names ++ rest) (neither _ _ (free_of symbols s clean 0 (omega arith))).1 in
+        let known = left unknown names rest (tail unknown (Sign mark.Open) (names ++ rest) (known_in (line.adaptive p) clean)) in
+        let undecided = left decided names rest (tail decided (Sign mark.Open) (names ++ rest) (undecided_in (line.adaptive p) refl clean)) in
+        let once = once_tail (Sign mark.Open) (names ++ rest) (once_in (line.adaptive p) refl clean) in
         numbers_distinct f.sorts inj p.on (parameters_of p.on (free_list unknown p.on known) (free_list decided p.on undecided)) (list_once p.on rest once)
 
     once_statement : (symbols : List Symbol) (s : Statement) → IsStatement symbols s → first_fault limit e symbols s ≡ None → IsOnce s

@@ -1,5 +1,5 @@
 -- A page is read as the lines of symbols that were written on it.
-use Rattle.std.proofs.Common.{◌≡◌, ℕ, ◌≤◌, List, [], ◌∷◌, ◌++◌, length, map, refl, sym, ap, ◌∙◌, subst}
+use Rattle.std.proofs.Common.{◌≡◌, ℕ, ◌≤◌, List, [], ◌∷◌, ◌++◌, length, map, refl, sym, ap, ◌∙◌}
 use Rattle.std.specs.Prelude.{fold}
 use Rattle.std.specs.List.{flat_map}
 use Rattle.rob_lex.specs.declared.token.Kind.{Kind}
@@ -9,10 +9,9 @@ use Rattle.rob_lex.specs.Offences.{most_tokens, AreTokens}
 use Rattle.rob_lex.specs.Slices.{Lexed, lexed}
 use Rattle.rob_meaning.specs.Places.{Each}
 use Rattle.rob_parse.specs.declared.symbol.Symbol.{Symbol}
-use Rattle.rob_parse.specs.declared.page.Edge.TheVariants.{Tight}
 use Rattle.rob_parse.specs.Canonical.{Written, name, digits, keyword, sign, negative, line_end, bytes_of}
 use Rattle.rob_parse.specs.Pages.{IsWritable, IsLine, IsReadAs, ended, page_text, kind_of, words_on, symbols_on}
-use Rattle.rob_parse.specs.Symbols.{add_word, add_token, token_lines, word_at, word_in, symbol_at, symbols_of, bytes_of as token_bytes, words_of, lines_of}
+use Rattle.rob_parse.specs.Symbols.{add_word, add_token, token_lines, word_at, symbol_at, symbols_of, bytes_of as token_bytes, words_of, lines_of}
 use Rattle.rob_parse.proofs.PageTokens.{lexed_written, all_writable, lines_read, lines_only}
 use Rattle.rob_parse.proofs.WordSetLemmas.{word_lexed, lexed_words}
 

@@ -1,20 +1,19 @@
 -- A page is cut into the tokens that were written on it: what is written shows on both sides where it ends.
-use Rattle.std.proofs.Common.{◌≡◌, ℕ, zero, suc, ◌+◌, ◌-◌, ◌^◌, ◌<◌, ◌≤◌, Bool, true, false, List, [], ◌∷◌, ◌++◌, length, get_or, map, refl, sym, ap, ◌∙◌, subst, arith, append-nil, append_assoc}
-use Rattle.std.specs.Prelude.{fold, if◌then◌else◌, codes}
+use Rattle.std.proofs.Common.{◌≡◌, ℕ, suc, ◌+◌, ◌^◌, ◌<◌, ◌≤◌, Bool, true, false, List, [], ◌∷◌, ◌++◌, length, get_or, map, refl, sym, ap, ◌∙◌, subst, arith, append-nil, append_assoc}
+use Rattle.std.specs.Prelude.{fold, if◌then◌else◌}
 use Rattle.std.specs.Fmt.{decimal}
 use Rattle.std.proofs.lemmas.Bool.Decides.{nat_tests}
 use Rattle.std.proofs.lemmas.List.Sums.{fold-append}
 use Rattle.rob_lex.specs.declared.token.Kind.{Kind}
 use Rattle.rob_lex.specs.declared.token.Kind.TheVariants as kind
 use Rattle.rob_lex.specs.declared.token.Token.{Token}
-use Rattle.rob_lex.specs.declared.piece.Shape.{Shape}
 use Rattle.rob_lex.specs.declared.piece.Shape.TheVariants.{Lexeme, Gap}
 use Rattle.rob_lex.specs.declared.place.Place.{Place}
 use Rattle.rob_lex.specs.Bytes.{begins_word, goes_on_word, is_digit}
 use Rattle.rob_lex.specs.Pieces.{Piece, IsRun, Stands, IsPlace}
-use Rattle.rob_lex.specs.Places.{start, behind, tokens_of}
+use Rattle.rob_lex.specs.Places.{start, behind}
 use Rattle.rob_lex.specs.Offences.{most_tokens, most_open, AreTokens, Cause, not_ascii, bad_byte, too_many_tokens, too_deep}
-use Rattle.rob_lex.specs.Slices.{Lexed, lexed, lexed_at, lexed_of}
+use Rattle.rob_lex.specs.Slices.{Lexed, lexed, lexed_of}
 use Rattle.rob_lex.proofs.OffenceLemmas.{free_of}
 use Rattle.rob_lex.proofs.OneReading.{same_place}
 use Rattle.rob_lex.proofs.PlaceLemmas.{Reached, reached_start, reached_next, read_whole}
@@ -27,7 +26,7 @@ use Rattle.rob_parse.specs.declared.page.Edge.{Edge}
 use Rattle.rob_parse.specs.declared.page.Edge.TheVariants.{Tight, Named, Apart}
 use Rattle.rob_parse.specs.declared.page.Page.{Page}
 use Rattle.rob_meaning.specs.Places.{Each}
-use Rattle.rob_parse.specs.Canonical.{Written, name, digits, keyword, sign, negative, line_end, keyword_text, mark_text, bytes_of, edge_behind, is_close, is_tight, gap, put, put_line, blank}
+use Rattle.rob_parse.specs.Canonical.{Written, name, digits, keyword, sign, negative, line_end, keyword_text, mark_text, bytes_of, edge_behind, is_close, gap, put, put_line, blank}
 use Rattle.rob_parse.specs.Pages.{GoesOn, IsWord, IsUsed, IsWritable, depth_behind, MayOpen, IsShallow, IsLine, ended, page_text, kind_of}
 use Rattle.rob_parse.proofs.DigitLemmas.{AreDigits, decimal_digits, decimal_some}
 
@@ -157,6 +156,7 @@ keyword_word word.Row u = (refl, (refl, (refl, tt)))
 keyword_word word.In u = (refl, (refl, tt))
 keyword_word word.At u = (refl, (refl, tt))
 keyword_word word.By u = (refl, (refl, tt))
+keyword_word word.Over u = (refl, (refl, (refl, (refl, tt))))
 keyword_word word.Unused u = absurd u
 
 sign_stands : (m : Mark) (after : List ℕ) → Stands (Lexeme kind.Sign) (mark_text m) after

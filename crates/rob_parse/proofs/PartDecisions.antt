@@ -49,6 +49,10 @@ is_at : (w : Keyword) → (w ≡ word.At) ⊎ (w ≡ word.At → ⊥)
 is_at word.At = inl refl
 is_at w = inr (λ (e : w ≡ word.At). cc)
 
+pub is_over : (w : Keyword) → (w ≡ word.Over) ⊎ (w ≡ word.Over → ⊥)
+is_over word.Over = inl refl
+is_over w = inr (λ (e : w ≡ word.Over). cc)
+
 is_by : (w : Keyword) → (w ≡ word.By) ⊎ (w ≡ word.By → ⊥)
 is_by word.By = inl refl
 is_by w = inr (λ (e : w ≡ word.By). cc)
@@ -182,10 +186,10 @@ signed_settled symbols =
     (sign_marked mark.Minus is_minus symbols)
 
 -- nothing
-abbrev spell_nothing : Unit {0} → List Symbol
+abbrev pub spell_nothing : Unit {0} → List Symbol
 spell_nothing u = []
 
-nothing_settled : (P : List Symbol → Type 0) (symbols : List Symbol) → Settled spell_nothing P symbols
+pub nothing_settled : (P : List Symbol → Type 0) (symbols : List Symbol) → Settled spell_nothing P symbols
 nothing_settled P symbols = inl (record { rest = symbols; item = tt; found = record { spelled = refl; only = λ other end same stop. (refl, sym same) } })
 
 -- bounds

@@ -1,26 +1,22 @@
 -- A model that a text reads as is readable: its numbers are within the limit, and its trees are the grammar's.
-use Rattle.std.proofs.Common.{◌≡◌, ℕ, zero, suc, ◌<◌, ◌≤◌, Bool, true, false, List, [], ◌∷◌, ◌++◌, length, map, refl, sym, ap, ◌∙◌, subst, arith}
-use Rattle.std.specs.Prelude.{ℤ, pos, nat_abs, int_lt, Option, Some, None, unwrap_or}
-use Rattle.std.specs.List.{flat_map}
-use Rattle.std.proofs.lemmas.List.{length-map}
+use Rattle.std.proofs.Common.{◌≡◌, ℕ, zero, suc, Bool, true, false, List, length, refl, sym, ap, subst, arith}
+use Rattle.std.specs.Prelude.{pos, nat_abs, int_lt, Option, Some, None, unwrap_or}
 use Rattle.std.proofs.lemmas.Int.{ints}
 use Rattle.std.proofs.lemmas.Bool.Decides.{nat_tests}
 use Rattle.rob_algebra.specs.Fraction.{Fraction, of_pair, neg_ℚ}
 use Rattle.rob_algebra.specs.Width.{Fits}
 use Rattle.rob_algebra.proofs.Parts.{neg_parts}
-use Rattle.rob_meaning.specs.Expressions as meaning
-use Rattle.rob_meaning.specs.Places.{Each}
-use Rattle.rob_meaning.specs.RobustModel as model
 use Rattle.rob_meaning.specs.RobustModel.{RobustModel}
 use Rattle.rob_meaning.specs.Values.{signed}
 use Rattle.rob_parse.specs.declared.sort.Sort.{Sort}
+use Rattle.rob_parse.specs.declared.sort.Sort.TheVariants as sort
 use Rattle.rob_parse.specs.declared.sort.Sort.TheVariants.{Parameter, Decision, Policy, RowName}
 use Rattle.rob_parse.specs.declared.syntax.Numeral.{Numeral}
 use Rattle.rob_parse.specs.declared.syntax.Signed.{Signed}
 use Rattle.rob_parse.specs.declared.syntax.Bounds.{Bounds}
 use Rattle.rob_parse.specs.declared.syntax.Bounds.TheVariants.{Between, AtLeast, AtMost}
 use Rattle.rob_parse.specs.Building.{FitsNumber, FitsBounds, FitsTree, FitsSummands, FitsOperands}
-use Rattle.rob_parse.specs.Canonical.{Naming, naming_of}
+use Rattle.rob_parse.specs.Canonical.{Naming}
 use Rattle.rob_parse.specs.Degrees.{sort_at}
 use Rattle.rob_parse.specs.Faults.{is_usable}
 use Rattle.rob_parse.specs.Models.{fraction, signed_fraction, lower_bound, upper_bound, expression, terms, factors, named}
@@ -68,13 +64,15 @@ upper_fits limit (Some (AtLeast a)) fits = tt
 upper_fits limit (Some (AtMost b)) fits = signed_number limit b fits
 
 -- ---- expressions
-module _ (limit : ℕ) (m : RobustModel) (sorts before : List (Option Sort)) where
-  named_readable : (o : Option Sort) → is_usable o ≡ true → Names (length m.parameters) (length m.variables) m.adaptives o → IsReadable limit (naming_of m) (named o)
-  named_readable (Some (Parameter j)) usable names = omega (arith, names, length-map m.parameters (λ (p : model.Parameter). p.name))
-  named_readable (Some (Decision j)) usable names = omega (arith, names, length-map m.variables (λ (x : model.Variable). x.name))
-  named_readable (Some (Policy j depends)) usable names = omega (arith, names.0, length-map m.adaptives (λ (y : model.AdaptiveVariable). y.name))
-  named_readable (Some RowName) usable names = cc
-  named_readable None usable names = cc
+module _ (limit : ℕ) (m : RobustModel) (names : Naming) (ps : length names.parameters ≡ length m.parameters) (vs : length names.variables ≡ length m.variables)
+    (ys : length names.adaptives ≡ length m.adaptives) (sorts before : List (Option Sort)) where
+  named_readable : (o : Option Sort) → is_usable o ≡ true → Names (length m.parameters) (length m.variables) m.adaptives o → IsReadable limit names (named o)
+  named_readable (Some (Parameter j)) usable there = omega (arith, there, ps)
+  named_readable (Some (Decision j)) usable there = omega (arith, there, vs)
+  named_readable (Some (Policy j depends)) usable there = omega (arith, there.0, ys)
+  named_readable (Some RowName) usable there = cc
+  named_readable (Some (sort.Set S)) usable there = cc
+  named_readable None usable there = cc
 
   long_sum : (ts : Summands) → IsLongSum ts → IsRealSum (terms sorts ts)
   long_sum no_summands h = h
@@ -88,17 +86,17 @@ module _ (limit : ℕ) (m : RobustModel) (sorts before : List (Option Sort)) whe
   long_product (operand f (operand g gs)) h = tt
 
   mutual
-    pub readable_tree : (t : Tree) → FitsTree limit t → IsReal t → EachName (Stands m sorts before) t → IsReadable limit (naming_of m) (expression sorts t)
+    pub readable_tree : (t : Tree) → FitsTree limit t → IsReal t → EachName (Stands m sorts before) t → IsReadable limit names (expression sorts t)
     readable_tree (number n) fits real stands = plain_number limit n fits
     readable_tree (name k) fits real stands =
-        subst (λ (o : Option Sort). IsReadable limit (naming_of m) (named o)) (sym stands.0) (named_readable (sort_at before k) stands.1 stands.2)
+        subst (λ (o : Option Sort). IsReadable limit names (named o)) (sym stands.0) (named_readable (sort_at before k) stands.1 stands.2)
     readable_tree (sum ts) fits real stands = (long_sum ts real.0, readable_summands ts fits real.1 stands)
     readable_tree (product fs) fits real stands = (long_product fs real.0, readable_operands fs fits real.1 stands)
 
-    readable_summands : (ts : Summands) → FitsSummands limit ts → AreReal ts → EachSummand (Stands m sorts before) ts → TermsReadable limit (naming_of m) (terms sorts ts)
+    readable_summands : (ts : Summands) → FitsSummands limit ts → AreReal ts → EachSummand (Stands m sorts before) ts → TermsReadable limit names (terms sorts ts)
     readable_summands no_summands fits real stands = tt
     readable_summands (summand minus t ts) fits real stands = (readable_tree t fits.0 real.0 stands.0, readable_summands ts fits.1 real.1 stands.1)
 
-    readable_operands : (fs : Operands) → FitsOperands limit fs → OperandsReal fs → EachOperand (Stands m sorts before) fs → FactorsReadable limit (naming_of m) (factors sorts fs)
+    readable_operands : (fs : Operands) → FitsOperands limit fs → OperandsReal fs → EachOperand (Stands m sorts before) fs → FactorsReadable limit names (factors sorts fs)
     readable_operands no_operands fits real stands = tt
     readable_operands (operand f fs) fits real stands = (readable_tree f fits.0 real.0 stands.0, readable_operands fs fits.1 real.1 stands.1)

@@ -1,5 +1,5 @@
 -- The trees of the grammar: sums have two parts or one that is subtracted, and products two factors or more.
-use Rattle.std.proofs.Common.{◌≡◌, ℕ, Bool, true, false, List, [], ◌∷◌, ◌++◌, map, sym, subst}
+use Rattle.std.proofs.Common.{Bool, true, false, List, ◌∷◌, map, sym, subst}
 use Rattle.rob_parse.specs.declared.syntax.Syntax.{Syntax}
 use Rattle.rob_parse.specs.declared.syntax.Summand.{Summand}
 use Rattle.rob_parse.specs.declared.syntax.Syntax.TheVariants as syntax

@@ -5,6 +5,7 @@ use Rattle.std.specs.List.{flat_map}
 use Rattle.rob_meaning.specs.Degrees.{one_if_some}
 use Rattle.rob_meaning.specs.RobustModel.{AdaptiveVariable, list_in}
 use Rattle.rob_parse.specs.declared.sort.Sort.{Sort}
+use Rattle.rob_parse.specs.declared.sort.Sort.TheVariants as sort
 use Rattle.rob_parse.specs.declared.sort.Sort.TheVariants.{Parameter, Decision, Policy, RowName}
 use Rattle.rob_parse.specs.declared.symbol.Symbol.{Symbol}
 use Rattle.rob_parse.specs.declared.size.Sizes.{Sizes}
@@ -67,6 +68,7 @@ Names parameters variables ys (Some (Parameter j)) = j < parameters
 Names parameters variables ys (Some (Decision j)) = j < variables
 Names parameters variables ys (Some (Policy j d)) = (j < length ys) × (one_if_some (list_in ys j) ≡ depends_by d)
 Names parameters variables ys (Some RowName) = Unit {0}
+Names parameters variables ys (Some (sort.Set S)) = Unit {0}
 Names parameters variables ys None = Unit {0}
 
 list_front : (ys zs : List AdaptiveVariable) (j : ℕ) → j < length ys → list_in (ys ++ zs) j ≡ list_in ys j
@@ -83,6 +85,7 @@ names_more p q v w ys zs (Some (Parameter j)) a b h = omega arith
 names_more p q v w ys zs (Some (Decision j)) a b h = omega arith
 names_more p q v w ys zs (Some (Policy j d)) a b h = (omega (arith, h.0, length-append ys zs), ap one_if_some (list_front ys zs j h.0) ∙ h.1)
 names_more p q v w ys zs (Some RowName) a b h = tt
+names_more p q v w ys zs (Some (sort.Set S)) a b h = tt
 names_more p q v w ys zs None a b h = tt
 
 -- what each word stands for names what is counted so far
@@ -115,6 +118,7 @@ module _ (words : List (List ℕ)) (sorts : List (Option Sort)) where
             (omega (arith, count), ap (λ (j : ℕ). one_if_some (list_in (ys ++ y ∷ []) j)) (sym all.0) ∙ ap one_if_some (list_last ys y) ∙ depends_is sorts p.on),
       )
   named_behind e (parsed.Row r) ys all = (ap length (append-nil ys) ∙ all.0, one_named e (parsed.Row r) ys r.name RowName _ refl all (omega arith) (omega arith) tt)
+  named_behind e (parsed.Over k) ys all = (ap length (append-nil ys) ∙ all.0, one_named e (parsed.Over k) ys k (sort.Set (e.sizes.sets + 1)) _ refl all (omega arith) (omega arith) tt)
   named_behind e (parsed.Set r) ys all = subst (AllNamed e) (sym (append-nil ys)) all
   named_behind e (parsed.Budget b) ys all = subst (AllNamed e) (sym (append-nil ys)) all
   named_behind e (parsed.Goal g) ys all = subst (AllNamed e) (sym (append-nil ys)) all

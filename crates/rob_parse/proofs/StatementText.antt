@@ -1,5 +1,5 @@
 -- The lines of a canonical text are statements, each of which says the part of the model that it was written for.
-use Rattle.std.proofs.Common.{◌≡◌, ℕ, ◌^◌, ◌<◌, Bool, true, false, List, [], ◌∷◌, ◌++◌, length, map, get_or, refl, sym, ap, ◌∙◌, subst, append-nil, append_assoc}
+use Rattle.std.proofs.Common.{◌≡◌, ℕ, zero, suc, arith, ◌^◌, ◌<◌, true, false, List, [], ◌∷◌, ◌++◌, length, map, get_or, refl, ap, ◌∙◌, append-nil, append_assoc}
 use Rattle.std.specs.Prelude.{Option, Some, None}
 use Rattle.rob_algebra.specs.Fraction.{Fraction}
 use Rattle.rob_lex.specs.declared.token.Kind.TheVariants as kind
@@ -7,7 +7,6 @@ use Rattle.rob_meaning.specs.Expressions.{Expression}
 use Rattle.rob_meaning.specs.Places.{Each}
 use Rattle.rob_meaning.specs.RobustModel as model
 use Rattle.rob_parse.specs.declared.sort.Sort.{Sort}
-use Rattle.rob_parse.specs.declared.sort.Sort.TheVariants.{Parameter}
 use Rattle.rob_parse.specs.declared.symbol.Symbol.{Symbol}
 use Rattle.rob_parse.specs.declared.symbol.Symbol.TheVariants.{Name, Sign, Reserved}
 use Rattle.rob_parse.specs.declared.symbol.Mark.TheVariants as mark
@@ -19,15 +18,12 @@ use Rattle.rob_parse.specs.declared.syntax.Rel.TheVariants as rel
 use Rattle.rob_parse.specs.declared.syntax.Sense.{Sense}
 use Rattle.rob_parse.specs.declared.syntax.Sense.TheVariants as sense
 use Rattle.rob_parse.specs.declared.syntax.Member.{Member}
-use Rattle.rob_parse.specs.declared.syntax.Statement.{Statement}
-use Rattle.rob_parse.specs.declared.syntax.Statement.TheVariants as parsed
-use Rattle.rob_parse.specs.Canonical.{Written, name, keyword, sign, Naming, name_at, number_words, bound_words, comma, listed, expression_words, relation_word, comparison_words, member_words, parameter_words, variable_words, adaptive_words, set_words, row_words, goal_word, goal_words}
-use Rattle.rob_parse.specs.Grammar.{spell_number, spell_expr, tree_expr}
+use Rattle.rob_parse.specs.Canonical.{over_words, Written, name, keyword, sign, Naming, number_words, bound_words, listed, expression_words, relation_word, comparison_words, member_words, goal_word}
 use Rattle.rob_parse.specs.Lists.{spell_more, spell_list}
-use Rattle.rob_parse.specs.Models.{fraction, lower_bound, upper_bound, relation_of, sense_of, member, expression, parameter_number, parameter_at}
+use Rattle.rob_parse.specs.Models.{set_at, set_number, lower_bound, upper_bound, relation_of, sense_of, member, expression, parameter_number, parameter_at}
 use Rattle.rob_parse.specs.Pages.{symbols_on}
-use Rattle.rob_parse.specs.Readable.{IsPlainNumber, IsBound, IsReadable, IsReadableMember, IsReadableSetLine, StandsFor, AreKnown, IsReadBack}
-use Rattle.rob_parse.specs.Statements.{Line, uncertain, set, budget, variable, adaptive, goal, row, Sides, spell_signed, spell_optional, spell_bounds, spell_declared, spell_rel, spell_sense, spell_spread, spell_member, spell_name, spell_rule, spell_policy, spell_members, spell_shares, spell_sides, spell_titled, spell_line, relation_of as parsed_relation, statement_of, IsStatement}
+use Rattle.rob_parse.specs.Readable.{IsBound, IsReadable, IsReadableMember, AreKnown}
+use Rattle.rob_parse.specs.Statements.{spell_over, Sides, spell_optional, spell_rel, spell_sense, spell_member, spell_sides, relation_of as parsed_relation}
 use Rattle.rob_parse.specs.Symbols.{number_of, symbol_at}
 use Rattle.rob_parse.specs.Trees.{tree_of}
 use Rattle.rob_parse.proofs.ExpressionText.{symbols_append, read_back}
@@ -91,26 +87,49 @@ module _ (limit : ℕ) (small : limit < 2 ^ 62) (words : List (List ℕ)) where
       ∙ (λ i. signed_back limit words l small h i ++ Sign mark.Comma ∷ (symbols_append words (number_words u) (sign mark.CloseBracket ∷ []) ∙ ap (λ (x : List Symbol). x ++ Sign mark.CloseBracket ∷ []) (signed_back limit words u small k)) i))
 
   module _ (sorts : List (Option Sort)) (names : Naming) (known : AreKnown words sorts names) where
+    -- ---- the set that a line answers to
+    pub record OverBack (S : ℕ) : Type 0 where
+      pub over : Option ℕ
+      pub spelled : symbols_on words (over_words names.sets S) ≡ spell_over over
+      pub number_is : set_at sorts over ≡ S
+
+    pub over_back : (S : ℕ) → S < suc (length names.sets) → OverBack S
+    over_back zero h = record { over = None; spelled = refl; number_is = refl }
+    over_back (suc S) h =
+        let is = known.sets S (omega arith) in
+        record {
+          over = Some (number_of words (get_or names.sets S []));
+          spelled = ap (λ (l : List Symbol). Reserved word.Over ∷ l) (append-nil (symbol_at words kind.Word (get_or names.sets S [])) ∙ is.is_name);
+          number_is = ap set_number is.sort_is;
+        }
+
     -- ---- two sides
-    pub record SidesBack (left : Expression) (relation : model.Relation) (right : Expression) : Type 0 where
+    pub record SidesBack (left : Expression) (relation : model.Relation) (right : Expression) (S : ℕ) : Type 0 where
       pub sides : Sides
-      pub spelled : symbols_on words (comparison_words names left relation right) ≡ spell_sides sides
+      pub spelled : symbols_on words (comparison_words names left relation right ++ over_words names.sets S) ≡ spell_sides sides
       pub left_is : expression sorts (tree_of (parsed_relation sides).left) ≡ left
       pub relation_is : relation_of (parsed_relation sides).rel ≡ relation
       pub right_is : expression sorts (tree_of (parsed_relation sides).right) ≡ right
+      pub over_is : set_at sorts (parsed_relation sides).over ≡ S
 
-    pub sides_back : (left : Expression) (relation : model.Relation) (right : Expression) → IsReadable limit names left → IsReadable limit names right → SidesBack left relation right
-    sides_back left relation right h k =
+    pub sides_back : (left : Expression) (relation : model.Relation) (right : Expression) → IsReadable limit names left → IsReadable limit names right → (S : ℕ) → S < suc (length names.sets)
+        → SidesBack left relation right S
+    sides_back left relation right h k S some =
+        let o = over_back S some in
+        let end = over_words names.sets S in
         let l = read_back limit small words sorts names known left h in
         let r = read_back limit small words sorts names known right k in
         record {
-          sides = record { left = l.item; rel = rel_of relation; right = r.item };
+          sides = record { left = l.item; rel = rel_of relation; right = record { inner = r.item; over = o.over } };
           spelled =
-              symbols_append words (expression_words names left) (relation_word relation ∷ expression_words names right)
-              ∙ (λ i. l.spelled i ++ (rel_word words relation (expression_words names right) ∙ ap (λ (x : List Symbol). spell_rel (rel_of relation) ∷ x) r.spelled) i);
+              ap (symbols_on words) (append_assoc (expression_words names left) (relation_word relation ∷ expression_words names right) end)
+              ∙ symbols_append words (expression_words names left) (relation_word relation ∷ (expression_words names right ++ end))
+              ∙ (λ i. l.spelled i ++ (rel_word words relation (expression_words names right ++ end)
+              ∙ ap (λ (x : List Symbol). spell_rel (rel_of relation) ∷ x) (symbols_append words (expression_words names right) end ∙ (λ j. r.spelled j ++ o.spelled j))) i);
           left_is = l.tree_is;
           relation_is = relation_back relation;
           right_is = r.tree_is;
+          over_is = o.number_is;
         }
 
     -- ---- names in a list

@@ -7,6 +7,7 @@ use Rattle.rob_algebra.proofs.Parts.{neg_parts}
 use Rattle.rob_meaning.specs.Expressions as meaning
 use Rattle.rob_meaning.specs.Values.{signed as with_sign}
 use Rattle.rob_parse.specs.declared.sort.Sort.{Sort}
+use Rattle.rob_parse.specs.declared.sort.Sort.TheVariants as sort
 use Rattle.rob_parse.specs.declared.sort.Sort.TheVariants.{Parameter, Decision, Policy, RowName}
 use Rattle.rob_parse.specs.declared.symbol.Mark.TheVariants as mark
 use Rattle.rob_parse.specs.declared.symbol.Symbol.{Symbol}
@@ -30,10 +31,6 @@ use Rattle.rob_parse.proofs.WalkLemmas.{part_is}
 
 -- ---- numbers
 -- nothing in a number opens or closes
-flat_minus : (minus : Bool) → IsFlat step_of_symbol (spell_minus minus)
-flat_minus true = (refl, tt)
-flat_minus false = tt
-
 flat_divisor : (d : Option ℕ) → IsFlat step_of_symbol (spell_divisor d)
 flat_divisor None = tt
 flat_divisor (Some d) = (refl, (refl, tt))
@@ -147,6 +144,7 @@ module _ (limit : ℕ) (names : Naming) (sorts : List (Option Sort)) where
   named_fits k (Some (Decision j)) r b none = fit_bare b (none refl) (fit_one (Name k) _ refl refl)
   named_fits k (Some (Policy j depends)) r b none = fit_bare b (none refl) (fit_one (Name k) _ refl refl)
   named_fits k (Some RowName) r b none = absurd r.0
+  named_fits k (Some (sort.Set S)) r b none = absurd r.0
   named_fits k None r b none = absurd r.0
 
   -- the first term of a sum, and one that follows

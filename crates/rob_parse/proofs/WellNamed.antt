@@ -1,5 +1,5 @@
 -- The names of a model that a text reads as are plain, free and distinct.
-use Rattle.std.proofs.Common.{ℕ, ◌<◌, ◌^◌, List, [], length, sym, ap, ◌∙◌, subst, arith}
+use Rattle.std.proofs.Common.{◌≡◌, ℕ, ◌<◌, ◌^◌, List, [], length, refl, sym, ap, ◌∙◌, subst, arith}
 use Rattle.std.specs.List.{flat_map}
 use Rattle.rob_lex.specs.declared.token.Token.{Token}
 use Rattle.rob_meaning.specs.Named.{AreDistinct, IsPlain, IsFree, IsNamed, HasDistinctMembers, declared_names}
@@ -9,7 +9,7 @@ use Rattle.rob_meaning.specs.RobustModel.{RobustModel}
 use Rattle.rob_parse.specs.declared.syntax.Statement.{Statement}
 use Rattle.rob_parse.specs.declared.syntax.Statement.TheVariants as parsed
 use Rattle.rob_parse.specs.Modelled.{ReadsModel}
-use Rattle.rob_parse.specs.Models.{adaptives, set_lines, model_of}
+use Rattle.rob_parse.specs.Models.{adaptives, goal_in, line_sets, objective_set, row_sets, set_lines, sets, model_of, written_of}
 use Rattle.rob_parse.specs.Pages.{IsWord}
 use Rattle.rob_parse.specs.Readable.{IsSpelled}
 use Rattle.rob_parse.specs.Reading.{Follows}
@@ -17,6 +17,7 @@ use Rattle.rob_parse.specs.Scopes.{Earlier, start}
 use Rattle.rob_parse.specs.Symbols.{word_in, words_of, lines_of}
 use Rattle.rob_parse.proofs.LimitLemmas.{within_limits}
 use Rattle.rob_parse.proofs.DeclaredLemmas.{numbers, all_declared, declared_are}
+use Rattle.rob_parse.proofs.InSets.{lines_distinct}
 use Rattle.rob_parse.proofs.ModelLemmas.{each_flat}
 use Rattle.rob_parse.proofs.NamedLemmas.{IsNumber, lines_sound, names_free, names_plain, names_distinct, names_spelled}
 use Rattle.rob_parse.proofs.OnceLemmas.{IsInjective, IsOnce, all_once, injective, injective_start}
@@ -29,6 +30,7 @@ module _ (limit : ℕ) (f : Earlier) (inj : IsInjective f.sorts) where
   once_list words (parsed.Set r) once = tt
   once_list words (parsed.Budget b) once = tt
   once_list words (parsed.Uncertain d) once = tt
+  once_list words (parsed.Over k) once = tt
   once_list words (parsed.Var d) once = tt
   once_list words (parsed.Goal g) once = tt
   once_list words (parsed.Row r) once = tt
@@ -38,6 +40,7 @@ module _ (limit : ℕ) (f : Earlier) (inj : IsInjective f.sorts) where
   once_members (parsed.Set r) once = (tt, tt)
   once_members (parsed.Adaptive p) once = tt
   once_members (parsed.Uncertain d) once = tt
+  once_members (parsed.Over k) once = tt
   once_members (parsed.Var d) once = tt
   once_members (parsed.Goal g) once = tt
   once_members (parsed.Row r) once = tt
@@ -52,7 +55,10 @@ module _ (limit : ℕ) (text : List ℕ) (tokens : List Token) (plain : Each IsP
   once : Each (IsOnce limit f inj) list
   once = all_once limit f inj (start (length (words_of text tokens))) (lines_of text (words_of text tokens) tokens) list follows
 
-  pub named_parts : length (flat_map (set_lines f.sorts) list) < 2 ^ 32 → IsNamed (model_of (words_of text tokens) f.sorts list)
+  pub written_members : Each HasDistinctMembers (flat_map (set_lines f.sorts) list)
+  written_members = each_flat HasDistinctMembers (set_lines f.sorts) (IsOnce limit f inj) (once_members limit f inj) list once
+
+  pub named_parts : length (model_of (words_of text tokens) f.sorts list).set_lines < 2 ^ 32 → IsNamed (model_of (words_of text tokens) f.sorts list)
   named_parts few =
       let are = declared_are (words_of text tokens) f.sorts list in
       record {
@@ -60,7 +66,8 @@ module _ (limit : ℕ) (text : List ℕ) (tokens : List Token) (plain : Each IsP
         free = subst (Each IsFree) (sym are) (names_free (words_of text tokens) (numbers list) declared.0);
         distinct = subst AreDistinct (sym are) (names_distinct (words_of text tokens) (numbers list) (words_distinct (flat_map (word_in text) tokens) [] tt) declared.0 declared.1);
         lists = each_flat (λ (y : model.AdaptiveVariable). AreDistinct y.on) (adaptives (words_of text tokens) f.sorts) (IsOnce limit f inj) (once_list limit f inj (words_of text tokens)) list once;
-        members = each_flat HasDistinctMembers (set_lines f.sorts) (IsOnce limit f inj) (once_members limit f inj) list once;
+        members = lines_distinct (written_of (words_of text tokens) f.sorts list) refl (flat_map (sets (words_of text tokens)) list) (flat_map (line_sets f.sorts) list) (objective_set f.sorts (goal_in list)) (flat_map (row_sets f.sorts) list)
+            (flat_map (set_lines f.sorts) list) (flat_map (line_sets f.sorts) list) written_members;
         few = few;
       }
 
@@ -74,7 +81,8 @@ well_named limit text m read =
     let tokens = read.reads.tokens in
     let follows : Follows limit (start (length (words_of text tokens))) (lines_of text (words_of text tokens) tokens) read.list read.known =
     subst (λ (w : List (List ℕ)). Follows limit (start (length w)) (lines_of text w tokens) read.list read.known) (sym words) read.reads.follows in
-    let few : length (flat_map (set_lines read.known.sorts) read.list) < 2 ^ 32 = omega (arith, (within_limits limit text m read).set_lines, ap (λ (x : RobustModel). length x.set_lines) read.model_is) in
+    let model_is : m ≡ model_of (words_of text tokens) read.known.sorts read.list = read.model_is ∙ ap (λ (w : List (List ℕ)). model_of w read.known.sorts read.list) (sym words) in
+    let few : length (model_of (words_of text tokens) read.known.sorts read.list).set_lines < 2 ^ 32 = omega (arith, (within_limits limit text m read).set_lines, ap (λ (x : RobustModel). length x.set_lines) model_is) in
     subst IsNamed (ap (λ (w : List (List ℕ)). model_of w read.known.sorts read.list) words ∙ sym read.model_is)
     (named_parts limit text tokens (tokens_plain text tokens read.reads.are_tokens) read.list read.known follows few)
 
@@ -87,3 +95,12 @@ well_spelled limit text m read =
     subst (λ (w : List (List ℕ)). Follows limit (start (length w)) (lines_of text w tokens) read.list read.known) (sym words) read.reads.follows in
     subst (λ (x : RobustModel). Each IsSpelled (declared_names x)) (ap (λ (w : List (List ℕ)). model_of w read.known.sorts read.list) words ∙ sym read.model_is)
     (spelled_parts limit text tokens (tokens_plain text tokens read.reads.are_tokens) read.list read.known follows (tokens_word text tokens read.reads.are_tokens))
+
+-- no budget that is written has a name twice
+pub once_written : (limit : ℕ) (text : List ℕ) (m : RobustModel) (read : ReadsModel limit text m) → Each HasDistinctMembers (flat_map (set_lines read.known.sorts) read.list)
+once_written limit text m read =
+    let words = read.reads.words_are in
+    let tokens = read.reads.tokens in
+    let follows : Follows limit (start (length (words_of text tokens))) (lines_of text (words_of text tokens) tokens) read.list read.known =
+    subst (λ (w : List (List ℕ)). Follows limit (start (length w)) (lines_of text w tokens) read.list read.known) (sym words) read.reads.follows in
+    written_members limit text tokens (tokens_plain text tokens read.reads.are_tokens) read.list read.known follows

@@ -190,6 +190,16 @@ number_found words w h = go (nat_lt (position_or_len (bytes_eq w) words) (length
     go true is = f
     go false is = absurd (never _ _ f.0 is)
 
+-- each word is among the words
+pub in_place : (words : List (List ℕ)) (k : ℕ) → k < length words → In words (word_of words k)
+in_place [] k inside = absurd (omega arith)
+in_place (w ∷ words) zero inside = ap (λ (b : Bool). b || list_any (bytes_eq w) words) (self_word w)
+in_place (w ∷ words) (suc k) inside = go (bytes_eq (word_of words k) w) (in_place words k (omega arith))
+  where
+    go : (b : Bool) → In words (word_of words k) → b || list_any (bytes_eq (word_of words k)) words ≡ true
+    go true h = refl
+    go false h = h
+
 -- two numbers of one word are one
 pub one_number : (words : List (List ℕ)) (j k : ℕ) → AreDistinct words → j < length words → k < length words → word_of words j ≡ word_of words k → j ≡ k
 one_number [] j k d a b same = absurd (omega arith)

@@ -1,27 +1,27 @@
 -- The canonical lines of a readable model may be written, and its names are found among their words.
 use Rattle.std.proofs.Common.{◌≡◌, ℕ, zero, suc, ◌^◌, ◌<◌, ◌≤◌, Bool, true, false, List, [], ◌∷◌, ◌++◌, length, map, get_or, refl, sym, ap, ◌∙◌, subst, arith, append-nil}
-use Rattle.std.specs.Prelude.{nat_le, ◌==◌, nat_abs, int_lt, pos, if◌then◌else◌, Option, Some, None, fold}
+use Rattle.std.specs.Prelude.{nat_le, ◌==◌, nat_abs, int_lt, pos, if◌then◌else◌, Option, Some, None}
 use Rattle.std.specs.List.{flat_map}
 use Rattle.std.proofs.lemmas.Bool.Decides.{nat_tests}
 use Rattle.rob_algebra.specs.Fraction.{Fraction}
 use Rattle.rob_algebra.specs.Width.{Fits}
-use Rattle.rob_lex.specs.declared.token.Kind.TheVariants as kind
 use Rattle.rob_meaning.specs.Expressions as meaning
-use Rattle.rob_meaning.specs.Named.{parameter_names, variable_names, adaptive_names, row_names, declared_names}
+use Rattle.rob_meaning.specs.Named.{written_names, variable_names, adaptive_names, row_names, declared_names}
 use Rattle.rob_meaning.specs.Places.{Each}
 use Rattle.rob_meaning.specs.RobustModel as model
-use Rattle.rob_meaning.specs.RobustModel.{RobustModel}
+use Rattle.rob_meaning.specs.RobustModel.{RobustModel, written_count}
+use Rattle.rob_meaning.proofs.EachLemmas.{each_both}
+use Rattle.std.proofs.lemmas.List.{length-map}
 use Rattle.rob_parse.specs.declared.symbol.Mark.{Mark}
 use Rattle.rob_parse.specs.declared.symbol.Mark.TheVariants as mark
 use Rattle.rob_parse.specs.declared.symbol.Keyword.TheVariants as word
 use Rattle.rob_parse.specs.declared.symbol.Keyword.{Keyword}
 use Rattle.rob_parse.specs.declared.symbol.Symbol.{Symbol}
 use Rattle.rob_parse.specs.declared.symbol.Symbol.TheVariants.{Name, Reserved}
-use Rattle.rob_parse.specs.Canonical.{Written, name, digits, keyword, sign, negative, line_end, bytes_of, Naming, naming_of, name_at, minus_words, divisor_words, number_words, is_sum, is_compound, paren, enclosed, lead, times, comma, listed, expression_words, term_words, factor_words, relation_word, bound_words, member_words, comparison_words, parameter_words, variable_words, adaptive_words, set_words, row_words, goal_word, goal_words, lines_of}
-use Rattle.rob_parse.specs.Pages.{IsWord, IsWritable, ended, kind_of, words_on}
-use Rattle.rob_parse.specs.Readable.{IsSpelled, IsPlainNumber, IsBound, IsReadable, TermsReadable, FactorsReadable, IsReadableMember, IsReadableSetLine, IsReadableModel, IsDeclarable, AreDeclarable}
-use Rattle.rob_parse.specs.Symbols.{keywords, keyword_among, longest_name, number_of, word_symbol, word_at, add_word}
-use Rattle.rob_parse.proofs.AloneNames.{names_alone, declared_alone}
+use Rattle.rob_parse.specs.Canonical.{beside, declared_set_words, line_written, lines_over, over_words, placed_words, row_written, written_model, Written, name, digits, keyword, sign, negative, line_end, bytes_of, Naming, naming_of, name_at, minus_words, divisor_words, number_words, is_sum, is_compound, paren, enclosed, lead, times, comma, listed, expression_words, term_words, factor_words, relation_word, bound_words, member_words, comparison_words, parameter_words, variable_words, adaptive_words, set_words, row_words, goal_word, goal_words, lines_of}
+use Rattle.rob_parse.specs.Pages.{IsWritable, ended, kind_of, words_on}
+use Rattle.rob_parse.specs.Readable.{IsSpelled, IsBound, IsReadable, TermsReadable, FactorsReadable, IsReadableMember, IsReadableSetLine, IsReadableModel, IsDeclarable, AreDeclarable}
+use Rattle.rob_parse.specs.Symbols.{longest_name, number_of, word_symbol, word_at}
 use Rattle.rob_parse.proofs.WordSetLemmas.{In, words_in, number_found}
 
 -- ---- items of lists behind each other
@@ -155,15 +155,30 @@ module _ (limit : ℕ) (small : limit < 2 ^ 62) (names : Naming) (ps : Each IsSp
       (tt, both (number_words bound) (sign mark.Colon ∷ listed (member_words names) true (m ∷ ms)) (number_fine limit bound small h.0.0) (tt, list_fine (member_words names) (IsReadableMember limit names) member_fine true (m ∷ ms) h.1))
 
 -- ---- all lines
-module _ (limit : ℕ) (small : limit < 2 ^ 62) (m : RobustModel) (spelled : Each IsSpelled (declared_names m)) (readable : IsReadableModel limit (naming_of m) m) where
-  all_spelled : Each IsSpelled (names_alone m)
-  all_spelled = subst (Each IsSpelled) (declared_alone m readable.alone.sets) spelled
+over_fine : (sets : List (List ℕ)) → Each IsSpelled sets → (S : ℕ) → S < suc (length sets) → AreFine (over_words sets S)
+over_fine sets all zero h = tt
+over_fine sets all (suc S) h = (tt, ((at_place IsSpelled sets S all (omega arith)).is_word, tt))
 
-  of_parameters : Each IsSpelled (parameter_names m)
-  of_parameters = (apart IsSpelled (parameter_names m) (row_names m ++ (variable_names m ++ adaptive_names m)) all_spelled).0
+placed_each : {A : Type 0} (write : A → List Written) (sets : List (List ℕ)) (P : A → Type 0) → Each IsSpelled sets → ((x : A) → P x → AreFine (write x)) → (xs : List A) (Ss : List ℕ)
+    → Each P xs → length Ss ≡ length xs → Each (λ S. S < suc (length sets)) Ss → Each AreFine (lines_over write sets xs Ss)
+placed_each write sets P all to [] Ss h same there = tt
+placed_each write sets P all to (x ∷ xs) [] h same there = absurd (omega (arith, same))
+placed_each write sets P all to (x ∷ xs) (S ∷ Ss) h same there =
+    (both (write x) (over_words sets S) (to x h.0) (over_fine sets all S there.0), placed_each write sets P all to xs Ss h.1 (omega (arith, same)) there.1)
+
+-- the names of what is declared, kind by kind
+module _ (m : RobustModel) (spelled : Each IsSpelled (declared_names m)) where
+  of_parameters : Each IsSpelled (written_names m)
+  of_parameters = (apart IsSpelled (written_names m) _ spelled).0
+
+  behind_parameters : Each IsSpelled (m.sets ++ (row_names m ++ (variable_names m ++ adaptive_names m)))
+  behind_parameters = (apart IsSpelled (written_names m) _ spelled).1
+
+  of_sets : Each IsSpelled m.sets
+  of_sets = (apart IsSpelled m.sets _ behind_parameters).0
 
   rest : Each IsSpelled (row_names m ++ (variable_names m ++ adaptive_names m))
-  rest = (apart IsSpelled (parameter_names m) (row_names m ++ (variable_names m ++ adaptive_names m)) all_spelled).1
+  rest = (apart IsSpelled m.sets _ behind_parameters).1
 
   of_rows : Each IsSpelled (row_names m)
   of_rows = (apart IsSpelled (row_names m) (variable_names m ++ adaptive_names m) rest).0
@@ -174,18 +189,34 @@ module _ (limit : ℕ) (small : limit < 2 ^ 62) (m : RobustModel) (spelled : Eac
   of_adaptives : Each IsSpelled (adaptive_names m)
   of_adaptives = (apart IsSpelled (variable_names m) (adaptive_names m) (apart IsSpelled (row_names m) (variable_names m ++ adaptive_names m) rest).1).1
 
+each_written : (P : List ℕ → Type 0) (q : ℕ) (rs : List model.Row) → Each (λ (r : model.Row). P r.name) rs → Each (λ (r : model.Row). P r.name) (map (row_written q) rs)
+each_written P q [] h = tt
+each_written P q (r ∷ rs) h = (h.0, each_written P q rs h.1)
+
+module _ (limit : ℕ) (small : limit < 2 ^ 62) (m : RobustModel) (spelled : Each IsSpelled (declared_names m)) (readable : IsReadableModel limit (naming_of m) m) where
+  abbrev w : RobustModel
+  w = written_model m
+
   pub all_fine : Each (Each IsWritable) (lines_of m)
   all_fine =
       let names = naming_of m in
-      let compares = comparison_fine limit small names of_parameters of_variables of_adaptives in
-      join AreFine (map parameter_words m.parameters) _
-      (lines_each parameter_words (λ (p : model.Parameter). IsSpelled p.name × (IsBound limit p.lower × IsBound limit p.upper)) (λ p h. (tt, (h.0.is_word, bounds_fine limit small p.lower p.upper h.1.0 h.1.1))) m.parameters
-      (pair_each (λ (p : model.Parameter). IsSpelled p.name) _ m.parameters (named_each IsSpelled (λ (p : model.Parameter). p.name) m.parameters of_parameters) readable.parameters))
-      (join AreFine (map (set_words names) m.set_lines) _
-      (lines_each (set_words names) (IsReadableSetLine limit names) (set_fine limit small names of_parameters of_variables of_adaptives) m.set_lines readable.set_lines)
+      let parts = readable.parts in
+      let placed = readable.placed in
+      let ps = of_parameters m spelled in
+      let xs = of_variables m spelled in
+      let ys = of_adaptives m spelled in
+      let compares = comparison_fine limit small names ps xs ys in
+      join AreFine (map parameter_words w.parameters) _
+      (lines_each parameter_words (λ (p : model.Parameter). IsSpelled p.name × (IsBound limit p.lower × IsBound limit p.upper)) (λ p h. (tt, (h.0.is_word, bounds_fine limit small p.lower p.upper h.1.0 h.1.1))) w.parameters
+      (pair_each (λ (p : model.Parameter). IsSpelled p.name) _ w.parameters (named_each IsSpelled (λ (p : model.Parameter). p.name) w.parameters ps) parts.parameters))
+      (join AreFine (map declared_set_words m.sets) _
+      (lines_each declared_set_words IsSpelled (λ n h. (tt, (h.is_word, tt))) m.sets (of_sets m spelled))
+      (join AreFine (lines_over (set_words names) m.sets w.set_lines m.line_sets) _
+      (placed_each (set_words names) m.sets (IsReadableSetLine limit names) (of_sets m spelled) (set_fine limit small names ps xs ys) w.set_lines m.line_sets parts.set_lines
+      (placed.line_sets ∙ sym (length-map m.set_lines (line_written (written_count m)))) placed.of_lines)
       (join AreFine (map variable_words m.variables) _
       (lines_each variable_words (λ (x : model.Variable). IsSpelled x.name × (IsBound limit x.lower × IsBound limit x.upper)) (λ x h. (tt, (h.0.is_word, bounds_fine limit small x.lower x.upper h.1.0 h.1.1))) m.variables
-      (pair_each (λ (x : model.Variable). IsSpelled x.name) _ m.variables (named_each IsSpelled (λ (x : model.Variable). x.name) m.variables of_variables) readable.variables))
+      (pair_each (λ (x : model.Variable). IsSpelled x.name) _ m.variables (named_each IsSpelled (λ (x : model.Variable). x.name) m.variables xs) parts.variables))
       (join AreFine (map (adaptive_words names) m.adaptives) _
       (lines_each (adaptive_words names) (λ (y : model.AdaptiveVariable). IsSpelled y.name × (Each (λ k. k < length names.parameters) y.on × (IsBound limit y.lower × IsBound limit y.upper)))
       (λ y h. (
@@ -195,16 +226,19 @@ module _ (limit : ℕ) (small : limit < 2 ^ 62) (m : RobustModel) (spelled : Eac
           (
             tt,
             both (listed (λ k. name_at names.parameters k ∷ []) true y.on) (sign mark.Close ∷ bound_words y.lower y.upper)
-                (list_fine (λ k. name_at names.parameters k ∷ []) (λ k. k < length names.parameters) (λ k inside. name_fine limit small names of_parameters of_variables of_adaptives names.parameters k of_parameters inside) true y.on h.1.0)
+                (list_fine (λ k. name_at names.parameters k ∷ []) (λ k. k < length names.parameters) (λ k inside. name_fine limit small names ps xs ys names.parameters k ps inside) true y.on h.1.0)
                 (tt, bounds_fine limit small y.lower y.upper h.1.1.0 h.1.1.1),
           ),
         ),
       )) m.adaptives
-      (pair_each (λ (y : model.AdaptiveVariable). IsSpelled y.name) _ m.adaptives (named_each IsSpelled (λ (y : model.AdaptiveVariable). y.name) m.adaptives of_adaptives) readable.adaptives)) (
-        (goal_fine m.sense, expression_fine limit small names of_parameters of_variables of_adaptives m.objective readable.objective),
-        lines_each (row_words names) (λ (r : model.Row). IsSpelled r.name × (IsReadable limit names r.left × IsReadable limit names r.right)) (λ r h. (tt, (h.0.is_word, (tt, compares r.left r.relation r.right h.1.0 h.1.1)))) m.rows
-            (pair_each (λ (r : model.Row). IsSpelled r.name) _ m.rows (named_each IsSpelled (λ (r : model.Row). r.name) m.rows of_rows) readable.rows),
-      ))))
+      (pair_each (λ (y : model.AdaptiveVariable). IsSpelled y.name) _ m.adaptives (named_each IsSpelled (λ (y : model.AdaptiveVariable). y.name) m.adaptives ys) parts.adaptives)) (
+        both (goal_words names m.sense w.objective) (over_words m.sets m.objective_set) (goal_fine m.sense, expression_fine limit small names ps xs ys w.objective parts.objective)
+            (over_fine m.sets (of_sets m spelled) m.objective_set placed.of_objective),
+        placed_each (row_words names) m.sets (λ (r : model.Row). IsSpelled r.name × (IsReadable limit names r.left × IsReadable limit names r.right)) (of_sets m spelled)
+            (λ r h. (tt, (h.0.is_word, (tt, compares r.left r.relation r.right h.1.0 h.1.1)))) w.rows m.row_sets
+            (pair_each (λ (r : model.Row). IsSpelled r.name) _ w.rows (each_written IsSpelled (written_count m) m.rows (named_each IsSpelled (λ (r : model.Row). r.name) m.rows (of_rows m spelled))) parts.rows)
+            (placed.row_sets ∙ sym (length-map m.rows (row_written (written_count m)))) placed.of_rows,
+      )))))
 
 -- ---- names among the words of the lines
 abbrev words_in_line : List Written → List (List ℕ)
@@ -233,7 +267,7 @@ module _ (P : List ℕ → Type 0) where
   others write [] ls h = h
   others write (z ∷ zs) ls h = others write zs ls (skip (write z) (line_end ∷ ended (map write zs ++ ls)) h)
 
-name_read : (words : List (List ℕ)) (n : List ℕ) → IsSpelled n → In words n → IsDeclarable words n
+pub name_read : (words : List (List ℕ)) (n : List ℕ) → IsSpelled n → In words n → IsDeclarable words n
 name_read words n spelled inside = record {
   is_name = ap (λ (s : Symbol). s ∷ []) (ap (word_symbol words n) spelled.no_keyword ∙ short (nat_le (length n) longest_name) refl);
   word_is = (number_found words n inside).1;
@@ -250,26 +284,33 @@ declarable_each : {A : Type 0} (words : List (List ℕ)) (named : A → List ℕ
 declarable_each words named [] a b = tt
 declarable_each words named (z ∷ zs) a b = (name_read words (named z) a.0 b.0, declarable_each words named zs a.1 b.1)
 
-module _ (m : RobustModel) (alone : m.sets ≡ []) (spelled : Each IsSpelled (declared_names m)) where
+-- what is true of the names of rows beside their sets is true of the rows
+rows_from : (P : List ℕ → Type 0) (q : ℕ) (rs : List model.Row) (Ss : List ℕ) → Each (λ (z : model.Row × ℕ). P z.0.name) (beside (map (row_written q) rs) Ss) → Each (λ (r : model.Row). P r.name) rs
+rows_from P q [] Ss h = tt
+rows_from P q (r ∷ rs) [] h = (h.0, rows_from P q rs [] h.1)
+rows_from P q (r ∷ rs) (S ∷ Ss) h = (h.0, rows_from P q rs Ss h.1)
+
+module _ (m : RobustModel) (spelled : Each IsSpelled (declared_names m)) where
   pub all_declarable : AreDeclarable (words_on (lines_of m)) m
   all_declarable =
       let names = naming_of m in
       let words = words_on (lines_of m) in
-      let s = apart IsSpelled (parameter_names m) (row_names m ++ (variable_names m ++ adaptive_names m)) (subst (Each IsSpelled) (declared_alone m alone) spelled) in
-      let r = apart IsSpelled (row_names m) (variable_names m ++ adaptive_names m) s.1 in
-      let v = apart IsSpelled (variable_names m) (adaptive_names m) r.1 in
       let all : Each (In words) (words_in_line (ended (lines_of m))) = words_in (words_in_line (ended (lines_of m))) [] in
-      let rows = map (row_words names) m.rows in
-      let goal = goal_words names m.sense m.objective in
-      let a = heads (In words) word.Uncertain (λ (p : model.Parameter). p.name) (λ (p : model.Parameter). bound_words p.lower p.upper) m.parameters _ all in
-      let b = others (In words) (set_words names) m.set_lines _ a.1 in
+      let w = written_model m in
+      let pairs = beside w.rows m.row_sets in
+      let rows = map (placed_words (row_words names) m.sets) pairs in
+      let goal = goal_words names m.sense w.objective ++ over_words m.sets m.objective_set in
+      let a = heads (In words) word.Uncertain (λ (p : model.Parameter). p.name) (λ (p : model.Parameter). bound_words p.lower p.upper) w.parameters _ all in
+      let n = heads (In words) word.Over (λ (n : List ℕ). n) (λ (n : List ℕ). []) m.sets _ a.1 in
+      let b = others (In words) (placed_words (set_words names) m.sets) (beside w.set_lines m.line_sets) _ n.1 in
       let c = heads (In words) word.Var (λ (x : model.Variable). x.name) (λ (x : model.Variable). bound_words x.lower x.upper) m.variables _ b in
       let d = heads (In words) word.Adaptive (λ (y : model.AdaptiveVariable). y.name) (λ (y : model.AdaptiveVariable). sign mark.Open ∷ (listed (λ k. name_at names.parameters k ∷ []) true y.on ++ sign mark.Close ∷ bound_words y.lower y.upper)) m.adaptives (goal ∷ rows) c.1 in
       let e : Each (In words) (words_in_line (ended (rows ++ []))) = subst (λ (l : List (List Written)). Each (In words) (words_in_line (ended l))) (sym (append-nil rows)) (skip (In words) goal (line_end ∷ ended rows) d.1) in
-      let f = heads (In words) word.Row (λ (r : model.Row). r.name) (λ (r : model.Row). sign mark.Colon ∷ comparison_words names r.left r.relation r.right) m.rows [] e in
+      let f = heads (In words) word.Row (λ (z : model.Row × ℕ). z.0.name) (λ (z : model.Row × ℕ). sign mark.Colon ∷ (comparison_words names z.0.left z.0.relation z.0.right ++ over_words m.sets z.1)) pairs [] e in
       record {
-        parameters = declarable_each words (λ (p : model.Parameter). p.name) m.parameters s.0 a.0;
-        variables = declarable_each words (λ (x : model.Variable). x.name) m.variables v.0 c.0;
-        adaptives = declarable_each words (λ (y : model.AdaptiveVariable). y.name) m.adaptives v.1 d.0;
-        rows = declarable_each words (λ (r : model.Row). r.name) m.rows r.0 f.0;
+        parameters = declarable_each words (λ (p : model.Parameter). p.name) w.parameters (of_parameters m spelled) a.0;
+        sets = each_both IsSpelled (In words) (IsDeclarable words) (λ n s i. name_read words n s i) m.sets (of_sets m spelled) n.0;
+        variables = declarable_each words (λ (x : model.Variable). x.name) m.variables (of_variables m spelled) c.0;
+        adaptives = declarable_each words (λ (y : model.AdaptiveVariable). y.name) m.adaptives (of_adaptives m spelled) d.0;
+        rows = declarable_each words (λ (r : model.Row). r.name) m.rows (of_rows m spelled) (rows_from (In words) (written_count m) m.rows m.row_sets f.0);
       }

@@ -1,5 +1,5 @@
 -- What the steps from statements to a model ask for and say.
-use Rattle.std.specs.Prelude.{◌≡◌, ℕ, ◌≤◌, ◌<◌, ◌++◌, Option, Some, None, unwrap_or}
+use Rattle.std.specs.Prelude.{◌≡◌, ℕ, ◌+◌, ◌*◌, ◌^◌, ◌≤◌, ◌<◌, ◌++◌, Option, Some, None, unwrap_or}
 use Rattle.rob_meaning.specs.Places.{Each}
 use Rattle.rob_meaning.specs.RobustModel.{RobustModel}
 use Rattle.rob_parse.specs.declared.sort.Sort.{Sort}
@@ -10,8 +10,10 @@ use Rattle.rob_parse.specs.declared.syntax.Bounds.TheVariants.{Between, AtLeast,
 use Rattle.rob_parse.specs.declared.syntax.Member.{Member}
 use Rattle.rob_parse.specs.declared.syntax.Relation.{Relation}
 use Rattle.rob_parse.specs.declared.syntax.Statement.{Statement}
-use Rattle.rob_parse.specs.declared.syntax.Statement.TheVariants.{Uncertain, Set, Budget, Var, Adaptive, Goal, Row}
-use Rattle.rob_parse.specs.Models.{parameters, variables, adaptives, set_lines, rows}
+use Rattle.rob_parse.specs.declared.syntax.Statement.TheVariants.{Uncertain, Over, Set, Budget, Var, Adaptive, Goal, Row}
+use Rattle.rob_parse.specs.declared.place.Place.{Place}
+use Rattle.rob_parse.specs.declared.scope.Scope.{Scope}
+use Rattle.rob_parse.specs.Models.{each_taken, parameters, sets, variables, adaptives, set_lines, line_sets, line_taken, rows, row_sets, row_taken, set_at, parameter_at}
 use Rattle.rob_parse.specs.Trees.{Tree, number, name, sum, product, Summands, no_summands, summand, Operands, no_operands, operand, tree_of}
 
 module _ (limit : ℕ) where
@@ -51,6 +53,7 @@ module _ (limit : ℕ) where
 
   abbrev pub FitsStatement : Statement → Type 0
   FitsStatement (Uncertain d) = FitsBounds d.bounds
+  FitsStatement (Over k) = Unit {0}
   FitsStatement (Set r) = FitsRelation r
   FitsStatement (Budget b) = FitsNumber b.limit × Each FitsMember b.members
   FitsStatement (Var d) = FitsBounds d.bounds
@@ -58,16 +61,29 @@ module _ (limit : ℕ) where
   FitsStatement (Goal g) = FitsTree (tree_of g.objective)
   FitsStatement (Row r) = FitsRelation r.relation
 
--- a model has got the parts that a statement says
-pub record HasAdded (words : List (List ℕ)) (sorts : List (Option Sort)) (s : Statement) (old new : RobustModel) : Type 0 where
+-- the number of each written parameter, as the set takes it, fits a machine's number
+abbrev pub HasRoom : List (Option Sort) → Place → Type 0
+HasRoom sorts place = (name : ℕ) → place.set * place.count + parameter_at sorts name < 2 ^ 32
+
+-- the set that a line is over, and how many parameters the text writes, as the code keeps them
+abbrev pub place_of : Scope → Option ℕ → Place
+place_of scope over = record { count = scope.sizes.parameters; set = set_at scope.sorts.items over }
+
+-- so it is for the set of every line
+pub record HasRoomForAll (scope : Scope) : Type 0 where
+  pub count : scope.sizes.parameters < 2 ^ 32
+  pub room : (over : Option ℕ) → HasRoom scope.sorts.items (place_of scope over)
+
+-- a model has got the parts that a statement says, taken in the statement's set
+pub record HasAdded (words : List (List ℕ)) (scope : Scope) (s : Statement) (old new : RobustModel) : Type 0 where
   pub parameters_are : new.parameters ≡ old.parameters ++ parameters words s
-  pub set_lines_are : new.set_lines ≡ old.set_lines ++ set_lines sorts s
+  pub set_lines_are : new.set_lines ≡ old.set_lines ++ each_taken (line_taken scope.sizes.parameters) (set_lines scope.sorts.items s) (line_sets scope.sorts.items s)
   pub variables_are : new.variables ≡ old.variables ++ variables words s
-  pub adaptives_are : new.adaptives ≡ old.adaptives ++ adaptives words sorts s
-  pub rows_are : new.rows ≡ old.rows ++ rows words sorts s
+  pub adaptives_are : new.adaptives ≡ old.adaptives ++ adaptives words scope.sorts.items s
+  pub rows_are : new.rows ≡ old.rows ++ each_taken (row_taken scope.sizes.parameters) (rows words scope.sorts.items s) (row_sets scope.sorts.items s)
   pub sense_is : new.sense ≡ old.sense
   pub objective_is : new.objective ≡ old.objective
-  pub sets_are : new.sets ≡ old.sets
-  pub line_sets_are : new.line_sets ≡ old.line_sets
+  pub sets_are : new.sets ≡ old.sets ++ sets words s
+  pub line_sets_are : new.line_sets ≡ old.line_sets ++ line_sets scope.sorts.items s
   pub objective_set_is : new.objective_set ≡ old.objective_set
-  pub row_sets_are : new.row_sets ≡ old.row_sets
+  pub row_sets_are : new.row_sets ≡ old.row_sets ++ row_sets scope.sorts.items s

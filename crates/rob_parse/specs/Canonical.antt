@@ -1,12 +1,12 @@
 -- The canonical text of a model: its statements, kind by kind and each kind in order, a line each. A line is written word by
 -- word and sign by sign, and the spaces between them follow from what stands on both sides.
 use Rattle.std.specs.Fmt.{decimal}
-use Rattle.std.specs.Prelude.{ℕ, ◌++◌, ◌==◌, ◌||◌, Bool, true, false, List, [], ◌∷◌, map, fold, get_or, codes, nat_abs, int_lt, pos, if◌then◌else◌, Option, Some, None}
+use Rattle.std.specs.Prelude.{ℕ, zero, suc, ◌%◌, ◌++◌, ◌==◌, Bool, true, false, List, [], ◌∷◌, map, fold, get_or, codes, nat_abs, int_lt, pos, if◌then◌else◌, Option, Some, None}
 use Rattle.rob_algebra.specs.Fraction.{Fraction}
 use Rattle.rob_meaning.specs.Expressions.{Expression, number, parameter, variable, adaptive, adaptive_in, sum, product, Terms, no_terms, term, Factors, no_factors, factor}
-use Rattle.rob_meaning.specs.Named.{parameter_names, variable_names, adaptive_names}
+use Rattle.rob_meaning.specs.Named.{parameter_names, written_names, variable_names, adaptive_names}
 use Rattle.rob_meaning.specs.Names.{Name}
-use Rattle.rob_meaning.specs.RobustModel.{Relation, at_most, at_least, equal, Sense, minimise, maximise, Parameter, Variable, AdaptiveVariable, Member, SetLine, line, budget, Row, RobustModel}
+use Rattle.rob_meaning.specs.RobustModel.{Relation, at_most, at_least, equal, Sense, minimise, maximise, Parameter, Variable, AdaptiveVariable, Member, SetLine, line, budget, Row, RobustModel, written_count, written_parameters}
 use Rattle.rob_parse.specs.declared.symbol.Keyword.{Keyword}
 use Rattle.rob_parse.specs.declared.symbol.Keyword.TheVariants as word
 use Rattle.rob_parse.specs.declared.symbol.Mark.{Mark}
@@ -38,6 +38,7 @@ keyword_text word.Row = codes "row"
 keyword_text word.In = codes "in"
 keyword_text word.At = codes "at"
 keyword_text word.By = codes "by"
+keyword_text word.Over = codes "over"
 keyword_text word.Unused = []
 
 abbrev pub mark_text : Mark → List ℕ
@@ -128,6 +129,54 @@ minus_words minus = if minus then (negative ∷ []) else []
 abbrev pub number_words : Fraction → List Written
 number_words q = minus_words (int_lt q.num (pos 0)) ++ (digits (nat_abs q.num) ∷ divisor_words q.den)
 
+-- ---- what a model has written: each parameter and each adaptive variable by its declared name, whatever set it is taken in
+module _ (count : ℕ) where
+  abbrev mutual
+    -- an expression as it is written, where there are so many written parameters
+    pub written : Expression → Expression
+    written (number q) = number q
+    written (parameter k) = parameter (k % count)
+    written (variable k) = variable k
+    written (adaptive y) = adaptive y
+    written (adaptive_in y S) = adaptive y
+    written (sum ts) = sum (terms_written ts)
+    written (product fs) = product (factors_written fs)
+
+    pub terms_written : Terms → Terms
+    terms_written no_terms = no_terms
+    terms_written (term minus e ts) = term minus (written e) (terms_written ts)
+
+    pub factors_written : Factors → Factors
+    factors_written no_factors = no_factors
+    factors_written (factor e fs) = factor (written e) (factors_written fs)
+
+  -- a member of a budget, a statement on a set, and a row, as they are written
+  abbrev pub member_written : Member → Member
+  member_written h = record h { parameter = h.parameter % count }
+
+  abbrev pub line_written : SetLine → SetLine
+  line_written (line left relation right) = line (written left) relation (written right)
+  line_written (budget limit members) = budget limit (map member_written members)
+
+  abbrev pub row_written : Row → Row
+  row_written r = record r { left = written r.left; right = written r.right }
+
+-- the model over the written parameters, without sets
+abbrev pub written_model : RobustModel → RobustModel
+written_model m = record {
+  parameters = written_parameters m;
+  sets = [];
+  set_lines = map (line_written (written_count m)) m.set_lines;
+  line_sets = [];
+  variables = m.variables;
+  adaptives = m.adaptives;
+  sense = m.sense;
+  objective = written (written_count m) m.objective;
+  objective_set = 0;
+  rows = map (row_written (written_count m)) m.rows;
+  row_sets = [];
+}
+
 -- ---- expressions
 abbrev pub is_sum : Expression → Bool
 is_sum (sum ts) = true
@@ -166,14 +215,15 @@ abbrev pub listed : {A : Type 0} → (A → List Written) → Bool → List A �
 listed words first [] = []
 listed words first (x ∷ xs) = comma first ++ (words x ++ listed words false xs)
 
--- the names of what an expression holds
+-- the names of what an expression that is written holds, and of the sets
 pub record Naming : Type 0 where
   pub parameters : List Name
+  pub sets : List Name
   pub variables : List Name
   pub adaptives : List Name
 
 abbrev pub naming_of : RobustModel → Naming
-naming_of m = record { parameters = parameter_names m; variables = variable_names m; adaptives = adaptive_names m }
+naming_of m = record { parameters = written_names m; sets = m.sets; variables = variable_names m; adaptives = adaptive_names m }
 
 abbrev pub name_at : List Name → ℕ → Written
 name_at names k = name (get_or names k [])
@@ -239,6 +289,29 @@ module _ (names : Naming) where
   abbrev pub row_words : Row → List Written
   row_words r = keyword word.Row ∷ (name r.name ∷ (sign mark.Colon ∷ comparison_words r.left r.relation r.right))
 
+-- the line that declares a set
+abbrev pub declared_set_words : Name → List Written
+declared_set_words set = keyword word.Over ∷ name set ∷ []
+
+-- what ends a line that answers to set `S`, where these are the named sets: nothing for the default set
+abbrev pub over_words : List Name → ℕ → List Written
+over_words sets zero = []
+over_words sets (suc S) = keyword word.Over ∷ name_at sets S ∷ []
+
+-- each item with the set of this number beside it; what has no number belongs to the default set
+abbrev pub beside : {A : Type 0} → List A → List ℕ → List (A × ℕ)
+beside [] Ss = []
+beside (x ∷ xs) [] = (x, 0) ∷ beside xs []
+beside (x ∷ xs) (S ∷ Ss) = (x, S) ∷ beside xs Ss
+
+-- the words of an item, and what ends its line
+abbrev pub placed_words : {A : Type 0} → (A → List Written) → List Name → A × ℕ → List Written
+placed_words words sets z = words z.0 ++ over_words sets z.1
+
+-- a line for each item, which answers to the set beside it
+abbrev pub lines_over : {A : Type 0} → (A → List Written) → List Name → List A → List ℕ → List (List Written)
+lines_over words sets xs Ss = map (placed_words words sets) (beside xs Ss)
+
 abbrev pub goal_word : Sense → Written
 goal_word minimise = keyword word.Minimise
 goal_word maximise = keyword word.Maximise
@@ -250,11 +323,31 @@ goal_words names sense objective = goal_word sense ∷ expression_words names ob
 -- the lines, in the order of the kinds
 abbrev pub lines_of : RobustModel → List (List Written)
 lines_of m =
-    map parameter_words m.parameters
-    ++ (map (set_words (naming_of m)) m.set_lines
+    let w = written_model m in
+    map parameter_words w.parameters
+    ++ (map declared_set_words m.sets
+    ++ (lines_over (set_words (naming_of m)) m.sets w.set_lines m.line_sets
     ++ (map variable_words m.variables
     ++ (map (adaptive_words (naming_of m)) m.adaptives
-    ++ goal_words (naming_of m) m.sense m.objective ∷ map (row_words (naming_of m)) m.rows)))
+    ++ (goal_words (naming_of m) m.sense w.objective ++ over_words m.sets m.objective_set)
+    ∷ lines_over (row_words (naming_of m)) m.sets w.rows m.row_sets))))
+
+-- the same lines of a model that names no set: each part as it is, and no line ends in a set
+abbrev pub naming_alone : RobustModel → Naming
+naming_alone m = record { parameters = parameter_names m; sets = []; variables = variable_names m; adaptives = adaptive_names m }
+
+abbrev pub lines_alone : RobustModel → List (List Written)
+lines_alone m =
+    map parameter_words m.parameters
+    ++ (map (set_words (naming_alone m)) m.set_lines
+    ++ (map variable_words m.variables
+    ++ (map (adaptive_words (naming_alone m)) m.adaptives
+    ++ goal_words (naming_alone m) m.sense m.objective ∷ map (row_words (naming_alone m)) m.rows)))
+
+-- it isn't the word `over`
+abbrev pub IsNotOver : Written → Type 0
+IsNotOver (keyword word.Over) = ⊥
+IsNotOver w = Unit {0}
 
 -- the page with one line more
 abbrev pub put_line : Page → List Written → Page

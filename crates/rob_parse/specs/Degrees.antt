@@ -3,7 +3,7 @@
 -- Optimization (2009), chapter 14.
 use Rattle.std.specs.Prelude.{ℕ, ◌+◌, max, Bool, true, false, ◌||◌, List, [], ◌∷◌, ◌++◌, Option, Some, None, get_or}
 use Rattle.rob_parse.specs.declared.sort.Sort.{Sort}
-use Rattle.rob_parse.specs.declared.sort.Sort.TheVariants.{Parameter, Decision, Policy, RowName}
+use Rattle.rob_parse.specs.declared.sort.Sort.TheVariants.{Parameter, Decision, Policy, RowName, Set}
 use Rattle.rob_parse.specs.Trees.{Tree, number, name, sum, product, Summands, no_summands, summand, Operands, no_operands, operand}
 
 -- what the word of this number stands for, if it is declared
@@ -26,6 +26,7 @@ degree_of_sort (Some (Decision k)) = record { decision = 1; uncertain = 0; recou
 degree_of_sort (Some (Policy k false)) = record { decision = 1; uncertain = 0; recourse = false }
 degree_of_sort (Some (Policy k true)) = record { decision = 1; uncertain = 1; recourse = true }
 degree_of_sort (Some RowName) = constant
+degree_of_sort (Some (Set S)) = constant
 degree_of_sort None = constant
 
 -- a product has the sum of each degree

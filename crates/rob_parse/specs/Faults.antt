@@ -1,15 +1,16 @@
 -- What may be wrong with a line that is a statement, judged on its symbols, on the statement with its trees, and on what the
 -- lines in front of it say.
-use Rattle.std.specs.Prelude.{ℕ, nat_lt, ◌==◌, not, Bool, true, false, ◌&&◌, ◌||◌, List, [], ◌∷◌, drop, is_some, Option, Some, None}
+use Rattle.std.specs.Prelude.{ℕ, ◌-◌, nat_lt, ◌==◌, not, Bool, true, false, ◌&&◌, ◌||◌, List, [], ◌∷◌, drop, take, length, is_some, Option, Some, None}
 use Rattle.std.specs.List.{list_any, find, flat_map}
 use Rattle.rob_parse.specs.declared.symbol.Symbol.{Symbol}
 use Rattle.rob_parse.specs.declared.symbol.Symbol.TheVariants as symbol
 use Rattle.rob_parse.specs.declared.symbol.Mark.TheVariants.{Slash}
 use Rattle.rob_parse.specs.declared.symbol.Keyword.TheVariants.{By}
 use Rattle.rob_parse.specs.declared.sort.Sort.{Sort}
+use Rattle.rob_parse.specs.declared.sort.Sort.TheVariants as sort
 use Rattle.rob_parse.specs.declared.sort.Sort.TheVariants.{Parameter, Decision, Policy, RowName}
 use Rattle.rob_parse.specs.declared.syntax.Statement.{Statement}
-use Rattle.rob_parse.specs.declared.syntax.Statement.TheVariants.{Uncertain, Set, Budget, Var, Adaptive, Goal, Row}
+use Rattle.rob_parse.specs.declared.syntax.Statement.TheVariants.{Uncertain, Over, Set, Budget, Var, Adaptive, Goal, Row}
 use Rattle.rob_parse.specs.declared.fault.Fault.{Fault}
 use Rattle.rob_parse.specs.declared.fault.Fault.TheVariants.{NotAStatement, NameTwice, NameUnknown, NumberTooLong, DeviationNotPositive, TwoDecisions, TwoUncertain, RandomRecourse, DecisionInSet, NoObjective, ObjectiveTwice, Limit, ZeroDivisor}
 use Rattle.rob_parse.specs.declared.fault.Lead.{Lead}
@@ -41,12 +42,26 @@ expressions _ = []
 -- how many symbols stand in front of the names that a statement uses: its keyword, and the name that it declares
 abbrev pub head_length : Statement → ℕ
 head_length (Uncertain _) = 2
+head_length (Over _) = 2
 head_length (Var _) = 2
 head_length (Adaptive _) = 2
 head_length (Row _) = 2
 head_length (Set _) = 1
 head_length (Budget _) = 1
 head_length (Goal _) = 1
+
+-- the name behind `over` at the end of a statement, if one is there
+abbrev pub over_of : Statement → Option ℕ
+over_of (Set r) = r.over
+over_of (Budget b) = b.over
+over_of (Goal g) = g.over
+over_of (Row r) = r.relation.over
+over_of _ = None
+
+-- symbols without the word `over` and the name behind it, if these stand at their end
+abbrev pub before_over : Option ℕ → List Symbol → List Symbol
+before_over None symbols = symbols
+before_over (Some k) symbols = take (length symbols - 2) symbols
 
 -- an adaptive variable or a budget, whose names are a list
 abbrev pub is_listing : Statement → Bool
@@ -61,12 +76,13 @@ is_of_set (Budget _) = true
 is_of_set (Adaptive _) = true
 is_of_set _ = false
 
--- a name that may be used: it is declared, and isn't a row's
+-- a name that may be used: it is declared, and is neither a row's nor a set's
 abbrev pub is_usable : Option Sort → Bool
 is_usable (Some (Parameter _)) = true
 is_usable (Some (Decision _)) = true
 is_usable (Some (Policy _ _)) = true
 is_usable (Some RowName) = false
+is_usable (Some (sort.Set _)) = false
 is_usable None = false
 
 -- a variable or an adaptive variable
@@ -74,6 +90,16 @@ abbrev pub is_decision : Option Sort → Bool
 is_decision (Some (Decision _)) = true
 is_decision (Some (Policy _ _)) = true
 is_decision _ = false
+
+-- the name of a set
+abbrev pub is_set : Option Sort → Bool
+is_set (Some (sort.Set _)) = true
+is_set _ = false
+
+-- the name behind `over` isn't a set's
+abbrev pub is_over_none : List (Option Sort) → Option ℕ → Bool
+is_over_none sorts None = false
+is_over_none sorts (Some k) = not (is_set (sort_at sorts k))
 
 -- the symbol is the name of this number
 abbrev pub is_name : ℕ → Symbol → Bool
@@ -133,25 +159,25 @@ in_order =
     NameTwice ∷ NameUnknown ∷ NumberTooLong ∷ DeviationNotPositive ∷ TwoDecisions ∷ TwoUncertain ∷ RandomRecourse
     ∷ DecisionInSet ∷ ObjectiveTwice ∷ Limit ∷ ZeroDivisor ∷ []
 
-module _ (limit : ℕ) (e : Earlier) (symbols : List Symbol) (s : Statement) where
-  -- the symbols that hold the names that the statement uses
-  abbrev pub used : List Symbol
-  used = drop (head_length s) symbols
+-- the symbols that hold the names that a statement uses, but for that behind `over`
+abbrev pub used : List Symbol → Statement → List Symbol
+used symbols s = before_over (over_of s) (drop (head_length s) symbols)
 
+module _ (limit : ℕ) (e : Earlier) (symbols : List Symbol) (s : Statement) where
   -- some product of the statement is so
   abbrev pub some_product : (Degree → Bool) → Bool
   some_product test = list_any test (flat_map (products e.sorts) (expressions s))
 
   -- what each fault is; the two that are no fault of a statement are judged elsewhere
   abbrev pub has_fault : Fault → Bool
-  has_fault NameTwice = is_declared e.sorts (declared_by e.sizes s) || (is_listing s && has_twice used)
-  has_fault NameUnknown = list_any (is_unknown e.sorts) used
+  has_fault NameTwice = is_declared e.sorts (declared_by e.sizes s) || (is_listing s && has_twice (used symbols s))
+  has_fault NameUnknown = list_any (is_unknown e.sorts) (used symbols s) || is_over_none e.sorts (over_of s)
   has_fault NumberTooLong = list_any (is_over limit) symbols
   has_fault DeviationNotPositive = has_zero_behind lead.By symbols
   has_fault TwoDecisions = some_product has_two_decisions
   has_fault TwoUncertain = some_product has_two_uncertain
   has_fault RandomRecourse = some_product has_random_recourse
-  has_fault DecisionInSet = is_of_set s && list_any (names_decision e.sorts) used
+  has_fault DecisionInSet = is_of_set s && list_any (names_decision e.sorts) (used symbols s)
   has_fault ObjectiveTwice = is_goal s && e.goal
   has_fault Limit = not (is_within (counted e.sizes s))
   has_fault ZeroDivisor = has_zero_behind lead.Slash symbols

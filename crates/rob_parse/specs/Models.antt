@@ -1,11 +1,14 @@
 -- The model that a text's statements say: the parts of each kind in order, each name as its number, and numbers as fractions.
-use Rattle.std.specs.Prelude.{ℕ, pos, List, [], ◌∷◌, map, get_or, Option, Some, None, unwrap_or}
+-- A statement is first what it writes, over the written parameters; then it is taken in the set that it answers to.
+use Rattle.std.specs.Prelude.{ℕ, zero, suc, ◌+◌, ◌*◌, pos, List, [], ◌∷◌, length, map, get_or, Option, Some, None, unwrap_or}
 use Rattle.std.specs.List.{flat_map}
 use Rattle.rob_algebra.specs.Fraction.{Fraction, of_pair}
 use Rattle.rob_meaning.specs.Expressions as meaning
 use Rattle.rob_meaning.specs.Values.{signed}
 use Rattle.rob_meaning.specs.RobustModel as model
+use Rattle.rob_meaning.specs.RobustModel.{joint_parameters}
 use Rattle.rob_parse.specs.declared.sort.Sort.{Sort}
+use Rattle.rob_parse.specs.declared.sort.Sort.TheVariants as sort
 use Rattle.rob_parse.specs.declared.sort.Sort.TheVariants.{Parameter, Decision, Policy, RowName}
 use Rattle.rob_parse.specs.declared.syntax.Numeral.{Numeral}
 use Rattle.rob_parse.specs.declared.syntax.Signed.{Signed}
@@ -64,6 +67,7 @@ named (Some (Parameter k)) = meaning.parameter k
 named (Some (Decision k)) = meaning.variable k
 named (Some (Policy k depends)) = meaning.adaptive k
 named (Some RowName) = meaning.sum meaning.no_terms
+named (Some (sort.Set S)) = meaning.sum meaning.no_terms
 named None = meaning.sum meaning.no_terms
 
 -- the goal, if there is one
@@ -113,6 +117,69 @@ abbrev pub sense_in : Option Goal → model.Sense
 sense_in None = model.minimise
 sense_in (Some g) = sense_of g.sense
 
+-- ---- sets
+-- the number of the set of this name; a line without `over` answers to the default set
+abbrev pub set_number : Option Sort → ℕ
+set_number (Some (sort.Set S)) = S
+set_number _ = 0
+
+abbrev pub set_at : List (Option Sort) → Option ℕ → ℕ
+set_at sorts None = 0
+set_at sorts (Some k) = set_number (sort_at sorts k)
+
+-- an adaptive variable as a set takes it: the default set takes it as it is
+abbrev pub adaptive_taken : ℕ → ℕ → meaning.Expression
+adaptive_taken zero y = meaning.adaptive y
+adaptive_taken (suc S) y = meaning.adaptive_in y (suc S)
+
+module _ (sorts : List (Option Sort)) where
+  -- the set of a statement on a set, or of a row, if it is one
+  abbrev pub line_sets : Statement → List ℕ
+  line_sets (parsed.Set r) = set_at sorts r.over ∷ []
+  line_sets (parsed.Budget b) = set_at sorts b.over ∷ []
+  line_sets _ = []
+
+  abbrev pub row_sets : Statement → List ℕ
+  row_sets (parsed.Row r) = set_at sorts r.relation.over ∷ []
+  row_sets _ = []
+
+  -- the set of the objective
+  abbrev pub objective_set : Option Goal → ℕ
+  objective_set None = 0
+  objective_set (Some g) = set_at sorts g.over
+
+-- where there are so many written parameters
+module _ (count : ℕ) where
+  abbrev mutual
+    -- an expression as set `S` takes it: its parameters are those of the set, and its adaptive variables are taken in it
+    pub taken : ℕ → meaning.Expression → meaning.Expression
+    taken S (meaning.number q) = meaning.number q
+    taken S (meaning.parameter k) = meaning.parameter (S * count + k)
+    taken S (meaning.variable k) = meaning.variable k
+    taken S (meaning.adaptive y) = adaptive_taken S y
+    taken S (meaning.adaptive_in y T) = meaning.adaptive_in y T
+    taken S (meaning.sum ts) = meaning.sum (terms_taken S ts)
+    taken S (meaning.product fs) = meaning.product (factors_taken S fs)
+
+    pub terms_taken : ℕ → meaning.Terms → meaning.Terms
+    terms_taken S meaning.no_terms = meaning.no_terms
+    terms_taken S (meaning.term minus e ts) = meaning.term minus (taken S e) (terms_taken S ts)
+
+    pub factors_taken : ℕ → meaning.Factors → meaning.Factors
+    factors_taken S meaning.no_factors = meaning.no_factors
+    factors_taken S (meaning.factor e fs) = meaning.factor (taken S e) (factors_taken S fs)
+
+  -- a member of a budget, a statement on the set, and a row, as set `S` takes them
+  abbrev pub member_taken : ℕ → model.Member → model.Member
+  member_taken S h = record h { parameter = S * count + h.parameter }
+
+  abbrev pub line_taken : ℕ → model.SetLine → model.SetLine
+  line_taken S (model.line left relation right) = model.line (taken S left) relation (taken S right)
+  line_taken S (model.budget limit members) = model.budget limit (map (member_taken S) members)
+
+  abbrev pub row_taken : ℕ → model.Row → model.Row
+  row_taken S r = record r { left = taken S r.left; right = taken S r.right }
+
 module _ (words : List (List ℕ)) where
   -- the word of this number
   abbrev pub word_of : ℕ → List ℕ
@@ -122,6 +189,11 @@ module _ (words : List (List ℕ)) where
   abbrev pub parameters : Statement → List model.Parameter
   parameters (parsed.Uncertain d) = record { name = word_of d.name; lower = lower_bound d.bounds; upper = upper_bound d.bounds } ∷ []
   parameters _ = []
+
+  -- the set that a statement declares, if it does
+  abbrev pub sets : Statement → List (List ℕ)
+  sets (parsed.Over k) = word_of k ∷ []
+  sets _ = []
 
   -- the variable
   abbrev pub variables : Statement → List model.Variable
@@ -146,9 +218,9 @@ module _ (words : List (List ℕ)) (sorts : List (Option Sort)) where
       } ∷ []
   rows _ = []
 
-  -- the model of some statements, where this is what names stand for
-  abbrev pub model_of : List Statement → model.RobustModel
-  model_of list = record {
+  -- what some statements write, where this is what names stand for: a model over the written parameters, without sets
+  abbrev pub written_of : List Statement → model.RobustModel
+  written_of list = record {
     parameters = flat_map (parameters words) list;
     sets = [];
     set_lines = flat_map (set_lines sorts) list;
@@ -161,3 +233,32 @@ module _ (words : List (List ℕ)) (sorts : List (Option Sort)) where
     rows = flat_map rows list;
     row_sets = [];
   }
+
+-- what is written, each part taken in its set: the parts of a list beside the sets of another
+abbrev pub each_taken : {A : Type 0} → (ℕ → A → A) → List A → List ℕ → List A
+each_taken take [] Ss = []
+each_taken take (x ∷ xs) [] = x ∷ xs
+each_taken take (x ∷ xs) (S ∷ Ss) = take S x ∷ each_taken take xs Ss
+
+-- a model over written parameters, with these named sets, where its statements, its objective and its rows answer to these
+abbrev pub in_sets : model.RobustModel → List (List ℕ) → (of_lines : List ℕ) (of_objective : ℕ) (of_rows : List ℕ) → model.RobustModel
+in_sets w names of_lines of_objective of_rows = record {
+  parameters = joint_parameters w.parameters names;
+  sets = names;
+  set_lines = each_taken (line_taken (length w.parameters)) w.set_lines of_lines;
+  line_sets = of_lines;
+  variables = w.variables;
+  adaptives = w.adaptives;
+  sense = w.sense;
+  objective = taken (length w.parameters) of_objective w.objective;
+  objective_set = of_objective;
+  rows = each_taken (row_taken (length w.parameters)) w.rows of_rows;
+  row_sets = of_rows;
+}
+
+module _ (words : List (List ℕ)) (sorts : List (Option Sort)) where
+  -- the model of some statements, where this is what names stand for
+  abbrev pub model_of : List Statement → model.RobustModel
+  model_of list =
+      in_sets (written_of words sorts list) (flat_map (sets words) list) (flat_map (line_sets sorts) list) (objective_set sorts (goal_in list))
+      (flat_map (row_sets sorts) list)

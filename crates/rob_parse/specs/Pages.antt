@@ -1,11 +1,11 @@
 -- When lines of words are read as they were written, and as which symbols.
-use Rattle.std.specs.Prelude.{◌≡◌, ℕ, ◌+◌, ◌-◌, ◌^◌, ◌<◌, ◌≤◌, true, List, [], ◌∷◌, ◌++◌, length, map, fold}
+use Rattle.std.specs.Prelude.{◌≡◌, ℕ, ◌+◌, ◌-◌, ◌^◌, ◌<◌, true, List, [], ◌∷◌, ◌++◌, map, fold}
 use Rattle.std.specs.List.{flat_map}
 use Rattle.rob_lex.specs.declared.token.Kind.{Kind}
 use Rattle.rob_lex.specs.declared.token.Kind.TheVariants as kind
 use Rattle.rob_lex.specs.declared.token.Token.{Token}
 use Rattle.rob_lex.specs.Bytes.{begins_word, goes_on_word}
-use Rattle.rob_lex.specs.Offences.{most_tokens, most_open, AreTokens}
+use Rattle.rob_lex.specs.Offences.{most_open, AreTokens}
 use Rattle.rob_meaning.specs.Places.{Each}
 use Rattle.rob_parse.specs.declared.symbol.Keyword.{Keyword}
 use Rattle.rob_parse.specs.declared.symbol.Keyword.TheVariants.{Unused}

@@ -1,22 +1,25 @@
--- What an expression keeps that a text reads as, and what is known of the names that it is written with.
-use Rattle.std.specs.Prelude.{◌≡◌, ℕ, ◌<◌, ◌≤◌, Bool, true, false, List, [], ◌∷◌, length, get_or, int_lt, pos, Option, Some, None}
+-- What an expression that is written keeps, and what is known of the names that it is written with.
+use Rattle.std.specs.Prelude.{◌≡◌, ℕ, suc, ◌<◌, ◌≤◌, Bool, true, false, List, [], ◌∷◌, length, get_or, int_lt, pos, Option, Some, None}
 use Rattle.rob_algebra.specs.Fraction.{Fraction}
 use Rattle.rob_algebra.specs.Width.{Fits}
 use Rattle.rob_lex.specs.declared.token.Kind.TheVariants.{Word}
 use Rattle.rob_meaning.specs.Expressions.{Expression, number, parameter, variable, adaptive, adaptive_in, sum, product, Terms, no_terms, term, Factors, no_factors, factor}
+use Rattle.rob_meaning.specs.Named.{adaptive_names, row_names, variable_names, written_names}
 use Rattle.rob_meaning.specs.Names.{Name}
 use Rattle.rob_meaning.specs.Places.{Each}
 use Rattle.rob_meaning.specs.RobustModel as model
-use Rattle.rob_meaning.specs.RobustModel.{Variable, AdaptiveVariable, Member, SetLine, line, budget, Row, RobustModel}
+use Rattle.rob_meaning.specs.RobustModel.{Variable, AdaptiveVariable, Member, SetLine, line, budget, Row, RobustModel, list_of, set_count, written_parameters}
 use Rattle.rob_parse.specs.declared.sort.Sort.{Sort}
-use Rattle.rob_parse.specs.declared.sort.Sort.TheVariants.{Parameter, Decision, Policy}
+use Rattle.rob_parse.specs.declared.sort.Sort.TheVariants as sort
+use Rattle.rob_parse.specs.declared.sort.Sort.TheVariants.{Parameter, Decision, Policy, RowName}
 use Rattle.rob_parse.specs.declared.symbol.Symbol.TheVariants as symbol
 use Rattle.rob_parse.specs.declared.syntax.Statement.{Statement}
-use Rattle.rob_parse.specs.Canonical.{Written, Naming, expression_words, lines_of}
+use Rattle.rob_parse.specs.Canonical.{Written, Naming, expression_words, lines_of, written_model}
 use Rattle.rob_parse.specs.Degrees.{sort_at}
 use Rattle.rob_parse.specs.Grammar.{Expr, spell_expr, tree_expr}
-use Rattle.rob_parse.specs.Models.{expression, word_of, model_of}
+use Rattle.rob_parse.specs.Models.{expression, word_of, in_sets, model_of}
 use Rattle.rob_parse.specs.Pages.{IsWord, symbols_on}
+use Rattle.rob_parse.specs.Scopes.{has_some}
 use Rattle.rob_parse.specs.Statements.{IsStatement}
 use Rattle.rob_parse.specs.Symbols.{keywords, keyword_among, longest_name, number_of, symbol_at}
 use Rattle.rob_parse.specs.Trees.{tree_of}
@@ -69,6 +72,7 @@ module _ (words : List (List ℕ)) (sorts : List (Option Sort)) where
   -- each name stands for what has it
   pub record AreKnown (names : Naming) : Type 0 where
     pub parameters : (k : ℕ) → k < length names.parameters → StandsFor (get_or names.parameters k []) (Parameter k)
+    pub sets : (k : ℕ) → k < length names.sets → StandsFor (get_or names.sets k []) (sort.Set (suc k))
     pub variables : (k : ℕ) → k < length names.variables → StandsFor (get_or names.variables k []) (Decision k)
     pub adaptives : (y : ℕ) → y < length names.adaptives → (depends : Bool) × StandsFor (get_or names.adaptives y []) (Policy y depends)
 
@@ -77,6 +81,20 @@ module _ (words : List (List ℕ)) (sorts : List (Option Sort)) where
     pub item : Expr
     pub spelled : symbols_on words (expression_words names e) ≡ spell_expr item
     pub tree_is : expression sorts (tree_of (tree_expr item)) ≡ e
+
+-- the name stands at this place of the list
+abbrev pub IsAt : List Name → ℕ → Name → Type 0
+IsAt names k name = (k < length names) × (get_or names k [] ≡ name)
+
+module _ (m : RobustModel) where
+  -- the model has what a name stands for, by that name: the written parameter, variable or adaptive variable of this number,
+  -- with parameters in its list or without, the named set of this number, counted from 1, or some row
+  abbrev pub HasByName : Name → Sort → Type 0
+  HasByName name (Parameter k) = IsAt (written_names m) k name
+  HasByName name (Decision k) = IsAt (variable_names m) k name
+  HasByName name (Policy y depends) = IsAt (adaptive_names m) y name × (depends ≡ has_some (list_of m y))
+  HasByName name RowName = (r : ℕ) × IsAt (row_names m) r name
+  HasByName name (sort.Set S) = (k : ℕ) × (S ≡ suc k) × IsAt m.sets k name
 
 -- ---- statements
 -- the number is there and within the limit, or it isn't there
@@ -88,12 +106,14 @@ IsBound limit (Some q) = Fits limit q
 abbrev pub IsPlainNumber : ℕ → Fraction → Type 0
 IsPlainNumber limit q = Fits limit q × (int_lt q.num (pos 0) ≡ false)
 
--- the model names no set, and all that it has belongs to the default set
-pub record IsAlone (m : RobustModel) : Type 0 where
-  pub sets : m.sets ≡ []
-  pub line_sets : m.line_sets ≡ []
-  pub objective_set : m.objective_set ≡ 0
-  pub row_sets : m.row_sets ≡ []
+-- the model is what it has written, each part taken in its set, and the sets are there
+pub record IsPlaced (m : RobustModel) : Type 0 where
+  pub taken_is : in_sets (written_model m) m.sets m.line_sets m.objective_set m.row_sets ≡ m
+  pub line_sets : length m.line_sets ≡ length m.set_lines
+  pub row_sets : length m.row_sets ≡ length m.rows
+  pub of_lines : Each (λ S. S < set_count m) m.line_sets
+  pub of_objective : m.objective_set < set_count m
+  pub of_rows : Each (λ S. S < set_count m) m.row_sets
 
 module _ (limit : ℕ) (names : Naming) where
   -- a budget has a member, and its limit and deviations aren't negative
@@ -107,15 +127,19 @@ module _ (limit : ℕ) (names : Naming) where
   IsReadableSetLine (budget bound []) = ⊥
   IsReadableSetLine (budget bound (h ∷ hs)) = IsPlainNumber limit bound × Each IsReadableMember (h ∷ hs)
 
-  -- what each statement keeps
+  -- what each statement of a model over written parameters keeps
+  pub record HasReadableParts (w : RobustModel) : Type 0 where
+    pub parameters : Each (λ (p : model.Parameter). IsBound limit p.lower × IsBound limit p.upper) w.parameters
+    pub set_lines : Each IsReadableSetLine w.set_lines
+    pub variables : Each (λ (x : Variable). IsBound limit x.lower × IsBound limit x.upper) w.variables
+    pub adaptives : Each (λ (y : AdaptiveVariable). Each (λ k. k < length names.parameters) y.on × (IsBound limit y.lower × IsBound limit y.upper)) w.adaptives
+    pub objective : IsReadable limit names w.objective
+    pub rows : Each (λ (r : Row). IsReadable limit names r.left × IsReadable limit names r.right) w.rows
+
+  -- each part is taken in its set, and what the model has written is readable
   pub record IsReadableModel (m : RobustModel) : Type 0 where
-    pub alone : IsAlone m
-    pub parameters : Each (λ (p : model.Parameter). IsBound limit p.lower × IsBound limit p.upper) m.parameters
-    pub set_lines : Each IsReadableSetLine m.set_lines
-    pub variables : Each (λ (x : Variable). IsBound limit x.lower × IsBound limit x.upper) m.variables
-    pub adaptives : Each (λ (y : AdaptiveVariable). Each (λ k. k < length names.parameters) y.on × (IsBound limit y.lower × IsBound limit y.upper)) m.adaptives
-    pub objective : IsReadable limit names m.objective
-    pub rows : Each (λ (r : Row). IsReadable limit names r.left × IsReadable limit names r.right) m.rows
+    pub placed : IsPlaced m
+    pub parts : HasReadableParts (written_model m)
 
 module _ (words : List (List ℕ)) where
   -- the word is a name, which is found by its number
@@ -125,7 +149,8 @@ module _ (words : List (List ℕ)) where
 
   -- the declared names are so
   pub record AreDeclarable (m : RobustModel) : Type 0 where
-    pub parameters : Each (λ (p : model.Parameter). IsDeclarable p.name) m.parameters
+    pub parameters : Each (λ (p : model.Parameter). IsDeclarable p.name) (written_parameters m)
+    pub sets : Each IsDeclarable m.sets
     pub variables : Each (λ (x : Variable). IsDeclarable x.name) m.variables
     pub adaptives : Each (λ (y : AdaptiveVariable). IsDeclarable y.name) m.adaptives
     pub rows : Each (λ (r : Row). IsDeclarable r.name) m.rows

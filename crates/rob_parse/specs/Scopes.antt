@@ -1,11 +1,12 @@
 -- What the lines in front of a line say: what each name stands for, what is counted, and whether a goal stands there.
-use Rattle.std.specs.Prelude.{ℕ, Bool, true, false, List, [], ◌∷◌, set, replicate, Option, Some, None, if◌then◌else◌}
+use Rattle.std.specs.Prelude.{ℕ, ◌+◌, Bool, true, false, List, [], ◌∷◌, set, replicate, Option, Some, None, if◌then◌else◌}
 use Rattle.rob_parse.specs.declared.sort.Sort.{Sort}
+use Rattle.rob_parse.specs.declared.sort.Sort.TheVariants as sort
 use Rattle.rob_parse.specs.declared.sort.Sort.TheVariants.{Parameter, Decision, Policy, RowName}
 use Rattle.rob_parse.specs.declared.size.Sizes.{Sizes}
 use Rattle.rob_parse.specs.declared.scope.Scope.{Scope}
 use Rattle.rob_parse.specs.declared.syntax.Statement.{Statement}
-use Rattle.rob_parse.specs.declared.syntax.Statement.TheVariants.{Uncertain, Set, Budget, Var, Adaptive, Goal, Row}
+use Rattle.rob_parse.specs.declared.syntax.Statement.TheVariants.{Uncertain, Over, Set, Budget, Var, Adaptive, Goal, Row}
 use Rattle.rob_parse.specs.Sizes.{start_sizes, counted}
 
 -- what is known in front of a line
@@ -27,9 +28,11 @@ abbrev pub has_some : List ℕ → Bool
 has_some [] = false
 has_some (k ∷ ks) = true
 
--- the name that a statement declares, if it does, and what it stands for: names of a kind are numbered in order
+-- the name that a statement declares, if it does, and what it stands for: names of a kind are numbered in order, from 0, and
+-- sets from 1, since the default set is number 0
 abbrev pub declared_by : Sizes → Statement → Option (ℕ × Sort)
 declared_by sizes (Uncertain d) = Some (d.name, Parameter sizes.parameters)
+declared_by sizes (Over k) = Some (k, sort.Set (sizes.sets + 1))
 declared_by sizes (Var d) = Some (d.name, Decision sizes.variables)
 declared_by sizes (Adaptive p) = Some (p.name, Policy sizes.adaptives (has_some p.on))
 declared_by sizes (Row r) = Some (r.name, RowName)

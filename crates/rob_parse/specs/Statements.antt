@@ -5,6 +5,7 @@ use Rattle.rob_parse.specs.declared.symbol.Symbol.TheVariants.{Name, Sign, Reser
 use Rattle.rob_parse.specs.declared.symbol.Mark.TheVariants as mark
 use Rattle.rob_parse.specs.declared.symbol.Keyword.TheVariants as word
 use Rattle.rob_parse.specs.declared.syntax.Numeral.{Numeral}
+use Rattle.rob_parse.specs.declared.syntax.Syntax.{Syntax}
 use Rattle.rob_parse.specs.declared.syntax.Signed.{Signed}
 use Rattle.rob_parse.specs.declared.syntax.Interval.{Interval}
 use Rattle.rob_parse.specs.declared.syntax.Bounds.{Bounds}
@@ -27,23 +28,29 @@ use Rattle.rob_parse.specs.declared.syntax.Statement.TheVariants as parsed
 use Rattle.rob_parse.specs.Grammar.{Expr, spell_number, spell_minus, spell_expr, tree_expr}
 use Rattle.rob_parse.specs.Lists.{spell_more, spell_list}
 
--- expr rel expr
+-- expr [ "over" name ]: an expression that ends a line, and the set that the line answers to
+pub record Ending : Type 0 where
+  pub inner : Expr
+  pub over : Option ℕ
+
+-- expr rel expr [ "over" name ]
 pub record Sides : Type 0 where
   pub left : Expr
   pub rel : Rel
-  pub right : Expr
+  pub right : Ending
 
--- name ":" expr rel expr
+-- name ":" expr rel expr [ "over" name ]
 pub record Titled : Type 0 where
   pub name : ℕ
   pub sides : Sides
 
--- member { "," member }
+-- member { "," member } [ "over" name ]
 pub record Members : Type 0 where
   pub first : Member
   pub more : List Member
+  pub over : Option ℕ
 
--- number ":" member { "," member }
+-- number ":" member { "," member } [ "over" name ]
 pub record Shares : Type 0 where
   pub limit : Numeral
   pub members : Members
@@ -51,11 +58,12 @@ pub record Shares : Type 0 where
 -- a line of the grammar's table each
 pub data Line : Type 0 where
   uncertain : Declared → Line
+  over : ℕ → Line
   set : Sides → Line
   budget : Shares → Line
   variable : Declared → Line
   adaptive : Policy → Line
-  goal : Sense → Expr → Line
+  goal : Sense → Ending → Line
   row : Titled → Line
 
 -- [ "-" ] number
@@ -116,35 +124,49 @@ spell_rule p = spell_list spell_name p.on ++ Sign mark.Close ∷ spell_optional 
 abbrev pub spell_policy : Policy → List Symbol
 spell_policy p = Name p.name ∷ Sign mark.Open ∷ spell_rule p
 
--- member { "," member }
-abbrev pub spell_members : Members → List Symbol
-spell_members m = spell_member m.first ++ spell_more spell_member m.more
+-- [ "over" name ]
+abbrev pub spell_over : Option ℕ → List Symbol
+spell_over None = []
+spell_over (Some k) = Reserved word.Over ∷ Name k ∷ []
 
--- number ":" member { "," member }
+-- expr [ "over" name ]
+abbrev pub spell_ending : Ending → List Symbol
+spell_ending e = spell_expr e.inner ++ spell_over e.over
+
+-- member { "," member } [ "over" name ]
+abbrev pub spell_members : Members → List Symbol
+spell_members m = (spell_member m.first ++ spell_more spell_member m.more) ++ spell_over m.over
+
+-- number ":" member { "," member } [ "over" name ]
 abbrev pub spell_shares : Shares → List Symbol
 spell_shares s = spell_number s.limit ++ Sign mark.Colon ∷ spell_members s.members
 
--- expr rel expr
+-- expr rel expr [ "over" name ]
 abbrev pub spell_sides : Sides → List Symbol
-spell_sides s = spell_expr s.left ++ spell_rel s.rel ∷ spell_expr s.right
+spell_sides s = spell_expr s.left ++ spell_rel s.rel ∷ spell_ending s.right
 
--- name ":" expr rel expr
+-- name ":" expr rel expr [ "over" name ]
 abbrev pub spell_titled : Titled → List Symbol
 spell_titled t = Name t.name ∷ Sign mark.Colon ∷ spell_sides t.sides
 
 -- the grammar's table of statements
 abbrev pub spell_line : Line → List Symbol
 spell_line (uncertain d) = Reserved word.Uncertain ∷ spell_declared d
+spell_line (over k) = Reserved word.Over ∷ Name k ∷ []
 spell_line (set s) = Reserved word.Set ∷ spell_sides s
 spell_line (budget s) = Reserved word.Budget ∷ spell_shares s
 spell_line (variable d) = Reserved word.Var ∷ spell_declared d
 spell_line (adaptive p) = Reserved word.Adaptive ∷ spell_policy p
-spell_line (goal sense e) = spell_sense sense ∷ spell_expr e
+spell_line (goal sense e) = spell_sense sense ∷ spell_ending e
 spell_line (row t) = Reserved word.Row ∷ spell_titled t
 
--- both sides with their trees
+-- the expression's tree, and the set
+abbrev pub tree_ending : Ending → Syntax × Option ℕ
+tree_ending e = (tree_expr e.inner, e.over)
+
+-- both sides with their trees, and the set
 abbrev pub relation_of : Sides → Relation
-relation_of s = record { left = tree_expr s.left; rel = s.rel; right = tree_expr s.right }
+relation_of s = record { left = tree_expr s.left; rel = s.rel; right = tree_expr s.right.inner; over = s.right.over }
 
 -- the row with its trees
 abbrev pub row_of : Titled → Row
@@ -154,18 +176,23 @@ row_of t = record { name = t.name; relation = relation_of t.sides }
 abbrev pub members_of : Members → List Member
 members_of m = m.first ∷ m.more
 
--- the budget with all its members
+-- all members, and the set
+abbrev pub members_over : Members → List Member × Option ℕ
+members_over m = (members_of m, m.over)
+
+-- the budget with all its members, and its set
 abbrev pub budget_of : Shares → Budget
-budget_of s = record { limit = s.limit; members = members_of s.members }
+budget_of s = record { limit = s.limit; members = members_of s.members; over = s.members.over }
 
 -- the statement with its trees
 abbrev pub statement_of : Line → Statement
 statement_of (uncertain d) = parsed.Uncertain d
+statement_of (over k) = parsed.Over k
 statement_of (set s) = parsed.Set (relation_of s)
 statement_of (budget s) = parsed.Budget (budget_of s)
 statement_of (variable d) = parsed.Var d
 statement_of (adaptive p) = parsed.Adaptive p
-statement_of (goal sense e) = parsed.Goal (record { sense = sense; objective = tree_expr e })
+statement_of (goal sense e) = parsed.Goal (record { sense = sense; objective = tree_expr e.inner; over = e.over })
 statement_of (row t) = parsed.Row (row_of t)
 
 -- the symbols of a line are this statement

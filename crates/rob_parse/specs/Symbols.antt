@@ -11,15 +11,15 @@ use Rattle.rob_parse.specs.declared.symbol.Symbol.TheVariants.{Name, Digits, Sig
 use Rattle.rob_parse.specs.declared.symbol.Mark.{Mark}
 use Rattle.rob_parse.specs.declared.symbol.Mark.TheVariants.{Plus, Minus, Star, Slash, Open, Close, OpenBracket, CloseBracket, Comma, Colon, Equal, AtMost, AtLeast}
 use Rattle.rob_parse.specs.declared.symbol.Keyword.{Keyword}
-use Rattle.rob_parse.specs.declared.symbol.Keyword.TheVariants.{Uncertain, Set, Budget, Var, Adaptive, Minimise, Maximise, Row, In, At, By, Unused}
+use Rattle.rob_parse.specs.declared.symbol.Keyword.TheVariants.{Uncertain, Set, Budget, Var, Adaptive, Minimise, Maximise, Row, In, At, By, Over, Unused}
 
--- the keywords; the last five are kept for later, and `objective` and `tau` name what no statement may
+-- the keywords; the last four and `model` are kept for later, and `objective` and `tau` name what no statement may
 abbrev pub keywords : List (List ℕ × Keyword)
 keywords =
     (codes "uncertain", Uncertain) ∷ (codes "set", Set) ∷ (codes "budget", Budget) ∷ (codes "var", Var) ∷ (codes "adaptive", Adaptive)
     ∷ (codes "minimise", Minimise) ∷ (codes "minimize", Minimise) ∷ (codes "maximise", Maximise) ∷ (codes "maximize", Maximise)
-    ∷ (codes "row", Row) ∷ (codes "in", In) ∷ (codes "at", At) ∷ (codes "by", By) ∷ (codes "objective", Unused) ∷ (codes "tau", Unused)
-    ∷ (codes "model", Unused) ∷ (codes "over", Unused) ∷ (codes "sum", Unused) ∷ (codes "for", Unused) ∷ (codes "to", Unused) ∷ []
+    ∷ (codes "row", Row) ∷ (codes "in", In) ∷ (codes "at", At) ∷ (codes "by", By) ∷ (codes "over", Over)
+    ∷ (codes "objective", Unused) ∷ (codes "tau", Unused) ∷ (codes "model", Unused) ∷ (codes "sum", Unused) ∷ (codes "for", Unused) ∷ (codes "to", Unused) ∷ []
 
 -- the keyword beside the word in the table
 abbrev pub keyword_among : List (List ℕ × Keyword) → List ℕ → Option Keyword

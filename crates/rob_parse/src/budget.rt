@@ -3,16 +3,17 @@
 ghost use Rattle.std.specs.Prelude.{MatchOption, MatchResult};
 ghost use Rattle.rob_parse.specs.Lists.{spell_more};
 ghost use Rattle.rob_parse.specs.Readers.{Found, IsMissing, ReadsMore, ReadsWhole, HasCause, HasWholeCause, goes_on_number, goes_on_list};
-ghost use Rattle.rob_parse.specs.Statements.{spell_spread, spell_member, spell_members, spell_shares, members_of, budget_of};
+ghost use Rattle.rob_parse.specs.Statements.{spell_spread, spell_member, spell_members, spell_shares, members_over, budget_of};
 
 use crate::error::ParseErr;
+use crate::line::last_over;
 use crate::number::{number, signed};
 use crate::symbol::{Keyword, Mark, Symbol, behind_mark, behind_word, front_name};
 use crate::syntax::{Budget, Member, Spread};
 use rob_number::List;
 use std::alloc::Global;
 
-/// A limit and members, as the rest of a line.
+/// A limit, members and the set that the line answers to, as the rest of a line.
 pub fn budget(alloc: Global, symbols: &[Symbol]) -> Result<Budget, ParseErr>
     ensures { MatchResult result
         (λ b. ReadsWhole spell_shares budget_of symbols.now b) (λ e. HasWholeCause spell_shares symbols.now e) }
@@ -23,14 +24,18 @@ pub fn budget(alloc: Global, symbols: &[Symbol]) -> Result<Budget, ParseErr>
     let Some(rest) = behind_mark(rest, Mark::Colon) else {
         return Err(ParseErr::NotAStatement);
     };
-    let members = members(alloc, rest)?;
-    Ok(Budget { limit, members })
+    let (members, over) = members(alloc, rest)?;
+    Ok(Budget {
+        limit,
+        members,
+        over,
+    })
 }
 
-/// One member or more, as the rest of a line.
-fn members(alloc: Global, symbols: &[Symbol]) -> Result<List<Member>, ParseErr>
+/// One member or more, and the set that the line answers to, as the rest of a line.
+fn members(alloc: Global, symbols: &[Symbol]) -> Result<(List<Member>, Option<usize>), ParseErr>
     ensures { MatchResult result
-        (λ list. ReadsWhole spell_members members_of symbols.now list) (λ e. HasWholeCause spell_members symbols.now e) }
+        (λ p. ReadsWhole spell_members members_over symbols.now p) (λ e. HasWholeCause spell_members symbols.now e) }
 {
     let Some((first, rest)) = member(symbols) else {
         return Err(ParseErr::NotAStatement);
@@ -38,10 +43,9 @@ fn members(alloc: Global, symbols: &[Symbol]) -> Result<List<Member>, ParseErr>
     let mut list = List::new(alloc);
     list.push(first)?;
     let rest = members_behind(rest, &mut list)?;
-    if rest.is_empty() {
-        Ok(list)
-    } else {
-        Err(ParseErr::NotAStatement)
+    match last_over(rest) {
+        Some(over) => Ok((list, over)),
+        None => Err(ParseErr::NotAStatement),
     }
 }
 

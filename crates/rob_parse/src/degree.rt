@@ -103,7 +103,7 @@ fn of_sort(sort: Option<Sort>) -> Weight
                 weight.recourse = true;
             }
         }
-        Some(Sort::RowName) | None => {}
+        Some(Sort::RowName | Sort::Set(_)) | None => {}
     }
     weight
 }

@@ -1,8 +1,8 @@
 //! What may be wrong with a line.
 
-ghost use Rattle.std.specs.Prelude.{◌≡◌, drop, IfOk};
+ghost use Rattle.std.specs.Prelude.{◌≡◌, IfOk};
 ghost use Rattle.std.specs.List.{list_any};
-ghost use Rattle.rob_parse.specs.Faults.{has_fault as has_fault_lem, first_fault as first_fault_lem, rule_of as rule_of_lem, head_length, begins_with_zero as begins_with_zero_lem, has_twice as has_twice_lem, has_zero_behind as has_zero_behind_lem, is_lead as is_lead_lem, is_over as is_over_lem, is_unknown as is_unknown_lem, names_decision as names_decision_lem, is_usable as is_usable_lem, is_decision as is_decision_lem, is_listing as is_listing_lem, is_of_set as is_of_set_lem, is_declared as is_declared_lem};
+ghost use Rattle.rob_parse.specs.Faults.{has_fault as has_fault_lem, first_fault as first_fault_lem, rule_of as rule_of_lem, used as used_lem, before_over as before_over_lem, over_of as over_of_lem, is_over_none as is_over_none_lem, begins_with_zero as begins_with_zero_lem, has_twice as has_twice_lem, has_zero_behind as has_zero_behind_lem, is_lead as is_lead_lem, is_over as is_over_lem, is_unknown as is_unknown_lem, names_decision as names_decision_lem, is_usable as is_usable_lem, is_decision as is_decision_lem, is_listing as is_listing_lem, is_of_set as is_of_set_lem, is_declared as is_declared_lem};
 ghost use Rattle.rob_parse.specs.Scopes.{earlier_of};
 ghost use Rattle.rob_parse.specs.Sizes.{IsSmall};
 ghost use Rattle.rob_parse.specs.Trees.{tree_of};
@@ -23,9 +23,11 @@ use std::alloc::Global;
 pub enum Fault {
     /// The line's tokens are no statement, or a name is too long.
     NotAStatement,
-    /// The declared name is declared already, or an adaptive variable's list or a budget holds a name twice.
+    /// The declared name is declared already, or an adaptive variable's list, or the members of a budget, hold a name twice;
+    /// the name behind `over` is no member.
     NameTwice,
-    /// A used name isn't declared on an earlier line, or is a row's.
+    /// A used name isn't declared on an earlier line, or is a row's; a set's name stands elsewhere than behind `over`, or
+    /// the name behind `over` isn't a set's, as that of a budget's member.
     NameUnknown,
     /// A run of digits has a value over the limit.
     NumberTooLong,
@@ -125,7 +127,10 @@ fn has_fault(
 {
     let has = match fault {
         Fault::NameTwice => return name_twice(alloc, scope, symbols, statement),
-        Fault::NameUnknown => some_unknown(&scope.sorts, used(symbols, statement)),
+        Fault::NameUnknown => {
+            some_unknown(&scope.sorts, used(symbols, statement))
+                || is_over_none(&scope.sorts, over_of(statement))
+        }
         Fault::NumberTooLong => some_over(limit, symbols),
         Fault::DeviationNotPositive => has_zero_behind(Lead::By, symbols),
         Fault::TwoDecisions => weigh_statement(&scope.sorts, statement).two_decisions,
@@ -142,7 +147,7 @@ fn has_fault(
     Ok(has)
 }
 
-/// Whether the declared name is declared already, or a list holds a name twice.
+/// Whether the declared name is declared already, or an adaptive variable's list, or the members of a budget, hold a name twice.
 fn name_twice(
     alloc: Global,
     scope: &Scope,
@@ -172,16 +177,53 @@ fn is_declared(sorts: &[Option<Sort>], declared: Option<(usize, Sort)>) -> bool
     }
 }
 
-/// The symbols that hold the names that the statement uses.
+/// The symbols that hold the names that the statement uses, but for that behind `over`.
 fn used<'a>(symbols: &'a [Symbol], statement: &Statement) -> &'a [Symbol]
-    ensures { result.now ≡ drop (head_length statement.now) symbols.now }
+    ensures { result.now ≡ used_lem symbols.now statement.now }
 {
     let head = match statement {
-        Statement::Uncertain(_) | Statement::Var(_) | Statement::Adaptive(_) | Statement::Row(_) =>
-            2,
+        Statement::Uncertain(_)
+        | Statement::Over(_)
+        | Statement::Var(_)
+        | Statement::Adaptive(_)
+        | Statement::Row(_) => 2,
         Statement::Set(_) | Statement::Budget(_) | Statement::Goal(_) => 1,
     };
-    &symbols[symbols.len().min(head)..]
+    before_over(over_of(statement), &symbols[symbols.len().min(head)..])
+}
+
+/// The symbols without the word `over` and the name behind it, if these stand at their end.
+fn before_over(over: Option<usize>, symbols: &[Symbol]) -> &[Symbol]
+    ensures { result.now ≡ before_over_lem over symbols.now }
+{
+    match over {
+        None => symbols,
+        Some(_) => &symbols[..symbols.len().saturating_sub(2)],
+    }
+}
+
+/// The name behind `over` at the end of a statement, if one is there.
+fn over_of(statement: &Statement) -> Option<usize>
+    ensures { result ≡ over_of_lem statement.now }
+{
+    match statement {
+        Statement::Set(relation) => relation.over,
+        Statement::Budget(budget) => budget.over,
+        Statement::Goal(goal) => goal.over,
+        Statement::Row(row) => row.relation.over,
+        Statement::Uncertain(_) | Statement::Over(_) | Statement::Var(_) | Statement::Adaptive(_) =>
+            None,
+    }
+}
+
+/// Whether the name behind `over` isn't a set's.
+fn is_over_none(sorts: &[Option<Sort>], over: Option<usize>) -> bool
+    ensures { result ≡ is_over_none_lem sorts.now over }
+{
+    match over {
+        None => false,
+        Some(name) => !matches!(sort_at(sorts, name), Some(Sort::Set(_))),
+    }
 }
 
 /// Whether an adaptive variable or a budget is declared.
@@ -239,7 +281,7 @@ fn is_usable(sort: Option<Sort>) -> bool
 {
     match sort {
         Some(Sort::Parameter(_) | Sort::Decision(_) | Sort::Policy(_, _)) => true,
-        Some(Sort::RowName) | None => false,
+        Some(Sort::RowName | Sort::Set(_)) | None => false,
     }
 }
 
@@ -266,7 +308,7 @@ fn is_decision(sort: Option<Sort>) -> bool
 {
     match sort {
         Some(Sort::Decision(_) | Sort::Policy(_, _)) => true,
-        Some(Sort::Parameter(_) | Sort::RowName) | None => false,
+        Some(Sort::Parameter(_) | Sort::RowName | Sort::Set(_)) | None => false,
     }
 }
 
@@ -329,6 +371,7 @@ fn weigh_statement(sorts: &[Option<Sort>], statement: &Statement) -> Weight
         Statement::Row(row) => weigh_relation(sorts, &row.relation),
         Statement::Goal(goal) => weigh(sorts, &goal.objective),
         Statement::Uncertain(_)
+        | Statement::Over(_)
         | Statement::Budget(_)
         | Statement::Var(_)
         | Statement::Adaptive(_) => nothing(),

@@ -49,23 +49,23 @@ fn goal_or_part(word: &[u8]) -> Option<Keyword>
     if word == b"by".as_slice() {
         return Some(Keyword::By);
     }
+    if word == b"over".as_slice() {
+        return Some(Keyword::Over);
+    }
     unused(word)
 }
 
 /// A word that no statement has.
 fn unused(word: &[u8]) -> Option<Keyword>
-    ensures { result ≡ keyword_among (drop 13 keywords) word.now }
+    ensures { result ≡ keyword_among (drop 14 keywords) word.now }
 {
     if word == b"objective".as_slice() || word == b"tau".as_slice() {
         return Some(Keyword::Unused);
     }
-    if word == b"model".as_slice() || word == b"over".as_slice() {
+    if word == b"model".as_slice() || word == b"sum".as_slice() {
         return Some(Keyword::Unused);
     }
-    if word == b"sum".as_slice() || word == b"for".as_slice() {
-        return Some(Keyword::Unused);
-    }
-    if word == b"to".as_slice() {
+    if word == b"for".as_slice() || word == b"to".as_slice() {
         return Some(Keyword::Unused);
     }
     None

@@ -1,25 +1,27 @@
 //! Laws of the definitions: each text has one reading.
 
-ghost use Rattle.std.specs.Prelude.{◌≡◌, ℕ, ◌≤◌, ◌<◌, ◌^◌, ◌⊎◌, ◌++◌, ◌∷◌, [], List, Option, length, map};
+ghost use Rattle.std.specs.Prelude.{◌≡◌, ℕ, ◌≤◌, ◌<◌, ◌^◌, ◌⊎◌, ◌++◌, ◌∷◌, [], List, Option, Some, length, map};
 ghost use Rattle.rob_lex.specs.Offences.{AreTokens, most_tokens};
 ghost use Rattle.rob_lex.specs.declared.token.Token.{Token};
 ghost use Rattle.rob_meaning.specs.Expressions.{Expression};
+ghost use Rattle.rob_meaning.specs.JointMeaning.{HasOneSet};
 ghost use Rattle.rob_meaning.specs.Places.{Each};
 ghost use Rattle.rob_meaning.specs.WellFormed.{IsModel};
-ghost use Rattle.rob_meaning.specs.Named.{IsNamed, declared_names};
+ghost use Rattle.rob_meaning.specs.Named.{HasDistinctMembers, IsNamed, declared_names};
 ghost use Rattle.rob_meaning.specs.RobustModel.{RobustModel};
 ghost use Rattle.rob_model.specs.Limits.{IsWithinLimits};
-ghost use Rattle.rob_parse.specs.Canonical.{Written, Naming, lines_of as canonical_lines_of, model_text, naming_of};
+ghost use Rattle.rob_parse.specs.Canonical.{IsNotOver, Written, Naming, lines_alone, lines_of as canonical_lines_of, model_text, naming_of, written_model};
 ghost use Rattle.rob_parse.specs.Symbols.{lines_of, words_of};
-ghost use Rattle.rob_parse.specs.Modelled.{ReadsModel};
-ghost use Rattle.rob_parse.specs.Pages.{IsLine, IsReadAs, IsWritable, ended, page_text, symbols_on, words_on};
-ghost use Rattle.rob_parse.specs.Readable.{AreKnown, AreDeclarable, AreReadBack, IsReadable, IsReadableModel, IsReadBack, IsSpelled};
+ghost use Rattle.rob_parse.specs.Modelled.{EndsInSet, HasNoOver, NamesNoSet, ReadsModel, written_alone};
+ghost use Rattle.rob_parse.specs.Pages.{IsLine, IsReadAs, IsShallow, IsWritable, ended, page_text, symbols_on, words_on};
+ghost use Rattle.rob_parse.specs.Readable.{AreKnown, AreDeclarable, AreReadBack, HasByName, IsPlaced, IsReadable, IsReadableModel, IsReadBack, IsSpelled};
 ghost use Rattle.rob_parse.specs.declared.sort.Sort.{Sort};
 ghost use Rattle.rob_parse.specs.declared.syntax.Statement.{Statement};
 ghost use Rattle.rob_parse.specs.declared.symbol.Symbol.{Symbol};
-ghost use Rattle.rob_parse.specs.Models.{model_of};
+ghost use Rattle.rob_parse.specs.Degrees.{sort_at};
+ghost use Rattle.rob_parse.specs.Models.{model_of, word_of};
 ghost use Rattle.rob_parse.specs.Scopes.{Earlier, start};
-ghost use Rattle.rob_parse.specs.Sizes.{counted, sizes_of};
+ghost use Rattle.rob_parse.specs.Sizes.{AreSizesOf, counted};
 ghost use Rattle.rob_parse.specs.Reading.{Reads, Breaks, Follows, HasReading};
 
 /// Each text reads as exactly one list of statements, or breaks exactly one rule at one line.
@@ -47,6 +49,32 @@ pub fn one_model()
         → ReadsModel limit text m → Breaks limit text rule line → ⊥ }
 {}
 
+/// Each name of a written parameter, a named set, a variable or an adaptive variable of a text's model stands for that thing. A
+/// name that stands for something, a row's among them, is that thing's name in the model. And a name behind `over` at the end of
+/// a line stands for a set.
+pub fn known()
+    ensures names { (limit : ℕ) (text : List ℕ) (words : List (List ℕ)) (list : List Statement) (known : Earlier)
+        → Reads limit text words list known → AreKnown words known.sorts (naming_of (model_of words known.sorts list)) }
+    ensures things { (limit : ℕ) (text : List ℕ) (words : List (List ℕ)) (list : List Statement) (known : Earlier)
+        → Reads limit text words list known → (k : ℕ) (sort : Sort) → sort_at known.sorts k ≡ Some sort
+        → HasByName (model_of words known.sorts list) (word_of words k) sort }
+    ensures over { (limit : ℕ) (text : List ℕ) (words : List (List ℕ)) (list : List Statement) (known : Earlier)
+        → Reads limit text words list known → Each (EndsInSet known.sorts) list }
+{}
+
+/// A text without the word `over` names no set; the model of such statements is what they write, each part as it stands, so
+/// that the model of such a text has one set; and the canonical lines of a model without named sets are those of the model itself.
+pub fn without_sets()
+    ensures statements { (limit : ℕ) (text : List ℕ) (words : List (List ℕ)) (list : List Statement) (known : Earlier)
+        (read : Reads limit text words list known) → HasNoOver (lines_of text words read.tokens) → Each NamesNoSet list }
+    ensures model { (words : List (List ℕ)) (sorts : List (Option Sort)) (list : List Statement)
+        → Each NamesNoSet list → model_of words sorts list ≡ written_alone words sorts list }
+    ensures plain { (limit : ℕ) (text : List ℕ) (m : RobustModel) (read : ReadsModel limit text m)
+        → HasNoOver (lines_of text read.words read.reads.tokens) → HasOneSet m }
+    ensures lines { (m : RobustModel) → m.sets ≡ [] → IsPlaced m → canonical_lines_of m ≡ lines_alone m }
+    ensures no_over { (m : RobustModel) → Each (Each IsNotOver) (lines_alone m) }
+{}
+
 /// A model that a text reads as is within the limits, and the sizes that are counted line by line, which rule 22 judges, are
 /// those of the model of the statements up to there.
 pub fn within_limits()
@@ -55,7 +83,7 @@ pub fn within_limits()
         (lines : List (List Symbol)) (list : List Statement) (known : Earlier) (s : Statement)
         → Follows limit (start words_count) lines list known
         → (words : List (List ℕ)) (sorts : List (Option Sort))
-        → counted known.sizes s ≡ sizes_of (model_of words sorts (list ++ s ∷ [])) }
+        → AreSizesOf (model_of words sorts (list ++ s ∷ [])) (counted known.sizes s) }
 {}
 
 /// A model that a text reads as is well formed.
@@ -102,6 +130,15 @@ pub fn canonical_lines()
 /// A model that a text reads as is readable: its numbers are within the limit, and its expressions are the grammar's.
 pub fn readable()
     ensures model { (limit : ℕ) (text : List ℕ) (m : RobustModel) → 1 ≤ limit → ReadsModel limit text m → IsReadableModel limit (naming_of m) m }
+{}
+
+/// The canonical text of a readable, well-named model within the limits, whose lines are few and shallow, is read as that model.
+pub fn canonical_reading()
+    ensures read { (limit : ℕ) (m : RobustModel) → 1 ≤ limit → limit < 2 ^ 62 → IsReadableModel limit (naming_of m) m
+        → IsModel (written_model m) → IsNamed m → Each IsSpelled (declared_names m)
+        → Each HasDistinctMembers (written_model m).set_lines → IsWithinLimits m
+        → Each (IsShallow 0) (canonical_lines_of m) → length (ended (canonical_lines_of m)) ≤ most_tokens
+        → ReadsModel limit (model_text m) m }
 {}
 
 /// A model that a text reads as is read again from its canonical text.

@@ -4,13 +4,12 @@ ghost use Rattle.std.specs.Prelude.{◌≡◌, ◌∷◌, List, MatchOption, Mat
 ghost use Rattle.rob_parse.specs.declared.symbol.Symbol.{Symbol};
 ghost use Rattle.rob_parse.specs.declared.syntax.Rel.{Rel};
 ghost use Rattle.rob_parse.specs.Readers.{IsWhole, IsNone, ReadsWhole, HasWholeCause};
-ghost use Rattle.rob_parse.specs.Statements.{spell_declared, spell_rel, spell_sides, relation_of};
-ghost use Rattle.rob_parse.specs.Grammar.{spell_expr, tree_expr};
+ghost use Rattle.rob_parse.specs.Statements.{spell_declared, spell_ending, spell_over, spell_rel, spell_sides, relation_of, tree_ending};
 
 use crate::bounds::optional_bounds;
 use crate::error::ParseErr;
 use crate::expr::expr;
-use crate::symbol::{Mark, Symbol, behind_mark, front_name};
+use crate::symbol::{Keyword, Mark, Symbol, behind_mark, behind_word, front_name};
 use crate::syntax::{Declared, Rel, Relation, Syntax};
 use std::alloc::Global;
 
@@ -38,20 +37,35 @@ pub fn front_rel(symbols: &[Symbol]) -> Option<(Rel, &[Symbol])>
     Some((Rel::Equal, rest))
 }
 
-/// The expression that is the rest of a line.
-pub fn last_expr(alloc: Global, symbols: &[Symbol]) -> Result<Syntax, ParseErr>
-    ensures { MatchResult result
-        (λ tree. ReadsWhole spell_expr tree_expr symbols.now tree) (λ e. HasWholeCause spell_expr symbols.now e) }
+/// The word `over` and a name, or nothing, as the rest of a line: the set that the line answers to.
+pub fn last_over(symbols: &[Symbol]) -> Option<Option<usize>>
+    ensures { MatchOption result (IsNone spell_over symbols.now) (λ over. IsWhole spell_over symbols.now over) }
 {
-    let (tree, rest) = expr(alloc, symbols)?;
+    if symbols.is_empty() {
+        return Some(None);
+    }
+    let rest = behind_word(symbols, Keyword::Over)?;
+    let (name, rest) = front_name(rest)?;
     if rest.is_empty() {
-        Ok(tree)
+        Some(Some(name))
     } else {
-        Err(ParseErr::NotAStatement)
+        None
     }
 }
 
-/// Two expressions with a relation between them, as the rest of a line.
+/// An expression and the set that the line answers to, as the rest of a line.
+pub fn last_expr(alloc: Global, symbols: &[Symbol]) -> Result<(Syntax, Option<usize>), ParseErr>
+    ensures { MatchResult result
+        (λ p. ReadsWhole spell_ending tree_ending symbols.now p) (λ e. HasWholeCause spell_ending symbols.now e) }
+{
+    let (tree, rest) = expr(alloc, symbols)?;
+    match last_over(rest) {
+        Some(over) => Ok((tree, over)),
+        None => Err(ParseErr::NotAStatement),
+    }
+}
+
+/// Two expressions with a relation between them, and the set that it is over, as the rest of a line.
 pub fn relation(alloc: Global, symbols: &[Symbol]) -> Result<Relation, ParseErr>
     ensures { MatchResult result
         (λ r. ReadsWhole spell_sides relation_of symbols.now r) (λ e. HasWholeCause spell_sides symbols.now e) }
@@ -60,6 +74,11 @@ pub fn relation(alloc: Global, symbols: &[Symbol]) -> Result<Relation, ParseErr>
     let Some((rel, rest)) = front_rel(rest) else {
         return Err(ParseErr::NotAStatement);
     };
-    let right = last_expr(alloc, rest)?;
-    Ok(Relation { left, rel, right })
+    let (right, over) = last_expr(alloc, rest)?;
+    Ok(Relation {
+        left,
+        rel,
+        right,
+        over,
+    })
 }

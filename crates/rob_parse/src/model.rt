@@ -1,13 +1,15 @@
 //! From the statements of a text to its model.
 
-ghost use Rattle.std.specs.Prelude.{◌≡◌, ◌≤◌, ◌^◌, [], ◌∷◌, length, IfOk, IfErr, OnOk, IsSome, option_copied};
+ghost use Rattle.std.specs.Prelude.{◌≡◌, ◌≤◌, ◌<◌, ◌^◌, [], ◌∷◌, ◌++◌, length, map, take, IfOk, IfErr, OnOk, IsSome, option_copied};
 ghost use Rattle.rob_meaning.specs.Named.{IsNamed};
 ghost use Rattle.rob_meaning.specs.Places.{Each};
+ghost use Rattle.rob_meaning.specs.RobustModel.{in_set, joint_parameters};
+ghost use Rattle.std.specs.List.{flat_map};
 ghost use Rattle.rob_model.specs.Valid.{IsValid};
 ghost use Rattle.rob_model.specs.View.{robust, parameter_of, variable_of, adaptive_of, set_line_of, row_of};
-ghost use Rattle.rob_parse.specs.Building.{FitsBounds, FitsRelation, FitsNumber, FitsMember, FitsStatement, HasAdded};
+ghost use Rattle.rob_parse.specs.Building.{FitsBounds, FitsRelation, FitsNumber, FitsMember, FitsStatement, HasAdded, HasRoom, HasRoomForAll, place_of as place_lem};
 ghost use Rattle.rob_parse.specs.Known.{texts};
-ghost use Rattle.rob_parse.specs.Models.{parameters, variables, adaptives, set_lines, rows, goal_in, model_of};
+ghost use Rattle.rob_parse.specs.Models.{parameters, variables, adaptives, set_lines, rows, goal_in, line_taken, model_of, row_taken};
 ghost use Rattle.rob_parse.specs.Modelled.{ReadsModel};
 ghost use Rattle.rob_parse.specs.Reading.{HasModelCause};
 ghost use Rattle.rob_parse.specs.declared.syntax.Statement.TheVariants as parsed;
@@ -15,13 +17,15 @@ ghost use Rattle.rob_parse.specs.declared.syntax.Statement.TheVariants as parsed
 use crate::error::ModelErr;
 use crate::fraction::{fraction, lower, upper};
 use crate::parts::{members, parameters_at, relation, sense, word_of};
+use crate::place::{Place, set_at};
 use crate::reader::read_statements;
+use crate::scope::Scope;
 use crate::sort::Sort;
 use crate::syntax::{Budget, Declared, Goal, Policy, Relation, Row, Statement};
 use crate::tree::expression;
 use crate::words::Words;
 use rob_model::{Adaptive, Model, Param, RowDef, SetLine, Var};
-use rob_number::{Exact, Ledger, List, Memory};
+use rob_number::{Exact, Ledger, List, Memory, Text};
 use std::alloc::Global;
 
 /// The model that a text says, its numbers being of the type `N`, whose limit bounds digits; or the rule that the text breaks
@@ -45,8 +49,7 @@ pub fn read_model<N: Exact, L: Ledger>(
         Err(error) => return Err(error),
     };
     let list = found.list.items();
-    let sorts = found.scope.sorts.as_slice();
-    match model(alloc, &found.words, sorts, list, ledger) {
+    match model(alloc, &found.words, &found.scope, list, ledger) {
         Ok(model) => Ok(model),
         Err(_) => Err(ModelErr::Memory),
     }
@@ -56,19 +59,22 @@ pub fn read_model<N: Exact, L: Ledger>(
 fn model<N: Exact, L: Ledger>(
     alloc: Global,
     words: &Words,
-    sorts: &[Option<Sort>],
+    scope: &Scope,
     list: &[Statement],
     ledger: &mut L,
 ) -> Result<Model<N>, Memory>
     requires fits { Each (FitsStatement N.limit) list.now }
     requires goal { IsSome (goal_in list.now) }
-    ensures read { IfOk result (λ m. robust N.value m ≡ model_of (texts words.now.keys) sorts.now list.now) }
+    requires room { HasRoomForAll scope.now }
+    requires count { scope.now.sizes.parameters ≡ length (flat_map (parameters (texts words.now.keys)) list.now) }
+    ensures read { IfOk result (λ m. robust N.value m ≡ model_of (texts words.now.keys) scope.now.sorts.items list.now) }
     ensures ops { L.ops ledger.old ≤ L.ops ledger.new }
     ensures wides { L.wides ledger.old ≡ L.wides ledger.new }
 {
     let Some(goal) = goal(list) else {
         unreachable!()
     };
+    let place = place_of(scope, goal.over);
     let mut model = Model {
         params: List::new(alloc),
         sets: List::new(alloc),
@@ -77,15 +83,77 @@ fn model<N: Exact, L: Ledger>(
         vars: List::new(alloc),
         adaptives: List::new(alloc),
         sense: sense(goal.sense),
-        objective: expression(alloc, sorts, &goal.objective, ledger)?,
-        objective_set: 0,
+        objective: expression(
+            alloc,
+            scope.sorts.as_slice(),
+            place,
+            &goal.objective,
+            ledger,
+        )?,
+        objective_set: place.set,
         rows: List::new(alloc),
         row_sets: List::new(alloc),
     };
     for statement in list {
-        add(alloc, words, sorts, statement, &mut model, ledger)?;
+        add(alloc, words, scope, statement, &mut model, ledger)?;
     }
+    join(alloc, model.sets.items(), &mut model.params)?;
     Ok(model)
+}
+
+/// The set that a line is over, and how many written parameters there are.
+fn place_of(scope: &Scope, over: Option<usize>) -> Place
+    requires { scope.now.sizes.parameters < 2 ^ 32 }
+    ensures { result ≡ place_lem scope.now over }
+{
+    Place {
+        count: scope.sizes.parameters as u32,
+        set: set_at(scope.sorts.as_slice(), over),
+    }
+}
+
+/// Gives each named set the written parameters, with its name in front of theirs.
+fn join<N: Exact>(alloc: Global, sets: &[Text], params: &mut List<Param<N>>) -> Result<(), Memory>
+    ensures { OnOk result (map (parameter_of N.value) params.new ≡ joint_parameters (map (parameter_of N.value) params.old) sets.now) }
+{
+    let count = params.items().len();
+    for set in sets {
+        join_set(alloc, set, count, params)?;
+    }
+    Ok(())
+}
+
+/// Appends the first parameters, as many as are written, as this set has them.
+fn join_set<N: Exact>(
+    alloc: Global,
+    set: &Text,
+    count: usize,
+    params: &mut List<Param<N>>,
+) -> Result<(), Memory>
+    requires { count ≤ length params.old }
+    ensures { OnOk result (map (parameter_of N.value) params.new
+        ≡ map (parameter_of N.value) params.old ++ map (in_set set.now) (take count (map (parameter_of N.value) params.old))) }
+{
+    for k in 0..count {
+        let param = param_in(alloc, set, &params.items()[k])?;
+        params.push(param)?;
+    }
+    Ok(())
+}
+
+/// A parameter as a set has it: its name behind the set's and a dot, and its bounds.
+fn param_in<N: Exact>(alloc: Global, set: &Text, param: &Param<N>) -> Result<Param<N>, Memory>
+    ensures { IfOk result (λ p. parameter_of N.value p ≡ in_set set.now (parameter_of N.value param.now)) }
+{
+    let mut name = Text::new(alloc);
+    name.push(set.bytes())?;
+    name.push(b".")?;
+    name.push(param.name.bytes())?;
+    Ok(Param {
+        name,
+        lower: param.lower,
+        upper: param.upper,
+    })
 }
 
 /// The goal, if there is one.
@@ -104,13 +172,14 @@ fn goal(list: &[Statement]) -> Option<&Goal>
 fn add<N: Exact, L: Ledger>(
     alloc: Global,
     words: &Words,
-    sorts: &[Option<Sort>],
+    scope: &Scope,
     statement: &Statement,
     model: &mut Model<N>,
     ledger: &mut L,
 ) -> Result<(), Memory>
     requires fits { FitsStatement N.limit statement.now }
-    ensures added { OnOk result (HasAdded (texts words.now.keys) sorts.now statement.now (robust N.value model.old) (robust N.value model.new)) }
+    requires room { HasRoomForAll scope.now }
+    ensures added { OnOk result (HasAdded (texts words.now.keys) scope.now statement.now (robust N.value model.old) (robust N.value model.new)) }
     ensures ops { L.ops ledger.old ≤ L.ops ledger.new }
     ensures wides { L.wides ledger.old ≡ L.wides ledger.new }
 {
@@ -120,25 +189,39 @@ fn add<N: Exact, L: Ledger>(
                 .params
                 .push(parameter(alloc, words, *declared, ledger)?)
         }
+        Statement::Over(name) => model.sets.push(word_of(alloc, words, *name)?),
         Statement::Set(relation) => {
-            model
-                .set_lines
-                .push(set_line(alloc, sorts, relation, ledger)?)
+            let place = place_of(scope, relation.over);
+            let line = set_line(alloc, scope.sorts.as_slice(), place, relation, ledger)?;
+            add_line(model, line, place.set)
         }
         Statement::Budget(budget) => {
-            model
-                .set_lines
-                .push(budget_line(alloc, sorts, budget, ledger)?)
+            let place = place_of(scope, budget.over);
+            let line = budget_line(alloc, scope.sorts.as_slice(), place, budget, ledger)?;
+            add_line(model, line, place.set)
         }
         Statement::Var(declared) => model.vars.push(variable(alloc, words, *declared, ledger)?),
         Statement::Adaptive(policy) => {
-            model
-                .adaptives
-                .push(adaptive(alloc, words, sorts, policy, ledger)?)
+            model.adaptives.push(adaptive(alloc, words, scope.sorts.as_slice(), policy, ledger)?)
         }
-        Statement::Row(row) => model.rows.push(row_def(alloc, words, sorts, row, ledger)?),
+        Statement::Row(row) => {
+            let place = place_of(scope, row.relation.over);
+            model.rows.push(row_def(alloc, words, scope.sorts.as_slice(), place, row, ledger)?)?;
+            model.row_sets.push(place.set)
+        }
         Statement::Goal(_) => Ok(()),
     }
+}
+
+/// Adds a statement on a set, with the set's number.
+fn add_line<N: Exact>(model: &mut Model<N>, line: SetLine<N>, set: u32) -> Result<(), Memory>
+    ensures { OnOk result (robust N.value model.new ≡ record (robust N.value model.old) {
+      set_lines = (robust N.value model.old).set_lines ++ set_line_of N.value line ∷ [];
+      line_sets = (robust N.value model.old).line_sets ++ set ∷ [];
+    }) }
+{
+    model.set_lines.push(line)?;
+    model.line_sets.push(set)
 }
 
 /// A parameter that is declared.
@@ -206,17 +289,20 @@ fn adaptive<N: Exact, L: Ledger>(
 fn set_line<N: Exact, L: Ledger>(
     alloc: Global,
     sorts: &[Option<Sort>],
+    place: Place,
     set: &Relation,
     ledger: &mut L,
 ) -> Result<SetLine<N>, Memory>
     requires fits { FitsRelation N.limit set.now }
-    ensures read { IfOk result (λ s. set_line_of N.value s ∷ [] ≡ set_lines sorts.now (parsed.Set set.now)) }
+    requires room { HasRoom sorts.now place }
+    ensures read { IfOk result (λ s. set_line_of N.value s ∷ []
+        ≡ map (line_taken place.count place.set) (set_lines sorts.now (parsed.Set set.now))) }
     ensures ops { L.ops ledger.old ≤ L.ops ledger.new }
     ensures wides { L.wides ledger.old ≡ L.wides ledger.new }
 {
-    let left = expression(alloc, sorts, &set.left, ledger)?;
+    let left = expression(alloc, sorts, place, &set.left, ledger)?;
     let rel = relation(set.rel);
-    let right = expression(alloc, sorts, &set.right, ledger)?;
+    let right = expression(alloc, sorts, place, &set.right, ledger)?;
     Ok(SetLine::Line { left, rel, right })
 }
 
@@ -224,16 +310,19 @@ fn set_line<N: Exact, L: Ledger>(
 fn budget_line<N: Exact, L: Ledger>(
     alloc: Global,
     sorts: &[Option<Sort>],
+    place: Place,
     budget: &Budget,
     ledger: &mut L,
 ) -> Result<SetLine<N>, Memory>
     requires fits { FitsNumber N.limit budget.now.limit × Each (FitsMember N.limit) budget.now.members }
-    ensures read { IfOk result (λ s. set_line_of N.value s ∷ [] ≡ set_lines sorts.now (parsed.Budget budget.now)) }
+    requires room { HasRoom sorts.now place }
+    ensures read { IfOk result (λ s. set_line_of N.value s ∷ []
+        ≡ map (line_taken place.count place.set) (set_lines sorts.now (parsed.Budget budget.now))) }
     ensures ops { L.ops ledger.old ≤ L.ops ledger.new }
     ensures wides { L.wides ledger.old ≡ L.wides ledger.new }
 {
     let limit = fraction(budget.limit, ledger);
-    let members = members(alloc, sorts, budget.members.items(), ledger)?;
+    let members = members(alloc, sorts, place, budget.members.items(), ledger)?;
     Ok(SetLine::Budget { limit, members })
 }
 
@@ -242,18 +331,21 @@ fn row_def<N: Exact, L: Ledger>(
     alloc: Global,
     words: &Words,
     sorts: &[Option<Sort>],
+    place: Place,
     row: &Row,
     ledger: &mut L,
 ) -> Result<RowDef<N>, Memory>
     requires fits { FitsRelation N.limit row.now.relation }
-    ensures read { IfOk result (λ r. row_of N.value r ∷ [] ≡ rows (texts words.now.keys) sorts.now (parsed.Row row.now)) }
+    requires room { HasRoom sorts.now place }
+    ensures read { IfOk result (λ r. row_of N.value r ∷ []
+        ≡ map (row_taken place.count place.set) (rows (texts words.now.keys) sorts.now (parsed.Row row.now))) }
     ensures ops { L.ops ledger.old ≤ L.ops ledger.new }
     ensures wides { L.wides ledger.old ≡ L.wides ledger.new }
 {
     let name = word_of(alloc, words, row.name)?;
-    let left = expression(alloc, sorts, &row.relation.left, ledger)?;
+    let left = expression(alloc, sorts, place, &row.relation.left, ledger)?;
     let rel = relation(row.relation.rel);
-    let right = expression(alloc, sorts, &row.relation.right, ledger)?;
+    let right = expression(alloc, sorts, place, &row.relation.right, ledger)?;
     Ok(RowDef {
         name,
         left,

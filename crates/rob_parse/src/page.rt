@@ -180,6 +180,7 @@ fn keyword_text(word: Keyword) -> &'static [u8]
         Keyword::In => b"in",
         Keyword::At => b"at",
         Keyword::By => b"by",
+        Keyword::Over => b"over",
         Keyword::Unused => b"",
     }
 }

@@ -3,12 +3,13 @@
 ghost use Rattle.std.specs.Prelude.{◌≡◌, ◌≤◌, map, IfOk};
 ghost use Rattle.rob_meaning.specs.Places.{Each};
 ghost use Rattle.rob_model.specs.View.{member_of, relation_of as model_relation, sense_of as model_sense};
-ghost use Rattle.rob_parse.specs.Building.{FitsMember};
+ghost use Rattle.rob_parse.specs.Building.{FitsMember, HasRoom};
 ghost use Rattle.rob_parse.specs.Known.{texts};
-ghost use Rattle.rob_parse.specs.Models.{member as member_lem, parameter_number as parameter_number_lem, parameter_at as parameter_at_lem, relation_of, sense_of, word_of as word_of_lem};
+ghost use Rattle.rob_parse.specs.Models.{member as member_lem, member_taken, parameter_number as parameter_number_lem, parameter_at as parameter_at_lem, relation_of, sense_of, word_of as word_of_lem};
 
 use crate::degree::sort_at;
 use crate::fraction::{fraction, signed};
+use crate::place::Place;
 use crate::sort::Sort;
 use crate::syntax;
 use crate::words::Words;
@@ -71,17 +72,20 @@ pub fn parameters_at(
 pub fn members<N: Exact, L: Ledger>(
     alloc: Global,
     sorts: &[Option<Sort>],
+    place: Place,
     members: &[syntax::Member],
     ledger: &mut L,
 ) -> Result<List<Member<N>>, Memory>
     requires fits { Each (FitsMember N.limit) members.now }
-    ensures read { IfOk result (λ list. map (member_of N.value) list ≡ map (member_lem sorts.now) members.now) }
+    requires room { HasRoom sorts.now place }
+    ensures read { IfOk result (λ list. map (member_of N.value) list
+        ≡ map (member_taken place.count place.set) (map (member_lem sorts.now) members.now)) }
     ensures ops { L.ops ledger.old ≤ L.ops ledger.new }
     ensures wides { L.wides ledger.old ≡ L.wides ledger.new }
 {
     let mut list = List::new(alloc);
     for next in members {
-        list.push(member(sorts, next, ledger))?;
+        list.push(member(sorts, place, next, ledger))?;
     }
     Ok(list)
 }
@@ -89,16 +93,18 @@ pub fn members<N: Exact, L: Ledger>(
 /// A member of a budget.
 fn member<N: Exact, L: Ledger>(
     sorts: &[Option<Sort>],
+    place: Place,
     member: &syntax::Member,
     ledger: &mut L,
 ) -> Member<N>
     requires fits { FitsMember N.limit member.now }
-    ensures read { member_of N.value result ≡ member_lem sorts.now member.now }
+    requires room { HasRoom sorts.now place }
+    ensures read { member_of N.value result ≡ member_taken place.count place.set (member_lem sorts.now member.now) }
     ensures ops { L.ops ledger.old ≤ L.ops ledger.new }
     ensures wides { L.wides ledger.old ≡ L.wides ledger.new }
 {
     Member {
-        param: parameter_at(sorts, member.name),
+        param: place.set * place.count + parameter_at(sorts, member.name),
         centre: signed(member.spread.centre, ledger),
         deviation: fraction(member.spread.deviation, ledger),
     }

@@ -1,6 +1,6 @@
 //! What the lines in front of a line say.
 
-ghost use Rattle.std.specs.Prelude.{◌≡◌, ◌^◌, ◌<◌, IfOk};
+ghost use Rattle.std.specs.Prelude.{◌≡◌, IfOk};
 ghost use Rattle.rob_parse.specs.Scopes.{earlier_of, start as start_lem, declared_by as declared_by_lem, declare as declare_lem, behind as behind_lem, is_goal as is_goal_lem, has_some as has_some_lem};
 ghost use Rattle.rob_parse.specs.Sizes.{IsSmall};
 
@@ -63,6 +63,7 @@ pub fn declared_by(sizes: Sizes, statement: &Statement) -> Option<(usize, Sort)>
             Some((policy.name, Sort::Policy(sizes.adaptives as u32, depends)))
         }
         Statement::Row(row) => Some((row.name, Sort::RowName)),
+        Statement::Over(name) => Some((*name, Sort::Set(sizes.sets as u32 + 1))),
         Statement::Set(_) | Statement::Budget(_) | Statement::Goal(_) => None,
     }
 }

@@ -5,8 +5,11 @@ ghost use Rattle.rob_parse.specs.Sizes.{start_sizes, counted as counted_lem, bou
 
 use crate::syntax::{Bounds, Rel, Statement};
 
-/// The parameters that a model may have.
+/// The joint parameters that a model may have.
 const MOST_PARAMETERS: u64 = 64;
+
+/// The named sets that a model may have.
+const MOST_SETS: u64 = 8;
 
 /// The decision columns that a model may have.
 const MOST_COLUMNS: u64 = 400;
@@ -20,14 +23,19 @@ const MOST_SET_LINES: u64 = 64;
 /// The members that all budgets may have together.
 const MOST_MEMBERS: u64 = 64;
 
-/// The size that a model may have: its forms times one more than its set rows, parameters and members, the last two
-/// counted twice.
+/// The size that a model may have: its forms times one more than its set rows, joint parameters and members, the last
+/// two counted twice. Each set has the set rows of the parameters' bounds.
 const GREATEST_SIZE: u64 = 10_000;
 
 /// What is counted of a model.
 #[derive(Clone, Copy)]
 pub struct Sizes {
+    /// The written parameters.
     pub parameters: u64,
+    /// The bounds of parameters, as they are written: each set has them.
+    pub bounds: u64,
+    /// The named sets.
+    pub sets: u64,
     pub variables: u64,
     pub adaptives: u64,
     /// One for each variable, one for each adaptive variable and one for each parameter of its list.
@@ -39,8 +47,7 @@ pub struct Sizes {
     pub members: u64,
     /// One for the objective, one for each inequality of a row and one for each bound of a variable.
     pub forms: u64,
-    /// One for each bound of a parameter and for each inequality of a set statement, two for each member and one for each
-    /// budget.
+    /// One for each inequality of a set statement, two for each member and one for each budget.
     pub set_rows: u64,
 }
 
@@ -51,6 +58,8 @@ impl Sizes {
     {
         Sizes {
             parameters: 0,
+            bounds: 0,
+            sets: 0,
             variables: 0,
             adaptives: 0,
             columns: 0,
@@ -71,8 +80,9 @@ impl Sizes {
         match statement {
             Statement::Uncertain(parameter) => {
                 next.parameters += 1;
-                next.set_rows += bound_count(parameter.bounds);
+                next.bounds += bound_count(parameter.bounds);
             }
+            Statement::Over(_) => next.sets += 1,
             Statement::Var(variable) => {
                 next.variables += 1;
                 next.columns += 1;
@@ -106,8 +116,14 @@ impl Sizes {
     pub fn is_within(self) -> bool
         ensures { result ≡ is_within_lem self }
     {
-        let rows = self.set_rows as u128 + 2 * (self.parameters as u128 + self.members as u128);
-        self.parameters <= MOST_PARAMETERS
+        if self.sets > MOST_SETS {
+            return false;
+        }
+        let sets = self.sets as u128 + 1;
+        let joint = self.parameters as u128 * sets;
+        let set_rows = self.bounds as u128 * sets + self.set_rows as u128;
+        let rows = set_rows + 2 * (joint + self.members as u128);
+        joint <= MOST_PARAMETERS as u128
             && self.columns <= MOST_COLUMNS
             && self.rows <= MOST_ROWS
             && self.set_lines <= MOST_SET_LINES

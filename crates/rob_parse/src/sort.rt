@@ -9,4 +9,6 @@ pub enum Sort {
     /// An adaptive variable, and whether it depends on a parameter.
     Policy(u32, bool),
     RowName,
+    /// A set, numbered from 1: the default set has no name.
+    Set(u32),
 }

@@ -31,6 +31,10 @@ pub fn statement(alloc: Global, symbols: &[Symbol]) -> Result<Statement, ParseEr
             Some(variable) => Ok(Statement::Var(variable)),
             None => Err(ParseErr::NotAStatement),
         },
+        Keyword::Over => match front_name(rest) {
+            Some((set, [])) => Ok(Statement::Over(set)),
+            _ => Err(ParseErr::NotAStatement),
+        },
         Keyword::Set => Ok(Statement::Set(relation(alloc, rest)?)),
         Keyword::Budget => Ok(Statement::Budget(budget(alloc, rest)?)),
         Keyword::Adaptive => Ok(Statement::Adaptive(policy(alloc, rest)?)),
@@ -58,8 +62,12 @@ fn goal(alloc: Global, sense: Sense, symbols: &[Symbol]) -> Result<Statement, Pa
         (λ s. IsStatement (spell_sense sense ∷ symbols.now) s)
         (λ e. HasStatementCause (spell_sense sense ∷ symbols.now) e) }
 {
-    let objective = last_expr(alloc, symbols)?;
-    Ok(Statement::Goal(Goal { sense, objective }))
+    let (objective, over) = last_expr(alloc, symbols)?;
+    Ok(Statement::Goal(Goal {
+        sense,
+        objective,
+        over,
+    }))
 }
 
 /// A row's name and what it demands, as the rest of a line.

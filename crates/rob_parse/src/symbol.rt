@@ -36,6 +36,7 @@ pub enum Keyword {
     In,
     At,
     By,
+    Over,
     /// A word that no statement has: one that is kept for later, or one that is too long for a name.
     Unused,
 }

@@ -93,6 +93,8 @@ pub struct Member {
 pub struct Budget {
     pub limit: Numeral,
     pub members: List<Member>,
+    /// The number of the word behind `over`.
+    pub over: Option<usize>,
 }
 
 /// An adaptive variable that is declared, with the parameters that it depends on and its bounds.
@@ -105,12 +107,14 @@ pub struct Policy {
     pub bounds: Option<Bounds>,
 }
 
-/// Two expressions with a relation between them.
+/// Two expressions with a relation between them, and the set that the relation is over.
 #[derive(Drop)]
 pub struct Relation {
     pub left: Syntax,
     pub rel: Rel,
     pub right: Syntax,
+    /// The number of the word behind `over`.
+    pub over: Option<usize>,
 }
 
 /// A row: the number of its name's word, and what it demands.
@@ -125,12 +129,16 @@ pub struct Row {
 pub struct Goal {
     pub sense: Sense,
     pub objective: Syntax,
+    /// The number of the word behind `over`.
+    pub over: Option<usize>,
 }
 
 /// A statement.
 #[derive(Drop)]
 pub enum Statement {
     Uncertain(Declared),
+    /// A set that is declared: the number of its name's word.
+    Over(usize),
     Set(Relation),
     Budget(Budget),
     Var(Declared),

@@ -2,12 +2,14 @@
 
 ghost use Rattle.std.specs.Prelude.{◌≡◌, ◌≤◌, map, IfOk};
 ghost use Rattle.rob_model.specs.View.{expression_of, signed_of, terms_of, factors_of};
-ghost use Rattle.rob_parse.specs.Building.{FitsTree, FitsSummands, FitsOperands};
-ghost use Rattle.rob_parse.specs.Models.{expression as expression_lem, terms as terms_lem, factors as factors_lem, named as named_lem};
+ghost use Rattle.rob_parse.specs.Building.{FitsTree, FitsSummands, FitsOperands, HasRoom};
+ghost use Rattle.rob_parse.specs.Degrees.{sort_at as sort_lem};
+ghost use Rattle.rob_parse.specs.Models.{expression as expression_lem, terms as terms_lem, factors as factors_lem, named as named_lem, taken, terms_taken, factors_taken};
 ghost use Rattle.rob_parse.specs.Trees.{tree_of, part_of, summands_of, operands_of};
 
 use crate::degree::sort_at;
 use crate::fraction::fraction;
+use crate::place::Place;
 use crate::sort::Sort;
 use crate::syntax::{Summand, Syntax};
 use rob_model::{Expr, Term};
@@ -19,19 +21,23 @@ use std::alloc::Global;
 pub fn expression<N: Exact, L: Ledger>(
     alloc: Global,
     sorts: &[Option<Sort>],
+    place: Place,
     tree: &Syntax,
     ledger: &mut L,
 ) -> Result<Expr<N>, Memory>
     requires fits { FitsTree N.limit (tree_of tree.now) }
-    ensures read { IfOk result (λ e. expression_of N.value e ≡ expression_lem sorts.now (tree_of tree.now)) }
+    requires room { HasRoom sorts.now place }
+    ensures read { IfOk result (λ e. expression_of N.value e ≡ taken place.count place.set (expression_lem sorts.now (tree_of tree.now))) }
     ensures ops { L.ops ledger.old ≤ L.ops ledger.new }
     ensures wides { L.wides ledger.old ≡ L.wides ledger.new }
 {
     match tree {
         Syntax::Number(numeral) => Ok(Expr::Number(fraction(*numeral, ledger))),
-        Syntax::Name(name) => Ok(named(alloc, sort_at(sorts, *name))),
-        Syntax::Sum(parts) => Ok(Expr::Sum(terms(alloc, sorts, parts.items(), ledger)?)),
-        Syntax::Product(list) => { Ok(Expr::Product(factors(alloc, sorts, list.items(), ledger)?)) }
+        Syntax::Name(name) => Ok(named(alloc, sorts, place, *name)),
+        Syntax::Sum(parts) => Ok(Expr::Sum(terms(alloc, sorts, place, parts.items(), ledger)?)),
+        Syntax::Product(list) => {
+            Ok(Expr::Product(factors(alloc, sorts, place, list.items(), ledger)?))
+        }
     }
 }
 
@@ -41,17 +47,20 @@ pub fn expression<N: Exact, L: Ledger>(
 fn terms<N: Exact, L: Ledger>(
     alloc: Global,
     sorts: &[Option<Sort>],
+    place: Place,
     parts: &[Summand],
     ledger: &mut L,
 ) -> Result<List<Term<N>>, Memory>
     requires fits { FitsSummands N.limit (summands_of (map part_of parts.now)) }
-    ensures read { IfOk result (λ ts. terms_of (map (signed_of N.value) ts) ≡ terms_lem sorts.now (summands_of (map part_of parts.now))) }
+    requires room { HasRoom sorts.now place }
+    ensures read { IfOk result (λ ts. terms_of (map (signed_of N.value) ts)
+        ≡ terms_taken place.count place.set (terms_lem sorts.now (summands_of (map part_of parts.now)))) }
     ensures ops { L.ops ledger.old ≤ L.ops ledger.new }
     ensures wides { L.wides ledger.old ≡ L.wides ledger.new }
 {
     let mut list = List::new(alloc);
     for part in parts {
-        let inner = expression(alloc, sorts, &part.inner, ledger)?;
+        let inner = expression(alloc, sorts, place, &part.inner, ledger)?;
         let minus = part.minus;
         list.push(Term { minus, inner })?;
     }
@@ -64,30 +73,35 @@ fn terms<N: Exact, L: Ledger>(
 fn factors<N: Exact, L: Ledger>(
     alloc: Global,
     sorts: &[Option<Sort>],
+    place: Place,
     trees: &[Syntax],
     ledger: &mut L,
 ) -> Result<List<Expr<N>>, Memory>
     requires fits { FitsOperands N.limit (operands_of (map tree_of trees.now)) }
-    ensures read { IfOk result (λ fs. factors_of (map (expression_of N.value) fs) ≡ factors_lem sorts.now (operands_of (map tree_of trees.now))) }
+    requires room { HasRoom sorts.now place }
+    ensures read { IfOk result (λ fs. factors_of (map (expression_of N.value) fs)
+        ≡ factors_taken place.count place.set (factors_lem sorts.now (operands_of (map tree_of trees.now)))) }
     ensures ops { L.ops ledger.old ≤ L.ops ledger.new }
     ensures wides { L.wides ledger.old ≡ L.wides ledger.new }
 {
     let mut list = List::new(alloc);
     for tree in trees {
-        let factor = expression(alloc, sorts, tree, ledger)?;
+        let factor = expression(alloc, sorts, place, tree, ledger)?;
         list.push(factor)?;
     }
     Ok(list)
 }
 
-/// What a name is in an expression; one that may not be used is the empty sum.
-fn named<N: Exact>(alloc: Global, sort: Option<Sort>) -> Expr<N>
-    ensures read { expression_of N.value result ≡ named_lem sort }
+/// What a name is in an expression of this set; one that may not be used is the empty sum.
+fn named<N: Exact>(alloc: Global, sorts: &[Option<Sort>], place: Place, name: usize) -> Expr<N>
+    requires room { HasRoom sorts.now place }
+    ensures read { expression_of N.value result ≡ taken place.count place.set (named_lem (sort_lem sorts.now name)) }
 {
-    match sort {
-        Some(Sort::Parameter(k)) => Expr::Param(k),
+    match sort_at(sorts, name) {
+        Some(Sort::Parameter(k)) => Expr::Param(place.set * place.count + k),
         Some(Sort::Decision(k)) => Expr::Var(k),
-        Some(Sort::Policy(k, _)) => Expr::Adaptive(k),
-        Some(Sort::RowName) | None => Expr::Sum(List::new(alloc)),
+        Some(Sort::Policy(k, _)) if place.set == 0 => Expr::Adaptive(k),
+        Some(Sort::Policy(k, _)) => Expr::AdaptiveIn(k, place.set),
+        Some(Sort::RowName | Sort::Set(_)) | None => Expr::Sum(List::new(alloc)),
     }
 }

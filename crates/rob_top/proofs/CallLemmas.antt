@@ -1,5 +1,5 @@
 -- How a call ends, from what was put.
-use Rattle.std.proofs.Common.{◌≡◌, ℕ, true, false, List, [], ◌∷◌, ◌++◌, Result, Ok, Err, inr, subst}
+use Rattle.std.proofs.Common.{◌≡◌, ℕ, true, false, List, [], ◌∷◌, ◌++◌, Result, Ok, Err}
 use Rattle.rob_outside.specs.Puts.{PutAll, PutUntil, put_of}
 use Rattle.rob_outside.specs.Taken.{Took, TookPrefix, Takes}
 use Rattle.rob_outside.proofs.TakenLemmas.{took_is_prefix}

@@ -19,7 +19,6 @@ use Rattle.rob_top.proofs.AnswerLemmas.{no_command}
 use Rattle.rob_top.proofs.KnownLemmas.{known_again, means_known}
 use Rattle.rob_top.proofs.StageLemmas.{broken_answer}
 use Rattle.rob_top.proofs.TrueAnswerLemmas.{empty_decides, missing_decides, rows_decide, rule_decides, solve_decides, status_decides, too_long_decides, verdict_decides, well, wide_decides}
-use Rattle.rob_top.specs.Answers.{memory_text}
 use Rattle.rob_top.specs.Calls.{Call, IsSolving, Known, Output, known_call, limit_of}
 use Rattle.rob_top.specs.Completeness.{EndsAs, IsComplete, IsEmptyAnswer, IsOutside, IsProvedAnswer, IsSolveAnswer, IsUnput, MustEnd}
 use Rattle.rob_top.specs.Headline.{Ends, HasCertificate, HasCertificateFile, HasForms, IsPrinted, IsSolved, Means}

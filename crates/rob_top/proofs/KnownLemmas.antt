@@ -141,6 +141,10 @@ module _ (call : Call) (known : Known call.source) where
     solves = h.solves;
     none_admitted = h.none_admitted;
     shown = h.shown;
+    set = h.set;
+    is_set = h.is_set;
+    own = h.own;
+    none_in_set = h.none_in_set;
     printed = h.printed;
   }
   means_known (TooWide spot) text h = record {

@@ -1,6 +1,5 @@
 pub mod AnswerLemmas
 pub mod CallLemmas
-pub mod CanonicalReading
 pub mod CertificateNameLemmas
 pub mod CompletenessLemmas
 pub mod CheckingLemmas
@@ -17,4 +16,5 @@ pub mod WorkLemmas
 pub mod KnownLemmas
 pub mod NarrowForms
 pub mod WorkedCalls
+pub mod WorkedSetCalls
 pub mod WorkedChecks

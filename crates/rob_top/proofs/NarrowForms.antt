@@ -38,7 +38,7 @@ neither (Some f) (Some g) = Some (either_not f g)
 abbrev test_size : (n : ℕ) → Option (greatest < n → ⊥)
 test_size n = when (leb n greatest) (λ e. apart greatest n (leb-true n greatest e))
 
-abbrev test_fraction : (x : Fraction) → Option (IsWide greatest x → ⊥)
+abbrev pub test_fraction : (x : Fraction) → Option (IsWide greatest x → ⊥)
 test_fraction x = neither (test_size (nat_abs x.num)) (test_size x.den)
 
 abbrev test_wholes : (d : ℕ) (qs : List Fraction) → Option (Some_of (λ q. IsWideWhole greatest (whole_at d q)) qs → ⊥)

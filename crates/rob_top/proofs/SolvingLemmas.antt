@@ -183,7 +183,19 @@ module _ (limit : ℕ) (m : RobustModel) where
       → HasCause limit m s → CountsStop before now s → RepliesStop m s reply → AnswersForms limit (count before now) m task reply
   stop_answers before now task (stop.EmptySet weights) reply solves cause counts is = λ call line at asked has.
       subst (λ (ended : Ended). Means call ended reply.text) (sym is.0)
-      (record { line = line; m = m; forms = has; solves = solves call line.action asked; none_admitted = cause.empty; shown = cause; printed = is.1 })
+      (record {
+        line = line;
+        m = m;
+        forms = has;
+        solves = solves call line.action asked;
+        none_admitted = cause.empty;
+        shown = cause;
+        set = cause.set;
+        is_set = cause.shows_in.is_set;
+        own = cause.shows_in.own;
+        none_in_set = cause.empty_in;
+        printed = is.1;
+      })
   stop_answers before now task (stop.Wide place trace) reply solves cause counts is = λ call line at asked has.
       let rose : Rose before now = omega (arith, counts) in
       subst (λ (ended : Ended). Means call ended reply.text) (sym is.0)

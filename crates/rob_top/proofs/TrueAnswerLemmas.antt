@@ -26,7 +26,7 @@ use Rattle.rob_model.specs.declared.place.Spot.{Spot}
 use Rattle.rob_model.specs.declared.place.Spot.TheVariants as spots
 use Rattle.rob_number.specs.Lowest.{limit_high, limit_low}
 use Rattle.rob_outside.specs.Files.{Found, whole, missing, too_long}
-use Rattle.rob_parse.proofs.ModelLemmas.{well_formed}
+use Rattle.rob_parse.proofs.PlacedLemmas.{well_formed}
 use Rattle.rob_parse.proofs.OneModel.{not_both}
 use Rattle.rob_parse.proofs.WellNamed.{well_named, well_spelled}
 use Rattle.rob_parse.specs.Reading.{Breaks}
@@ -281,7 +281,7 @@ module _ (call : Call) (known : Known call.source) where
     most = subst (λ (l : ℕ). l ≤ 2 ^ 62 - 1) (limit_is line.width) (limit_high (bits_of line.width))
 
     pub well : HasModel call line m → IsModel m
-    well has = well_formed (limit_of line) has.bytes m least has.reads
+    well has = well_formed (limit_of line) has.bytes m has.reads least
 
     named : HasModel call line m → IsNamed m
     named has = well_named (limit_of line) has.bytes m has.reads

@@ -3,7 +3,7 @@
 use Rattle.std.proofs.Common.{arith, refl, inr}
 use Rattle.std.proofs.lemmas.Bool.{leb-true}
 use Rattle.std.specs.Fmt.{digits}
-use Rattle.std.specs.Prelude.{◌≡◌, ◌≢◌, ℕ, leb, nat_abs, true, [], ◌∷◌, ◌++◌, None, codes}
+use Rattle.std.specs.Prelude.{◌≡◌, ◌≢◌, ℕ, leb, nat_abs, true, [], ◌∷◌, ◌++◌, length, None, codes}
 use Rattle.rob_algebra.specs.Fraction.{Fraction, ratio}
 use Rattle.rob_algebra.specs.Width.{Fits}
 use Rattle.rob_dualize.proofs.NarrowModels.{one_demand_not_wide}
@@ -18,19 +18,20 @@ use Rattle.rob_meaning.specs.Named.{IsFree, IsNamed, declared_names}
 use Rattle.rob_meaning.specs.Names.{Name}
 use Rattle.rob_meaning.specs.Places.{1ℚ, Each}
 use Rattle.rob_meaning.specs.Proves.{HasStatus}
-use Rattle.rob_meaning.specs.RobustModel.{RobustModel}
+use Rattle.rob_meaning.specs.RobustModel.{RobustModel, column_count}
+use Rattle.rob_meaning.specs.SetRows.{lift_count}
 use Rattle.rob_meaning.specs.UncertaintySet.{Admits, IsEmptySet}
 use Rattle.rob_meaning.specs.WellFormed.{IsModel}
 use Rattle.rob_outside.specs.Files.{file_of, found_at, whole}
-use Rattle.rob_parse.proofs.CountLemmas.{rule_columns}
-use Rattle.rob_parse.specs.Canonical.{model_text, naming_of}
+use Rattle.rob_model.specs.Limits.{IsWithinLimits, model_size, most_columns, most_members, most_parameters, most_rows, most_set_lines, most_sets, most_size}
+use Rattle.rob_parse.proofs.CanonicalReading.{canonical_reads}
+use Rattle.rob_parse.specs.Canonical.{model_text, naming_of, written_model}
 use Rattle.rob_parse.specs.Modelled.{ReadsModel}
 use Rattle.rob_lex.specs.Bytes.{begins_word}
 use Rattle.rob_parse.specs.Symbols.{keyword_among, keywords}
 use Rattle.rob_parse.specs.Readable.{IsReadableModel, IsSpelled as IsSpelledName}
 use Rattle.rob_sets.specs.FirstWide.{NothingWide}
 use Rattle.rob_sets.specs.SetForm.{judged_set}
-use Rattle.rob_top.proofs.CanonicalReading.{canonical_reads}
 use Rattle.rob_top.proofs.NarrowForms.{all_narrow, difference_narrow}
 use Rattle.rob_top.specs.Completeness.{EndsAs, IsEmptyAnswer, MustEnd}
 use Rattle.rob_top.specs.Headline.{HasForms}
@@ -42,7 +43,7 @@ use Rattle.rob_words.specs.declared.route.Route.TheVariants.{Dual}
 use Rattle.rob_words.specs.declared.width.Width.TheVariants.{SixtyTwo}
 
 -- ---- solve one.rob, where the shelf tells a file of that name with the canonical text of a model
-abbrev line : Line
+abbrev pub line : Line
 line = record { action = solve model_name Dual; width = SixtyTwo }
 
 line_spelled : IsSpelled (codes "solve" ∷ model_name ∷ []) line
@@ -55,10 +56,10 @@ pub fits_by : (q : Fraction) → leb (nat_abs q.num) greatest ≡ true → leb q
 fits_by q e f = record { num_fits = leb-true (nat_abs q.num) greatest e; den_fits = leb-true q.den greatest f }
 
 -- the model's file comes whole
-abbrev Comes : RobustModel → Type 0
+abbrev pub Comes : RobustModel → Type 0
 Comes m = found_at model_name 65536 (file_of model_name (model_text m) ∷ []) ≡ whole (model_text m)
 
-forms_on : (m : RobustModel) → Comes m → ReadsModel greatest (model_text m) m → NothingWide greatest m (judged_set m ++ judged_forms m)
+pub forms_on : (m : RobustModel) → Comes m → ReadsModel greatest (model_text m) m → NothingWide greatest m (judged_set m ++ judged_forms m)
     → HasForms (solve_call m) line m
 forms_on m comes reads narrow = record {
   model = record {
@@ -71,14 +72,28 @@ forms_on m comes reads narrow = record {
   none_wide = narrow;
 }
 
+-- the counts of a model are within the limits
+pub within_by : (m : RobustModel) → leb (length m.parameters) most_parameters ≡ true → leb (length m.sets) most_sets ≡ true
+    → leb (column_count m) most_columns ≡ true → leb (length m.rows) most_rows ≡ true → leb (length m.set_lines) most_set_lines ≡ true
+    → leb (lift_count m.set_lines) most_members ≡ true → leb (model_size m) most_size ≡ true → IsWithinLimits m
+within_by m parameters sets columns rows set_lines members size = record {
+  parameters = leb-true _ _ parameters;
+  sets = leb-true _ _ sets;
+  columns = leb-true _ _ columns;
+  rows = leb-true _ _ rows;
+  set_lines = leb-true _ _ set_lines;
+  members = leb-true _ _ members;
+  size = leb-true _ _ size;
+}
+
 -- a name of one letter
-letter : (b : ℕ) → begins_word b ≡ true → keyword_among keywords (b ∷ []) ≡ None → IsSpelledName (b ∷ [])
+pub letter : (b : ℕ) → begins_word b ≡ true → keyword_among keywords (b ∷ []) ≡ None → IsSpelledName (b ∷ [])
 letter b word no_keyword = record { is_word = (word, tt); no_keyword = no_keyword; is_short = omega arith }
 
-differ : (a b : Name) → Found (test_differ a b) → a ≢ b
+pub differ : (a b : Name) → Found (test_differ a b) → a ≢ b
 differ a b h = found (test_differ a b) h
 
-free : (a : Name) → Found (test_differ a (codes "objective")) → Found (test_differ a (codes "tau")) → Found (test_differ a (codes "set"))
+pub free : (a : Name) → Found (test_differ a (codes "objective")) → Found (test_differ a (codes "tau")) → Found (test_differ a (codes "set"))
     → Found (test_differ a (codes "budget")) → IsFree a
 free a objective tau set budget =
     (differ a (codes "objective") objective, differ a (codes "tau") tau, differ a (codes "set") set, differ a (codes "budget") budget)
@@ -112,20 +127,26 @@ one_demand_named = record {
 one_demand_readable : IsReadableModel greatest (naming_of one_demand) one_demand
 unfolding ratio
 one_demand_readable = record {
-  alone = record { sets = refl; line_sets = refl; objective_set = refl; row_sets = refl };
-  parameters = ((fits_by (int 8) refl refl, fits_by (int 12) refl refl), tt);
-  set_lines = tt;
-  variables = ((tt, tt), tt);
-  adaptives = tt;
-  objective = omega arith;
-  rows = ((omega arith, omega arith), tt);
+  placed = record { taken_is = refl; line_sets = refl; row_sets = refl; of_lines = tt; of_objective = omega arith; of_rows = (omega arith, tt) };
+  parts = record {
+    parameters = ((fits_by (int 8) refl refl, fits_by (int 12) refl refl), tt);
+    set_lines = tt;
+    variables = ((tt, tt), tt);
+    adaptives = tt;
+    objective = omega arith;
+    rows = ((omega arith, omega arith), tt);
+  };
 }
 
+one_demand_within : IsWithinLimits one_demand
+one_demand_within = within_by one_demand refl refl refl refl refl refl refl
+
 pub one_demand_reads : ReadsModel greatest (model_text one_demand) one_demand
-unfolding ratio rule_columns
+unfolding ratio
 one_demand_reads =
-    canonical_reads greatest (omega arith) (omega arith) one_demand one_demand_spelled one_demand_named one_demand_readable one_demand_model
-    ((tt, (tt, (tt, (tt, (tt, (tt, (tt, (tt, tt)))))))), ((tt, (tt, tt)), ((tt, (tt, tt)), ((tt, (tt, (tt, (tt, (tt, (tt, tt)))))), tt)))) (leb-true _ _ refl) refl
+    canonical_reads greatest one_demand (omega arith) (omega arith) one_demand_readable (found (test_model (written_model one_demand)) tt)
+    one_demand_named one_demand_spelled tt one_demand_within
+    ((tt, (tt, (tt, (tt, (tt, (tt, (tt, (tt, tt)))))))), ((tt, (tt, tt)), ((tt, (tt, tt)), ((tt, (tt, (tt, (tt, (tt, (tt, tt)))))), tt)))) (leb-true _ _ refl)
 
 pub one_demand_narrow : NothingWide greatest one_demand (judged_set one_demand ++ judged_forms one_demand)
 unfolding ratio
@@ -183,20 +204,26 @@ empty_interval_named = record {
 empty_interval_readable : IsReadableModel greatest (naming_of empty_interval) empty_interval
 unfolding ratio
 empty_interval_readable = record {
-  alone = record { sets = refl; line_sets = refl; objective_set = refl; row_sets = refl };
-  parameters = ((fits_by (int 12) refl refl, fits_by (int 8) refl refl), tt);
-  set_lines = tt;
-  variables = ((tt, tt), tt);
-  adaptives = tt;
-  objective = omega arith;
-  rows = tt;
+  placed = record { taken_is = refl; line_sets = refl; row_sets = refl; of_lines = tt; of_objective = omega arith; of_rows = tt };
+  parts = record {
+    parameters = ((fits_by (int 12) refl refl, fits_by (int 8) refl refl), tt);
+    set_lines = tt;
+    variables = ((tt, tt), tt);
+    adaptives = tt;
+    objective = omega arith;
+    rows = tt;
+  };
 }
 
+empty_interval_within : IsWithinLimits empty_interval
+empty_interval_within = within_by empty_interval refl refl refl refl refl refl refl
+
 empty_interval_reads : ReadsModel greatest (model_text empty_interval) empty_interval
-unfolding ratio rule_columns
+unfolding ratio
 empty_interval_reads =
-    canonical_reads greatest (omega arith) (omega arith) empty_interval empty_interval_spelled empty_interval_named empty_interval_readable empty_interval_model
-    ((tt, (tt, (tt, (tt, (tt, (tt, (tt, (tt, tt)))))))), ((tt, (tt, tt)), ((tt, (tt, tt)), tt))) (leb-true _ _ refl) refl
+    canonical_reads greatest empty_interval (omega arith) (omega arith) empty_interval_readable (found (test_model (written_model empty_interval)) tt)
+    empty_interval_named empty_interval_spelled tt empty_interval_within
+    ((tt, (tt, (tt, (tt, (tt, (tt, (tt, (tt, tt)))))))), ((tt, (tt, tt)), ((tt, (tt, tt)), tt))) (leb-true _ _ refl)
 
 empty_interval_narrow : NothingWide greatest empty_interval (judged_set empty_interval ++ judged_forms empty_interval)
 unfolding ratio

@@ -1,12 +1,13 @@
 -- Calls worked by hand, of which the laws say how they must end: `solve one.rob` and `check one.rob one.cert`, where the shelf tells
 -- files of these names.
-use Rattle.std.specs.Prelude.{ℕ, ◌-◌, ◌^◌, pos, List, [], ◌∷◌, Some, None, codes}
+use Rattle.std.specs.Prelude.{ℕ, ◌-◌, ◌^◌, pos, false, List, [], ◌∷◌, Some, None, codes}
 use Rattle.rob_algebra.specs.Fraction.{of_int}
 use Rattle.rob_cert.specs.Spelling.{cert_text}
 use Rattle.rob_dualize.specs.SmallestModel.{one_demand}
 use Rattle.rob_meaning.specs.Certificates.{Certificate, optimal}
 use Rattle.rob_meaning.specs.Places.{0ℚ, 1ℚ}
-use Rattle.rob_meaning.specs.RobustModel.{RobustModel}
+use Rattle.rob_meaning.specs.Expressions.{number, parameter, variable, sum, no_terms, term}
+use Rattle.rob_meaning.specs.RobustModel.{RobustModel, at_least, at_most, line, minimise}
 use Rattle.rob_outside.specs.Files.{File, file_of}
 use Rattle.rob_parse.specs.Canonical.{model_text}
 use Rattle.rob_top.specs.Calls.{Call, call_of, count}
@@ -41,7 +42,33 @@ abbrev pub empty_interval : RobustModel
 empty_interval = record one_demand {
   parameters = record { name = codes "d"; lower = Some (of_int (pos 12)); upper = Some (of_int (pos 8)) } ∷ [];
   rows = [];
+  row_sets = [];
 }
+
+-- minimise x + z, where x >= d for each d in [8, 12], and z >= d over the set `calm`, which admits those that are at most 10
+abbrev pub hard_and_soft : RobustModel
+hard_and_soft = record {
+  parameters =
+      record { name = codes "d"; lower = Some (of_int (pos 8)); upper = Some (of_int (pos 12)) }
+      ∷ record { name = codes "calm.d"; lower = Some (of_int (pos 8)); upper = Some (of_int (pos 12)) } ∷ [];
+  sets = codes "calm" ∷ [];
+  set_lines = line (parameter 1) at_most (number (of_int (pos 10))) ∷ [];
+  line_sets = 1 ∷ [];
+  variables =
+      record { name = codes "x"; lower = None; upper = None } ∷ record { name = codes "z"; lower = None; upper = None } ∷ [];
+  adaptives = [];
+  sense = minimise;
+  objective = sum (term false (variable 0) (term false (variable 1) no_terms));
+  objective_set = 0;
+  rows =
+      record { name = codes "hard"; left = variable 0; relation = at_least; right = parameter 0 }
+      ∷ record { name = codes "soft"; left = variable 1; relation = at_least; right = parameter 1 } ∷ [];
+  row_sets = 0 ∷ 1 ∷ [];
+}
+
+-- the same with d >= 13 over calm, so that calm admits no scenario
+abbrev pub never_calm : RobustModel
+never_calm = record hard_and_soft { set_lines = line (parameter 1) at_least (number (of_int (pos 13))) ∷ [] }
 
 -- x = 12: the objective x - tau <= 0 and the row at d = 12, 12 - x <= 0, sum to 12 - tau <= 0
 abbrev pub order_12 : Certificate

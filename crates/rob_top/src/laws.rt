@@ -2,18 +2,20 @@
 // call's files (`Known`) are the told files, or the answers that came in the call, which every shelf gives. The functions do nothing;
 // their clauses are the claims.
 
-ghost use Rattle.std.specs.Prelude.{◌≡◌, ℕ, ℤ, List};
+ghost use Rattle.std.specs.Prelude.{◌≡◌, ◌⊎◌, ℕ, ℤ, List};
 ghost use Rattle.rob_check.specs.Narrow.{IsFirstFailing};
 ghost use Rattle.rob_dualize.specs.SmallestModel.{one_demand};
+ghost use Rattle.rob_dualize.specs.Solving.{IsWideSpot as IsWideOnPath};
 ghost use Rattle.rob_meaning.specs.Certificates.{Status};
 ghost use Rattle.rob_model.specs.declared.place.Place.{Place};
+ghost use Rattle.rob_model.specs.declared.place.Spot.{Spot};
 ghost use Rattle.rob_top.specs.Calls.{Call, Known, known_call, limit_of};
 ghost use Rattle.rob_top.specs.Completeness.{EndsAs, IsComplete, IsEmptyAnswer, IsProvedAnswer, MustEnd};
 ghost use Rattle.rob_top.specs.Headline.{HasCertificateFile, IsSolved, Means};
 ghost use Rattle.rob_top.specs.Work.{ended_of};
-ghost use Rattle.rob_top.specs.WorkedCalls.{check_call, empty_interval, greatest, order_11, order_12, solve_call};
+ghost use Rattle.rob_top.specs.WorkedCalls.{check_call, empty_interval, greatest, hard_and_soft, never_calm, order_11, order_12, solve_call};
 ghost use Rattle.rob_top.specs.declared.ended.Ended.{Ended};
-ghost use Rattle.rob_top.specs.declared.ended.Ended.TheVariants.{Accepted, EmptySet, Optimal, Rejected};
+ghost use Rattle.rob_top.specs.declared.ended.Ended.TheVariants.{Accepted, EmptySet, Optimal, Rejected, TooWide};
 ghost use Rattle.rob_words.specs.Commands.{Line, prove};
 ghost use Rattle.rob_words.specs.Values.{Word};
 ghost use Rattle.rob_words.specs.declared.route.Route.{Route};
@@ -51,6 +53,12 @@ pub fn worked_calls()
     // and on a model without a scenario by weights that show it, or a wide row of the set's program.
     ensures empty { (result : Ended) → MustEnd (solve_call empty_interval) result
         → IsEmptyAnswer greatest empty_interval result }
+    // A model with a named set is read from its text, rows over that set among them: it is answered with `optimal`, or a wide row,
+    ensures named_set { (result : Ended) → MustEnd (solve_call hard_and_soft) result
+        → EndsAs Optimal result ⊎ ((spot : Spot) × IsWideOnPath greatest hard_and_soft spot × (result ≡ TooWide spot)) }
+    // and where the named set admits no scenario by weights that show it, or a wide row of the sets' program.
+    ensures empty_named_set { (result : Ended) → MustEnd (solve_call never_calm) result
+        → IsEmptyAnswer greatest never_calm result }
     // `check` accepts a certificate that proves,
     ensures accepted { (result : Ended) → MustEnd (check_call order_12) result → EndsAs Accepted result }
     // and rejects one that doesn't, at the first place that fails.

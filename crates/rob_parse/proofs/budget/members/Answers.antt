@@ -3,7 +3,6 @@ use Rattle.std.proofs.lemmas.Result.{err_from_is_err_and}
 use Rattle.rob_parse.specs.declared.syntax.Member.{Member}
 use Rattle.rob_parse.proofs.CauseLemmas.{refused_with}
 use Rattle.rob_parse.proofs.LineLemmas.{members_read, no_members, no_members_behind, no_members_then}
-use Rattle.rob_parse.proofs.WholeLemmas.{empty_is, empty_test}
 use Rattle.rob_parse.proofs.budget.members.Goals as goal
 
 pub returns-in_default : goal.returns-in_default
@@ -15,10 +14,11 @@ returns-in_err-rest c =
     refused_with c.from_residual-in_err-rest.result _ _ c.in_err-rest.field-0.0 p.0 p.1 p.2
     (no_members_behind c.in-Some.first c.in-Some.ensures c.in_err-rest.field-0.0 c.in_err-rest.ensures)
 
-pub returns-then-is_empty : goal.returns-then-is_empty
-returns-then-is_empty c =
-    members_read c.in-Some.first c.in-Some.ensures (c.in_ok-push.ensures.appended ∙ ap (λ (l : List Member). l ++ c.in-Some.first ∷ []) c.new-list.ensures.empty) c.in_ok-rest.ensures (empty_is c.in_ok-rest.rest.now c.if-is_empty.ensures)
+pub returns-in-Some-last_over : goal.returns-in-Some-last_over
+returns-in-Some-last_over c =
+    members_read c.in-Some.first c.in-Some.ensures (c.in_ok-push.ensures.appended ∙ ap (λ (l : List Member). l ++ c.in-Some.first ∷ []) c.new-list.ensures.empty) c.in_ok-rest.ensures
+    c.in-Some-last_over.over c.in-Some-last_over.ensures
 
-pub returns-else-is_empty : goal.returns-else-is_empty
-returns-else-is_empty c =
-    no_members_then c.in-Some.first c.in-Some.ensures (c.in_ok-push.ensures.appended ∙ ap (λ (l : List Member). l ++ c.in-Some.first ∷ []) c.new-list.ensures.empty) c.in_ok-rest.ensures (empty_test c.in_ok-rest.rest.now c.if-is_empty.ensures)
+pub returns-in-None : goal.returns-in-None
+returns-in-None c =
+    no_members_then c.in-Some.first c.in-Some.ensures (c.in_ok-push.ensures.appended ∙ ap (λ (l : List Member). l ++ c.in-Some.first ∷ []) c.new-list.ensures.empty) c.in_ok-rest.ensures c.in-None.ensures

@@ -1,5 +1,3 @@
-use Rattle.std.proofs.Common.{ap}
-use Rattle.rob_meaning.specs.RobustModel.{RobustModel}
 use Rattle.rob_parse.proofs.ReadModels.{readable}
 use Rattle.rob_parse.proofs.WellNamed.{well_spelled}
 use Rattle.rob_parse.proofs.WritableLines.{all_fine, all_declarable}
@@ -8,5 +6,5 @@ use Rattle.rob_parse.proofs.laws.canonical_words.Goals as goal
 pub returns : goal.returns
 returns c = record {
   writable = λ limit text m low small read. all_fine limit small m (well_spelled limit text m read) (readable limit text m low read);
-  declarable = λ limit text m read. all_declarable m (ap (λ (x : RobustModel). x.sets) read.model_is) (well_spelled limit text m read);
+  declarable = λ limit text m read. all_declarable m (well_spelled limit text m read);
 }

@@ -1,5 +1,5 @@
-use Rattle.rob_parse.proofs.ModelLemmas.{well_formed}
+use Rattle.rob_parse.proofs.PlacedLemmas.{well_formed}
 use Rattle.rob_parse.proofs.laws.well_formed.Goals as goal
 
 pub returns : goal.returns
-returns c = record { model = well_formed }
+returns c = record { model = λ limit text m low read. well_formed limit text m read low }

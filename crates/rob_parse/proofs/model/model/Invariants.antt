@@ -8,7 +8,7 @@ use Rattle.rob_parse.proofs.model.model.Given as goal
 
 abbrev pub invariant-loop-statement : goal.invariant-loop-statement
 invariant-loop-statement g l = record {
-  grows : Grows (texts l.words.keys) l.sorts l.list (drop l.statement-index l.list) (robust g.N.Exact.value l.model);
+  grows : Grows (texts l.words.keys) l.scope l.list (drop l.statement-index l.list) (robust g.N.Exact.value l.model);
   fits : Each (FitsStatement g.N.Exact.limit) (drop l.statement-index l.list);
   ops : g.L.Ledger.ops l.fn.ledger ≤ g.L.Ledger.ops l.ledger;
   wides : g.L.Ledger.wides l.fn.ledger ≡ g.L.Ledger.wides l.ledger;

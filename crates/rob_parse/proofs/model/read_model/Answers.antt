@@ -1,10 +1,11 @@
-use Rattle.std.proofs.Common.{sym, subst, ◌∙◌, List, length, refl}
+use Rattle.std.proofs.Common.{◌≡◌, ap, sym, subst, ◌∙◌, List, length, refl}
 use Rattle.std.specs.Prelude.{IsSome}
 use Rattle.rob_meaning.specs.Places.{Each}
 use Rattle.rob_parse.specs.declared.syntax.Statement.{Statement}
 use Rattle.rob_parse.specs.Building.{FitsStatement}
 use Rattle.rob_parse.specs.Known.{texts}
-use Rattle.rob_parse.specs.Models.{goal_in, model_of}
+use Rattle.rob_parse.specs.Models.{goal_in, model_of, parameters}
+use Rattle.std.specs.List.{flat_map}
 use Rattle.rob_parse.specs.Reading.{Reads}
 use Rattle.rob_parse.specs.Scopes.{earlier_of, start}
 use Rattle.rob_parse.specs.Symbols.{lines_of}
@@ -12,7 +13,8 @@ use Rattle.rob_parse.proofs.FitLemmas.{all_fit, goal_there}
 use Rattle.rob_model.specs.View.{robust}
 use Rattle.rob_parse.specs.Modelled.{ReadsModel}
 use Rattle.rob_parse.proofs.LimitLemmas.{within_limits}
-use Rattle.rob_parse.proofs.ModelLemmas.{well_formed}
+use Rattle.rob_parse.proofs.PlacedLemmas.{well_formed}
+use Rattle.rob_parse.proofs.RoomLemmas.{has_room, written_count_is}
 use Rattle.rob_parse.proofs.WellNamed.{well_named}
 use Rattle.rob_parse.proofs.NumberLemmas.{limit_seen}
 use Rattle.rob_parse.proofs.model.read_model.Goals as goal
@@ -27,6 +29,17 @@ model-requires-clause-goal g c =
     let read = subst (λ k. Reads k c.args.text.now (texts c.in-Ok.found.words.keys) c.in-Ok.found.list (earlier_of c.in-Ok.found.scope)) (limit_seen _ g.N.Exact.limit (c.LIMIT.ensures ∙ g.met.N.Exact.limit_told) g.met.N.Exact.limit_high) c.in-Ok.ensures.read in
     subst (λ (l : List Statement). IsSome (goal_in l)) (sym c.items-list.ensures.list) (goal_there g.N.Exact.limit (start (length (texts c.in-Ok.found.words.keys))) (lines_of c.args.text.now (texts c.in-Ok.found.words.keys) read.tokens) c.in-Ok.found.list (earlier_of c.in-Ok.found.scope) read.follows read.goal refl)
 
+pub model-requires-clause-room : goal.model-requires-clause-room
+model-requires-clause-room g c =
+    let read = subst (λ k. Reads k c.args.text.now (texts c.in-Ok.found.words.keys) c.in-Ok.found.list (earlier_of c.in-Ok.found.scope)) (limit_seen _ g.N.Exact.limit (c.LIMIT.ensures ∙ g.met.N.Exact.limit_told) g.met.N.Exact.limit_high) c.in-Ok.ensures.read in
+    has_room g.N.Exact.limit c.args.text.now (texts c.in-Ok.found.words.keys) c.in-Ok.found.list c.in-Ok.found.scope read
+
+pub model-requires-clause-count : goal.model-requires-clause-count
+model-requires-clause-count g c =
+    let read = subst (λ k. Reads k c.args.text.now (texts c.in-Ok.found.words.keys) c.in-Ok.found.list (earlier_of c.in-Ok.found.scope)) (limit_seen _ g.N.Exact.limit (c.LIMIT.ensures ∙ g.met.N.Exact.limit_told) g.met.N.Exact.limit_high) c.in-Ok.ensures.read in
+    subst (λ (l : List Statement). c.in-Ok.found.scope.sizes.parameters ≡ length (flat_map (parameters (texts c.in-Ok.found.words.keys)) l)) (sym c.items-list.ensures.list)
+    (written_count_is g.N.Exact.limit c.args.text.now (texts c.in-Ok.found.words.keys) c.in-Ok.found.list c.in-Ok.found.scope read)
+
 pub returns-in-Ok-model-clause-read : goal.returns-in-Ok-model-clause-read
 returns-in-Ok-model-clause-read g c =
     let read = subst (λ k. Reads k c.args.text.now (texts c.in-Ok.found.words.keys) c.in-Ok.found.list (earlier_of c.in-Ok.found.scope)) (limit_seen _ g.N.Exact.limit (c.LIMIT.ensures ∙ g.met.N.Exact.limit_told) g.met.N.Exact.limit_high) c.in-Ok.ensures.read in
@@ -35,14 +48,14 @@ returns-in-Ok-model-clause-read g c =
       list = c.in-Ok.found.list;
       known = earlier_of c.in-Ok.found.scope;
       reads = read;
-      model_is = c.in-Ok-model.ensures.read ∙ (λ i. model_of (texts c.in-Ok.found.words.keys) (c.as_slice-sorts.ensures.value i) (c.items-list.ensures.list i));
+      model_is = c.in-Ok-model.ensures.read ∙ ap (model_of (texts c.in-Ok.found.words.keys) c.in-Ok.found.scope.sorts.items) c.items-list.ensures.list;
     }
 
 pub returns-in-Ok-model-clause-valid : goal.returns-in-Ok-model-clause-valid
 returns-in-Ok-model-clause-valid g c =
     let read : ReadsModel g.N.Exact.limit c.args.text.now (robust g.N.Exact.value c.in-Ok-model.model) = returns-in-Ok-model-clause-read g c in
     record {
-      well_formed = well_formed g.N.Exact.limit c.args.text.now (robust g.N.Exact.value c.in-Ok-model.model) g.met.N.Exact.limit_low read;
+      well_formed = well_formed g.N.Exact.limit c.args.text.now (robust g.N.Exact.value c.in-Ok-model.model) read g.met.N.Exact.limit_low;
       limits = within_limits g.N.Exact.limit c.args.text.now (robust g.N.Exact.value c.in-Ok-model.model) read;
     }
 

@@ -1,4 +1,5 @@
-use Rattle.rob_parse.proofs.StatementLemmas.{is_uncertain, is_variable, is_set, is_budget, is_adaptive, is_row}
+use Rattle.std.proofs.Common.{arith}
+use Rattle.rob_parse.proofs.StatementLemmas.{is_over, is_uncertain, is_variable, is_set, is_budget, is_adaptive, is_row}
 use Rattle.rob_parse.proofs.statement.statement.Goals as goal
 
 pub returns-in-Some-declared : goal.returns-in-Some-declared
@@ -18,3 +19,6 @@ returns-in_ok-policy-in-Adaptive c = is_adaptive c.in_ok-policy-in-Adaptive.fiel
 
 pub returns-in_ok-row-in-Row : goal.returns-in_ok-row-in-Row
 returns-in_ok-row-in-Row c = is_row c.in-Some.ensures c.in-Row.is c.in_ok-row-in-Row.ensures
+
+pub returns-in-Some-default-empty : goal.returns-in-Some-default-empty
+returns-in-Some-default-empty c = is_over c.in-Some-default-empty.set c.in-Some.ensures c.in-Over.is c.in-Some-default-empty.ensures (omega (arith, c.in-Some-default-empty.len_below))

@@ -1,4 +1,5 @@
 use Rattle.rob_top.proofs.WorkedCalls.{empty_interval_is_shown, one_demand_is_solved}
+use Rattle.rob_top.proofs.WorkedSetCalls.{hard_and_soft_is_solved, never_calm_is_shown}
 use Rattle.rob_top.proofs.WorkedChecks.{order_11_is_rejected, order_12_is_accepted}
 use Rattle.rob_top.proofs.laws.worked_calls.Goals as goal
 
@@ -6,6 +7,8 @@ pub returns : goal.returns
 returns c = record {
   optimal = one_demand_is_solved;
   empty = empty_interval_is_shown;
+  named_set = hard_and_soft_is_solved;
+  empty_named_set = never_calm_is_shown;
   accepted = order_12_is_accepted;
   rejected = order_11_is_rejected;
 }

@@ -1,0 +1,35 @@
+//! The set that a line answers to.
+
+ghost use Rattle.std.specs.Prelude.{◌≡◌};
+ghost use Rattle.rob_parse.specs.Models.{set_number as set_number_lem, set_at as set_at_lem};
+
+use crate::degree::sort_at;
+use crate::sort::Sort;
+
+/// The set that a line answers to, in a text with so many written parameters.
+#[derive(Clone, Copy)]
+pub struct Place {
+    pub count: u32,
+    /// The set's number; 0 is the default set.
+    pub set: u32,
+}
+
+/// The number of the set that a line is over; without `over` it is the default set.
+pub fn set_at(sorts: &[Option<Sort>], over: Option<usize>) -> u32
+    ensures { result ≡ set_at_lem sorts.now over }
+{
+    match over {
+        None => 0,
+        Some(name) => set_number(sort_at(sorts, name)),
+    }
+}
+
+/// The number of a set; nothing else stands where one is asked for.
+fn set_number(sort: Option<Sort>) -> u32
+    ensures { result ≡ set_number_lem sort }
+{
+    match sort {
+        Some(Sort::Set(set)) => set,
+        _ => 0,
+    }
+}
