@@ -1,6 +1,6 @@
 // Command lines and other words.
 
-use rob_words::{Command, CommandLine, Width, WordsErr, read_words};
+use rob_words::{CommandLine, Verb, Width, WordsErr, read_words};
 use std::alloc::{AllocError, Global};
 use std::test::Fail;
 
@@ -37,16 +37,22 @@ fn with_more(
     Ok(strings)
 }
 
-/// A command's name, its files, the second of which may be missing, and the width in bits.
+/// A command's name, its own words, the second of which may be missing, and the width in bits.
 fn told(line: &CommandLine) -> (&str, &str, &str, u32) {
-    let bits = line.width.bits();
-    match &line.command {
-        Command::Rows { model } => ("rows", model.as_str(), "", bits),
-        Command::Solve { model, .. } => ("solve", model.as_str(), "", bits),
-        Command::Prove { model, .. } => ("prove", model.as_str(), "", bits),
-        Command::Check { model, certificate } => {
-            ("check", model.as_str(), certificate.as_str(), bits)
-        }
+    let name = match line.verb {
+        Verb::Rows => "rows",
+        Verb::Solve => "solve",
+        Verb::Prove => "prove",
+        Verb::Check => "check",
+    };
+    (name, own(line, 0), own(line, 1), line.width.bits())
+}
+
+/// An own word of a command line, empty where there is none.
+fn own(line: &CommandLine, k: usize) -> &str {
+    match line.own.get(k) {
+        Some(word) => word.as_str(),
+        None => "",
     }
 }
 

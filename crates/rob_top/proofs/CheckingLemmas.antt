@@ -36,17 +36,22 @@ use Rattle.rob_report.specs.Places.{IsPlaceOf}
 use Rattle.rob_report.specs.Spots.{rejected_line, too_wide_line}
 use Rattle.rob_sets.proofs.SubexpressionLemmas.{each_both}
 use Rattle.rob_top.specs.Answers.{accepted_text, certificate_text}
-use Rattle.rob_top.specs.Calls.{Call, Count, count, limit_of}
-use Rattle.rob_top.specs.Headline.{HasForms, HasCertificateFile, Means, checking}
-use Rattle.rob_top.specs.Replies.{IsTask, Replies}
-use Rattle.rob_top.specs.Work.{AnswersCertificate, AnswersFile, AnswersForms}
+use Rattle.rob_top.specs.Calls.{Call, Count, HasFile, count, limit_of}
+use Rattle.rob_top.specs.Headline.{Means}
+use Rattle.rob_top.specs.Refused.{checking}
+use Rattle.rob_top.specs.Replies.{Replies}
+use Rattle.rob_top.specs.Work.{AnswersCertificate, AnswersFile, AnswersWhole}
 use Rattle.rob_top.specs.declared.ended.Ended.{Ended}
 use Rattle.rob_top.specs.declared.ended.Ended.TheVariants.{Accepted, Rejected, TooWide, Cert}
-use Rattle.rob_top.specs.declared.files.Task.{Task}
-use Rattle.rob_top.specs.declared.files.Task.TheVariants.{Check}
+use Rattle.rob_top.specs.declared.files.Texts.{Texts}
 use Rattle.rob_top.specs.declared.reply.Reply.{Reply}
-use Rattle.rob_top.proofs.WorkLemmas.{call_within, rose_earlier}
-use Rattle.rob_words.specs.Commands.{Action, Line, rows, solve, prove, check}
+use Rattle.rob_top.proofs.OwnLemmas.{file_came, has_kind}
+use Rattle.rob_top.proofs.WorkLemmas.{call_of_verb, call_within, rose_earlier}
+use Rattle.rob_words.specs.Commands.{Line}
+use Rattle.rob_words.specs.Verbs.{own_of}
+use Rattle.rob_words.specs.declared.verb.Own.TheVariants as own
+use Rattle.rob_words.specs.declared.verb.Verb.{Verb}
+use Rattle.rob_words.specs.declared.verb.Verb.TheVariants.{Check}
 
 -- ---- the places of conditions are the model's
 
@@ -178,23 +183,20 @@ module _ (limit : ℕ) (m : RobustModel) where
 
 -- ---- the answers
 module _ (limit : ℕ) (m : RobustModel) where
-  -- the task is `check` with these bytes, and its file came
-  file_of : (call : Call) (line : Line) (bytes : _) → IsTask call line.action (Check bytes) → HasForms call line m → HasCertificateFile call line m bytes.items
-  file_of call line bytes asked has = by line.action refl asked
-    where
-      by : (action : Action) → line.action ≡ action → IsTask call action (Check bytes) → HasCertificateFile call line m bytes.items
-      by (check model certificate) e h = record { forms = has; model_name = model; certificate_name = certificate; is_check = e; found = h }
-      by (rows model) e h = absurd h
-      by (solve model way) e h = absurd h
-      by (prove model way) e h = absurd h
-
-  pub file_answers : (wides : Count) (task : Task) (bytes : _) (text : List ℕ) (r : Result Reply Want) → task ≡ Check bytes → text ≡ bytes.items
-      → IfOk r (AnswersFile limit wides m text) → IfOk r (AnswersForms limit wides m task)
-  file_answers wides task bytes text (Err want) e same h = tt
-  file_answers wides task bytes text (Ok reply) e same h = λ call line at asked has.
-      h call line at
-      (subst (λ (list : List ℕ). HasCertificateFile call line m list) (sym same)
-      (file_of call line bytes (subst (λ (t : Task). IsTask call line.action t) e asked) has))
+  -- the command is `check`, so the file of the certificate came
+  pub file_answers : (wides : Count) (verb : Verb) (texts : Texts) (text : List ℕ) (r : Result Reply Want) → verb ≡ Check
+      → text ≡ texts.certificate.items → IfOk r (AnswersFile limit wides m text) → IfOk r (AnswersWhole limit wides m verb texts)
+  file_answers wides verb texts text (Err want) e same h = tt
+  file_answers wides verb texts text (Ok reply) e same h = λ call line at came has.
+      let here : line.verb ≡ Check = at.verb_is ∙ e in
+      let names : has_kind own.Certificate (own_of line.verb) ≡ true =
+      subst (λ (v : Verb). has_kind own.Certificate (own_of v) ≡ true) (sym here) refl in
+      h call line (call_of_verb limit wides verb Check call line e at)
+      (record {
+        forms = has;
+        is_check = here;
+        file = subst (λ (list : List ℕ). HasFile call line own.Certificate list) (sym same) (file_came call line texts own.Certificate came names);
+      })
 
   pub rule_answers : (wides : Count) (text : List ℕ) (rule number : ℕ) (r : Result Reply Want) → HasCause (naming_of m) limit start text 1 (Rule rule number)
       → IfOk r (Replies (Cert rule number) (certificate_text rule number)) → IfOk r (AnswersFile limit wides m text)
@@ -214,7 +216,7 @@ module _ (limit : ℕ) (m : RobustModel) where
       → IfOk r (AnswersCertificate limit (count middle now) m c) → IfOk r (AnswersFile limit (count before now) m text)
   certificate_answers before middle now text c (Err want) least is fits h = tt
   certificate_answers before middle now text c (Ok reply) least is fits h = λ call line at file.
-      h call line (call_within limit (count middle now) (count before now) call line (rose_earlier before middle now least) at)
+      h call line (call_within limit (count middle now) (count before now) Check call line (rose_earlier before middle now least) at)
       (record { bytes = text; file = file; text = is; fits = subst (λ (l : ℕ). FitsLines l m c) (sym at.limit_is) fits })
 
   module _ (c : Certificate) (v : Verdict) (is : v ≡ verdict_of limit m c) where

@@ -21,13 +21,16 @@ use Rattle.rob_top.proofs.StageLemmas.{broken_answer}
 use Rattle.rob_top.proofs.TrueAnswerLemmas.{empty_decides, missing_decides, rows_decide, rule_decides, solve_decides, status_decides, too_long_decides, verdict_decides, well, wide_decides}
 use Rattle.rob_top.specs.Calls.{Call, IsSolving, Known, Output, known_call, limit_of}
 use Rattle.rob_top.specs.Completeness.{EndsAs, IsComplete, IsEmptyAnswer, IsOutside, IsProvedAnswer, IsSolveAnswer, IsUnput, MustEnd}
-use Rattle.rob_top.specs.Headline.{Ends, HasCertificate, HasCertificateFile, HasForms, IsPrinted, IsSolved, Means}
+use Rattle.rob_top.specs.Headline.{Ends, Means}
+use Rattle.rob_top.specs.Inputs.{HasCertificate, HasCertificateFile, HasForms}
+use Rattle.rob_top.specs.Solved.{IsPrinted, IsSolved}
 use Rattle.rob_top.specs.Work.{verdict_ended}
 use Rattle.rob_top.specs.declared.ended.Ended.{Ended}
 use Rattle.rob_top.specs.declared.ended.Ended.TheVariants.{Optimal, Infeasible, Unbounded, Printed, Accepted, Rejected, Words, Missing, TooLong, Model, EmptySet, TooWide, Cert, ReadFault, WriteFault, Memory}
-use Rattle.rob_words.specs.Commands.{Action, Line, prove, IsCommandLine}
-use Rattle.rob_words.specs.Values.{Word, bits_of}
-use Rattle.rob_words.specs.declared.route.Route.{Route}
+use Rattle.rob_words.specs.Commands.{Line, IsCommandLine}
+use Rattle.rob_words.specs.Values.{bits_of}
+use Rattle.rob_words.specs.declared.verb.Verb.{Verb}
+use Rattle.rob_words.specs.declared.verb.Verb.TheVariants.{Prove}
 use Rattle.rob_words.specs.declared.width.Width.{Width}
 
 -- the call has an answer that is allowed, or a put or memory was refused
@@ -79,7 +82,7 @@ module _ (call : Call) (known : Known call.source) (ended : Ended) (comes : Come
       by (inr e) = inr e
 
   module _ (line : Line) (m : RobustModel) where
-    solving_ends : HasForms call line m → IsSolving line.action → IsSolveAnswer (limit_of line) m ended
+    solving_ends : HasForms call line m → IsSolving line.verb → IsSolveAnswer (limit_of line) m ended
     solving_ends has solves = by comes
       where
         by : Comes call ended → IsSolveAnswer (limit_of line) m ended
@@ -87,7 +90,7 @@ module _ (call : Call) (known : Known call.source) (ended : Ended) (comes : Come
         by (inr (inl e)) = subst (λ (x : Ended). IsSolveAnswer (limit_of line) m x) (sym e) (inr (inl refl))
         by (inr (inr e)) = subst (λ (x : Ended). IsSolveAnswer (limit_of line) m x) (sym e) (inr (inr refl))
 
-    empty_ends : HasForms call line m → IsSolving line.action → IsEmptySet m → IsEmptyAnswer (limit_of line) m ended
+    empty_ends : HasForms call line m → IsSolving line.verb → IsEmptySet m → IsEmptyAnswer (limit_of line) m ended
     empty_ends has solves none = by comes
       where
         by : Comes call ended → IsEmptyAnswer (limit_of line) m ended
@@ -119,11 +122,11 @@ module _ (call : Call) (known : Known call.source) (ended : Ended) (comes : Come
     words = words_end;
     missing = λ name h. comes_ends call Missing ended comes (missing_decides call known name h ended);
     too_long = λ name h. comes_ends call TooLong ended comes (too_long_decides call known name h ended);
-    model = λ line bytes rule number spelled came found breaks.
+    model = λ line bytes rule number spelled came file breaks.
         comes_ends call (Model rule number) ended comes
-        (λ text. broken_answer call known line spelled ended text bytes rule number came found breaks);
+        (λ text. broken_answer call known line spelled ended text bytes rule number came file breaks);
     wide = λ line m spot has first. comes_ends call (TooWide spot) ended comes (wide_decides call known line m has spot first ended);
-    rows = λ line m name has is. comes_ends call Printed ended comes (rows_decide call known line m has name is ended);
+    rows = λ line m has is. comes_ends call Printed ended comes (rows_decide call known line m has is ended);
     solving = solving_ends;
     empty = empty_ends;
     status = λ line m status v u has solves holds admitted narrow.
@@ -176,20 +179,20 @@ ends_complete call output ended ends = comes_complete call ended (ends_come call
 
 -- ---- the text that `prove` printed, as the file of a certificate
 module _ (proving checking : Call) (known : Known checking.source) (status : Status) (text : List ℕ) (solved : IsSolved proving status text)
-    (line : Line) (model : Word) (way : Route) (ended : Ended) where
-  printed_certificate : solved.line.action ≡ prove model way → line.width ≡ solved.line.width
+    (line : Line) (ended : Ended) where
+  printed_certificate : solved.line.verb ≡ Prove → line.width ≡ solved.line.width
       → HasCertificateFile (known_call checking known) line solved.m text → HasCertificate (known_call checking known) line solved.m solved.c
   printed_certificate is_prove width file = record {
     bytes = text;
     file = file;
     text = record {
       shape = solved.shape;
-      spelled = subst (λ (a : Action). IsPrinted proving a solved.m solved.c text) is_prove solved.printed;
+      spelled = subst (λ (v : Verb). IsPrinted proving v solved.m solved.c text) is_prove solved.printed;
     };
     fits = subst (λ (w : Width). FitsLines (2 ^ bits_of w - 1) solved.m solved.c) (sym width) solved.fits;
   }
 
-  pub proved_then_checked : solved.line.action ≡ prove model way → line.width ≡ solved.line.width
+  pub proved_then_checked : solved.line.verb ≡ Prove → line.width ≡ solved.line.width
       → HasCertificateFile (known_call checking known) line solved.m text → MustEnd (known_call checking known) ended
       → IsProvedAnswer (limit_of line) solved.m solved.c ended
   proved_then_checked is_prove width file must =

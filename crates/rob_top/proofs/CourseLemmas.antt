@@ -17,24 +17,27 @@ use Rattle.rob_model.specs.declared.place.Spot.{Spot}
 use Rattle.rob_sets.specs.FirstWide.{IsFirstWide}
 use Rattle.rob_sets.specs.SetForm.{judged_set}
 use Rattle.rob_top.specs.Calls.{Call, IsSolving, limit_of}
-use Rattle.rob_top.specs.Headline.{HasCertificate, HasCertificateFile, HasForms, IsAccepted, IsEmptySet as IsShownEmptySet, IsNoCertificate, IsPrinted, IsRejected, IsRows, IsSolved, IsWideSpot, checking, elaborating, solving}
+use Rattle.rob_top.specs.Checked.{IsAccepted, IsRejected}
+use Rattle.rob_top.specs.Inputs.{HasCertificate, HasCertificateFile, HasForms}
+use Rattle.rob_top.specs.Refused.{IsNoCertificate, IsWideSpot, checking, elaborating, solving}
+use Rattle.rob_top.specs.Solved.{IsEmptySet as IsShownEmptySet, IsRows, IsSolved}
 use Rattle.rob_top.specs.Work.{ended_of, verdict_ended}
 use Rattle.rob_top.specs.declared.ended.Ended.{Ended}
 use Rattle.rob_top.specs.declared.ended.Ended.TheVariants.{Printed, Accepted, Rejected, EmptySet, TooWide, Cert}
-use Rattle.rob_words.specs.Commands.{Action, Line, rows, solve, prove, check}
-use Rattle.rob_words.specs.Values.{Word}
+use Rattle.rob_words.specs.Commands.{Line}
+use Rattle.rob_words.specs.declared.verb.Verb.TheVariants.{Rows}
 
 -- what stands behind the answer: a status of the model, or an empty set; printed rows; a verdict, or a certificate's text that
 -- breaks a rule; or a wide number of the set rows and forms, or of a row on the path
 pub data Course (call : Call) (line : Line) (m : RobustModel) (ended : Ended) : Type 0 where
-  finds : (status : Status) (v : Fraction) (u : List Fraction) → Admits m u → HasForms call line m → IsSolving line.action → HasStatus m status v → ended ≡ ended_of status → Course call line m ended
-  shows_empty : (weights : List ℤ) → HasForms call line m → IsSolving line.action → IsShownEmpty m (map of_int weights) → ended ≡ EmptySet weights → Course call line m ended
-  prints : (name : Word) → HasForms call line m → line.action ≡ rows name → ended ≡ Printed → Course call line m ended
+  finds : (status : Status) (v : Fraction) (u : List Fraction) → Admits m u → HasForms call line m → IsSolving line.verb → HasStatus m status v → ended ≡ ended_of status → Course call line m ended
+  shows_empty : (weights : List ℤ) → HasForms call line m → IsSolving line.verb → IsShownEmpty m (map of_int weights) → ended ≡ EmptySet weights → Course call line m ended
+  prints : HasForms call line m → line.verb ≡ Rows → ended ≡ Printed → Course call line m ended
   judges : (c : Certificate) → HasCertificate call line m c → ended ≡ verdict_ended (verdict_of (limit_of line) m c) → Course call line m ended
   refuses : (bytes : List ℕ) (rule number : ℕ) → HasCertificateFile call line m bytes → HasCause (naming_of m) (limit_of line) start bytes 1 (Rule rule number) → ended ≡ Cert rule number
       → Course call line m ended
   wide_number : (spot : Spot) → IsFirstWide (limit_of line) m (judged_set m ++ judged_forms m) spot → ended ≡ TooWide spot → Course call line m ended
-  wide_row : (spot : Spot) → HasForms call line m → IsSolving line.action → IsWideOnPath (limit_of line) m spot → ended ≡ TooWide spot → Course call line m ended
+  wide_row : (spot : Spot) → HasForms call line m → IsSolving line.verb → IsWideOnPath (limit_of line) m spot → ended ≡ TooWide spot → Course call line m ended
 
 -- a certificate that proves has an admitted scenario
 pub inside_admitted : (m : RobustModel) (c : Certificate) (status : Status) → ProvesAs status m c → Admits m c.inside
@@ -43,21 +46,14 @@ inside_admitted m c infeasible h = h.inside
 inside_admitted m c unbounded h = h.inside
 
 module _ (call : Call) where
-  -- a certificate is printed by `solve` and `prove` alone
-  printing_solves : (action : Action) (m : RobustModel) (c : Certificate) (text : List ℕ) → IsPrinted call action m c text → IsSolving action
-  printing_solves (solve name way) m c text h = tt
-  printing_solves (prove name way) m c text h = tt
-  printing_solves (rows name) m c text h = h
-  printing_solves (check name certificate) m c text h = h
-
   pub solved_course : (status : Status) (text : List ℕ) (h : IsSolved call status text) → Course call h.line h.m (ended_of status)
-  solved_course status text h = finds status h.c.value h.c.inside (inside_admitted h.m h.c h.c.status h.proves) h.forms (printing_solves h.line.action h.m h.c text h.printed) h.holds refl
+  solved_course status text h = finds status h.c.value h.c.inside (inside_admitted h.m h.c h.c.status h.proves) h.forms h.solves h.holds refl
 
   pub empty_course : (weights : List ℤ) (text : List ℕ) (h : IsShownEmptySet call weights text) → Course call h.line h.m (EmptySet weights)
   empty_course weights text h = shows_empty weights h.forms h.solves h.shown refl
 
   pub rows_course : (text : List ℕ) (h : IsRows call text) → Course call h.line h.m Printed
-  rows_course text h = prints h.model_name h.forms h.is_rows refl
+  rows_course text h = prints h.forms h.is_rows refl
 
   pub accepted_course : (text : List ℕ) (h : IsAccepted call text) → Course call h.line h.m Accepted
   accepted_course text h = judges h.c h.read (ap verdict_ended (sym h.verdict))

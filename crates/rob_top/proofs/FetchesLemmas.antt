@@ -5,8 +5,8 @@ use Rattle.rob_outside.specs.Fetches.{Fetch, fetch_of}
 use Rattle.rob_outside.specs.Files.{File, whole}
 use Rattle.rob_top.specs.Calls.{AsksInOrder, Fetches, IsFoundIn, Request, answer_to, behind, requests, source_of}
 use Rattle.rob_top.specs.Replies.{Asks, AsksOnce}
-use Rattle.rob_top.proofs.FilesLemmas.{answer_here, behind_grown, grown_twice}
-use Rattle.rob_words.specs.Answers.{action_of, line_of}
+use Rattle.rob_top.proofs.FilesLemmas.{answer_here, behind_grown, grown_all}
+use Rattle.rob_words.specs.Answers.{line_of}
 use Rattle.rob_words.specs.Commands.{IsSpelled}
 use Rattle.rob_words.specs.Values.{Word}
 use Rattle.rob_words.specs.declared.line.CommandLine.{CommandLine}
@@ -28,15 +28,19 @@ came_whole told request bytes before now a h =
     ∙ subst (λ (list : List Fetch). answer_to request list ≡ Some (whole bytes))
     (behind_grown before now (fetch_of request.name request.most a.found ∷ []) a.grown) h.1
 
--- the first file came whole, and then the second was asked for
-pub asks_both : (told : Option (List File)) (request next : Request) (more : List Request) (bytes : List ℕ)
-    (before middle now : List Fetch) → AsksOnce request before middle → IsFoundIn (source_of told before middle) request (whole bytes)
-    → AsksOnce next middle now → Asks (request ∷ next ∷ more) before now
-asks_both told request next more bytes before middle now a h b = record {
-  added = fetch_of request.name request.most a.found ∷ fetch_of next.name next.most b.found ∷ [];
-  grown = grown_twice before middle now (fetch_of request.name request.most a.found) (fetch_of next.name next.most b.found) a.grown b.grown;
-  in_order = ((refl, refl), inr ((bytes, came_whole told request bytes before middle a h), ((refl, refl), inl refl)));
+-- the first file came whole, and then those behind it were asked for
+pub asks_more : (told : Option (List File)) (request : Request) (files : List Request) (bytes : List ℕ) (before middle now : List Fetch)
+    → AsksOnce request before middle → IsFoundIn (source_of told before middle) request (whole bytes) → Asks files middle now
+    → Asks (request ∷ files) before now
+asks_more told request files bytes before middle now one h rest = record {
+  added = fetch_of request.name request.most one.found ∷ rest.added;
+  grown = grown_all told request files before middle now one rest;
+  in_order = ((refl, refl), inr ((bytes, came_whole told request bytes before middle one h), rest.in_order));
 }
+
+-- no file was asked for
+pub asks_none : (files : List Request) (before now : List Fetch) → now ≡ before → Asks files before now
+asks_none files before now e = record { added = []; grown = e ∙ sym (append-nil before); in_order = tt }
 
 -- what stands behind is all that was added
 grown_behind : (before now added : List Fetch) → now ≡ before ++ added → now ≡ before ++ behind before now
@@ -50,12 +54,12 @@ fetches_none words before now e =
 
 -- the files of a command line were
 pub fetches_line : (words : List Word) (line : CommandLine) (before now : List Fetch) → IsSpelled words (line_of line)
-    → Asks (requests (action_of line.command)) before now → Fetches words before now
+    → Asks (requests (line_of line)) before now → Fetches words before now
 fetches_line words line before now spelled a = record {
   grown = grown_behind before now a.added a.grown;
   in_order = inr (
     line_of line,
     spelled,
-    subst (λ (list : List Fetch). AsksInOrder (requests (action_of line.command)) list) (sym (behind_grown before now a.added a.grown)) a.in_order,
+    subst (λ (list : List Fetch). AsksInOrder (requests (line_of line)) list) (sym (behind_grown before now a.added a.grown)) a.in_order,
   );
 }

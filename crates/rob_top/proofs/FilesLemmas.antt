@@ -1,31 +1,33 @@
 -- What came of a command's files, from what came of each.
-use Rattle.std.proofs.Common.{◌≡◌, ◌≤◌, ◌==◌, ◌&&◌, Bool, true, false, if◌then◌else◌, ℕ, List, [], ◌∷◌, ◌++◌, length, drop, append_assoc, Option, Some, None, Result, Ok, Err, IfOk, IfSome, refl, sym, ◌∙◌, ap, subst, arith, Vec, Global}
+use Rattle.std.proofs.Common.{◌≡◌, ◌≤◌, ◌==◌, ◌&&◌, ◌⊎◌, inl, inr, Bool, true, false, if◌then◌else◌, ℕ, ◌-◌, List, [], ◌∷◌, ◌++◌, length, map, take, drop, append_assoc, slice_index_or, Option, Some, None, Result, Ok, Err, IfOk, IfSome, refl, sym, ◌∙◌, ap, subst, arith, Vec, Global}
 use Rattle.std.specs.Str.{bytes_eq}
 use Rattle.std.proofs.lemmas.Bool.Decides.{nat_tests}
-use Rattle.std.proofs.Math.Seq.{drop-append_seam}
+use Rattle.std.proofs.Math.Seq.{drop-append_seam, take-length}
 use Rattle.std.proofs.lemmas.Slice.Eq.{bytes_eq-Decides}
+use denote.Enum.Bare.{same_true, sameb}
 use Rattle.rob_meaning.specs.Places.{Each}
 use Rattle.rob_number.specs.Counts.{Rose}
 use Rattle.rob_outside.specs.Fetches.{Fetch, fetch_of, logged}
 use Rattle.rob_outside.specs.Files.{File, Finds, Found, whole, missing, too_long, found_at, found_of}
 use Rattle.rob_outside.specs.declared.shelf.Fetched.{Fetched}
-use Rattle.rob_top.specs.Calls.{Call, Came, Count, IsFound, IsFoundIn, Request, Source, WasRaised, answer_to, behind, certificate_file, count, model_file, model_of, requests, source_of}
+use Rattle.rob_top.specs.Calls.{Call, Came, Count, IsFoundIn, Request, Source, WasRaised, answer_to, are_apart, behind, count, file_of, files_of, is_apart, most_of, requests, source_of, word_of}
 use Rattle.rob_top.specs.Headline.{Means}
-use Rattle.rob_top.specs.Replies.{AsksOnce, FetchesModel, HasTexts, IsAbsence, IsFetched, IsGot, IsLine, IsTask}
+use Rattle.rob_top.specs.Replies.{AreFound, Asks, AsksOnce, CameIn, IsAbsence, IsAbsentAmong, IsFetched, IsGot, IsNothing, text_of, with_file, with_text}
+use Rattle.rob_top.specs.Work.{IsShortFetch}
 use Rattle.rob_top.specs.declared.ended.Ended.{Ended}
 use Rattle.rob_top.specs.declared.ended.Ended.TheVariants.{Optimal, Infeasible, Unbounded, Printed, Accepted, Rejected, Words, Missing, TooLong, Model, EmptySet, TooWide, Cert, ReadFault, WriteFault, Memory}
 use Rattle.rob_top.specs.declared.files.Files.{Files}
 use Rattle.rob_top.specs.declared.files.Files.TheVariants as files
 use Rattle.rob_top.specs.declared.files.Got.{Got}
 use Rattle.rob_top.specs.declared.files.Got.TheVariants.{Bytes, Answer}
-use Rattle.rob_top.specs.declared.files.Job.{Job}
-use Rattle.rob_top.specs.declared.files.Task.{Task}
-use Rattle.rob_top.specs.declared.files.Task.TheVariants.{Check}
+use Rattle.rob_top.specs.declared.files.Texts.{Texts}
 use Rattle.rob_top.specs.declared.reply.Reply.{Reply}
-use Rattle.rob_words.specs.Answers.{action_of, line_of}
-use Rattle.rob_words.specs.Commands.{Action, Line, check, IsSpelled}
+use Rattle.rob_top.proofs.OwnLemmas.{apart_files, apart_word, both_true, text_of-other, text_of-same}
+use Rattle.rob_words.specs.Commands.{Line, IsSpelled}
 use Rattle.rob_words.specs.Values.{Word}
-use Rattle.rob_words.specs.declared.line.CommandLine.{CommandLine}
+use Rattle.rob_words.specs.contracts.verb.Own.{the_type}
+use Rattle.rob_words.specs.declared.verb.Own.{Own}
+use Rattle.rob_words.specs.declared.verb.Own.TheVariants as own
 
 -- the count rose since an earlier time too
 rose_earlier : (before middle now : ℕ) → before ≤ middle → Rose middle now → Rose before now
@@ -42,8 +44,8 @@ pub got_bytes : (source : Source) (request : Request) (faults : Count) (got : Go
 got_bytes source request faults got bytes e h = subst (λ (g : Got). IsGot source request faults g) e h
 
 -- of the files that the words name, those before this one came, and this one didn't
-means_absent : (call : Call) (line : Line) (before : List Request) (request : Request) (behind : List Request) (faults : Count)
-    (ended : Ended) (text : List ℕ) → IsSpelled call.words line → requests line.action ≡ before ++ request ∷ behind
+pub means_absent : (call : Call) (line : Line) (before : List Request) (request : Request) (behind : List Request) (faults : Count)
+    (ended : Ended) (text : List ℕ) → IsSpelled call.words line → requests line ≡ before ++ request ∷ behind
     → Each (Came call) before → (WasRaised faults → WasRaised call.read_faults) → IsAbsence call.source request faults ended text
     → Means call ended text
 means_absent call line before request behind faults Missing text spelled order came raised h = (
@@ -92,38 +94,11 @@ means_absent call line before request behind faults (Cert rule number) text spel
 means_absent call line before request behind faults WriteFault text spelled order came raised h = absurd h
 means_absent call line before request behind faults Memory text spelled order came raised h = absurd h
 
-module _ (source : Source) (faults : Count) where
-  -- the first file doesn't come
-  first_absent : (action : Action) (request : Request) (more : List Request) (reply : Reply) → requests action ≡ request ∷ more
-      → IsAbsence source request faults reply.ended reply.text → IsFetched action source faults (files.Answer reply)
-  first_absent action request more reply e h = λ call line spelled action_is source_is faults_are.
-      means_absent call line [] request more faults reply.ended reply.text spelled (ap requests action_is ∙ e) tt
-      (λ r. subst (λ (c : Count). WasRaised c) (sym faults_are) r)
-      (subst (λ (t : Source). IsAbsence t request faults reply.ended reply.text) (sym source_is) h)
-
-  -- a model's file alone
-  pub model_absent : (name : Word) (task : Task) (reply : Reply) → IsAbsence source (model_file name) faults reply.ended reply.text
-      → FetchesModel name task source faults (files.Answer reply)
-  model_absent name task reply h = λ action e is_task. first_absent action (model_file name) [] reply e h
-
-  -- a model's and a certificate's
-  module _ (model certificate : Word) where
-    pub both_first_absent : (reply : Reply) → IsAbsence source (model_file model) faults reply.ended reply.text
-        → IsFetched (check model certificate) source faults (files.Answer reply)
-    both_first_absent reply h =
-        first_absent (check model certificate) (model_file model) (certificate_file certificate ∷ []) reply refl h
-
 -- ---- the answers of several fetches
 
 -- what stands behind a list that another grew from
 pub behind_grown : (before now added : List Fetch) → now ≡ before ++ added → behind before now ≡ added
 behind_grown before now added e = ap (λ (list : List Fetch). drop (length before) list) e ∙ drop-append_seam before added
-
--- one fetch behind another
-pub grown_twice : (before middle now : List Fetch) (first second : Fetch) → middle ≡ before ++ first ∷ [] → now ≡ middle ++ second ∷ []
-    → now ≡ before ++ first ∷ second ∷ []
-grown_twice before middle now first second e f =
-    f ∙ ap (λ (list : List Fetch). list ++ second ∷ []) e ∙ append_assoc before (first ∷ []) (second ∷ [])
 
 -- what a single fetch of the file found is what is found
 pub answer_here : (request : Request) (found : Option Found)
@@ -150,136 +125,240 @@ found_by_result told request before now (Ok fetched) finds e = (
     by None h = tt
     by (Some files) h = sym h
 
--- an answer stays the first one when another fetch comes behind
-answer_longer : (request : Request) (first second : Fetch) (found : Found) → answer_to request (first ∷ []) ≡ Some found
-    → answer_to request (first ∷ second ∷ []) ≡ Some found
-answer_longer request first second found e = by ((first.most == request.most) && bytes_eq first.name request.name) e
+-- an answer stays the first one when other fetches come behind
+answer_longer : (request : Request) (first : Fetch) (more : List Fetch) (found : Found) → answer_to request (first ∷ []) ≡ Some found
+    → answer_to request (first ∷ more) ≡ Some found
+answer_longer request first more found e = by ((first.most == request.most) && bytes_eq first.name request.name) e
   where
     by : (b : Bool) → (if b then first.found else None) ≡ Some found
-        → (if b then first.found else answer_to request (second ∷ [])) ≡ Some found
+        → (if b then first.found else answer_to request more) ≡ Some found
     by true h = h
     by false h = absurd (cc h)
 
 -- a fetch of another bound is passed over
-answer_other : (request : Request) (first second : Fetch) → (first.most == request.most) ≡ false
-    → answer_to request (first ∷ second ∷ []) ≡ answer_to request (second ∷ [])
-answer_other request first second other = rw other refl
+answer_other : (request : Request) (first : Fetch) (more : List Fetch) → (first.most == request.most) ≡ false
+    → answer_to request (first ∷ more) ≡ answer_to request more
+answer_other request first more other = rw other refl
 
--- what was found stays so when another fetch comes behind
-pub found_longer : (told : Option (List File)) (request other : Request) (found : Found) (before middle now : List Fetch)
-    → AsksOnce request before middle → AsksOnce other middle now → IsFoundIn (source_of told before middle) request found
-    → IsFoundIn (source_of told before now) request found
-found_longer told request other found before middle now a b h =
-    let first : Fetch = fetch_of request.name request.most a.found in let second : Fetch = fetch_of other.name other.most b.found in
-    let both : behind before now ≡ first ∷ second ∷ [] =
-    behind_grown before now (first ∷ second ∷ []) (grown_twice before middle now first second a.grown b.grown) in
-    let here : answer_to request (first ∷ []) ≡ Some found =
-    subst (λ (list : List Fetch). answer_to request list ≡ Some found) (behind_grown before middle (first ∷ []) a.grown) h.1 in (
-      h.0,
-      subst (λ (list : List Fetch). answer_to request list ≡ Some found) (sym both) (answer_longer request first second found here),
-    )
+-- ---- a fetch, and fetches of other files behind it
+module _ (told : Option (List File)) (request : Request) (files : List Request) (before middle now : List Fetch)
+    (one : AsksOnce request before middle) (rest : Asks files middle now) where
+  abbrev here : Fetch
+  here = fetch_of request.name request.most one.found
 
--- what was found behind a fetch of another bound is found in both
-pub found_behind : (told : Option (List File)) (other request : Request) (found : Found) (before middle now : List Fetch)
-    → AsksOnce other before middle → AsksOnce request middle now → (other.most == request.most) ≡ false
-    → IsFoundIn (source_of told middle now) request found → IsFoundIn (source_of told before now) request found
-found_behind told other request found before middle now a b differ h =
-    let first : Fetch = fetch_of other.name other.most a.found in let second : Fetch = fetch_of request.name request.most b.found in
-    let both : behind before now ≡ first ∷ second ∷ [] =
-    behind_grown before now (first ∷ second ∷ []) (grown_twice before middle now first second a.grown b.grown) in
-    let last : answer_to request (second ∷ []) ≡ Some found =
-    subst (λ (list : List Fetch). answer_to request list ≡ Some found) (behind_grown middle now (second ∷ []) b.grown) h.1 in (
-      h.0,
-      subst (λ (list : List Fetch). answer_to request list ≡ Some found) (sym both)
-          (answer_other request first second differ ∙ last),
-    )
+  pub grown_all : now ≡ before ++ here ∷ rest.added
+  grown_all = rest.grown ∙ ap (λ (list : List Fetch). list ++ rest.added) one.grown ∙ append_assoc before (here ∷ []) rest.added
 
-absence_behind : (told : Option (List File)) (other request : Request) (faults : Count) (ended : Ended) (text : List ℕ)
-    (before middle now : List Fetch) → AsksOnce other before middle → AsksOnce request middle now → (other.most == request.most) ≡ false
-    → IsAbsence (source_of told middle now) request faults ended text → IsAbsence (source_of told before now) request faults ended text
-absence_behind told other request faults Missing text before middle now a b differ h =
-    (found_behind told other request missing before middle now a b differ h.0, h.1)
-absence_behind told other request faults TooLong text before middle now a b differ h =
-    (found_behind told other request too_long before middle now a b differ h.0, h.1)
-absence_behind told other request faults ReadFault text before middle now a b differ h = h
-absence_behind told other request faults Optimal text before middle now a b differ h = absurd h
-absence_behind told other request faults Infeasible text before middle now a b differ h = absurd h
-absence_behind told other request faults Unbounded text before middle now a b differ h = absurd h
-absence_behind told other request faults Printed text before middle now a b differ h = absurd h
-absence_behind told other request faults Accepted text before middle now a b differ h = absurd h
-absence_behind told other request faults (Rejected place) text before middle now a b differ h = absurd h
-absence_behind told other request faults Words text before middle now a b differ h = absurd h
-absence_behind told other request faults (Model rule number) text before middle now a b differ h = absurd h
-absence_behind told other request faults (EmptySet weights) text before middle now a b differ h = absurd h
-absence_behind told other request faults (TooWide spot) text before middle now a b differ h = absurd h
-absence_behind told other request faults (Cert rule number) text before middle now a b differ h = absurd h
-absence_behind told other request faults WriteFault text before middle now a b differ h = absurd h
-absence_behind told other request faults Memory text before middle now a b differ h = absurd h
+  all : behind before now ≡ here ∷ rest.added
+  all = behind_grown before now (here ∷ rest.added) grown_all
 
--- ---- two files
-module _ (told later : Option (List File)) (log middle_log now_log : List Fetch) (model certificate : Word) (same : later ≡ told)
-    (first : AsksOnce (model_file model) log middle_log) (second : AsksOnce (certificate_file certificate) middle_log now_log)
-    (model_bytes : Vec ℕ Global) (came : IsFoundIn (source_of told log middle_log) (model_file model) (whole model_bytes.items)) where
-  model_came : IsFoundIn (source_of told log now_log) (model_file model) (whole model_bytes.items)
-  model_came =
-      found_longer told (model_file model) (certificate_file certificate) (whole model_bytes.items) log middle_log now_log first second came
+  -- what was found of the first file stays
+  pub found_longer : (found : Found) → IsFoundIn (source_of told before middle) request found → IsFoundIn (source_of told before now) request found
+  found_longer found h = (
+    h.0,
+    subst (λ (list : List Fetch). answer_to request list ≡ Some found) (sym all)
+        (answer_longer request here rest.added found
+        (subst (λ (list : List Fetch). answer_to request list ≡ Some found) (behind_grown before middle (here ∷ []) one.grown) h.1)),
+  )
 
-  -- the first file comes, and the second doesn't
-  pub both_second_absent : (before middle now : ℕ) (reply : Reply) → before ≤ middle
-      → IsAbsence (source_of later middle_log now_log) (certificate_file certificate) (count middle now) reply.ended reply.text
-      → IsFetched (check model certificate) (source_of told log now_log) (count before now) (files.Answer reply)
-  both_second_absent before middle now reply rose h =
-      λ call line spelled action_is source_is faults_are.
-      means_absent call line (model_file model ∷ []) (certificate_file certificate) [] (count middle now) reply.ended reply.text
-      spelled (ap requests action_is) (
-        (
-          model_bytes.items,
-          subst (λ (t : Source). IsFoundIn t (model_file model) (whole model_bytes.items)) (sym source_is) model_came,
-        ),
-        tt,
-      )
-      (λ r. subst (λ (c : Count). WasRaised c) (sym faults_are) (rose_earlier before middle now rose r))
-      (subst (λ (t : Source). IsAbsence t (certificate_file certificate) (count middle now) reply.ended reply.text)
-      (sym source_is)
-      (absence_behind told (model_file model) (certificate_file certificate) (count middle now) reply.ended reply.text log middle_log
-      now_log first second refl
-      (subst (λ (t : Option (List File)). IsAbsence (source_of t middle_log now_log) (certificate_file certificate) (count middle now)
-      reply.ended reply.text) same h)))
+  -- what is found of a file of another bound is what the later fetches found
+  pub found_behind : (other : Request) (found : Found) → (request.most == other.most) ≡ false
+      → IsFoundIn (source_of told middle now) other found → IsFoundIn (source_of told before now) other found
+  found_behind other found differ h = (
+    h.0,
+    subst (λ (list : List Fetch). answer_to other list ≡ Some found) (sym all)
+        (answer_other other here rest.added differ
+        ∙ subst (λ (list : List Fetch). answer_to other list ≡ Some found) (behind_grown middle now rest.added rest.grown) h.1),
+  )
 
-  -- both come
-  pub both_come : (faults : Count) (bytes : Vec ℕ Global) (job : Job) → job.model ≡ model_bytes → job.task ≡ Check bytes
-      → IsFoundIn (source_of later middle_log now_log) (certificate_file certificate) (whole bytes.items)
-      → IsFetched (check model certificate) (source_of told log now_log) faults (files.Job job)
-  both_come faults bytes job model_is task_is h = λ call line spelled action_is source_is. record {
-    spelled = spelled;
-    model = subst (λ (a : Action). IsFound call (model_of a) (whole job.model.items)) (sym action_is)
-        (subst (λ (v : Vec ℕ Global). IsFound call (model_file model) (whole v.items)) (sym model_is)
-        (subst (λ (t : Source). IsFoundIn t (model_file model) (whole model_bytes.items)) (sym source_is) model_came));
-    task = subst (λ (a : Action). IsTask call a job.task) (sym action_is)
-        (subst (λ (t : Task). IsTask call (check model certificate) t) (sym task_is)
-        (subst (λ (t : Source). IsFoundIn t (certificate_file certificate) (whole bytes.items)) (sym source_is)
-        (found_behind told (model_file model) (certificate_file certificate) (whole bytes.items) log middle_log now_log first second refl
-        (subst (λ (t : Option (List File)). IsFoundIn (source_of t middle_log now_log) (certificate_file certificate) (whole bytes.items)) same h))));
+  came_behind : (list : List Request) → Each (λ (r : Request). (request.most == r.most) ≡ false) list
+      → Each (CameIn (source_of told middle now)) list → Each (CameIn (source_of told before now)) list
+  came_behind [] differ h = tt
+  came_behind (r ∷ list) differ h = ((h.0.0, found_behind r (whole h.0.0) differ.0 h.0.1), came_behind list differ.1 h.1)
+
+  absence_behind : (other : Request) (earlier faults : Count) (ended : Ended) (text : List ℕ) → (request.most == other.most) ≡ false
+      → (WasRaised faults → WasRaised earlier) → IsAbsence (source_of told middle now) other faults ended text
+      → IsAbsence (source_of told before now) other earlier ended text
+  absence_behind other earlier faults Missing text differ raised h = (found_behind other missing differ h.0, h.1)
+  absence_behind other earlier faults TooLong text differ raised h = (found_behind other too_long differ h.0, h.1)
+  absence_behind other earlier faults ReadFault text differ raised h = (raised h.0, h.1)
+  absence_behind other earlier faults Optimal text differ raised h = absurd h
+  absence_behind other earlier faults Infeasible text differ raised h = absurd h
+  absence_behind other earlier faults Unbounded text differ raised h = absurd h
+  absence_behind other earlier faults Printed text differ raised h = absurd h
+  absence_behind other earlier faults Accepted text differ raised h = absurd h
+  absence_behind other earlier faults (Rejected place) text differ raised h = absurd h
+  absence_behind other earlier faults Words text differ raised h = absurd h
+  absence_behind other earlier faults (Model rule number) text differ raised h = absurd h
+  absence_behind other earlier faults (EmptySet weights) text differ raised h = absurd h
+  absence_behind other earlier faults (TooWide spot) text differ raised h = absurd h
+  absence_behind other earlier faults (Cert rule number) text differ raised h = absurd h
+  absence_behind other earlier faults WriteFault text differ raised h = absurd h
+  absence_behind other earlier faults Memory text differ raised h = absurd h
+
+each_split : {A : Type 0} (P : A → Type 0) (xs ys : List A) → Each P (xs ++ ys) → Each P xs × Each P ys
+each_split P [] ys h = (tt, h)
+each_split P (x ∷ xs) ys h = let rest = each_split P xs ys h.1 in ((h.0, rest.0), rest.1)
+
+-- ---- the files of own words
+
+-- there are none
+none_found : (source : Source) (kinds : List Own) (names : List Word) (texts : Texts) → (length kinds ≡ 0) ⊎ (length names ≡ 0)
+    → AreFound source kinds names texts
+none_found source [] names texts e = record { came = tt; found = λ kind name named. absurd (let no : None ≡ Some name = named in cc) }
+none_found source (kind ∷ kinds) [] texts e = record { came = tt; found = λ other name named. absurd (let no : None ≡ Some name = named in cc) }
+none_found source (kind ∷ kinds) (name ∷ names) texts (inl e) = absurd (omega (arith, e))
+none_found source (kind ∷ kinds) (name ∷ names) texts (inr e) = absurd (omega (arith, e))
+
+pub none_fetched : (source : Source) (faults : Count) (kinds : List Own) (names : List Word) (found_files : Files) → IsNothing found_files
+    → (length kinds ≡ 0) ⊎ (length names ≡ 0) → IsFetched kinds names source faults found_files
+none_fetched source faults kinds names (files.Texts texts) none e = none_found source kinds names texts e
+none_fetched source faults kinds names (files.Answer reply) none e = absurd none
+
+-- the first didn't come
+pub first_absent : (kind : Own) (kinds : List Own) (name : Word) (names : List Word) (source : Source) (faults : Count) (reply : Reply)
+    → IsAbsence source (file_of kind name) faults reply.ended reply.text
+    → IsFetched (kind ∷ kinds) (name ∷ names) source faults (files.Answer reply)
+first_absent kind kinds name names source faults reply h = record {
+  before = [];
+  request = file_of kind name;
+  behind = files_of kinds names;
+  order = refl;
+  came = tt;
+  absent = h;
+}
+
+-- the first came, and then those behind it were asked for
+module _ (told later : Option (List File)) (same : later ≡ told) (kind : Own) (kinds : List Own) (name : Word) (names : List Word)
+    (apart : are_apart (kind ∷ kinds) ≡ true) (before middle now : List Fetch) (one : AsksOnce (file_of kind name) before middle)
+    (rest : Asks (files_of kinds names) middle now) (bytes : Vec ℕ Global)
+    (found : IsFoundIn (source_of told before middle) (file_of kind name) (whole bytes.items)) (start between end : ℕ) (rose : start ≤ between) where
+  abbrev request : Request
+  request = file_of kind name
+
+  abbrev earlier : Source
+  earlier = source_of told before now
+
+  abbrev behind_it : Source
+  behind_it = source_of told middle now
+
+  others_apart : Each (λ (r : Request). (request.most == r.most) ≡ false) (files_of kinds names)
+  others_apart = apart_files kind kinds names (both_true (is_apart kind kinds) (are_apart kinds) apart).0
+
+  first_came : IsFoundIn earlier request (whole bytes.items)
+  first_came = found_longer told request (files_of kinds names) before middle now one rest (whole bytes.items) found
+
+  all_found : (texts : Texts) → AreFound behind_it kinds names texts → AreFound earlier (kind ∷ kinds) (name ∷ names) (with_text kind bytes texts)
+  all_found texts h = record {
+    came = (
+      (bytes.items, first_came),
+      came_behind told request (files_of kinds names) before middle now one rest (files_of kinds names) others_apart h.came,
+    );
+    found = λ other word named. by other word (sameb the_type kind other) refl named;
   }
+    where
+      by : (other : Own) (word : Word) (b : Bool) → sameb the_type kind other ≡ b → (if b then Some name else word_of other kinds names) ≡ Some word
+          → IsFoundIn earlier (file_of other word) (whole (text_of other (with_text kind bytes texts)))
+      by other word true e named =
+          let words : name ≡ word = cc in
+          subst (λ (o : Own). IsFoundIn earlier (file_of o word) (whole (text_of o (with_text kind bytes texts)))) (same_true the_type tt kind other e)
+          (subst (λ (w : Word). IsFoundIn earlier (file_of kind w) (whole (text_of kind (with_text kind bytes texts)))) words
+          (subst (λ (list : List ℕ). IsFoundIn earlier request (whole list)) (sym (text_of-same kind bytes texts)) first_came))
+      by other word false e named =
+          let differ = apart_word kind other kinds names word (both_true (is_apart kind kinds) (are_apart kinds) apart).0 named in
+          subst (λ (list : List ℕ). IsFoundIn earlier (file_of other word) (whole list)) (sym (text_of-other kind other bytes texts differ))
+          (found_behind told request (files_of kinds names) before middle now one rest (file_of other word) (whole (text_of other texts)) differ
+          (h.found other word named))
 
--- what came of the files of the command that was read
-pub fetched_of : {E : Type 0} (source : Source) (faults : Count) (action other : Action) (result : Result Files E)
-    → action ≡ other → IfOk result (IsFetched other source faults) → IfOk result (IsFetched action source faults)
-fetched_of source faults action other result e h =
-    subst (λ (a : Action). IfOk result (IsFetched a source faults)) (sym e) h
+  one_absent : (reply : Reply) → IsAbsentAmong behind_it (files_of kinds names) (count between end) reply.ended reply.text
+      → IsAbsentAmong earlier (request ∷ files_of kinds names) (count start end) reply.ended reply.text
+  one_absent reply h =
+      let differ = each_split (λ (r : Request). (request.most == r.most) ≡ false) h.before (h.request ∷ h.behind)
+      (subst (λ (list : List Request). Each (λ (r : Request). (request.most == r.most) ≡ false) list) h.order others_apart) in
+      record {
+        before = request ∷ h.before;
+        request = h.request;
+        behind = h.behind;
+        order = ap (λ (list : List Request). request ∷ list) h.order;
+        came = (
+          (bytes.items, first_came),
+          came_behind told request (files_of kinds names) before middle now one rest h.before differ.0 h.came,
+        );
+        absent = absence_behind told request (files_of kinds names) before middle now one rest h.request (count start end) (count between end)
+            reply.ended reply.text differ.1.0 (λ r. rose_earlier start between end rose r) h.absent;
+      }
 
--- and where it is known
-pub fetched_is : (source : Source) (faults : Count) (action : Action) (found known : Files)
-    → found ≡ known → IsFetched action source faults found → IsFetched action source faults known
-fetched_is source faults action found known e h = subst (λ (f : Files). IsFetched action source faults f) e h
+  pub more_fetched : (found_files : Files) → IsFetched kinds names (source_of later middle now) (count between end) found_files
+      → IsFetched (kind ∷ kinds) (name ∷ names) earlier (count start end) (with_file kind bytes found_files)
+  more_fetched (files.Texts texts) h =
+      all_found texts (subst (λ (t : Option (List File)). AreFound (source_of t middle now) kinds names texts) same h)
+  more_fetched (files.Answer reply) h =
+      one_absent reply
+      (subst (λ (t : Option (List File)). IsAbsentAmong (source_of t middle now) (files_of kinds names) (count between end) reply.ended reply.text) same h)
 
--- the work's reply is the command line's
-pub line_job : {E : Type 0} (source : Source) (faults wides : Count) (line : CommandLine) (job : Job) (result : Result Reply E)
-    → IsFetched (action_of line.command) source faults (files.Job job)
-    → IfOk result (λ reply. (call : Call) (l : Line) → HasTexts call l job → l.width ≡ line.width → call.wides ≡ wides
-    → Means call reply.ended reply.text)
-    → IfOk result (λ reply. (call : Call) → IsLine call line → call.source ≡ source → call.read_faults ≡ faults → call.wides ≡ wides
-    → Means call reply.ended reply.text)
-line_job source faults wides line job (Ok reply) texts h = λ call spelled source_is faults_are wides_are.
-    h call (line_of line) (texts call (line_of line) spelled refl source_is) refl wides_are
-line_job source faults wides line job (Err e) texts h = tt
+-- ---- texts are short
+
+pub none_short : (found_files : Files) → IsNothing found_files → IsShortFetch found_files
+none_short (files.Texts texts) none = record { model = omega (arith, ap length none.0); certificate = omega (arith, ap length none.1) }
+none_short (files.Answer reply) none = absurd none
+
+pub more_short : (kind : Own) (bytes : Vec ℕ Global) (found_files : Files) → length bytes.items ≤ most_of kind → IsShortFetch found_files
+    → IsShortFetch (with_file kind bytes found_files)
+more_short own.Model bytes (files.Texts texts) few h = record { model = omega (arith, few); certificate = h.certificate }
+more_short own.Certificate bytes (files.Texts texts) few h = record { model = h.model; certificate = omega (arith, few) }
+more_short kind bytes (files.Answer reply) few h = tt
+
+-- ---- the first of own words, and those behind it
+
+-- the items behind the first
+abbrev pub others : {A : Type 0} → List A → List A
+others xs = take (length xs - 1) (drop 1 xs)
+
+-- a list is its first item and the rest
+split_first : {A : Type 0} (xs : List A) (d : A) → 1 ≤ length xs → xs ≡ slice_index_or xs 0 d ∷ others xs
+split_first [] d some = absurd (omega (arith, some))
+split_first (x ∷ xs) d some =
+    let behind_it : length (x ∷ xs) - 1 ≡ length xs = omega arith in
+    ap (λ list. x ∷ list) (sym (ap (λ n. take n xs) behind_it ∙ take-length xs))
+
+module _ {A : Type 0} (text : A → Word) (kinds : List Own) (names : List A) (d : Own) (e : A) (name : Word) (most : ℕ) (some_kind : 1 ≤ length kinds)
+    (some_name : 1 ≤ length names) (name_is : name ≡ text (slice_index_or names 0 e)) (most_is : most ≡ most_of (slice_index_or kinds 0 d)) where
+  abbrev kind : Own
+  kind = slice_index_or kinds 0 d
+
+  words-split : map text names ≡ name ∷ map text (others names)
+  words-split = ap (map text) (split_first names e some_name) ∙ ap (λ w. w ∷ map text (others names)) (sym name_is)
+
+  abbrev asked : ℕ → Request
+  asked n = record { name = name; most = n }
+
+  file-is : asked most ≡ file_of kind name
+  file-is = ap asked most_is
+
+  -- of the whole lists, where it is so of the first and the rest
+  whole_lists : (source : Source) (faults : Count) (found_files : Files) → IsFetched (kind ∷ others kinds) (name ∷ map text (others names)) source faults found_files
+      → IsFetched kinds (map text names) source faults found_files
+  whole_lists source faults found_files h =
+      subst (λ ks. IsFetched ks (map text names) source faults found_files) (sym (split_first kinds d some_kind))
+      (subst (λ ns. IsFetched (kind ∷ others kinds) ns source faults found_files) (sym words-split) h)
+
+  pub words_absent : (source : Source) (faults : Count) (reply : Reply) → IsAbsence source (record { name = name; most = most }) faults reply.ended reply.text
+      → IsFetched kinds (map text names) source faults (files.Answer reply)
+  words_absent source faults reply h =
+      whole_lists source faults (files.Answer reply)
+      (first_absent kind (others kinds) name (map text (others names)) source faults reply
+      (subst (λ r. IsAbsence source r faults reply.ended reply.text) file-is h))
+
+  pub words_fetched : (told later : Option (List File)) → later ≡ told → are_apart kinds ≡ true → (before middle now : List Fetch)
+      → AsksOnce (record { name = name; most = most }) before middle → Asks (files_of (others kinds) (map text (others names))) middle now
+      → (bytes : Vec ℕ Global) → IsFoundIn (source_of told before middle) (record { name = name; most = most }) (whole bytes.items)
+      → (start between end : ℕ) → start ≤ between → (found_files result : Files)
+      → IsFetched (others kinds) (map text (others names)) (source_of later middle now) (count between end) found_files
+      → result ≡ with_file kind bytes found_files → IsFetched kinds (map text names) (source_of told before now) (count start end) result
+  words_fetched told later same apart before middle now one rest bytes found start between end rose found_files result h is =
+      whole_lists (source_of told before now) (count start end) result
+      (subst (λ r. IsFetched (kind ∷ others kinds) (name ∷ map text (others names)) (source_of told before now) (count start end) r) (sym is)
+      (more_fetched told later same kind (others kinds) name (map text (others names))
+      (subst (λ ks. are_apart ks ≡ true) (split_first kinds d some_kind) apart) before middle now
+      (subst (λ r. AsksOnce r before middle) file-is one) rest bytes
+      (subst (λ r. IsFoundIn (source_of told before middle) r (whole bytes.items)) file-is found) start between end rose found_files h))

@@ -1,19 +1,23 @@
 -- What a call answers, from what came of its files and what the work on them answers.
 use Rattle.std.proofs.Common.{◌≡◌, List, Result, Ok, Err, IfOk, refl, subst, sym}
+use Rattle.rob_meaning.specs.Places.{Each}
 use Rattle.rob_number.specs.declared.memory.Memory.{Memory as Want}
+use Rattle.rob_outside.specs.Files.{whole}
 use Rattle.rob_top.specs.Answers.{words_text}
-use Rattle.rob_top.specs.Calls.{Call, Count, Source, call_of}
+use Rattle.rob_top.specs.Calls.{Call, Count, IsFoundIn, Source, WasRaised, call_of, file_of, requests}
 use Rattle.rob_top.specs.Headline.{Means}
-use Rattle.rob_top.specs.Replies.{HasTexts, IsFetched, IsLine, Replies}
+use Rattle.rob_top.specs.Replies.{AreFound, CameIn, HasTexts, IsAbsence, IsAbsentAmong, IsFetched, IsLine, Replies, text_of}
 use Rattle.rob_top.specs.declared.ended.Ended.{Ended}
 use Rattle.rob_top.specs.declared.ended.Ended.TheVariants.{Words}
 use Rattle.rob_top.specs.declared.files.Files.{Files}
 use Rattle.rob_top.specs.declared.files.Files.TheVariants as fetch
-use Rattle.rob_top.specs.declared.files.Job.{Job}
+use Rattle.rob_top.specs.declared.files.Texts.{Texts}
 use Rattle.rob_top.specs.declared.reply.Reply.{Reply}
-use Rattle.rob_words.specs.Answers.{action_of, line_of}
+use Rattle.rob_top.proofs.FilesLemmas.{means_absent}
+use Rattle.rob_words.specs.Answers.{line_of}
 use Rattle.rob_words.specs.Commands.{Line, IsCommandLine, IsSpelled}
 use Rattle.rob_words.specs.Values.{Word}
+use Rattle.rob_words.specs.Verbs.{own_of}
 use Rattle.rob_words.specs.declared.line.CommandLine.{CommandLine}
 
 module _ (line : CommandLine) (source : Source) (faults wides : Count) where
@@ -22,20 +26,35 @@ module _ (line : CommandLine) (source : Source) (faults wides : Count) where
   AnswersLine reply =
       (call : Call) → IsLine call line → call.source ≡ source → call.read_faults ≡ faults → call.wides ≡ wides → Means call reply.ended reply.text
 
+  -- what came of the files of the line
+  abbrev LineFetched : Files → Type 0
+  LineFetched files = IsFetched (own_of line.verb) (line_of line).own source faults files
+
   -- the files came, and the work on them answers
-  pub job_answers : (files : Files) (job : Job) (r : Result Reply Want) → files ≡ fetch.Job job → IsFetched (action_of line.command) source faults files
-      → IfOk r (λ reply. (call : Call) (l : Line) → HasTexts call l job → l.width ≡ line.width → call.wides ≡ wides → Means call reply.ended reply.text)
+  pub texts_answer : (files : Files) (texts : Texts) (r : Result Reply Want) → files ≡ fetch.Texts texts → LineFetched files
+      → IfOk r (λ reply. (call : Call) (l : Line) → HasTexts call l texts → l.verb ≡ line.verb → l.width ≡ line.width → call.wides ≡ wides
+      → Means call reply.ended reply.text)
       → IfOk r AnswersLine
-  job_answers files job (Err want) e came h = tt
-  job_answers files job (Ok reply) e came h = λ call spelled source_is faults_is wides_is.
-      let texts : IsFetched (action_of line.command) source faults (fetch.Job job) = subst (λ (f : Files). IsFetched (action_of line.command) source faults f) e came in
-      h call (line_of line) (texts call (line_of line) spelled refl source_is) refl wides_is
+  texts_answer files texts (Err want) e came h = tt
+  texts_answer files texts (Ok reply) e came h = λ call spelled source_is faults_is wides_is.
+      let found : AreFound source (own_of line.verb) (line_of line).own texts = subst (λ (f : Files). LineFetched f) e came in
+      h call (line_of line)
+      (record {
+        spelled = spelled;
+        came = subst (λ (s : Source). Each (CameIn s) (requests (line_of line))) (sym source_is) found.came;
+        found = λ kind name named.
+            subst (λ (s : Source). IsFoundIn s (file_of kind name) (whole (text_of kind texts))) (sym source_is) (found.found kind name named);
+      })
+      refl refl wides_is
 
   -- a file didn't come
-  pub absence_answers : (files : Files) (reply : Reply) → files ≡ fetch.Answer reply → IsFetched (action_of line.command) source faults files → AnswersLine reply
+  pub absence_answers : (files : Files) (reply : Reply) → files ≡ fetch.Answer reply → LineFetched files → AnswersLine reply
   absence_answers files reply e came = λ call spelled source_is faults_is wides_is.
-      let answer : IsFetched (action_of line.command) source faults (fetch.Answer reply) = subst (λ (f : Files). IsFetched (action_of line.command) source faults f) e came in
-      answer call (line_of line) spelled refl source_is faults_is
+      let h : IsAbsentAmong source (requests (line_of line)) faults reply.ended reply.text = subst (λ (f : Files). LineFetched f) e came in
+      means_absent call (line_of line) h.before h.request h.behind faults reply.ended reply.text spelled h.order
+      (subst (λ (s : Source). Each (CameIn s) h.before) (sym source_is) h.came)
+      (λ r. subst (λ (c : Count). WasRaised c) (sym faults_is) r)
+      (subst (λ (s : Source). IsAbsence s h.request faults reply.ended reply.text) (sym source_is) h.absent)
 
   -- the call of these words
   pub line_answers : (words : List Word) (r : Result Reply Want) → IsSpelled words (line_of line) → IfOk r AnswersLine

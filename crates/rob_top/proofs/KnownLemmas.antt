@@ -6,11 +6,16 @@ use Rattle.rob_meaning.specs.RobustModel.{RobustModel}
 use Rattle.rob_model.specs.declared.place.Spot.{Spot}
 use Rattle.rob_outside.specs.Fetches.{Fetch}
 use Rattle.rob_outside.specs.Files.{File, Found, whole, missing, too_long, found_at}
-use Rattle.rob_top.specs.Calls.{Call, Came, IsFirstAbsent, IsFoundIn, Known, Request, Source, answer_to, by_fetches, by_files, known_call, known_source, requests}
-use Rattle.rob_top.specs.Headline.{HasCertificate, HasCertificateFile, HasForms, HasModel, IsSolved, IsWideSpot, Means, checking, elaborating, solving}
+use Rattle.rob_top.specs.Calls.{Call, Came, HasFile, IsFirstAbsent, IsFoundIn, Known, Request, Source, answer_to, by_fetches, by_files, file_of, known_call, known_source, requests}
+use Rattle.rob_top.specs.Headline.{Means}
+use Rattle.rob_top.specs.Inputs.{HasCertificate, HasCertificateFile, HasForms, HasModel}
+use Rattle.rob_top.specs.Refused.{IsWideSpot, checking, elaborating, solving}
+use Rattle.rob_top.specs.Solved.{IsSolved}
 use Rattle.rob_top.specs.declared.ended.Ended.{Ended}
 use Rattle.rob_top.specs.declared.ended.Ended.TheVariants.{Optimal, Infeasible, Unbounded, Printed, Accepted, Rejected, Words, Missing, TooLong, Model, EmptySet, TooWide, Cert, ReadFault, WriteFault, Memory}
 use Rattle.rob_words.specs.Commands.{Line}
+use Rattle.rob_words.specs.declared.verb.Own.{Own}
+use Rattle.rob_words.specs.declared.verb.Own.TheVariants as own
 
 -- the part decides as well
 pub known_again : {source : Source} (known : Known source) → Known (known_source known)
@@ -45,13 +50,20 @@ module _ (call : Call) (known : Known call.source) where
     named = h.named;
   }
 
+  file_held : (line : Line) (kind : Own) (bytes : List ℕ) → HasFile call line kind bytes → HasFile part line kind bytes
+  file_held line kind bytes h = record {
+    name = h.name;
+    named = h.named;
+    found = found_in_part known (file_of kind h.name) (whole bytes) h.found;
+  }
+
   module _ (line : Line) (m : RobustModel) where
     pub model_known : HasModel call line m → HasModel part line m
     model_known h = record {
       spelled = h.spelled;
-      came = came_all (requests line.action) h.came;
+      came = came_all (requests line) h.came;
       bytes = h.bytes;
-      found = found_in_part known _ (whole h.bytes) h.found;
+      file = file_held line own.Model h.bytes h.file;
       reads = h.reads;
     }
 
@@ -61,10 +73,8 @@ module _ (call : Call) (known : Known call.source) where
     pub file_known : (bytes : List ℕ) → HasCertificateFile call line m bytes → HasCertificateFile part line m bytes
     file_known bytes h = record {
       forms = forms_known h.forms;
-      model_name = h.model_name;
-      certificate_name = h.certificate_name;
       is_check = h.is_check;
-      found = found_in_part known _ (whole bytes) h.found;
+      file = file_held line own.Certificate bytes h.file;
     }
 
     pub certificate_known : (c : Certificate) → HasCertificate call line m c → HasCertificate part line m c
@@ -80,6 +90,7 @@ module _ (call : Call) (known : Known call.source) where
     line = h.line;
     m = h.m;
     forms = forms_known h.line h.m h.forms;
+    solves = h.solves;
     c = h.c;
     status_is = h.status_is;
     holds = h.holds;
@@ -99,7 +110,6 @@ module _ (call : Call) (known : Known call.source) where
     line = h.line;
     m = h.m;
     forms = forms_known h.line h.m h.forms;
-    model_name = h.model_name;
     is_rows = h.is_rows;
     printed = h.printed;
   }
@@ -128,9 +138,9 @@ module _ (call : Call) (known : Known call.source) where
   means_known (Model rule number) text h = record {
     line = h.line;
     spelled = h.spelled;
-    came = came_all (requests h.line.action) h.came;
+    came = came_all (requests h.line) h.came;
     bytes = h.bytes;
-    found = found_in_part known _ (whole h.bytes) h.found;
+    file = file_held h.line own.Model h.bytes h.file;
     breaks = h.breaks;
     printed = h.printed;
   }

@@ -4,6 +4,7 @@ pub mod CertificateNameLemmas
 pub mod CompletenessLemmas
 pub mod CheckingLemmas
 pub mod CourseLemmas
+pub mod OwnLemmas
 pub mod FilesLemmas
 pub mod FetchesLemmas
 pub mod FrameLemmas

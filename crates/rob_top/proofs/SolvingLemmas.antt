@@ -45,14 +45,17 @@ use Rattle.rob_report.specs.Report.{report_of}
 use Rattle.rob_sets.specs.SetForm.{IsSetForm, cleared_row}
 use Rattle.rob_sets.specs.declared.set_form.SetForm.{SetForm}
 use Rattle.rob_top.specs.Calls.{Call, Count, count, IsSolving, limit_of}
-use Rattle.rob_top.specs.Headline.{HasForms, IsKept, IsPrinted, IsSolved, Means, solving}
-use Rattle.rob_top.specs.Replies.{IsTask, Replies}
+use Rattle.rob_top.specs.Headline.{Means}
+use Rattle.rob_top.specs.Inputs.{HasForms}
+use Rattle.rob_top.specs.Refused.{solving}
+use Rattle.rob_top.specs.Replies.{Replies}
+use Rattle.rob_top.specs.Solved.{IsKept, IsPrinted, IsSolved}
 use Rattle.rob_top.specs.Work.{AnswersForms, IsStopOf, RepliesStop, ended_of}
 use Rattle.rob_top.specs.declared.ended.Ended.{Ended}
-use Rattle.rob_top.specs.declared.files.Task.{Task}
-use Rattle.rob_top.specs.declared.files.Task.TheVariants.{Solve, Prove}
 use Rattle.rob_top.specs.declared.reply.Reply.{Reply}
-use Rattle.rob_words.specs.Commands.{Action, Line, rows, solve, prove, check}
+use Rattle.rob_words.specs.Commands.{Line}
+use Rattle.rob_words.specs.declared.verb.Verb.{Verb}
+use Rattle.rob_words.specs.declared.verb.Verb.TheVariants.{Solve, Prove}
 
 -- ---- the counterpart of a model within the limits has few rows and columns
 
@@ -105,21 +108,26 @@ module _ (m : RobustModel) (model : IsModel m) where
   kept_as call c infeasible h true_of = tt
   kept_as call c unbounded h true_of = covered_bound c h.inside h.columns h.scale h.covered
 
+-- the command solves as the known one does
+solves_as : (verb same : Verb) → verb ≡ same → IsSolving same → IsSolving verb
+solves_as verb same e h = subst (λ (v : Verb). IsSolving v) (sym e) h
+
 -- ---- the certificate that was found
 pub solution_fits : {N : Type 0} (value : N → Fraction) (limit : ℕ) → ((x : N) → Fits limit (value x)) → (m : RobustModel) (cert : Cert N)
     → FitsLines limit m (certificate_of value cert)
 solution_fits {N = N} value limit fits m cert = let found : Result (Cert N) Stop = Ok cert in answer_fits value limit fits m found
 
 module _ (limit : ℕ) (m : RobustModel) (model : IsModel m) (c : Certificate) (found : IsSolution m c) (fits : FitsLines limit m c) where
-  means_solved : (call : Call) (line : Line) (text : List ℕ) (status : Status) → limit_of line ≡ limit → c.status ≡ status → HasForms call line m → IsPrinted call line.action m c text
+  means_solved : (call : Call) (line : Line) (text : List ℕ) (status : Status) → limit_of line ≡ limit → c.status ≡ status → HasForms call line m → IsSolving line.verb → IsPrinted call line.verb m c text
       → Means call (ended_of status) text
-  means_solved call line text status at e has printed =
+  means_solved call line text status at e has solves printed =
       let proves : ProvesAs status m c = subst (λ (s : Status). ProvesAs s m c) e found.proves in
       let holds : HasStatus m status c.value = subst (λ (s : Status). HasStatus m s c.value) e (certificate_true m model c found.proves) in
       by status (record {
         line = line;
         m = m;
         forms = has;
+        solves = solves;
         c = c;
         status_is = e;
         holds = holds;
@@ -136,29 +144,25 @@ module _ (limit : ℕ) (m : RobustModel) (model : IsModel m) (c : Certificate) (
       by infeasible h = h
       by unbounded h = h
 
-  is_report : (call : Call) (action : Action) (text : List ℕ) → IsTask call action Solve → text ≡ report_of m c → IsPrinted call action m c text
-  is_report call (solve name way) text h e = e
-  is_report call (rows name) text h e = h
-  is_report call (prove name way) text h e = absurd h
-  is_report call (check name certificate) text h e = h
+  is_report : (call : Call) (verb : Verb) (text : List ℕ) → verb ≡ Solve → text ≡ report_of m c → IsPrinted call verb m c text
+  is_report call verb text e h = subst (λ (v : Verb). IsPrinted call v m c text) (sym e) h
 
-  is_certificate : (call : Call) (action : Action) (text : List ℕ) → IsTask call action Prove → text ≡ cert_text m c → IsPrinted call action m c text
-  is_certificate call (prove name way) text h e = e
-  is_certificate call (rows name) text h e = h
-  is_certificate call (solve name way) text h e = absurd h
-  is_certificate call (check name certificate) text h e = h
+  is_certificate : (call : Call) (verb : Verb) (text : List ℕ) → verb ≡ Prove → text ≡ cert_text m c → IsPrinted call verb m c text
+  is_certificate call verb text e h = subst (λ (v : Verb). IsPrinted call v m c text) (sym e) h
 
   pub report_answers : (wides : Count) (r : Result Reply Want) → IfOk r (Replies (ended_of c.status) (report_of m c)) → IfOk r (AnswersForms limit wides m Solve)
   report_answers wides (Err want) is = tt
-  report_answers wides (Ok reply) is = λ call line at asked has.
+  report_answers wides (Ok reply) is = λ call line at has.
       subst (λ (ended : Ended). Means call ended reply.text) (sym is.0)
-      (means_solved call line reply.text c.status at.limit_is refl has (is_report call line.action reply.text asked is.1))
+      (means_solved call line reply.text c.status at.limit_is refl has (solves_as line.verb Solve at.verb_is refl)
+      (is_report call line.verb reply.text at.verb_is is.1))
 
   pub certificate_answers : (wides : Count) (r : Result Reply Want) → IfOk r (Replies (ended_of c.status) (cert_text m c)) → IfOk r (AnswersForms limit wides m Prove)
   certificate_answers wides (Err want) is = tt
-  certificate_answers wides (Ok reply) is = λ call line at asked has.
+  certificate_answers wides (Ok reply) is = λ call line at has.
       subst (λ (ended : Ended). Means call ended reply.text) (sym is.0)
-      (means_solved call line reply.text c.status at.limit_is refl has (is_certificate call line.action reply.text asked is.1))
+      (means_solved call line reply.text c.status at.limit_is refl has (solves_as line.verb Prove at.verb_is refl)
+      (is_certificate call line.verb reply.text at.verb_is is.1))
 
 -- ---- the route stopped
 module _ (limit : ℕ) (m : RobustModel) where
@@ -179,15 +183,15 @@ module _ (limit : ℕ) (m : RobustModel) where
   stop_of (stop.Wide place trace) h = wide_spot place h.0
   stop_of stop.Memory h = tt
 
-  stop_answers : (before now : ℕ) (task : Task) (s : Stop) (reply : Reply) → ((call : Call) (action : Action) → IsTask call action task → IsSolving action)
-      → HasCause limit m s → CountsStop before now s → RepliesStop m s reply → AnswersForms limit (count before now) m task reply
-  stop_answers before now task (stop.EmptySet weights) reply solves cause counts is = λ call line at asked has.
+  stop_answers : (before now : ℕ) (verb : Verb) (s : Stop) (reply : Reply) → IsSolving verb
+      → HasCause limit m s → CountsStop before now s → RepliesStop m s reply → AnswersForms limit (count before now) m verb reply
+  stop_answers before now verb (stop.EmptySet weights) reply solves cause counts is = λ call line at has.
       subst (λ (ended : Ended). Means call ended reply.text) (sym is.0)
       (record {
         line = line;
         m = m;
         forms = has;
-        solves = solves call line.action asked;
+        solves = solves_as line.verb verb at.verb_is solves;
         none_admitted = cause.empty;
         shown = cause;
         set = cause.set;
@@ -196,31 +200,19 @@ module _ (limit : ℕ) (m : RobustModel) where
         none_in_set = cause.empty_in;
         printed = is.1;
       })
-  stop_answers before now task (stop.Wide place trace) reply solves cause counts is = λ call line at asked has.
+  stop_answers before now verb (stop.Wide place trace) reply solves cause counts is = λ call line at has.
       let rose : Rose before now = omega (arith, counts) in
       subst (λ (ended : Ended). Means call ended reply.text) (sym is.0)
       (record {
         line = line;
         m = m;
-        wide = solving has (solves call line.action asked) (subst (λ (l : ℕ). IsWideSpot l m place) (sym at.limit_is) cause.0);
+        wide = solving has (solves_as line.verb verb at.verb_is solves) (subst (λ (l : ℕ). IsWideSpot l m place) (sym at.limit_is) cause.0);
         raised = at.raised rose;
         printed = is.1;
       })
-  stop_answers before now task stop.Memory reply solves cause counts is = absurd is
+  stop_answers before now verb stop.Memory reply solves cause counts is = absurd is
 
-  pub stopped_answers : (before now : ℕ) (task : Task) (s : Stop) (r : Result Reply Want) → ((call : Call) (action : Action) → IsTask call action task → IsSolving action)
-      → HasCause limit m s → CountsStop before now s → IfOk r (RepliesStop m s) → IfOk r (AnswersForms limit (count before now) m task)
-  stopped_answers before now task s (Err want) solves cause counts is = tt
-  stopped_answers before now task s (Ok reply) solves cause counts is = stop_answers before now task s reply solves cause counts is
-
-pub solve_solves : (call : Call) (action : Action) → IsTask call action Solve → IsSolving action
-solve_solves call (solve name way) h = tt
-solve_solves call (prove name way) h = tt
-solve_solves call (rows name) h = h
-solve_solves call (check name certificate) h = h
-
-pub prove_solves : (call : Call) (action : Action) → IsTask call action Prove → IsSolving action
-prove_solves call (solve name way) h = tt
-prove_solves call (prove name way) h = tt
-prove_solves call (rows name) h = h
-prove_solves call (check name certificate) h = h
+  pub stopped_answers : (before now : ℕ) (verb : Verb) (s : Stop) (r : Result Reply Want) → IsSolving verb
+      → HasCause limit m s → CountsStop before now s → IfOk r (RepliesStop m s) → IfOk r (AnswersForms limit (count before now) m verb)
+  stopped_answers before now verb s (Err want) solves cause counts is = tt
+  stopped_answers before now verb s (Ok reply) solves cause counts is = stop_answers before now verb s reply solves cause counts is

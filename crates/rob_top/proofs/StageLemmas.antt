@@ -15,13 +15,18 @@ use Rattle.rob_parse.proofs.OneModel.{not_both, one_model}
 use Rattle.rob_parse.proofs.OneReading.{one_rule}
 use Rattle.rob_model.specs.declared.place.Spot.{Spot}
 use Rattle.rob_top.proofs.CourseLemmas.{Course, accepted_course, cert_course, empty_course, inside_admitted, rejected_course, rows_course, solved_course, wide_course}
-use Rattle.rob_top.specs.Calls.{Call, Came, IsFirstAbsent, IsFound, Known, Request, answer_to, by_fetches, by_files, limit_of, model_of, requests}
-use Rattle.rob_top.specs.Headline.{HasModel, IsNoModel, IsSolved, IsWideSpot, Means, checking, elaborating, solving}
+use Rattle.rob_top.specs.Calls.{Call, Came, HasFile, IsFirstAbsent, IsFound, Known, Request, answer_to, by_fetches, by_files, file_of, limit_of, requests}
+use Rattle.rob_top.specs.Headline.{Means}
+use Rattle.rob_top.specs.Inputs.{HasModel}
+use Rattle.rob_top.specs.Refused.{IsNoModel, IsWideSpot, checking, elaborating, solving}
+use Rattle.rob_top.specs.Solved.{IsSolved}
 use Rattle.rob_top.specs.Work.{ended_of}
 use Rattle.rob_top.specs.declared.ended.Ended.{Ended}
 use Rattle.rob_top.specs.declared.ended.Ended.TheVariants.{Optimal, Infeasible, Unbounded, Printed, Accepted, Rejected, Words, Missing, TooLong, Model, EmptySet, TooWide, Cert, ReadFault, WriteFault, Memory}
 use Rattle.rob_words.specs.Commands.{Line, IsCommandLine, IsSpelled}
 use Rattle.rob_words.specs.Values.{Word}
+use Rattle.rob_words.specs.declared.verb.Own.{Own}
+use Rattle.rob_words.specs.declared.verb.Own.TheVariants as own
 use Rattle.rob_words.proofs.Spellings.{one_line}
 
 -- how far the call came
@@ -68,6 +73,15 @@ found_once call request a b (by_fetches fetches e) h k = let same : Some a ≡ S
     here : (found : Found) → IsFound call request found → answer_to request fetches ≡ Some found
     here found h = subst (λ (t : Option (List Fetch)). IfSome t (λ fs. answer_to request fs ≡ Some found)) e h.1
 
+-- and so is what a line's file of a kind holds
+pub file_once : (call : Call) (line : Line) (kind : Own) (a b : List ℕ) → Known call.source → HasFile call line kind a → HasFile call line kind b → a ≡ b
+file_once call line kind a b known h k =
+    let names : Some h.name ≡ Some k.name = sym h.named ∙ k.named in
+    let same : h.name ≡ k.name = cc in
+    let found : IsFound call (file_of kind k.name) (whole a) = subst (λ (name : Word). IsFound call (file_of kind name) (whole a)) same h.found in
+    let wholes : whole a ≡ whole b = found_once call (file_of kind k.name) (whole a) (whole b) known found k.found in
+    cc
+
 came_at : (call : Call) (before behind : List Request) (request : Request) → Each (Came call) (before ++ request ∷ behind) → Came call request
 came_at call [] behind request h = h.0
 came_at call (r ∷ before) behind request h = came_at call before behind request h.1
@@ -78,29 +92,29 @@ module _ (call : Call) (known : Known call.source) (line : Line) (spelled : IsSp
   read_here l m h = subst (λ (x : Line). HasModel call x m) (one_line call.words l line h.spelled spelled) h
 
   pub broken_here : (rule number : ℕ) (text : List ℕ) (h : IsNoModel call rule number text)
-      → (bytes : List ℕ) × IsFound call (model_of line.action) (whole bytes) × Breaks (limit_of line) bytes rule number
+      → (bytes : List ℕ) × HasFile call line own.Model bytes × Breaks (limit_of line) bytes rule number
   broken_here rule number text h =
       let same = one_line call.words h.line line h.spelled spelled in (
         h.bytes,
-        subst (λ (x : Line). IsFound call (model_of x.action) (whole h.bytes)) same h.found,
+        subst (λ (x : Line). HasFile call x own.Model h.bytes) same h.file,
         subst (λ (x : Line). Breaks (limit_of x) h.bytes rule number) same h.breaks,
       )
 
   -- where all come, none is the first that doesn't
-  pub none_absent : (found : Found) (name : Word) → Each (Came call) (requests line.action) → ((bytes : List ℕ) → found ≡ whole bytes → ⊥) → IsFirstAbsent call found name → ⊥
+  pub none_absent : (found : Found) (name : Word) → Each (Came call) (requests line) → ((bytes : List ℕ) → found ≡ whole bytes → ⊥) → IsFirstAbsent call found name → ⊥
   none_absent found name all other h =
       let same = one_line call.words h.line line h.spelled spelled in
-      let each = subst (λ (list : List Request). Each (Came call) list) (ap (λ (x : Line). requests x.action) (sym same) ∙ h.order) all in
+      let each = subst (λ (list : List Request). Each (Came call) list) (ap (λ (x : Line). requests x) (sym same) ∙ h.order) all in
       let came = came_at call h.before h.behind h.request each in
       other came.0 (found_once call h.request found (whole came.0) known h.absent came.1)
 
-  pub broken_answer : (ended : Ended) (text bytes : List ℕ) (rule number : ℕ) → Each (Came call) (requests line.action)
-      → IsFound call (model_of line.action) (whole bytes) → Breaks (limit_of line) bytes rule number → Means call ended text
+  pub broken_answer : (ended : Ended) (text bytes : List ℕ) (rule number : ℕ) → Each (Came call) (requests line)
+      → HasFile call line own.Model bytes → Breaks (limit_of line) bytes rule number → Means call ended text
       → (ended ≡ Model rule number) ⊎ ((ended ≡ ReadFault) ⊎ (ended ≡ Memory))
   broken_answer ended text bytes rule number all f breaks means = by (stage_of call ended text means)
     where
-      same_bytes : (other : List ℕ) → IsFound call (model_of line.action) (whole other) → other ≡ bytes
-      same_bytes other h = let e = found_once call (model_of line.action) (whole other) (whole bytes) known h f in cc
+      same_bytes : (other : List ℕ) → HasFile call line own.Model other → other ≡ bytes
+      same_bytes other h = file_once call line own.Model other bytes known h f
 
       is_rule : (r n : ℕ) → Breaks (limit_of line) bytes r n → ended ≡ Model r n → ended ≡ Model rule number
       is_rule r n b e =
@@ -118,7 +132,7 @@ module _ (call : Call) (known : Known call.source) (line : Line) (spelled : IsSp
           let r = read_here l m h in
           absurd
           (not_both (limit_of line) r.bytes m rule number r.reads
-          (subst (λ (list : List ℕ). Breaks (limit_of line) list rule number) (sym (same_bytes r.bytes r.found)) breaks))
+          (subst (λ (list : List ℕ). Breaks (limit_of line) list rule number) (sym (same_bytes r.bytes r.file)) breaks))
       by (failed e) = inr (inl e)
       by (wanting e) = inr (inr e)
 
@@ -126,8 +140,7 @@ module _ (call : Call) (known : Known call.source) (line : Line) (spelled : IsSp
 pub one_model_read : (call : Call) (k l : Line) (a b : RobustModel) → Known call.source → HasModel call k a → HasModel call l b → a ≡ b
 one_model_read call k l a b known h other =
     let here : HasModel call k b = read_here call known k h.spelled l b other in
-    let bytes : whole h.bytes ≡ whole here.bytes = found_once call (model_of k.action) (whole h.bytes) (whole here.bytes) known h.found here.found in
-    let same : h.bytes ≡ here.bytes = cc in
+    let same : h.bytes ≡ here.bytes = file_once call k own.Model h.bytes here.bytes known h.file here.file in
     one_model (limit_of k) here.bytes a b (subst (λ (list : List ℕ). ReadsModel (limit_of k) list a) same h.reads) here.reads
 
 solved_by : (call : Call) (status : Status) (text : List ℕ) → Means call (ended_of status) text → IsSolved call status text

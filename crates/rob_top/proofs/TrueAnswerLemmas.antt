@@ -1,6 +1,6 @@
 -- Which answer has to come, where what is known of the files decides: the first file that doesn't come decides; then the model's text; then the
 -- first wide number; and then the command.
-use Rattle.std.proofs.Common.{◌≡◌, ℕ, ◌-◌, ◌^◌, ◌≤◌, List, [], ◌∷◌, ◌++◌, refl, sym, ◌∙◌, ap, subst, inl, inr, ◌⊎◌}
+use Rattle.std.proofs.Common.{◌≡◌, ℕ, ◌-◌, ◌^◌, ◌≤◌, List, [], ◌∷◌, ◌++◌, refl, sym, ◌∙◌, ap, subst, inl, inr, ◌⊎◌, rules}
 use Rattle.rob_algebra.specs.Fraction.{Fraction}
 use Rattle.rob_cert.specs.Apart.{IsNamedInWords}
 use Rattle.rob_cert.specs.Causes.{HasCause}
@@ -35,16 +35,20 @@ use Rattle.rob_sets.specs.SetForm.{judged_set}
 use Rattle.rob_cert.proofs.OneBreach.{one_cause}
 use Rattle.rob_top.proofs.CertificateNameLemmas.{named_in_words}
 use Rattle.rob_top.proofs.CourseLemmas.{Course, course_at, finds, judges, prints, refuses, shows_empty, wide_number, wide_row}
-use Rattle.rob_top.proofs.StageLemmas.{Stage, absent, broken, broken_here, failed, found_once, none_absent, one_model_read, over, read, same_status, stage_of, wanting, wordless}
+use Rattle.rob_top.proofs.StageLemmas.{Stage, absent, broken, broken_here, failed, file_once, found_once, none_absent, one_model_read, over, read, same_status, stage_of, wanting, wordless}
 use Rattle.rob_top.proofs.WorkLemmas.{limit_is}
-use Rattle.rob_top.specs.Calls.{Call, Came, IsFirstAbsent, IsFound, IsSolving, Known, Request, certificate_file, limit_of, model_of, requests}
-use Rattle.rob_top.specs.Headline.{HasCertificate, HasCertificateFile, HasForms, HasModel, Means}
+use Rattle.rob_top.specs.Calls.{Call, Came, HasFile, IsFirstAbsent, IsFound, IsSolving, Known, Request, limit_of, requests}
+use Rattle.rob_top.specs.Headline.{Means}
+use Rattle.rob_top.specs.Inputs.{HasCertificate, HasCertificateFile, HasForms, HasModel}
 use Rattle.rob_top.specs.Completeness.{IsEmptyAnswer, IsSolveAnswer}
 use Rattle.rob_top.specs.Work.{ended_of, verdict_ended}
 use Rattle.rob_top.specs.declared.ended.Ended.{Ended}
 use Rattle.rob_top.specs.declared.ended.Ended.TheVariants.{Printed, Missing, TooLong, EmptySet, TooWide, Cert, ReadFault, Memory}
-use Rattle.rob_words.specs.Commands.{Action, Line, rows, check}
+use Rattle.rob_words.specs.Commands.{Line}
 use Rattle.rob_words.specs.Values.{Word, bits_of}
+use Rattle.rob_words.specs.declared.verb.Own.TheVariants as own
+use Rattle.rob_words.specs.declared.verb.Verb.{Verb}
+use Rattle.rob_words.specs.declared.verb.Verb.TheVariants.{Rows, Check}
 use Rattle.rob_words.proofs.Spellings.{one_line}
 
 -- ---- the first of a list
@@ -72,14 +76,14 @@ module _ (limit : ℕ) (m : RobustModel) (all : List Judged) where
       (each_right (λ j. IsWideThere limit m j → ⊥) h.before (h.here ∷ h.after) (subst (λ (js : List Judged). NothingWide limit m js) h.order none)).0 h.wide
 
 -- ---- commands
-not_rows : (action : Action) (name model certificate : Word) → action ≡ rows name → action ≡ check model certificate → ⊥
-not_rows action name model certificate e d = let same : rows name ≡ check model certificate = sym e ∙ d in cc
+not_rows : (verb : Verb) → verb ≡ Rows → verb ≡ Check → ⊥
+not_rows verb e d = let same : Rows ≡ Check = sym e ∙ d in cc
 
-solves_no_rows : (action : Action) (name : Word) → action ≡ rows name → IsSolving action → ⊥
-solves_no_rows action name e h = subst (λ (a : Action). IsSolving a) e h
+solves_no_rows : (verb : Verb) → verb ≡ Rows → IsSolving verb → ⊥
+solves_no_rows verb e h = let no : IsSolving Rows = subst (λ (v : Verb). IsSolving v) e h in search (no, rules)
 
-solves_no_check : (action : Action) (model certificate : Word) → action ≡ check model certificate → IsSolving action → ⊥
-solves_no_check action model certificate e h = subst (λ (a : Action). IsSolving a) e h
+solves_no_check : (verb : Verb) → verb ≡ Check → IsSolving verb → ⊥
+solves_no_check verb e h = let no : IsSolving Check = subst (λ (v : Verb). IsSolving v) e h in search (no, rules)
 
 -- ---- answers
 first_of_two : {A B C : Type 0} → (A → B) → A ⊎ C → B ⊎ C
@@ -98,7 +102,7 @@ module _ (call : Call) (known : Known call.source) where
       excludes r came lacks = lacks.1 came.0 (found_once call r lacks.0 (whole came.0) known lacks.2 came.1)
 
       order : h.before ++ h.request ∷ h.behind ≡ k.before ++ k.request ∷ k.behind
-      order = sym h.order ∙ ap (λ (x : Line). requests x.action) (one_line call.words h.line k.line h.spelled k.spelled) ∙ k.order
+      order = sym h.order ∙ ap (λ (x : Line). requests x) (one_line call.words h.line k.line h.spelled k.spelled) ∙ k.order
 
       request : h.request ≡ k.request
       request = split_once (Came call) Lacks excludes h.before k.before h.request k.request h.behind k.behind order h.came k.came (a, no_a, h.absent) (b, no_b, k.absent)
@@ -137,13 +141,13 @@ module _ (call : Call) (known : Known call.source) where
 
   module _ (line : Line) (m : RobustModel) where
     -- ---- a model was read
-    same_bytes : (has : HasModel call line m) (other : List ℕ) → IsFound call (model_of line.action) (whole other) → other ≡ has.bytes
-    same_bytes has other found = let same : whole other ≡ whole has.bytes = found_once call (model_of line.action) (whole other) (whole has.bytes) known found has.found in cc
+    same_bytes : (has : HasModel call line m) (other : List ℕ) → HasFile call line own.Model other → other ≡ has.bytes
+    same_bytes has other file = file_once call line own.Model other has.bytes known file has.file
 
     course_of : HasModel call line m → (ended : Ended) (text : List ℕ) → Means call ended text → Course call line m ended ⊎ ((ended ≡ ReadFault) ⊎ (ended ≡ Memory))
     course_of has ended text means = by (stage_of call ended text means)
       where
-        no_rule : (rule number : ℕ) (bytes : List ℕ) → IsFound call (model_of line.action) (whole bytes) → Breaks (limit_of line) bytes rule number → ⊥
+        no_rule : (rule number : ℕ) (bytes : List ℕ) → HasFile call line own.Model bytes → Breaks (limit_of line) bytes rule number → ⊥
         no_rule rule number bytes found breaks =
             not_both (limit_of line) has.bytes m rule number has.reads (subst (λ (list : List ℕ). Breaks (limit_of line) list rule number) (same_bytes has bytes found) breaks)
 
@@ -168,7 +172,7 @@ module _ (call : Call) (known : Known call.source) where
         by : Course call line m ended → ended ≡ TooWide spot
         by (finds status v u inside forms solves holds e) = absurd (no_forms forms)
         by (shows_empty weights forms solves shown e) = absurd (no_forms forms)
-        by (prints name forms is e) = absurd (no_forms forms)
+        by (prints forms is e) = absurd (no_forms forms)
         by (judges c h e) = absurd (no_forms h.file.forms)
         by (refuses bytes rule number h breach e) = absurd (no_forms h.forms)
         by (wide_number other h e) = e ∙ ap (λ (s : Spot). TooWide s) (first_once (limit_of line) m (judged_set m ++ judged_forms m) other spot h first)
@@ -178,18 +182,18 @@ module _ (call : Call) (known : Known call.source) where
     no_first : HasForms call line m → (spot : Spot) → IsFirstWide (limit_of line) m (judged_set m ++ judged_forms m) spot → ⊥
     no_first forms spot first = none_first (limit_of line) m (judged_set m ++ judged_forms m) spot forms.none_wide first
 
-    pub rows_decide : HasForms call line m → (name : Word) → line.action ≡ rows name → (ended : Ended) (text : List ℕ) → Means call ended text
+    pub rows_decide : HasForms call line m → line.verb ≡ Rows → (ended : Ended) (text : List ℕ) → Means call ended text
         → (ended ≡ Printed) ⊎ ((ended ≡ ReadFault) ⊎ (ended ≡ Memory))
-    rows_decide has name is_rows ended text means = first_of_two by (course_of has.model ended text means)
+    rows_decide has is_rows ended text means = first_of_two by (course_of has.model ended text means)
       where
         by : Course call line m ended → ended ≡ Printed
-        by (finds status v u inside forms solves holds e) = absurd (solves_no_rows line.action name is_rows solves)
-        by (shows_empty weights forms solves shown e) = absurd (solves_no_rows line.action name is_rows solves)
-        by (prints other forms is e) = e
-        by (judges c h e) = absurd (not_rows line.action name h.file.model_name h.file.certificate_name is_rows h.file.is_check)
-        by (refuses bytes rule number h breach e) = absurd (not_rows line.action name h.model_name h.certificate_name is_rows h.is_check)
+        by (finds status v u inside forms solves holds e) = absurd (solves_no_rows line.verb is_rows solves)
+        by (shows_empty weights forms solves shown e) = absurd (solves_no_rows line.verb is_rows solves)
+        by (prints forms is e) = e
+        by (judges c h e) = absurd (not_rows line.verb is_rows h.file.is_check)
+        by (refuses bytes rule number h breach e) = absurd (not_rows line.verb is_rows h.is_check)
         by (wide_number spot h e) = absurd (no_first has spot h)
-        by (wide_row spot forms solves wide e) = absurd (solves_no_rows line.action name is_rows solves)
+        by (wide_row spot forms solves wide e) = absurd (solves_no_rows line.verb is_rows solves)
 
     -- ---- `solve` and `prove`
     status_answer : (status : Status) (v : Fraction) → HasStatus m status v → IsSolveAnswer (limit_of line) m (ended_of status)
@@ -200,15 +204,15 @@ module _ (call : Call) (known : Known call.source) where
     answer_is : (ended other : Ended) → ended ≡ other → IsSolveAnswer (limit_of line) m other → IsSolveAnswer (limit_of line) m ended
     answer_is ended other e h = subst (λ (x : Ended). IsSolveAnswer (limit_of line) m x) (sym e) h
 
-    pub solve_decides : HasForms call line m → IsSolving line.action → (ended : Ended) (text : List ℕ) → Means call ended text → IsSolveAnswer (limit_of line) m ended
+    pub solve_decides : HasForms call line m → IsSolving line.verb → (ended : Ended) (text : List ℕ) → Means call ended text → IsSolveAnswer (limit_of line) m ended
     solve_decides has is_solving ended text means = all (course_of has.model ended text means)
       where
         by : Course call line m ended → IsSolveAnswer (limit_of line) m ended
         by (finds status v u inside forms solves holds e) = answer_is ended (ended_of status) e (status_answer status v holds)
         by (shows_empty weights forms solves shown e) = answer_is ended (EmptySet weights) e shown.empty
-        by (prints name forms is e) = absurd (solves_no_rows line.action name is is_solving)
-        by (judges c h e) = absurd (solves_no_check line.action h.file.model_name h.file.certificate_name h.file.is_check is_solving)
-        by (refuses bytes rule number h breach e) = absurd (solves_no_check line.action h.model_name h.certificate_name h.is_check is_solving)
+        by (prints forms is e) = absurd (solves_no_rows line.verb is is_solving)
+        by (judges c h e) = absurd (solves_no_check line.verb h.file.is_check is_solving)
+        by (refuses bytes rule number h breach e) = absurd (solves_no_check line.verb h.is_check is_solving)
         by (wide_number spot h e) = absurd (no_first has spot h)
         by (wide_row spot forms solves wide e) = answer_is ended (TooWide spot) e wide
 
@@ -234,15 +238,15 @@ module _ (call : Call) (known : Known call.source) where
     empty_spot none (spots.Check place) h = absurd h
     empty_spot none (spots.Replay number) h = absurd h
 
-    pub empty_decides : HasForms call line m → IsSolving line.action → IsEmptySet m → (ended : Ended) (text : List ℕ) → Means call ended text → IsEmptyAnswer (limit_of line) m ended
+    pub empty_decides : HasForms call line m → IsSolving line.verb → IsEmptySet m → (ended : Ended) (text : List ℕ) → Means call ended text → IsEmptyAnswer (limit_of line) m ended
     empty_decides has is_solving none ended text means = all (course_of has.model ended text means)
       where
         by : Course call line m ended → IsEmptyAnswer (limit_of line) m ended
         by (finds status v u inside forms solves holds e) = absurd (none u inside)
         by (shows_empty weights forms solves shown e) = empty_is ended (EmptySet weights) e shown
-        by (prints name forms is e) = absurd (solves_no_rows line.action name is is_solving)
-        by (judges c h e) = absurd (solves_no_check line.action h.file.model_name h.file.certificate_name h.file.is_check is_solving)
-        by (refuses bytes rule number h breach e) = absurd (solves_no_check line.action h.model_name h.certificate_name h.is_check is_solving)
+        by (prints forms is e) = absurd (solves_no_rows line.verb is is_solving)
+        by (judges c h e) = absurd (solves_no_check line.verb h.file.is_check is_solving)
+        by (refuses bytes rule number h breach e) = absurd (solves_no_check line.verb h.is_check is_solving)
         by (wide_number spot h e) = absurd (no_first has spot h)
         by (wide_row spot forms solves wide e) = empty_is ended (TooWide spot) e (empty_spot none spot wide)
 
@@ -251,7 +255,7 @@ module _ (call : Call) (known : Known call.source) where
         all (inr (inl e)) = empty_is ended ReadFault e (inl refl)
         all (inr (inr e)) = empty_is ended Memory e (inr (inr refl))
 
-    pub status_decides : HasForms call line m → IsSolving line.action → (status : Status) (v : Fraction) → HasStatus m status v → (u : List Fraction) → Admits m u
+    pub status_decides : HasForms call line m → IsSolving line.verb → (status : Status) (v : Fraction) → HasStatus m status v → (u : List Fraction) → Admits m u
         → ((spot : Spot) → IsWideOnPath (limit_of line) m spot → ⊥) → (ended : Ended) (text : List ℕ) → Means call ended text
         → (ended ≡ ended_of status) ⊎ ((ended ≡ ReadFault) ⊎ (ended ≡ Memory))
     status_decides has is_solving status v true_of u admitted narrow ended text means = first_of_two by (course_of has.model ended text means)
@@ -259,20 +263,15 @@ module _ (call : Call) (known : Known call.source) where
         by : Course call line m ended → ended ≡ ended_of status
         by (finds other w inner inside forms solves holds e) = e ∙ ap ended_of (same_status m other status w v holds true_of)
         by (shows_empty weights forms solves shown e) = absurd (shown.empty u admitted)
-        by (prints name forms is e) = absurd (solves_no_rows line.action name is is_solving)
-        by (judges c h e) = absurd (solves_no_check line.action h.file.model_name h.file.certificate_name h.file.is_check is_solving)
-        by (refuses bytes rule number h breach e) = absurd (solves_no_check line.action h.model_name h.certificate_name h.is_check is_solving)
+        by (prints forms is e) = absurd (solves_no_rows line.verb is is_solving)
+        by (judges c h e) = absurd (solves_no_check line.verb h.file.is_check is_solving)
+        by (refuses bytes rule number h breach e) = absurd (solves_no_check line.verb h.is_check is_solving)
         by (wide_number spot h e) = absurd (no_first has spot h)
         by (wide_row spot forms solves wide e) = absurd (narrow spot wide)
 
     -- ---- `check`
     same_file : (bytes other : List ℕ) → HasCertificateFile call line m bytes → HasCertificateFile call line m other → bytes ≡ other
-    same_file bytes other h k =
-        let commands : check h.model_name h.certificate_name ≡ check k.model_name k.certificate_name = sym h.is_check ∙ k.is_check in
-        let names : h.certificate_name ≡ k.certificate_name = cc in
-        let found : IsFound call (certificate_file k.certificate_name) (whole bytes) = subst (λ (name : Word). IsFound call (certificate_file name) (whole bytes)) names h.found in
-        let same : whole bytes ≡ whole other = found_once call (certificate_file k.certificate_name) (whole bytes) (whole other) known found k.found in
-        cc
+    same_file bytes other h k = file_once call line own.Certificate bytes other known h.file k.file
 
     least : 1 ≤ limit_of line
     least = subst (λ (l : ℕ). 1 ≤ l) (limit_is line.width) (limit_low (bits_of line.width))
@@ -308,13 +307,13 @@ module _ (call : Call) (known : Known call.source) where
         → (ended ≡ verdict_ended (verdict_of (limit_of line) m c)) ⊎ ((ended ≡ ReadFault) ⊎ (ended ≡ Memory))
     verdict_decides c has ended text means = first_of_two by (course_of has.file.forms.model ended text means)
       where
-        no_solving : IsSolving line.action → ⊥
-        no_solving solves = solves_no_check line.action has.file.model_name has.file.certificate_name has.file.is_check solves
+        no_solving : IsSolving line.verb → ⊥
+        no_solving solves = solves_no_check line.verb has.file.is_check solves
 
         by : Course call line m ended → ended ≡ verdict_ended (verdict_of (limit_of line) m c)
         by (finds status v u inside forms solves holds e) = absurd (no_solving solves)
         by (shows_empty weights forms solves shown e) = absurd (no_solving solves)
-        by (prints name forms is e) = absurd (not_rows line.action name has.file.model_name has.file.certificate_name is has.file.is_check)
+        by (prints forms is e) = absurd (not_rows line.verb is has.file.is_check)
         by (judges d h e) = e ∙ ap (λ (x : Certificate). verdict_ended (verdict_of (limit_of line) m x)) (one_certificate d c h has)
         by (refuses bytes rule number h breach e) = absurd (no_breach c bytes rule number has h breach)
         by (wide_number spot h e) = absurd (no_first has.file.forms spot h)
@@ -324,8 +323,8 @@ module _ (call : Call) (known : Known call.source) where
         → (ended : Ended) (text : List ℕ) → Means call ended text → (ended ≡ Cert rule number) ⊎ ((ended ≡ ReadFault) ⊎ (ended ≡ Memory))
     rule_decides bytes rule number has breaks ended text means = first_of_two by (course_of has.forms.model ended text means)
       where
-        no_solving : IsSolving line.action → ⊥
-        no_solving solves = solves_no_check line.action has.model_name has.certificate_name has.is_check solves
+        no_solving : IsSolving line.verb → ⊥
+        no_solving solves = solves_no_check line.verb has.is_check solves
 
         is_rule : (other : List ℕ) (r n : ℕ) → HasCertificateFile call line m other → HasCause (naming_of m) (limit_of line) start other 1 (Rule r n) → ended ≡ Cert r n → ended ≡ Cert rule number
         is_rule other r n file breach e =
@@ -338,7 +337,7 @@ module _ (call : Call) (known : Known call.source) where
         by : Course call line m ended → ended ≡ Cert rule number
         by (finds status v u inside forms solves holds e) = absurd (no_solving solves)
         by (shows_empty weights forms solves shown e) = absurd (no_solving solves)
-        by (prints name forms is e) = absurd (not_rows line.action name has.model_name has.certificate_name is has.is_check)
+        by (prints forms is e) = absurd (not_rows line.verb is has.is_check)
         by (judges d h e) = absurd (no_breach d bytes rule number h has breaks)
         by (refuses other r n h breach e) = is_rule other r n h breach e
         by (wide_number spot h e) = absurd (no_first has.forms spot h)

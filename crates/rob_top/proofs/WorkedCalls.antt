@@ -34,22 +34,30 @@ use Rattle.rob_sets.specs.FirstWide.{NothingWide}
 use Rattle.rob_sets.specs.SetForm.{judged_set}
 use Rattle.rob_top.proofs.NarrowForms.{all_narrow, difference_narrow}
 use Rattle.rob_top.specs.Completeness.{EndsAs, IsEmptyAnswer, MustEnd}
-use Rattle.rob_top.specs.Headline.{HasForms}
+use Rattle.rob_top.specs.Inputs.{HasForms}
 use Rattle.rob_top.specs.WorkedCalls.{empty_interval, greatest, model_name, order_12, solve_call}
 use Rattle.rob_top.specs.declared.ended.Ended.{Ended}
 use Rattle.rob_top.specs.declared.ended.Ended.TheVariants.{Optimal}
-use Rattle.rob_words.specs.Commands.{Line, own, solve, IsSpelled}
+use Rattle.rob_words.specs.Commands.{Line, own, IsSpelled}
 use Rattle.rob_words.specs.declared.route.Route.TheVariants.{Dual}
+use Rattle.rob_words.specs.declared.verb.Verb.TheVariants.{Solve}
 use Rattle.rob_words.specs.declared.width.Width.TheVariants.{SixtyTwo}
 
 -- ---- solve one.rob, where the shelf tells a file of that name with the canonical text of a model
 abbrev pub line : Line
-line = record { action = solve model_name Dual; width = SixtyTwo }
+line = record { verb = Solve; own = model_name ∷ []; way = Dual; width = SixtyTwo }
 
 line_spelled : IsSpelled (codes "solve" ∷ model_name ∷ []) line
 line_spelled = (
   own model_name ∷ [],
-  record { spelled = refl; files = refl; names = ((λ e. cc), tt); width = inr (refl, refl); route = inr (refl, refl) },
+  record {
+    spelled = refl;
+    own = refl;
+    count = refl;
+    names = ((λ e. cc), tt);
+    width = inr (refl, refl);
+    route = inr (refl, refl);
+  },
 )
 
 pub fits_by : (q : Fraction) → leb (nat_abs q.num) greatest ≡ true → leb q.den greatest ≡ true → Fits greatest q
@@ -66,7 +74,7 @@ forms_on m comes reads narrow = record {
     spelled = line_spelled;
     came = ((model_text m, (comes, tt)), tt);
     bytes = model_text m;
-    found = (comes, tt);
+    file = record { name = model_name; named = refl; found = (comes, tt) };
     reads = reads;
   };
   none_wide = narrow;
@@ -175,7 +183,7 @@ one_demand_forms = forms_on one_demand one_demand_comes one_demand_reads one_dem
 -- no row is wide, so this call has to answer `optimal`
 pub one_demand_is_solved : (result : Ended) → MustEnd (solve_call one_demand) result → EndsAs Optimal result
 one_demand_is_solved result must =
-    must.status line one_demand optimal (int 12) (int 8 ∷ []) one_demand_forms tt one_demand_costs_12 one_demand_admitted one_demand_not_wide
+    must.status line one_demand optimal (int 12) (int 8 ∷ []) one_demand_forms refl one_demand_costs_12 one_demand_admitted one_demand_not_wide
 
 -- ---- minimise x, where d lies in [12, 8], so no scenario is admitted
 empty_interval_model : IsModel empty_interval
@@ -240,4 +248,4 @@ empty_interval_forms = forms_on empty_interval empty_interval_comes empty_interv
 
 -- this call has to answer that the set is empty, or name a row of the set's program
 pub empty_interval_is_shown : (result : Ended) → MustEnd (solve_call empty_interval) result → IsEmptyAnswer greatest empty_interval result
-empty_interval_is_shown result must = must.empty line empty_interval empty_interval_forms tt empty_interval_admits_none
+empty_interval_is_shown result must = must.empty line empty_interval empty_interval_forms refl empty_interval_admits_none

@@ -26,21 +26,30 @@ use Rattle.rob_outside.specs.Files.{file_of, found_at, whole}
 use Rattle.rob_parse.specs.Canonical.{model_text}
 use Rattle.rob_top.proofs.WorkedCalls.{fits_by, one_demand_model, one_demand_narrow, one_demand_reads}
 use Rattle.rob_top.specs.Completeness.{EndsAs, MustEnd}
-use Rattle.rob_top.specs.Headline.{HasCertificate}
+use Rattle.rob_top.specs.Inputs.{HasCertificate}
 use Rattle.rob_top.specs.WorkedCalls.{certificate_name, check_call, greatest, model_name, order_11, order_12}
 use Rattle.rob_top.specs.declared.ended.Ended.{Ended}
 use Rattle.rob_top.specs.declared.ended.Ended.TheVariants.{Accepted, Rejected}
-use Rattle.rob_words.specs.Commands.{Line, check, own, IsSpelled}
+use Rattle.rob_words.specs.Commands.{Line, own, IsSpelled}
+use Rattle.rob_words.specs.declared.route.Route.TheVariants.{Dual}
+use Rattle.rob_words.specs.declared.verb.Verb.TheVariants.{Check}
 use Rattle.rob_words.specs.declared.width.Width.TheVariants.{SixtyTwo}
 
 -- ---- check one.rob one.cert, where the shelf tells both files
 abbrev line : Line
-line = record { action = check model_name certificate_name; width = SixtyTwo }
+line = record { verb = Check; own = model_name ∷ certificate_name ∷ []; way = Dual; width = SixtyTwo }
 
 line_spelled : IsSpelled (codes "check" ∷ model_name ∷ certificate_name ∷ []) line
 line_spelled = (
   own model_name ∷ own certificate_name ∷ [],
-  record { spelled = refl; files = refl; names = ((λ e. cc), ((λ e. cc), tt)); width = inr (refl, refl); route = refl },
+  record {
+    spelled = refl;
+    own = refl;
+    count = refl;
+    names = ((λ e. cc), ((λ e. cc), tt));
+    width = inr (refl, refl);
+    route = (refl, refl);
+  },
 )
 
 -- both files come whole
@@ -59,15 +68,13 @@ certificate_on c come shape fits = record {
         spelled = line_spelled;
         came = ((model_text one_demand, (come.model, tt)), ((cert_text one_demand c, (come.certificate, tt)), tt));
         bytes = model_text one_demand;
-        found = (come.model, tt);
+        file = record { name = model_name; named = refl; found = (come.model, tt) };
         reads = one_demand_reads;
       };
       none_wide = one_demand_narrow;
     };
-    model_name = model_name;
-    certificate_name = certificate_name;
     is_check = refl;
-    found = (come.certificate, tt);
+    file = record { name = certificate_name; named = refl; found = (come.certificate, tt) };
   };
   text = record { shape = shape; spelled = refl };
   fits = fits;

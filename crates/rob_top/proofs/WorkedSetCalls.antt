@@ -34,7 +34,7 @@ use Rattle.rob_sets.specs.Subexpressions.{HasWideCoefficient, subexpressions}
 use Rattle.rob_top.proofs.NarrowForms.{all_narrow, difference_narrow, test_fraction}
 use Rattle.rob_top.proofs.WorkedCalls.{Comes, differ, fits_by, forms_on, free, letter, line, within_by}
 use Rattle.rob_top.specs.Completeness.{EndsAs, IsEmptyAnswer, IsSolveAnswer, MustEnd}
-use Rattle.rob_top.specs.Headline.{HasForms}
+use Rattle.rob_top.specs.Inputs.{HasForms}
 use Rattle.rob_top.specs.WorkedCalls.{greatest, hard_and_soft, never_calm, solve_call}
 use Rattle.rob_top.specs.declared.ended.Ended.{Ended}
 use Rattle.rob_top.specs.declared.ended.Ended.TheVariants.{Optimal, Infeasible, Unbounded, Printed, Accepted, Rejected, Words, Missing, TooLong, Model, EmptySet, TooWide, Cert, ReadFault, WriteFault, Memory}
@@ -291,7 +291,7 @@ its_answer Memory h = inl (inr h)
 
 -- this call has to answer `optimal`, or name a wide row
 pub hard_and_soft_is_solved : (result : Ended) → MustEnd (solve_call hard_and_soft) result → IsSolvedOrWide result
-hard_and_soft_is_solved result must = its_answer result (must.solving line hard_and_soft its_forms tt)
+hard_and_soft_is_solved result must = its_answer result (must.solving line hard_and_soft its_forms refl)
 
 -- ---- the same with d >= 13 over calm, so that calm admits no scenario
 -- calm.d <= 12 and -calm.d <= -13 sum to 0 <= -1
@@ -394,4 +394,4 @@ never_calm_forms = forms_on never_calm never_calm_comes never_calm_reads never_c
 -- this call has to answer that a set is empty, or name a row of the sets' program
 pub never_calm_is_shown : (result : Ended) → MustEnd (solve_call never_calm) result
     → IsEmptyAnswer greatest never_calm result
-never_calm_is_shown result must = must.empty line never_calm never_calm_forms tt never_calm_admits_none
+never_calm_is_shown result must = must.empty line never_calm never_calm_forms refl never_calm_admits_none

@@ -1,13 +1,19 @@
 -- What a call of the program was given, what it did to the output, and what is found of the files that its words name.
-use Rattle.std.specs.Prelude.{◌≡◌, ◌⊎◌, ℕ, ◌-◌, ◌^◌, ◌==◌, ◌&&◌, List, [], ◌∷◌, ◌++◌, length, drop, Option, Some, None, IfSome, if◌then◌else◌}
+use Rattle.std.specs.Prelude.{◌≡◌, ◌⊎◌, ℕ, ◌-◌, ◌^◌, ◌==◌, ◌&&◌, Bool, true, List, [], ◌∷◌, ◌++◌, length, drop, not, Option, Some, None, IfSome, if◌then◌else◌}
 use Rattle.std.specs.Str.{bytes_eq}
+use denote.Enum.Bare.{sameb}
 use Rattle.rob_meaning.specs.Places.{Each}
 use Rattle.rob_number.specs.Counts.{Rose}
 use Rattle.rob_outside.specs.Fetches.{Fetch}
 use Rattle.rob_outside.specs.Files.{File, Found, whole, found_at}
 use Rattle.rob_outside.specs.Puts.{Put}
-use Rattle.rob_words.specs.Commands.{Action, Line, rows, solve, prove, check, IsSpelled}
+use Rattle.rob_words.specs.Commands.{Line, IsSpelled}
 use Rattle.rob_words.specs.Values.{Word, bits_of}
+use Rattle.rob_words.specs.Verbs.{own_of, takes_route}
+use Rattle.rob_words.specs.contracts.verb.Own.{the_type}
+use Rattle.rob_words.specs.declared.verb.Own.{Own}
+use Rattle.rob_words.specs.declared.verb.Own.TheVariants.{Model, Certificate}
+use Rattle.rob_words.specs.declared.verb.Verb.{Verb}
 
 -- a count before and after the call
 pub record Count : Type 0 where
@@ -98,27 +104,37 @@ IsFoundIn source request found =
     IfSome source.told (λ files. found_at request.name request.most files ≡ found)
     × IfSome source.came (λ fetches. answer_to request fetches ≡ Some found)
 
--- the model's file, of at most 65,536 bytes
-abbrev pub model_file : Word → Request
-model_file name = record { name = name; most = 65536 }
+-- how many bytes a file of this kind may have
+abbrev pub most_of : Own → ℕ
+most_of Model = 65536
+most_of Certificate = 4194304
 
--- the certificate's file, of at most 4,194,304 bytes
-abbrev pub certificate_file : Word → Request
-certificate_file name = record { name = name; most = 4194304 }
+-- the file that an own word of this kind names
+abbrev pub file_of : Own → Word → Request
+file_of kind name = record { name = name; most = most_of kind }
 
--- the file of the model that a command names first
-abbrev pub model_of : Action → Request
-model_of (rows model) = model_file model
-model_of (solve model way) = model_file model
-model_of (prove model way) = model_file model
-model_of (check model certificate) = model_file model
+-- the files that own words of these kinds name, in their order
+abbrev pub files_of : List Own → List Word → List Request
+files_of (kind ∷ kinds) (name ∷ names) = file_of kind name ∷ files_of kinds names
+files_of _ _ = []
 
--- the files that a command names, in the order of its words
-abbrev pub requests : Action → List Request
-requests (rows model) = model_file model ∷ []
-requests (solve model way) = model_file model ∷ []
-requests (prove model way) = model_file model ∷ []
-requests (check model certificate) = model_file model ∷ certificate_file certificate ∷ []
+-- the files that a command line names, in the order of its words
+abbrev pub requests : Line → List Request
+requests line = files_of (own_of line.verb) line.own
+
+-- the first word of this kind, among own words of these kinds
+abbrev pub word_of : Own → List Own → List Word → Option Word
+word_of kind (other ∷ kinds) (name ∷ names) = if sameb the_type other kind then Some name else word_of kind kinds names
+word_of kind _ _ = None
+
+-- files of these kinds differ in how many bytes they may have
+abbrev pub is_apart : Own → List Own → Bool
+is_apart kind [] = true
+is_apart kind (other ∷ kinds) = not (most_of kind == most_of other) && is_apart kind kinds
+
+abbrev pub are_apart : List Own → Bool
+are_apart [] = true
+are_apart (kind ∷ kinds) = is_apart kind kinds && are_apart kinds
 
 -- the fetch asks for this file
 abbrev pub IsFetchOf : Request → Fetch → Type 0
@@ -139,14 +155,11 @@ AsksInOrder (request ∷ requests) (fetch ∷ fetches) =
 -- files are asked for in the order of the words, each at most once, and none behind one that didn't come whole
 pub record Fetches (words : List Word) (before now : List Fetch) : Type 0 where
   pub grown : now ≡ before ++ behind before now
-  pub in_order : (behind before now ≡ []) ⊎ ((line : Line) × IsSpelled words line × AsksInOrder (requests line.action) (behind before now))
+  pub in_order : (behind before now ≡ []) ⊎ ((line : Line) × IsSpelled words line × AsksInOrder (requests line) (behind before now))
 
--- the command solves a model
-abbrev pub IsSolving : Action → Type 0
-IsSolving (rows model) = ⊥
-IsSolving (solve model way) = Unit {0}
-IsSolving (prove model way) = Unit {0}
-IsSolving (check model certificate) = ⊥
+-- the command solves a model, by a route
+abbrev pub IsSolving : Verb → Type 0
+IsSolving verb = takes_route verb ≡ true
 
 -- the greatest number of a command line's width: 2^62 - 1 where it names no width
 abbrev pub limit_of : Line → ℕ
@@ -161,6 +174,12 @@ module _ (call : Call) where
   abbrev pub Came : Request → Type 0
   Came request = (bytes : List ℕ) × IsFound request (whole bytes)
 
+  -- the file of this kind that the line names came, with these bytes
+  pub record HasFile (line : Line) (kind : Own) (bytes : List ℕ) : Type 0 where
+    pub name : Word
+    pub named : word_of kind (own_of line.verb) line.own ≡ Some name
+    pub found : IsFound (file_of kind name) (whole bytes)
+
   -- of the files that the command line names this is the first, in the order of the words, that doesn't come whole, and this
   -- is what is found of it
   pub record IsFirstAbsent (found : Found) (name : Word) : Type 0 where
@@ -169,7 +188,7 @@ module _ (call : Call) where
     pub before : List Request
     pub request : Request
     pub behind : List Request
-    pub order : requests line.action ≡ before ++ request ∷ behind
+    pub order : requests line ≡ before ++ request ∷ behind
     pub came : Each Came before
     pub absent : IsFound request found
     pub named : request.name ≡ name

@@ -20,17 +20,19 @@ use Rattle.rob_model.specs.declared.place.Place.{Place}
 use Rattle.rob_model.specs.declared.place.Program.TheVariants as program
 use Rattle.rob_model.specs.declared.place.Spot.{Spot}
 use Rattle.rob_model.specs.declared.place.Spot.TheVariants.{Check, Dictionary}
-use Rattle.rob_outside.specs.Files.{whole, missing, too_long}
+use Rattle.rob_outside.specs.Files.{missing, too_long}
 use Rattle.rob_parse.specs.Reading.{Breaks}
 use Rattle.rob_sets.specs.FirstWide.{IsFirstWide}
 use Rattle.rob_sets.specs.SetForm.{judged_set}
-use Rattle.rob_top.specs.Calls.{Call, Came, IsFirstAbsent, IsFound, IsSolving, Known, known_call, limit_of, model_of, requests}
-use Rattle.rob_top.specs.Headline.{HasCertificate, HasCertificateFile, HasForms, HasModel}
+use Rattle.rob_top.specs.Calls.{Call, Came, HasFile, IsFirstAbsent, IsSolving, Known, known_call, limit_of, requests}
+use Rattle.rob_top.specs.Inputs.{HasCertificate, HasCertificateFile, HasForms, HasModel}
 use Rattle.rob_top.specs.Work.{ended_of, verdict_ended}
 use Rattle.rob_top.specs.declared.ended.Ended.{Ended}
 use Rattle.rob_top.specs.declared.ended.Ended.TheVariants.{Optimal, Infeasible, Unbounded, Printed, Accepted, Rejected, Words, Missing, TooLong, Model, EmptySet, TooWide, Cert, ReadFault, WriteFault, Memory}
-use Rattle.rob_words.specs.Commands.{Line, rows, IsCommandLine, IsSpelled}
+use Rattle.rob_words.specs.Commands.{Line, IsCommandLine, IsSpelled}
 use Rattle.rob_words.specs.Values.{Word}
+use Rattle.rob_words.specs.declared.verb.Own.TheVariants as own
+use Rattle.rob_words.specs.declared.verb.Verb.TheVariants.{Rows}
 
 -- ---- how a call may end
 
@@ -81,24 +83,23 @@ module _ (call : Call) (result : Ended) where
     pub too_long : (name : Word) → IsFirstAbsent call too_long name → EndsAs TooLong result
     -- the model's text: all files come, and it breaks a rule, so that rule and its line are named
     pub model : (line : Line) (bytes : List ℕ) (rule number : ℕ) → IsSpelled call.words line
-        → Each (Came call) (requests line.action) → IsFound call (model_of line.action) (whole bytes)
+        → Each (Came call) (requests line) → HasFile call line own.Model bytes
         → Breaks (limit_of line) bytes rule number → EndsAs (Model rule number) result
     -- set rows and forms: a number of them is wide, so the first such number is named, whatever the command
     pub wide : (line : Line) (m : RobustModel) (spot : Spot) → HasModel call line m
         → IsFirstWide (limit_of line) m (judged_set m ++ judged_forms m) spot → EndsAs (TooWide spot) result
     -- no number of them is wide, and the command is `rows`, so they are printed
-    pub rows : (line : Line) (m : RobustModel) (name : Word) → HasForms call line m → line.action ≡ rows name
-        → EndsAs Printed result
+    pub rows : (line : Line) (m : RobustModel) → HasForms call line m → line.verb ≡ Rows → EndsAs Printed result
     -- `solve` and `prove`: the answer is a status that the model has, or an empty set, or a wide number on the path
-    pub solving : (line : Line) (m : RobustModel) → HasForms call line m → IsSolving line.action
+    pub solving : (line : Line) (m : RobustModel) → HasForms call line m → IsSolving line.verb
         → IsSolveAnswer (limit_of line) m result
     -- no joint scenario is admitted, as where any set is empty, so it is that, with the weights that show it, or a row of the set's
     -- program is wide
-    pub empty : (line : Line) (m : RobustModel) → HasForms call line m → IsSolving line.action → IsEmptySet m
+    pub empty : (line : Line) (m : RobustModel) → HasForms call line m → IsSolving line.verb → IsEmptySet m
         → IsEmptyAnswer (limit_of line) m result
     -- some joint scenario is admitted, and no number on the path is wide, so it is the model's status
     pub status : (line : Line) (m : RobustModel) (status : Status) (v : Fraction) (u : List Fraction) → HasForms call line m
-        → IsSolving line.action → HasStatus m status v → Admits m u
+        → IsSolving line.verb → HasStatus m status v → Admits m u
         → ((spot : Spot) → IsWideOnPath (limit_of line) m spot → ⊥) → EndsAs (ended_of status) result
     -- `check`: the certificate's text breaks a rule, so that rule and its line are named
     pub broken : (line : Line) (m : RobustModel) (bytes : List ℕ) (rule number : ℕ) → HasCertificateFile call line m bytes

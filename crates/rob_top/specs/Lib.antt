@@ -2,6 +2,10 @@ pub mod Calls
 pub mod Lines
 pub mod Completeness
 pub mod Answers
+pub mod Inputs
+pub mod Solved
+pub mod Checked
+pub mod Refused
 pub mod Headline
 pub mod Codes
 pub mod Replies

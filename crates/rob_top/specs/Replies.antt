@@ -1,23 +1,25 @@
 -- Answers with their texts, before they are put, and what the files' fetch gives the call that asked for them.
-use Rattle.std.specs.Prelude.{◌≡◌, ◌≤◌, ℕ, List, [], ◌∷◌, ◌++◌, length, Option}
+use Rattle.std.specs.Prelude.{◌≡◌, ◌≤◌, ℕ, List, [], ◌∷◌, ◌++◌, length, Option, Some, Vec}
+use Rattle.std.specs.declared.alloc.Global.{Global}
 use Rattle.rob_outside.specs.Fetches.{Fetch, fetch_of}
+use Rattle.rob_meaning.specs.Places.{Each}
 use Rattle.rob_outside.specs.Files.{Found, whole, missing, too_long}
 use Rattle.rob_words.specs.Answers.{line_of}
-use Rattle.rob_words.specs.Commands.{Action, Line, rows, solve, prove, check, IsSpelled}
+use Rattle.rob_words.specs.Commands.{Line, IsSpelled}
 use Rattle.rob_words.specs.Values.{Word}
+use Rattle.rob_words.specs.Verbs.{own_of}
+use Rattle.rob_words.specs.declared.verb.Own.{Own}
+use Rattle.rob_words.specs.declared.verb.Own.TheVariants as own
 use Rattle.rob_words.specs.declared.line.CommandLine.{CommandLine}
 use Rattle.rob_top.specs.Answers.{missing_text, too_long_text, read_text}
-use Rattle.rob_top.specs.Calls.{Call, Count, Request, Source, WasRaised, AsksInOrder, IsFound, IsFoundIn, model_file, model_of, certificate_file, requests}
-use Rattle.rob_top.specs.Headline.{Means}
+use Rattle.rob_top.specs.Calls.{Call, Came, Count, Request, Source, WasRaised, AsksInOrder, IsFound, IsFoundIn, file_of, files_of, requests, word_of}
 use Rattle.rob_top.specs.declared.ended.Ended.{Ended}
 use Rattle.rob_top.specs.declared.ended.Ended.TheVariants.{Missing, TooLong, ReadFault}
 use Rattle.rob_top.specs.declared.files.Files.{Files}
 use Rattle.rob_top.specs.declared.files.Files.TheVariants as fetch
 use Rattle.rob_top.specs.declared.files.Got.{Got}
 use Rattle.rob_top.specs.declared.files.Got.TheVariants.{Bytes, Answer}
-use Rattle.rob_top.specs.declared.files.Job.{Job}
-use Rattle.rob_top.specs.declared.files.Task.{Task}
-use Rattle.rob_top.specs.declared.files.Task.TheVariants.{Rows, Solve, Prove, Check}
+use Rattle.rob_top.specs.declared.files.Texts.{Texts}
 use Rattle.rob_top.specs.declared.reply.Reply.{Reply}
 
 -- the reply is this answer with this text
@@ -60,30 +62,54 @@ abbrev pub IsGotWithin : ℕ → Got → Type 0
 IsGotWithin most (Bytes bytes) = length bytes.items ≤ most
 IsGotWithin most (Answer reply) = Unit {0}
 
--- the task is the command's, with the bytes of its certificate
-abbrev pub IsTask : Call → Action → Task → Type 0
-IsTask call (rows model) Rows = Unit {0}
-IsTask call (solve model way) Solve = Unit {0}
-IsTask call (prove model way) Prove = Unit {0}
-IsTask call (check model certificate) (Check bytes) = IsFound call (certificate_file certificate) (whole bytes.items)
-IsTask call action task = ⊥
+-- the text of the file of this kind
+abbrev pub text_of : Own → Texts → List ℕ
+text_of own.Model texts = texts.model.items
+text_of own.Certificate texts = texts.certificate.items
 
--- the words are the command line, and the files that it names came with the job's bytes
-pub record HasTexts (call : Call) (line : Line) (job : Job) : Type 0 where
+-- the texts with these bytes for the file of this kind
+abbrev pub with_text : Own → Vec ℕ Global → Texts → Texts
+with_text own.Model bytes texts = record texts { model = bytes }
+with_text own.Certificate bytes texts = record texts { certificate = bytes }
+
+-- what came of files, with these bytes of one more
+abbrev pub with_file : Own → Vec ℕ Global → Files → Files
+with_file kind bytes (fetch.Texts texts) = fetch.Texts (with_text kind bytes texts)
+with_file kind bytes (fetch.Answer reply) = fetch.Answer reply
+
+-- no file was asked for
+abbrev pub IsNothing : Files → Type 0
+IsNothing (fetch.Texts texts) = (texts.model.items ≡ []) × (texts.certificate.items ≡ [])
+IsNothing (fetch.Answer reply) = ⊥
+
+-- the words are the command line, and the files that it names came with these texts
+pub record HasTexts (call : Call) (line : Line) (texts : Texts) : Type 0 where
   pub spelled : IsSpelled call.words line
-  pub model : IsFound call (model_of line.action) (whole job.model.items)
-  pub task : IsTask call line.action job.task
+  pub came : Each (Came call) (requests line)
+  pub found : (kind : Own) (name : Word) → word_of kind (own_of line.verb) line.own ≡ Some name
+      → IsFound call (file_of kind name) (whole (text_of kind texts))
 
--- what came of the files of a command: a job with their bytes, or the answer
-abbrev pub IsFetched : Action → Source → Count → Files → Type 0
-IsFetched action source faults (fetch.Job job) =
-    (call : Call) (line : Line) → IsSpelled call.words line → line.action ≡ action → call.source ≡ source → HasTexts call line job
-IsFetched action source faults (fetch.Answer reply) =
-    (call : Call) (line : Line) → IsSpelled call.words line → line.action ≡ action → call.source ≡ source
-    → call.read_faults ≡ faults → Means call reply.ended reply.text
+-- the file came whole
+abbrev pub CameIn : Source → Request → Type 0
+CameIn source request = (bytes : List ℕ) × IsFoundIn source request (whole bytes)
 
--- the same for each command that names this model's file alone, and has the task
-abbrev pub FetchesModel : Word → Task → Source → Count → Files → Type 0
-FetchesModel name task source faults fetched =
-    (action : Action) → requests action ≡ model_file name ∷ [] → ((call : Call) → IsTask call action task)
-    → IsFetched action source faults fetched
+-- the files of own words of these kinds came, with these texts
+pub record AreFound (source : Source) (kinds : List Own) (names : List Word) (texts : Texts) : Type 0 where
+  pub came : Each (CameIn source) (files_of kinds names)
+  pub found : (kind : Own) (name : Word) → word_of kind kinds names ≡ Some name
+      → IsFoundIn source (file_of kind name) (whole (text_of kind texts))
+
+-- of these files one is the first that didn't come whole, with the reply to that
+pub record IsAbsentAmong (source : Source) (files : List Request) (faults : Count) (ended : Ended) (text : List ℕ) : Type 0 where
+  pub before : List Request
+  pub request : Request
+  pub behind : List Request
+  pub order : files ≡ before ++ request ∷ behind
+  pub came : Each (CameIn source) before
+  pub absent : IsAbsence source request faults ended text
+
+-- what came of the files of own words of these kinds: their texts, or the answer
+abbrev pub IsFetched : List Own → List Word → Source → Count → Files → Type 0
+IsFetched kinds names source faults (fetch.Texts texts) = AreFound source kinds names texts
+IsFetched kinds names source faults (fetch.Answer reply) =
+    IsAbsentAmong source (files_of kinds names) faults reply.ended reply.text

@@ -9,77 +9,81 @@ use Rattle.rob_check.specs.declared.verdict.Verdict.TheVariants as verdict
 use Rattle.rob_meaning.specs.RobustModel.{RobustModel}
 use Rattle.rob_meaning.specs.SetRows.{set_rows}
 use Rattle.rob_model.specs.declared.place.Spot.TheVariants as spots
+use Rattle.rob_parse.specs.declared.error.ModelErr.{ModelErr}
+use Rattle.rob_parse.specs.declared.error.ModelErr.TheVariants as unread
 use Rattle.rob_report.specs.Places.{IsSpotOf}
 use Rattle.rob_report.specs.Spots.{too_wide_line, empty_set_lines}
 use Rattle.rob_sets.specs.declared.error.ElabErr.{ElabErr}
 use Rattle.rob_sets.specs.declared.error.ElabErr.TheVariants as refused
+use Rattle.rob_top.specs.Answers.{model_text}
 use Rattle.rob_top.specs.Calls.{Call, Count, WasRaised, limit_of}
-use Rattle.rob_top.specs.Headline.{Means, HasModel, HasForms, HasCertificateFile, HasCertificate}
-use Rattle.rob_top.specs.Replies.{HasTexts, IsTask, Replies}
+use Rattle.rob_top.specs.Headline.{Means}
+use Rattle.rob_top.specs.Inputs.{HasModel, HasForms, HasCertificateFile, HasCertificate}
+use Rattle.rob_top.specs.Replies.{HasTexts, Replies}
 use Rattle.rob_top.specs.declared.ended.Ended.{Ended}
-use Rattle.rob_top.specs.declared.ended.Ended.TheVariants.{Optimal, Infeasible, Unbounded, Accepted, Rejected, EmptySet, TooWide}
+use Rattle.rob_top.specs.declared.ended.Ended.TheVariants.{Optimal, Infeasible, Unbounded, Accepted, Rejected, Model, EmptySet, TooWide}
 use Rattle.rob_top.specs.declared.files.Files.{Files}
 use Rattle.rob_top.specs.declared.files.Files.TheVariants as fetch
-use Rattle.rob_top.specs.declared.files.Job.{Job}
-use Rattle.rob_top.specs.declared.files.Task.{Task}
-use Rattle.rob_top.specs.declared.files.Task.TheVariants.{Rows, Solve, Prove, Check}
+use Rattle.rob_top.specs.declared.files.Texts.{Texts}
 use Rattle.rob_top.specs.declared.reply.Reply.{Reply}
 use Rattle.rob_words.specs.Commands.{Line}
+use Rattle.rob_words.specs.declared.verb.Verb.{Verb}
+use Rattle.rob_words.specs.declared.verb.Verb.TheVariants.{Check}
 
 -- ---- texts that are short enough to read
 
-abbrev pub IsShortTask : Task → Type 0
-IsShortTask Rows = Unit {0}
-IsShortTask Solve = Unit {0}
-IsShortTask Prove = Unit {0}
-IsShortTask (Check bytes) = length bytes.items ≤ 2 ^ 30
+-- each text has at most 2^30 bytes
+pub record IsShort (texts : Texts) : Type 0 where
+  pub model : length texts.model.items ≤ 2 ^ 30
+  pub certificate : length texts.certificate.items ≤ 2 ^ 30
 
--- each text of the job has at most 2^30 bytes
-pub record IsShort (job : Job) : Type 0 where
-  pub model : length job.model.items ≤ 2 ^ 30
-  pub task : IsShortTask job.task
-
--- each job
+-- those that came
 abbrev pub IsShortFetch : Files → Type 0
-IsShortFetch (fetch.Job job) = IsShort job
+IsShortFetch (fetch.Texts texts) = IsShort texts
 IsShortFetch (fetch.Answer reply) = Unit {0}
 
 -- ---- answers
 
--- the line's width has this limit, and where a wide number is counted here, it is counted in the call
-pub record IsCallAt (limit : ℕ) (wides : Count) (call : Call) (line : Line) : Type 0 where
+-- the line says this command, its width has this limit, and where a wide number is counted here, it is counted in the call
+pub record IsCallAt (limit : ℕ) (wides : Count) (verb : Verb) (call : Call) (line : Line) : Type 0 where
+  pub verb_is : line.verb ≡ verb
   pub limit_is : limit_of line ≡ limit
   pub raised : WasRaised wides → WasRaised call.wides
 
 module _ (limit : ℕ) (wides : Count) where
-  -- the reply is the answer of each call at the limit whose files came with the job's bytes
-  abbrev pub AnswersJob : Job → Reply → Type 0
-  AnswersJob job reply =
-      (call : Call) (line : Line) → IsCallAt limit wides call line → HasTexts call line job → Means call reply.ended reply.text
+  -- the reply is the answer of each call of the command, at the limit, whose files came with these texts
+  abbrev pub AnswersTexts : Verb → Texts → Reply → Type 0
+  AnswersTexts verb texts reply =
+      (call : Call) (line : Line) → IsCallAt limit wides verb call line → HasTexts call line texts → Means call reply.ended reply.text
 
   module _ (m : RobustModel) where
-    -- that of each one for the task, whose text is read as the model
-    abbrev pub AnswersModel : Task → Reply → Type 0
-    AnswersModel task reply =
-        (call : Call) (line : Line) → IsCallAt limit wides call line → IsTask call line.action task → HasModel call line m
+    -- that of each one whose model's text is read as the model
+    abbrev pub AnswersModel : Verb → Texts → Reply → Type 0
+    AnswersModel verb texts reply =
+        (call : Call) (line : Line) → IsCallAt limit wides verb call line → HasTexts call line texts → HasModel call line m
         → Means call reply.ended reply.text
 
     -- and no number of whose set rows and forms is wide
-    abbrev pub AnswersForms : Task → Reply → Type 0
-    AnswersForms task reply =
-        (call : Call) (line : Line) → IsCallAt limit wides call line → IsTask call line.action task → HasForms call line m
+    abbrev pub AnswersWhole : Verb → Texts → Reply → Type 0
+    AnswersWhole verb texts reply =
+        (call : Call) (line : Line) → IsCallAt limit wides verb call line → HasTexts call line texts → HasForms call line m
         → Means call reply.ended reply.text
+
+    -- the same where no other text counts
+    abbrev pub AnswersForms : Verb → Reply → Type 0
+    AnswersForms verb reply =
+        (call : Call) (line : Line) → IsCallAt limit wides verb call line → HasForms call line m → Means call reply.ended reply.text
 
     -- that of each one for `check`, whose certificate's file came with these bytes
     abbrev pub AnswersFile : List ℕ → Reply → Type 0
     AnswersFile bytes reply =
-        (call : Call) (line : Line) → IsCallAt limit wides call line → HasCertificateFile call line m bytes
+        (call : Call) (line : Line) → IsCallAt limit wides Check call line → HasCertificateFile call line m bytes
         → Means call reply.ended reply.text
 
     -- and which is the text of the certificate
     abbrev pub AnswersCertificate : Certificate → Reply → Type 0
     AnswersCertificate c reply =
-        (call : Call) (line : Line) → IsCallAt limit wides call line → HasCertificate call line m c
+        (call : Call) (line : Line) → IsCallAt limit wides Check call line → HasCertificate call line m c
         → Means call reply.ended reply.text
 
 -- the answer for a status
@@ -95,6 +99,11 @@ verdict_ended (verdict.Rejected place) = Rejected place
 verdict_ended (verdict.TooWide place) = TooWide (spots.Check place)
 
 -- ---- refusals
+
+-- the reply where the model's text breaks a rule; memory has none
+abbrev pub RepliesUnread : ModelErr → Reply → Type 0
+RepliesUnread (unread.Rule rule number) reply = Replies (Model rule number) (model_text rule number) reply
+RepliesUnread unread.Memory reply = ⊥
 
 module _ (m : RobustModel) where
   -- the reply where set rows or forms were refused: the spot of the wide number; memory has none

@@ -1,47 +1,32 @@
 // The files that a command names.
 
-ghost use Rattle.std.specs.Prelude.{◌≡◌, ◌≤◌, ◌∷◌, [], Err, IfOk};
+ghost use Rattle.std.specs.Prelude.{◌≡◌, ◌≤◌, Err, IfOk, map, string_bytes, true};
 ghost use Rattle.rob_number.specs.Counts.{Rose};
 ghost use Rattle.rob_outside.specs.Files.{IsAtMost, found_of};
-ghost use Rattle.rob_top.specs.Calls.{IsFoundIn, count, model_file, requests, source_of};
-ghost use Rattle.rob_top.specs.Replies.{Asks, AsksOnce, FetchesModel, IsFetched, IsGot, IsGotWithin};
-ghost use Rattle.rob_top.specs.Work.{IsShortFetch, IsShortTask};
-ghost use Rattle.rob_words.specs.Answers.{action_of};
-ghost use Rattle.rob_words.specs.Commands.{check};
+ghost use Rattle.rob_top.specs.Calls.{IsFoundIn, are_apart, count, files_of, most_of, requests, source_of};
+ghost use Rattle.rob_top.specs.Replies.{Asks, AsksOnce, IsFetched, IsGot, IsGotWithin, IsNothing, with_file};
+ghost use Rattle.rob_top.specs.Work.{IsShortFetch};
+ghost use Rattle.rob_words.specs.Answers.{line_of};
+ghost use Rattle.rob_words.specs.Verbs.{own_of};
 
 use crate::ended::Ended;
 use crate::reply::{Reply, fault};
 use rob_number::Memory;
 use rob_outside::{Fetched, Shelf, ShelfErr};
-use rob_words::Command;
+use rob_words::{CommandLine, Own};
 use std::alloc::Global;
 
-/// How many bytes a model's file may have.
-const MODEL_BYTES: usize = 65_536;
-
-/// How many bytes a certificate's file may have.
-const CERTIFICATE_BYTES: usize = 4_194_304;
-
-/// What is to be done with a model, with the text of a certificate where one is checked.
+/// The texts of a command's files, by their kinds. One that the command doesn't name is empty.
 #[derive(Debug, Drop)]
-pub enum Task {
-    Rows,
-    Solve,
-    Prove,
-    Check(Vec<u8>),
-}
-
-/// The text of a model, and what is to be done with it.
-#[derive(Debug, Drop)]
-pub struct Job {
+pub struct Texts {
     pub model: Vec<u8>,
-    pub task: Task,
+    pub certificate: Vec<u8>,
 }
 
-/// What came of a command's files: all of them, or the answer that ends the call.
+/// What came of a command's files: the texts of all of them, or the answer that ends the call.
 #[derive(Debug, Drop)]
 pub enum Files {
-    Job(Job),
+    Texts(Texts),
     Answer(Reply),
 }
 
@@ -52,70 +37,84 @@ pub enum Got {
     Answer(Reply),
 }
 
-/// Fetches the files of a command, in the order of its words.
-pub fn fetch<S: Shelf>(alloc: Global, command: &Command, shelf: &mut S) -> Result<Files, Memory>
-    ensures fetched { IfOk result (IsFetched (action_of command.now) (source_of (S.files shelf.old)
-        (S.log shelf.old) (S.log shelf.new)) (count (S.faults shelf.old) (S.faults shelf.new))) }
+/// Fetches the files of a command line, in the order of its words.
+pub fn fetch<S: Shelf>(alloc: Global, line: &CommandLine, shelf: &mut S) -> Result<Files, Memory>
+    ensures fetched { IfOk result (IsFetched (own_of line.now.verb) (map string_bytes line.now.own.items)
+        (source_of (S.files shelf.old) (S.log shelf.old) (S.log shelf.new)) (count (S.faults shelf.old) (S.faults shelf.new))) }
     ensures short { IfOk result IsShortFetch }
     ensures unchanged { S.files shelf.new ≡ S.files shelf.old }
-    ensures asked { Asks (requests (action_of command.now)) (S.log shelf.old) (S.log shelf.new) }
+    ensures asked { Asks (requests (line_of line.now)) (S.log shelf.old) (S.log shelf.new) }
     ensures counted { S.faults shelf.old ≤ S.faults shelf.new }
 {
-    match command {
-        Command::Rows { model } => fetch_model(alloc, model.as_str(), Task::Rows, shelf),
-        Command::Solve { model, .. } => fetch_model(alloc, model.as_str(), Task::Solve, shelf),
-        Command::Prove { model, .. } => fetch_model(alloc, model.as_str(), Task::Prove, shelf),
-        Command::Check { model, certificate } => {
-            fetch_both(alloc, model.as_str(), certificate.as_str(), shelf)
-        }
+    fetch_all(alloc, line.verb.own(), line.own.as_slice(), shelf)
+}
+
+/// Fetches the files that own words of these kinds name, in their order.
+fn fetch_all<S: Shelf>(
+    alloc: Global,
+    kinds: &[Own],
+    names: &[String],
+    shelf: &mut S,
+) -> Result<Files, Memory>
+    requires apart { are_apart kinds.now ≡ true }
+    ensures fetched { IfOk result (IsFetched kinds.now (map string_bytes names.now)
+        (source_of (S.files shelf.old) (S.log shelf.old) (S.log shelf.new)) (count (S.faults shelf.old) (S.faults shelf.new))) }
+    ensures short { IfOk result IsShortFetch }
+    ensures unchanged { S.files shelf.new ≡ S.files shelf.old }
+    ensures asked { Asks (files_of kinds.now (map string_bytes names.now)) (S.log shelf.old) (S.log shelf.new) }
+    ensures counted { S.faults shelf.old ≤ S.faults shelf.new }
+{
+    match kinds {
+        [kind, kinds @ ..] => match names {
+            [name, names @ ..] => match get(alloc, name.as_str(), most_bytes(*kind), shelf)? {
+                Got::Bytes(bytes) => {
+                    let rest = fetch_all(alloc, kinds, names, shelf)?;
+                    Ok(with_bytes(*kind, bytes, rest))
+                }
+                Got::Answer(reply) => Ok(Files::Answer(reply)),
+            },
+            [] => Ok(no_files(alloc)),
+        },
+        [] => Ok(no_files(alloc)),
     }
 }
 
-/// Fetches the file of a model, for a task that asks for no other.
-fn fetch_model<S: Shelf>(
-    alloc: Global,
-    model: &str,
-    task: Task,
-    shelf: &mut S,
-) -> Result<Files, Memory>
-    requires alone { IsShortTask task }
-    ensures fetched { IfOk result (FetchesModel model.now task (source_of (S.files shelf.old)
-        (S.log shelf.old) (S.log shelf.new)) (count (S.faults shelf.old) (S.faults shelf.new))) }
-    ensures short { IfOk result IsShortFetch }
-    ensures unchanged { S.files shelf.new ≡ S.files shelf.old }
-    ensures asked { Asks (model_file model.now ∷ []) (S.log shelf.old) (S.log shelf.new) }
-    ensures counted { S.faults shelf.old ≤ S.faults shelf.new }
+/// The texts of a command that names no file.
+fn no_files(alloc: Global) -> Files
+    ensures none { IsNothing result }
 {
-    match get(alloc, model, MODEL_BYTES, shelf)? {
-        Got::Bytes(model) => Ok(Files::Job(Job { model, task })),
-        Got::Answer(reply) => Ok(Files::Answer(reply)),
+    Files::Texts(Texts {
+        model: Vec::new(alloc),
+        certificate: Vec::new(alloc),
+    })
+}
+
+/// How many bytes a file of the kind may have.
+fn most_bytes(kind: Own) -> usize
+    ensures most { result ≡ most_of kind }
+{
+    match kind {
+        Own::Model => 65_536,
+        Own::Certificate => 4_194_304,
     }
 }
 
-/// Fetches the file of a model, and then that of a certificate.
-fn fetch_both<S: Shelf>(
-    alloc: Global,
-    model: &str,
-    certificate: &str,
-    shelf: &mut S,
-) -> Result<Files, Memory>
-    ensures fetched { IfOk result (IsFetched (check model.now certificate.now) (source_of (S.files shelf.old)
-        (S.log shelf.old) (S.log shelf.new)) (count (S.faults shelf.old) (S.faults shelf.new))) }
-    ensures short { IfOk result IsShortFetch }
-    ensures unchanged { S.files shelf.new ≡ S.files shelf.old }
-    ensures asked { Asks (requests (check model.now certificate.now)) (S.log shelf.old) (S.log shelf.new) }
-    ensures counted { S.faults shelf.old ≤ S.faults shelf.new }
+/// What came of files, with the bytes of one more, of the kind.
+fn with_bytes(kind: Own, bytes: Vec<u8>, files: Files) -> Files
+    ensures with { result ≡ with_file kind bytes files }
 {
-    let model = match get(alloc, model, MODEL_BYTES, shelf)? {
-        Got::Bytes(bytes) => bytes,
-        Got::Answer(reply) => return Ok(Files::Answer(reply)),
-    };
-    match get(alloc, certificate, CERTIFICATE_BYTES, shelf)? {
-        Got::Bytes(bytes) => Ok(Files::Job(Job {
-            model,
-            task: Task::Check(bytes),
-        })),
-        Got::Answer(reply) => Ok(Files::Answer(reply)),
+    match files {
+        Files::Texts(texts) => Files::Texts(match kind {
+            Own::Model => Texts {
+                model: bytes,
+                certificate: texts.certificate,
+            },
+            Own::Certificate => Texts {
+                model: texts.model,
+                certificate: bytes,
+            },
+        }),
+        Files::Answer(reply) => Files::Answer(reply),
     }
 }
 

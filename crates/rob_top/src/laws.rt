@@ -11,14 +11,15 @@ ghost use Rattle.rob_model.specs.declared.place.Place.{Place};
 ghost use Rattle.rob_model.specs.declared.place.Spot.{Spot};
 ghost use Rattle.rob_top.specs.Calls.{Call, Known, known_call, limit_of};
 ghost use Rattle.rob_top.specs.Completeness.{EndsAs, IsComplete, IsEmptyAnswer, IsProvedAnswer, MustEnd};
-ghost use Rattle.rob_top.specs.Headline.{HasCertificateFile, IsSolved, Means};
+ghost use Rattle.rob_top.specs.Headline.{Means};
+ghost use Rattle.rob_top.specs.Inputs.{HasCertificateFile};
+ghost use Rattle.rob_top.specs.Solved.{IsSolved};
 ghost use Rattle.rob_top.specs.Work.{ended_of};
 ghost use Rattle.rob_top.specs.WorkedCalls.{check_call, empty_interval, greatest, hard_and_soft, never_calm, order_11, order_12, solve_call};
 ghost use Rattle.rob_top.specs.declared.ended.Ended.{Ended};
 ghost use Rattle.rob_top.specs.declared.ended.Ended.TheVariants.{Accepted, EmptySet, Optimal, Rejected, TooWide};
-ghost use Rattle.rob_words.specs.Commands.{Line, prove};
-ghost use Rattle.rob_words.specs.Values.{Word};
-ghost use Rattle.rob_words.specs.declared.route.Route.{Route};
+ghost use Rattle.rob_words.specs.Commands.{Line};
+ghost use Rattle.rob_words.specs.declared.verb.Verb.TheVariants.{Prove};
 
 /// How a call must end, by its words and files: `specs/Completeness.antt`.
 pub fn completeness()
@@ -30,7 +31,7 @@ pub fn completeness()
 pub fn prove_then_check()
     // It is accepted; or a number of the check is wide, and its place is named; or the outside fails, or memory is refused.
     ensures accepted { (proving checking : Call) (status : Status) (text shown : List ℕ) (solved : IsSolved proving status text)
-        (model : Word) (way : Route) → solved.line.action ≡ prove model way → (known : Known checking.source) (line : Line)
+        → solved.line.verb ≡ Prove → (known : Known checking.source) (line : Line)
         → line.width ≡ solved.line.width → HasCertificateFile (known_call checking known) line solved.m text
         → (ended : Ended) → Means checking ended shown → IsProvedAnswer (limit_of line) solved.m solved.c ended }
 {}

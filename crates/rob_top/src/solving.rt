@@ -14,7 +14,7 @@ ghost use Rattle.rob_sets.specs.SetForm.{IsSetForm, SetFits};
 ghost use Rattle.rob_top.specs.Calls.{count};
 ghost use Rattle.rob_top.specs.Replies.{Replies};
 ghost use Rattle.rob_top.specs.Work.{AnswersForms, IsStopOf, RepliesStop, ended_of};
-ghost use Rattle.rob_top.specs.declared.files.Task.TheVariants.{Prove, Solve};
+ghost use Rattle.rob_words.specs.declared.verb.Verb.TheVariants.{Prove, Solve};
 
 use crate::ended::Ended;
 use crate::reply::Reply;

@@ -8,7 +8,7 @@ ghost use Rattle.rob_top.specs.Calls.{Call, Fetches, call_of, count, output_of, 
 ghost use Rattle.rob_top.specs.Completeness.{IsComplete};
 ghost use Rattle.rob_top.specs.Headline.{Ends, Means, PutMemory};
 ghost use Rattle.rob_top.specs.Replies.{Asks, IsLine};
-ghost use Rattle.rob_words.specs.Answers.{action_of};
+ghost use Rattle.rob_words.specs.Answers.{line_of};
 
 use crate::ended::Ended;
 use crate::files::{Files, fetch};
@@ -97,11 +97,11 @@ fn on_line<S: Shelf, L: Ledger>(
         → call.wides ≡ count (L.wides ledger.old) (L.wides ledger.new)
         → Means call reply.ended reply.text) }
     ensures files { S.files shelf.new ≡ S.files shelf.old }
-    ensures asked { Asks (requests (action_of line.now.command)) (S.log shelf.old) (S.log shelf.new) }
+    ensures asked { Asks (requests (line_of line.now)) (S.log shelf.old) (S.log shelf.new) }
     ensures counted { (S.faults shelf.old ≤ S.faults shelf.new) × (L.wides ledger.old ≤ L.wides ledger.new) }
 {
-    match fetch(alloc, &line.command, shelf)? {
-        Files::Job(job) => work_at(alloc, line.width, &job, ledger),
+    match fetch(alloc, line, shelf)? {
+        Files::Texts(texts) => work_at(alloc, line.verb, line.width, &texts, ledger),
         Files::Answer(reply) => Ok(reply),
     }
 }

@@ -1,4 +1,4 @@
-// The work on a model's text, at a width.
+// The work of a command on its texts, at a width.
 
 ghost use Rattle.std.specs.Prelude.{◌≡◌, ◌≤◌, IfOk};
 ghost use Rattle.rob_elab.specs.Forms.{FormsFit, IsForms, judged_forms};
@@ -12,12 +12,12 @@ ghost use Rattle.rob_sets.specs.SetForm.{IsSetForm, SetFits, judged_set};
 ghost use Rattle.rob_top.specs.Calls.{Call, count};
 ghost use Rattle.rob_top.specs.Headline.{Means};
 ghost use Rattle.rob_top.specs.Replies.{HasTexts, Replies};
-ghost use Rattle.rob_top.specs.Work.{AnswersForms, AnswersJob, AnswersModel, IsRefusedOf, IsShort, IsShortTask, RepliesRefused};
+ghost use Rattle.rob_top.specs.Work.{AnswersModel, AnswersTexts, AnswersWhole, IsRefusedOf, IsShort, RepliesRefused, RepliesUnread};
 ghost use Rattle.rob_words.specs.Commands.{Line};
 
 use crate::checking::check_text;
 use crate::ended::Ended;
-use crate::files::{Job, Task};
+use crate::files::Texts;
 use crate::reply::{Reply, broken_rule};
 use crate::solving::{prove, solve};
 use rob_elab::{Forms, elaborate};
@@ -26,46 +26,57 @@ use rob_number::{Exact, Frac, Ledger, Memory};
 use rob_parse::{ModelErr, read_model};
 use rob_report::{rows_text, spot_text};
 use rob_sets::{ElabErr, SetForm, clear_set};
-use rob_words::Width;
+use rob_words::{Verb, Width};
 use std::alloc::Global;
 
-/// Does a job at a width.
+/// Does what a command says at a width.
 pub fn work_at<L: Ledger>(
     alloc: Global,
+    verb: Verb,
     width: Width,
-    job: &Job,
+    texts: &Texts,
     ledger: &mut L,
 ) -> Result<Reply, Memory>
-    requires short { IsShort job.now }
-    // The reply is the answer of each call whose words say the width, and whose files came with the job's bytes.
-    ensures means { IfOk result (λ reply. (call : Call) (line : Line) → HasTexts call line job.now → line.width ≡ width
-        → call.wides ≡ count (L.wides ledger.old) (L.wides ledger.new) → Means call reply.ended reply.text) }
+    requires short { IsShort texts.now }
+    // The reply is the answer of each call whose words say the command and the width, and whose files came with the texts.
+    ensures means { IfOk result (λ reply. (call : Call) (line : Line) → HasTexts call line texts.now → line.verb ≡ verb
+        → line.width ≡ width → call.wides ≡ count (L.wides ledger.old) (L.wides ledger.new) → Means call reply.ended reply.text) }
     ensures counted { L.wides ledger.old ≤ L.wides ledger.new }
 {
     match width {
-        Width::Eight => work::<Frac<8>, L>(alloc, job, ledger),
-        Width::Sixteen => work::<Frac<16>, L>(alloc, job, ledger),
-        Width::ThirtyTwo => work::<Frac<32>, L>(alloc, job, ledger),
-        Width::SixtyTwo => work::<Frac<62>, L>(alloc, job, ledger),
+        Width::Eight => work::<Frac<8>, L>(alloc, verb, texts, ledger),
+        Width::Sixteen => work::<Frac<16>, L>(alloc, verb, texts, ledger),
+        Width::ThirtyTwo => work::<Frac<32>, L>(alloc, verb, texts, ledger),
+        Width::SixtyTwo => work::<Frac<62>, L>(alloc, verb, texts, ledger),
     }
 }
 
-/// Reads the model, and does with it what is to be done.
+/// Reads the model, and does with it what the command says.
 fn work<N: Exact + Drop, L: Ledger>(
     alloc: Global,
-    job: &Job,
+    verb: Verb,
+    texts: &Texts,
     ledger: &mut L,
 ) -> Result<Reply, Memory>
-    requires short { IsShort job.now }
-    ensures answers { IfOk result (AnswersJob N.limit (count (L.wides ledger.old) (L.wides ledger.new)) job.now) }
+    requires short { IsShort texts.now }
+    ensures answers { IfOk result (AnswersTexts N.limit (count (L.wides ledger.old) (L.wides ledger.new)) verb texts.now) }
     ensures counted { L.wides ledger.old ≤ L.wides ledger.new }
 {
-    match read_model::<N, L>(alloc, job.model.as_slice(), ledger) {
-        Ok(model) => on_model(alloc, &model, &job.task, ledger),
-        Err(ModelErr::Rule(rule, line)) => {
+    match read_model::<N, L>(alloc, texts.model.as_slice(), ledger) {
+        Ok(model) => on_model(alloc, &model, verb, texts, ledger),
+        Err(error) => not_read(alloc, error),
+    }
+}
+
+/// The answer where the model's text breaks a rule.
+fn not_read(alloc: Global, error: ModelErr) -> Result<Reply, Memory>
+    ensures unread { IfOk result (RepliesUnread error) }
+{
+    match error {
+        ModelErr::Rule(rule, line) => {
             broken_rule(alloc, Ended::Model(rule, line), b"model ", rule, line)
         }
-        Err(ModelErr::Memory) => Err(Memory),
+        ModelErr::Memory => Err(Memory),
     }
 }
 
@@ -73,14 +84,15 @@ fn work<N: Exact + Drop, L: Ledger>(
 fn on_model<N: Exact + Drop, L: Ledger>(
     alloc: Global,
     model: &Model<N>,
-    task: &Task,
+    verb: Verb,
+    texts: &Texts,
     ledger: &mut L,
 ) -> Result<Reply, Memory>
     requires valid { IsValid N.value model.now }
     requires named { IsNamed (robust N.value model.now) }
-    requires short { IsShortTask task.now }
+    requires short { IsShort texts.now }
     ensures answers { IfOk result (AnswersModel N.limit (count (L.wides ledger.old) (L.wides ledger.new))
-        (robust N.value model.now) task.now) }
+        (robust N.value model.now) verb texts.now) }
     ensures counted { L.wides ledger.old ≤ L.wides ledger.new }
 {
     let set = match clear_set(alloc, model, ledger) {
@@ -88,7 +100,7 @@ fn on_model<N: Exact + Drop, L: Ledger>(
         Err(error) => return not_elaborated(alloc, model, error),
     };
     match elaborate(alloc, model, &set, ledger) {
-        Ok(forms) => on_forms(alloc, model, &forms, &set, task, ledger),
+        Ok(forms) => on_forms(alloc, model, &forms, &set, verb, texts, ledger),
         Err(error) => not_elaborated(alloc, model, error),
     }
 }
@@ -99,7 +111,8 @@ fn on_forms<N: Exact + Drop, L: Ledger>(
     model: &Model<N>,
     forms: &Forms,
     set: &SetForm,
-    task: &Task,
+    verb: Verb,
+    texts: &Texts,
     ledger: &mut L,
 ) -> Result<Reply, Memory>
     requires valid { IsValid N.value model.now }
@@ -108,16 +121,19 @@ fn on_forms<N: Exact + Drop, L: Ledger>(
     requires set { IsSetForm (robust N.value model.now) set.now }
     requires forms_fit { FormsFit N.limit forms.now }
     requires set_fits { SetFits N.limit set.now }
-    requires short { IsShortTask task.now }
-    ensures answers { IfOk result (AnswersForms N.limit (count (L.wides ledger.old) (L.wides ledger.new))
-        (robust N.value model.now) task.now) }
+    requires short { IsShort texts.now }
+    ensures answers { IfOk result (AnswersWhole N.limit (count (L.wides ledger.old) (L.wides ledger.new))
+        (robust N.value model.now) verb texts.now) }
     ensures counted { L.wides ledger.old ≤ L.wides ledger.new }
 {
-    match task {
-        Task::Rows => rows(alloc, model, forms, set),
-        Task::Solve => solve(alloc, model, forms, set, ledger),
-        Task::Prove => prove(alloc, model, forms, set, ledger),
-        Task::Check(text) => check_text(alloc, model, forms, set, text.as_slice(), ledger),
+    match verb {
+        Verb::Rows => rows(alloc, model, forms, set),
+        Verb::Solve => solve(alloc, model, forms, set, ledger),
+        Verb::Prove => prove(alloc, model, forms, set, ledger),
+        Verb::Check => {
+            let text = texts.certificate.as_slice();
+            check_text(alloc, model, forms, set, text, ledger)
+        }
     }
 }
 

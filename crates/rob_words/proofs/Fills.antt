@@ -6,16 +6,15 @@ use Rattle.std.proofs.lemmas.Slice.Eq.{bytes_eq-Decides}
 use Rattle.rob_words.specs.Values.{Word}
 use Rattle.rob_words.specs.Commands.{Part, apart, bits, bits_values, joined, own, own_words, route, route_values}
 use Rattle.rob_words.specs.Texts.{listed}
-use Rattle.rob_words.specs.declared.verb.Verb.{Verb}
-use Rattle.rob_words.specs.declared.verb.Verb.TheVariants.{Rows, Solve, Prove, Check}
-use Rattle.rob_words.proofs.Slots.{Entry, Slot, bits as bits_slot, certificate, first, given, given_by, given-append, id_of, model, route as route_slot}
-use Rattle.rob_words.proofs.Finds.{file_at, slot_of, takes}
+use Rattle.rob_words.proofs.Slots.{Count, Entry, Frame, Slot, bits as bits_slot, first, first_word, frame, given, given_by, given-append, id_of, no_words, one_word, route as route_slot, second_word, third_word, three_words, two_words}
+use Rattle.rob_words.proofs.Finds.{file_at, slot_of, takes, word_at}
 use Rattle.rob_words.proofs.Walks.{Fill}
 
 -- the slot of an own word, where n stand before it
 abbrev pub file_slot : ℕ → Slot
-file_slot zero = model
-file_slot (suc n) = certificate
+file_slot zero = first_word
+file_slot (suc zero) = second_word
+file_slot (suc (suc n)) = third_word
 
 -- what parts behind n own words fill
 abbrev pub entries : ℕ → List Part → List Entry
@@ -27,7 +26,8 @@ entries n (joined setting value ∷ parts) = (slot_of setting, value) ∷ entrie
 pub given-bits : (n : ℕ) (parts : List Part) → given bits_slot (entries n parts) ≡ bits_values parts
 given-bits n [] = refl
 given-bits zero (own word ∷ parts) = given-bits 1 parts
-given-bits (suc n) (own word ∷ parts) = given-bits (suc (suc n)) parts
+given-bits (suc zero) (own word ∷ parts) = given-bits 2 parts
+given-bits (suc (suc n)) (own word ∷ parts) = given-bits (suc (suc (suc n))) parts
 given-bits n (apart bits value ∷ parts) = ap (λ ws. value ∷ ws) (given-bits n parts)
 given-bits n (apart route value ∷ parts) = given-bits n parts
 given-bits n (joined bits value ∷ parts) = ap (λ ws. value ∷ ws) (given-bits n parts)
@@ -36,87 +36,125 @@ given-bits n (joined route value ∷ parts) = given-bits n parts
 pub given-route : (n : ℕ) (parts : List Part) → given route_slot (entries n parts) ≡ route_values parts
 given-route n [] = refl
 given-route zero (own word ∷ parts) = given-route 1 parts
-given-route (suc n) (own word ∷ parts) = given-route (suc (suc n)) parts
-given-route n (apart route value ∷ parts) = ap (λ ws. value ∷ ws) (given-route n parts)
+given-route (suc zero) (own word ∷ parts) = given-route 2 parts
+given-route (suc (suc n)) (own word ∷ parts) = given-route (suc (suc (suc n))) parts
 given-route n (apart bits value ∷ parts) = given-route n parts
-given-route n (joined route value ∷ parts) = ap (λ ws. value ∷ ws) (given-route n parts)
+given-route n (apart route value ∷ parts) = ap (λ ws. value ∷ ws) (given-route n parts)
 given-route n (joined bits value ∷ parts) = given-route n parts
+given-route n (joined route value ∷ parts) = ap (λ ws. value ∷ ws) (given-route n parts)
 
-later-model : (n : ℕ) (parts : List Part) → given model (entries (suc n) parts) ≡ []
-later-model n [] = refl
-later-model n (own word ∷ parts) = later-model (suc n) parts
-later-model n (apart bits value ∷ parts) = later-model n parts
-later-model n (apart route value ∷ parts) = later-model n parts
-later-model n (joined bits value ∷ parts) = later-model n parts
-later-model n (joined route value ∷ parts) = later-model n parts
+late-first : (n : ℕ) (parts : List Part) → given first_word (entries (suc n) parts) ≡ []
+late-first n [] = refl
+late-first zero (own word ∷ parts) = late-first 1 parts
+late-first (suc n) (own word ∷ parts) = late-first (suc (suc n)) parts
+late-first n (apart bits value ∷ parts) = late-first n parts
+late-first n (apart route value ∷ parts) = late-first n parts
+late-first n (joined bits value ∷ parts) = late-first n parts
+late-first n (joined route value ∷ parts) = late-first n parts
 
-later-certificate : (n : ℕ) (parts : List Part) → given certificate (entries (suc n) parts) ≡ own_words parts
-later-certificate n [] = refl
-later-certificate n (own word ∷ parts) = ap (λ ws. word ∷ ws) (later-certificate (suc n) parts)
-later-certificate n (apart bits value ∷ parts) = later-certificate n parts
-later-certificate n (apart route value ∷ parts) = later-certificate n parts
-later-certificate n (joined bits value ∷ parts) = later-certificate n parts
-later-certificate n (joined route value ∷ parts) = later-certificate n parts
+pub given-first : (parts : List Part) → given first_word (entries 0 parts) ≡ take 1 (own_words parts)
+given-first [] = refl
+given-first (own word ∷ parts) = ap (λ ws. word ∷ ws) (late-first 0 parts)
+given-first (apart bits value ∷ parts) = given-first parts
+given-first (apart route value ∷ parts) = given-first parts
+given-first (joined bits value ∷ parts) = given-first parts
+given-first (joined route value ∷ parts) = given-first parts
 
-pub given-model : (parts : List Part) → given model (entries 0 parts) ≡ take 1 (own_words parts)
-given-model [] = refl
-given-model (own word ∷ parts) = ap (λ ws. word ∷ ws) (later-model 0 parts)
-given-model (apart bits value ∷ parts) = given-model parts
-given-model (apart route value ∷ parts) = given-model parts
-given-model (joined bits value ∷ parts) = given-model parts
-given-model (joined route value ∷ parts) = given-model parts
+late-second : (n : ℕ) (parts : List Part) → given second_word (entries (suc (suc n)) parts) ≡ []
+late-second n [] = refl
+late-second n (own word ∷ parts) = late-second (suc n) parts
+late-second n (apart bits value ∷ parts) = late-second n parts
+late-second n (apart route value ∷ parts) = late-second n parts
+late-second n (joined bits value ∷ parts) = late-second n parts
+late-second n (joined route value ∷ parts) = late-second n parts
 
-pub given-certificate : (parts : List Part) → given certificate (entries 0 parts) ≡ drop 1 (own_words parts)
-given-certificate [] = refl
-given-certificate (own word ∷ parts) = later-certificate 0 parts
-given-certificate (apart bits value ∷ parts) = given-certificate parts
-given-certificate (apart route value ∷ parts) = given-certificate parts
-given-certificate (joined bits value ∷ parts) = given-certificate parts
-given-certificate (joined route value ∷ parts) = given-certificate parts
+next-second : (parts : List Part) → given second_word (entries 1 parts) ≡ take 1 (own_words parts)
+next-second [] = refl
+next-second (own word ∷ parts) = ap (λ ws. word ∷ ws) (late-second 0 parts)
+next-second (apart bits value ∷ parts) = next-second parts
+next-second (apart route value ∷ parts) = next-second parts
+next-second (joined bits value ∷ parts) = next-second parts
+next-second (joined route value ∷ parts) = next-second parts
+
+pub given-second : (parts : List Part) → given second_word (entries 0 parts) ≡ take 1 (drop 1 (own_words parts))
+given-second [] = refl
+given-second (own word ∷ parts) = next-second parts
+given-second (apart bits value ∷ parts) = given-second parts
+given-second (apart route value ∷ parts) = given-second parts
+given-second (joined bits value ∷ parts) = given-second parts
+given-second (joined route value ∷ parts) = given-second parts
+
+late-third : (n : ℕ) (parts : List Part) → given third_word (entries (suc (suc n)) parts) ≡ own_words parts
+late-third n [] = refl
+late-third n (own word ∷ parts) = ap (λ ws. word ∷ ws) (late-third (suc n) parts)
+late-third n (apart bits value ∷ parts) = late-third n parts
+late-third n (apart route value ∷ parts) = late-third n parts
+late-third n (joined bits value ∷ parts) = late-third n parts
+late-third n (joined route value ∷ parts) = late-third n parts
+
+next-third : (parts : List Part) → given third_word (entries 1 parts) ≡ drop 1 (own_words parts)
+next-third [] = refl
+next-third (own word ∷ parts) = late-third 0 parts
+next-third (apart bits value ∷ parts) = next-third parts
+next-third (apart route value ∷ parts) = next-third parts
+next-third (joined bits value ∷ parts) = next-third parts
+next-third (joined route value ∷ parts) = next-third parts
+
+pub given-third : (parts : List Part) → given third_word (entries 0 parts) ≡ drop 2 (own_words parts)
+given-third [] = refl
+given-third (own word ∷ parts) = next-third parts
+given-third (apart bits value ∷ parts) = given-third parts
+given-third (apart route value ∷ parts) = given-third parts
+given-third (joined bits value ∷ parts) = given-third parts
+given-third (joined route value ∷ parts) = given-third parts
 
 -- ---- what filling asks of parts
 
 -- the command takes the options, and so many own words
-abbrev pub Fits : Verb → ℕ → List Part → Type 0
-Fits verb n [] = Unit {0}
-Fits verb n (own word ∷ parts) = (file_at verb n ≡ Some (file_slot n)) × Fits verb (suc n) parts
-Fits verb n (apart setting value ∷ parts) = (takes verb setting ≡ true) × Fits verb n parts
-Fits verb n (joined setting value ∷ parts) = (takes verb setting ≡ true) × Fits verb n parts
+abbrev pub Fits : Frame → ℕ → List Part → Type 0
+Fits f n [] = Unit {0}
+Fits f n (own word ∷ parts) = (file_at f n ≡ Some (file_slot n)) × Fits f (suc n) parts
+Fits f n (apart setting value ∷ parts) = (takes f setting ≡ true) × Fits f n parts
+Fits f n (joined setting value ∷ parts) = (takes f setting ≡ true) × Fits f n parts
 
 -- a slot is given one value at most
 abbrev pub IsSingle : List Word → Type 0
 IsSingle words = words ≡ listed (first words)
 
-file_is : (verb : Verb) (n : ℕ) (slot : Slot) → file_at verb n ≡ Some slot → slot ≡ file_slot n
-file_is Rows zero slot e = sym (ap (λ o. unwrap_or o model) e)
-file_is Rows (suc n) slot e = absurd (search (e, rules))
-file_is Solve zero slot e = sym (ap (λ o. unwrap_or o model) e)
-file_is Solve (suc n) slot e = absurd (search (e, rules))
-file_is Prove zero slot e = sym (ap (λ o. unwrap_or o model) e)
-file_is Prove (suc n) slot e = absurd (search (e, rules))
-file_is Check zero slot e = sym (ap (λ o. unwrap_or o model) e)
-file_is Check (suc zero) slot e = sym (ap (λ o. unwrap_or o certificate) e)
-file_is Check (suc (suc n)) slot e = absurd (search (e, rules))
+word_is : (count : Count) (n : ℕ) (slot : Slot) → word_at count n ≡ Some slot → slot ≡ file_slot n
+word_is no_words n slot e = absurd (search (e, rules))
+word_is one_word zero slot e = sym (ap (λ o. unwrap_or o first_word) e)
+word_is one_word (suc n) slot e = absurd (search (e, rules))
+word_is two_words zero slot e = sym (ap (λ o. unwrap_or o first_word) e)
+word_is two_words (suc zero) slot e = sym (ap (λ o. unwrap_or o second_word) e)
+word_is two_words (suc (suc n)) slot e = absurd (search (e, rules))
+word_is three_words zero slot e = sym (ap (λ o. unwrap_or o first_word) e)
+word_is three_words (suc zero) slot e = sym (ap (λ o. unwrap_or o second_word) e)
+word_is three_words (suc (suc zero)) slot e = sym (ap (λ o. unwrap_or o third_word) e)
+word_is three_words (suc (suc (suc n))) slot e = absurd (search (e, rules))
+
+file_is : (f : Frame) (n : ℕ) (slot : Slot) → file_at f n ≡ Some slot → slot ≡ file_slot n
+file_is (frame way count) n slot e = word_is count n slot e
 
 -- after one more entry, and those behind it
 then_more : (before more after : List Entry) (entry : Entry) → after ≡ (before ++ entry ∷ []) ++ more → after ≡ before ++ entry ∷ more
 then_more before more after entry e = e ∙ append_assoc before (entry ∷ []) more
 
-pub fill-entries : (verb : Verb) (n : ℕ) (parts : List Part) (before after : List Entry) → Fill verb n parts before after
-    → (after ≡ before ++ entries n parts) × Fits verb n parts
-fill-entries verb n [] before after fill = (fill ∙ sym (append-nil before), tt)
-fill-entries verb n (own word ∷ parts) before after fill =
-    let rest = fill-entries verb (suc n) parts _ after fill.3 in
-    let is = file_is verb n fill.0 fill.1 in (
+pub fill-entries : (f : Frame) (n : ℕ) (parts : List Part) (before after : List Entry) → Fill f n parts before after
+    → (after ≡ before ++ entries n parts) × Fits f n parts
+fill-entries f n [] before after fill = (fill ∙ sym (append-nil before), tt)
+fill-entries f n (own word ∷ parts) before after fill =
+    let rest = fill-entries f (suc n) parts _ after fill.3 in
+    let is = file_is f n fill.0 fill.1 in (
       then_more before (entries (suc n) parts) after (fill.0, word) rest.0
           ∙ ap (λ s. before ++ (s, word) ∷ entries (suc n) parts) is,
       (fill.1 ∙ ap (λ s. Some s) is, rest.1),
     )
-fill-entries verb n (apart setting value ∷ parts) before after fill =
-    let rest = fill-entries verb n parts _ after fill.2 in
+fill-entries f n (apart setting value ∷ parts) before after fill =
+    let rest = fill-entries f n parts _ after fill.2 in
     (then_more before (entries n parts) after (slot_of setting, value) rest.0, (fill.0, rest.1))
-fill-entries verb n (joined setting value ∷ parts) before after fill =
-    let rest = fill-entries verb n parts _ after fill.2 in
+fill-entries f n (joined setting value ∷ parts) before after fill =
+    let rest = fill-entries f n parts _ after fill.2 in
     (then_more before (entries n parts) after (slot_of setting, value) rest.0, (fill.0, rest.1))
 
 -- ---- each slot once
@@ -132,15 +170,15 @@ one_more slot other value before free single =
         subst (λ ws. IsSingle (ws ++ value ∷ [])) (sym none) refl
     go false e = subst IsSingle (sym (append-nil (given slot before))) single
 
-pub fill-single : (slot : Slot) (verb : Verb) (n : ℕ) (parts : List Part) (before after : List Entry) → Fill verb n parts before after
+pub fill-single : (slot : Slot) (f : Frame) (n : ℕ) (parts : List Part) (before after : List Entry) → Fill f n parts before after
     → IsSingle (given slot before) → IsSingle (given slot after)
-fill-single slot verb n [] before after fill single = subst (λ es. IsSingle (given slot es)) (sym fill) single
-fill-single slot verb n (own word ∷ parts) before after fill single =
-    fill-single slot verb (suc n) parts _ after fill.3 (one_more slot fill.0 word before fill.2 single)
-fill-single slot verb n (apart setting value ∷ parts) before after fill single =
-    fill-single slot verb n parts _ after fill.2 (one_more slot (slot_of setting) value before fill.1 single)
-fill-single slot verb n (joined setting value ∷ parts) before after fill single =
-    fill-single slot verb n parts _ after fill.2 (one_more slot (slot_of setting) value before fill.1 single)
+fill-single slot f n [] before after fill single = subst (λ es. IsSingle (given slot es)) (sym fill) single
+fill-single slot f n (own word ∷ parts) before after fill single =
+    fill-single slot f (suc n) parts _ after fill.3 (one_more slot fill.0 word before fill.2 single)
+fill-single slot f n (apart setting value ∷ parts) before after fill single =
+    fill-single slot f n parts _ after fill.2 (one_more slot (slot_of setting) value before fill.1 single)
+fill-single slot f n (joined setting value ∷ parts) before after fill single =
+    fill-single slot f n parts _ after fill.2 (one_more slot (slot_of setting) value before fill.1 single)
 
 front_free : (a b : List Word) (word : Word) → IsSingle (a ++ word ∷ b) → a ≡ []
 front_free [] b word single = refl
@@ -150,8 +188,9 @@ front_free (x ∷ y ∷ a) b word single = absurd (search (single, rules))
 same_slot : (slot : Slot) (word : Word) (more : List Entry) → given slot ((slot, word) ∷ more) ≡ word ∷ given slot more
 same_slot bits_slot word more = refl
 same_slot route_slot word more = refl
-same_slot model word more = refl
-same_slot certificate word more = refl
+same_slot first_word word more = refl
+same_slot second_word word more = refl
+same_slot third_word word more = refl
 
 free_before : (slot : Slot) (word : Word) (before more after : List Entry) → after ≡ before ++ (slot, word) ∷ more → IsSingle (given slot after) → given slot before ≡ []
 free_before slot word before more after is single =
@@ -162,22 +201,22 @@ then_all : (before more after : List Entry) (entry : Entry) → after ≡ before
 then_all before more after entry e = e ∙ sym (append_assoc before (entry ∷ []) more)
 
 -- parts that fit fill the slots, where each is given once
-pub fill-from : (verb : Verb) (n : ℕ) (parts : List Part) (before after : List Entry) → Fits verb n parts → after ≡ before ++ entries n parts
-    → ((slot : Slot) → IsSingle (given slot after)) → Fill verb n parts before after
-fill-from verb n [] before after fits is single = is ∙ append-nil before
-fill-from verb n (own word ∷ parts) before after fits is single = (
+pub fill-from : (f : Frame) (n : ℕ) (parts : List Part) (before after : List Entry) → Fits f n parts → after ≡ before ++ entries n parts
+    → ((slot : Slot) → IsSingle (given slot after)) → Fill f n parts before after
+fill-from f n [] before after fits is single = is ∙ append-nil before
+fill-from f n (own word ∷ parts) before after fits is single = (
   file_slot n,
   fits.0,
   free_before (file_slot n) word before (entries (suc n) parts) after is (single (file_slot n)),
-  fill-from verb (suc n) parts (before ++ (file_slot n, word) ∷ []) after fits.1 (then_all before (entries (suc n) parts) after (file_slot n, word) is) single,
+  fill-from f (suc n) parts (before ++ (file_slot n, word) ∷ []) after fits.1 (then_all before (entries (suc n) parts) after (file_slot n, word) is) single,
 )
-fill-from verb n (apart setting value ∷ parts) before after fits is single = (
+fill-from f n (apart setting value ∷ parts) before after fits is single = (
   fits.0,
   free_before (slot_of setting) value before (entries n parts) after is (single (slot_of setting)),
-  fill-from verb n parts (before ++ (slot_of setting, value) ∷ []) after fits.1 (then_all before (entries n parts) after (slot_of setting, value) is) single,
+  fill-from f n parts (before ++ (slot_of setting, value) ∷ []) after fits.1 (then_all before (entries n parts) after (slot_of setting, value) is) single,
 )
-fill-from verb n (joined setting value ∷ parts) before after fits is single = (
+fill-from f n (joined setting value ∷ parts) before after fits is single = (
   fits.0,
   free_before (slot_of setting) value before (entries n parts) after is (single (slot_of setting)),
-  fill-from verb n parts (before ++ (slot_of setting, value) ∷ []) after fits.1 (then_all before (entries n parts) after (slot_of setting, value) is) single,
+  fill-from f n parts (before ++ (slot_of setting, value) ∷ []) after fits.1 (then_all before (entries n parts) after (slot_of setting, value) is) single,
 )

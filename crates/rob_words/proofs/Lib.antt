@@ -1,3 +1,6 @@
+pub mod EachValue
+pub mod VerbLemmas
+pub mod GrammarLemmas
 pub mod Slots
 pub mod Finds
 pub mod Words

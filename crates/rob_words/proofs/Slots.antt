@@ -9,29 +9,56 @@ use Rattle.clap.specs.declared.error.kind.ErrorKind.TheVariants.{ArgumentConflic
 use Rattle.std.specs.Str.{bytes_eq}
 use Rattle.clap.specs.Faults.{use_fault}
 use Rattle.clap.specs.Takes.{is_given}
-use Rattle.clap.specs.Simple.{Shape, built, new_shape}
+use Rattle.clap.specs.Simple.{App, Shape, built, new_shape}
 use Rattle.clap.specs.Walk.{Row, Rule, Text, at_row, first_of, has_row, more_values, used, with_values, without}
 use Rattle.clap.specs.declared.builder.action.ArgAction.TheVariants.{Set}
 use Rattle.clap.specs.declared.builder.value_parser.Reading.TheVariants.{AsWritten}
 use Rattle.clap.specs.declared.builder.value_parser.ValueParser.TheVariants.{String}
 use Rattle.clap.specs.declared.parser.matches.ValueSource.TheVariants.{CommandLine}
 use Rattle.rob_words.specs.Values.{Word}
-use Rattle.rob_words.specs.Grammar.{grammar}
-use Rattle.rob_words.specs.declared.verb.Verb.{Verb}
-use Rattle.rob_words.specs.declared.verb.Verb.TheVariants.{Rows, Solve, Prove, Check}
+use Rattle.rob_words.specs.Grammar.{with_bits, with_route, with_words}
+use Rattle.rob_words.specs.declared.verb.Own.{Own}
+
+-- how many own words a command has
+pub data Count : Type 0 where
+  no_words : Count
+  one_word : Count
+  two_words : Count
+  three_words : Count
+
+-- what tells one command from another behind its name: whether it takes a route, and how many own words it has
+pub data Frame : Type 0 where
+  frame : (way : Bool) (count : Count) → Frame
+
+abbrev pub way_of : Frame → Bool
+way_of (frame way count) = way
+
+abbrev pub size : Count → ℕ
+size no_words = 0
+size one_word = 1
+size two_words = 2
+size three_words = 3
+
+abbrev pub count_of : List Own → Count
+count_of [] = no_words
+count_of (_ ∷ []) = one_word
+count_of (_ ∷ _ ∷ []) = two_words
+count_of (_ ∷ _ ∷ _ ∷ _) = three_words
 
 -- what a command can be given
 pub data Slot : Type 0 where
   bits : Slot
   route : Slot
-  model : Slot
-  certificate : Slot
+  first_word : Slot
+  second_word : Slot
+  third_word : Slot
 
 abbrev pub id_of : Slot → Text
 id_of bits = codes "bits"
 id_of route = codes "route"
-id_of model = codes "model"
-id_of certificate = codes "certificate"
+id_of first_word = codes "first"
+id_of second_word = codes "second"
+id_of third_word = codes "third"
 
 abbrev pub long_name : Slot → Option Text
 long_name bits = Some (codes "bits")
@@ -39,8 +66,9 @@ long_name route = Some (codes "route")
 long_name _ = None
 
 abbrev pub index_in : Slot → Option ℕ
-index_in model = Some 1
-index_in certificate = Some 2
+index_in first_word = Some 1
+index_in second_word = Some 2
+index_in third_word = Some 3
 index_in _ = None
 
 abbrev pub is_required : Slot → Bool
@@ -69,29 +97,47 @@ rule slot = record {
 }
 
 -- the slots of a command
-abbrev pub slots : Verb → List Slot
-slots Rows = bits ∷ model ∷ []
-slots Solve = bits ∷ route ∷ model ∷ []
-slots Prove = bits ∷ route ∷ model ∷ []
-slots Check = bits ∷ model ∷ certificate ∷ []
+abbrev pub ways : Bool → List Slot
+ways true = route ∷ []
+ways false = []
 
-abbrev pub rules_of : Verb → List Rule
-rules_of verb = map rule (slots verb)
+abbrev pub word_slots : Count → List Slot
+word_slots no_words = []
+word_slots one_word = first_word ∷ []
+word_slots two_words = first_word ∷ second_word ∷ []
+word_slots three_words = first_word ∷ second_word ∷ third_word ∷ []
+
+abbrev pub slots : Frame → List Slot
+slots (frame way count) = bits ∷ (ways way ++ word_slots count)
+
+abbrev pub rules_of : Frame → List Rule
+rules_of f = map rule (slots f)
 
 -- a command as it is built
-abbrev pub shape : Verb → Shape
-shape verb = record (new_shape (codes "robust")) {
-  rules = rules_of verb;
+abbrev pub shape : Frame → Shape
+shape f = record (new_shape (codes "robust")) {
+  rules = rules_of f;
   disable_help_flag = true;
   disable_help_subcommand = true;
   is_built = true;
 }
 
-pub built-top : (verb : Verb) → (built (grammar verb)).top ≡ shape verb
-built-top Rows = refl
-built-top Solve = refl
-built-top Prove = refl
-built-top Check = refl
+-- the command that takes a route, or doesn't, and has these own words
+abbrev pub app_by : Bool → List Own → App
+app_by way own = with_words own (with_route way with_bits)
+
+abbrev pub frame_by : Bool → List Own → Frame
+frame_by way own = frame way (count_of own)
+
+pub built-top : (way : Bool) (own : List Own) → (built (app_by way own)).top ≡ shape (frame_by way own)
+built-top true [] = refl
+built-top true (k ∷ []) = refl
+built-top true (k ∷ l ∷ []) = refl
+built-top true (k ∷ l ∷ m ∷ more) = refl
+built-top false [] = refl
+built-top false (k ∷ []) = refl
+built-top false (k ∷ l ∷ []) = refl
+built-top false (k ∷ l ∷ m ∷ more) = refl
 
 -- ---- what is given
 

@@ -1,15 +1,15 @@
 -- Words are spelled by one list of parts at most.
-use Rattle.std.proofs.Common.{◌≡◌, ◌≢◌, ◌∙◌, inl, inr, zero, suc, refl, sym, ap, ap₂, subst, arith, append-nil, List, [], ◌∷◌, ◌++◌, rules}
+use Rattle.std.proofs.Common.{◌≡◌, ◌≢◌, ◌∙◌, inl, inr, Bool, true, false, zero, suc, refl, sym, ap, ap₂, subst, arith, append-nil, List, [], ◌∷◌, ◌++◌, rules}
 use Rattle.std.specs.List.{All}
 use Rattle.rob_words.specs.Values.{Word, route_text, width_text}
-use Rattle.rob_words.specs.Commands.{Action, ArePlain, HasParts, IsCommandLine, IsPlain, IsSpelled, Line, Part, Says, Setting, TellsRoute, apart, bits, bits_values, check, files_of, joined, own, own_words, prove, route, route_values, rows, setting_word, solve, verb_of, verb_word, words_of}
+use Rattle.rob_words.specs.Commands.{ArePlain, HasParts, IsCommandLine, IsPlain, IsSpelled, Line, Part, Says, Setting, TellsRoute, apart, bits, bits_values, joined, own, own_words, route, route_values, setting_word, words_of}
+use Rattle.rob_words.specs.Verbs.{takes_route, verb_word}
 use Rattle.rob_words.specs.Texts.{bare_words}
 use Rattle.rob_words.specs.declared.route.Route.{Route}
 use Rattle.rob_words.specs.declared.route.Route.TheVariants.{Dual}
-use Rattle.rob_words.specs.declared.verb.Verb.{Verb}
-use Rattle.rob_words.specs.declared.verb.Verb.TheVariants.{Rows, Solve, Prove, Check}
 use Rattle.rob_words.specs.declared.width.Width.{Width}
 use Rattle.rob_words.specs.declared.width.Width.TheVariants.{Eight, Sixteen, ThirtyTwo, SixtyTwo}
+use Rattle.rob_words.proofs.VerbLemmas.{verb_word-one, verb_word-plain}
 
 -- the first items of equal lists
 pub heads : {x y : Word} {xs ys : List Word} → x ∷ xs ≡ y ∷ ys → x ≡ y
@@ -99,35 +99,16 @@ says-plain : {X : Type 0} (text : X → Word) (default : X) (values : List Word)
 says-plain text default values x plain (inl one) = subst ArePlain (sym one) (plain x, tt)
 says-plain text default values x plain (inr none) = subst ArePlain (sym none.0) tt
 
-tells-plain : (action : Action) (values : List Word) → TellsRoute action values → ArePlain values
-tells-plain (rows name) values tells = subst ArePlain (sym tells) tt
-tells-plain (solve name way) values tells = says-plain route_text Dual values way route-plain tells
-tells-plain (prove name way) values tells = says-plain route_text Dual values way route-plain tells
-tells-plain (check name other) values tells = subst ArePlain (sym tells) tt
+tells-plain : (takes : Bool) (values : List Word) (way : Route) → TellsRoute takes values way → ArePlain values
+tells-plain true values way tells = says-plain route_text Dual values way route-plain tells
+tells-plain false values way tells = subst ArePlain (sym tells.0) tt
 
 pub line-plain : (words : List Word) (line : Line) (parts : List Part) → HasParts words line parts → ArePlain (bare_words parts)
-line-plain words line parts has = bare-plain parts (subst ArePlain (sym has.files) has.names)
-    (says-plain width_text SixtyTwo (bits_values parts) line.width width-plain has.width) (tells-plain line.action (route_values parts) has.route)
+line-plain words line parts has = bare-plain parts (subst ArePlain (sym has.own) has.names)
+    (says-plain width_text SixtyTwo (bits_values parts) line.width width-plain has.width)
+    (tells-plain (takes_route line.verb) (route_values parts) line.way has.route)
 
 -- ---- one line
-
-pub verb_word-one : (a b : Verb) → verb_word a ≡ verb_word b → a ≡ b
-verb_word-one Rows Rows e = refl
-verb_word-one Rows Solve e = absurd (search (e, rules))
-verb_word-one Rows Prove e = absurd (search (e, rules))
-verb_word-one Rows Check e = absurd (search (e, rules))
-verb_word-one Solve Rows e = absurd (search (e, rules))
-verb_word-one Solve Solve e = refl
-verb_word-one Solve Prove e = absurd (search (e, rules))
-verb_word-one Solve Check e = absurd (search (e, rules))
-verb_word-one Prove Rows e = absurd (search (e, rules))
-verb_word-one Prove Solve e = absurd (search (e, rules))
-verb_word-one Prove Prove e = refl
-verb_word-one Prove Check e = absurd (search (e, rules))
-verb_word-one Check Rows e = absurd (search (e, rules))
-verb_word-one Check Solve e = absurd (search (e, rules))
-verb_word-one Check Prove e = absurd (search (e, rules))
-verb_word-one Check Check e = refl
 
 width_text-one : (a b : Width) → width_text a ≡ width_text b → a ≡ b
 width_text-one Eight Eight e = refl
@@ -157,45 +138,28 @@ says-one text default values a b one (inl x) (inr y) = let e : text a ∷ [] ≡
 says-one text default values a b one (inr x) (inl y) = let e : text b ∷ [] ≡ [] = sym y ∙ x.0 in absurd (search (e, rules))
 says-one text default values a b one (inr x) (inr y) = x.1 ∙ sym y.1
 
-action-one : (a b : Action) (values : List Word) → verb_of a ≡ verb_of b → files_of a ≡ files_of b → TellsRoute a values → TellsRoute b values → a ≡ b
-action-one (rows m) (rows n) values v f s t = ap rows (heads f)
-action-one (rows m) (solve n way) values v f s t = absurd (search (v, rules))
-action-one (rows m) (prove n way) values v f s t = absurd (search (v, rules))
-action-one (rows m) (check n c) values v f s t = absurd (search (v, rules))
-action-one (solve m way) (rows n) values v f s t = absurd (search (v, rules))
-action-one (solve m way) (solve n other) values v f s t = ap₂ solve (heads f) (says-one route_text Dual values way other route_text-one s t)
-action-one (solve m way) (prove n other) values v f s t = absurd (search (v, rules))
-action-one (solve m way) (check n c) values v f s t = absurd (search (v, rules))
-action-one (prove m way) (rows n) values v f s t = absurd (search (v, rules))
-action-one (prove m way) (solve n other) values v f s t = absurd (search (v, rules))
-action-one (prove m way) (prove n other) values v f s t = ap₂ prove (heads f) (says-one route_text Dual values way other route_text-one s t)
-action-one (prove m way) (check n c) values v f s t = absurd (search (v, rules))
-action-one (check m c) (rows n) values v f s t = absurd (search (v, rules))
-action-one (check m c) (solve n way) values v f s t = absurd (search (v, rules))
-action-one (check m c) (prove n way) values v f s t = absurd (search (v, rules))
-action-one (check m c) (check n d) values v f s t = ap₂ check (heads f) (heads (ap rest_of f))
+tells-one : (takes : Bool) (values : List Word) (a b : Route) → TellsRoute takes values a → TellsRoute takes values b → a ≡ b
+tells-one true values a b s t = says-one route_text Dual values a b route_text-one s t
+tells-one false values a b s t = s.1 ∙ sym t.1
 
 pub one_line : (words : List Word) (a b : Line) → IsSpelled words a → IsSpelled words b → a ≡ b
 one_line words a b s t =
-    let spelled : verb_word (verb_of a.action) ∷ words_of s.0 ≡ verb_word (verb_of b.action) ∷ words_of t.0 = sym s.1.spelled ∙ t.1.spelled in
+    let spelled : verb_word a.verb ∷ words_of s.0 ≡ verb_word b.verb ∷ words_of t.0 = sym s.1.spelled ∙ t.1.spelled in
     let parts : s.0 ≡ t.0 = one_parts s.0 t.0 (line-plain words a s.0 s.1) (line-plain words b t.0 t.1) (ap rest_of spelled) in
-    let verbs = verb_word-one (verb_of a.action) (verb_of b.action) (heads spelled) in
+    let verbs : a.verb ≡ b.verb = verb_word-one a.verb b.verb (heads spelled) in
     let other : HasParts words b s.0 = subst (HasParts words b) (sym parts) t.1 in
-    let action = action-one a.action b.action (route_values s.0) verbs (sym s.1.files ∙ other.files) s.1.route other.route in
+    let words_are : a.own ≡ b.own = sym s.1.own ∙ other.own in
+    let way : a.way ≡ b.way =
+    tells-one (takes_route a.verb) (route_values s.0) a.way b.way s.1.route
+    (subst (λ v. TellsRoute (takes_route v) (route_values s.0) b.way) (sym verbs) other.route) in
     let width = says-one width_text SixtyTwo (bits_values s.0) a.width b.width width_text-one s.1.width other.width in
-    (λ i. record { action = action i; width = width i })
+    (λ i. record { verb = verbs i; own = words_are i; way = way i; width = width i })
 
 -- ---- no word is empty
 
 setting-bytes : (setting : Setting) (more : Word) → setting_word setting ++ more ≡ [] → ⊥
 setting-bytes bits more e = search (e, rules)
 setting-bytes route more e = search (e, rules)
-
-verb-bytes : (verb : Verb) → verb_word verb ≡ [] → ⊥
-verb-bytes Rows e = search (e, rules)
-verb-bytes Solve e = search (e, rules)
-verb-bytes Prove e = search (e, rules)
-verb-bytes Check e = search (e, rules)
 
 plain-bytes : (word : Word) → IsPlain word → word ≢ []
 plain-bytes [] plain e = plain
@@ -219,4 +183,4 @@ line-bytes words line =
     let parts = line.1.0 in
     let has = line.1.1 in
     subst (All (λ w. w ≢ [])) (sym has.spelled)
-    (All-cons (verb_word (verb_of line.0.action)) (words_of parts) (verb-bytes (verb_of line.0.action)) (words-bytes parts (line-plain words line.0 parts has)))
+    (All-cons (verb_word line.0.verb) (words_of parts) (plain-bytes (verb_word line.0.verb) (verb_word-plain line.0.verb)) (words-bytes parts (line-plain words line.0 parts has)))

@@ -2,25 +2,20 @@
 --
 -- A command line is the name of a command, and behind it parts in any order: the command's own words, which name files,
 -- and options. An option is one word or two: `--bits=8` or `--bits 8`.
-use Rattle.std.specs.Prelude.{◌≡◌, ◌≢◌, ◌⊎◌, List, [], ◌∷◌, ◌++◌, codes}
+use Rattle.std.specs.Prelude.{◌≡◌, ◌≢◌, ◌⊎◌, Bool, true, false, List, [], ◌∷◌, ◌++◌, codes, length}
 use Rattle.rob_words.specs.Values.{Word, width_text, route_text}
+use Rattle.rob_words.specs.Verbs.{own_of, takes_route, verb_word}
 use Rattle.rob_words.specs.declared.route.Route.{Route}
 use Rattle.rob_words.specs.declared.route.Route.TheVariants.{Dual}
 use Rattle.rob_words.specs.declared.verb.Verb.{Verb}
-use Rattle.rob_words.specs.declared.verb.Verb.TheVariants.{Rows, Solve, Prove, Check}
 use Rattle.rob_words.specs.declared.width.Width.{Width}
 use Rattle.rob_words.specs.declared.width.Width.TheVariants.{SixtyTwo}
 
--- a command, with the words that name its files
-pub data Action : Type 0 where
-  rows : (model : Word) → Action
-  solve : (model : Word) (way : Route) → Action
-  prove : (model : Word) (way : Route) → Action
-  check : (model certificate : Word) → Action
-
--- what a command line says
+-- what a command line says: a command, its own words in their order, a route and a width
 pub record Line : Type 0 where
-  pub action : Action
+  pub verb : Verb
+  pub own : List Word
+  pub way : Route
   pub width : Width
 
 -- the options
@@ -34,27 +29,6 @@ pub data Part : Type 0 where
   own : (word : Word) → Part
   apart : (setting : Setting) (value : Word) → Part
   joined : (setting : Setting) (value : Word) → Part
-
--- the name of a command
-abbrev pub verb_word : Verb → Word
-verb_word Rows = codes "rows"
-verb_word Solve = codes "solve"
-verb_word Prove = codes "prove"
-verb_word Check = codes "check"
-
--- which command it is
-abbrev pub verb_of : Action → Verb
-verb_of (rows model) = Rows
-verb_of (solve model way) = Solve
-verb_of (prove model way) = Prove
-verb_of (check model certificate) = Check
-
--- the command's own words, in their order
-abbrev pub files_of : Action → List Word
-files_of (rows model) = model ∷ []
-files_of (solve model way) = model ∷ []
-files_of (prove model way) = model ∷ []
-files_of (check model certificate) = model ∷ certificate ∷ []
 
 -- the word of an option
 abbrev pub setting_word : Setting → Word
@@ -105,20 +79,19 @@ ArePlain (word ∷ words) = IsPlain word × ArePlain words
 abbrev pub Says : {X : Type 0} → (X → Word) → X → List Word → X → Type 0
 Says text default values x = (values ≡ text x ∷ []) ⊎ ((values ≡ []) × (x ≡ default))
 
--- the route is told to a command that takes one, and to no other
-abbrev pub TellsRoute : Action → List Word → Type 0
-TellsRoute (rows model) values = values ≡ []
-TellsRoute (solve model way) values = Says route_text Dual values way
-TellsRoute (prove model way) values = Says route_text Dual values way
-TellsRoute (check model certificate) values = values ≡ []
+-- the route is told to a command that takes one; no other has that option, and its route is the default
+abbrev pub TellsRoute : Bool → List Word → Route → Type 0
+TellsRoute true values way = Says route_text Dual values way
+TellsRoute false values way = (values ≡ []) × (way ≡ Dual)
 
 -- these parts behind the command's name are the words of the line
 pub record HasParts (words : List Word) (line : Line) (parts : List Part) : Type 0 where
-  pub spelled : words ≡ verb_word (verb_of line.action) ∷ words_of parts
-  pub files : own_words parts ≡ files_of line.action
-  pub names : ArePlain (files_of line.action)
+  pub spelled : words ≡ verb_word line.verb ∷ words_of parts
+  pub own : own_words parts ≡ line.own
+  pub count : length line.own ≡ length (own_of line.verb)
+  pub names : ArePlain line.own
   pub width : Says width_text SixtyTwo (bits_values parts) line.width
-  pub route : TellsRoute line.action (route_values parts)
+  pub route : TellsRoute (takes_route line.verb) (route_values parts) line.way
 
 -- the words spell the line
 abbrev pub IsSpelled : List Word → Line → Type 0

@@ -1,4 +1,5 @@
 pub mod Values
+pub mod Verbs
 pub mod Commands
 pub mod Answers
 pub mod Texts

@@ -1,12 +1,12 @@
 -- The texts that the words behind a command's name hold, before options are judged.
-use Rattle.std.specs.Prelude.{◌≡◌, ◌≢◌, ◌⊎◌, ℕ, List, [], ◌∷◌, Option, Some, None, option_map}
+use Rattle.std.specs.Prelude.{◌≡◌, ◌≢◌, ◌⊎◌, ℕ, Bool, true, false, List, [], ◌∷◌, length, map, Option, Some, None, option_map, string_bytes}
 use Rattle.rob_words.specs.Values.{Word}
 use Rattle.rob_words.specs.Commands.{Part, own, apart, joined, ArePlain, words_of, own_words, bits_values, route_values}
+use Rattle.rob_words.specs.Verbs.{own_of, takes_route}
 use Rattle.rob_words.specs.declared.error.WordsErr.{WordsErr}
 use Rattle.rob_words.specs.declared.error.WordsErr.TheVariants.{NoCommandLine, Memory}
 use Rattle.rob_words.specs.declared.grammar.Texts.{Texts}
 use Rattle.rob_words.specs.declared.verb.Verb.{Verb}
-use Rattle.rob_words.specs.declared.verb.Verb.TheVariants.{Rows, Solve, Prove, Check}
 
 -- the words of which there is one or none
 abbrev pub listed : Option Word → List Word
@@ -20,46 +20,38 @@ bare_words (own word ∷ parts) = word ∷ bare_words parts
 bare_words (apart setting value ∷ parts) = value ∷ bare_words parts
 bare_words (joined setting value ∷ parts) = bare_words parts
 
--- only solve and prove take a route
-abbrev pub TakesRoute : Verb → Option Word → Type 0
-TakesRoute Rows way = way ≡ None
-TakesRoute Solve way = Unit {0}
-TakesRoute Prove way = Unit {0}
-TakesRoute Check way = way ≡ None
-
--- only check takes a certificate, and it has to
-abbrev pub TakesCertificate : Verb → Option Word → Type 0
-TakesCertificate Check certificate = (name : Word) × (certificate ≡ Some name)
-TakesCertificate _ certificate = certificate ≡ None
+-- a command that doesn't take a route is given none
+abbrev pub TakesRoute : Bool → Option Word → Type 0
+TakesRoute true way = Unit {0}
+TakesRoute false way = way ≡ None
 
 -- what was found in words
 pub record Holding : Type 0 where
-  pub model : Word
-  pub certificate : Option Word
+  pub own : List Word
   pub bits : Option Word
   pub way : Option Word
 
--- the parts hold the texts
-pub record Hold (verb : Verb) (parts : List Part) (found : Holding) : Type 0 where
-  pub files : own_words parts ≡ found.model ∷ listed found.certificate
+-- the parts hold the texts, of a command that takes a route or doesn't, and has so many own words
+pub record Hold (takes : Bool) (count : ℕ) (parts : List Part) (found : Holding) : Type 0 where
+  pub own : own_words parts ≡ found.own
+  pub all : length found.own ≡ count
   pub plain : ArePlain (bare_words parts)
   pub bits : bits_values parts ≡ listed found.bits
   pub way : route_values parts ≡ listed found.way
-  pub certificate : TakesCertificate verb found.certificate
-  pub takes_route : TakesRoute verb found.way
+  pub takes_route : TakesRoute takes found.way
 
 -- what the texts of the code are
 abbrev pub holding_of : Texts → Holding
 holding_of texts = record {
-  model = texts.model.now;
-  certificate = option_map (λ s. s.now) texts.certificate;
+  own = map string_bytes texts.own.items;
   bits = option_map (λ s. s.now) texts.bits;
   way = option_map (λ s. s.now) texts.route;
 }
 
 -- the words are the spelling of parts that hold the texts
 abbrev pub Holds : Verb → List Word → Holding → Type 0
-Holds verb words found = (parts : List Part) × (words ≡ words_of parts) × Hold verb parts found
+Holds verb words found =
+    (parts : List Part) × (words ≡ words_of parts) × Hold (takes_route verb) (length (own_of verb)) parts found
 
 -- words begin with this one, and those behind it hold the texts
 abbrev pub HoldsBehind : Verb → List Word → Holding → Type 0

@@ -12,7 +12,8 @@ mod verb;
 mod width;
 
 pub use error::WordsErr;
-pub use line::{Command, CommandLine};
+pub use line::CommandLine;
 pub use reader::read_words;
 pub use route::Route;
+pub use verb::{Own, Verb};
 pub use width::Width;

@@ -1,24 +1,15 @@
 //! Command lines.
 
-use crate::{Route, Width};
+use crate::{Route, Verb, Width};
 
-/// A command, with the files that its own words name.
-#[derive(Debug, Drop)]
-pub enum Command {
-    /// Print the set rows and the forms of a model.
-    Rows { model: String },
-    /// Solve a model.
-    Solve { model: String, route: Route },
-    /// Solve a model and print the certificate of its answer.
-    Prove { model: String, route: Route },
-    /// Check a certificate against a model.
-    Check { model: String, certificate: String },
-}
-
-/// A command line: a command and the width of its numbers.
+/// A command line: a command, its own words, and its options.
 #[derive(Debug, Drop)]
 pub struct CommandLine {
-    pub command: Command,
+    pub verb: Verb,
+    /// One for each of `verb.own()`, in that order.
+    pub own: Vec<String>,
+    /// `Dual` where the command line names none, and at a command that takes none.
+    pub route: Route,
     /// 62 bits where the command line names none.
     pub width: Width,
 }

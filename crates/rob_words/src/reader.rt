@@ -1,18 +1,17 @@
 //! The reader of command lines.
 
 ghost use Rattle.std.specs.Prelude.{IfErr, IfOk, map, option_map, string_bytes};
-ghost use Rattle.rob_words.specs.Answers.{HasCause, action_of, line_of};
+ghost use Rattle.rob_words.specs.Answers.{HasCause, line_of};
 ghost use Rattle.rob_words.specs.Commands.{IsSpelled};
-ghost use Rattle.rob_words.specs.Reading.{Judges, LacksCertificate, Makes, Names};
-ghost use Rattle.rob_words.specs.Texts.{holding_of, listed};
+ghost use Rattle.rob_words.specs.Reading.{Judges, Names};
+ghost use Rattle.rob_words.specs.Texts.{listed};
 ghost use Rattle.rob_words.specs.Values.{route_text, width_text};
 ghost use Rattle.rob_words.specs.declared.route.Route.TheVariants.{Dual};
 ghost use Rattle.rob_words.specs.declared.width.Width.TheVariants.{SixtyTwo};
 
 use crate::admission::are_admitted;
-use crate::grammar::{Texts, read_texts};
-use crate::verb::Verb;
-use crate::{Command, CommandLine, Route, Width, WordsErr};
+use crate::grammar::read_texts;
+use crate::{CommandLine, Route, Verb, Width, WordsErr};
 use std::alloc::Global;
 
 /// The command line that the words are, without the program's own name in front.
@@ -29,8 +28,12 @@ pub fn read_words(alloc: Global, words: &[String]) -> Result<CommandLine, WordsE
     let texts = read_texts(alloc, verb, words)?;
     let width = width(texts.bits)?;
     let route = route(texts.route)?;
-    let command = command(alloc, verb, &texts, route)?;
-    Ok(CommandLine { command, width })
+    Ok(CommandLine {
+        verb,
+        own: texts.own,
+        route,
+        width,
+    })
 }
 
 // The command that the first word names.
@@ -58,26 +61,5 @@ fn route(text: Option<&str>) -> Result<Route, WordsErr>
     match text {
         Some(text) => Route::spelled(text).ok_or(WordsErr::NoCommandLine),
         None => Ok(Route::Dual),
-    }
-}
-
-// The command with these texts.
-fn command(alloc: Global, verb: Verb, texts: &Texts, route: Route) -> Result<Command, WordsErr>
-    ensures command { IfOk result (λ command.
-        Makes verb (holding_of texts.now) route (action_of command)) }
-    ensures cause { IfErr result (LacksCertificate verb (holding_of texts.now)) }
-{
-    let model = String::from_str(alloc, texts.model)?;
-    match verb {
-        Verb::Rows => Ok(Command::Rows { model }),
-        Verb::Solve => Ok(Command::Solve { model, route }),
-        Verb::Prove => Ok(Command::Prove { model, route }),
-        Verb::Check => {
-            let Some(certificate) = texts.certificate else {
-                return Err(WordsErr::NoCommandLine);
-            };
-            let certificate = String::from_str(alloc, certificate)?;
-            Ok(Command::Check { model, certificate })
-        }
     }
 }

@@ -1,16 +1,32 @@
-//! The names of the commands.
+//! The commands: their names, their own words and their options.
+//!
+//! Each command has one line in each of the three tables below, and in the same three of `specs/Verbs.antt`; nothing else in this
+//! crate tells one command from another.
 
 ghost use Rattle.std.specs.Prelude.{◌≡◌, MatchOption};
-ghost use Rattle.rob_words.specs.Commands.{verb_word};
+ghost use Rattle.rob_words.specs.Verbs.{own_of, takes_route, verb_word};
 ghost use Rattle.rob_words.specs.declared.verb.Verb.{Verb};
 
-/// The name of a command.
+/// A command.
 #[derive(Debug, Clone, Copy, PartialEq, Eq)]
-pub(crate) enum Verb {
+pub enum Verb {
+    /// Print the set rows and the forms of a model.
     Rows,
+    /// Solve a model.
     Solve,
+    /// Solve a model and print the certificate of its answer.
     Prove,
+    /// Check a certificate against a model.
     Check,
+}
+
+/// What one of a command's own words names.
+#[derive(Debug, Clone, Copy, PartialEq, Eq)]
+pub enum Own {
+    /// The file of a model.
+    Model,
+    /// The file of a certificate.
+    Certificate,
 }
 
 impl Verb {
@@ -26,6 +42,30 @@ impl Verb {
             "prove" => Some(Verb::Prove),
             "check" => Some(Verb::Check),
             _ => None,
+        }
+    }
+
+    /// What its own words name, in their order. They are three at most.
+    pub fn own(&self) -> &'static [Own]
+        ensures own { result.now ≡ own_of self.now }
+    {
+        match self {
+            Verb::Rows => &[Own::Model],
+            Verb::Solve => &[Own::Model],
+            Verb::Prove => &[Own::Model],
+            Verb::Check => &[Own::Model, Own::Certificate],
+        }
+    }
+
+    /// Whether it takes the option `--route`. Each command takes `--bits`.
+    pub fn takes_route(&self) -> bool
+        ensures takes { result ≡ takes_route self.now }
+    {
+        match self {
+            Verb::Rows => false,
+            Verb::Solve => true,
+            Verb::Prove => true,
+            Verb::Check => false,
         }
     }
 }

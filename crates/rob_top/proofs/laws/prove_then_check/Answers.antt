@@ -3,7 +3,7 @@ use Rattle.rob_top.proofs.laws.prove_then_check.Goals as goal
 
 pub returns : goal.returns
 returns c = record {
-  accepted = λ proving checking status text shown solved model way is_prove known line width file ended means.
-      proved_then_checked proving checking known status text solved line model way ended is_prove width file
+  accepted = λ proving checking status text shown solved is_prove known line width file ended means.
+      proved_then_checked proving checking known status text solved line ended is_prove width file
       (means_complete checking ended shown means known);
 }

@@ -1,7 +1,8 @@
 use Rattle.rob_cert.specs.View.{certificate_of}
 use Rattle.rob_model.specs.View.{robust}
-use Rattle.rob_top.specs.declared.files.Task.TheVariants.{Prove}
-use Rattle.rob_top.proofs.SolvingLemmas.{counterpart_few, of_one_model, certificate_answers, prove_solves, solution_fits, solve_counted, stop_of, stopped_answers}
+use Rattle.std.proofs.Common.{refl}
+use Rattle.rob_words.specs.declared.verb.Verb.TheVariants.{Prove}
+use Rattle.rob_top.proofs.SolvingLemmas.{counterpart_few, of_one_model, certificate_answers, solution_fits, solve_counted, stop_of, stopped_answers}
 use Rattle.rob_top.proofs.solving.prove.Goals as goal
 
 pub solve_dual-requires-clause-model : goal.solve_dual-requires-clause-model
@@ -36,7 +37,7 @@ pub returns-in-Err-clause-answers : goal.returns-in-Err-clause-answers
 returns-in-Err-clause-answers g c =
     let solved = c.in-Err.ensures.solves (robust g.N.Exact.value c.args.model.now) c.requires.valid.well_formed c.requires.forms c.requires.set in
     stopped_answers g.N.Exact.limit (robust g.N.Exact.value c.args.model.now) (g.L.Ledger.wides c.args.ledger.now) (g.L.Ledger.wides c.solve_dual.new.ledger) Prove c.in-Err.stop
-    c.stopped.result prove_solves solved.stopped solved.counted c.stopped.ensures.stop
+    c.stopped.result refl solved.stopped solved.counted c.stopped.ensures.stop
 
 pub returns-in-Err-clause-counted : goal.returns-in-Err-clause-counted
 returns-in-Err-clause-counted g c =

@@ -12,16 +12,16 @@ not_elaborated-requires-in-Err-elaborate-clause-named g c =
 
 pub returns-in-Err-clause-answers : goal.returns-in-Err-clause-answers
 returns-in-Err-clause-answers g c =
-    set_answers g.N.Exact.limit (robust g.N.Exact.value c.args.model.now) (g.L.Ledger.wides c.args.ledger.now) (g.L.Ledger.wides c.clear_set.new.ledger) c.args.task.now c.in-Err.error
+    set_answers g.N.Exact.limit (robust g.N.Exact.value c.args.model.now) (g.L.Ledger.wides c.args.ledger.now) (g.L.Ledger.wides c.clear_set.new.ledger) c.args.verb c.args.texts.now c.in-Err.error
     c.not_elaborated.result c.in-Err.ensures.cause c.in-Err.ensures.rose c.not_elaborated.ensures.refused
 
 pub returns-in-Ok-elaborate-clause-answers : goal.returns-in-Ok-elaborate-clause-answers
 returns-in-Ok-elaborate-clause-answers g c =
     whole_answers g.N.Exact.limit (robust g.N.Exact.value c.args.model.now) (g.L.Ledger.wides c.args.ledger.now) (g.L.Ledger.wides c.elaborate.new.ledger)
-    (g.L.Ledger.wides c.on_forms.new.ledger) c.args.task.now c.on_forms.result (omega (arith, c.clear_set.ensures.wides, c.elaborate.ensures.wides)) c.in-Ok.ensures.none_wide c.in-Ok-elaborate.ensures.none_wide c.on_forms.ensures.answers
+    (g.L.Ledger.wides c.on_forms.new.ledger) c.args.verb c.args.texts.now c.on_forms.result (omega (arith, c.clear_set.ensures.wides, c.elaborate.ensures.wides)) c.in-Ok.ensures.none_wide c.in-Ok-elaborate.ensures.none_wide c.on_forms.ensures.answers
 
 pub returns-clause-answers : goal.returns-clause-answers
 returns-clause-answers g c =
     forms_answers g.N.Exact.limit (robust g.N.Exact.value c.args.model.now) (g.L.Ledger.wides c.args.ledger.now) (g.L.Ledger.wides c.clear_set.new.ledger)
-    (g.L.Ledger.wides c.elaborate.new.ledger) c.args.task.now c.in-Err-elaborate.error c.not_elaborated-in-Err-elaborate.result c.clear_set.ensures.wides c.in-Ok.ensures.none_wide
+    (g.L.Ledger.wides c.elaborate.new.ledger) c.args.verb c.args.texts.now c.in-Err-elaborate.error c.not_elaborated-in-Err-elaborate.result c.clear_set.ensures.wides c.in-Ok.ensures.none_wide
     c.in-Err-elaborate.ensures.cause c.in-Err-elaborate.ensures.rose c.not_elaborated-in-Err-elaborate.ensures.refused

@@ -2,18 +2,14 @@ use Rattle.std.proofs.Common.{◌≡◌, ◌∙◌, Err, ap, map, string_bytes, 
 use denote.Enum.Bare.{sameb}
 use Rattle.clap.specs.contracts.error.kind.ErrorKind.{the_type}
 use Rattle.clap.specs.declared.error.kind.ErrorKind.TheVariants.{OutOfMemory}
-use Rattle.rob_words.proofs.Takings.{named-map, parsed-cause, parsed-texts, refused-cause}
+use Rattle.rob_words.specs.Texts.{holding_of}
+use Rattle.rob_words.proofs.Takings.{named-map, parsed-texts, refused-cause}
 use Rattle.rob_words.proofs.grammar.read_texts.Goals as goal
 
 pub returns-in-Ok-clause-texts : goal.returns-in-Ok-clause-texts
 returns-in-Ok-clause-texts c = parsed-texts c.args.verb _ (map string_bytes c.args.words.now) c.in_ok-command.ensures.grammar c.in-Ok.matches
     (named-map string_bytes c.args.words.now c.requires.named) c.requires.admitted c.in-Ok.ensures.kinds (λ simple. (c.in-Ok.ensures.matches simple).0)
-    c.texts_of.result c.texts_of.ensures.found c.ok_or.result c.ok_or.ensures.value
-
-pub returns-in-Ok-clause-cause : goal.returns-in-Ok-clause-cause
-returns-in-Ok-clause-cause c = parsed-cause c.args.verb _ (map string_bytes c.args.words.now) c.in_ok-command.ensures.grammar c.in-Ok.matches
-    (named-map string_bytes c.args.words.now c.requires.named) c.requires.admitted c.in-Ok.ensures.kinds (λ simple. (c.in-Ok.ensures.matches simple).0)
-    c.texts_of.result c.texts_of.ensures.found c.ok_or.result c.ok_or.ensures.value
+    (holding_of c.in_ok-texts_of-in-Ok.field-0) c.in_ok-texts_of-in-Ok.ensures.found
 
 pub returns-clause-cause : goal.returns-clause-cause
 returns-clause-cause c = refused-cause c.args.verb _ (map string_bytes c.args.words.now) c.in_ok-command.ensures.grammar c.in-Err-2.field-0

@@ -22,5 +22,5 @@ returns-in_err-route-clause-cause c = passed-no_line (map string_bytes c.args.wo
     c.in_ok-texts.ensures.texts in c.in_err-route.ensures.judged way.0 way.1)
 
 pub returns-clause-line : goal.returns-clause-line
-returns-clause-line c = spelled-line c.in_ok-verb.verb (map string_bytes c.args.words.now) c.in_ok-verb.ensures.named.0 _ c.in_ok-width.width c.in_ok-route.route _
-    c.in_ok-verb.ensures.named.1 c.in_ok-texts.ensures.texts c.in_ok-width.ensures.judged c.in_ok-route.ensures.judged c.in_ok-command.ensures.command
+returns-clause-line c = spelled-line c.in_ok-verb.verb (map string_bytes c.args.words.now) c.in_ok-verb.ensures.named.0 _ c.in_ok-width.width c.in_ok-route.route
+    c.in_ok-verb.ensures.named.1 c.in_ok-texts.ensures.texts c.in_ok-width.ensures.judged c.in_ok-route.ensures.judged

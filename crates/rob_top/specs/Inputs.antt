@@ -1,0 +1,43 @@
+-- What was read: the model, its whole numbers, and the certificate, by the words of a call and its files.
+use Rattle.std.specs.Prelude.{◌≡◌, ◌++◌, ℕ, List}
+use Rattle.rob_cert.specs.Apart.{FitsLines}
+use Rattle.rob_cert.specs.Whole.{IsTextOf}
+use Rattle.rob_elab.specs.Forms.{judged_forms}
+use Rattle.rob_meaning.specs.Certificates.{Certificate}
+use Rattle.rob_meaning.specs.Places.{Each}
+use Rattle.rob_meaning.specs.RobustModel.{RobustModel}
+use Rattle.rob_parse.specs.Modelled.{ReadsModel}
+use Rattle.rob_sets.specs.FirstWide.{NothingWide}
+use Rattle.rob_sets.specs.SetForm.{judged_set}
+use Rattle.rob_top.specs.Calls.{Call, Came, HasFile, limit_of, requests}
+use Rattle.rob_words.specs.Commands.{Line, IsSpelled}
+use Rattle.rob_words.specs.declared.verb.Own.TheVariants as own
+use Rattle.rob_words.specs.declared.verb.Verb.TheVariants.{Check}
+
+module _ (call : Call) where
+  -- the words are this command line, the files that it names came, and that of its model reads, at the line's width, as this
+  -- model
+  pub record HasModel (line : Line) (m : RobustModel) : Type 0 where
+    pub spelled : IsSpelled call.words line
+    pub came : Each (Came call) (requests line)
+    pub bytes : List ℕ
+    pub file : HasFile call line own.Model bytes
+    pub reads : ReadsModel (limit_of line) bytes m
+
+  -- and no number of its set rows and forms is wide
+  pub record HasForms (line : Line) (m : RobustModel) : Type 0 where
+    pub model : HasModel line m
+    pub none_wide : NothingWide (limit_of line) m (judged_set m ++ judged_forms m)
+
+  -- and the words say `check`, and the file of the certificate came, with these bytes
+  pub record HasCertificateFile (line : Line) (m : RobustModel) (bytes : List ℕ) : Type 0 where
+    pub forms : HasForms line m
+    pub is_check : line.verb ≡ Check
+    pub file : HasFile call line own.Certificate bytes
+
+  -- and it is the text of this certificate, whose numbers are within the line's width
+  pub record HasCertificate (line : Line) (m : RobustModel) (c : Certificate) : Type 0 where
+    pub bytes : List ℕ
+    pub file : HasCertificateFile line m bytes
+    pub text : IsTextOf m c bytes
+    pub fits : FitsLines (limit_of line) m c

@@ -1,0 +1,63 @@
+-- Refusals: a number that is wide, and a text that breaks a rule.
+use Rattle.std.specs.Prelude.{◌≡◌, ◌++◌, ℕ, List}
+use Rattle.rob_cert.specs.Causes.{HasCause}
+use Rattle.rob_cert.specs.Reading.{start}
+use Rattle.rob_cert.specs.Spelling.{naming_of}
+use Rattle.rob_cert.specs.declared.error.CertErr.TheVariants.{Rule}
+use Rattle.rob_check.specs.Conditions.{verdict_of}
+use Rattle.rob_check.specs.declared.verdict.Verdict.TheVariants as verdict
+use Rattle.rob_dualize.specs.Solving.{IsWideSpot as IsWideOnPath}
+use Rattle.rob_elab.specs.Forms.{judged_forms}
+use Rattle.rob_meaning.specs.Certificates.{Certificate}
+use Rattle.rob_meaning.specs.Places.{Each}
+use Rattle.rob_meaning.specs.RobustModel.{RobustModel}
+use Rattle.rob_model.specs.declared.place.Place.{Place}
+use Rattle.rob_model.specs.declared.place.Spot.{Spot}
+use Rattle.rob_model.specs.declared.place.Spot.TheVariants.{Check}
+use Rattle.rob_parse.specs.Reading.{Breaks}
+use Rattle.rob_report.specs.Spots.{too_wide_line}
+use Rattle.rob_sets.specs.FirstWide.{IsFirstWide}
+use Rattle.rob_sets.specs.SetForm.{judged_set}
+use Rattle.rob_top.specs.Answers.{certificate_text, model_text}
+use Rattle.rob_top.specs.Calls.{Call, Came, HasFile, IsSolving, WasRaised, limit_of, requests}
+use Rattle.rob_top.specs.Inputs.{HasCertificate, HasCertificateFile, HasForms, HasModel}
+use Rattle.rob_words.specs.Commands.{Line, IsSpelled}
+use Rattle.rob_words.specs.declared.verb.Own.TheVariants as own
+
+module _ (call : Call) where
+  -- the spot's number is wide: of the numbers of the set rows and forms it is the first; or it is a number of a row of a basis
+  -- on the path of the set's program, or of the model's counterpart; or it is a number of a check, before which no condition
+  -- fails and no number is wide
+  pub data IsWideSpot (line : Line) (m : RobustModel) (spot : Spot) : Type 0 where
+    elaborating : HasModel call line m → IsFirstWide (limit_of line) m (judged_set m ++ judged_forms m) spot
+        → IsWideSpot line m spot
+    solving : HasForms call line m → IsSolving line.verb → IsWideOnPath (limit_of line) m spot → IsWideSpot line m spot
+    checking : (c : Certificate) (place : Place) → HasCertificate call line m c → spot ≡ Check place
+        → verdict_of (limit_of line) m c ≡ verdict.TooWide place → IsWideSpot line m spot
+
+  -- a number is wider than the command line's width, and the ledger has counted it in this call
+  pub record IsTooWide (spot : Spot) (text : List ℕ) : Type 0 where
+    pub line : Line
+    pub m : RobustModel
+    pub wide : IsWideSpot line m spot
+    pub raised : WasRaised call.wides
+    pub printed : text ≡ too_wide_line m spot
+
+  -- the files came, and the model's text breaks the rule at the line, first
+  pub record IsNoModel (rule number : ℕ) (text : List ℕ) : Type 0 where
+    pub line : Line
+    pub spelled : IsSpelled call.words line
+    pub came : Each (Came call) (requests line)
+    pub bytes : List ℕ
+    pub file : HasFile call line own.Model bytes
+    pub breaks : Breaks (limit_of line) bytes rule number
+    pub printed : text ≡ model_text rule number
+
+  -- the certificate's text breaks the rule at the line, first
+  pub record IsNoCertificate (rule number : ℕ) (text : List ℕ) : Type 0 where
+    pub line : Line
+    pub m : RobustModel
+    pub bytes : List ℕ
+    pub file : HasCertificateFile call line m bytes
+    pub breaks : HasCause (naming_of m) (limit_of line) start bytes 1 (Rule rule number)
+    pub printed : text ≡ certificate_text rule number

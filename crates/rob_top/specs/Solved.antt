@@ -1,0 +1,81 @@
+-- The answers of `rows`, `solve` and `prove`.
+use Rattle.std.specs.Prelude.{◌≡◌, ◌≢◌, ◌<◌, ℕ, ℤ, List, map}
+use Rattle.rob_algebra.specs.Fraction.{Fraction, of_int}
+use Rattle.rob_cert.specs.Apart.{FitsLines}
+use Rattle.rob_cert.specs.Shape.{HasShape}
+use Rattle.rob_cert.specs.Spelling.{cert_text}
+use Rattle.rob_dualize.specs.Solving.{IsReadAtEnd, IsShownEmpty}
+use Rattle.rob_meaning.specs.Certificates.{Certificate, Status, optimal, infeasible, unbounded}
+use Rattle.rob_meaning.specs.Guarantee.{HasBound, HasWorstCase}
+use Rattle.rob_meaning.specs.Places.{0ℚ, at}
+use Rattle.rob_meaning.specs.Proves.{Proves, HasStatus}
+use Rattle.rob_meaning.specs.RobustModel.{RobustModel, set_count}
+use Rattle.rob_meaning.specs.SetRows.{set_of_set_row}
+use Rattle.rob_meaning.specs.UncertaintySet.{Admits, AdmitsIn}
+use Rattle.rob_report.specs.Report.{report_of}
+use Rattle.rob_report.specs.Rows.{rows_of}
+use Rattle.rob_report.specs.Spots.{empty_set_lines}
+use Rattle.rob_top.specs.Calls.{Call, IsSolving, limit_of}
+use Rattle.rob_top.specs.Inputs.{HasForms}
+use Rattle.rob_words.specs.Commands.{Line}
+use Rattle.rob_words.specs.declared.verb.Verb.{Verb}
+use Rattle.rob_words.specs.declared.verb.Verb.TheVariants.{Rows, Solve, Prove}
+
+module _ (call : Call) where
+  -- ---- `rows`
+
+  -- the set rows and the forms are printed, in whole numbers
+  pub record IsRows (text : List ℕ) : Type 0 where
+    pub line : Line
+    pub m : RobustModel
+    pub forms : HasForms call line m
+    pub is_rows : line.verb ≡ Rows
+    pub printed : text ≡ rows_of m
+
+  -- ---- `solve` and `prove`
+
+  -- what is printed of a certificate: its plan and policies, or all of it; other commands print none
+  abbrev pub IsPrinted : Verb → RobustModel → Certificate → List ℕ → Type 0
+  IsPrinted Solve m c text = text ≡ report_of m c
+  IsPrinted Prove m c text = text ≡ cert_text m c
+  IsPrinted _ m c text = ⊥
+
+  -- the plan keeps each row in every scenario that the row's set admits, and its worst case is the value; of an unbounded model's
+  -- plan it is a bound
+  abbrev pub IsKept : RobustModel → Certificate → Status → Type 0
+  IsKept m c optimal = HasWorstCase m c.plan c.value
+  IsKept m c infeasible = Unit {0}
+  IsKept m c unbounded = HasBound m c.plan c.value
+
+  -- the model has the status: a certificate of it was found that proves it, as the last basis of the model's counterpart
+  -- gives it, and it, or its plan, is printed. It has its shape and its numbers fit, so that what `prove` prints is the text of a
+  -- certificate
+  pub record IsSolved (status : Status) (text : List ℕ) : Type 0 where
+    pub line : Line
+    pub m : RobustModel
+    pub forms : HasForms call line m
+    pub solves : IsSolving line.verb
+    pub c : Certificate
+    pub status_is : c.status ≡ status
+    pub holds : HasStatus m status c.value
+    pub kept : IsKept m c status
+    pub proves : Proves m c
+    pub last : IsReadAtEnd m c
+    pub shape : HasShape m c
+    pub fits : FitsLines (limit_of line) m c
+    pub printed : IsPrinted line.verb m c text
+
+  -- no joint scenario is admitted: with these weights the set rows sum to 0 on each column, and to a negative right side. The rows
+  -- whose weight isn't 0 belong to one set, which admits nothing itself
+  pub record IsEmptySet (weights : List ℤ) (text : List ℕ) : Type 0 where
+    pub line : Line
+    pub m : RobustModel
+    pub forms : HasForms call line m
+    pub solves : IsSolving line.verb
+    pub none_admitted : (u : List Fraction) → Admits m u → ⊥
+    pub shown : IsShownEmpty m (map of_int weights)
+    pub set : ℕ
+    pub is_set : set < set_count m
+    pub own : (i : ℕ) → at (map of_int weights) i ≢ 0ℚ → set_of_set_row m i ≡ set
+    pub none_in_set : (u : List Fraction) → AdmitsIn m set u → ⊥
+    pub printed : text ≡ empty_set_lines m weights
