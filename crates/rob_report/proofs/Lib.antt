@@ -3,6 +3,7 @@ mod NameLemmas
 mod LabelLemmas
 mod ReportLemmas
 mod TermLemmas
+mod TableLemmas
 mod ColumnLemmas
 mod PlaceAnswers
 pub mod SpotLemmas

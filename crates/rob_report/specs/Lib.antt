@@ -1,5 +1,6 @@
 pub mod Lines
 pub mod Rows
 pub mod Report
+pub mod Tables
 pub mod Places
 pub mod Spots

@@ -70,7 +70,7 @@ fn form_columns<N: Exact>(alloc: Global, model: &Model<N>) -> Result<List<Text>,
 }
 
 /// A text of one word.
-fn word(alloc: Global, bytes: &[u8]) -> Result<Text, Memory>
+pub fn word(alloc: Global, bytes: &[u8]) -> Result<Text, Memory>
     ensures text { IfOk result (λ text. text ≡ bytes.now) }
 {
     let mut text = Text::new(alloc);

@@ -1,5 +1,5 @@
-//! The texts that are printed: the rows of a model, the report of a certificate, the spots of wide numbers, the places of
-//! rejected certificates, and the weights that show an empty set.
+//! The texts that are printed: the rows of a model, the report of a certificate, the table of a scenario file, the spots of
+//! wide numbers, the places of rejected certificates, and the weights that show an empty set.
 #![tactic(auto)]
 
 mod empty_set;
@@ -10,6 +10,7 @@ mod places;
 mod report;
 mod rows;
 mod spots;
+mod table;
 mod terms;
 
 pub use empty_set::empty_set_text;
@@ -17,3 +18,4 @@ pub use places::place_text;
 pub use report::report_text;
 pub use rows::rows_text;
 pub use spots::spot_text;
+pub use table::table_text;

@@ -19,6 +19,8 @@ mod outside;
 #[cfg(test)]
 mod parse;
 #[cfg(test)]
+mod replay;
+#[cfg(test)]
 mod rows;
 #[cfg(test)]
 mod simplex;

@@ -1,0 +1,12 @@
+pub mod GatherLemmas
+pub mod NumberLemmas
+pub mod FieldLemmas
+pub mod HeaderLemmas
+pub mod StopLemmas
+pub mod LineLemmas
+pub mod ReplayedLemmas
+pub mod RowLemmas
+pub mod FileLemmas
+pub mod OneFileLemmas
+pub mod OutcomeLemmas
+pub mod TableLemmas

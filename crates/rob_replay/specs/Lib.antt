@@ -1,0 +1,10 @@
+pub mod Counts
+pub mod Gathering
+pub mod Files
+pub mod Fields
+pub mod Headers
+pub mod Lines
+pub mod Outcome
+pub mod View
+pub mod Stops
+pub mod Replayed
