@@ -18,3 +18,13 @@ pub record Told {T E : Type 0} (before now : ℕ) (result : Result T E) : Type 0
 pub record CountsOne {S T E : Type 0} (ops_of wides_of : S → ℕ) (before now : S) (result : Result T E) : Type 0 where
   pub ops : ops_of now ≡ raised (ops_of before)
   pub wides : MatchResult result (λ _. wides_of now ≡ wides_of before) (λ _. wides_of now ≡ raised (wides_of before))
+
+-- of the two counts, the operations never fell, and the wide results were raised once exactly where the call refused
+pub record CountsWide {S T E : Type 0} (ops_of wides_of : S → ℕ) (before now : S) (result : Result T E) : Type 0 where
+  pub ops : ops_of before ≤ ops_of now
+  pub wides : MatchResult result (λ _. wides_of now ≡ wides_of before) (λ _. wides_of now ≡ raised (wides_of before))
+
+-- of the two counts, neither fell
+pub record NeverFell {S : Type 0} (ops_of wides_of : S → ℕ) (before now : S) : Type 0 where
+  pub ops : ops_of before ≤ ops_of now
+  pub wides : wides_of before ≤ wides_of now

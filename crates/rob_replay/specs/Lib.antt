@@ -1,4 +1,3 @@
-pub mod Counts
 pub mod Gathering
 pub mod Files
 pub mod Fields

@@ -2,7 +2,7 @@
 
 ghost use Rattle.std.specs.Prelude.{◌≡◌, ◌≤◌, map, IfOk, option_map};
 ghost use Rattle.csv.specs.Records.{fields_of};
-ghost use Rattle.rob_replay.specs.Counts.{NeverFell};
+ghost use Rattle.rob_number.specs.Counts.{NeverFell};
 ghost use Rattle.rob_replay.specs.Fields.{numbers_in};
 ghost use Rattle.rob_replay.specs.Headers.{scenario_at};
 

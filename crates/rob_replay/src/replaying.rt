@@ -6,7 +6,7 @@ ghost use Rattle.rob_model.specs.Valid.{IsValid};
 ghost use Rattle.rob_model.specs.View.{robust, plan_of};
 ghost use Rattle.rob_meaning.specs.Guarantee.{HasBound};
 ghost use Rattle.rob_meaning.specs.Places.{Each};
-ghost use Rattle.rob_replay.specs.Counts.{NeverFell};
+ghost use Rattle.rob_number.specs.Counts.{NeverFell};
 ghost use Rattle.rob_replay.specs.Files.{IsFile};
 ghost use Rattle.rob_replay.specs.Replayed.{IsTable, ShowsBound};
 ghost use Rattle.rob_replay.specs.Outcome.{outcome, record_outcome, records_outcome};

@@ -5,7 +5,7 @@ ghost use Rattle.std.specs.Bool.{OnTrue, OnFalse};
 ghost use Rattle.rob_linear.specs.Vectors.{Matrix, Vector};
 ghost use Rattle.rob_linear.specs.WideRows.{HasWideRow, NeedsAuxiliary};
 ghost use Rattle.rob_rows.specs.PrimitiveParts.{IsWithin};
-ghost use Rattle.rob_simplex.specs.Counts.{CountsWide};
+ghost use Rattle.rob_number.specs.Counts.{CountsWide};
 ghost use Rattle.rob_simplex.specs.Dictionaries.{sized, rows_of, columns_of, AreColumns};
 ghost use Rattle.rob_simplex.specs.FirstEndings.{FirstEnds};
 ghost use Rattle.rob_simplex.specs.Phases.{InSecond};

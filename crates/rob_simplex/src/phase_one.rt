@@ -4,7 +4,7 @@ ghost use Rattle.std.specs.Prelude.{◌≡◌, ◌≢◌, ◌+◌, ◌*◌, ◌�
 ghost use Rattle.rob_linear.specs.Vectors.{Matrix, Vector};
 ghost use Rattle.rob_linear.specs.WideRows.{HasWideRow, NeedsAuxiliary};
 ghost use Rattle.rob_rows.specs.PrimitiveParts.{IsWithin};
-ghost use Rattle.rob_simplex.specs.Counts.{CountsWide};
+ghost use Rattle.rob_number.specs.Counts.{CountsWide};
 ghost use Rattle.rob_simplex.specs.Dictionaries.{sized, rows_of, columns_of, AreColumns};
 ghost use Rattle.rob_simplex.specs.Starts.{IsStart};
 ghost use Rattle.rob_simplex.specs.FirstPhases.{InFirst};

@@ -7,7 +7,7 @@ ghost use Rattle.std.specs.Prelude.{◌≡◌, ◌≢◌, ◌<◌, ◌≤◌, �
 ghost use Rattle.rob_simplex.specs.Listed.{AreListed};
 ghost use Rattle.rob_rows.specs.PrimitiveParts.{IsWithin};
 ghost use Rattle.rob_simplex.specs.Tables.{row_at, IsCleared, IsPivoted, IsWideClear, IsWidePivot};
-ghost use Rattle.rob_simplex.specs.Counts.{CountsWide};
+ghost use Rattle.rob_number.specs.Counts.{CountsWide};
 
 use crate::nonzero::list_places;
 use crate::room::Room;

@@ -2,7 +2,7 @@
 
 ghost use Rattle.std.specs.Prelude.{◌≡◌, ◌+◌, ◌*◌, length, IfOk, IfErr};
 ghost use Rattle.rob_rows.specs.PrimitiveParts.{IsWithin};
-ghost use Rattle.rob_simplex.specs.Counts.{CountsWide};
+ghost use Rattle.rob_number.specs.Counts.{CountsWide};
 ghost use Rattle.rob_simplex.specs.Dictionaries.{AreColumns};
 ghost use Rattle.rob_simplex.specs.Turning.{HasTurned, IsWideTurn};
 

@@ -6,7 +6,7 @@ ghost use Rattle.rob_rows.specs.LinearPrograms.{IsShaped, HasNumbersWithin, prog
 ghost use Rattle.rob_simplex.specs.Solvers.{positions, entries, HasPoint, HasOptimum, HasRay, HasWeights, column_of, IsMadeFor};
 ghost use Rattle.rob_simplex.specs.Solutions.{point_of, ray_of, dual_of, value_of, weights_of, over_objective};
 ghost use Rattle.rob_linear.specs.Programs.{Program};
-ghost use Rattle.rob_simplex.specs.Counts.{CountsWide};
+ghost use Rattle.rob_number.specs.Counts.{CountsWide};
 ghost use Rattle.rob_simplex.specs.Dictionaries.{columns_of};
 ghost use Rattle.rob_simplex.specs.Endings.{IsFresh, HasAnswered, HasSolved, HasStopped};
 
