@@ -92,10 +92,6 @@ sum_fits l r h k = omega (arith, ints)
 pub sum_seen : (l r : ℤ) → nat_abs l < 2 ^ 124 → nat_abs r < 2 ^ 124 → to_z w128 (of_z w128 (to_z w128 (of_z w128 l) +ℤ to_z w128 (of_z w128 r))) ≡ l +ℤ r
 sum_seen l r h k = omega (arith, ints)
 
-pub whole_sum_seen : (a b : ℤ) → nat_abs a < 2 ^ 62 → nat_abs b < 2 ^ 62
-    → to_z w128 (of_z w128 (to_z w64 (of_z w64 (to_z w64 (of_z w64 a) +ℤ to_z w64 (of_z w64 b))))) ≡ a +ℤ b
-whole_sum_seen a b h k = omega (arith, ints)
-
 -- a number of 64 bits is itself in 128
 pub seen_up : (z : ℤ) → SFits w64 z → to_z w128 (of_z w128 (to_z w64 (of_z w64 z))) ≡ z
 seen_up z h = omega (arith, ints)

@@ -106,14 +106,8 @@ impl<const B: u32> Frac<B> {
         self.den
     }
 
-    fn is_whole(self) -> bool
-        ensures whole { IsTrue result ↔ ((value_of self.entry).den ≡ 1) }
-    {
-        self.den == 1
-    }
-
-    /// The product of the numerators.
-    fn numerators(self, other: Self) -> i128
+    /// The product of the numerators, which is that of the numbers where they are whole.
+    pub fn numerators(self, other: Self) -> i128
         ensures value { result ≡ (value_of self.entry).num *ℤ (value_of other.entry).num }
         ensures size { nat_abs result < 2 ^ 124 }
     {
@@ -167,7 +161,7 @@ impl<const B: u32> Frac<B> {
         })
     }
 
-    /// A whole number, where it fits.
+    /// A whole number, where it fits: it needs no greatest common divisor.
     fn whole(num: i128) -> Result<Self, Wide>
         ensures exact { answer value_of result ≡ kept (limit_of B) (of_int num) }
     {
@@ -181,39 +175,37 @@ impl<const B: u32> Frac<B> {
         }
     }
 
-    /// `num / den`, where it fits. A whole number needs no greatest common divisor.
+    /// The whole number as one counted operation, with no search for a common divisor. `Wide` comes exactly where it is over
+    /// the limit in size.
+    pub fn from_whole<L: Ledger>(num: i128, ledger: &mut L) -> Result<Self, Wide>
+        ensures exact { answer value_of result ≡ kept (limit_of B) (of_int num) }
+        ensures counted { CountsOne L.ops L.wides ledger.old ledger.new result }
+    {
+        counted(Self::whole(num), ledger)
+    }
+
+    /// `num / den`, where it fits.
     fn of_parts(num: i64, den: i64) -> Result<Self, Wide>
         requires positive { pos 0 <ℤ den }
         ensures exact { answer value_of result ≡ kept (limit_of B) (of_pair num (nat_abs den)) }
     {
-        if den == 1 {
-            Self::whole(num as i128)
-        } else {
-            Self::reduced(num as i128, den as u128)
-        }
+        Self::reduced(num as i128, den as u128)
     }
 
-    /// The sum, where it fits. That of whole numbers needs no greatest common divisor.
+    /// The sum, where it fits.
     fn plus(self, other: Self) -> Result<Self, Wide>
         ensures exact { answer value_of result
             ≡ kept (limit_of B) (value_of self.entry +ℚ value_of other.entry) }
     {
-        if self.is_whole() && other.is_whole() {
-            return Self::whole((self.numerator() + other.numerator()) as i128);
-        }
         Self::reduced(self.cross_sum(other), self.denominators(other))
     }
 
-    /// The product, where it fits. That of whole numbers needs no greatest common divisor.
+    /// The product, where it fits.
     fn times(self, other: Self) -> Result<Self, Wide>
         ensures exact { answer value_of result
             ≡ kept (limit_of B) (value_of self.entry *ℚ value_of other.entry) }
     {
-        let top = self.numerators(other);
-        if self.is_whole() && other.is_whole() {
-            return Self::whole(top);
-        }
-        Self::reduced(top, self.denominators(other))
+        Self::reduced(self.numerators(other), self.denominators(other))
     }
 
     /// The number with the other sign.
@@ -299,8 +291,8 @@ impl<const B: u32> Ord for Frac<B> {
 impl<const B: u32> Exact for Frac<B> {
     ghost use Rattle.std.specs.Prelude.{refl};
     ghost use Rattle.rob_algebra.specs.FractionOrder.{eq_ℚ-decides, cmp_ℚ-ranks};
-    ghost use Rattle.rob_number.specs.Frac.{value_of};
-    ghost use Rattle.rob_number.specs.Lowest.{Fits-lowest, num_same, den_same, same_lowest, limit_low, limit_high};
+    ghost use Rattle.rob_number.specs.Frac.{value_of, value_of-fits, value_of-injective};
+    ghost use Rattle.rob_number.specs.Lowest.{limit_low, limit_high};
 
     ghost value = { value_of };
 
@@ -308,13 +300,9 @@ impl<const B: u32> Exact for Frac<B> {
 
     ghost LIMIT = { pos (limit_of B) };
 
-    ghost injective = { λ x y e i. record {
-      num = num_same x.num y.num x.den y.den x.lowest y.lowest e i;
-      den = den_same x.num y.num x.den y.den x.lowest y.lowest e i;
-      lowest = same_lowest x.num y.num x.den y.den x.lowest y.lowest e i;
-    } };
+    ghost injective = { value_of-injective };
 
-    ghost fits = { λ x. Fits-lowest (limit_of B) x.num x.den x.lowest };
+    ghost fits = { value_of-fits };
 
     ghost eq_means = { λ x y. eq_ℚ-decides (value_of x) (value_of y) };
 
