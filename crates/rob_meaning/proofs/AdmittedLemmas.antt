@@ -114,7 +114,7 @@ module _ (u : List Fraction) where
         (subst (λ j. EachFrom j Bounded (later sets)) (sym (same_offset (k + length ps) set))
         (each_from_right Bounded (k + length ps) ps (later sets) next)))
 
-length-later : (ps : List Parameter) (sets : List (List ℕ)) →
+pub length-later : (ps : List Parameter) (sets : List (List ℕ)) →
     length (flat_map (λ set. map (in_set set) ps) sets) ≡ length sets * length ps
 length-later ps [] = sym (zero-mul (length ps))
 length-later ps (set ∷ sets) =
