@@ -9,5 +9,6 @@ use Rattle.rob_number.proofs.fraction.Frac.of_parts.Goals as goal
 pub returns-then-den-eq1 : goal.returns-then-den-eq1
 returns-then-den-eq1 g c = record {
   exact = c.whole.ensures.exact ∙ ap (λ z. kept (limit_of g.row.B) (of_int z)) (seen_up c.args.num c.ranges.num)
-      ∙ ap (kept (limit_of g.row.B)) (sym (of_int-one c.args.num (nat_abs c.args.den) (one_bits c.args.den c.ranges.den c.if-den-eq1.true)));
+      ∙ ap (kept (limit_of g.row.B))
+      (sym (of_int-one c.args.num (nat_abs c.args.den) (one_bits c.args.den c.ranges.den c.if-den-eq1.true)));
 }

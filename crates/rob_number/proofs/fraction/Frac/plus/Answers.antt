@@ -12,9 +12,12 @@ pub returns-then-is_whole-2 : goal.returns-then-is_whole-2
 returns-then-is_whole-2 g c = record {
   exact = c.whole.ensures.exact
       ∙ ap (λ z. kept (limit_of g.row.B) (of_int z))
-      (whole_sum_seen c.numerator.result c.numerator-then-is_whole-2.result c.numerator.ensures.size c.numerator-then-is_whole-2.ensures.size
+      (whole_sum_seen c.numerator.result c.numerator-then-is_whole-2.result c.numerator.ensures.size
+      c.numerator-then-is_whole-2.ensures.size
       ∙ ap₂ ◌+ℤ◌ c.numerator.ensures.value c.numerator-then-is_whole-2.ensures.value)
-      ∙ ap (kept (limit_of g.row.B)) (sym (add-wholes (value_of c.args.self) (value_of c.args.other) (c.if-is_whole.ensures.whole.0 refl) (c.if-is_whole-2.ensures.whole.0 refl)));
+      ∙ ap (kept (limit_of g.row.B))
+      (sym (add-wholes (value_of c.args.self) (value_of c.args.other) (c.if-is_whole.ensures.whole.0 refl)
+      (c.if-is_whole-2.ensures.whole.0 refl)));
 }
 
 pub returns : goal.returns
@@ -22,5 +25,6 @@ returns g c = record {
   exact = c.reduced.ensures.exact
       ∙ ap (kept (limit_of g.row.B))
       (add-cross (value_of c.args.self) (value_of c.args.other) _ _
-      (seen_wide c.cross_sum.result (omega (arith, c.cross_sum.ensures.size)) ∙ c.cross_sum.ensures.value) c.denominators.ensures.value);
+      (seen_wide c.cross_sum.result (omega (arith, c.cross_sum.ensures.size)) ∙ c.cross_sum.ensures.value)
+      c.denominators.ensures.value);
 }
