@@ -61,7 +61,8 @@ some_bytes Gap after h = h
 some_bytes Comment after h = h
 
 -- pieces of one shape at the front of one text are one
-one_extent : (s : Shape) (b : ℕ) (xs ys after after' : List ℕ) → Stands s (b ∷ xs) after → Stands s (b ∷ ys) after' → xs ++ after ≡ ys ++ after' → (xs ≡ ys) × (after ≡ after')
+one_extent : (s : Shape) (b : ℕ) (xs ys after after' : List ℕ) → Stands s (b ∷ xs) after → Stands s (b ∷ ys) after'
+    → xs ++ after ≡ ys ++ after' → (xs ≡ ys) × (after ≡ after')
 one_extent (Lexeme Word) b xs ys after after' h k same = one_run goes_on_word xs ys after after' h.1 k.1 same
 one_extent (Lexeme Digits) b xs ys after after' h k same = one_run is_digit xs ys after after' h.1 k.1 same
 one_extent Comment b xs ys after after' h k same = one_run is_no_line_end xs ys after after' h.1 k.1 same
@@ -80,29 +81,37 @@ one_extent (Lexeme Sign) b [] (d ∷ e ∷ ys) after after' h k same = absurd k
 one_extent (Lexeme Sign) b (c ∷ []) (d ∷ e ∷ ys) after after' h k same = absurd k
 
 -- one text has one piece at its front
-pub one_piece : (s t : Shape) (xs ys after after' : List ℕ) → Stands s xs after → Stands t ys after' → xs ++ after ≡ ys ++ after' → (s ≡ t) × (xs ≡ ys) × (after ≡ after')
+pub one_piece : (s t : Shape) (xs ys after after' : List ℕ) → Stands s xs after → Stands t ys after'
+    → xs ++ after ≡ ys ++ after' → (s ≡ t) × (xs ≡ ys) × (after ≡ after')
 one_piece s t [] ys after after' h k same = absurd (some_bytes s after h)
 one_piece s t (x ∷ xs) [] after after' h k same = absurd (some_bytes t after' k)
 one_piece s t (x ∷ xs) (y ∷ ys) after after' h k same =
     let first : x ≡ y = cc in
     let shape : s ≡ t = sym (shape_is s x xs after h) ∙ ap shape_of first ∙ shape_is t y ys after' k in
-    let k' : Stands s (x ∷ ys) after' = subst (λ (b : ℕ). Stands s (b ∷ ys) after') (sym first) (subst (λ (u : Shape). Stands u (y ∷ ys) after') (sym shape) k) in
+    let k' : Stands s (x ∷ ys) after' =
+    subst (λ (b : ℕ). Stands s (b ∷ ys) after') (sym first)
+    (subst (λ (u : Shape). Stands u (y ∷ ys) after') (sym shape) k) in
     let rest = one_extent s x xs ys after after' h k' (cc) in
     (shape, cc, rest.1)
 
 -- where none of the code's tests passes, no piece begins
-pub no_piece : (bytes : List ℕ) (b : ℕ) (rest : List ℕ) → bytes ≡ b ∷ rest → begins_word b ≡ false → is_digit b ≡ false → b ≢ 35 → BeginsNoShortPiece bytes → BeginsNoPiece bytes
-no_piece bytes b rest is no_word no_digit no_comment short shape xs after same stands = none b rest no_word no_digit no_comment (rw is at short) shape xs after (sym is ∙ same) stands
+pub no_piece : (bytes : List ℕ) (b : ℕ) (rest : List ℕ) → bytes ≡ b ∷ rest → begins_word b ≡ false → is_digit b ≡ false
+    → b ≢ 35 → BeginsNoShortPiece bytes → BeginsNoPiece bytes
+no_piece bytes b rest is no_word no_digit no_comment short shape xs after same stands =
+    none b rest no_word no_digit no_comment (rw is at short) shape xs after (sym is ∙ same) stands
   where
-    none : (b : ℕ) (rest : List ℕ) → begins_word b ≡ false → is_digit b ≡ false → b ≢ 35 → BeginsNoShortPiece (b ∷ rest) → (shape : Shape) (xs after : List ℕ) → b ∷ rest ≡ xs ++ after → Stands shape xs after → ⊥
+    none : (b : ℕ) (rest : List ℕ) → begins_word b ≡ false → is_digit b ≡ false → b ≢ 35 → BeginsNoShortPiece (b ∷ rest)
+        → (shape : Shape) (xs after : List ℕ) → b ∷ rest ≡ xs ++ after → Stands shape xs after → ⊥
     none b rest no_word no_digit no_comment short shape [] after same stands = some_bytes shape after stands
     none b rest no_word no_digit no_comment short (Lexeme Word) (x ∷ xs) after same stands = let w = stands.0 in cc
     none b rest no_word no_digit no_comment short (Lexeme Digits) (x ∷ xs) after same stands = let w = stands.0 in cc
-    none b rest no_word no_digit no_comment short Comment (x ∷ xs) after same stands = let w = stands.0 in no_comment (cc)
+    none b rest no_word no_digit no_comment short Comment (x ∷ xs) after same stands =
+        let w = stands.0 in no_comment (cc)
     none b [] no_word no_digit no_comment short (Lexeme Sign) (x ∷ []) after same stands = cc
     none b (c ∷ rest) no_word no_digit no_comment short (Lexeme Sign) (x ∷ []) after same stands = cc
     none b [] no_word no_digit no_comment short (Lexeme Sign) (x ∷ y ∷ []) after same stands = cc
-    none b (c ∷ rest) no_word no_digit no_comment short (Lexeme Sign) (x ∷ y ∷ []) after same stands = let w = stands.0 in short.3 (cc) (cc)
+    none b (c ∷ rest) no_word no_digit no_comment short (Lexeme Sign) (x ∷ y ∷ []) after same stands =
+        let w = stands.0 in short.3 (cc) (cc)
     none b rest no_word no_digit no_comment short (Lexeme Sign) (x ∷ y ∷ z ∷ xs) after same stands = stands
     none b [] no_word no_digit no_comment short (Lexeme LineEnd) (x ∷ []) after same stands = short.0 (cc)
     none b (c ∷ rest) no_word no_digit no_comment short (Lexeme LineEnd) (x ∷ []) after same stands = short.0 (cc)
@@ -112,41 +121,53 @@ no_piece bytes b rest is no_word no_digit no_comment short shape xs after same s
     none b rest no_word no_digit no_comment short Gap (x ∷ y ∷ xs) after same stands = stands
 
 -- a word, digits and a comment from their first byte and the run behind it
-pub stands_word : (n : ℕ) (bytes : List ℕ) → 0 < n → n ≤ length bytes → begins_word (get_or bytes 0 0) ≡ true → IsRun goes_on_word (drop 1 (take n bytes)) (drop n bytes) → Stands (Lexeme Word) (take n bytes) (drop n bytes)
+pub stands_word : (n : ℕ) (bytes : List ℕ) → 0 < n → n ≤ length bytes → begins_word (get_or bytes 0 0) ≡ true
+    → IsRun goes_on_word (drop 1 (take n bytes)) (drop n bytes) → Stands (Lexeme Word) (take n bytes) (drop n bytes)
 stands_word zero bytes some within first run = absurd (omega arith)
 stands_word (suc n) [] some within first run = absurd (omega arith)
 stands_word (suc n) (b ∷ bytes) some within first run = (first, run)
 
-pub stands_digits : (n : ℕ) (bytes : List ℕ) → 0 < n → n ≤ length bytes → is_digit (get_or bytes 0 0) ≡ true → IsRun is_digit (drop 1 (take n bytes)) (drop n bytes) → Stands (Lexeme Digits) (take n bytes) (drop n bytes)
+pub stands_digits : (n : ℕ) (bytes : List ℕ) → 0 < n → n ≤ length bytes → is_digit (get_or bytes 0 0) ≡ true
+    → IsRun is_digit (drop 1 (take n bytes)) (drop n bytes) → Stands (Lexeme Digits) (take n bytes) (drop n bytes)
 stands_digits zero bytes some within first run = absurd (omega arith)
 stands_digits (suc n) [] some within first run = absurd (omega arith)
 stands_digits (suc n) (b ∷ bytes) some within first run = (first, run)
 
-pub stands_comment : (n : ℕ) (bytes : List ℕ) → 0 < n → n ≤ length bytes → get_or bytes 0 0 ≡ 35 → IsRun is_no_line_end (drop 1 (take n bytes)) (drop n bytes) → Stands Comment (take n bytes) (drop n bytes)
+pub stands_comment : (n : ℕ) (bytes : List ℕ) → 0 < n → n ≤ length bytes → get_or bytes 0 0 ≡ 35
+    → IsRun is_no_line_end (drop 1 (take n bytes)) (drop n bytes) → Stands Comment (take n bytes) (drop n bytes)
 stands_comment zero bytes some within first run = absurd (omega arith)
 stands_comment (suc n) [] some within first run = absurd (omega arith)
 stands_comment (suc n) (b ∷ bytes) some within first run = (first, run)
 
 -- the same at what the code found
-pub found_word : (found : Found) (bytes : List ℕ) → found.shape ≡ Lexeme Word → (0 < found.len) × (found.len ≤ length bytes) → begins_word (get_or bytes 0 0) ≡ true → IsRun goes_on_word (drop 1 (take found.len bytes)) (drop found.len bytes) → IsFound found bytes
+pub found_word : (found : Found) (bytes : List ℕ) → found.shape ≡ Lexeme Word → (0 < found.len)
+    × (found.len ≤ length bytes) → begins_word (get_or bytes 0 0) ≡ true
+    → IsRun goes_on_word (drop 1 (take found.len bytes)) (drop found.len bytes) → IsFound found bytes
 found_word found bytes shape within first run = record {
   some = within.0;
   within = within.1;
-  stands = subst (λ (s : Shape). Stands s (take found.len bytes) (drop found.len bytes)) (sym shape) (stands_word found.len bytes within.0 within.1 first run);
+  stands = subst (λ (s : Shape). Stands s (take found.len bytes) (drop found.len bytes)) (sym shape)
+      (stands_word found.len bytes within.0 within.1 first run);
 }
 
-pub found_digits : (found : Found) (bytes : List ℕ) → found.shape ≡ Lexeme Digits → (0 < found.len) × (found.len ≤ length bytes) → is_digit (get_or bytes 0 0) ≡ true → IsRun is_digit (drop 1 (take found.len bytes)) (drop found.len bytes) → IsFound found bytes
+pub found_digits : (found : Found) (bytes : List ℕ) → found.shape ≡ Lexeme Digits → (0 < found.len)
+    × (found.len ≤ length bytes) → is_digit (get_or bytes 0 0) ≡ true
+    → IsRun is_digit (drop 1 (take found.len bytes)) (drop found.len bytes) → IsFound found bytes
 found_digits found bytes shape within first run = record {
   some = within.0;
   within = within.1;
-  stands = subst (λ (s : Shape). Stands s (take found.len bytes) (drop found.len bytes)) (sym shape) (stands_digits found.len bytes within.0 within.1 first run);
+  stands = subst (λ (s : Shape). Stands s (take found.len bytes) (drop found.len bytes)) (sym shape)
+      (stands_digits found.len bytes within.0 within.1 first run);
 }
 
-pub found_comment : (found : Found) (bytes : List ℕ) → found.shape ≡ Comment → (0 < found.len) × (found.len ≤ length bytes) → get_or bytes 0 0 ≡ 35 → IsRun is_no_line_end (drop 1 (take found.len bytes)) (drop found.len bytes) → IsFound found bytes
+pub found_comment : (found : Found) (bytes : List ℕ) → found.shape ≡ Comment → (0 < found.len)
+    × (found.len ≤ length bytes) → get_or bytes 0 0 ≡ 35
+    → IsRun is_no_line_end (drop 1 (take found.len bytes)) (drop found.len bytes) → IsFound found bytes
 found_comment found bytes shape within first run = record {
   some = within.0;
   within = within.1;
-  stands = subst (λ (s : Shape). Stands s (take found.len bytes) (drop found.len bytes)) (sym shape) (stands_comment found.len bytes within.0 within.1 first run);
+  stands = subst (λ (s : Shape). Stands s (take found.len bytes) (drop found.len bytes)) (sym shape)
+      (stands_comment found.len bytes within.0 within.1 first run);
 }
 
 -- a piece that begins with an opening parenthesis is a sign

@@ -67,7 +67,8 @@ pub record AreTokens (text : List ℕ) (list : List Token) : Type 0 where
   pub whole : IsPlace text pieces []
   pub tokens : tokens_of start pieces ≡ list
   -- no place offends
-  pub sound : (before : List Piece) (rest : List ℕ) → IsPlace text before rest → Cause (behind_all start before) rest → ⊥
+  pub sound : (before : List Piece) (rest : List ℕ) → IsPlace text before rest
+      → Cause (behind_all start before) rest → ⊥
 
 -- the number of an offence's rule
 abbrev pub rule_of : Offence → ℕ

@@ -13,18 +13,30 @@ start = record { offset = 0; line = 1; count = 0; depth = 0; begun = false }
 
 -- how many parentheses are open behind a sign
 abbrev pub depth_behind : List ℕ → ℕ → ℕ
-depth_behind sign depth = if slice_index sign 0 == 40 then depth + 1 else (if slice_index sign 0 == 41 then depth - 1 else depth)
+depth_behind sign depth =
+    if slice_index sign 0 == 40 then depth + 1 else (if slice_index sign 0 == 41 then depth - 1 else depth)
 
 -- the place behind a piece
 abbrev pub behind : Place → Shape → List ℕ → Place
-behind at (Lexeme LineEnd) bytes = record { offset = at.offset + length bytes; line = at.line + 1; count = at.count + 1; depth = 0; begun = false }
-behind at (Lexeme Sign) bytes = record { offset = at.offset + length bytes; line = at.line; count = at.count + 1; depth = depth_behind bytes at.depth; begun = true }
-behind at (Lexeme kind) bytes = record { offset = at.offset + length bytes; line = at.line; count = at.count + 1; depth = at.depth; begun = true }
-behind at _ bytes = record { offset = at.offset + length bytes; line = at.line; count = at.count; depth = at.depth; begun = at.begun }
+behind at (Lexeme LineEnd) bytes =
+    record { offset = at.offset + length bytes; line = at.line + 1; count = at.count + 1; depth = 0; begun = false }
+behind at (Lexeme Sign) bytes =
+    record {
+      offset = at.offset + length bytes;
+      line = at.line;
+      count = at.count + 1;
+      depth = depth_behind bytes at.depth;
+      begun = true;
+    }
+behind at (Lexeme kind) bytes =
+    record { offset = at.offset + length bytes; line = at.line; count = at.count + 1; depth = at.depth; begun = true }
+behind at _ bytes =
+    record { offset = at.offset + length bytes; line = at.line; count = at.count; depth = at.depth; begun = at.begun }
 
 -- the token of a piece that begins at the place
 abbrev pub token_at : Place → Shape → List ℕ → List Token
-token_at at (Lexeme kind) bytes = record { kind = kind; start = at.offset; «end» = at.offset + length bytes; line = at.line } ∷ []
+token_at at (Lexeme kind) bytes =
+    record { kind = kind; start = at.offset; «end» = at.offset + length bytes; line = at.line } ∷ []
 token_at at _ bytes = []
 
 -- the place behind all of these pieces

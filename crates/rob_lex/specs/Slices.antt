@@ -6,13 +6,16 @@ use Rattle.rob_lex.specs.declared.piece.Shape.{Shape}
 use Rattle.rob_lex.specs.declared.piece.Shape.TheVariants.{Lexeme}
 use Rattle.rob_lex.specs.Pieces.{Piece}
 
+-- a token without its place
 pub record Lexed : Type 0 where
   pub kind : Kind
   pub bytes : List ℕ
 
+-- the kind and the bytes of a token of the text
 abbrev pub lexed : List ℕ → Token → Lexed
 lexed text t = record { kind = t.kind; bytes = slice_range text t.start t.«end» }
 
+-- what a piece of that shape and these bytes is as a token; a gap and a comment are none
 abbrev pub lexed_at : Shape → List ℕ → List Lexed
 lexed_at (Lexeme kind) bytes = record { kind = kind; bytes = bytes } ∷ []
 lexed_at _ bytes = []

@@ -42,8 +42,8 @@ impl Offence {
 
 /// The piece behind the place, or what offends there.
 pub fn next_piece(at: Place, rest: &[u8]) -> Result<Found, Offence>
-    requires { 0 < length rest.now }
-    ensures { MatchResult result
+    requires some { 0 < length rest.now }
+    ensures piece { MatchResult result
         (λ found. IsFree at rest.now found) (λ offence. OffendsHere at rest.now offence) }
 {
     let Some(found) = front_piece(rest) else {
@@ -66,7 +66,7 @@ pub fn next_piece(at: Place, rest: &[u8]) -> Result<Found, Offence>
 
 /// What offends at the end of the text.
 pub fn end_offence(at: Place) -> Option<Offence>
-    ensures { MatchOption result (Cause at [] → ⊥) (λ offence. OffendsHere at [] offence) }
+    ensures offence { MatchOption result (Cause at [] → ⊥) (λ offence. OffendsHere at [] offence) }
 {
     if at.begun && at.count >= MOST_TOKENS {
         Some(Offence::TooManyTokens)

@@ -1,9 +1,10 @@
 //! The pieces of a text.
 
 ghost use Rattle.std.specs.Prelude.{◌≡◌, ◌+◌, ◌<◌, ◌≤◌, take, drop, length, MatchOption};
-ghost use Rattle.rob_lex.specs.Bytes.{begins_word as begins_word_lem, is_digit as is_digit_lem, is_gap as is_gap_lem, is_short_sign as is_short_sign_lem, begins_long_sign as begins_long_sign_lem};
+ghost use Rattle.rob_lex.specs.Bytes as classes;
 ghost use Rattle.rob_lex.specs.Pieces.{IsRun, Stands, BeginsNoPiece};
-ghost use Rattle.rob_lex.specs.Found.{passes as passes_lem, IsFound, BeginsNoShortPiece};
+ghost use Rattle.rob_lex.specs.Found as runs;
+ghost use Rattle.rob_lex.specs.Found.{IsFound, BeginsNoShortPiece};
 
 use crate::token::Kind;
 
@@ -31,38 +32,44 @@ pub enum Class {
     InComment,
 }
 
+/// Whether a word may begin with the byte.
 fn begins_word(b: u8) -> bool
-    ensures { result ≡ begins_word_lem b }
+    ensures class { result ≡ classes.begins_word b }
 {
     matches!(b, b'a'..=b'z' | b'A'..=b'Z' | b'_')
 }
 
+/// Whether the byte is a digit.
 fn is_digit(b: u8) -> bool
-    ensures { result ≡ is_digit_lem b }
+    ensures class { result ≡ classes.is_digit b }
 {
     matches!(b, b'0'..=b'9')
 }
 
+/// Whether the byte separates pieces.
 fn is_gap(b: u8) -> bool
-    ensures { result ≡ is_gap_lem b }
+    ensures class { result ≡ classes.is_gap b }
 {
     b == b' ' || b == b'\t' || b == b'\r'
 }
 
+/// Whether the byte is a sign by itself.
 fn is_short_sign(b: u8) -> bool
-    ensures { result ≡ is_short_sign_lem b }
+    ensures class { result ≡ classes.is_short_sign b }
 {
     matches!(b, b'('..=b'-' | b'/' | b':' | b'=' | b'[' | b']')
 }
 
+/// Whether the byte begins a sign of two bytes.
 fn begins_long_sign(b: u8) -> bool
-    ensures { result ≡ begins_long_sign_lem b }
+    ensures class { result ≡ classes.begins_long_sign b }
 {
     b == b'<' || b == b'>'
 }
 
+/// Whether a run of the class goes on over the byte.
 fn passes(class: Class, b: u8) -> bool
-    ensures { result ≡ passes_lem class b }
+    ensures class { result ≡ runs.passes class b }
 {
     match class {
         Class::InWord => begins_word(b) || is_digit(b),
@@ -74,7 +81,7 @@ fn passes(class: Class, b: u8) -> bool
 /// How many bytes at the front are of the class.
 fn run_len(bytes: &[u8], class: Class) -> usize
     ensures within { result ≤ length bytes.now }
-    ensures run { IsRun (passes_lem class) (take result bytes.now) (drop result bytes.now) }
+    ensures run { IsRun (runs.passes class) (take result bytes.now) (drop result bytes.now) }
 {
     for (i, b) in bytes.iter().enumerate() {
         if !passes(class, *b) {
@@ -84,11 +91,12 @@ fn run_len(bytes: &[u8], class: Class) -> usize
     bytes.len()
 }
 
+/// The piece of that shape at the front: one byte and the run of the class behind it.
 fn run_piece(kind: Shape, class: Class, bytes: &[u8]) -> Found
-    requires { 0 < length bytes.now }
+    requires some { 0 < length bytes.now }
     ensures shape { result.shape ≡ kind }
     ensures within { (0 < result.len) × (result.len ≤ length bytes.now) }
-    ensures run { IsRun (passes_lem class) (drop 1 (take result.len bytes.now)) (drop result.len bytes.now) }
+    ensures run { IsRun (runs.passes class) (drop 1 (take result.len bytes.now)) (drop result.len bytes.now) }
 {
     Found {
         shape: kind,
@@ -98,8 +106,8 @@ fn run_piece(kind: Shape, class: Class, bytes: &[u8]) -> Found
 
 /// The piece at the front of some bytes.
 pub fn front_piece(bytes: &[u8]) -> Option<Found>
-    requires { 0 < length bytes.now }
-    ensures { MatchOption result (BeginsNoPiece bytes.now) (λ found. IsFound found bytes.now) }
+    requires some { 0 < length bytes.now }
+    ensures piece { MatchOption result (BeginsNoPiece bytes.now) (λ found. IsFound found bytes.now) }
 {
     let first = bytes[0];
     if begins_word(first) {
@@ -116,8 +124,8 @@ pub fn front_piece(bytes: &[u8]) -> Option<Found>
 
 /// The piece of one or two bytes at the front.
 fn short_piece(bytes: &[u8]) -> Option<Found>
-    requires { 0 < length bytes.now }
-    ensures { MatchOption result (BeginsNoShortPiece bytes.now) (λ found. IsFound found bytes.now) }
+    requires some { 0 < length bytes.now }
+    ensures piece { MatchOption result (BeginsNoShortPiece bytes.now) (λ found. IsFound found bytes.now) }
 {
     let (shape, len) = match bytes {
         [b'\n', ..] => (Shape::Lexeme(Kind::LineEnd), 1),

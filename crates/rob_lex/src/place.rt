@@ -1,7 +1,8 @@
 //! A place in the text.
 
 ghost use Rattle.std.specs.Prelude.{◌≡◌, ◌+◌, ◌<◌, ◌^◌, length};
-ghost use Rattle.rob_lex.specs.Places.{start, behind, depth_behind as depth_behind_lem};
+ghost use Rattle.rob_lex.specs.Places.{start, behind};
+ghost use Rattle.rob_lex.specs.Places as places;
 
 use crate::piece::Shape;
 use crate::token::Kind;
@@ -24,7 +25,7 @@ pub struct Place {
 impl Place {
     /// The beginning of a text.
     pub const fn start() -> Place
-        ensures { result ≡ start }
+        ensures place { result ≡ start }
     {
         Place {
             offset: 0,
@@ -39,7 +40,7 @@ impl Place {
     pub fn behind(self, shape: Shape, bytes: &[u8]) -> Place
         requires room { self.offset + length bytes.now < 2 ^ 32 }
         requires counts { (self.line + 1 < 2 ^ 32) × (self.count + 1 < 2 ^ 32) × (self.depth + 1 < 2 ^ 32) }
-        ensures { result ≡ behind self shape bytes.now }
+        ensures place { result ≡ behind self shape bytes.now }
     {
         let mut next = self;
         next.offset += bytes.len() as u32;
@@ -66,8 +67,8 @@ impl Place {
 
 /// How many parentheses are open behind a sign.
 fn depth_behind(sign: &[u8], depth: u32) -> u32
-    requires { depth + 1 < 2 ^ 32 }
-    ensures { result ≡ depth_behind_lem sign.now depth }
+    requires room { depth + 1 < 2 ^ 32 }
+    ensures depth { result ≡ places.depth_behind sign.now depth }
 {
     match sign {
         [b'(', ..] => depth + 1,

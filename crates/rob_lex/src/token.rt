@@ -13,8 +13,8 @@ pub enum Kind {
     LineEnd,
 }
 
-/// A token: the bytes of the source from `start` to before `end`, on a line counted from 1. A line end stands on the line
-/// that it ends.
+/// A token: the bytes of the source from `start` to before `end`, on a line counted from 1. A line end stands on the
+/// line that it ends.
 #[derive(Clone, Copy, Debug, PartialEq, Eq)]
 pub struct Token {
     pub kind: Kind,

@@ -17,14 +17,10 @@ module _ (limit : ℕ) (x : Fraction) where
   err_tells e = wide_of_kept limit x (sym e)
 
   -- where the fraction fits, the call answers
-  pub ok_where_fits : {N E : Type 0} (value : N → Fraction) (r : Result N E) → answer value r ≡ kept limit x → Fits limit x → IsOk r
+  pub ok_where_fits : {N E : Type 0} (value : N → Fraction) (r : Result N E)
+      → answer value r ≡ kept limit x → Fits limit x → IsOk r
   ok_where_fits value (Ok y) e f = refl
   ok_where_fits value (Err _) e f = let p : kept limit x ≡ Some x = kept-fits limit x f in absurd cc
-
-  -- where it is wide, the call refuses
-  pub err_where_wide : {N E : Type 0} (value : N → Fraction) (r : Result N E) → answer value r ≡ kept limit x → IsWide limit x → IsErr r
-  err_where_wide value (Ok y) e w = let p : kept limit x ≡ None = kept-wide limit x w in absurd cc
-  err_where_wide value (Err _) e w = refl
 
 -- ---- a small whole number is answered
 module _ (limit : ℕ) (z : ℤ) (one : 1 ≤ limit) (small : nat_abs z ≤ limit) where

@@ -37,7 +37,8 @@ pub natural_seen : (n : ℕ) → n < 2 ^ 62 → to_z w64 n ≡ pos n
 natural_seen n h = omega (arith, ints)
 
 -- `==` on two small numbers
-pub bits_decide : (a b : ℤ) → nat_abs a < 2 ^ 62 → nat_abs b < 2 ^ 62 → Decides (nat_eq (of_z w64 a) (of_z w64 b)) (a ≡ b)
+pub bits_decide : (a b : ℤ) → nat_abs a < 2 ^ 62 → nat_abs b < 2 ^ 62
+    → Decides (nat_eq (of_z w64 a) (of_z w64 b)) (a ≡ b)
 bits_decide a b h k = (
   λ e. sym (seen a h) ∙ ap (to_z w64) (eqb-true (of_z w64 a) (of_z w64 b) e) ∙ seen b k,
   λ e. eq-eqb (of_z w64 a) (of_z w64 b) (ap (of_z w64) e),
@@ -56,14 +57,16 @@ shifted_fits B h =
     let high : 2 ^ B ≤ 2 ^ 62 = pow_mono h in
     omega (arith, ints, shifted B h)
 
-pub shifted_less : (B : ℕ) → B ≤ 62 → to_z w64 (of_z w64 (to_z w64 (1 * 2 ^ B % 18446744073709551616) -ℤ pos 1)) ≡ pos (2 ^ B - 1)
+pub shifted_less : (B : ℕ) → B ≤ 62
+    → to_z w64 (of_z w64 (to_z w64 (1 * 2 ^ B % 18446744073709551616) -ℤ pos 1)) ≡ pos (2 ^ B - 1)
 shifted_less B h =
     let low : 0 < 2 ^ B = pow_pos B in
     let high : 2 ^ B ≤ 2 ^ 62 = pow_mono h in
     to_z-of_z (shifted_fits B h) ∙ omega (arith, ints, shifted B h)
 
 -- ---- the limit of B bits
-limit_by : (B : ℕ) (a b : Bool) → nat_le 8 B ≡ a → nat_le B 62 ≡ b → 8 ≤ B → B ≤ 62 → cond (a && b) (2 ^ B - 1) 255 ≡ 2 ^ B - 1
+limit_by : (B : ℕ) (a b : Bool) → nat_le 8 B ≡ a → nat_le B 62 ≡ b → 8 ≤ B → B ≤ 62
+    → cond (a && b) (2 ^ B - 1) 255 ≡ 2 ^ B - 1
 limit_by B true true p q h k = refl
 limit_by B true false p q h k = absurd (omega (arith, leb-false B 62 q))
 limit_by B false b p q h k = absurd (omega (arith, leb-false 8 B p))
@@ -72,7 +75,8 @@ pub limit-inside : (B : ℕ) → 8 ≤ B → B ≤ 62 → limit_of B ≡ 2 ^ B -
 unfolding limit_of
 limit-inside B h k = limit_by B (nat_le 8 B) (nat_le B 62) refl refl h k
 
-outside_by : (B : ℕ) (a b : Bool) → nat_le 8 B ≡ a → nat_le B 62 ≡ b → ((8 ≤ B) × (62 < B)) ⊎ (B < 8) → cond (a && b) (2 ^ B - 1) 255 ≡ 255
+outside_by : (B : ℕ) (a b : Bool) → nat_le 8 B ≡ a → nat_le B 62 ≡ b → ((8 ≤ B) × (62 < B)) ⊎ (B < 8)
+    → cond (a && b) (2 ^ B - 1) 255 ≡ 255
 outside_by B true true p q (inl h) = let k : 62 < B = h.1 in absurd (omega (arith, leb-true B 62 q))
 outside_by B true true p q (inr h) = absurd (omega (arith, leb-true 8 B p))
 outside_by B true false p q h = refl
@@ -83,14 +87,13 @@ unfolding limit_of
 limit-outside B h = outside_by B (nat_le 8 B) (nat_le B 62) refl refl h
 
 -- ---- products and sums
-pub product_value : (p a b m n : ℤ) → p ≡ to_z w64 (of_z w64 a) *ℤ to_z w64 (of_z w64 b) → nat_abs a < 2 ^ 62 → nat_abs b < 2 ^ 62 → a ≡ m → b ≡ n → p ≡ m *ℤ n
+pub product_value : (p a b m n : ℤ) → p ≡ to_z w64 (of_z w64 a) *ℤ to_z w64 (of_z w64 b) → nat_abs a < 2 ^ 62
+    → nat_abs b < 2 ^ 62 → a ≡ m → b ≡ n → p ≡ m *ℤ n
 product_value p a b m n e h k f g = e ∙ ap₂ ◌*ℤ◌ (seen a h ∙ f) (seen b k ∙ g)
 
-pub sum_fits : (l r : ℤ) → nat_abs l < 2 ^ 124 → nat_abs r < 2 ^ 124 → SFits w128 (to_z w128 (of_z w128 l) +ℤ to_z w128 (of_z w128 r))
+pub sum_fits : (l r : ℤ) → nat_abs l < 2 ^ 124 → nat_abs r < 2 ^ 124
+    → SFits w128 (to_z w128 (of_z w128 l) +ℤ to_z w128 (of_z w128 r))
 sum_fits l r h k = omega (arith, ints)
-
-pub sum_seen : (l r : ℤ) → nat_abs l < 2 ^ 124 → nat_abs r < 2 ^ 124 → to_z w128 (of_z w128 (to_z w128 (of_z w128 l) +ℤ to_z w128 (of_z w128 r))) ≡ l +ℤ r
-sum_seen l r h k = omega (arith, ints)
 
 -- a number of 64 bits is itself in 128
 pub seen_up : (z : ℤ) → SFits w64 z → to_z w128 (of_z w128 (to_z w64 (of_z w64 z))) ≡ z
@@ -99,8 +102,10 @@ seen_up z h = omega (arith, ints)
 pub one_bits : (z : ℤ) → SFits w64 z → of_z w64 z ≡ 1 → nat_abs z ≡ 1
 one_bits z h e = ap nat_abs (sym (to_z-of_z h)) ∙ ap (λ n. nat_abs (to_z w64 n)) e
 
-pub cast_fits : (B m size : ℕ) (n : ℤ) → SFits w128 n → size ≡ nat_abs n → m ≡ limit_of B → size ≤ m → SFits w64 (to_z w128 (of_z w128 n))
-cast_fits B m size n f p e h = subst (SFits w64) (sym (to_z-of_z f)) (fits_small n (within_limit B (nat_abs n) (omega arith)))
+pub cast_fits : (B m size : ℕ) (n : ℤ) → SFits w128 n → size ≡ nat_abs n → m ≡ limit_of B → size ≤ m
+    → SFits w64 (to_z w128 (of_z w128 n))
+cast_fits B m size n f p e h =
+    subst (SFits w64) (sym (to_z-of_z f)) (fits_small n (within_limit B (nat_abs n) (omega arith)))
 
 sign_small : (z : ℤ) → to_z w32 (of_z w32 (sign_of z)) ≡ sign_of z
 sign_small (pos zero) = refl

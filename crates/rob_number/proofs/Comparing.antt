@@ -11,7 +11,8 @@ pub eq_then : (x y : Fraction) (a b c d : ℤ) → a ≡ x.num → b ≡ y.num �
     → of_z w64 a ≡ of_z w64 b → nat_eq (of_z w64 c) (of_z w64 d) ≡ eq_ℚ x y
 eq_then x y a b c d p q r s ha hb hc hd t =
     one_answer (nat_eq (of_z w64 c) (of_z w64 d)) (eq_ℚ x y) (
-      λ e. ext x y (sym p ∙ (bits_decide a b ha hb).0 (eq-eqb (of_z w64 a) (of_z w64 b) t) ∙ q) (ap nat_abs (sym r ∙ (bits_decide c d hc hd).0 e ∙ s)),
+      λ e. ext x y (sym p ∙ (bits_decide a b ha hb).0 (eq-eqb (of_z w64 a) (of_z w64 b) t) ∙ q)
+          (ap nat_abs (sym r ∙ (bits_decide c d hc hd).0 e ∙ s)),
       λ e. (bits_decide c d hc hd).1 (r ∙ ap (λ (z : Fraction). pos z.den) e ∙ sym s),
     )
     (eq_ℚ-decides x y)
@@ -20,6 +21,8 @@ eq_then x y a b c d p q r s ha hb hc hd t =
 pub eq_else : (x y : Fraction) (a b : ℤ) → a ≡ x.num → b ≡ y.num → nat_abs a < 2 ^ 62 → nat_abs b < 2 ^ 62
     → of_z w64 a ≢ of_z w64 b → nat_eq (of_z w64 a) (of_z w64 b) ≡ eq_ℚ x y
 eq_else x y a b p q ha hb t =
-    one_answer (nat_eq (of_z w64 a) (of_z w64 b)) (eq_ℚ x y)
-    (λ e. absurd (t (eqb-true (of_z w64 a) (of_z w64 b) e)), λ e. (bits_decide a b ha hb).1 (p ∙ ap (λ (z : Fraction). z.num) e ∙ sym q))
+    one_answer (nat_eq (of_z w64 a) (of_z w64 b)) (eq_ℚ x y) (
+      λ e. absurd (t (eqb-true (of_z w64 a) (of_z w64 b) e)),
+      λ e. (bits_decide a b ha hb).1 (p ∙ ap (λ (z : Fraction). z.num) e ∙ sym q),
+    )
     (eq_ℚ-decides x y)

@@ -38,7 +38,12 @@ pub wide_parts : (l : ℕ) (x : Fraction) → (l < nat_abs x.num) ⊎ (l < x.den
 wide_parts l x w = sym (kept-wide l x w)
 
 pub lowest_of : (l : ℕ) (x : Fraction) (n d : ℤ) → n ≡ x.num → d ≡ pos x.den → Fits l x → IsLowest l n d
-lowest_of l x n d p q f = rw (p, q) record { positive = positive; lowest = coprime x; num_fits = f.num_fits; den_fits = f.den_fits }
+lowest_of l x n d p q f = rw (p, q) record {
+  positive = positive;
+  lowest = coprime x;
+  num_fits = f.num_fits;
+  den_fits = f.den_fits;
+}
   where
     positive : pos 0 <ℤ pos x.den
     positive = let h : 0 < x.den = den_pos x in omega (arith, ints)
@@ -49,13 +54,17 @@ sign_of-mul (pos zero) d h = absurd (omega arith)
 sign_of-mul (pos (suc n)) d h = omega (arith, ints)
 sign_of-mul (negsuc n) d h = omega (arith, ints)
 
-pub inv_parts : (x : Fraction) → x ≢ of_int (pos 0) → ((inv_ℚ x).num ≡ with_sign x.num x.den) × ((inv_ℚ x).den ≡ nat_abs x.num)
+pub inv_parts : (x : Fraction) → x ≢ of_int (pos 0) → ((inv_ℚ x).num ≡ with_sign x.num x.den)
+    × ((inv_ℚ x).den ≡ nat_abs x.num)
 unfolding inv_ℚ
 inv_parts x h =
     let some : 0 < nat_abs x.num = size_some x h in
     let top : sign_of x.num *ℤ pos x.den ≡ with_sign x.num x.den = sign_of-mul x.num x.den some in
-    let p : ((of_pair (with_sign x.num x.den) (nat_abs x.num)).num ≡ with_sign x.num x.den) × ((of_pair (with_sign x.num x.den) (nat_abs x.num)).den ≡ nat_abs x.num) =
-    lowest_parts (with_sign x.num x.den) (nat_abs x.num) some (ap (λ k. gcd k (nat_abs x.num)) (nat_abs-with_sign x.num x.den) ∙ gcd_comm x.den (nat_abs x.num) ∙ coprime x) in
+    let p : ((of_pair (with_sign x.num x.den) (nat_abs x.num)).num ≡ with_sign x.num x.den)
+    × ((of_pair (with_sign x.num x.den) (nat_abs x.num)).den ≡ nat_abs x.num) =
+    lowest_parts (with_sign x.num x.den) (nat_abs x.num) some
+    (ap (λ k. gcd k (nat_abs x.num)) (nat_abs-with_sign x.num x.den)
+    ∙ gcd_comm x.den (nat_abs x.num) ∙ coprime x) in
     (ap (λ z. (of_pair z (nat_abs x.num)).num) top ∙ p.0, ap (λ z. (of_pair z (nat_abs x.num)).den) top ∙ p.1)
 
 -- ---- n / d from the quotients by the greatest common divisor
@@ -64,18 +73,21 @@ pub record IsComputed (x : Fraction) (n : ℤ) (top bottom : ℕ) : Type 0 where
   pub numerator : x.num ≡ with_sign n top
   pub denominator : x.den ≡ bottom
 
-pub computed : (n : ℤ) (d size top bottom : ℕ) → 0 < d → size ≡ nat_abs n → top ≡ size / gcd size d → bottom ≡ d / gcd size d → IsComputed (of_pair n d) n top bottom
+pub computed : (n : ℤ) (d size top bottom : ℕ) → 0 < d → size ≡ nat_abs n → top ≡ size / gcd size d
+    → bottom ≡ d / gcd size d → IsComputed (of_pair n d) n top bottom
 computed n d size top bottom h e p q = record {
   numerator = of_pair-num n d h ∙ ap (λ k. with_sign n (k / gcd k d)) (sym e) ∙ ap (with_sign n) (sym p);
   denominator = of_pair-den n d h ∙ ap (λ k. d / gcd k d) (sym e) ∙ sym q;
 }
 
-pub fits_computed : (l m : ℕ) (x : Fraction) (n : ℤ) (top bottom : ℕ) → IsComputed x n top bottom → m ≡ l → top ≤ m → bottom ≤ m → Fits l x
+pub fits_computed : (l m : ℕ) (x : Fraction) (n : ℤ) (top bottom : ℕ) → IsComputed x n top bottom → m ≡ l
+    → top ≤ m → bottom ≤ m → Fits l x
 fits_computed l m x n top bottom p e h k =
     let size : nat_abs x.num ≡ top = ap nat_abs p.numerator ∙ nat_abs-with_sign n top in
     record { num_fits = omega arith; den_fits = omega (arith, p.denominator) }
 
-pub wide_computed : (l m : ℕ) (x : Fraction) (n : ℤ) (top bottom : ℕ) → IsComputed x n top bottom → m ≡ l → (m < top) ⊎ ((top ≤ m) × (m < bottom)) → None ≡ kept l x
+pub wide_computed : (l m : ℕ) (x : Fraction) (n : ℤ) (top bottom : ℕ) → IsComputed x n top bottom → m ≡ l → (m < top)
+    ⊎ ((top ≤ m) × (m < bottom)) → None ≡ kept l x
 wide_computed l m x n top bottom p e (inl h) =
     let size : nat_abs x.num ≡ top = ap nat_abs p.numerator ∙ nat_abs-with_sign n top in
     wide_parts l x (inl (omega arith))
@@ -84,22 +96,29 @@ wide_computed l m x n top bottom p e (inr h) =
     wide_parts l x (inr (omega (arith, p.denominator)))
 
 -- the machine numbers that hold the parts of a fraction that fits
-module _ (B m : ℕ) (x : Fraction) (n : ℤ) (top bottom : ℕ) (s : ℤ) (p : IsComputed x n top bottom) (e : m ≡ limit_of B) (h : top ≤ m) (k : bottom ≤ m)
+module _ (B m : ℕ) (x : Fraction) (n : ℤ) (top bottom : ℕ) (s : ℤ) (p : IsComputed x n top bottom) (e : m ≡ limit_of B)
+    (h : top ≤ m) (k : bottom ≤ m)
     (signed : s ≡ with_sign n (nat_abs (to_z w64 top))) where
   num_held : to_z w64 (of_z w64 s) ≡ x.num
   num_held =
       let held : to_z w64 top ≡ pos top = natural_seen top (within_limit B top (omega arith)) in
       let whole : s ≡ with_sign n top = signed ∙ ap (λ z. with_sign n (nat_abs z)) held in
-      seen s (within_limit B (nat_abs s) (omega (arith, ap nat_abs whole, nat_abs-with_sign n top))) ∙ whole ∙ sym p.numerator
+      seen s (within_limit B (nat_abs s) (omega (arith, ap nat_abs whole, nat_abs-with_sign n top)))
+      ∙ whole ∙ sym p.numerator
 
   den_held : to_z w64 bottom ≡ pos x.den
   den_held = natural_seen bottom (within_limit B bottom (omega arith)) ∙ ap pos (sym p.denominator)
 
   pub reduced_lowest : IsLowest (limit_of B) (to_z w64 (of_z w64 s)) (to_z w64 bottom)
-  reduced_lowest = lowest_of (limit_of B) x (to_z w64 (of_z w64 s)) (to_z w64 bottom) num_held den_held (fits_computed (limit_of B) m x n top bottom p e h k)
+  reduced_lowest =
+      lowest_of (limit_of B) x (to_z w64 (of_z w64 s)) (to_z w64 bottom) num_held den_held
+      (fits_computed (limit_of B) m x n top bottom p e h k)
 
-  pub reduced_exact : (y : Fraction) → y.num ≡ to_z w64 (of_z w64 s) → y.den ≡ nat_abs (to_z w64 bottom) → Some y ≡ kept (limit_of B) x
-  reduced_exact y f g = kept_parts (limit_of B) y x (f ∙ num_held) (g ∙ ap nat_abs den_held) (fits_computed (limit_of B) m x n top bottom p e h k)
+  pub reduced_exact : (y : Fraction) → y.num ≡ to_z w64 (of_z w64 s) → y.den ≡ nat_abs (to_z w64 bottom)
+      → Some y ≡ kept (limit_of B) x
+  reduced_exact y f g =
+      kept_parts (limit_of B) y x (f ∙ num_held) (g ∙ ap nat_abs den_held)
+      (fits_computed (limit_of B) m x n top bottom p e h k)
 
 -- ---- a whole number fits where its size does
 pub whole_wide : (l m size : ℕ) (n : ℤ) → size ≡ nat_abs n → m ≡ l → m < size → None ≡ kept l (of_int n)
@@ -120,12 +139,16 @@ module _ (B m size : ℕ) (n : ℤ) (f : SFits w128 n) (p : size ≡ nat_abs n) 
   whole_lowest = lowest_of (limit_of B) (of_int n) (to_z w64 (of_z w64 (to_z w128 (of_z w128 n)))) (pos 1)
       (whole_held ∙ sym (of_int-parts n).0) (ap pos (sym (of_int-parts n).1)) whole_fits
 
-  pub whole_exact : (y : Fraction) → y.num ≡ to_z w64 (of_z w64 (to_z w128 (of_z w128 n))) → y.den ≡ 1 → Some y ≡ kept (limit_of B) (of_int n)
-  whole_exact y q r = kept_parts (limit_of B) y (of_int n) (q ∙ whole_held ∙ sym (of_int-parts n).0) (r ∙ sym (of_int-parts n).1) whole_fits
+  pub whole_exact : (y : Fraction) → y.num ≡ to_z w64 (of_z w64 (to_z w128 (of_z w128 n))) → y.den ≡ 1
+      → Some y ≡ kept (limit_of B) (of_int n)
+  whole_exact y q r =
+      kept_parts (limit_of B) y (of_int n) (q ∙ whole_held ∙ sym (of_int-parts n).0)
+      (r ∙ sym (of_int-parts n).1) whole_fits
 
 -- ---- the machine numbers that hold an inverse
 module _ (B : ℕ) (x : Fraction) (some : x ≢ of_int (pos 0)) (f : Fits (limit_of B) x) (n d m s a : ℤ)
-    (n_is : n ≡ x.num) (n_small : nat_abs n < 2 ^ 62) (d_is : d ≡ pos x.den) (d_small : nat_abs d < 2 ^ 62) (m_is : m ≡ x.num) (m_small : nat_abs m < 2 ^ 62)
+    (n_is : n ≡ x.num) (n_small : nat_abs n < 2 ^ 62) (d_is : d ≡ pos x.den) (d_small : nat_abs d < 2 ^ 62)
+    (m_is : m ≡ x.num) (m_small : nat_abs m < 2 ^ 62)
     (signed : s ≡ with_sign (to_z w128 (of_z w128 (to_z w64 (of_z w64 n)))) (nat_abs (to_z w64 (of_z w64 d))))
     (size : a ≡ pos (nat_abs (to_z w64 (of_z w64 m)))) where
   s_is : s ≡ with_sign x.num x.den
@@ -135,10 +158,13 @@ module _ (B : ℕ) (x : Fraction) (some : x ≢ of_int (pos 0)) (f : Fits (limit
   a_is = size ∙ ap (λ z. pos (nat_abs z)) (seen m m_small ∙ m_is)
 
   inverse_num : to_z w64 (of_z w64 s) ≡ (inv_ℚ x).num
-  inverse_num = seen s (within_limit B (nat_abs s) (omega (arith, ap nat_abs s_is, nat_abs-with_sign x.num x.den, f.den_fits))) ∙ s_is ∙ sym (inv_parts x some).0
+  inverse_num =
+      seen s (within_limit B (nat_abs s) (omega (arith, ap nat_abs s_is, nat_abs-with_sign x.num x.den, f.den_fits)))
+      ∙ s_is ∙ sym (inv_parts x some).0
 
   inverse_den : to_z w64 (of_z w64 a) ≡ pos (inv_ℚ x).den
-  inverse_den = seen a (within_limit B (nat_abs a) (omega (arith, ap nat_abs a_is, f.num_fits))) ∙ a_is ∙ ap pos (sym (inv_parts x some).1)
+  inverse_den = seen a (within_limit B (nat_abs a) (omega (arith, ap nat_abs a_is, f.num_fits))) ∙ a_is
+      ∙ ap pos (sym (inv_parts x some).1)
 
   inverse_fits : Fits (limit_of B) (inv_ℚ x)
   inverse_fits = record {
@@ -147,7 +173,10 @@ module _ (B : ℕ) (x : Fraction) (some : x ≢ of_int (pos 0)) (f : Fits (limit
   }
 
   pub inverse_lowest : IsLowest (limit_of B) (to_z w64 (of_z w64 s)) (to_z w64 (of_z w64 a))
-  inverse_lowest = lowest_of (limit_of B) (inv_ℚ x) (to_z w64 (of_z w64 s)) (to_z w64 (of_z w64 a)) inverse_num inverse_den inverse_fits
+  inverse_lowest =
+      lowest_of (limit_of B) (inv_ℚ x) (to_z w64 (of_z w64 s)) (to_z w64 (of_z w64 a)) inverse_num
+      inverse_den inverse_fits
 
-  pub inverse_value : (y : Fraction) → y.num ≡ to_z w64 (of_z w64 s) → y.den ≡ nat_abs (to_z w64 (of_z w64 a)) → y ≡ inv_ℚ x
+  pub inverse_value : (y : Fraction) → y.num ≡ to_z w64 (of_z w64 s)
+      → y.den ≡ nat_abs (to_z w64 (of_z w64 a)) → y ≡ inv_ℚ x
   inverse_value y p q = ext y (inv_ℚ x) (p ∙ inverse_num) (q ∙ ap nat_abs inverse_den)

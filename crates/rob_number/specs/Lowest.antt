@@ -43,22 +43,27 @@ pub Fits-lowest : (limit : ℕ) (num den : ℤ) (h : IsLowest limit num den) →
 Fits-lowest limit num den h = record { num_fits = h.num_fits; den_fits = h.den_fits }
 
 -- two pairs of one fraction are one pair
-pub num_same : {limit : ℕ} (n m d e : ℤ) (h : IsLowest limit n d) (k : IsLowest limit m e) → fraction_of n d h ≡ fraction_of m e k → n ≡ m
+pub num_same : {limit : ℕ} (n m d e : ℤ) (h : IsLowest limit n d) (k : IsLowest limit m e)
+    → fraction_of n d h ≡ fraction_of m e k → n ≡ m
 num_same n m d e h k p = ap (λ (x : Fraction). x.num) p
 
-pub den_same : {limit : ℕ} (n m d e : ℤ) (h : IsLowest limit n d) (k : IsLowest limit m e) → fraction_of n d h ≡ fraction_of m e k → d ≡ e
+pub den_same : {limit : ℕ} (n m d e : ℤ) (h : IsLowest limit n d) (k : IsLowest limit m e)
+    → fraction_of n d h ≡ fraction_of m e k → d ≡ e
 den_same n m d e h k p = sym (size_back d h.positive) ∙ ap (λ (x : Fraction). pos x.den) p ∙ size_back e k.positive
 
 -- one pair has its facts in one way only
 lowest_prop : (limit : ℕ) (n d : ℤ) → IsProp (IsLowest limit n d)
 lowest_prop limit n d = hlevel (T_prop, ℕ_set, le_prop)
 
-pub same_lowest : {limit : ℕ} (n m d e : ℤ) (h : IsLowest limit n d) (k : IsLowest limit m e) (p : fraction_of n d h ≡ fraction_of m e k)
+pub same_lowest : {limit : ℕ} (n m d e : ℤ) (h : IsLowest limit n d) (k : IsLowest limit m e)
+    (p : fraction_of n d h ≡ fraction_of m e k)
     → PathP (λ i. IsLowest limit (num_same n m d e h k p i) (den_same n m d e h k p i)) h k
 same_lowest {limit} n m d e h k p =
-    is_prop→PathP (λ i. IsLowest limit (num_same n m d e h k p i) (den_same n m d e h k p i)) (λ i. lowest_prop limit (num_same n m d e h k p i) (den_same n m d e h k p i)) h k
+    is_prop→PathP (λ i. IsLowest limit (num_same n m d e h k p i) (den_same n m d e h k p i))
+    (λ i. lowest_prop limit (num_same n m d e h k p i) (den_same n m d e h k p i)) h k
 
-within : (B : ℕ) (a b : Bool) → nat_le 8 B ≡ a → nat_le B 62 ≡ b → (1 ≤ cond (a && b) (2 ^ B - 1) 255) × (cond (a && b) (2 ^ B - 1) 255 ≤ 2 ^ 62 - 1)
+within : (B : ℕ) (a b : Bool) → nat_le 8 B ≡ a → nat_le B 62 ≡ b → (1 ≤ cond (a && b) (2 ^ B - 1) 255)
+    × (cond (a && b) (2 ^ B - 1) 255 ≤ 2 ^ 62 - 1)
 within B true true p q =
     let low : 2 ^ 8 ≤ 2 ^ B = pow_mono (leb-true 8 B p) in
     let high : 2 ^ B ≤ 2 ^ 62 = pow_mono (leb-true B 62 q) in

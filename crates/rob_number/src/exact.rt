@@ -1,4 +1,4 @@
-// Exact numbers: fractions whose numerator and denominator are bounded, with every operation exact or refused.
+//! Exact numbers: fractions whose numerator and denominator are bounded, with every operation exact or refused.
 
 ghost use Rattle.std.specs.Prelude.{◌≡◌, ◌≢◌, ◌-◌, ◌^◌, ◌≤◌, ℕ, ℤ, pos, nat_abs, ◌<ℤ◌, ◌↔◌};
 ghost use Rattle.std.specs.Bool.{Decides};

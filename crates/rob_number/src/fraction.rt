@@ -1,6 +1,6 @@
-// Fractions of machine numbers. A `Frac<B>` is kept in lowest terms, so that equal numbers have equal fields.
-//     a/b + c/d = (ad + cb) / bd,   a/b * c/d = ac / bd,   a/b < c/d where ad < cb
-// Numerators and denominators have at most 62 bits, so every product and sum here has less than 126.
+//! Fractions of machine numbers. A `Frac<B>` is kept in lowest terms, so that equal numbers have equal fields.
+//!     a/b + c/d = (ad + cb) / bd,   a/b * c/d = ac / bd,   a/b < c/d where ad < cb
+//! Numerators and denominators have at most 62 bits, so every product and sum here has less than 126.
 
 ghost use Rattle.std.specs.Prelude.{◌≡◌, ◌≢◌, ◌+◌, ◌*◌, ◌/◌, ◌^◌, ◌<◌, ◌≤◌, ◌+ℤ◌, ◌*ℤ◌, ◌<ℤ◌, ◌≤ℤ◌, ◌↔◌, IsTrue, ℤ, pos, nat_abs};
 ghost use Rattle.rob_algebra.specs.Gcd.{gcd};

@@ -1,4 +1,5 @@
-// The greatest common divisor, by Euclid's algorithm (Knuth, The Art of Computer Programming, volume 2, section 4.5.2).
+//! The greatest common divisor, by Euclid's algorithm. (Knuth, The Art of Computer Programming, volume 2, section
+//! 4.5.2.)
 
 ghost use Rattle.std.specs.Prelude.{◌≡◌};
 ghost use Rattle.rob_algebra.specs.Gcd.{gcd};

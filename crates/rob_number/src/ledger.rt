@@ -1,4 +1,4 @@
-// The count of operations, and of results that were refused because they are wide.
+//! The count of operations, and of results that were refused because they are wide.
 
 ghost use Rattle.std.specs.Prelude.{◌≡◌, ℕ};
 ghost use Rattle.rob_number.specs.Counts.{raised};

@@ -1,5 +1,5 @@
-//! What every layer above is written with: exact numbers of bounded size, the ledger that counts their operations, lists
-//! and texts, want of memory, and the endings of a linear program.
+//! What every layer above is written with: exact numbers of bounded size, the ledger that counts their operations,
+//! lists and texts, want of memory, and the endings of a linear program.
 #![tactic(auto)]
 
 pub mod exact;

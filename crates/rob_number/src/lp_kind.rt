@@ -1,4 +1,4 @@
-// The three endings of a linear program.
+//! The three endings of a linear program.
 
 /// How a linear program ends: with a best point, with no point, or with points as good as anyone asks for.
 #[derive(Debug, PartialEq, Eq, Clone, Copy)]

@@ -1,4 +1,4 @@
-// Texts: lists of bytes.
+//! Texts: lists of bytes.
 
 ghost use Rattle.std.specs.Prelude.{◌≡◌, ◌≤◌, [], ◌++◌, OnOk, OnErr, length, take};
 

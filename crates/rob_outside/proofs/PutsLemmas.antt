@@ -48,11 +48,13 @@ put_then before middle now first second (Err error) p q =
       done = first ++ q.done;
       refused = q.refused;
       left = q.left;
-      split = ap (λ (list : List (List ℕ)). first ++ list) q.split ∙ sym (append_assoc first q.done (q.refused ∷ q.left));
+      split = ap (λ (list : List (List ℕ)). first ++ list) q.split
+          ∙ sym (append_assoc first q.done (q.refused ∷ q.left));
       grown =
           grown_twice before middle now (whole first) (whole q.done ++ last) p q.grown
           ∙ ap (λ (list : List Put). before ++ list)
-          (sym (append_assoc (whole first) (whole q.done) last) ∙ ap (λ (list : List Put). list ++ last) (sym (map-append (put_as true) first q.done)));
+          (sym (append_assoc (whole first) (whole q.done) last)
+          ∙ ap (λ (list : List Put). list ++ last) (sym (map-append (put_as true) first q.done)));
     }
 
 -- where the count stood before a put that answered an error, it stands behind it in the same way

@@ -16,10 +16,6 @@ IsPrefix-take n text = record { rest = drop n text; whole = sym (take-append-dro
 pub IsPrefix-refl : (text : List ℕ) → IsPrefix text text
 IsPrefix-refl text = record { rest = []; whole = sym (append-nil text) }
 
--- a text is a prefix of itself with more behind it
-pub IsPrefix-append : (text more : List ℕ) → IsPrefix text (text ++ more)
-IsPrefix-append text more = record { rest = more; whole = refl }
-
 -- a prefix of a prefix is a prefix
 pub IsPrefix-trans : (a b c : List ℕ) → IsPrefix a b → IsPrefix b c → IsPrefix a c
 IsPrefix-trans a b c p q = record {
@@ -47,7 +43,8 @@ took_both before middle now first second p q =
     q ∙ ap (λ (m : List ℕ). m ++ second) p ∙ append_assoc before first second
 
 -- all of a text and then a prefix of another is a prefix of both together
-pub took_then_prefix : (before middle now first second : List ℕ) → Took before middle first → TookPrefix middle now second
+pub took_then_prefix : (before middle now first second : List ℕ) → Took before middle first
+    → TookPrefix middle now second
     → TookPrefix before now (first ++ second)
 took_then_prefix before middle now first second p q =
     (first ++ q.0, IsPrefix-behind first q.0 second q.1, took_both before middle now first q.0 p q.2)

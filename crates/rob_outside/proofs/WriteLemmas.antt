@@ -6,8 +6,8 @@ use Rattle.std.specs.Io.KnownBytes.{Appends}
 use Rattle.rob_outside.specs.Taken.{Took, TookKnown}
 use Rattle.rob_outside.proofs.TakenLemmas.{took_both}
 
--- a part of the piece was written and noted, and the rest is left; `before` and `now` are the writer's bytes, where they are
--- known, and `noted` and `notes` what was noted
+-- a part of the piece was written and noted, and the rest is left; `before` and `now` are the writer's bytes, where
+-- they are known, and `noted` and `notes` what was noted
 pub record Writes (before now : Option (List ℕ)) (noted notes piece rest : List ℕ) : Type 0 where
   pub written : List ℕ
   pub split : piece ≡ written ++ rest
@@ -21,13 +21,15 @@ known_both None middle now first second p q = tt
 known_both (Some held) middle now first second p q =
     appended now (subst (λ (m : Option (List ℕ)). Appends m now second) p q)
   where
-    appended : (after : Option (List ℕ)) → Appends (Some (held ++ first)) after second → after ≡ Some (held ++ (first ++ second))
+    appended : (after : Option (List ℕ)) → Appends (Some (held ++ first)) after second
+        → after ≡ Some (held ++ (first ++ second))
     appended None h = absurd h
     appended (Some new) h = ap Some (h ∙ append_assoc held first second)
 
 -- the first bytes of the rest were written and noted
 pub writes_more : (before middle now : Option (List ℕ)) (noted some notes piece rest : List ℕ) (count : ℕ)
-    → Writes before middle noted some piece rest → Appends middle now (take count rest) → Took some notes (take count rest)
+    → Writes before middle noted some piece rest → Appends middle now (take count rest)
+    → Took some notes (take count rest)
     → Writes before now noted notes piece (slice_range rest count (length rest))
 writes_more before middle now noted some notes piece rest count p q t =
     let P : List ℕ → Type 0 = Writes before now noted notes piece in

@@ -11,6 +11,7 @@ pub record FetchState : Type 0 where
   pub log : List Fetch
   pub faults : ℕ
 
+-- the shelf before its first fetch
 abbrev pub no_fetch : FetchState
 no_fetch = record { log = []; faults = 0 }
 
@@ -20,7 +21,8 @@ faults_after faults (Ok value) = faults
 faults_after faults (Err Failed) = raised faults
 faults_after faults (Err Memory) = faults
 
--- the bytes grew by those that the reader lost at its front; `before` and `now` are what it has left, where that is known
+-- the bytes grew by those that the reader lost at its front; `before` and `now`
+-- are what it has left, where that is known
 pub record Reads (before now : Option (List ℕ)) (old new : List ℕ) : Type 0 where
   pub chunk : List ℕ
   pub consumed : Consumes before now chunk

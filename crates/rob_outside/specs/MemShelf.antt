@@ -6,8 +6,8 @@ use Rattle.rob_outside.specs.Fetches.{Fetch, logged}
 use Rattle.rob_outside.specs.Files.{File}
 use Rattle.rob_outside.specs.declared.shelf.Fetched.{Fetched}
 
--- the files in the order of their adding, the numbers of the fetches that fail, how many fetches there were, the fetches and
--- their faults
+-- the files in the order of their adding, the numbers of the fetches that fail,
+-- how many fetches there were, the fetches and their faults
 pub record ShelfState : Type 0 where
   pub files : List File
   pub failing : List ℕ
@@ -27,8 +27,8 @@ next_fetch shelf = raised shelf.calls
 abbrev pub fails_next : ShelfState → Bool
 fails_next shelf = list_any (λ call. call == next_fetch shelf) shelf.failing
 
--- the shelf after its next fetch, of this name, bound and answer: the fetch is counted and noted, and where it fails the fault
--- is counted
+-- the shelf after its next fetch, of this name, bound and answer: the fetch is
+-- counted and noted, and where it fails the fault is counted
 abbrev pub after_fetch : {E : Type 0} → ShelfState → List ℕ → ℕ → Result Fetched E → ShelfState
 after_fetch shelf name max result = record shelf {
   calls = next_fetch shelf;

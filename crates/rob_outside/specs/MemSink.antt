@@ -8,7 +8,8 @@ pub record FailingPut : Type 0 where
   pub call : ℕ
   pub first : ℕ
 
--- how many bytes it holds at most, the puts that fail, the bytes taken, how many puts there were, the puts and their faults
+-- how many bytes it holds at most, the puts that fail, the bytes taken, how
+-- many puts there were, the puts and their faults
 pub record SinkState : Type 0 where
   pub room : ℕ
   pub failing : List FailingPut

@@ -4,7 +4,7 @@
 --   put_of piece result        what a put adds: one entry, also where it answered an error
 --   StandsBut before now result  the count of faults stands, unless the outside failed
 --   PutAll before now pieces   behind the puts before stand those of these pieces, in order, each taken whole
---   PutUntil before now pieces behind them stand those of the first pieces, each taken whole, and then one that was refused
+--   PutUntil before now pieces  behind them stand those of the first pieces, each taken whole, and then a refused one
 --   PutEach .. pieces result   all were put and taken whole; or an error was answered, and nothing was put behind it
 use Rattle.std.specs.Prelude.{◌≡◌, ℕ, Bool, true, false, List, [], ◌∷◌, ◌++◌, map, Result, Ok, Err, MatchResult, is_ok, refl}
 use Rattle.std.specs.Coded.{Coded, code_by, coded×, coded_ℕ, coded_list, coded_bool}
@@ -34,8 +34,8 @@ StandsBut before now (Err Memory) = now ≡ before
 abbrev pub PutAll : List Put → List Put → List (List ℕ) → Type 0
 PutAll before now pieces = now ≡ before ++ map (put_as true) pieces
 
--- behind the puts before stand those of the first of these pieces, in order, each taken whole, then that of the next one, which
--- was refused, and no other
+-- behind the puts before stand those of the first of these pieces, in order, each taken whole, then that of the next
+-- one, which was refused, and no other
 pub record PutUntil (before now : List Put) (pieces : List (List ℕ)) : Type 0 where
   pub done : List (List ℕ)
   pub refused : List ℕ
@@ -43,12 +43,15 @@ pub record PutUntil (before now : List Put) (pieces : List (List ℕ)) : Type 0 
   pub split : pieces ≡ done ++ refused ∷ left
   pub grown : now ≡ before ++ (map (put_as true) done ++ put_as false refused ∷ [])
 
--- the pieces were put one by one: each was taken whole, or one was refused, which was answered, and nothing was put behind it
+-- the pieces were put one by one: each was taken whole, or one was refused,
+-- which was answered, and nothing was put behind it
 abbrev pub PutEach : {T E : Type 0} → List Put → List Put → List (List ℕ) → Result T E → Type 0
 PutEach before now pieces result = MatchResult result (λ _. PutAll before now pieces) (λ _. PutUntil before now pieces)
 
 -- ---- how they are stored
 
+-- a put is stored as its piece and whether it was taken whole
 abbrev pub put_code : Coded Put
 put_code =
-    code_by (List ℕ × Bool) (coded× (coded_list coded_ℕ) coded_bool) (λ p. (p.piece, p.whole)) (λ p. put_as p.1 p.0) (λ _. refl)
+    code_by (List ℕ × Bool) (coded× (coded_list coded_ℕ) coded_bool) (λ p. (p.piece, p.whole))
+    (λ p. put_as p.1 p.0) (λ _. refl)

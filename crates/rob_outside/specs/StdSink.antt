@@ -8,5 +8,6 @@ pub record OutputState : Type 0 where
   pub puts : List Put
   pub faults : ℕ
 
+-- the output before its first put
 abbrev pub empty_output : OutputState
 empty_output = record { taken = []; puts = []; faults = 0 }

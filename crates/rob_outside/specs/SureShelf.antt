@@ -8,5 +8,6 @@ pub record SureState : Type 0 where
   pub files : List File
   pub log : List Fetch
 
+-- the shelf without a file, before its first fetch
 abbrev pub empty_files : SureState
 empty_files = record { files = []; log = [] }

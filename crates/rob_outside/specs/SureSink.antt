@@ -7,5 +7,6 @@ pub record SureOutput : Type 0 where
   pub bytes : List ℕ
   pub puts : List Put
 
+-- the sink before its first put
 abbrev pub empty_bytes : SureOutput
 empty_bytes = record { bytes = []; puts = [] }

@@ -26,13 +26,15 @@ TookPrefix before now bytes = (front : List ℕ) × IsPrefix front bytes × Took
 abbrev pub Takes : {T E : Type 0} → List ℕ → List ℕ → List ℕ → Result T E → Type 0
 Takes before now piece result = MatchResult result (λ _. Took before now piece) (λ _. TookPrefix before now piece)
 
--- the same of a writer whose bytes are known
+-- behind a writer's bytes stand these bytes, all of them, where its bytes are known
 abbrev pub TookKnown : Option (List ℕ) → Option (List ℕ) → List ℕ → Type 0
 TookKnown before now bytes = IfSome before (λ held. now ≡ Some (held ++ bytes))
 
+-- a put to such a writer took the whole piece, or answered an error and took a prefix of it
 abbrev pub TakesKnown : {T E : Type 0} → Option (List ℕ) → Option (List ℕ) → List ℕ → Result T E → Type 0
 TakesKnown before now piece result =
-    MatchResult result (λ _. TookKnown before now piece) (λ _. (front : List ℕ) × IsPrefix front piece × TookKnown before now front)
+    MatchResult result (λ _. TookKnown before now piece)
+    (λ _. (front : List ℕ) × IsPrefix front piece × TookKnown before now front)
 
 -- the bytes that were taken are those that came behind a writer's bytes, where these are known
 pub record TookBoth (held now : Option (List ℕ)) (before noted : List ℕ) : Type 0 where

@@ -1,4 +1,4 @@
-// The machine's files. This is an edge that is trusted: nothing is told of what a file holds.
+//! The machine's files. This is an edge that is trusted: nothing is told of what a file holds.
 
 ghost use Rattle.std.specs.Prelude.{◌≡◌, ◌+◌, ◌<◌, ◌≤◌, ◌++◌, IfOk, IfSome, None, OnOk, Some, vec_len};
 ghost use Rattle.std.specs.Io.KnownBytes.{IsAtEnd};
@@ -18,8 +18,8 @@ use std::rt::Files;
 /// How many bytes are asked for at a time.
 const CHUNK: usize = 4096;
 
-/// The files of the machine, by their paths. Contracts see its fetches with what each answered, and the number of its faults
-/// so far.
+/// The files of the machine, by their paths. Contracts see its fetches with what each answered, and the number of
+/// its faults so far.
 #[derive(Drop)]
 pub struct FileShelf<'a, R: Files> {
     rt: &'a R,
@@ -55,8 +55,8 @@ impl<'a, R: Files> Shelf for FileShelf<'a, R> {
 
     ghost faults = { λ shelf. shelf.faults };
 
-    /// Reads at most `max + 1` bytes. `Missing` is the machine's answer that there is no such file; every other error of
-    /// the machine, an interrupted read among them, is a fault.
+    /// Reads at most `max + 1` bytes. `Missing` is the machine's answer that there is no such file; every other
+    /// error of the machine, an interrupted read among them, is a fault.
     fn fetch(&mut self, alloc: Global, name: &str, max: usize) -> Result<Fetched, ShelfErr>
         ensures within { IfOk result (IsAtMost max) }
         ensures logged { self.new.log ≡ self.old.log ++ logged name.now max result }

@@ -1,5 +1,5 @@
-// What follows from the definitions, for the proofs of the layers above. The functions do nothing; their clauses are
-// the claims.
+//! What follows from the definitions, for the proofs of the layers above. The functions do nothing; their clauses are
+//! the claims.
 
 ghost use Rattle.std.specs.Prelude.{◌≡◌, ◌≢◌, ◌<◌, ◌≤◌, ◌↔◌, ℕ, All, List, [], ◌∷◌, ◌++◌, length, take, Some, None, IsSomeAnd, Result, Err, MatchResult};
 ghost use Rattle.rob_number.specs.Counts.{Rose};

@@ -1,4 +1,4 @@
-// A shelf in memory, whose fetches fail where a test wants it.
+//! A shelf in memory, whose fetches fail where a test wants it.
 
 ghost use Rattle.std.specs.Prelude.{◌≡◌, [], ◌∷◌, ◌++◌, MatchBool, IfErr, IfOk, OnOk, OnErr, Some};
 ghost use Rattle.rob_outside.specs.Files.{Finds, IsAtMost, file_of};

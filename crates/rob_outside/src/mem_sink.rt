@@ -1,4 +1,4 @@
-// A sink in memory with fixed room, whose puts fail where a test wants it.
+//! A sink in memory with fixed room, whose puts fail where a test wants it.
 
 ghost use Rattle.std.specs.Prelude.{◌≡◌, ◌+◌, ◌≤◌, min, [], ◌∷◌, ◌++◌, length, take, IsOk, IfOk, OnOk, OnErr, MatchBool, vec_capacity};
 ghost use Rattle.rob_outside.specs.MemSink.{accepts, after_put, empty_sink, first_of};
@@ -74,8 +74,8 @@ impl MemSink {
         })
     }
 
-    /// Lets the put of that number fail, after the first `first` of the bytes that fit. Puts count from 1, over the whole
-    /// life of the sink. Of two entries for one put the first counts.
+    /// Lets the put of that number fail, after the first `first` of the bytes that fit. Puts count from 1, over the
+    /// whole life of the sink. Of two entries for one put the first counts.
     pub fn fail_at(&mut self, call: u64, first: usize) -> Result<(), Memory>
         ensures listed { OnOk result (self.new ≡ record self.old {
           failing = self.old.failing ++ record { call = call; first = first } ∷ [];

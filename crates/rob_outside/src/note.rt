@@ -1,5 +1,6 @@
-// The fetches of a shelf, the puts of a sink and the bytes that writes took, for contracts alone. These values have no bytes,
-// and their methods do nothing when the program runs: they write down, for the clauses, what their caller tells them.
+//! The fetches of a shelf, the puts of a sink and the bytes that writes took, for contracts alone. These values have
+//! no bytes, and their methods do nothing when the program runs: they write down, for the clauses, what their caller
+//! tells them.
 
 ghost use Rattle.std.specs.Prelude.{◌≡◌, ℕ, List, [], ◌∷◌, ◌++◌};
 ghost use Rattle.std.specs.Borrow.{ftrue};

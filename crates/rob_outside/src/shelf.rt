@@ -1,4 +1,4 @@
-// Files by name: what a program may read.
+//! Files by name: what a program may read.
 
 ghost use Rattle.std.specs.Prelude.{◌≡◌, ◌≤◌, ◌++◌, ℕ, List, Option, IfOk};
 ghost use Rattle.rob_number.specs.Counts.{Rose};
@@ -50,8 +50,8 @@ impl From<AllocError> for ShelfErr {
     }
 }
 
-/// Files by name. A shelf may tell its files; it keeps its fetches with what each answered, and it counts its faults. All are
-/// meanings for contracts alone.
+/// Files by name. A shelf may tell its files; it keeps its fetches with what each answered, and it counts its
+/// faults. All are meanings for contracts alone.
 pub trait Shelf {
     /// The files in their order, where the shelf tells them. Of two files of one name the first counts.
     ghost files: { Self → Option (List File) };

@@ -1,4 +1,4 @@
-// A place for output.
+//! A place for output.
 
 ghost use Rattle.std.specs.Prelude.{◌≡◌, ◌≤◌, ◌++◌, ◌∷◌, ℕ, List, []};
 ghost use Rattle.rob_number.specs.Counts.{Rose};
@@ -27,8 +27,8 @@ impl From<Memory> for SinkErr {
     }
 }
 
-/// A place for output. A sink keeps the bytes that it took, and its puts with what each answered, and it counts its faults. All
-/// are meanings for contracts alone.
+/// A place for output. A sink keeps the bytes that it took, and its puts with what each answered, and it counts its
+/// faults. All are meanings for contracts alone.
 pub trait Sink {
     /// The bytes taken so far, in order.
     ghost taken: { Self → List ℕ };

@@ -1,6 +1,6 @@
-// The machine's standard output. This is an edge that is trusted: what it tells are the bytes that it noted. That it notes behind
-// each write what the write said it took is proved over a writer whose bytes are known, and read over the machine's; nothing is
-// told of what it shows.
+//! The machine's standard output. This is an edge that is trusted: what it tells are the bytes that it noted. That
+//! it notes behind each write what the write said it took is proved over a writer whose bytes are known, and read
+//! over the machine's; nothing is told of what it shows.
 
 ghost use Rattle.std.specs.Prelude.{◌≡◌, ◌≤◌, ◌++◌, ◌∷◌, [], IfErr, MatchResult};
 ghost use Rattle.rob_number.specs.Counts.{Rose, raised};
@@ -14,8 +14,8 @@ use std::io;
 use std::io::Write;
 use std::marker::Model;
 
-/// Standard output. Contracts see the bytes that it noted as taken so far, its puts with what each answered, and the number of
-/// its faults.
+/// Standard output. Contracts see the bytes that it noted as taken so far, its puts with what each answered, and
+/// the number of its faults.
 #[derive(Drop)]
 pub struct StdSink<'a, R: Print> {
     rt: &'a R,

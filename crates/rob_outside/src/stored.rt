@@ -1,4 +1,4 @@
-// Files in memory, in the order of their adding.
+//! Files in memory, in the order of their adding.
 
 ghost use Rattle.std.specs.Prelude.{◌≡◌, [], ◌∷◌, ◌++◌, IfErr, IfOk, OnOk, OnErr, Some};
 ghost use Rattle.rob_outside.specs.Files.{file_of, found_at, found_of, found_within};

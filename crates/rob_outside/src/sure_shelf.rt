@@ -1,4 +1,4 @@
-// A shelf in memory that never fails.
+//! A shelf in memory that never fails.
 
 ghost use Rattle.std.specs.Prelude.{◌≡◌, [], ◌∷◌, ◌++◌, IfOk, IfErr, OnOk, OnErr, Some};
 ghost use Rattle.rob_outside.specs.Fetches.{logged};
@@ -43,7 +43,8 @@ impl SureShelf {
 
     /// Adds a file. It hides behind an earlier one of the same name.
     pub fn add(&mut self, name: &str, bytes: &[u8]) -> Result<(), Memory>
-        ensures added { OnOk result (self.new ≡ record self.old { files = self.old.files ++ file_of name.now bytes.now ∷ [] }) }
+        ensures added { OnOk result
+            (self.new ≡ record self.old { files = self.old.files ++ file_of name.now bytes.now ∷ [] }) }
         ensures unchanged { OnErr result (self.new ≡ self.old) }
     {
         store(self.alloc, &mut self.files, name, bytes)

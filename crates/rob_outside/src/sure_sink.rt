@@ -1,4 +1,4 @@
-// A sink in memory that grows, and fails only for want of memory.
+//! A sink in memory that grows, and fails only for want of memory.
 
 ghost use Rattle.std.specs.Prelude.{◌≡◌, [], ◌∷◌, ◌++◌, MatchResult};
 ghost use Rattle.rob_outside.specs.Puts.{put_of};

@@ -1,5 +1,5 @@
--- What a test says of each value of an enum without fields is decided by going over its values. So a fact of a table needs no line for
--- each of its rows.
+-- What a test says of each value of an enum without fields is decided by going over its values. So a fact of a table
+-- needs no line for each of its rows.
 use Rattle.std.proofs.Common.{◌≡◌, ◌&&◌, Bool, true, false, inl, inr, refl, subst, List, [], ◌∷◌, rules}
 use denote.Enum.Declared.{Choice, Record}
 use denote.Struct.Field.{Field}
@@ -15,7 +15,8 @@ both_true true true e = (refl, refl)
 both_true true false e = absurd (search (e, rules))
 both_true false b e = absurd (search (e, rules))
 
-each_choice : (Fss : List (List Field)) (test : Choice Fss → Bool) → all_choices Fss test ≡ true → (c : Choice Fss) → test c ≡ true
+each_choice : (Fss : List (List Field)) (test : Choice Fss → Bool) → all_choices Fss test ≡ true
+    → (c : Choice Fss) → test c ≡ true
 each_choice [] test all c = absurd c
 each_choice ([] ∷ Fss) test all (inl x) = (both_true (test (inl tt)) (all_choices Fss (λ c. test (inr c))) all).0
 each_choice ([] ∷ Fss) test all (inr c) =

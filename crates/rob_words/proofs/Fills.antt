@@ -137,7 +137,8 @@ file_is : (f : Frame) (n : ℕ) (slot : Slot) → file_at f n ≡ Some slot → 
 file_is (frame way count) n slot e = word_is count n slot e
 
 -- after one more entry, and those behind it
-then_more : (before more after : List Entry) (entry : Entry) → after ≡ (before ++ entry ∷ []) ++ more → after ≡ before ++ entry ∷ more
+then_more : (before more after : List Entry) (entry : Entry) → after ≡ (before ++ entry ∷ []) ++ more
+    → after ≡ before ++ entry ∷ more
 then_more before more after entry e = e ∙ append_assoc before (entry ∷ []) more
 
 pub fill-entries : (f : Frame) (n : ℕ) (parts : List Part) (before after : List Entry) → Fill f n parts before after
@@ -159,18 +160,23 @@ fill-entries f n (joined setting value ∷ parts) before after fill =
 
 -- ---- each slot once
 
-one_more : (slot other : Slot) (value : Word) (before : List Entry) → given other before ≡ [] → IsSingle (given slot before)
+one_more : (slot other : Slot) (value : Word) (before : List Entry) → given other before ≡ []
+    → IsSingle (given slot before)
     → IsSingle (given slot (before ++ (other, value) ∷ []))
 one_more slot other value before free single =
-    subst IsSingle (sym (given-append slot before ((other, value) ∷ []))) (go (bytes_eq (id_of other) (id_of slot)) refl)
+    subst IsSingle (sym (given-append slot before ((other, value) ∷ [])))
+    (go (bytes_eq (id_of other) (id_of slot)) refl)
   where
-    go : (b : Bool) → bytes_eq (id_of other) (id_of slot) ≡ b → IsSingle (given slot before ++ (if b then value ∷ [] else []))
+    go : (b : Bool) → bytes_eq (id_of other) (id_of slot) ≡ b
+        → IsSingle (given slot before ++ (if b then value ∷ [] else []))
     go true e =
-        let none : given slot before ≡ [] = sym (ap (λ id. given_by id before) ((bytes_eq-Decides (id_of other) (id_of slot)).0 e)) ∙ free in
+        let none : given slot before ≡ [] =
+        sym (ap (λ id. given_by id before) ((bytes_eq-Decides (id_of other) (id_of slot)).0 e)) ∙ free in
         subst (λ ws. IsSingle (ws ++ value ∷ [])) (sym none) refl
     go false e = subst IsSingle (sym (append-nil (given slot before))) single
 
-pub fill-single : (slot : Slot) (f : Frame) (n : ℕ) (parts : List Part) (before after : List Entry) → Fill f n parts before after
+pub fill-single : (slot : Slot) (f : Frame) (n : ℕ) (parts : List Part) (before after : List Entry)
+    → Fill f n parts before after
     → IsSingle (given slot before) → IsSingle (given slot after)
 fill-single slot f n [] before after fill single = subst (λ es. IsSingle (given slot es)) (sym fill) single
 fill-single slot f n (own word ∷ parts) before after fill single =
@@ -192,31 +198,38 @@ same_slot first_word word more = refl
 same_slot second_word word more = refl
 same_slot third_word word more = refl
 
-free_before : (slot : Slot) (word : Word) (before more after : List Entry) → after ≡ before ++ (slot, word) ∷ more → IsSingle (given slot after) → given slot before ≡ []
+free_before : (slot : Slot) (word : Word) (before more after : List Entry) → after ≡ before ++ (slot, word) ∷ more
+    → IsSingle (given slot after) → given slot before ≡ []
 free_before slot word before more after is single =
     front_free (given slot before) (given slot more) word
-    (subst IsSingle (ap (given slot) is ∙ given-append slot before ((slot, word) ∷ more) ∙ ap (λ ws. given slot before ++ ws) (same_slot slot word more)) single)
+    (subst IsSingle (ap (given slot) is ∙ given-append slot before ((slot, word) ∷ more)
+    ∙ ap (λ ws. given slot before ++ ws) (same_slot slot word more)) single)
 
-then_all : (before more after : List Entry) (entry : Entry) → after ≡ before ++ entry ∷ more → after ≡ (before ++ entry ∷ []) ++ more
+then_all : (before more after : List Entry) (entry : Entry) → after ≡ before ++ entry ∷ more
+    → after ≡ (before ++ entry ∷ []) ++ more
 then_all before more after entry e = e ∙ sym (append_assoc before (entry ∷ []) more)
 
 -- parts that fit fill the slots, where each is given once
-pub fill-from : (f : Frame) (n : ℕ) (parts : List Part) (before after : List Entry) → Fits f n parts → after ≡ before ++ entries n parts
+pub fill-from : (f : Frame) (n : ℕ) (parts : List Part) (before after : List Entry) → Fits f n parts
+    → after ≡ before ++ entries n parts
     → ((slot : Slot) → IsSingle (given slot after)) → Fill f n parts before after
 fill-from f n [] before after fits is single = is ∙ append-nil before
 fill-from f n (own word ∷ parts) before after fits is single = (
   file_slot n,
   fits.0,
   free_before (file_slot n) word before (entries (suc n) parts) after is (single (file_slot n)),
-  fill-from f (suc n) parts (before ++ (file_slot n, word) ∷ []) after fits.1 (then_all before (entries (suc n) parts) after (file_slot n, word) is) single,
+  fill-from f (suc n) parts (before ++ (file_slot n, word) ∷ []) after fits.1
+      (then_all before (entries (suc n) parts) after (file_slot n, word) is) single,
 )
 fill-from f n (apart setting value ∷ parts) before after fits is single = (
   fits.0,
   free_before (slot_of setting) value before (entries n parts) after is (single (slot_of setting)),
-  fill-from f n parts (before ++ (slot_of setting, value) ∷ []) after fits.1 (then_all before (entries n parts) after (slot_of setting, value) is) single,
+  fill-from f n parts (before ++ (slot_of setting, value) ∷ []) after fits.1
+      (then_all before (entries n parts) after (slot_of setting, value) is) single,
 )
 fill-from f n (joined setting value ∷ parts) before after fits is single = (
   fits.0,
   free_before (slot_of setting) value before (entries n parts) after is (single (slot_of setting)),
-  fill-from f n parts (before ++ (slot_of setting, value) ∷ []) after fits.1 (then_all before (entries n parts) after (slot_of setting, value) is) single,
+  fill-from f n parts (before ++ (slot_of setting, value) ∷ []) after fits.1
+      (then_all before (entries n parts) after (slot_of setting, value) is) single,
 )

@@ -40,7 +40,8 @@ past_two n = search (rules, arith)
 past_three : (n : ℕ) → (3 == suc (suc (suc (suc n)))) ≡ false
 past_three n = search (rules, arith)
 
-word_by_index : (count : Count) (n : ℕ) → arg_by_index (map rule (word_slots count)) (suc n) ≡ option_map rule (word_at count n)
+word_by_index : (count : Count) (n : ℕ)
+    → arg_by_index (map rule (word_slots count)) (suc n) ≡ option_map rule (word_at count n)
 word_by_index no_words n = refl
 word_by_index one_word zero = refl
 word_by_index one_word (suc n) = rw (past_one n) refl
@@ -69,11 +70,13 @@ by_id (frame way count) bits t = refl
 by_id (frame true count) route t = refl
 by_id (frame false count) route t = absurd (search (t, rules))
 
-the_slot : (f : Frame) (known slot : Slot) → Some known ≡ Some slot → arg_by_id (rules_of f) (id_of known) ≡ Some (rule known)
+the_slot : (f : Frame) (known slot : Slot) → Some known ≡ Some slot
+    → arg_by_id (rules_of f) (id_of known) ≡ Some (rule known)
     → arg_by_id (rules_of f) (id_of slot) ≡ Some (rule slot)
 the_slot f known slot e = subst (λ s. arg_by_id (rules_of f) (id_of s) ≡ Some (rule s)) (ap (λ o. unwrap_or o known) e)
 
-pub file_by_id : (f : Frame) (n : ℕ) (slot : Slot) → file_at f n ≡ Some slot → arg_by_id (rules_of f) (id_of slot) ≡ Some (rule slot)
+pub file_by_id : (f : Frame) (n : ℕ) (slot : Slot) → file_at f n ≡ Some slot
+    → arg_by_id (rules_of f) (id_of slot) ≡ Some (rule slot)
 file_by_id (frame true no_words) n slot e = absurd (search (e, rules))
 file_by_id (frame true one_word) zero slot e = the_slot (frame true one_word) first_word slot e refl
 file_by_id (frame true one_word) (suc n) slot e = absurd (search (e, rules))

@@ -20,7 +20,8 @@ one_made (k ∷ []) app r low high h = h
 one_made (k ∷ l ∷ more) app r low high h = absurd (omega (arith, high))
 
 pub two_made : {E : Type 0} (own : List Own) (app first : App) (r : Result Command E) → 2 ≤ length own → length own < 3
-    → first ≡ with_rule app (own_word (codes "first")) → Makes r (with_rule first (own_word (codes "second"))) → Makes r (with_words own app)
+    → first ≡ with_rule app (own_word (codes "first")) → Makes r (with_rule first (own_word (codes "second")))
+    → Makes r (with_words own app)
 two_made [] app first r low high e h = absurd (omega (arith, low))
 two_made (k ∷ []) app first r low high e h = absurd (omega (arith, low))
 two_made (k ∷ l ∷ []) app first r low high e h = made_as r _ _ (ap (λ a. with_rule a (own_word (codes "second"))) e) h
@@ -33,4 +34,5 @@ three_made [] app first second r low e f h = absurd (omega (arith, low))
 three_made (k ∷ []) app first second r low e f h = absurd (omega (arith, low))
 three_made (k ∷ l ∷ []) app first second r low e f h = absurd (omega (arith, low))
 three_made (k ∷ l ∷ m ∷ more) app first second r low e f h =
-    made_as r _ _ (ap (λ a. with_rule a (own_word (codes "third"))) (f ∙ ap (λ a. with_rule a (own_word (codes "second"))) e)) h
+    made_as r _ _
+    (ap (λ a. with_rule a (own_word (codes "third"))) (f ∙ ap (λ a. with_rule a (own_word (codes "second"))) e)) h

@@ -32,7 +32,8 @@ fits-route f n (apart route value ∷ parts) none fits = absurd (search (sym non
 fits-route f n (joined bits value ∷ parts) none fits = fits-route f n parts none fits.1
 fits-route f n (joined route value ∷ parts) none fits = absurd (search (sym none ∙ fits.0, rules))
 
-fits-from : (f : Frame) (n : ℕ) (parts : List Part) → Room f n (own_words parts) → (takes f route ≡ true) ⊎ (route_values parts ≡ []) → Fits f n parts
+fits-from : (f : Frame) (n : ℕ) (parts : List Part) → Room f n (own_words parts) → (takes f route ≡ true)
+    ⊎ (route_values parts ≡ []) → Fits f n parts
 fits-from f n [] room way = tt
 fits-from f n (own word ∷ parts) room way = (room.0, fits-from f (suc n) parts room.1 way)
 fits-from f n (apart bits value ∷ parts) room way = (refl, fits-from f n parts room way)
@@ -53,20 +54,24 @@ Reaches three_words words =
     (some (take 1 words) ≡ true) × (some (take 1 (drop 1 words)) ≡ true) × (some (drop 2 words) ≡ true) × Unit {0}
 
 given-reaches : (count : Count) (after : List Entry) (words : List Word) → given first_word after ≡ take 1 words
-    → given second_word after ≡ take 1 (drop 1 words) → given third_word after ≡ drop 2 words → AllGiven (word_slots count) after → Reaches count words
+    → given second_word after ≡ take 1 (drop 1 words) → given third_word after ≡ drop 2 words
+    → AllGiven (word_slots count) after → Reaches count words
 given-reaches no_words after words a b c h = tt
 given-reaches one_word after words a b c h = (sym (ap some a) ∙ h.0, tt)
 given-reaches two_words after words a b c h = (sym (ap some a) ∙ h.0, sym (ap some b) ∙ h.1.0, tt)
-given-reaches three_words after words a b c h = (sym (ap some a) ∙ h.0, sym (ap some b) ∙ h.1.0, sym (ap some c) ∙ h.1.1.0, tt)
+given-reaches three_words after words a b c h =
+    (sym (ap some a) ∙ h.0, sym (ap some b) ∙ h.1.0, sym (ap some c) ∙ h.1.1.0, tt)
 
 reaches-given : (count : Count) (after : List Entry) (words : List Word) → given first_word after ≡ take 1 words
-    → given second_word after ≡ take 1 (drop 1 words) → given third_word after ≡ drop 2 words → Reaches count words → AllGiven (word_slots count) after
+    → given second_word after ≡ take 1 (drop 1 words) → given third_word after ≡ drop 2 words → Reaches count words
+    → AllGiven (word_slots count) after
 reaches-given no_words after words a b c h = tt
 reaches-given one_word after words a b c h = (ap some a ∙ h.0, tt)
 reaches-given two_words after words a b c h = (ap some a ∙ h.0, (ap some b ∙ h.1, tt))
 reaches-given three_words after words a b c h = (ap some a ∙ h.0, (ap some b ∙ h.1, (ap some c ∙ h.2, tt)))
 
-words-all : (way : Bool) (count : Count) (words : List Word) → Room (frame way count) 0 words → Reaches count words → length words ≡ size count
+words-all : (way : Bool) (count : Count) (words : List Word) → Room (frame way count) 0 words → Reaches count words
+    → length words ≡ size count
 words-all way no_words [] room h = refl
 words-all way no_words (a ∷ more) room h = absurd (search (room.0, rules))
 words-all way one_word [] room h = absurd (search (h.0, rules))
@@ -143,7 +148,8 @@ single-third (a ∷ b ∷ c ∷ d ∷ words) few = absurd (omega (arith, few))
 -- the texts of the slots
 abbrev pub held_in : List Entry → Holding
 held_in after = record {
-  own = listed (first (given first_word after)) ++ (listed (first (given second_word after)) ++ listed (first (given third_word after)));
+  own = listed (first (given first_word after))
+      ++ (listed (first (given second_word after)) ++ listed (first (given third_word after)));
   bits = first (given bits_slot after);
   way = first (given route_slot after);
 }
@@ -182,22 +188,28 @@ module _ (f : Frame) (parts : List Part) (after : List Entry) (fill : Fill f 0 p
   no_route : takes f route ≡ false → first (given route_slot after) ≡ None
   no_route none = none_first (given route_slot after) (route-is ∙ fits-route f 0 parts none fits)
 
-takes_way : (way : Bool) (count : Count) (parts : List Part) (after : List Entry) → Fill (frame way count) 0 parts [] after
+takes_way : (way : Bool) (count : Count) (parts : List Part) (after : List Entry)
+    → Fill (frame way count) 0 parts [] after
     → TakesRoute way (first (given route_slot after))
 takes_way true count parts after fill = tt
 takes_way false count parts after fill = no_route (frame false count) parts after fill refl
 
 -- the texts of what fills the slots of a command
-pub holds : (way : Bool) (count : Count) (parts : List Part) (after : List Entry) → Fill (frame way count) 0 parts [] after
+pub holds : (way : Bool) (count : Count) (parts : List Part) (after : List Entry)
+    → Fill (frame way count) 0 parts [] after
     → AllGiven (word_slots count) after → ArePlain (bare_words parts) → Hold way (size count) parts (held_in after)
 holds way count parts after fill all plain =
     let f = frame way count in
-    let reaches = given-reaches count after (own_words parts) (first-is f parts after fill) (second-is f parts after fill) (third-is f parts after fill) all in
+    let reaches =
+    given-reaches count after (own_words parts) (first-is f parts after fill) (second-is f parts after fill)
+    (third-is f parts after fill) all in
     record {
       own = words-held f parts after fill;
-      all = sym (ap length (words-held f parts after fill)) ∙ words-all way count (own_words parts) (fits-room f 0 parts (fits f parts after fill)) reaches;
+      all = sym (ap length (words-held f parts after fill))
+          ∙ words-all way count (own_words parts) (fits-room f 0 parts (fits f parts after fill)) reaches;
       plain = plain;
-      bits = sym (ap (given bits_slot) (after_is f parts after fill) ∙ given-bits 0 parts) ∙ single f parts after fill bits_slot;
+      bits = sym (ap (given bits_slot) (after_is f parts after fill) ∙ given-bits 0 parts)
+          ∙ single f parts after fill bits_slot;
       way = sym (route-is f parts after fill) ∙ single f parts after fill route_slot;
       takes_route = takes_way way count parts after fill;
     }
@@ -212,7 +224,8 @@ listed-single : (o : Option Word) → IsSingle (listed o)
 listed-single None = refl
 listed-single (Some word) = refl
 
-module _ (way : Bool) (count : Count) (parts : List Part) (found : Holding) (hold : Hold way (size count) parts found) where
+module _ (way : Bool) (count : Count) (parts : List Part) (found : Holding)
+    (hold : Hold way (size count) parts found) where
   firsts : given first_word (entries 0 parts) ≡ take 1 found.own
   firsts = given-first parts ∙ ap (take 1) hold.own
 
@@ -232,9 +245,11 @@ module _ (way : Bool) (count : Count) (parts : List Part) (found : Holding) (hol
 
   pub hold-fill : Fill (frame way count) 0 parts [] (entries 0 parts)
   hold-fill = fill-from (frame way count) 0 parts [] (entries 0 parts)
-      (fits-from (frame way count) 0 parts (subst (Room (frame way count) 0) (sym hold.own) (all-room way count found.own hold.all))
+      (fits-from (frame way count) 0 parts
+      (subst (Room (frame way count) 0) (sym hold.own) (all-room way count found.own hold.all))
       (subst (λ ws. (way ≡ true) ⊎ (ws ≡ [])) (sym hold.way) (hold-route way found.way hold.takes_route)))
       refl single_slots
 
   pub hold-complete : AllGiven (word_slots count) (entries 0 parts)
-  hold-complete = reaches-given count (entries 0 parts) found.own firsts seconds thirds (all-reaches count found.own hold.all)
+  hold-complete =
+      reaches-given count (entries 0 parts) found.own firsts seconds thirds (all-reaches count found.own hold.all)

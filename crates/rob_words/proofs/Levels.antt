@@ -41,14 +41,22 @@ simple_app false (k ∷ l ∷ m ∷ more) = refl
 
 fault-level : (way : Bool) (own : List Own) (name : Word) (words : List Word)
     → fault_of (app_by way own) (name ∷ words) ≡ level_fault (shape (frame_by way own)) [] nothing_held words false []
-fault-level true [] name words = leaf_fault (record { top = shape (frame true no_words); subs = [] }) nothing_held words refl
-fault-level true (k ∷ []) name words = leaf_fault (record { top = shape (frame true one_word); subs = [] }) nothing_held words refl
-fault-level true (k ∷ l ∷ []) name words = leaf_fault (record { top = shape (frame true two_words); subs = [] }) nothing_held words refl
-fault-level true (k ∷ l ∷ m ∷ more) name words = leaf_fault (record { top = shape (frame true three_words); subs = [] }) nothing_held words refl
-fault-level false [] name words = leaf_fault (record { top = shape (frame false no_words); subs = [] }) nothing_held words refl
-fault-level false (k ∷ []) name words = leaf_fault (record { top = shape (frame false one_word); subs = [] }) nothing_held words refl
-fault-level false (k ∷ l ∷ []) name words = leaf_fault (record { top = shape (frame false two_words); subs = [] }) nothing_held words refl
-fault-level false (k ∷ l ∷ m ∷ more) name words = leaf_fault (record { top = shape (frame false three_words); subs = [] }) nothing_held words refl
+fault-level true [] name words =
+    leaf_fault (record { top = shape (frame true no_words); subs = [] }) nothing_held words refl
+fault-level true (k ∷ []) name words =
+    leaf_fault (record { top = shape (frame true one_word); subs = [] }) nothing_held words refl
+fault-level true (k ∷ l ∷ []) name words =
+    leaf_fault (record { top = shape (frame true two_words); subs = [] }) nothing_held words refl
+fault-level true (k ∷ l ∷ m ∷ more) name words =
+    leaf_fault (record { top = shape (frame true three_words); subs = [] }) nothing_held words refl
+fault-level false [] name words =
+    leaf_fault (record { top = shape (frame false no_words); subs = [] }) nothing_held words refl
+fault-level false (k ∷ []) name words =
+    leaf_fault (record { top = shape (frame false one_word); subs = [] }) nothing_held words refl
+fault-level false (k ∷ l ∷ []) name words =
+    leaf_fault (record { top = shape (frame false two_words); subs = [] }) nothing_held words refl
+fault-level false (k ∷ l ∷ m ∷ more) name words =
+    leaf_fault (record { top = shape (frame false three_words); subs = [] }) nothing_held words refl
 
 -- ---- no slot has a default
 
@@ -82,7 +90,8 @@ no_defaults (slot ∷ ss) rows =
     ∙ no_defaults ss (with_default rows (rule slot))
 
 matches-rows : (way : Bool) (own : List Own) (name : Word) (words : List Word)
-    → matches_of (app_by way own) (name ∷ words) ≡ settled_rows (frame_by way own) (end (frame_by way own) (resting nothing_held 0) words)
+    → matches_of (app_by way own) (name ∷ words)
+    ≡ settled_rows (frame_by way own) (end (frame_by way own) (resting nothing_held 0) words)
 matches-rows true [] name words = kept_rows (slots (frame true no_words)) _
 matches-rows true (k ∷ []) name words = kept_rows (slots (frame true one_word)) _
 matches-rows true (k ∷ l ∷ []) name words = kept_rows (slots (frame true two_words)) _
@@ -137,25 +146,34 @@ module _ (f : Frame) (words : List Word) where
   abbrev defaults : Kinds
   defaults = defaults_fault (settled_rows f (end f (resting nothing_held 0) words)) (rules_of f)
 
-  level-passes : level_fault (shape f) [] nothing_held words false [] ≡ [] → Passes f (resting nothing_held 0) words × (final ≡ [])
+  level-passes : level_fault (shape f) [] nothing_held words false [] ≡ []
+      → Passes f (resting nothing_held 0) words × (final ≡ [])
   level-passes e =
       let p = or_else-nil (walk_fault (shape f) [] (resting nothing_held 0) words) _ e in
       let q = or_else-nil (settle_fault (rules_of f) false (end f (resting nothing_held 0) words)) _ p.1 in
       (record { turns = p.0; settles = q.0 }, (or_else-nil defaults final q.1).1)
 
-  passes-level : Passes f (resting nothing_held 0) words → final ≡ [] → level_fault (shape f) [] nothing_held words false [] ≡ []
+  passes-level : Passes f (resting nothing_held 0) words → final ≡ []
+      → level_fault (shape f) [] nothing_held words false [] ≡ []
   passes-level passes none =
-      ap (λ ks. or_else ks (or_else [] (or_else (settle_fault (rules_of f) false (end f (resting nothing_held 0) words)) (or_else defaults final)))) passes.turns
+      ap (λ ks. or_else ks
+      (or_else []
+      (or_else (settle_fault (rules_of f) false (end f (resting nothing_held 0) words)) (or_else defaults final))))
+      passes.turns
       ∙ ap (λ ks. or_else ks (or_else defaults final)) passes.settles
       ∙ ap₂ or_else (no_defaults (slots f) (settled_rows f (end f (resting nothing_held 0) words))) none
 
-  final-is : (after : List Entry) → settled_rows f (end f (resting nothing_held 0) words) ≡ rows_of after → final ≡ check_fault (shape f) (rows_of after) false
-  final-is after e = ap (λ rows. check_fault (shape f) rows false) (kept_rows (slots f) (settled_rows f (end f (resting nothing_held 0) words)) ∙ e)
+  final-is : (after : List Entry) → settled_rows f (end f (resting nothing_held 0) words) ≡ rows_of after
+      → final ≡ check_fault (shape f) (rows_of after) false
+  final-is after e =
+      ap (λ rows. check_fault (shape f) rows false)
+      (kept_rows (slots f) (settled_rows f (end f (resting nothing_held 0) words)) ∙ e)
 
 -- the texts that the rows of a parse hold
 abbrev pub texts_in : List Row → Holding
 texts_in rows = record {
-  own = listed (first_of (id_of first_word) rows) ++ (listed (first_of (id_of second_word) rows) ++ listed (first_of (id_of third_word) rows));
+  own = listed (first_of (id_of first_word) rows)
+      ++ (listed (first_of (id_of second_word) rows) ++ listed (first_of (id_of third_word) rows));
   bits = first_of (id_of bits) rows;
   way = first_of (id_of route) rows;
 }
@@ -194,14 +212,17 @@ module _ (way : Bool) (own : List Own) (name : Word) (words : List Word) (admitt
   texts-held = (
     reads.parts,
     reads.spelled,
-    subst (Hold way (size (count_of own)) reads.parts) (held-texts reads.after (matches_of (app_by way own) (name ∷ words)) rows-are)
+    subst (Hold way (size (count_of own)) reads.parts)
+        (held-texts reads.after (matches_of (app_by way own) (name ∷ words)) rows-are)
         (holds way (count_of own) reads.parts reads.after reads.fill complete reads.bare),
   )
 
 -- words that hold texts are taken by `clap`
-pub holds-taken : (way : Bool) (own : List Own) (name : Word) (words : List Word) (parts : List Part) (found : Holding) → words ≡ words_of parts
+pub holds-taken : (way : Bool) (own : List Own) (name : Word) (words : List Word) (parts : List Part) (found : Holding)
+    → words ≡ words_of parts
     → Hold way (size (count_of own)) parts found → fault_of (app_by way own) (name ∷ words) ≡ []
-holds-taken way own name words parts found spelled hold = subst (λ ws. fault_of (app_by way own) (name ∷ ws) ≡ []) (sym spelled)
+holds-taken way own name words parts found spelled hold =
+    subst (λ ws. fault_of (app_by way own) (name ∷ ws) ≡ []) (sym spelled)
     (let count = count_of own in
     let f = frame way count in
     let after = entries 0 parts in

@@ -23,14 +23,17 @@ dual-said : (way : Route) → Says route_text Dual [] way → way ≡ Dual
 dual-said way (inl one) = absurd (search (one, rules))
 dual-said way (inr none) = none.1
 
-tells : (takes : Bool) (value : Option Word) (way : Route) → TakesRoute takes value → Says route_text Dual (listed value) way
+tells : (takes : Bool) (value : Option Word) (way : Route) → TakesRoute takes value
+    → Says route_text Dual (listed value) way
     → TellsRoute takes (listed value) way
 tells true value way takes_it said = said
 tells false value way takes_it said =
     (ap listed takes_it, dual-said way (subst (λ vs. Says route_text Dual vs way) (ap listed takes_it) said))
 
-pub spelled-line : (verb : Verb) (words more : List Word) (found : Holding) (width : Width) (way : Route) → words ≡ verb_word verb ∷ more
-    → HoldsBehind verb words found → Says width_text SixtyTwo (listed found.bits) width → Says route_text Dual (listed found.way) way
+pub spelled-line : (verb : Verb) (words more : List Word) (found : Holding) (width : Width) (way : Route)
+    → words ≡ verb_word verb ∷ more
+    → HoldsBehind verb words found → Says width_text SixtyTwo (listed found.bits) width
+    → Says route_text Dual (listed found.way) way
     → IsSpelled words (record { verb = verb; own = found.own; way = way; width = width })
 spelled-line verb words more found width way named holds says_width says_way =
     let held = subst (λ ws. HoldsBehind verb ws found) named holds in
@@ -42,17 +45,20 @@ spelled-line verb words more found width way named holds says_width says_way =
         count = hold.all;
         names = subst ArePlain hold.own (own-plain held.0 hold.plain);
         width = subst (λ vs. Says width_text SixtyTwo vs width) (sym hold.bits) says_width;
-        route = subst (λ vs. TellsRoute (takes_route verb) vs way) (sym hold.way) (tells (takes_route verb) found.way way hold.takes_route says_way);
+        route = subst (λ vs. TellsRoute (takes_route verb) vs way) (sym hold.way)
+            (tells (takes_route verb) found.way way hold.takes_route says_way);
       },
     )
 
 -- ---- a command line's words hold texts
 
-says-listed : {X : Type 0} (text : X → Word) (default : X) (values : List Word) (x : X) → Says text default values x → (o : Option Word) × (values ≡ listed o)
+says-listed : {X : Type 0} (text : X → Word) (default : X) (values : List Word) (x : X) → Says text default values x
+    → (o : Option Word) × (values ≡ listed o)
 says-listed text default values x (inl one) = (Some (text x), one)
 says-listed text default values x (inr none) = (None, none.0)
 
-tells-listed : (takes : Bool) (values : List Word) (way : Route) → TellsRoute takes values way → (o : Option Word) × (values ≡ listed o) × TakesRoute takes o
+tells-listed : (takes : Bool) (values : List Word) (way : Route) → TellsRoute takes values way → (o : Option Word)
+    × (values ≡ listed o) × TakesRoute takes o
 tells-listed true values way said = let o = says-listed route_text Dual values way said in (o.0, o.1, tt)
 tells-listed false values way none = (None, none.0, refl)
 
@@ -73,7 +79,8 @@ line-holds words line parts has =
     )
 
 -- the line's command is the one that the first word names
-module _ (verb : Verb) (words more : List Word) (named : words ≡ verb_word verb ∷ more) (line : IsCommandLine words) where
+module _ (verb : Verb) (words more : List Word) (named : words ≡ verb_word verb ∷ more)
+    (line : IsCommandLine words) where
   spelling : verb_word verb ∷ more ≡ verb_word line.0.verb ∷ words_of line.1.0
   spelling = sym named ∙ line.1.1.spelled
 
@@ -96,19 +103,25 @@ module _ (verb : Verb) (words more : List Word) (named : words ≡ verb_word ver
     held = subst (λ ws. HoldsBehind verb ws found) named holds
 
     same_parts : held.0 ≡ line.1.0
-    same_parts = one_parts held.0 line.1.0 held.2.plain (line-plain words line.0 line.1.0 line.1.1) (sym held.1 ∙ ap rest_of spelling)
+    same_parts =
+        one_parts held.0 line.1.0 held.2.plain (line-plain words line.0 line.1.0 line.1.1)
+        (sym held.1 ∙ ap rest_of spelling)
 
     pub line-width : Says width_text SixtyTwo (listed found.bits) line.0.width
-    line-width = subst (λ vs. Says width_text SixtyTwo vs line.0.width) (ap bits_values (sym same_parts) ∙ held.2.bits) line.1.1.width
+    line-width =
+        subst (λ vs. Says width_text SixtyTwo vs line.0.width)
+        (ap bits_values (sym same_parts) ∙ held.2.bits) line.1.1.width
 
     line-tells : TellsRoute (takes_route line.0.verb) (listed found.way) line.0.way
     line-tells =
-        subst (λ vs. TellsRoute (takes_route line.0.verb) vs line.0.way) (ap route_values (sym same_parts) ∙ held.2.way) line.1.1.route
+        subst (λ vs. TellsRoute (takes_route line.0.verb) vs line.0.way)
+        (ap route_values (sym same_parts) ∙ held.2.way) line.1.1.route
 
     pub line-route : (way : Route) × Says route_text Dual (listed found.way) way
     line-route = told (takes_route line.0.verb) line-tells
       where
-        told : (takes : Bool) → TellsRoute takes (listed found.way) line.0.way → (way : Route) × Says route_text Dual (listed found.way) way
+        told : (takes : Bool) → TellsRoute takes (listed found.way) line.0.way → (way : Route)
+            × Says route_text Dual (listed found.way) way
         told true said = (line.0.way, said)
         told false none = (line.0.way, inr none)
 
@@ -125,29 +138,35 @@ setting-admitted route more = inr (refl, refl)
 parts-admitted : (parts : List Part) → ArePlain (bare_words parts) → AreAdmitted (words_of parts)
 parts-admitted [] plain = tt
 parts-admitted (own word ∷ parts) plain = (plain-admitted word plain.0, parts-admitted parts plain.1)
-parts-admitted (apart bits value ∷ parts) plain = (inr (refl, refl), (plain-admitted value plain.0, parts-admitted parts plain.1))
-parts-admitted (apart route value ∷ parts) plain = (inr (refl, refl), (plain-admitted value plain.0, parts-admitted parts plain.1))
-parts-admitted (joined setting value ∷ parts) plain = (setting-admitted setting (61 ∷ value), parts-admitted parts plain)
+parts-admitted (apart bits value ∷ parts) plain =
+    (inr (refl, refl), (plain-admitted value plain.0, parts-admitted parts plain.1))
+parts-admitted (apart route value ∷ parts) plain =
+    (inr (refl, refl), (plain-admitted value plain.0, parts-admitted parts plain.1))
+parts-admitted (joined setting value ∷ parts) plain =
+    (setting-admitted setting (61 ∷ value), parts-admitted parts plain)
 
 pub line-admitted : (words : List Word) → IsCommandLine words → AreAdmitted words
-line-admitted words line = subst AreAdmitted (sym line.1.1.spelled)
-    (plain-admitted (verb_word line.0.verb) (verb_word-plain line.0.verb), parts-admitted line.1.0 (line-plain words line.0 line.1.0 line.1.1))
-
-pub line-named : (words : List Word) → ((verb : Verb) (more : List Word) → words ≡ verb_word verb ∷ more → ⊥) → IsCommandLine words → ⊥
-line-named words none line = none line.0.verb (words_of line.1.0) line.1.1.spelled
+line-admitted words line = subst AreAdmitted (sym line.1.1.spelled) (
+  plain-admitted (verb_word line.0.verb) (verb_word-plain line.0.verb),
+  parts-admitted line.1.0 (line-plain words line.0 line.1.0 line.1.1),
+)
 
 -- ---- causes of errors
 
 module _ (words : List Word) where
-  texts-cause : (verb : Verb) (more : List Word) → words ≡ verb_word verb ∷ more → (e : WordsErr) → HasNoTexts verb words e → HasCause words e
-  texts-cause verb more named NoCommandLine none = λ line. let texts = line-texts verb words more named line in none texts.0 texts.1
+  texts-cause : (verb : Verb) (more : List Word) → words ≡ verb_word verb ∷ more → (e : WordsErr)
+      → HasNoTexts verb words e → HasCause words e
+  texts-cause verb more named NoCommandLine none = λ line. let texts =
+      line-texts verb words more named line in none texts.0 texts.1
   texts-cause verb more named Memory none = tt
 
   -- `?` passes the error up as it is
-  pub passed-texts : (verb : Verb) (more : List Word) → words ≡ verb_word verb ∷ more → (r : Result CommandLine WordsErr) (e : WordsErr)
+  pub passed-texts : (verb : Verb) (more : List Word) → words ≡ verb_word verb ∷ more
+      → (r : Result CommandLine WordsErr) (e : WordsErr)
       → IsErrAnd r (λ y. y ≡ e) → HasNoTexts verb words e → IfErr r (HasCause words)
   passed-texts verb more named (Ok line) e same none = tt
-  passed-texts verb more named (Err y) e same none = subst (HasCause words) (sym same) (texts-cause verb more named e none)
+  passed-texts verb more named (Err y) e same none =
+      subst (HasCause words) (sym same) (texts-cause verb more named e none)
 
   no_line : (e : WordsErr) → (IsCommandLine words → ⊥) → HasCause words e
   no_line NoCommandLine none = none

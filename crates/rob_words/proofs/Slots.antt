@@ -9,7 +9,7 @@ use Rattle.clap.specs.declared.error.kind.ErrorKind.TheVariants.{ArgumentConflic
 use Rattle.std.specs.Str.{bytes_eq}
 use Rattle.clap.specs.Faults.{use_fault}
 use Rattle.clap.specs.Takes.{is_given}
-use Rattle.clap.specs.Simple.{App, Shape, built, new_shape}
+use Rattle.clap.specs.Simple.{App, Shape, new_shape}
 use Rattle.clap.specs.Walk.{Row, Rule, Text, at_row, first_of, has_row, more_values, used, with_values, without}
 use Rattle.clap.specs.declared.builder.action.ArgAction.TheVariants.{Set}
 use Rattle.clap.specs.declared.builder.value_parser.Reading.TheVariants.{AsWritten}
@@ -29,9 +29,6 @@ pub data Count : Type 0 where
 -- what tells one command from another behind its name: whether it takes a route, and how many own words it has
 pub data Frame : Type 0 where
   frame : (way : Bool) (count : Count) → Frame
-
-abbrev pub way_of : Frame → Bool
-way_of (frame way count) = way
 
 abbrev pub size : Count → ℕ
 size no_words = 0
@@ -129,16 +126,6 @@ app_by way own = with_words own (with_route way with_bits)
 abbrev pub frame_by : Bool → List Own → Frame
 frame_by way own = frame way (count_of own)
 
-pub built-top : (way : Bool) (own : List Own) → (built (app_by way own)).top ≡ shape (frame_by way own)
-built-top true [] = refl
-built-top true (k ∷ []) = refl
-built-top true (k ∷ l ∷ []) = refl
-built-top true (k ∷ l ∷ m ∷ more) = refl
-built-top false [] = refl
-built-top false (k ∷ []) = refl
-built-top false (k ∷ l ∷ []) = refl
-built-top false (k ∷ l ∷ m ∷ more) = refl
-
 -- ---- what is given
 
 -- a slot with the value that it is given
@@ -160,7 +147,8 @@ rows_of = map row
 -- the values that a slot is given
 abbrev pub given_by : Text → List Entry → List Word
 given_by id [] = []
-given_by id (entry ∷ entries) = if bytes_eq (id_of entry.0) id then entry.1 ∷ given_by id entries else given_by id entries
+given_by id (entry ∷ entries) =
+    if bytes_eq (id_of entry.0) id then entry.1 ∷ given_by id entries else given_by id entries
 
 abbrev pub given : Slot → List Entry → List Word
 given slot = given_by (id_of slot)
@@ -183,31 +171,37 @@ given-append slot (entry ∷ a) b = go (bytes_eq (id_of entry.0) (id_of slot)) (
     go true e = ap (λ words. entry.1 ∷ words) e
     go false e = e
 
-pub has_row-rows : (slot : Slot) (entries : List Entry) → has_row (id_of slot) (rows_of entries) ≡ some (given slot entries)
+pub has_row-rows : (slot : Slot) (entries : List Entry)
+    → has_row (id_of slot) (rows_of entries) ≡ some (given slot entries)
 has_row-rows slot [] = refl
 has_row-rows slot (entry ∷ entries) = go (bytes_eq (id_of entry.0) (id_of slot)) (has_row-rows slot entries)
   where
     go : (same : Bool) → has_row (id_of slot) (rows_of entries) ≡ some (given slot entries)
-        → (same || has_row (id_of slot) (rows_of entries)) ≡ some (if same then entry.1 ∷ given slot entries else given slot entries)
-    go true e = refl
-    go false e = e
-
-pub is_given-rows : (slot : Slot) (entries : List Entry) → is_given (id_of slot) (rows_of entries) ≡ some (given slot entries)
-is_given-rows slot [] = refl
-is_given-rows slot (entry ∷ entries) = go (bytes_eq (id_of entry.0) (id_of slot)) (is_given-rows slot entries)
-  where
-    go : (same : Bool) → is_given (id_of slot) (rows_of entries) ≡ some (given slot entries)
-        → option_map_or (λ (r : Row). explicit_source r.source) (cond same (Some (row entry)) (find (λ (r : Row). bytes_eq r.id (id_of slot)) (rows_of entries))) false
+        → (same || has_row (id_of slot) (rows_of entries))
         ≡ some (if same then entry.1 ∷ given slot entries else given slot entries)
     go true e = refl
     go false e = e
 
-pub first_of-rows : (slot : Slot) (entries : List Entry) → first_of (id_of slot) (rows_of entries) ≡ first (given slot entries)
+pub is_given-rows : (slot : Slot) (entries : List Entry)
+    → is_given (id_of slot) (rows_of entries) ≡ some (given slot entries)
+is_given-rows slot [] = refl
+is_given-rows slot (entry ∷ entries) = go (bytes_eq (id_of entry.0) (id_of slot)) (is_given-rows slot entries)
+  where
+    go : (same : Bool) → is_given (id_of slot) (rows_of entries) ≡ some (given slot entries)
+        → option_map_or (λ (r : Row). explicit_source r.source)
+        (cond same (Some (row entry)) (find (λ (r : Row). bytes_eq r.id (id_of slot)) (rows_of entries))) false
+        ≡ some (if same then entry.1 ∷ given slot entries else given slot entries)
+    go true e = refl
+    go false e = e
+
+pub first_of-rows : (slot : Slot) (entries : List Entry)
+    → first_of (id_of slot) (rows_of entries) ≡ first (given slot entries)
 first_of-rows slot [] = refl
 first_of-rows slot (entry ∷ entries) = go (bytes_eq (id_of entry.0) (id_of slot)) (first_of-rows slot entries)
   where
     go : (same : Bool) → first_of (id_of slot) (rows_of entries) ≡ first (given slot entries)
-        → option_and_then (λ (r : Row). slice_get r.values 0) (cond same (Some (row entry)) (find (λ (r : Row). bytes_eq r.id (id_of slot)) (rows_of entries)))
+        → option_and_then (λ (r : Row). slice_get r.values 0)
+        (cond same (Some (row entry)) (find (λ (r : Row). bytes_eq r.id (id_of slot)) (rows_of entries)))
         ≡ first (if same then entry.1 ∷ given slot entries else given slot entries)
     go true e = refl
     go false e = e
@@ -216,7 +210,8 @@ first_of-rows slot (entry ∷ entries) = go (bytes_eq (id_of entry.0) (id_of slo
 missing_row : (slot : Slot) (f : Row → List Row) (more : List Row) (entries : List Entry) → given slot entries ≡ []
     → at_row (id_of slot) f more (rows_of entries) ≡ rows_of entries ++ more
 missing_row slot f more [] none = refl
-missing_row slot f more (entry ∷ entries) none = go (bytes_eq (id_of entry.0) (id_of slot)) none (missing_row slot f more entries)
+missing_row slot f more (entry ∷ entries) none =
+    go (bytes_eq (id_of entry.0) (id_of slot)) none (missing_row slot f more entries)
   where
     go : (same : Bool) → (if same then entry.1 ∷ given slot entries else given slot entries) ≡ []
         → (given slot entries ≡ [] → at_row (id_of slot) f more (rows_of entries) ≡ rows_of entries ++ more)
@@ -232,7 +227,8 @@ rows_of-append (entry ∷ a) b = ap (λ rows. row entry ∷ rows) (rows_of-appen
 pub used-new : (slot : Slot) (value : Word) (entries : List Entry) → given slot entries ≡ []
     → used (rule slot) (value ∷ []) (rows_of entries) ≡ rows_of (entries ++ (slot, value) ∷ [])
 used-new slot value entries none =
-    let kept : without (id_of slot) (rows_of entries) ≡ rows_of entries = missing_row slot (λ row. []) [] entries none ∙ append-nil (rows_of entries) in
+    let kept : without (id_of slot) (rows_of entries) ≡ rows_of entries =
+    missing_row slot (λ row. []) [] entries none ∙ append-nil (rows_of entries) in
     ap (with_values (id_of slot) AsWritten CommandLine (value ∷ [])) kept
     ∙ missing_row slot (more_values CommandLine (value ∷ [])) (row (slot, value) ∷ []) entries none
     ∙ sym (rows_of-append entries ((slot, value) ∷ []))
@@ -248,7 +244,8 @@ use_fault-given slot value entries =
 
 pub use_fault-new : (slot : Slot) (value : Word) (entries : List Entry) → given slot entries ≡ []
     → use_fault false (rule slot) (value ∷ []) (rows_of entries) ≡ []
-use_fault-new slot value entries none = use_fault-given slot value entries ∙ ap (λ words. or_else (repeat words) []) none
+use_fault-new slot value entries none =
+    use_fault-given slot value entries ∙ ap (λ words. or_else (repeat words) []) none
 
 pub new-use_fault : (slot : Slot) (value : Word) (entries : List Entry)
     → use_fault false (rule slot) (value ∷ []) (rows_of entries) ≡ [] → given slot entries ≡ []

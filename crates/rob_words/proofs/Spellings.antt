@@ -57,13 +57,18 @@ one_parts (apart setting value ∷ p) [] plain plain' e = absurd (search (e, rul
 one_parts (joined setting value ∷ p) [] plain plain' e = absurd (search (e, rules))
 one_parts (own word ∷ p) (own word' ∷ q) plain plain' e =
     ap₂ (λ w ps. own w ∷ ps) (heads e) (one_parts p q plain.1 plain'.1 (ap rest_of e))
-one_parts (own word ∷ p) (apart setting value ∷ q) plain plain' e = absurd (dashed setting [] word plain.0 (heads e ∙ sym (append-nil (setting_word setting))))
-one_parts (own word ∷ p) (joined setting value ∷ q) plain plain' e = absurd (dashed setting (61 ∷ value) word plain.0 (heads e))
-one_parts (apart setting value ∷ p) (own word ∷ q) plain plain' e = absurd (dashed setting [] word plain'.0 (sym (heads e) ∙ sym (append-nil (setting_word setting))))
-one_parts (joined setting value ∷ p) (own word ∷ q) plain plain' e = absurd (dashed setting (61 ∷ value) word plain'.0 (sym (heads e)))
+one_parts (own word ∷ p) (apart setting value ∷ q) plain plain' e =
+    absurd (dashed setting [] word plain.0 (heads e ∙ sym (append-nil (setting_word setting))))
+one_parts (own word ∷ p) (joined setting value ∷ q) plain plain' e =
+    absurd (dashed setting (61 ∷ value) word plain.0 (heads e))
+one_parts (apart setting value ∷ p) (own word ∷ q) plain plain' e =
+    absurd (dashed setting [] word plain'.0 (sym (heads e) ∙ sym (append-nil (setting_word setting))))
+one_parts (joined setting value ∷ p) (own word ∷ q) plain plain' e =
+    absurd (dashed setting (61 ∷ value) word plain'.0 (sym (heads e)))
 one_parts (apart s a ∷ p) (apart t b ∷ q) plain plain' e =
     let rest = ap rest_of e in
-    ap₂ (λ (f : Part) ps. f ∷ ps) (ap₂ apart (setting_word-one s t (heads e)) (heads rest)) (one_parts p q plain.1 plain'.1 (ap rest_of rest))
+    ap₂ (λ (f : Part) ps. f ∷ ps) (ap₂ apart (setting_word-one s t (heads e)) (heads rest))
+    (one_parts p q plain.1 plain'.1 (ap rest_of rest))
 one_parts (apart s a ∷ p) (joined t b ∷ q) plain plain' e = absurd (apart-joined s t b (heads e))
 one_parts (joined s a ∷ p) (apart t b ∷ q) plain plain' e = absurd (apart-joined t s a (sym (heads e)))
 one_parts (joined s a ∷ p) (joined t b ∷ q) plain plain' e =
@@ -72,13 +77,19 @@ one_parts (joined s a ∷ p) (joined t b ∷ q) plain plain' e =
 
 -- ---- a line's parts are plain
 
-pub bare-plain : (parts : List Part) → ArePlain (own_words parts) → ArePlain (bits_values parts) → ArePlain (route_values parts) → ArePlain (bare_words parts)
+pub bare-plain : (parts : List Part) → ArePlain (own_words parts) → ArePlain (bits_values parts)
+    → ArePlain (route_values parts) → ArePlain (bare_words parts)
 bare-plain [] own_plain bits_plain route_plain = tt
-bare-plain (own word ∷ parts) own_plain bits_plain route_plain = (own_plain.0, bare-plain parts own_plain.1 bits_plain route_plain)
-bare-plain (apart bits value ∷ parts) own_plain bits_plain route_plain = (bits_plain.0, bare-plain parts own_plain bits_plain.1 route_plain)
-bare-plain (apart route value ∷ parts) own_plain bits_plain route_plain = (route_plain.0, bare-plain parts own_plain bits_plain route_plain.1)
-bare-plain (joined bits value ∷ parts) own_plain bits_plain route_plain = bare-plain parts own_plain bits_plain.1 route_plain
-bare-plain (joined route value ∷ parts) own_plain bits_plain route_plain = bare-plain parts own_plain bits_plain route_plain.1
+bare-plain (own word ∷ parts) own_plain bits_plain route_plain =
+    (own_plain.0, bare-plain parts own_plain.1 bits_plain route_plain)
+bare-plain (apart bits value ∷ parts) own_plain bits_plain route_plain =
+    (bits_plain.0, bare-plain parts own_plain bits_plain.1 route_plain)
+bare-plain (apart route value ∷ parts) own_plain bits_plain route_plain =
+    (route_plain.0, bare-plain parts own_plain bits_plain route_plain.1)
+bare-plain (joined bits value ∷ parts) own_plain bits_plain route_plain =
+    bare-plain parts own_plain bits_plain.1 route_plain
+bare-plain (joined route value ∷ parts) own_plain bits_plain route_plain =
+    bare-plain parts own_plain bits_plain route_plain.1
 
 pub own-plain : (parts : List Part) → ArePlain (bare_words parts) → ArePlain (own_words parts)
 own-plain [] plain = tt
@@ -95,7 +106,8 @@ width-plain SixtyTwo = λ e. search (e, rules, arith)
 route-plain : (way : Route) → IsPlain (route_text way)
 route-plain Dual = λ e. search (e, rules, arith)
 
-says-plain : {X : Type 0} (text : X → Word) (default : X) (values : List Word) (x : X) → ((x : X) → IsPlain (text x)) → Says text default values x → ArePlain values
+says-plain : {X : Type 0} (text : X → Word) (default : X) (values : List Word) (x : X) → ((x : X) → IsPlain (text x))
+    → Says text default values x → ArePlain values
 says-plain text default values x plain (inl one) = subst ArePlain (sym one) (plain x, tt)
 says-plain text default values x plain (inr none) = subst ArePlain (sym none.0) tt
 
@@ -103,7 +115,8 @@ tells-plain : (takes : Bool) (values : List Word) (way : Route) → TellsRoute t
 tells-plain true values way tells = says-plain route_text Dual values way route-plain tells
 tells-plain false values way tells = subst ArePlain (sym tells.0) tt
 
-pub line-plain : (words : List Word) (line : Line) (parts : List Part) → HasParts words line parts → ArePlain (bare_words parts)
+pub line-plain : (words : List Word) (line : Line) (parts : List Part) → HasParts words line parts
+    → ArePlain (bare_words parts)
 line-plain words line parts has = bare-plain parts (subst ArePlain (sym has.own) has.names)
     (says-plain width_text SixtyTwo (bits_values parts) line.width width-plain has.width)
     (tells-plain (takes_route line.verb) (route_values parts) line.way has.route)
@@ -131,21 +144,26 @@ width_text-one SixtyTwo SixtyTwo e = refl
 route_text-one : (a b : Route) → route_text a ≡ route_text b → a ≡ b
 route_text-one Dual Dual e = refl
 
-says-one : {X : Type 0} (text : X → Word) (default : X) (values : List Word) (a b : X) → ((a b : X) → text a ≡ text b → a ≡ b)
+says-one : {X : Type 0} (text : X → Word) (default : X) (values : List Word) (a b : X)
+    → ((a b : X) → text a ≡ text b → a ≡ b)
     → Says text default values a → Says text default values b → a ≡ b
 says-one text default values a b one (inl x) (inl y) = one a b (heads (sym x ∙ y))
-says-one text default values a b one (inl x) (inr y) = let e : text a ∷ [] ≡ [] = sym x ∙ y.0 in absurd (search (e, rules))
-says-one text default values a b one (inr x) (inl y) = let e : text b ∷ [] ≡ [] = sym y ∙ x.0 in absurd (search (e, rules))
+says-one text default values a b one (inl x) (inr y) =
+    let e : text a ∷ [] ≡ [] = sym x ∙ y.0 in absurd (search (e, rules))
+says-one text default values a b one (inr x) (inl y) =
+    let e : text b ∷ [] ≡ [] = sym y ∙ x.0 in absurd (search (e, rules))
 says-one text default values a b one (inr x) (inr y) = x.1 ∙ sym y.1
 
-tells-one : (takes : Bool) (values : List Word) (a b : Route) → TellsRoute takes values a → TellsRoute takes values b → a ≡ b
+tells-one : (takes : Bool) (values : List Word) (a b : Route) → TellsRoute takes values a
+    → TellsRoute takes values b → a ≡ b
 tells-one true values a b s t = says-one route_text Dual values a b route_text-one s t
 tells-one false values a b s t = s.1 ∙ sym t.1
 
 pub one_line : (words : List Word) (a b : Line) → IsSpelled words a → IsSpelled words b → a ≡ b
 one_line words a b s t =
     let spelled : verb_word a.verb ∷ words_of s.0 ≡ verb_word b.verb ∷ words_of t.0 = sym s.1.spelled ∙ t.1.spelled in
-    let parts : s.0 ≡ t.0 = one_parts s.0 t.0 (line-plain words a s.0 s.1) (line-plain words b t.0 t.1) (ap rest_of spelled) in
+    let parts : s.0 ≡ t.0 =
+    one_parts s.0 t.0 (line-plain words a s.0 s.1) (line-plain words b t.0 t.1) (ap rest_of spelled) in
     let verbs : a.verb ≡ b.verb = verb_word-one a.verb b.verb (heads spelled) in
     let other : HasParts words b s.0 = subst (HasParts words b) (sym parts) t.1 in
     let words_are : a.own ≡ b.own = sym s.1.own ∙ other.own in
@@ -171,16 +189,21 @@ All-cons word words one rest (suc k) d lt = rest k d (omega arith)
 
 words-bytes : (parts : List Part) → ArePlain (bare_words parts) → All (λ w. w ≢ []) (words_of parts)
 words-bytes [] plain = λ k d lt. absurd (omega arith)
-words-bytes (own word ∷ parts) plain = All-cons word (words_of parts) (plain-bytes word plain.0) (words-bytes parts plain.1)
+words-bytes (own word ∷ parts) plain =
+    All-cons word (words_of parts) (plain-bytes word plain.0) (words-bytes parts plain.1)
 words-bytes (apart setting value ∷ parts) plain =
-    All-cons (setting_word setting) (value ∷ words_of parts) (λ e. setting-bytes setting [] (append-nil (setting_word setting) ∙ e))
+    All-cons (setting_word setting) (value ∷ words_of parts)
+    (λ e. setting-bytes setting [] (append-nil (setting_word setting) ∙ e))
     (All-cons value (words_of parts) (plain-bytes value plain.0) (words-bytes parts plain.1))
 words-bytes (joined setting value ∷ parts) plain =
-    All-cons (setting_word setting ++ 61 ∷ value) (words_of parts) (setting-bytes setting (61 ∷ value)) (words-bytes parts plain)
+    All-cons (setting_word setting ++ 61 ∷ value) (words_of parts) (setting-bytes setting (61 ∷ value))
+    (words-bytes parts plain)
 
 pub line-bytes : (words : List Word) → IsCommandLine words → All (λ w. w ≢ []) words
 line-bytes words line =
     let parts = line.1.0 in
     let has = line.1.1 in
     subst (All (λ w. w ≢ [])) (sym has.spelled)
-    (All-cons (verb_word line.0.verb) (words_of parts) (plain-bytes (verb_word line.0.verb) (verb_word-plain line.0.verb)) (words-bytes parts (line-plain words line.0 parts has)))
+    (All-cons (verb_word line.0.verb) (words_of parts)
+    (plain-bytes (verb_word line.0.verb) (verb_word-plain line.0.verb))
+    (words-bytes parts (line-plain words line.0 parts has)))

@@ -45,7 +45,8 @@ cut_of (byte ∷ text) = go (byte == 61) refl (cut_of text)
   where
     go : (b : Bool) → (byte == 61) ≡ b → Cut text → Cut (byte ∷ text)
     go true e rest = let is : byte ≡ 61 = grind (arith, nat_tests) in cut [] text (ap (λ b. b ∷ text) is) Lacks-nil
-    go false e (whole lacks) = let other : byte ≢ 61 = grind (arith, nat_tests) in whole (Lacks-cons byte text other lacks)
+    go false e (whole lacks) =
+        let other : byte ≢ 61 = grind (arith, nat_tests) in whole (Lacks-cons byte text other lacks)
     go false e (cut name value is lacks) =
         let other : byte ≢ 61 = grind (arith, nat_tests) in
         cut (byte ∷ name) value (ap (λ t. byte ∷ t) is) (Lacks-cons byte name other lacks)
@@ -53,7 +54,8 @@ cut_of (byte ∷ text) = go (byte == 61) refl (cut_of text)
 -- what an admitted word is: plain, `--name` or `--name=value`
 pub data Look (word : Word) : Type 0 where
   plain : IsPlain word → Look word
-  named : (name : Word) → word ≡ 45 ∷ 45 ∷ name → long_of word ≡ Some (name, None) → bytes_eq word (45 ∷ 45 ∷ []) ≡ false → Look word
+  named : (name : Word) → word ≡ 45 ∷ 45 ∷ name → long_of word ≡ Some (name, None)
+      → bytes_eq word (45 ∷ 45 ∷ []) ≡ false → Look word
   valued : (name value : Word) → word ≡ 45 ∷ 45 ∷ (name ++ 61 ∷ value) → long_of word ≡ Some (name, Some value)
       → bytes_eq word (45 ∷ 45 ∷ []) ≡ false → Look word
 
@@ -63,7 +65,8 @@ dashed byte bytes = go (cut_of (byte ∷ bytes))
     go : Cut (byte ∷ bytes) → Look (45 ∷ 45 ∷ byte ∷ bytes)
     go (whole lacks) = named (byte ∷ bytes) refl (ap (λ p. Some p) (name_and_value-without (byte ∷ bytes) lacks)) refl
     go (cut name value is lacks) =
-        valued name value (ap (λ t. 45 ∷ 45 ∷ t) is) (ap (λ t. Some (name_and_value t)) is ∙ ap (λ p. Some p) (name_and_value-at name value lacks)) refl
+        valued name value (ap (λ t. 45 ∷ 45 ∷ t) is)
+        (ap (λ t. Some (name_and_value t)) is ∙ ap (λ p. Some p) (name_and_value-at name value lacks)) refl
 
 pub look_of : (word : Word) → IsAdmitted word → Look word
 look_of [] admitted = absurd admitted
@@ -73,7 +76,9 @@ look_of (byte ∷ second ∷ []) (inr long) = absurd long.1
 look_of (byte ∷ second ∷ third ∷ bytes) (inr long) = both byte second long.0 long.1
   where
     both : (a b : ℕ) → a ≡ 45 → b ≡ 45 → Look (a ∷ b ∷ third ∷ bytes)
-    both a b e f = subst (λ x. Look (x ∷ b ∷ third ∷ bytes)) (sym e) (subst (λ y. Look (45 ∷ y ∷ third ∷ bytes)) (sym f) (dashed third bytes))
+    both a b e f =
+        subst (λ x. Look (x ∷ b ∷ third ∷ bytes)) (sym e)
+        (subst (λ y. Look (45 ∷ y ∷ third ∷ bytes)) (sym f) (dashed third bytes))
 
 -- the words of an option
 pub apart-long : (setting : Setting) → long_of (setting_word setting) ≡ Some (id_of (slot_of setting), None)
@@ -84,11 +89,13 @@ pub apart-dashes : (setting : Setting) → bytes_eq (setting_word setting) (45 �
 apart-dashes bits = refl
 apart-dashes route = refl
 
-pub joined-long : (setting : Setting) (value : Word) → long_of (setting_word setting ++ (codes "=" ++ value)) ≡ Some (id_of (slot_of setting), Some value)
+pub joined-long : (setting : Setting) (value : Word)
+    → long_of (setting_word setting ++ (codes "=" ++ value)) ≡ Some (id_of (slot_of setting), Some value)
 joined-long bits value = refl
 joined-long route value = refl
 
-pub joined-dashes : (setting : Setting) (value : Word) → bytes_eq (setting_word setting ++ (codes "=" ++ value)) (45 ∷ 45 ∷ []) ≡ false
+pub joined-dashes : (setting : Setting) (value : Word)
+    → bytes_eq (setting_word setting ++ (codes "=" ++ value)) (45 ∷ 45 ∷ []) ≡ false
 joined-dashes bits value = refl
 joined-dashes route value = refl
 

@@ -71,6 +71,7 @@ abbrev pub IsPlain : Word → Type 0
 IsPlain [] = ⊥
 IsPlain (byte ∷ bytes) = byte ≢ 45
 
+-- each of the words is plain
 abbrev pub ArePlain : List Word → Type 0
 ArePlain [] = Unit {0}
 ArePlain (word ∷ words) = IsPlain word × ArePlain words

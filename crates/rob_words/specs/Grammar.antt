@@ -32,7 +32,8 @@ with_words [] app = app
 with_words (_ ∷ []) app = with_rule app (own_word (codes "first"))
 with_words (_ ∷ _ ∷ []) app = with_rule (with_rule app (own_word (codes "first"))) (own_word (codes "second"))
 with_words (_ ∷ _ ∷ _ ∷ _) app =
-    with_rule (with_rule (with_rule app (own_word (codes "first"))) (own_word (codes "second"))) (own_word (codes "third"))
+    with_rule (with_rule (with_rule app (own_word (codes "first"))) (own_word (codes "second")))
+    (own_word (codes "third"))
 
 -- each command: its options, and its own words
 abbrev pub grammar : Verb → App
@@ -41,6 +42,7 @@ grammar verb = with_words (own_of verb) (with_route (takes_route verb) with_bits
 -- these texts were found
 pub record Finds (matches : ArgMatches) (texts : Holding) : Type 0 where
   pub own : texts.own ≡ listed (first_value (found_of matches) (codes "first"))
-      ++ (listed (first_value (found_of matches) (codes "second")) ++ listed (first_value (found_of matches) (codes "third")))
+      ++ (listed (first_value (found_of matches) (codes "second"))
+      ++ listed (first_value (found_of matches) (codes "third")))
   pub bits : first_value (found_of matches) (codes "bits") ≡ texts.bits
   pub way : first_value (found_of matches) (codes "route") ≡ texts.way

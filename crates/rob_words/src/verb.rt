@@ -1,7 +1,7 @@
 //! The commands: their names, their own words and their options.
 //!
-//! Each command has one line in each of the three tables below, and in the same three of `specs/Verbs.antt`; nothing else in this
-//! crate tells one command from another.
+//! Each command has one line in each of the three tables below, and in the same three of `specs/Verbs.antt`; nothing
+//! else in this crate tells one command from another.
 
 ghost use Rattle.std.specs.Prelude.{◌≡◌, MatchOption};
 ghost use Rattle.rob_words.specs.Verbs.{own_of, takes_route, verb_word};

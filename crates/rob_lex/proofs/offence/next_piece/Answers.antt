@@ -4,18 +4,29 @@ use Rattle.rob_lex.proofs.offence.next_piece.Goals as goal
 use Rattle.rob_lex.proofs.offence.next_piece.Goals.{else-at-ge-MOST_OPEN-via-then-at-ge-MOST_OPEN+else-rest-eq40, else-at-ge-MOST_OPEN-via-else-at-ge-MOST_OPEN}
 
 pub returns-then-rest-lt128 : goal.returns-then-rest-lt128
-returns-then-rest-lt128 c = bad_byte_here c.args.at c.args.rest.now c.requires c.if-rest-lt128.true c.in_default.ensures
+returns-then-rest-lt128 c = record {
+  piece = bad_byte_here c.args.at c.args.rest.now c.requires.some c.if-rest-lt128.true c.in_default.ensures.piece;
+}
 
 pub returns-then-at-ge-MOST_TOKENS : goal.returns-then-at-ge-MOST_TOKENS
-returns-then-at-ge-MOST_TOKENS c = too_many_here c.args.at c.args.rest.now c.in-Some.found c.in-Lexeme.field-0 c.in-Some.ensures c.in-Lexeme.is c.if-at-ge-MOST_TOKENS.true
+returns-then-at-ge-MOST_TOKENS c = record {
+  piece =
+      too_many_here c.args.at c.args.rest.now c.in-Some.found c.in-Lexeme.field-0 c.in-Some.ensures.piece
+      c.in-Lexeme.is c.if-at-ge-MOST_TOKENS.true;
+}
 
 pub returns-else-at-ge-MOST_OPEN : goal.returns-else-at-ge-MOST_OPEN
-returns-else-at-ge-MOST_OPEN c =
-    free_here c.args.at c.args.rest.now c.in-Some.found c.in-Some.ensures (λ _ _. c.if-at-ge-MOST_TOKENS.false)
-    (λ deep paren. elim c.else-at-ge-MOST_OPEN.branch [
-      | else-at-ge-MOST_OPEN-via-then-at-ge-MOST_OPEN+else-rest-eq40 w ↦ w.if-rest-eq40.false (search rules)
-      | else-at-ge-MOST_OPEN-via-else-at-ge-MOST_OPEN w ↦ absurd (omega arith)
-    ])
+returns-else-at-ge-MOST_OPEN c = record {
+  piece =
+      free_here c.args.at c.args.rest.now c.in-Some.found c.in-Some.ensures.piece (λ _ _. c.if-at-ge-MOST_TOKENS.false)
+      (λ deep paren. elim c.else-at-ge-MOST_OPEN.branch [
+        | else-at-ge-MOST_OPEN-via-then-at-ge-MOST_OPEN+else-rest-eq40 w ↦ w.if-rest-eq40.false (search rules)
+        | else-at-ge-MOST_OPEN-via-else-at-ge-MOST_OPEN w ↦ absurd (omega arith)
+      ]);
+}
 
 pub returns-in_default-shape : goal.returns-in_default-shape
-returns-in_default-shape c = free_unless_token c.args.at c.args.rest.now c.in-Some.found c.in-Some.ensures c.in_default-shape.not-Lexeme
+returns-in_default-shape c = record {
+  piece =
+      free_unless_token c.args.at c.args.rest.now c.in-Some.found c.in-Some.ensures.piece c.in_default-shape.not-Lexeme;
+}

@@ -36,22 +36,28 @@ the_empty = []
 abbrev pub the_items : (X : Type 0) → Items X → Items X
 the_items X items = items
 
-pub the_items_listed : (X : Type 0) (items : Items X) → listed _ (children (the_former this) X items) ≡ the_items X items
+pub the_items_listed : (X : Type 0) (items : Items X)
+    → listed _ (children (the_former this) X items) ≡ the_items X items
 the_items_listed X items = list-listed X items
 
 -- the struct's one field: a `Vec` of the items
 abbrev in_vec : Former {0}
-in_vec = via (Vec.the_former this Global) Inside (λ X fields. fields.items) (λ X items. record { items = items }) (λ X fields. refl) (λ X items. refl)
+in_vec = via (Vec.the_former this Global) Inside (λ X fields. fields.items) (λ X items. record { items = items })
+    (λ X fields. refl) (λ X items. refl)
 
 module _ (R S : RattleType) (h : R.Denot → S.Denot) where
   -- two types of one layout make lists of one layout
   pub the_places : Alike R S h → Alike (Seen.the_row R) (Seen.the_row S) ((the_former this).map R.Denot S.Denot h)
   the_places alike =
-      view_places in_vec (list this) view (λ X Y k fields. refl) (λ X fields. refl) R.Denot S.Denot h (Seen.the_row R).coded (Seen.the_row S).coded
-      (invariant R.Denot) (invariant S.Denot) (λ fields p q. refl) (λ fields p q. refl) (λ fields e. tt) (λ fields e. tt)
+      view_places in_vec (list this) view (λ X Y k fields. refl) (λ X fields. refl) R.Denot S.Denot h
+      (Seen.the_row R).coded (Seen.the_row S).coded
+      (invariant R.Denot) (invariant S.Denot) (λ fields p q. refl) (λ fields p q. refl)
+      (λ fields e. tt) (λ fields e. tt)
       (over (Fields.the_row R)) (over (Fields.the_row S))
-      (struct_places (Fields.the_type R) (Fields.the_type S) (Vec.mapped h, tt) _ (λ fields. refl) refl (laid _ _ _ (Vec.the_places Heap.the_row ghosts R S h alike), tt))
+      (struct_places (Fields.the_type R) (Fields.the_type S) (Vec.mapped h, tt) _ (λ fields. refl) refl
+      (laid _ _ _ (Vec.the_places Heap.the_row ghosts R S h alike), tt))
 
   -- and of one code
-  pub the_codes_placed : Recodes R S h → Recodes (Seen.the_row R) (Seen.the_row S) ((the_former this).map R.Denot S.Denot h)
+  pub the_codes_placed : Recodes R S h
+      → Recodes (Seen.the_row R) (Seen.the_row S) ((the_former this).map R.Denot S.Denot h)
   the_codes_placed same items = sym (code_map R.coded.code S.coded.code h (λ x. sym (same x)) items)

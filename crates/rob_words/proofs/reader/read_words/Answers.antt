@@ -8,19 +8,28 @@ returns-then-not-are_admitted-clause-cause c = λ line.
     search (admitted, c.if-not-are_admitted.true, rules)
 
 pub returns-in_err-texts-clause-cause : goal.returns-in_err-texts-clause-cause
-returns-in_err-texts-clause-cause c = passed-texts (map string_bytes c.args.words.now) c.in_ok-verb.verb c.in_ok-verb.ensures.named.0
-    c.in_ok-verb.ensures.named.1 c.from_residual-in_err-texts.result c.in_err-texts.field-0.0 c.from_residual-in_err-texts.ensures.1 c.in_err-texts.ensures.cause
+returns-in_err-texts-clause-cause c =
+    passed-texts (map string_bytes c.args.words.now) c.in_ok-verb.verb c.in_ok-verb.ensures.named.0
+    c.in_ok-verb.ensures.named.1 c.from_residual-in_err-texts.result c.in_err-texts.field-0.0
+    c.from_residual-in_err-texts.ensures.1 c.in_err-texts.ensures.cause
 
 pub returns-in_err-width-clause-cause : goal.returns-in_err-width-clause-cause
-returns-in_err-width-clause-cause c = passed-no_line (map string_bytes c.args.words.now) c.from_residual-in_err-width.result
+returns-in_err-width-clause-cause c =
+    passed-no_line (map string_bytes c.args.words.now) c.from_residual-in_err-width.result
     (λ line. c.in_err-width.ensures.judged line.0.width
-    (line-width c.in_ok-verb.verb (map string_bytes c.args.words.now) c.in_ok-verb.ensures.named.0 c.in_ok-verb.ensures.named.1 line _ c.in_ok-texts.ensures.texts))
+    (line-width c.in_ok-verb.verb (map string_bytes c.args.words.now) c.in_ok-verb.ensures.named.0
+    c.in_ok-verb.ensures.named.1 line _ c.in_ok-texts.ensures.texts))
 
 pub returns-in_err-route-clause-cause : goal.returns-in_err-route-clause-cause
-returns-in_err-route-clause-cause c = passed-no_line (map string_bytes c.args.words.now) c.from_residual-in_err-route.result
-    (λ line. let way = line-route c.in_ok-verb.verb (map string_bytes c.args.words.now) c.in_ok-verb.ensures.named.0 c.in_ok-verb.ensures.named.1 line _
+returns-in_err-route-clause-cause c =
+    passed-no_line (map string_bytes c.args.words.now) c.from_residual-in_err-route.result
+    (λ line. let way =
+    line-route c.in_ok-verb.verb (map string_bytes c.args.words.now) c.in_ok-verb.ensures.named.0
+    c.in_ok-verb.ensures.named.1 line _
     c.in_ok-texts.ensures.texts in c.in_err-route.ensures.judged way.0 way.1)
 
 pub returns-clause-line : goal.returns-clause-line
-returns-clause-line c = spelled-line c.in_ok-verb.verb (map string_bytes c.args.words.now) c.in_ok-verb.ensures.named.0 _ c.in_ok-width.width c.in_ok-route.route
+returns-clause-line c =
+    spelled-line c.in_ok-verb.verb (map string_bytes c.args.words.now) c.in_ok-verb.ensures.named.0 _
+    c.in_ok-width.width c.in_ok-route.route
     c.in_ok-verb.ensures.named.1 c.in_ok-texts.ensures.texts c.in_ok-width.ensures.judged c.in_ok-route.ensures.judged

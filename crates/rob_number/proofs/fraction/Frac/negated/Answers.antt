@@ -6,11 +6,14 @@ use Rattle.rob_algebra.proofs.Parts.{neg_parts}
 use Rattle.rob_number.proofs.fraction.Frac.negated.Goals as goal
 
 pub overflow_sub-result : goal.overflow_sub-result
-overflow_sub-result g c = negated_fits c.args.self.num (within_limit g.row.B (nat_abs c.args.self.num) c.args.self.lowest.num_fits)
+overflow_sub-result g c =
+    negated_fits c.args.self.num (within_limit g.row.B (nat_abs c.args.self.num) c.args.self.lowest.num_fits)
 
 pub returns : goal.returns
 returns g c = record {
   value = ext _ _
-      (negated_seen c.args.self.num (within_limit g.row.B (nat_abs c.args.self.num) c.args.self.lowest.num_fits) ∙ sym (neg_parts (value_of c.args.self)).0)
-      (ap nat_abs (seen c.args.self.den (within_limit g.row.B (nat_abs c.args.self.den) c.args.self.lowest.den_fits)) ∙ sym (neg_parts (value_of c.args.self)).1);
+      (negated_seen c.args.self.num (within_limit g.row.B (nat_abs c.args.self.num) c.args.self.lowest.num_fits)
+      ∙ sym (neg_parts (value_of c.args.self)).0)
+      (ap nat_abs (seen c.args.self.den (within_limit g.row.B (nat_abs c.args.self.den) c.args.self.lowest.den_fits))
+      ∙ sym (neg_parts (value_of c.args.self)).1);
 }

@@ -3,4 +3,5 @@ use Rattle.rob_number.proofs.fraction.Frac.numerator.Goals as goal
 use Rattle.std.proofs.Common.{nat_abs}
 
 pub returns-clause-size : goal.returns-clause-size
-returns-clause-size g c = seen_small c.args.self.num (within_limit g.row.B (nat_abs c.args.self.num) c.args.self.lowest.num_fits)
+returns-clause-size g c =
+    seen_small c.args.self.num (within_limit g.row.B (nat_abs c.args.self.num) c.args.self.lowest.num_fits)
