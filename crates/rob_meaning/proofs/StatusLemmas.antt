@@ -13,7 +13,7 @@ use Rattle.rob_meaning.specs.UncertaintySet.{AdmitsIn, in_each_set}
 use Rattle.rob_meaning.specs.Values.{value}
 use Rattle.rob_meaning.specs.WellFormed.{IsModel}
 
-no_worse_both : (sense : Sense) (a b : Fraction) → IsNoWorse sense a b → IsNoWorse sense b a → a ≡ b
+pub no_worse_both : (sense : Sense) (a b : Fraction) → IsNoWorse sense a b → IsNoWorse sense b a → a ≡ b
 no_worse_both minimise a b h k = Q.le_antisym_ℚ a b h k
 no_worse_both maximise a b h k = Q.le_antisym_ℚ a b k h
 
@@ -23,11 +23,11 @@ no_worse_trans minimise a b c h k = Q.le_trans_ℚ a b c h k
 no_worse_trans maximise a b c h k = Q.le_trans_ℚ c b a k h
 
 -- a better number
-better : Sense → Fraction → Fraction
+pub better : Sense → Fraction → Fraction
 better minimise v = v -ℚ 1ℚ
 better maximise v = v +ℚ 1ℚ
 
-not_better : (sense : Sense) (v : Fraction) → IsNoWorse sense v (better sense v) → ⊥
+pub not_better : (sense : Sense) (v : Fraction) → IsNoWorse sense v (better sense v) → ⊥
 unfolding better
 not_better minimise v h =
     Q.not_lt_ℚ v (v -ℚ 1ℚ) h (Q.lt_from (v ∷ []) (v0 :- lit (pos 1)) v0 (lit (pos 1)) refl zero_lt_one)
@@ -78,7 +78,8 @@ attained_is_worst_case m plan u v model b admitted e =
     record {
       bound = b;
       none_better = λ tau k.
-          subst (λ x. IsNoWorse m.sense x tau) e ((k.keeps m.objective_set model.own_objective.0 u admitted).objective refl);
+          subst (λ x. IsNoWorse m.sense x tau) e
+          ((k.keeps m.objective_set model.own_objective.0 u admitted).objective refl);
     }
 
 -- a plan has one worst case
