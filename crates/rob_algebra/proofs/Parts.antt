@@ -6,6 +6,7 @@ use Rattle.std.proofs.Math.IntN.{zero-*ℤ}
 use Rattle.rob_algebra.specs.Gcd.{gcd}
 use Rattle.rob_algebra.specs.Integer.{mul-one}
 use Rattle.rob_algebra.specs.Fraction.{Fraction, of_pair, of_int, ◌+ℚ◌, ◌*ℚ◌, neg_ℚ, ◌≤ℚ◌, is_le_in, is_le_out, to_reduced, is_self, is_int, is_of_pair, same_is, den_pos, coprime}
+pub use Rattle.rob_algebra.specs.FractionLaws.{size_some}
 
 -- a pair in lowest terms has itself as the parts of its fraction
 pub lowest_parts : (n : ℤ) (d : ℕ) → 0 < d → gcd (nat_abs n) d ≡ 1 → ((of_pair n d).num ≡ n) × ((of_pair n d).den ≡ d)
@@ -26,7 +27,8 @@ of_int-one n d e = ap (λ k. of_pair n k) e
 pub add-wholes : (x y : Fraction) → x.den ≡ 1 → y.den ≡ 1 → x +ℚ y ≡ of_int (x.num +ℤ y.num)
 unfolding of_int ◌+ℚ◌
 add-wholes x y p q =
-    ap₂ of_pair (ap₂ ◌+ℤ◌ (ap (λ k. x.num *ℤ pos k) q ∙ mul-one x.num) (ap (λ k. y.num *ℤ pos k) p ∙ mul-one y.num)) (ap₂ ◌*◌ p q)
+    ap₂ of_pair (ap₂ ◌+ℤ◌ (ap (λ k. x.num *ℤ pos k) q ∙ mul-one x.num) (ap (λ k. y.num *ℤ pos k) p ∙ mul-one y.num))
+    (ap₂ ◌*◌ p q)
 
 pub mul-wholes : (x y : Fraction) → x.den ≡ 1 → y.den ≡ 1 → x *ℚ y ≡ of_int (x.num *ℤ y.num)
 unfolding of_int ◌*ℚ◌
@@ -41,17 +43,9 @@ unfolding neg_ℚ
 neg_parts x = lowest_parts (neg_ℤ x.num) x.den (den_pos x) (ap (λ k. gcd k x.den) (nat_abs-neg_ℤ x.num) ∙ coprime x)
 
 -- ---- zero
--- what isn't 0 has a numerator that isn't 0
-pub size_some : (x : Fraction) → x ≢ of_int (pos 0) → 0 < nat_abs x.num
-size_some x h = by x.num refl
-  where
-    by : (z : ℤ) → x.num ≡ z → 0 < nat_abs z
-    by (pos zero) e = absurd (h (same_is (is_self x) (is_int (pos 0)) (ap (λ z. z *ℤ pos 1) e ∙ sym (zero-*ℤ (pos x.den)))))
-    by (pos (suc n)) e = omega arith
-    by (negsuc n) e = omega arith
-
 -- ---- the operations from cross products
-pub add-cross : (x y : Fraction) (n : ℤ) (d : ℕ) → n ≡ x.num *ℤ pos y.den +ℤ y.num *ℤ pos x.den → d ≡ x.den * y.den → of_pair n d ≡ x +ℚ y
+pub add-cross : (x y : Fraction) (n : ℤ) (d : ℕ) → n ≡ x.num *ℤ pos y.den +ℤ y.num *ℤ pos x.den
+    → d ≡ x.den * y.den → of_pair n d ≡ x +ℚ y
 unfolding ◌+ℚ◌
 add-cross x y n d p q = ap₂ of_pair p q
 
@@ -61,7 +55,9 @@ mul-cross x y n d p q = ap₂ of_pair p q
 
 -- ---- whole numbers among the fractions
 pub one_not_zero : of_int (pos 1) ≢ of_int (pos 0)
-one_not_zero e = let p : pos 1 ≡ pos 0 = sym (of_int-parts (pos 1)).0 ∙ ap (λ (x : Fraction). x.num) e ∙ (of_int-parts (pos 0)).0 in absurd (omega (arith, ints))
+one_not_zero e =
+    let p : pos 1 ≡ pos 0 = sym (of_int-parts (pos 1)).0 ∙ ap (λ (x : Fraction). x.num) e ∙ (of_int-parts (pos 0)).0 in
+    absurd (omega (arith, ints))
 
 pub of_int-le : (m n : ℤ) → (of_int m ≤ℚ of_int n) ↔ (m ≤ℤ n)
 of_int-le m n = (

@@ -1,7 +1,7 @@
 -- How to prove what proofs above this crate keep meeting: each recipe is a checked example, named for what it shows.
 -- For whoever writes a proof about whole numbers or fractions: find the example that looks like the goal, and copy its
--- right side. Over the whole numbers `omega` and `simp products` come first; the solver `ring` takes what they don't, and
--- all of what is said of fractions. `v0`, `v1` .. stand for the entries of the list, in order.
+-- right side. Over the whole numbers `omega` and `simp products` come first; the solver `ring` takes what they don't,
+-- and all of what is said of fractions. `v0`, `v1` .. stand for the entries of the list, in order.
 use Rattle.std.specs.Prelude.{◌≡◌, ℕ, ℤ, pos, negsuc, ◌+ℤ◌, ◌-ℤ◌, ◌*ℤ◌, ◌≤ℤ◌, ◌<ℤ◌, [], ◌∷◌, refl, Some, None}
 use Rattle.std.proofs.Common.{arith}
 use Rattle.std.proofs.lemmas.Int.{ints}
@@ -36,40 +36,52 @@ bound_times_a_factor x y c z h k = omega (arith, ints, mul_mono x y c h k)
 multiplied_out : (a b c d : ℤ) → (a +ℤ b) *ℤ (c -ℤ d) ≡ a *ℤ c +ℤ b *ℤ c -ℤ (a *ℤ d +ℤ b *ℤ d)
 multiplied_out a b c d = simp products (omega (arith, ints))
 
-multiplied_out_at_degree_three : (a b c d e f : ℤ) → (a *ℤ d -ℤ c *ℤ b) *ℤ f +ℤ e *ℤ (b *ℤ d) ≡ a *ℤ (d *ℤ f) -ℤ (c *ℤ f -ℤ e *ℤ d) *ℤ b
+multiplied_out_at_degree_three : (a b c d e f : ℤ)
+    → (a *ℤ d -ℤ c *ℤ b) *ℤ f +ℤ e *ℤ (b *ℤ d) ≡ a *ℤ (d *ℤ f) -ℤ (c *ℤ f -ℤ e *ℤ d) *ℤ b
 multiplied_out_at_degree_three a b c d e f = simp products (omega (arith, ints))
 
 multiplied_out_by_the_solver : (a b c d : ℤ) → (a +ℤ b) *ℤ (c -ℤ d) ≡ a *ℤ c +ℤ b *ℤ c -ℤ (a *ℤ d +ℤ b *ℤ d)
-multiplied_out_by_the_solver a b c d = ring (a ∷ b ∷ c ∷ d ∷ []) ((v0 :+ v1) :* (v2 :- v3)) (v0 :* v2 :+ v1 :* v2 :- (v0 :* v3 :+ v1 :* v3)) refl
+multiplied_out_by_the_solver a b c d =
+    ring (a ∷ b ∷ c ∷ d ∷ []) ((v0 :+ v1) :* (v2 :- v3)) (v0 :* v2 :+ v1 :* v2 :- (v0 :* v3 :+ v1 :* v3)) refl
 
 -- a premise is multiplied out too. A numeral inside a product, as in a * (2 * c), is not read: keep it in front
-premise_multiplied_out : (a b c d e : ℤ) → (a *ℤ (b +ℤ c)) ≤ℤ d → d <ℤ (e -ℤ c *ℤ a) → (b *ℤ a +ℤ pos 2 *ℤ (c *ℤ a)) <ℤ e
-premise_multiplied_out a b c d e h k = let p : (a *ℤ b +ℤ a *ℤ c) ≤ℤ d = simp products at h in omega (arith, ints, *ℤ_comm a b, *ℤ_comm a c)
+premise_multiplied_out : (a b c d e : ℤ) → (a *ℤ (b +ℤ c)) ≤ℤ d → d <ℤ (e -ℤ c *ℤ a)
+    → (b *ℤ a +ℤ pos 2 *ℤ (c *ℤ a)) <ℤ e
+premise_multiplied_out a b c d e h k =
+    let p : (a *ℤ b +ℤ a *ℤ c) ≤ℤ d = simp products at h in omega (arith, ints, *ℤ_comm a b, *ℤ_comm a c)
 
 -- ---- whole numbers: from premises, by the solver
 -- the right side less the left is the sum of the premises' differences
 bound_from_two_bounds : (a b c d e : ℤ) → (a *ℤ (b +ℤ c)) ≤ℤ d → d <ℤ (e -ℤ c *ℤ a) → (b *ℤ a +ℤ pos 2 *ℤ (a *ℤ c)) <ℤ e
 bound_from_two_bounds a b c d e h k =
-    lt_from (a ∷ b ∷ c ∷ d ∷ e ∷ []) (v1 :* v0 :+ lit (pos 2) :* (v0 :* v2)) v4 ((v3 :- v0 :* (v1 :+ v2)) :+ (v4 :- v2 :* v0 :- v3)) refl
-    (let p : pos 0 ≤ℤ (d -ℤ a *ℤ (b +ℤ c)) = nonneg_sub (a *ℤ (b +ℤ c)) d h in let q : pos 0 <ℤ (e -ℤ c *ℤ a -ℤ d) = pos_sub d (e -ℤ c *ℤ a) k in omega (arith, ints))
+    lt_from (a ∷ b ∷ c ∷ d ∷ e ∷ []) (v1 :* v0 :+ lit (pos 2) :* (v0 :* v2)) v4
+    ((v3 :- v0 :* (v1 :+ v2)) :+ (v4 :- v2 :* v0 :- v3)) refl
+    (let p : pos 0 ≤ℤ (d -ℤ a *ℤ (b +ℤ c)) = nonneg_sub (a *ℤ (b +ℤ c)) d h in
+    let q : pos 0 <ℤ (e -ℤ c *ℤ a -ℤ d) = pos_sub d (e -ℤ c *ℤ a) k in omega (arith, ints))
 
 -- it is a square
 bound_from_a_square : (a b : ℤ) → (pos 2 *ℤ (a *ℤ b)) ≤ℤ (a *ℤ a +ℤ b *ℤ b)
-bound_from_a_square a b = le_from (a ∷ b ∷ []) (lit (pos 2) :* (v0 :* v1)) (v0 :* v0 :+ v1 :* v1) ((v0 :- v1) :* (v0 :- v1)) refl (square_nonneg (a -ℤ b))
+bound_from_a_square a b =
+    le_from (a ∷ b ∷ []) (lit (pos 2) :* (v0 :* v1)) (v0 :* v0 :+ v1 :* v1) ((v0 :- v1) :* (v0 :- v1)) refl
+    (square_nonneg (a -ℤ b))
 
 -- the left side less the right is a multiple of the premise's difference
 equation_from_an_equation : (a b c d : ℤ) → a *ℤ d ≡ c *ℤ b → a *ℤ d *ℤ d ≡ c *ℤ (b *ℤ d)
-equation_from_an_equation a b c d h = from_one (a ∷ b ∷ c ∷ d ∷ []) (v0 :* v3 :* v3) (v2 :* (v1 :* v3)) v3 (v0 :* v3) (v2 :* v1) refl h
+equation_from_an_equation a b c d h =
+    from_one (a ∷ b ∷ c ∷ d ∷ []) (v0 :* v3 :* v3) (v2 :* (v1 :* v3)) v3 (v0 :* v3) (v2 :* v1) refl h
 
 -- ---- fractions
 identity_of_fractions : (x y z : Fraction) → (x +ℚ y) *ℚ (x -ℚ y) -ℚ z *ℚ of_int (pos 2) ≡ x *ℚ x -ℚ (y *ℚ y +ℚ z +ℚ z)
-identity_of_fractions x y z = Q.ring (x ∷ y ∷ z ∷ []) ((v0 :+ v1) :* (v0 :- v1) :- v2 :* lit (pos 2)) (v0 :* v0 :- (v1 :* v1 :+ v2 :+ v2)) refl
+identity_of_fractions x y z =
+    Q.ring (x ∷ y ∷ z ∷ []) ((v0 :+ v1) :* (v0 :- v1) :- v2 :* lit (pos 2)) (v0 :* v0 :- (v1 :* v1 :+ v2 :+ v2)) refl
 
 identity_with_no_difference : (x y z w : Fraction) → (x +ℚ y) *ℚ z +ℚ w ≡ w +ℚ (z *ℚ y +ℚ x *ℚ z)
-identity_with_no_difference x y z w = simp (Q.ℚ-add-mul, Q.ℚ-mul_comm, Q.ℚ-add_assoc, Q.ℚ-add_comm, Solver.add_left_comm Q.ℚ_ring)
+identity_with_no_difference x y z w =
+    simp (Q.ℚ-add-mul, Q.ℚ-mul_comm, Q.ℚ-add_assoc, Q.ℚ-add_comm, Solver.add_left_comm Q.ℚ_ring)
 
 -- 3 x ≤ y + z and y ≤ 2 x - w give x ≤ z - w, as the sum of once each
-bound_of_fractions_from_two : (x y z w : Fraction) → of_int (pos 3) *ℚ x ≤ℚ y +ℚ z → y ≤ℚ of_int (pos 2) *ℚ x -ℚ w → x ≤ℚ z -ℚ w
+bound_of_fractions_from_two : (x y z w : Fraction) → of_int (pos 3) *ℚ x ≤ℚ y +ℚ z
+    → y ≤ℚ of_int (pos 2) *ℚ x -ℚ w → x ≤ℚ z -ℚ w
 bound_of_fractions_from_two x y z w h k =
     Q.le_two (x ∷ y ∷ z ∷ w ∷ []) v0 (v2 :- v3)
     (lit (pos 1)) (lit (pos 3) :* v0) (v1 :+ v2)
@@ -86,7 +98,8 @@ rewriting_by_a_law f x y q = rw (Q.ℚ-mul_comm x y) q
 -- a law of fractions goes through `Is`, any pair that a fraction is read from, to one identity of whole numbers
 law_through_pairs : (x y z : Fraction) → (x *ℚ y) *ℚ z ≡ x *ℚ (y *ℚ z)
 law_through_pairs x y z =
-    same_is (is_mul (is_mul (is_self x) (is_self y)) (is_self z)) (is_mul (is_self x) (is_mul (is_self y) (is_self z))) (omega (arith, ints, regrouped x.num y.num z.num (pos x.den) (pos y.den) (pos z.den)))
+    same_is (is_mul (is_mul (is_self x) (is_self y)) (is_self z)) (is_mul (is_self x) (is_mul (is_self y) (is_self z)))
+    (omega (arith, ints, regrouped x.num y.num z.num (pos x.den) (pos y.den) (pos z.den)))
   where
     regrouped : (a b c d e f : ℤ) → a *ℤ b *ℤ c *ℤ (d *ℤ (e *ℤ f)) ≡ a *ℤ (b *ℤ c) *ℤ (d *ℤ e *ℤ f)
     regrouped a b c d e f = simp products refl
@@ -100,7 +113,8 @@ closed_product : of_pair (negsuc 5) 4 *ℚ of_pair (pos 10) 9 ≡ neg_ℚ (of_pa
 unfolding ratio
 closed_product = refl
 
-closed_quotient_of_many_digits : of_pair (negsuc 5) 4 /ℚ of_pair (negsuc 0) 1000000000000000000000 ≡ of_int (pos 1500000000000000000000)
+closed_quotient_of_many_digits : of_pair (negsuc 5) 4 /ℚ of_pair (negsuc 0) 1000000000000000000000
+    ≡ of_int (pos 1500000000000000000000)
 unfolding ratio
 closed_quotient_of_many_digits = refl
 

@@ -11,7 +11,8 @@ pub negative_num : (x : Fraction) → x.num <ℤ pos 0 → x <ℚ of_int (pos 0)
 negative_num x h = is_lt_in (is_self x) (is_int (pos 0)) (omega (arith, ints))
 
 pub num_negative : (x : Fraction) → x <ℚ of_int (pos 0) → x.num <ℤ pos 0
-num_negative x h = let p : (x.num *ℤ pos 1) <ℤ (pos 0 *ℤ pos x.den) = is_lt_out (is_self x) (is_int (pos 0)) h in omega (arith, ints)
+num_negative x h =
+    let p : (x.num *ℤ pos 1) <ℤ (pos 0 *ℤ pos x.den) = is_lt_out (is_self x) (is_int (pos 0)) h in omega (arith, ints)
 
 pub zero_num : (x : Fraction) → x.num ≡ pos 0 → x ≡ of_int (pos 0)
 zero_num x h = same_is (is_self x) (is_int (pos 0)) (omega (arith, ints))
@@ -72,9 +73,17 @@ pub record IsRanked (sign : ℤ) (x : Fraction) : Type 0 where
 
 pub sign_ℚ-ranks : (x : Fraction) (sign : ℤ) → sign ≡ sign_ℚ x → IsRanked sign x
 sign_ℚ-ranks x sign e = record {
-  below = (λ h. below_of_sign x (subst (λ z. z <ℤ pos 0) e h), λ h. let p : sign ≡ negsuc 0 = e ∙ sign_ℚ-below x h in omega (arith, ints));
+  below = (
+    λ h. below_of_sign x (subst (λ z. z <ℤ pos 0) e h),
+    λ h. let p : sign ≡ negsuc 0 =
+        e ∙ sign_ℚ-below x h in omega (arith, ints),
+  );
   zero = (λ h. zero_of_sign x (sym e ∙ h), λ h. e ∙ sign_ℚ-zero x h);
-  above = (λ h. above_of_sign x (subst (λ z. pos 0 <ℤ z) e h), λ h. let p : sign ≡ pos 1 = e ∙ sign_ℚ-above x h in omega (arith, ints));
+  above = (
+    λ h. above_of_sign x (subst (λ z. pos 0 <ℤ z) e h),
+    λ h. let p : sign ≡ pos 1 =
+        e ∙ sign_ℚ-above x h in omega (arith, ints),
+  );
 }
 
 -- ---- the two signs that aren't 0, beside 0

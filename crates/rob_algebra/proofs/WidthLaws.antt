@@ -8,10 +8,12 @@ use Rattle.rob_algebra.specs.Width.{Fits, IsWide, IsWideWhole, is_wide, kept}
 
 module _ (limit : ℕ) (x : Fraction) where
   -- the test answers false where both parts fit, and true where one doesn't
-  tested : (a b : Bool) → nat_lt limit (nat_abs x.num) ≡ a → nat_lt limit x.den ≡ b → ((a || b ≡ true) × IsWide limit x) ⊎ ((a || b ≡ false) × Fits limit x)
+  tested : (a b : Bool) → nat_lt limit (nat_abs x.num) ≡ a → nat_lt limit x.den ≡ b → ((a || b ≡ true) × IsWide limit x)
+      ⊎ ((a || b ≡ false) × Fits limit x)
   tested true b p q = inl (refl, inl (ltb-true limit (nat_abs x.num) p))
   tested false true p q = inl (refl, inr (ltb-true limit x.den q))
-  tested false false p q = inr (refl, record { num_fits = ltb-false limit (nat_abs x.num) p; den_fits = ltb-false limit x.den q })
+  tested false false p q =
+      inr (refl, record { num_fits = ltb-false limit (nat_abs x.num) p; den_fits = ltb-false limit x.den q })
 
   cases : ((is_wide limit x ≡ true) × IsWide limit x) ⊎ ((is_wide limit x ≡ false) × Fits limit x)
   cases = tested (nat_lt limit (nat_abs x.num)) (nat_lt limit x.den) refl refl
@@ -28,7 +30,8 @@ module _ (limit : ℕ) (x : Fraction) where
   pub is_wide_decides : Decides (is_wide limit x) (IsWide limit x)
   is_wide_decides = by cases
     where
-      by : ((is_wide limit x ≡ true) × IsWide limit x) ⊎ ((is_wide limit x ≡ false) × Fits limit x) → Decides (is_wide limit x) (IsWide limit x)
+      by : ((is_wide limit x ≡ true) × IsWide limit x) ⊎ ((is_wide limit x ≡ false) × Fits limit x)
+          → Decides (is_wide limit x) (IsWide limit x)
       by (inl w) = (λ e. w.1, λ h. w.0)
       by (inr f) = (λ e. cc, λ h. absurd (fits_not_wide f.1 h))
 
@@ -37,7 +40,8 @@ module _ (limit : ℕ) (x : Fraction) where
   pub kept-fits : Fits limit x → kept limit x ≡ Some x
   kept-fits h = by cases
     where
-      by : ((is_wide limit x ≡ true) × IsWide limit x) ⊎ ((is_wide limit x ≡ false) × Fits limit x) → kept limit x ≡ Some x
+      by : ((is_wide limit x ≡ true) × IsWide limit x)
+          ⊎ ((is_wide limit x ≡ false) × Fits limit x) → kept limit x ≡ Some x
       by (inl w) = absurd (fits_not_wide h w.1)
       by (inr f) = ap (λ b. cond b None (Some x)) f.0
 
@@ -45,7 +49,8 @@ module _ (limit : ℕ) (x : Fraction) where
   pub kept-wide : IsWide limit x → kept limit x ≡ None
   kept-wide h = by cases
     where
-      by : ((is_wide limit x ≡ true) × IsWide limit x) ⊎ ((is_wide limit x ≡ false) × Fits limit x) → kept limit x ≡ None
+      by : ((is_wide limit x ≡ true) × IsWide limit x)
+          ⊎ ((is_wide limit x ≡ false) × Fits limit x) → kept limit x ≡ None
       by (inl w) = ap (λ b. cond b None (Some x)) w.0
       by (inr f) = absurd (fits_not_wide f.1 h)
 
@@ -53,7 +58,8 @@ module _ (limit : ℕ) (x : Fraction) where
   pub fits_of_kept : (y : Fraction) → kept limit x ≡ Some y → (y ≡ x) × Fits limit x
   fits_of_kept y e = by cases
     where
-      by : ((is_wide limit x ≡ true) × IsWide limit x) ⊎ ((is_wide limit x ≡ false) × Fits limit x) → (y ≡ x) × Fits limit x
+      by : ((is_wide limit x ≡ true) × IsWide limit x) ⊎ ((is_wide limit x ≡ false) × Fits limit x)
+          → (y ≡ x) × Fits limit x
       by (inl w) = let p : kept limit x ≡ None = kept-wide w.1 in absurd cc
       by (inr f) = let p : kept limit x ≡ Some x = kept-fits f.1 in (cc, f.1)
 
@@ -68,7 +74,8 @@ module _ (limit : ℕ) (x : Fraction) where
 -- ---- whole numbers
 -- a whole number fits where its size does
 pub Fits-of_int : (limit : ℕ) (z : ℤ) → 1 ≤ limit → nat_abs z ≤ limit → Fits limit (of_int z)
-Fits-of_int limit z one h = record { num_fits = omega (arith, ap nat_abs (of_int-parts z).0); den_fits = omega (arith, (of_int-parts z).1) }
+Fits-of_int limit z one h =
+    record { num_fits = omega (arith, ap nat_abs (of_int-parts z).0); den_fits = omega (arith, (of_int-parts z).1) }
 
 pub kept-of_int : (limit : ℕ) (z : ℤ) → 1 ≤ limit → nat_abs z ≤ limit → kept limit (of_int z) ≡ Some (of_int z)
 kept-of_int limit z one h = kept-fits limit (of_int z) (Fits-of_int limit z one h)

@@ -15,7 +15,9 @@ cmp_ℚ x y = int_cmp (x.num *ℤ pos y.den) (y.num *ℤ pos x.den)
 abbrev pub eq_ℚ : Fraction → Fraction → Bool
 eq_ℚ x y = is_eq (cmp_ℚ x y)
 
-ranked_by : (x y : Fraction) (r : Ordering) → MatchOrdering r ((x.num *ℤ pos y.den) <ℤ (y.num *ℤ pos x.den)) (x.num *ℤ pos y.den ≡ y.num *ℤ pos x.den) ((y.num *ℤ pos x.den) <ℤ (x.num *ℤ pos y.den)) →
+ranked_by : (x y : Fraction) (r : Ordering)
+    → MatchOrdering r ((x.num *ℤ pos y.den) <ℤ (y.num *ℤ pos x.den)) (x.num *ℤ pos y.den ≡ y.num *ℤ pos x.den)
+    ((y.num *ℤ pos x.den) <ℤ (x.num *ℤ pos y.den)) →
     MatchOrdering r (x <ℚ y) (x ≡ y) (y <ℚ x)
 ranked_by x y Less h = record { lt = h }
 ranked_by x y Equal h = eq_from_cross x y h
@@ -26,7 +28,8 @@ pub cmp_ℚ-ranks : (x y : Fraction) → MatchOrdering (cmp_ℚ x y) (x <ℚ y) 
 cmp_ℚ-ranks x y = ranked_by x y (cmp_ℚ x y) (int_ranks (x.num *ℤ pos y.den) (y.num *ℤ pos x.den))
 
 pub cmp_ℚ-total : IsTotalOrder cmp_ℚ
-cmp_ℚ-total = strict (λ x y. x <ℚ y) lt_irrefl_ℚ (λ x y z h k. lt_le_trans_ℚ x y z h (le_of_lt_ℚ y z k)) cmp_ℚ cmp_ℚ-ranks
+cmp_ℚ-total =
+    strict (λ x y. x <ℚ y) lt_irrefl_ℚ (λ x y z h k. lt_le_trans_ℚ x y z h (le_of_lt_ℚ y z k)) cmp_ℚ cmp_ℚ-ranks
 
 pub eq_ℚ-equiv : IsEquivalence eq_ℚ
 eq_ℚ-equiv = eq_by_cmp_equiv cmp_ℚ-total
@@ -49,9 +52,12 @@ both_decide false b p q = (λ e. cc, λ h. p.1 h.0)
 
 parts_decide : (x y : Fraction) → Decides (int_eq x.num y.num && int_eq (pos x.den) (pos y.den)) (x ≡ y)
 parts_decide x y =
-    let d : Decides (int_eq x.num y.num && int_eq (pos x.den) (pos y.den)) ((x.num ≡ y.num) × (pos x.den ≡ pos y.den)) = both_decide (int_eq x.num y.num) (int_eq (pos x.den) (pos y.den)) (signed_Decides x.num y.num) (signed_Decides (pos x.den) (pos y.den)) in
+    let d : Decides (int_eq x.num y.num && int_eq (pos x.den) (pos y.den)) ((x.num ≡ y.num) × (pos x.den ≡ pos y.den)) =
+    both_decide (int_eq x.num y.num) (int_eq (pos x.den) (pos y.den)) (signed_Decides x.num y.num)
+    (signed_Decides (pos x.den) (pos y.den)) in
     (λ e. ext x y (d.0 e).0 (ap nat_abs (d.0 e).1), λ e. d.1 (ap (λ z. z.num) e, ap (λ z. pos z.den) e))
 
 -- two fractions are compared by their parts
 pub eq_ℚ-parts : (x y : Fraction) → (int_eq x.num y.num && int_eq (pos x.den) (pos y.den)) ≡ eq_ℚ x y
-eq_ℚ-parts x y = one_answer (int_eq x.num y.num && int_eq (pos x.den) (pos y.den)) (eq_ℚ x y) (parts_decide x y) (eq_ℚ-decides x y)
+eq_ℚ-parts x y =
+    one_answer (int_eq x.num y.num && int_eq (pos x.den) (pos y.den)) (eq_ℚ x y) (parts_decide x y) (eq_ℚ-decides x y)

@@ -18,20 +18,48 @@ mul_assoc a b c = same_in ((a *ℤ b) *ℤ c) (a *ℤ (b *ℤ c)) (simp (up-mul,
 
 -- the product of a difference m - n
 sum_mul : (ua da ub db us ds uc dc : ℕ) → us + da + db ≡ ds + ua + ub →
-    (us * uc + ds * dc) + ((ua * dc + da * uc) + (ub * dc + db * uc)) ≡ (us * dc + ds * uc) + ((ua * uc + da * dc) + (ub * uc + db * dc))
+    (us * uc + ds * dc) + ((ua * dc + da * uc) + (ub * dc + db * uc))
+    ≡ (us * dc + ds * uc) + ((ua * uc + da * dc) + (ub * uc + db * dc))
 sum_mul ua da ub db us ds uc dc e = omega (arith, ap (λ k. k * uc) e, ap (λ k. k * dc) e)
 
 pub add-mul : (a b c : ℤ) → (a +ℤ b) *ℤ c ≡ a *ℤ c +ℤ b *ℤ c
 add-mul a b c =
     same_in ((a +ℤ b) *ℤ c) (a *ℤ c +ℤ b *ℤ c)
-    (let e : (up (a +ℤ b) * up c + down (a +ℤ b) * down c) + ((up a * down c + down a * up c) + (up b * down c + down b * up c)) ≡ (up (a +ℤ b) * down c + down (a +ℤ b) * up c) + ((up a * up c + down a * down c) + (up b * up c + down b * down c)) = sum_mul (up a) (down a) (up b) (down b) (up (a +ℤ b)) (down (a +ℤ b)) (up c) (down c) (sum_is_lem a b) in
-    omega (arith, e, up-mul (a +ℤ b) c, down-mul (a +ℤ b) c, up-mul a c, down-mul a c, up-mul b c, down-mul b c, sum_is_lem (a *ℤ c) (b *ℤ c)))
+    (let e : (up (a +ℤ b) * up c + down (a +ℤ b) * down c)
+    + ((up a * down c + down a * up c) + (up b * down c + down b * up c))
+    ≡ (up (a +ℤ b) * down c + down (a +ℤ b) * up c)
+    + ((up a * up c + down a * down c) + (up b * up c + down b * down c)) =
+    sum_mul (up a) (down a) (up b) (down b) (up (a +ℤ b)) (down (a +ℤ b)) (up c) (down c) (sum_is_lem a b) in
+    omega (
+      arith,
+      e,
+      up-mul (a +ℤ b) c,
+      down-mul (a +ℤ b) c,
+      up-mul a c,
+      down-mul a c,
+      up-mul b c,
+      down-mul b c,
+      sum_is_lem (a *ℤ c) (b *ℤ c),
+    ))
 
 pub mul-add : (a b c : ℤ) → a *ℤ (b +ℤ c) ≡ a *ℤ b +ℤ a *ℤ c
 mul-add a b c = *ℤ_comm a (b +ℤ c) ∙ add-mul b c a ∙ rw (*ℤ_comm b a, *ℤ_comm c a)
 
 pub neg-mul : (a b : ℤ) → neg_ℤ a *ℤ b ≡ neg_ℤ (a *ℤ b)
-neg-mul a b = same_in (neg_ℤ a *ℤ b) (neg_ℤ (a *ℤ b)) (omega (arith, up-mul (neg_ℤ a) b, down-mul (neg_ℤ a) b, up-mul a b, down-mul a b, neg_is (a *ℤ b), ap (λ k. k * up b) (neg_is a).0, ap (λ k. k * up b) (neg_is a).1, ap (λ k. k * down b) (neg_is a).0, ap (λ k. k * down b) (neg_is a).1))
+neg-mul a b =
+    same_in (neg_ℤ a *ℤ b) (neg_ℤ (a *ℤ b))
+    (omega (
+      arith,
+      up-mul (neg_ℤ a) b,
+      down-mul (neg_ℤ a) b,
+      up-mul a b,
+      down-mul a b,
+      neg_is (a *ℤ b),
+      ap (λ k. k * up b) (neg_is a).0,
+      ap (λ k. k * up b) (neg_is a).1,
+      ap (λ k. k * down b) (neg_is a).0,
+      ap (λ k. k * down b) (neg_is a).1,
+    ))
 
 pub mul-neg : (a b : ℤ) → a *ℤ neg_ℤ b ≡ neg_ℤ (a *ℤ b)
 mul-neg a b = *ℤ_comm a (neg_ℤ b) ∙ neg-mul b a ∙ ap neg_ℤ (*ℤ_comm b a)
@@ -61,7 +89,8 @@ mul_nonneg (negsuc a) b h k = absurd h.le
 mul_nonneg (pos a) (negsuc b) h k = absurd k.le
 
 pub mul-pos_z : (a b : ℤ) → pos 0 <ℤ a → pos 0 <ℤ b → pos 0 <ℤ (a *ℤ b)
-mul-pos_z (pos a) (pos b) h k = let e : 0 < a * b = mul-pos (omega (arith, ints)) (omega (arith, ints)) in omega (arith, ints)
+mul-pos_z (pos a) (pos b) h k =
+    let e : 0 < a * b = mul-pos (omega (arith, ints)) (omega (arith, ints)) in omega (arith, ints)
 mul-pos_z (negsuc a) b h k = absurd h.lt
 mul-pos_z (pos a) (negsuc b) h k = absurd k.lt
 
@@ -73,7 +102,8 @@ nonneg_sub a b h = omega (arith, ints)
 
 pub mul_mono : (a b c : ℤ) → a ≤ℤ b → pos 0 ≤ℤ c → (a *ℤ c) ≤ℤ (b *ℤ c)
 mul_mono a b c h k =
-    sub_nonneg (a *ℤ c) (b *ℤ c) (rw (← neg-mul a c, ← add-mul b (neg_ℤ a) c) (mul_nonneg (b -ℤ a) c (nonneg_sub a b h) k))
+    sub_nonneg (a *ℤ c) (b *ℤ c)
+    (rw (← neg-mul a c, ← add-mul b (neg_ℤ a) c) (mul_nonneg (b -ℤ a) c (nonneg_sub a b h) k))
 
 pub sub_pos : (a b : ℤ) → pos 0 <ℤ (b -ℤ a) → a <ℤ b
 sub_pos a b h = omega (arith, ints)
@@ -91,7 +121,8 @@ cancel_le a b c h k = by (le_total a b)
     by : (a ≤ℤ b) ⊎ (b <ℤ a) → a ≤ℤ b
     by (inl l) = l
     by (inr l) =
-        let e : pos 0 <ℤ (a *ℤ c +ℤ neg_ℤ (b *ℤ c)) = rw (← neg-mul b c, ← add-mul a (neg_ℤ b) c) (mul-pos_z (a -ℤ b) c (pos_sub b a l) h) in
+        let e : pos 0 <ℤ (a *ℤ c +ℤ neg_ℤ (b *ℤ c)) =
+        rw (← neg-mul b c, ← add-mul a (neg_ℤ b) c) (mul-pos_z (a -ℤ b) c (pos_sub b a l) h) in
         absurd (omega (arith, ints))
 
 pub cancel_eq : (a b c : ℤ) → pos 0 <ℤ c → a *ℤ c ≡ b *ℤ c → a ≡ b
@@ -112,7 +143,8 @@ pub square_nonneg : (a : ℤ) → pos 0 ≤ℤ (a *ℤ a)
 square_nonneg (pos n) = omega (arith, ints)
 square_nonneg (negsuc n) = omega (arith, ints)
 
--- multiplies products out, and sorts their factors: `simp products (omega (arith, ints))` proves what is linear in the products that are left
+-- multiplies products out, and sorts their factors: `simp products (omega
+-- (arith, ints))` proves what is linear in the products that are left
 pub ruleset products = (add-mul, mul-add, neg-mul, mul-neg, mul_assoc, *ℤ_comm, mul_left_comm)
 
 -- ---- more of the ring, for `simp`
@@ -150,7 +182,26 @@ pub mul-sub : (c a b : ℤ) → c *ℤ (a -ℤ b) ≡ (c *ℤ a) -ℤ (c *ℤ b)
 mul-sub c a b = mul-add c a (neg_ℤ b) ∙ ap (λ t. (c *ℤ a) +ℤ t) (mul-neg c b)
 
 -- brings both sides of an equation of polynomials into one form, up to cancelling: `simp ring`
-pub ruleset ring = (mul-add, add-mul, mul-neg, neg-mul, neg-add, neg-neg, mul_assoc, *ℤ_comm, mul_left_comm, add_assoc, add_comm, add_left_comm, mul-zero, zero-mul, mul-one, one-mul, add-zero, zero-add)
+pub ruleset ring = (
+  mul-add,
+  add-mul,
+  mul-neg,
+  neg-mul,
+  neg-add,
+  neg-neg,
+  mul_assoc,
+  *ℤ_comm,
+  mul_left_comm,
+  add_assoc,
+  add_comm,
+  add_left_comm,
+  mul-zero,
+  zero-mul,
+  mul-one,
+  one-mul,
+  add-zero,
+  zero-add,
+)
 
 -- ---- the order, with the common factor in front
 pub mul_le_mul : (c a b : ℤ) → pos 0 ≤ℤ c → a ≤ℤ b → (c *ℤ a) ≤ℤ (c *ℤ b)

@@ -1,4 +1,4 @@
-// The greatest common divisor.
+//! The greatest common divisor.
 
 ghost use Prim.Native.Nat.{◌∣◌};
 ghost use Rattle.std.specs.Prelude.{◌≡◌, ◌*◌, ◌/◌, ◌<◌, ℕ};

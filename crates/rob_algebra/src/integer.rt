@@ -1,4 +1,4 @@
-// The whole numbers are an ordered commutative ring.
+//! The whole numbers are an ordered commutative ring.
 
 ghost use Rattle.std.specs.Prelude.{◌≡◌, ◌⊎◌, ℤ, pos, neg_ℤ, ◌+ℤ◌, ◌*ℤ◌, ◌≤ℤ◌, ◌<ℤ◌};
 

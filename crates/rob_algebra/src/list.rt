@@ -1,4 +1,4 @@
-// Sums and scalar products of lists of fractions, and matrices as lists of rows.
+//! Sums and scalar products of lists of fractions, and matrices as lists of rows.
 
 ghost use Rattle.std.specs.Prelude.{◌≡◌, ◌++◌, ℕ, List, length};
 ghost use Rattle.rob_algebra.specs.Fraction.{Fraction, ◌+ℚ◌, ◌*ℚ◌, ◌≤ℚ◌};

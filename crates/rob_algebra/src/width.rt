@@ -1,4 +1,4 @@
-// Which numbers fit a width.
+//! Which numbers fit a width.
 
 ghost use Rattle.std.specs.Prelude.{◌≡◌, ◌≤◌, ◌⊎◌, ◌↔◌, ℕ, ℤ, nat_abs, Some, None};
 ghost use Rattle.std.specs.Bool.{Decides};

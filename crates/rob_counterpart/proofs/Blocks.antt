@@ -9,7 +9,8 @@ use Rattle.rob_linear.proofs.Sums.{sum_split}
 -- the first term apart
 pub sum_first : (n : ℕ) (f : ℕ → ℤ) → sum_to (suc n) f ≡ f 0 +ℤ sum_to n (λ j. f (suc j))
 sum_first zero f = omega (arith, ints)
-sum_first (suc n) f = let ih : sum_to (suc n) f ≡ f 0 +ℤ sum_to n (λ j. f (suc j)) = sum_first n f in omega (arith, ints)
+sum_first (suc n) f =
+    let ih : sum_to (suc n) f ≡ f 0 +ℤ sum_to n (λ j. f (suc j)) = sum_first n f in omega (arith, ints)
 
 pub sum_pairs : (n : ℕ) (f : ℕ → ℤ) → sum_to (n + n) f ≡ sum_to n (λ j. f (j + j) +ℤ f (suc (j + j)))
 sum_pairs zero f = refl
@@ -40,7 +41,8 @@ at_block zero w t l = let e : zero * w ≡ zero = grind arith in absurd (omega a
 at_block (suc n) w t l =
     let e : suc n * w ≡ (n * w) + w = grind arith in
     elim (cases_lt t (n * w)) [
-      | inl c ↦ let g : (i : ℕ) × (p : ℕ) × (i < n) × (p < w) × (t ≡ (i * w) + p) = at_block n w t c in (g.0, g.1, (let h : g.0 < n = g.2 in omega arith), g.3, g.4)
+      | inl c ↦ let g : (i : ℕ) × (p : ℕ) × (i < n) × (p < w) × (t ≡ (i * w) + p) = at_block n w t c in
+          (g.0, g.1, (let h : g.0 < n = g.2 in omega arith), g.3, g.4)
       | inr c ↦ (n, t - (n * w), omega arith, omega arith, omega arith)
     ]
 

@@ -22,7 +22,8 @@ IsOver P x s z = (k : ℕ) → k < P.n + P.m → x k ≡ over (z k) s
 pub difference-over : (P : Program) (x : ℕ → Fraction) (s : ℤ) (z : ℕ → ℤ) → IsOver P x s z → (j : ℕ) → minus j < P.n
     → difference x j ≡ over (pair z j) s
 difference-over P x s z point j l =
-    ap₂ ◌-ℚ◌ (point (plus j) (omega arith)) (point (minus j) (omega arith)) ∙ sym (over-sub (z (plus j)) (z (minus j)) s)
+    ap₂ ◌-ℚ◌ (point (plus j) (omega arith)) (point (minus j) (omega arith))
+    ∙ sym (over-sub (z (plus j)) (z (minus j)) s)
 
 pub record ScaledOptimal (P : Program) (own : Columns) (rows : Matrix) (x y : ℕ → Fraction) : Type 0 where
   pub s : ℤ
@@ -32,7 +33,8 @@ pub record ScaledOptimal (P : Program) (own : Columns) (rows : Matrix) (x y : �
   pub objective : pos 0 <ℤ objective_entry P rows
   pub duals : (t : ℕ) → t < P.m → y t ≡ over (slack_entries P rows t) (objective_entry P rows)
 
-pub record ScaledUnbounded (P : Program) (own : Columns) (rows : Matrix) (column : ℕ) (x r : ℕ → Fraction) : Type 0 where
+pub record ScaledUnbounded (P : Program) (own : Columns) (rows : Matrix) (column : ℕ)
+    (x r : ℕ → Fraction) : Type 0 where
   pub s : ℤ
   pub z : ℕ → ℤ
   pub t : ℤ
@@ -50,7 +52,8 @@ optimal_scaled P own rows x y en =
       s = p.0;
       z = p.1;
       scaled = record { basis = en.basis; ends = en.ends; point = p.2 };
-      point = λ k l. over_from (x k) (p.1 k) p.0 p.2.scale (point_scaled (system_of P) own rows x p.0 p.1 en.basis en.point p.2 k l);
+      point = λ k l. over_from (x k) (p.1 k) p.0 p.2.scale
+          (point_scaled (system_of P) own rows x p.0 p.1 en.basis en.point p.2 k l);
       objective = op;
       duals = λ t l. over_from (y t) (slack_entries P rows t) (objective_entry P rows) op (en.duals t l);
     }
@@ -60,13 +63,16 @@ pub unbounded_scaled : (P : Program) (own : Columns) (rows : Matrix) (column : �
 unbounded_scaled P own rows column x r en =
     let p : (s : ℤ) × (z : ℕ → ℤ) × Point (system_of P) own rows s z = point_exists (system_of P) own rows en.basis in
     let v : (s : ℤ) × (z : ℕ → ℤ) × Move (system_of P) own rows column s z =
-    move_exists (system_of P) own rows column en.basis (improving_not_basic (system_of P) own rows column en.basis en.ends.inside en.ends.improving) in
+    move_exists (system_of P) own rows column en.basis
+    (improving_not_basic (system_of P) own rows column en.basis en.ends.inside en.ends.improving) in
     record {
       s = p.0;
       z = p.1;
       t = v.0;
       w = v.1;
       scaled = record { basis = en.basis; ends = en.ends; point = p.2; move = v.2 };
-      point = λ k l. over_from (x k) (p.1 k) p.0 p.2.scale (point_scaled (system_of P) own rows x p.0 p.1 en.basis en.point p.2 k l);
-      move = λ k l. over_from (r k) (v.1 k) v.0 v.2.scale (move_scaled (system_of P) own rows column r v.0 v.1 en.basis en.move v.2 k l);
+      point = λ k l. over_from (x k) (p.1 k) p.0 p.2.scale
+          (point_scaled (system_of P) own rows x p.0 p.1 en.basis en.point p.2 k l);
+      move = λ k l. over_from (r k) (v.1 k) v.0 v.2.scale
+          (move_scaled (system_of P) own rows column r v.0 v.1 en.basis en.move v.2 k l);
     }

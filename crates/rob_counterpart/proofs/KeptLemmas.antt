@@ -16,23 +16,24 @@ use Rattle.rob_counterpart.specs.ReadCertificates.{covers_of, amount_read, HasAm
 use Rattle.rob_counterpart.specs.ReadNumbers.{covers_kept, covers_at, concat}
 
 -- a cover of form i and set row r
-abbrev matches : ℕ → ℕ → Cover → Bool
+abbrev pub matches : ℕ → ℕ → Cover → Bool
 matches i r c = nat_eq c.form i && nat_eq c.set_row r
 
-matches_own : (i r : ℕ) → (nat_eq i i && nat_eq r r) ≡ true
+pub matches_own : (i r : ℕ) → (nat_eq i i && nat_eq r r) ≡ true
 matches_own i r = grind (arith, nat_tests)
 
-matched : (a b i r : ℕ) → (nat_eq a i && nat_eq b r) ≡ true → (a ≡ i) × (b ≡ r)
+pub matched : (a b i r : ℕ) → (nat_eq a i && nat_eq b r) ≡ true → (a ≡ i) × (b ≡ r)
 matched a b i r e = (grind (arith, nat_tests), grind (arith, nat_tests))
 
 -- some cover of the list is of this form and set row
-abbrev SomeMatch : ℕ → ℕ → List Cover → Type 0
+abbrev pub SomeMatch : ℕ → ℕ → List Cover → Type 0
 SomeMatch i r [] = ⊥
 SomeMatch i r (c ∷ cs) = (matches i r c ≡ true) ⊎ SomeMatch i r cs
 
 module _ (i r : ℕ) where
   -- where each such cover has amount 0
-  none_kept : (cs : List Cover) → Each (λ c. matches i r c ≡ true → c.amount ≡ 0ℚ) cs → amount_at (covers_kept cs) i r ≡ 0ℚ
+  none_kept : (cs : List Cover) → Each (λ c. matches i r c ≡ true → c.amount ≡ 0ℚ) cs
+      → amount_at (covers_kept cs) i r ≡ 0ℚ
   none_kept [] h = refl
   none_kept (c ∷ cs) h = by (eq_ℚ c.amount 0ℚ) (matches i r c) h.0 (none_kept cs h.1)
     where
@@ -59,7 +60,8 @@ module _ (i r : ℕ) where
       each_to [] h e = tt
       each_to (c ∷ cs) h e = ((λ f. h.0 f ∙ e), each_to cs h.1 e)
 
-      head_only : (w : Bool) → w ≡ true → c.amount ≡ amount → (if w then c.amount else amount_at (covers_kept cs) i r) ≡ amount
+      head_only : (w : Bool) → w ≡ true → c.amount ≡ amount
+          → (if w then c.amount else amount_at (covers_kept cs) i r) ≡ amount
       head_only true e h = h
       head_only false e h = cc
 
@@ -72,9 +74,11 @@ module _ (i r : ℕ) where
       later e (inl f) = cc
       later e (inr f) = f
 
-      by : (v : Bool) → (v ≡ true → c.amount ≡ 0ℚ) → (w : Bool) → matches i r c ≡ w → (matches i r c ≡ true → c.amount ≡ amount)
+      by : (v : Bool) → (v ≡ true → c.amount ≡ 0ℚ) → (w : Bool) → matches i r c ≡ w
+          → (matches i r c ≡ true → c.amount ≡ amount)
           → (matches i r c ≡ true) ⊎ SomeMatch i r cs
-          → (amount ≡ 0ℚ → amount_at (covers_kept cs) i r ≡ 0ℚ) → (SomeMatch i r cs → amount_at (covers_kept cs) i r ≡ amount)
+          → (amount ≡ 0ℚ → amount_at (covers_kept cs) i r ≡ 0ℚ)
+          → (SomeMatch i r cs → amount_at (covers_kept cs) i r ≡ amount)
           → amount_at (if v then covers_kept cs else c ∷ covers_kept cs) i r ≡ amount
       by true z true e h s none some = none (sym (h e) ∙ z refl) ∙ sym (sym (h e) ∙ z refl)
       by true z false e h s none some = some (later e s)
@@ -91,30 +95,38 @@ module _ (i r : ℕ) where
   some_right [] ys s = s
   some_right (x ∷ xs) ys s = inr (some_right xs ys s)
 
-  some_tabulate : (n : ℕ) (f : ℕ → Cover) (k : ℕ) → k < n → matches i r (f k) ≡ true → SomeMatch i r (tabulate n f)
+  pub some_tabulate : (n : ℕ) (f : ℕ → Cover) (k : ℕ) → k < n → matches i r (f k) ≡ true → SomeMatch i r (tabulate n f)
   some_tabulate zero f k l e = absurd (omega arith)
   some_tabulate (suc n) f zero l e = inl e
   some_tabulate (suc n) f (suc k) l e = inr (some_tabulate n (λ j. f (suc j)) k (omega arith) e)
 
-  some_concat : (n : ℕ) (f : ℕ → List Cover) (k : ℕ) → k < n → SomeMatch i r (f k) → SomeMatch i r (concat (tabulate n f))
+  pub some_concat : (n : ℕ) (f : ℕ → List Cover) (k : ℕ) → k < n → SomeMatch i r (f k)
+      → SomeMatch i r (concat (tabulate n f))
   some_concat zero f k l s = absurd (omega arith)
   some_concat (suc n) f zero l s = some_left (f zero) (concat (tabulate n (λ j. f (suc j)))) s
-  some_concat (suc n) f (suc k) l s = some_right (f zero) (concat (tabulate n (λ j. f (suc j)))) (some_concat n (λ j. f (suc j)) k (omega arith) s)
+  some_concat (suc n) f (suc k) l s =
+      some_right (f zero) (concat (tabulate n (λ j. f (suc j)))) (some_concat n (λ j. f (suc j)) k (omega arith) s)
 
-each_tabulate : {A : Type 0} (P : A → Type 0) (n : ℕ) (f : ℕ → A) → ((k : ℕ) → P (f k)) → Each P (tabulate n f)
+pub each_tabulate : {A : Type 0} (P : A → Type 0) (n : ℕ) (f : ℕ → A) → ((k : ℕ) → P (f k)) → Each P (tabulate n f)
 each_tabulate P zero f h = tt
 each_tabulate P (suc n) f h = (h zero, each_tabulate P n (λ k. f (suc k)) (λ k. h (suc k)))
 
-each_concat : (P : Cover → Type 0) (n : ℕ) (f : ℕ → List Cover) → ((k : ℕ) → Each P (f k)) → Each P (concat (tabulate n f))
+pub each_concat : (P : Cover → Type 0) (n : ℕ) (f : ℕ → List Cover) → ((k : ℕ) → Each P (f k))
+    → Each P (concat (tabulate n f))
 each_concat P zero f h = tt
-each_concat P (suc n) f h = each_append P (f zero) (concat (tabulate n (λ k. f (suc k)))) (h zero) (each_concat P n (λ k. f (suc k)) (λ k. h (suc k)))
+each_concat P (suc n) f h =
+    each_append P (f zero) (concat (tabulate n (λ k. f (suc k)))) (h zero)
+    (each_concat P n (λ k. f (suc k)) (λ k. h (suc k)))
 
 -- the covers that are read have the multipliers as their amounts
 pub covers_have_amounts : (m : RobustModel) (x : ℕ → Fraction) → HasAmounts m x (covers_of m x)
 covers_have_amounts m x i r il rl =
     some_kept i r (amount_read m x i r) (concat (tabulate (length (matrices m)) (covers_at (robust_of m) x)))
-    (each_concat (λ (c : Cover). matches i r c ≡ true → c.amount ≡ amount_read m x i r) (length (matrices m)) (covers_at (robust_of m) x)
-    (λ h. each_tabulate (λ (c : Cover). matches i r c ≡ true → c.amount ≡ amount_read m x i r) (length (set_rows m)) (λ q. record { form = h; set_row = q; amount = amount_read m x h q })
+    (each_concat (λ (c : Cover). matches i r c ≡ true → c.amount ≡ amount_read m x i r) (length (matrices m))
+    (covers_at (robust_of m) x)
+    (λ h. each_tabulate (λ (c : Cover). matches i r c ≡ true → c.amount ≡ amount_read m x i r) (length (set_rows m))
+    (λ q. record { form = h; set_row = q; amount = amount_read m x h q })
     (λ q e. ap (λ v. amount_read m x v q) (matched h q i r e).0 ∙ ap (amount_read m x i) (matched h q i r e).1)))
     (some_concat i r (length (matrices m)) (covers_at (robust_of m) x) i il
-    (some_tabulate i r (length (set_rows m)) (λ q. record { form = i; set_row = q; amount = amount_read m x i q }) r rl (matches_own i r)))
+    (some_tabulate i r (length (set_rows m)) (λ q. record { form = i; set_row = q; amount = amount_read m x i q })
+    r rl (matches_own i r)))

@@ -1,5 +1,5 @@
--- The Farkas weights of the set's program belong to rows of one set: its rows and columns fall into blocks, one for each
--- set.
+-- The Farkas weights of the set's program belong to rows of one set: its rows
+-- and columns fall into blocks, one for each set.
 use Rattle.std.proofs.Common.{◌≡◌, ◌≢◌, ℕ, zero, suc, ◌/◌, ◌%◌, ◌≤◌, length, refl, ap, ◌∙◌, arith, inl, inr, cond}
 use Rattle.std.proofs.Math.Nat.{div-lt_iff_lt-mul}
 use Rattle.std.proofs.lemmas.Bool.{cases_lt}
@@ -22,7 +22,7 @@ use Rattle.rob_counterpart.specs.ReadCertificates.{weight_of, weights_read}
 use Rattle.rob_counterpart.specs.Splitting.{turned}
 use Rattle.rob_counterpart.proofs.ScenarioLemmas.{set_weights}
 
-turned_zero : (k : ℕ) → turned k (pos 0) ≡ pos 0
+pub turned_zero : (k : ℕ) → turned k (pos 0) ≡ pos 0
 turned_zero k = same (nat_eq (k % 2) 0)
   where
     same : (b : Bool) → cond b (pos 0) (neg_ℤ (pos 0)) ≡ pos 0

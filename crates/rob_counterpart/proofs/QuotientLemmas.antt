@@ -44,7 +44,8 @@ over-self s h = Q.mul_inv (of_int s) (int_some s h)
 
 pub over-one : (z : ℤ) → over z (pos 1) ≡ of_int z
 over-one z =
-    Solver.from_one ℚ_ring (of_int z ∷ inv_ℚ 1ℚ ∷ []) (v0 :* v1) v0 v0 (lit (pos 1) :* v1) (lit (pos 1)) refl (over-self (pos 1) (omega (arith, ints)))
+    Solver.from_one ℚ_ring (of_int z ∷ inv_ℚ 1ℚ ∷ []) (v0 :* v1) v0 v0 (lit (pos 1) :* v1) (lit (pos 1)) refl
+    (over-self (pos 1) (omega (arith, ints)))
 
 inv_nonneg : (s : ℤ) → pos 0 <ℤ s → 0ℚ ≤ℚ inv_ℚ (of_int s)
 inv_nonneg s h = Q.le_of_lt_ℚ 0ℚ (inv_ℚ (of_int s)) (inv_pos (of_int s) (int_pos s h))
@@ -64,18 +65,23 @@ pub over_lt : (a b s : ℤ) → pos 0 <ℤ s → a <ℤ b → over a s <ℚ over
 over_lt a b s h k =
     subst (λ x. x <ℚ over b s) (Q.ℚ-mul_comm (inv_ℚ (of_int s)) (of_int a))
     (subst (λ x. inv_ℚ (of_int s) *ℚ of_int a <ℚ x) (Q.ℚ-mul_comm (inv_ℚ (of_int s)) (of_int b))
-    (Q.mul_mono_lt_ℚ (of_int a) (of_int b) (inv_ℚ (of_int s)) (is_lt_in (is_int a) (is_int b) (omega (arith, ints))) (inv_pos (of_int s) (int_pos s h))))
+    (Q.mul_mono_lt_ℚ (of_int a) (of_int b) (inv_ℚ (of_int s)) (is_lt_in (is_int a) (is_int b) (omega (arith, ints)))
+    (inv_pos (of_int s) (int_pos s h))))
 
 pub over-neg : (z s : ℤ) → over (neg_ℤ z) s ≡ neg_ℚ (over z s)
 over-neg z s =
-    let e : over (neg_ℤ z) s +ℚ over z s ≡ 0ℚ = sym (over-add (neg_ℤ z) z s) ∙ ap (λ v. over v s) (let e : neg_ℤ z +ℤ z ≡ pos 0 = omega (arith, ints) in e) ∙ over-zero s in
-    Solver.from_one ℚ_ring (over (neg_ℤ z) s ∷ over z s ∷ []) v0 (minus v1) (lit (pos 1)) (v0 :+ v1) (lit (pos 0)) refl e
+    let e : over (neg_ℤ z) s +ℚ over z s ≡ 0ℚ =
+    sym (over-add (neg_ℤ z) z s)
+    ∙ ap (λ v. over v s) (let e : neg_ℤ z +ℤ z ≡ pos 0 = omega (arith, ints) in e) ∙ over-zero s in
+    Solver.from_one ℚ_ring (over (neg_ℤ z) s ∷ over z s ∷ []) v0 (minus v1) (lit (pos 1))
+    (v0 :+ v1) (lit (pos 0)) refl e
 
 -- the numerator of 0 is 0
 pub over_zero_out : (z s : ℤ) → pos 0 <ℤ s → over z s ≡ 0ℚ → z ≡ pos 0
 over_zero_out z s h e =
     let w : of_int z ≡ 0ℚ =
-    Solver.from_two ℚ_ring (of_int z ∷ of_int s ∷ inv_ℚ (of_int s) ∷ []) v0 (lit (pos 0)) (minus v0) (v1 :* v2) (lit (pos 1)) v1 (v0 :* v2) (lit (pos 0)) refl (over-self s h) e in
+    Solver.from_two ℚ_ring (of_int z ∷ of_int s ∷ inv_ℚ (of_int s) ∷ []) v0 (lit (pos 0)) (minus v0) (v1 :* v2)
+    (lit (pos 1)) v1 (v0 :* v2) (lit (pos 0)) refl (over-self s h) e in
     let c : z *ℤ pos 1 ≡ pos 0 *ℤ pos 1 = is_same (subst (λ (x : Fraction). Is x z 1) w (is_int z)) (is_int (pos 0)) in
     omega (arith, ints)
 
@@ -101,4 +107,5 @@ over-sub a b s = over-add a (neg_ℤ b) s ∙ ap (λ x. over a s +ℚ x) (over-n
 -- z over s, s times
 pub times-over : (z s : ℤ) → pos 0 <ℤ s → of_int s *ℚ over z s ≡ of_int z
 times-over z s sp =
-    Solver.from_one ℚ_ring (of_int z ∷ of_int s ∷ inv_ℚ (of_int s) ∷ []) (v1 :* (v0 :* v2)) v0 v0 (v1 :* v2) (lit (pos 1)) refl (over-self s sp)
+    Solver.from_one ℚ_ring (of_int z ∷ of_int s ∷ inv_ℚ (of_int s) ∷ []) (v1 :* (v0 :* v2)) v0 v0 (v1 :* v2)
+    (lit (pos 1)) refl (over-self s sp)

@@ -46,59 +46,81 @@ where_other a b x y l = grind (arith, nat_tests)
 
 at_place : (d : RobustProgram) (i p : ℕ) (f : ℕ → ℕ → ℤ) → p < block d
     → f (((i * block d) + p) / block d) (((i * block d) + p) % block d) ≡ f i p
-at_place d i p f l = ap (λ v. f v (((i * block d) + p) % block d)) (div-mul-add i (block d) p l) ∙ ap (f i) (mod-mul-add i (block d) p l)
+at_place d i p f l =
+    ap (λ v. f v (((i * block d) + p) % block d)) (div-mul-add i (block d) p l) ∙ ap (f i) (mod-mul-add i (block d) p l)
 
 entry_plus : (d : RobustProgram) (i p j : ℕ) → j ≤ d.decisions → row_entry d i p (plus j) ≡ plan_entry d i p j
 entry_plus d i p j l =
-    where_less (plus j) (pairs d) (turned (plus j) (plan_entry d i p (plus j / 2))) (cond (eqb ((plus j - pairs d) / d.set_rows) i) (multiplier_entry d p ((plus j - pairs d) % d.set_rows)) (pos 0)) (omega arith)
+    where_less (plus j) (pairs d) (turned (plus j) (plan_entry d i p (plus j / 2)))
+    (cond (eqb ((plus j - pairs d) / d.set_rows) i)
+    (multiplier_entry d p ((plus j - pairs d) % d.set_rows)) (pos 0)) (omega arith)
     ∙ turned_even j (plan_entry d i p (plus j / 2)) ∙ ap (plan_entry d i p) (half_even j)
 
 entry_minus : (d : RobustProgram) (i p j : ℕ) → j ≤ d.decisions → row_entry d i p (minus j) ≡ neg_ℤ (plan_entry d i p j)
 entry_minus d i p j l =
-    where_less (minus j) (pairs d) (turned (minus j) (plan_entry d i p (minus j / 2))) (cond (eqb ((minus j - pairs d) / d.set_rows) i) (multiplier_entry d p ((minus j - pairs d) % d.set_rows)) (pos 0)) (omega arith)
+    where_less (minus j) (pairs d) (turned (minus j) (plan_entry d i p (minus j / 2)))
+    (cond (eqb ((minus j - pairs d) / d.set_rows) i)
+    (multiplier_entry d p ((minus j - pairs d) % d.set_rows)) (pos 0)) (omega arith)
     ∙ turned_odd j (plan_entry d i p (minus j / 2)) ∙ ap (λ v. neg_ℤ (plan_entry d i p v)) (half_odd j)
 
 entry_multiplier : (d : RobustProgram) (i p h r : ℕ) → r < d.set_rows
     → row_entry d i p (multiplier d h r) ≡ cond (eqb h i) (multiplier_entry d p r) (pos 0)
 entry_multiplier d i p h r l =
     let k : multiplier d h r - pairs d ≡ (h * d.set_rows) + r = omega arith in
-    where_not_less (multiplier d h r) (pairs d) (turned (multiplier d h r) (plan_entry d i p (multiplier d h r / 2))) (cond (eqb ((multiplier d h r - pairs d) / d.set_rows) i) (multiplier_entry d p ((multiplier d h r - pairs d) % d.set_rows)) (pos 0)) (omega arith)
+    where_not_less (multiplier d h r) (pairs d) (turned (multiplier d h r) (plan_entry d i p (multiplier d h r / 2)))
+    (cond (eqb ((multiplier d h r - pairs d) / d.set_rows) i)
+    (multiplier_entry d p ((multiplier d h r - pairs d) % d.set_rows)) (pos 0)) (omega arith)
     ∙ ap (λ v. cond (eqb (v / d.set_rows) i) (multiplier_entry d p (v % d.set_rows)) (pos 0)) k
-    ∙ ap (λ v. cond (eqb v i) (multiplier_entry d p (((h * d.set_rows) + r) % d.set_rows)) (pos 0)) (div-mul-add h d.set_rows r l)
+    ∙ ap (λ v. cond (eqb v i) (multiplier_entry d p (((h * d.set_rows) + r) % d.set_rows)) (pos 0))
+    (div-mul-add h d.set_rows r l)
     ∙ ap (λ v. cond (eqb h i) (multiplier_entry d p v) (pos 0)) (mod-mul-add h d.set_rows r l)
 
 -- a row whose numbers at its place are these
-row_at : (d : RobustProgram) (i p : ℕ) (plan own : ℕ → ℤ) (right : ℤ) → p < block d → ((j : ℕ) → plan_entry d i p j ≡ plan j)
+row_at : (d : RobustProgram) (i p : ℕ) (plan own : ℕ → ℤ) (right : ℤ) → p < block d
+    → ((j : ℕ) → plan_entry d i p j ≡ plan j)
     → ((r : ℕ) → multiplier_entry d p r ≡ own r) → right_entry d i p ≡ right
     → RowIs d (reform d) ((i * block d) + p) i plan own right
 row_at d i p plan own right l pl ow ri = record {
   at_plus = λ j jl. at_place d i p (λ h q. row_entry d h q (plus j)) l ∙ entry_plus d i p j jl ∙ pl j;
   at_minus = λ j jl. at_place d i p (λ h q. row_entry d h q (minus j)) l ∙ entry_minus d i p j jl ∙ ap neg_ℤ (pl j);
-  at_own = λ r rl. at_place d i p (λ h q. row_entry d h q (multiplier d i r)) l ∙ entry_multiplier d i p i r rl ∙ where_same i i (multiplier_entry d p r) (pos 0) refl ∙ ow r;
-  at_others = λ h r hl ne rl. at_place d i p (λ v q. row_entry d v q (multiplier d h r)) l ∙ entry_multiplier d i p h r rl ∙ where_other h i (multiplier_entry d p r) (pos 0) ne;
+  at_own = λ r rl. at_place d i p (λ h q. row_entry d h q (multiplier d i r)) l ∙ entry_multiplier d i p i r rl
+      ∙ where_same i i (multiplier_entry d p r) (pos 0) refl ∙ ow r;
+  at_others = λ h r hl ne rl. at_place d i p (λ v q. row_entry d v q (multiplier d h r)) l
+      ∙ entry_multiplier d i p h r rl ∙ where_other h i (multiplier_entry d p r) (pos 0) ne;
   at_right = at_place d i p (right_entry d) l ∙ ri;
 }
 
 cost_plus : (d : RobustProgram) (j : ℕ) → tau_cost d (plus j) ≡ cond (eqb j d.decisions) d.sense (pos 0)
-cost_plus d j = ap (λ v. cond (eqb v d.decisions) (turned (plus j) d.sense) (pos 0)) (half_even j) ∙ ap (λ v. cond (eqb j d.decisions) v (pos 0)) (turned_even j d.sense)
+cost_plus d j =
+    ap (λ v. cond (eqb v d.decisions) (turned (plus j) d.sense) (pos 0)) (half_even j)
+    ∙ ap (λ v. cond (eqb j d.decisions) v (pos 0)) (turned_even j d.sense)
 
 cost_minus : (d : RobustProgram) (j : ℕ) → tau_cost d (minus j) ≡ cond (eqb j d.decisions) (neg_ℤ d.sense) (pos 0)
-cost_minus d j = ap (λ v. cond (eqb v d.decisions) (turned (minus j) d.sense) (pos 0)) (half_odd j) ∙ ap (λ v. cond (eqb j d.decisions) v (pos 0)) (turned_odd j d.sense)
+cost_minus d j =
+    ap (λ v. cond (eqb v d.decisions) (turned (minus j) d.sense) (pos 0)) (half_odd j)
+    ∙ ap (λ v. cond (eqb j d.decisions) v (pos 0)) (turned_odd j d.sense)
 
 cost_multiplier : (d : RobustProgram) (k : ℕ) → pairs d ≤ k → tau_cost d k ≡ pos 0
 cost_multiplier d k l =
     elim (halves k) [
-      | inl h ↦ let e : k ≡ h.0 + h.0 = h.1 in ap (tau_cost d) e ∙ cost_plus d h.0 ∙ where_other h.0 d.decisions d.sense (pos 0) (omega arith)
-      | inr h ↦ let e : k ≡ suc (h.0 + h.0) = h.1 in ap (tau_cost d) e ∙ cost_minus d h.0 ∙ where_other h.0 d.decisions (neg_ℤ d.sense) (pos 0) (omega arith)
+      | inl h ↦ let e : k ≡ h.0 + h.0 = h.1 in
+          ap (tau_cost d) e ∙ cost_plus d h.0 ∙ where_other h.0 d.decisions d.sense (pos 0) (omega arith)
+      | inr h ↦ let e : k ≡ suc (h.0 + h.0) = h.1 in
+          ap (tau_cost d) e ∙ cost_minus d h.0 ∙ where_other h.0 d.decisions (neg_ℤ d.sense) (pos 0) (omega arith)
     ]
 
 positive_place : (d : RobustProgram) (c : ℕ) (f : ℕ → ℤ) (y : ℤ) → c < d.set_columns
     → cond (ltb (c + c) (d.set_columns + d.set_columns)) (turned (c + c) (f ((c + c) / 2))) y ≡ f c
-positive_place d c f y l = where_less (c + c) (d.set_columns + d.set_columns) (turned (c + c) (f ((c + c) / 2))) y (omega arith) ∙ turned_even c (f ((c + c) / 2)) ∙ ap f (half_even c)
+positive_place d c f y l =
+    where_less (c + c) (d.set_columns + d.set_columns) (turned (c + c) (f ((c + c) / 2))) y (omega arith)
+    ∙ turned_even c (f ((c + c) / 2)) ∙ ap f (half_even c)
 
 negative_place : (d : RobustProgram) (c : ℕ) (f : ℕ → ℤ) (y : ℤ) → c < d.set_columns
-    → cond (ltb (suc (c + c)) (d.set_columns + d.set_columns)) (turned (suc (c + c)) (f (suc (c + c) / 2))) y ≡ neg_ℤ (f c)
-negative_place d c f y l = where_less (suc (c + c)) (d.set_columns + d.set_columns) (turned (suc (c + c)) (f (suc (c + c) / 2))) y (omega arith) ∙ turned_odd c (f (suc (c + c) / 2)) ∙ ap (λ v. neg_ℤ (f v)) (half_odd c)
+    → cond (ltb (suc (c + c)) (d.set_columns + d.set_columns)) (turned (suc (c + c)) (f (suc (c + c) / 2))) y
+    ≡ neg_ℤ (f c)
+negative_place d c f y l =
+    where_less (suc (c + c)) (d.set_columns + d.set_columns) (turned (suc (c + c)) (f (suc (c + c) / 2))) y
+    (omega arith) ∙ turned_odd c (f (suc (c + c) / 2)) ∙ ap (λ v. neg_ℤ (f v)) (half_odd c)
 
 constant_place : (d : RobustProgram) (x y : ℤ)
     → cond (ltb (d.set_columns + d.set_columns) (d.set_columns + d.set_columns)) x y ≡ y
@@ -120,18 +142,26 @@ pub reform_is : (d : RobustProgram) → IsReform d (reform d)
 reform_is d = record {
   height = refl;
   width = refl;
-  positive = λ i c il cl. row_at d i (c + c) (λ j. neg_ℤ (entry d i c (suc j))) (λ r. d.left r c) (entry d i c 0) (omega arith)
+  positive = λ i c il cl. row_at d i (c + c) (λ j. neg_ℤ (entry d i c (suc j))) (λ r. d.left r c)
+      (entry d i c 0) (omega arith)
       (λ j. positive_place d c (λ v. neg_ℤ (entry d i v (suc j))) (d.form i 0 (suc j)) cl)
       (λ r. positive_place d c (d.left r) (d.right r) cl)
       (positive_place d c (λ v. entry d i v 0) (neg_ℤ (d.form i 0 0)) cl);
-  negative = λ i c il cl. row_at d i (suc (c + c)) (λ j. entry d i c (suc j)) (λ r. neg_ℤ (d.left r c)) (neg_ℤ (entry d i c 0)) (omega arith)
-      (λ j. negative_place d c (λ v. neg_ℤ (entry d i v (suc j))) (d.form i 0 (suc j)) cl ∙ neg-neg (entry d i c (suc j)))
+  negative = λ i c il cl. row_at d i (suc (c + c)) (λ j. entry d i c (suc j)) (λ r. neg_ℤ (d.left r c))
+      (neg_ℤ (entry d i c 0)) (omega arith)
+      (λ j. negative_place d c (λ v. neg_ℤ (entry d i v (suc j))) (d.form i 0 (suc j)) cl
+      ∙ neg-neg (entry d i c (suc j)))
       (λ r. negative_place d c (d.left r) (d.right r) cl)
       (negative_place d c (λ v. entry d i v 0) (neg_ℤ (d.form i 0 0)) cl);
-  constant = λ i il. row_at d i (d.set_columns + d.set_columns) (λ j. d.form i 0 (suc j)) d.right (neg_ℤ (d.form i 0 0)) (omega arith)
-      (λ j. constant_place d (turned (d.set_columns + d.set_columns) (neg_ℤ (entry d i ((d.set_columns + d.set_columns) / 2) (suc j)))) (d.form i 0 (suc j)))
-      (λ r. constant_place d (turned (d.set_columns + d.set_columns) (d.left r ((d.set_columns + d.set_columns) / 2))) (d.right r))
-      (constant_place d (turned (d.set_columns + d.set_columns) (entry d i ((d.set_columns + d.set_columns) / 2) 0)) (neg_ℤ (d.form i 0 0)));
+  constant = λ i il. row_at d i (d.set_columns + d.set_columns) (λ j. d.form i 0 (suc j)) d.right
+      (neg_ℤ (d.form i 0 0)) (omega arith)
+      (λ j. constant_place d
+      (turned (d.set_columns + d.set_columns) (neg_ℤ (entry d i ((d.set_columns + d.set_columns) / 2) (suc j))))
+      (d.form i 0 (suc j)))
+      (λ r. constant_place d (turned (d.set_columns + d.set_columns) (d.left r ((d.set_columns + d.set_columns) / 2)))
+      (d.right r))
+      (constant_place d (turned (d.set_columns + d.set_columns) (entry d i ((d.set_columns + d.set_columns) / 2) 0))
+      (neg_ℤ (d.form i 0 0)));
   cost = tau_cost_is d (reform d) (λ k. refl);
   cost_multipliers = λ i r il rl. cost_multiplier d (multiplier d i r) (omega arith);
 }
@@ -142,10 +172,12 @@ rows_same : (d : RobustProgram) (P Q : Program) (t i : ℕ) (plan own : ℕ → 
     → RowIs d P t i plan own right → RowIs d Q t i plan own right
     → ((k : ℕ) → k < pairs d + (d.forms * d.set_rows) → P.a t k ≡ Q.a t k) × (P.b t ≡ Q.b t)
 rows_same d P Q t i plan own right il p q = (
-  by_columns d (λ k. P.a t k ≡ Q.a t k) (λ j jl. p.at_plus j jl ∙ sym (q.at_plus j jl)) (λ j jl. p.at_minus j jl ∙ sym (q.at_minus j jl)) (λ h r hl rl. elim (cases_eq h i) [
-    | inl e ↦ subst (λ v. P.a t (multiplier d v r) ≡ Q.a t (multiplier d v r)) (sym e) (p.at_own r rl ∙ sym (q.at_own r rl))
-    | inr e ↦ p.at_others h r hl e rl ∙ sym (q.at_others h r hl e rl)
-  ]),
+  by_columns d (λ k. P.a t k ≡ Q.a t k) (λ j jl. p.at_plus j jl ∙ sym (q.at_plus j jl))
+      (λ j jl. p.at_minus j jl ∙ sym (q.at_minus j jl)) (λ h r hl rl. elim (cases_eq h i) [
+        | inl e ↦ subst (λ v. P.a t (multiplier d v r) ≡ Q.a t (multiplier d v r)) (sym e)
+            (p.at_own r rl ∙ sym (q.at_own r rl))
+        | inr e ↦ p.at_others h r hl e rl ∙ sym (q.at_others h r hl e rl)
+      ]),
   p.at_right ∙ sym q.at_right,
 )
 
@@ -154,9 +186,12 @@ pub reforms_same : (d : RobustProgram) (P Q : Program) → IsReform d P → IsRe
 reforms_same d P Q p q t tl =
     let all : ((k : ℕ) → k < pairs d + (d.forms * d.set_rows) → P.a t k ≡ Q.a t k) × (P.b t ≡ Q.b t) =
     by_rows d (λ t. ((k : ℕ) → k < pairs d + (d.forms * d.set_rows) → P.a t k ≡ Q.a t k) × (P.b t ≡ Q.b t))
-    (λ i c il cl. rows_same d P Q (positive_row d i c) i (λ j. neg_ℤ (entry d i c (suc j))) (λ r. d.left r c) (entry d i c 0) il (p.positive i c il cl) (q.positive i c il cl))
-    (λ i c il cl. rows_same d P Q (negative_row d i c) i (λ j. entry d i c (suc j)) (λ r. neg_ℤ (d.left r c)) (neg_ℤ (entry d i c 0)) il (p.negative i c il cl) (q.negative i c il cl))
-    (λ i il. rows_same d P Q (constant_row d i) i (λ j. d.form i 0 (suc j)) d.right (neg_ℤ (d.form i 0 0)) il (p.constant i il) (q.constant i il))
+    (λ i c il cl. rows_same d P Q (positive_row d i c) i (λ j. neg_ℤ (entry d i c (suc j))) (λ r. d.left r c)
+    (entry d i c 0) il (p.positive i c il cl) (q.positive i c il cl))
+    (λ i c il cl. rows_same d P Q (negative_row d i c) i (λ j. entry d i c (suc j)) (λ r. neg_ℤ (d.left r c))
+    (neg_ℤ (entry d i c 0)) il (p.negative i c il cl) (q.negative i c il cl))
+    (λ i il. rows_same d P Q (constant_row d i) i (λ j. d.form i 0 (suc j)) d.right (neg_ℤ (d.form i 0 0)) il
+    (p.constant i il) (q.constant i il))
     t (subst (λ v. t < v) p.height tl) in (λ k kl. all.0 k (subst (λ v. k < v) p.width kl), all.1)
 
 pub costs_same : (d : RobustProgram) (P Q : Program) → IsReform d P → IsReform d Q → (k : ℕ) → k < P.n → P.c k ≡ Q.c k

@@ -17,6 +17,7 @@ use Rattle.rob_algebra.specs.Fraction.{Fraction}
 use Rattle.rob_counterpart.specs.Endings.{OptimalEnding, InfeasibleEnding, UnboundedEnding}
 use Rattle.rob_counterpart.specs.SamePrograms.{AreSame}
 use Rattle.rob_counterpart.proofs.SameSystems.{systems_same, auxiliaries_same}
+use Rattle.rob_linear.proofs.Beside.{kept_is}
 
 pub same_back : (P Q : Program) → AreSame P Q → AreSame Q P
 same_back P Q h =
@@ -31,13 +32,11 @@ same_back P Q h =
     }
 
 -- ---- the kept row and the truncated costs
-kept_inside : (P : Program) (t k : ℕ) → t < P.m → kept_row P t k ≡ auxiliary_row P t k
-kept_inside P t k l = grind (arith, nat_tests)
-
 kept_left : (P : Program) (t k : ℕ) → P.m ≤ t → k < P.n → kept_row P t k ≡ neg_ℤ (P.c k)
 kept_left P t k l h = grind (arith, nat_tests)
 
-kept_behind : (P : Program) (t k : ℕ) → P.m ≤ t → P.n ≤ k → kept_row P t k ≡ cond (eqb k (suc (P.n + P.m))) (pos 1) (pos 0)
+kept_behind : (P : Program) (t k : ℕ) → P.m ≤ t → P.n ≤ k
+    → kept_row P t k ≡ cond (eqb k (suc (P.n + P.m))) (pos 1) (pos 0)
 kept_behind P t k l h = grind (arith, nat_tests)
 
 kept_same : (P Q : Program) (t k : ℕ) → AreSame P Q → kept_row P t k ≡ kept_row Q t k
@@ -45,11 +44,14 @@ kept_same P Q t k h =
     let m : P.m ≡ Q.m = h.height in
     let n : P.n ≡ Q.n = h.width in
     elim (cases_lt t P.m) [
-      | inl l ↦ kept_inside P t k l ∙ ap (λ (S : System). S.start t k) (auxiliaries_same P Q h) ∙ sym (kept_inside Q t k (omega arith))
+      | inl l ↦ kept_is P t k l ∙ ap (λ (S : System). S.start t k) (auxiliaries_same P Q h)
+          ∙ sym (kept_is Q t k (omega arith))
       | inr l ↦ elim (cases_lt k P.n) [
         | inl b ↦ kept_left P t k l b ∙ ap neg_ℤ (h.costs k b) ∙ sym (kept_left Q t k (omega arith) (omega arith))
         | inr b ↦
-            kept_behind P t k l b ∙ ap (λ v. cond (eqb k v) (pos 1) (pos 0)) (let e : suc (P.n + P.m) ≡ suc (Q.n + Q.m) = omega arith in e)
+            kept_behind P t k l b
+            ∙ ap (λ v. cond (eqb k v) (pos 1) (pos 0))
+            (let e : suc (P.n + P.m) ≡ suc (Q.n + Q.m) = omega arith in e)
             ∙ sym (kept_behind Q t k (omega arith) (omega arith))
       ]
     ]
@@ -102,14 +104,23 @@ module _ (P Q : Program) (h : AreSame P Q) where
         row = s.row;
         inside = omega arith;
         negative = subst (λ v. v <ℤ pos 0) (h.rights s.row l) s.negative;
-        first = λ i il. subst (λ (S : System). ¬ (ComesBefore S (S.start i) (pos 1) (S.start s.row) (pos 1))) (auxiliaries_same P Q h) (s.first i (omega arith));
-        exchanged = λ i il. s.exchanged i (omega arith) ∙ ap₂ (λ a b. cond (eqb i s.row) a b) (let e : P.n + P.m ≡ Q.n + Q.m = omega arith in e) (ap (λ v. v + i) h.width);
+        first = λ i il. subst (λ (S : System). ¬ (ComesBefore S (S.start i) (pos 1) (S.start s.row) (pos 1)))
+            (auxiliaries_same P Q h) (s.first i (omega arith));
+        exchanged =
+            λ i il. s.exchanged i (omega arith)
+            ∙ ap₂ (λ a b. cond (eqb i s.row) a b) (let e : P.n + P.m ≡ Q.n + Q.m = omega arith in e)
+            (ap (λ v. v + i) h.width);
       })
 
 module _ (P Q : Program) (h : AreSame P Q) where
   steps : (basis next : Columns) → Steps P basis next → Steps Q basis next
-  steps basis next (inl s) = inl (has_auxiliary P Q h basis s.0, subst (λ S. TurnsTo S basis next) (auxiliaries_same P Q h) s.1)
-  steps basis next (inr s) = inr ((λ a. s.0 (has_auxiliary Q P (same_back P Q h) basis a)), subst (λ S. TurnsTo S basis next) (systems_same P Q h) s.1)
+  steps basis next (inl s) =
+      inl (has_auxiliary P Q h basis s.0, subst (λ S. TurnsTo S basis next) (auxiliaries_same P Q h) s.1)
+  steps basis next (inr s) =
+      inr (
+        (λ a. s.0 (has_auxiliary Q P (same_back P Q h) basis a)),
+        subst (λ S. TurnsTo S basis next) (systems_same P Q h) s.1,
+      )
 
   turned : (k : ℕ) (basis : Columns) → Turned P k basis → Turned Q k basis
   turned zero basis t = starts P Q h basis t
@@ -142,7 +153,8 @@ module _ (P Q : Program) (h : AreSame P Q) where
         };
       }
 
-  pub unbounded_same : (own : Columns) (rows : Matrix) (column : ℕ) (x r : ℕ → Fraction) → UnboundedEnding P own rows column x r
+  pub unbounded_same : (own : Columns) (rows : Matrix) (column : ℕ) (x r : ℕ → Fraction)
+      → UnboundedEnding P own rows column x r
       → UnboundedEnding Q own rows column x r
   unbounded_same own rows column x r en =
       let e : system_of P ≡ system_of Q = systems_same P Q h in
@@ -166,7 +178,8 @@ module _ (P Q : Program) (h : AreSame P Q) where
     put_in =
         let columns : P.n + P.m ≡ Q.n + Q.m = ap₂ ◌+◌ h.width h.height in
         subst (λ (v : ℕ). IsCombined (suc (suc v)) (pos 1) s.stage (Q.c j *ℤ s.stage v) (unit_row j) r) columns
-        (subst (λ (v : ℤ). IsCombined (suc (suc (P.n + P.m))) (pos 1) s.stage (v *ℤ s.stage (P.n + P.m)) (unit_row j) r) (h.costs j l) s.put_in);
+        (subst (λ (v : ℤ). IsCombined (suc (suc (P.n + P.m))) (pos 1) s.stage (v *ℤ s.stage (P.n + P.m)) (unit_row j) r)
+        (h.costs j l) s.put_in);
   }
 
   wide_stage : (limit : ℕ) (basis : Columns) → IsWideStage limit P basis → IsWideStage limit Q basis
@@ -177,8 +190,12 @@ module _ (P Q : Program) (h : AreSame P Q) where
     where
       by : IsStage P (own_of (system_of P) basis) w.0 w.1 ⊎ IsHalfStage P (own_of (system_of P) basis) w.0 w.1
           → IsStage Q (own_of (system_of Q) basis) w.0 w.1 ⊎ IsHalfStage Q (own_of (system_of Q) basis) w.0 w.1
-      by (inl s) = inl (subst (λ own. IsStage Q own w.0 w.1) (own_same P Q h basis) (stage_same (own_of (system_of P) basis) w.0 w.1 s))
-      by (inr s) = inr (subst (λ own. IsHalfStage Q own w.0 w.1) (own_same P Q h basis) (half_same (own_of (system_of P) basis) w.0 w.1 w.2 s))
+      by (inl s) =
+          inl (subst (λ own. IsStage Q own w.0 w.1) (own_same P Q h basis)
+          (stage_same (own_of (system_of P) basis) w.0 w.1 s))
+      by (inr s) =
+          inr (subst (λ own. IsHalfStage Q own w.0 w.1) (own_same P Q h basis)
+          (half_same (own_of (system_of P) basis) w.0 w.1 w.2 s))
 
   needs_same : NeedsAuxiliary P → NeedsAuxiliary Q
   needs_same a =
@@ -201,7 +218,8 @@ module _ (P Q : Program) (h : AreSame P Q) where
   own_wide_same limit basis i (inr w) = inr (w.0 ∙ h.height, wide_stage limit basis w.1)
 
   pub wide_row_same : (limit : ℕ) (basis : Columns) (i : ℕ) → HasWideRow limit P basis i → HasWideRow limit Q basis i
-  wide_row_same limit basis i w = record { reached = reached_same basis w.reached; wide = wide_same limit basis i w.wide }
+  wide_row_same limit basis i w =
+      record { reached = reached_same basis w.reached; wide = wide_same limit basis i w.wide }
 
 module _ (P Q : Program) (h : AreSame P Q) where
   pub last_same : (basis : Columns) → Last P basis → Last Q basis
@@ -213,7 +231,10 @@ module _ (P Q : Program) (h : AreSame P Q) where
   -- the same on the path from a given basis
   reached_from : (start basis : Columns) → ReachedFrom P start basis → ReachedFrom Q start basis
   reached_from start basis r = record {
-    feasible = record { rows = r.feasible.rows; stands = subst (λ S. StandsWith S start r.feasible.rows) (systems_same P Q h) r.feasible.stands };
+    feasible = record {
+      rows = r.feasible.rows;
+      stands = subst (λ S. StandsWith S start r.feasible.rows) (systems_same P Q h) r.feasible.stands;
+    };
     turns = r.turns;
     turned = subst (λ S. TurnsFrom S start r.turns basis) (systems_same P Q h) r.turned;
   }
@@ -226,4 +247,7 @@ module _ (P Q : Program) (h : AreSame P Q) where
 
   pub wide_row_from : (limit : ℕ) (start basis : Columns) (i : ℕ) → HasWideRowFrom limit P start basis i
       → HasWideRowFrom limit Q start basis i
-  wide_row_from limit start basis i w = record { reached = reached_from start basis w.reached; wide = own_wide_same P Q h limit basis i w.wide }
+  wide_row_from limit start basis i w = record {
+    reached = reached_from start basis w.reached;
+    wide = own_wide_same P Q h limit basis i w.wide;
+  }

@@ -25,30 +25,36 @@ module _ (d : RobustProgram) (P : Program) (se : IsOverSet d P) where
   pub set_row : (x : ℕ → ℤ) (r : ℕ) → r < d.set_rows → dot P.n (P.a r) x ≡ dot d.set_columns (pair x) (d.left r)
   set_row x r rl =
       ap (λ v. sum_to v (λ k. P.a r k *ℤ x k)) se.width ∙ sum_pairs d.set_columns (λ k. P.a r k *ℤ x k)
-      ∙ sum_ext d.set_columns (λ c. (P.a r (plus c) *ℤ x (plus c)) +ℤ (P.a r (minus c) *ℤ x (minus c))) (λ c. pair x c *ℤ d.left r c) (λ c cl.
+      ∙ sum_ext d.set_columns (λ c. (P.a r (plus c) *ℤ x (plus c)) +ℤ (P.a r (minus c) *ℤ x (minus c)))
+      (λ c. pair x c *ℤ d.left r c) (λ c cl.
       let e : (d.left r c *ℤ x (plus c)) +ℤ (neg_ℤ (d.left r c) *ℤ x (minus c)) ≡ pair x c *ℤ d.left r c = simp ring in
-      ap (λ v. (v *ℤ x (plus c)) +ℤ (P.a r (minus c) *ℤ x (minus c))) (se.at_plus r c rl cl) ∙ ap (λ v. (d.left r c *ℤ x (plus c)) +ℤ (v *ℤ x (minus c))) (se.at_minus r c rl cl) ∙ e)
+      ap (λ v. (v *ℤ x (plus c)) +ℤ (P.a r (minus c) *ℤ x (minus c))) (se.at_plus r c rl cl)
+      ∙ ap (λ v. (d.left r c *ℤ x (plus c)) +ℤ (v *ℤ x (minus c))) (se.at_minus r c rl cl) ∙ e)
 
   pub set_cost : (f x : ℕ → ℤ) → HasCost d f P → dot P.n P.c x ≡ dot d.set_columns (pair x) f
   set_cost f x co =
       ap (λ v. sum_to v (λ k. P.c k *ℤ x k)) se.width ∙ sum_pairs d.set_columns (λ k. P.c k *ℤ x k)
-      ∙ sum_ext d.set_columns (λ c. (P.c (plus c) *ℤ x (plus c)) +ℤ (P.c (minus c) *ℤ x (minus c))) (λ c. pair x c *ℤ f c) (λ c cl.
+      ∙ sum_ext d.set_columns (λ c. (P.c (plus c) *ℤ x (plus c)) +ℤ (P.c (minus c) *ℤ x (minus c)))
+      (λ c. pair x c *ℤ f c) (λ c cl.
       let e : (f c *ℤ x (plus c)) +ℤ (neg_ℤ (f c) *ℤ x (minus c)) ≡ pair x c *ℤ f c = simp ring in
-      ap (λ v. (v *ℤ x (plus c)) +ℤ (P.c (minus c) *ℤ x (minus c))) (co.cost_plus c cl) ∙ ap (λ v. (f c *ℤ x (plus c)) +ℤ (v *ℤ x (minus c))) (co.cost_minus c cl) ∙ e)
+      ap (λ v. (v *ℤ x (plus c)) +ℤ (P.c (minus c) *ℤ x (minus c))) (co.cost_plus c cl)
+      ∙ ap (λ v. (f c *ℤ x (plus c)) +ℤ (v *ℤ x (minus c))) (co.cost_minus c cl) ∙ e)
 
   -- the rows, each as often as w says, in the first column of a pair
   pub set_column_plus : (w : ℕ → ℤ) (c : ℕ) → c < d.set_columns
       → sum_to P.m (λ r. w r *ℤ P.a r (plus c)) ≡ sum_to d.set_rows (λ r. w r *ℤ d.left r c)
   set_column_plus w c cl =
       ap (λ v. sum_to v (λ r. w r *ℤ P.a r (plus c))) se.height
-      ∙ sum_ext d.set_rows (λ r. w r *ℤ P.a r (plus c)) (λ r. w r *ℤ d.left r c) (λ r rl. ap (λ v. w r *ℤ v) (se.at_plus r c rl cl))
+      ∙ sum_ext d.set_rows (λ r. w r *ℤ P.a r (plus c)) (λ r. w r *ℤ d.left r c)
+      (λ r rl. ap (λ v. w r *ℤ v) (se.at_plus r c rl cl))
 
   -- and in the second
   pub set_column_minus : (w : ℕ → ℤ) (c : ℕ) → c < d.set_columns
       → sum_to P.m (λ r. w r *ℤ P.a r (minus c)) ≡ neg_ℤ (sum_to d.set_rows (λ r. w r *ℤ d.left r c))
   set_column_minus w c cl =
       ap (λ v. sum_to v (λ r. w r *ℤ P.a r (minus c))) se.height
-      ∙ sum_ext d.set_rows (λ r. w r *ℤ P.a r (minus c)) (λ r. neg_ℤ (w r *ℤ d.left r c)) (λ r rl. ap (λ v. w r *ℤ v) (se.at_minus r c rl cl) ∙ mul-neg (w r) (d.left r c))
+      ∙ sum_ext d.set_rows (λ r. w r *ℤ P.a r (minus c)) (λ r. neg_ℤ (w r *ℤ d.left r c))
+      (λ r rl. ap (λ v. w r *ℤ v) (se.at_minus r c rl cl) ∙ mul-neg (w r) (d.left r c))
       ∙ sum_neg d.set_rows (λ r. w r *ℤ d.left r c)
 
   pub set_right : (w : ℕ → ℤ) → dot P.m w P.b ≡ dot d.set_rows w d.right
@@ -62,7 +68,8 @@ module _ (d : RobustProgram) (P : Program) (se : IsOverSet d P) where
     base_nonnegative = let h : pos 0 <ℤ s = adm.scale in omega (arith, ints);
     rows = λ r rl.
         subst (λ v. v ≤ℤ (s *ℤ d.right r)) (set_row x r rl)
-        (subst (λ v. dot P.n (P.a r) x ≤ℤ (s *ℤ v)) (se.at_right r rl) (adm.rows r (subst (λ v. r < v) (sym se.height) rl)));
+        (subst (λ v. dot P.n (P.a r) x ≤ℤ (s *ℤ v)) (se.at_right r rl)
+        (adm.rows r (subst (λ v. r < v) (sym se.height) rl)));
   }
 
   -- so is the point of a feasible basis
@@ -89,37 +96,52 @@ module _ (d : RobustProgram) (P : Program) (se : IsOverSet d P) where
     nonnegative = λ r rl. em.nonnegative r (subst (λ v. r < v) (sym se.height) rl);
     columns = λ c cl.
         let wd : P.n ≡ d.set_columns + d.set_columns = se.width in
-        let a : pos 0 ≤ℤ sum_to d.set_rows (λ r. w r *ℤ d.left r c) = subst (λ v. pos 0 ≤ℤ v) (set_column_plus w c cl) (em.columns (plus c) (omega arith)) in
-        let b : pos 0 ≤ℤ neg_ℤ (sum_to d.set_rows (λ r. w r *ℤ d.left r c)) = subst (λ v. pos 0 ≤ℤ v) (set_column_minus w c cl) (em.columns (minus c) (omega arith)) in
+        let a : pos 0 ≤ℤ sum_to d.set_rows (λ r. w r *ℤ d.left r c) =
+        subst (λ v. pos 0 ≤ℤ v) (set_column_plus w c cl) (em.columns (plus c) (omega arith)) in
+        let b : pos 0 ≤ℤ neg_ℤ (sum_to d.set_rows (λ r. w r *ℤ d.left r c)) =
+        subst (λ v. pos 0 ≤ℤ v) (set_column_minus w c cl) (em.columns (minus c) (omega arith)) in
         omega (arith, ints);
     below = subst (λ v. v <ℤ pos 0) (set_right w) em.below;
   }
 
   pub set_empty : (own : Columns) (rows : Matrix) → InfeasibleEnding P own rows → ShowsSetEmpty d (slack_entries P rows)
-  set_empty own rows en = weights_empty (slack_entries P rows) (infeasible P own rows en.basis en.ends.no_improving en.ends.below)
+  set_empty own rows en =
+      weights_empty (slack_entries P rows) (infeasible P own rows en.basis en.ends.no_improving en.ends.below)
 
 -- the set rows at a point of the set, with weights that are not negative
 pub rows_bounded : (d : RobustProgram) (w : ℕ → ℤ) (base : ℤ) (p : ℕ → ℤ) → ((r : ℕ) → r < d.set_rows → pos 0 ≤ℤ w r)
     → LiesInSet d base p
-    → sum_to d.set_rows (λ r. w r *ℤ dot d.set_columns (d.left r) p) ≤ℤ sum_to d.set_rows (λ r. base *ℤ (w r *ℤ d.right r))
+    → sum_to d.set_rows (λ r. w r *ℤ dot d.set_columns (d.left r) p)
+    ≤ℤ sum_to d.set_rows (λ r. base *ℤ (w r *ℤ d.right r))
 rows_bounded d w base p wp lies =
     sum_mono d.set_rows (λ r. w r *ℤ dot d.set_columns (d.left r) p) (λ r. base *ℤ (w r *ℤ d.right r)) (λ r rl.
-    let a : dot d.set_columns (d.left r) p ≡ dot d.set_columns p (d.left r) = sum_ext d.set_columns (λ c. d.left r c *ℤ p c) (λ c. p c *ℤ d.left r c) (λ c cl. *ℤ_comm (d.left r c) (p c)) in
-    let b : (w r *ℤ dot d.set_columns p (d.left r)) ≤ℤ (w r *ℤ (base *ℤ d.right r)) = mul_le_mul (w r) (dot d.set_columns p (d.left r)) (base *ℤ d.right r) (wp r rl) (lies.rows r rl) in
+    let a : dot d.set_columns (d.left r) p ≡ dot d.set_columns p (d.left r) =
+    sum_ext d.set_columns (λ c. d.left r c *ℤ p c) (λ c. p c *ℤ d.left r c) (λ c cl. *ℤ_comm (d.left r c) (p c)) in
+    let b : (w r *ℤ dot d.set_columns p (d.left r)) ≤ℤ (w r *ℤ (base *ℤ d.right r)) =
+    mul_le_mul (w r) (dot d.set_columns p (d.left r)) (base *ℤ d.right r) (wp r rl) (lies.rows r rl) in
     let e : w r *ℤ (base *ℤ d.right r) ≡ base *ℤ (w r *ℤ d.right r) = simp ring in
     rw (a, ← e) b)
 
 -- no point lies in a set that is shown to be empty
-pub no_point : (d : RobustProgram) (w : ℕ → ℤ) → ShowsSetEmpty d w → (base : ℤ) (p : ℕ → ℤ) → pos 0 <ℤ base → LiesInSet d base p
+pub no_point : (d : RobustProgram) (w : ℕ → ℤ) → ShowsSetEmpty d w → (base : ℤ) (p : ℕ → ℤ)
+    → pos 0 <ℤ base → LiesInSet d base p
     → ⊥
 no_point d w em base p bp lies =
-    let low : dot d.set_columns (λ c. sum_to d.set_rows (λ r. w r *ℤ d.left r c)) p ≡ pos 0 = sum_zero d.set_columns (λ c. sum_to d.set_rows (λ r. w r *ℤ d.left r c) *ℤ p c) (λ c cl. ap (λ v. v *ℤ p c) (em.columns c cl) ∙ zero-mul (p c)) in
-    let high : sum_to d.set_rows (λ r. w r *ℤ dot d.set_columns (d.left r) p) ≤ℤ sum_to d.set_rows (λ r. base *ℤ (w r *ℤ d.right r)) = rows_bounded d w base p em.nonnegative lies in
-    let s : sum_to d.set_rows (λ r. base *ℤ (w r *ℤ d.right r)) ≡ base *ℤ dot d.set_rows w d.right = sum_scale d.set_rows base (λ r. w r *ℤ d.right r) in
-    let q : dot d.set_columns (λ c. sum_to d.set_rows (λ r. w r *ℤ d.left r c)) p ≡ sum_to d.set_rows (λ r. w r *ℤ dot d.set_columns (d.left r) p) = dot_rows d.set_rows d.set_columns w d.left p in
+    let low : dot d.set_columns (λ c. sum_to d.set_rows (λ r. w r *ℤ d.left r c)) p ≡ pos 0 =
+    sum_zero d.set_columns (λ c. sum_to d.set_rows (λ r. w r *ℤ d.left r c) *ℤ p c)
+    (λ c cl. ap (λ v. v *ℤ p c) (em.columns c cl) ∙ zero-mul (p c)) in
+    let high : sum_to d.set_rows (λ r. w r *ℤ dot d.set_columns (d.left r) p)
+    ≤ℤ sum_to d.set_rows (λ r. base *ℤ (w r *ℤ d.right r)) = rows_bounded d w base p em.nonnegative lies in
+    let s : sum_to d.set_rows (λ r. base *ℤ (w r *ℤ d.right r)) ≡ base *ℤ dot d.set_rows w d.right =
+    sum_scale d.set_rows base (λ r. w r *ℤ d.right r) in
+    let q : dot d.set_columns (λ c. sum_to d.set_rows (λ r. w r *ℤ d.left r c)) p
+    ≡ sum_to d.set_rows (λ r. w r *ℤ dot d.set_columns (d.left r) p) =
+    dot_rows d.set_rows d.set_columns w d.left p in
     let neg : dot d.set_rows w d.right <ℤ pos 0 = em.below in
-    let f : pos 0 <ℤ (base *ℤ neg_ℤ (dot d.set_rows w d.right)) = mul-pos_z base (neg_ℤ (dot d.set_rows w d.right)) bp (omega (arith, ints)) in
-    let g : base *ℤ neg_ℤ (dot d.set_rows w d.right) ≡ neg_ℤ (base *ℤ dot d.set_rows w d.right) = mul-neg base (dot d.set_rows w d.right) in
+    let f : pos 0 <ℤ (base *ℤ neg_ℤ (dot d.set_rows w d.right)) =
+    mul-pos_z base (neg_ℤ (dot d.set_rows w d.right)) bp (omega (arith, ints)) in
+    let g : base *ℤ neg_ℤ (dot d.set_rows w d.right) ≡ neg_ℤ (base *ℤ dot d.set_rows w d.right) =
+    mul-neg base (dot d.set_rows w d.right) in
     omega (arith, ints)
 
 -- ---- the functions give these programs
@@ -140,4 +162,5 @@ cost_is d f = record {
 }
 
 pub search_is : (d : RobustProgram) (i : ℕ) (z : ℕ → ℤ) → IsSearch d i z (search_of d i z)
-search_is d i z = record { over_set = over_set_is d (λ c. number_at d i c z); cost = cost_is d (λ c. number_at d i c z) }
+search_is d i z =
+    record { over_set = over_set_is d (λ c. number_at d i c z); cost = cost_is d (λ c. number_at d i c z) }

@@ -1,5 +1,5 @@
--- Two opposite columns of a program, as those of a pair are: they are never basic together, and so one of the two numbers that
--- a point or the move of an improving column has there is 0.
+-- Two opposite columns of a program, as those of a pair are: they are never basic together, and so one of the two
+-- numbers that a point or the move of an improving column has there is 0.
 use Rattle.std.proofs.Common.{◌≡◌, ◌≢◌, ℕ, ◌+◌, ◌<◌, ◌≤◌, sym, ap, ◌∙◌, subst, arith, inl, inr, ◌⊎◌}
 use Rattle.std.proofs.lemmas.Int.{ints}
 use Rattle.std.proofs.lemmas.Bool.{cases_eq}
@@ -38,7 +38,9 @@ nonbasic_one m own a b apart =
 -- where a column enters, the opposite one is not basic
 entering_alone : (S : System) (own : Columns) (rows : Matrix) (a b : ℕ) → IsBasis S own rows → a ≤ right S → b ≤ right S
     → ((t : ℕ) → t ≤ S.m → S.start t b ≡ neg_ℤ (S.start t a)) → rows S.m b <ℤ pos 0 → IsNonbasic S.m own a
-entering_alone S own rows a b bas al bl op imp i il e = let z : rows S.m b ≡ pos 0 = opposite_of_basic S own rows a b bas al bl op i il (sym e) in absurd (omega (arith, ints))
+entering_alone S own rows a b bas al bl op imp i il e =
+    let z : rows S.m b ≡ pos 0 = opposite_of_basic S own rows a b bas al bl op i il (sym e) in
+    absurd (omega (arith, ints))
 
 module _ (P : Program) (a b : ℕ) (op : AreOpposite P a b) where
   -- they are opposite in each starting row
@@ -64,7 +66,9 @@ module _ (P : Program) (a b : ℕ) (op : AreOpposite P a b) where
     opposite_apart =
         let al : a < P.n = op.first_in in
         let bl : b < P.n = op.second_in in
-        nonbasic_one P.m own a b (λ i j il jl. opposite_columns_apart (system_of P) own rows a b bas (omega arith) (omega arith) start_opposite i j (omega arith) (omega arith))
+        nonbasic_one P.m own a b
+        (λ i j il jl. opposite_columns_apart (system_of P) own rows a b bas (omega arith) (omega arith)
+        start_opposite i j (omega arith) (omega arith))
 
     pub point_opposite : (x : ℕ → Fraction) → IsBasicPoint (system_of P) own rows x → OneIsZero (x a) (x b)
     point_opposite x p =
@@ -80,15 +84,20 @@ module _ (P : Program) (a b : ℕ) (op : AreOpposite P a b) where
     move_opposite col r imp p =
         let al : a < P.n = op.first_in in
         let bl : b < P.n = op.second_in in
-        let back : (t : ℕ) → t ≤ P.m → starting_row P t a ≡ neg_ℤ (starting_row P t b) = (λ t tl. let q : starting_row P t b ≡ neg_ℤ (starting_row P t a) = start_opposite t tl in omega (arith, ints)) in
+        let back : (t : ℕ) → t ≤ P.m → starting_row P t a ≡ neg_ℤ (starting_row P t b) =
+        (λ t tl. let q : starting_row P t b ≡ neg_ℤ (starting_row P t a) =
+        start_opposite t tl in omega (arith, ints)) in
         elim (cases_eq a col) [
           | inl e ↦
               let im : rows P.m a <ℤ pos 0 = subst (λ v. rows P.m v <ℤ pos 0) (sym e) imp in
-              inr (p.rest b (omega arith) (entering_alone (system_of P) own rows b a bas (omega arith) (omega arith) back im) (λ f. op.apart (e ∙ sym f)))
+              inr (p.rest b (omega arith)
+              (entering_alone (system_of P) own rows b a bas (omega arith) (omega arith) back im)
+              (λ f. op.apart (e ∙ sym f)))
           | inr e ↦ elim (cases_eq b col) [
             | inl f ↦
                 let im : rows P.m b <ℤ pos 0 = subst (λ v. rows P.m v <ℤ pos 0) (sym f) imp in
-                inl (p.rest a (omega arith) (entering_alone (system_of P) own rows a b bas (omega arith) (omega arith) start_opposite im) e)
+                inl (p.rest a (omega arith)
+                (entering_alone (system_of P) own rows a b bas (omega arith) (omega arith) start_opposite im) e)
             | inr f ↦ elim opposite_apart [
               | inl n ↦ inl (p.rest a (omega arith) n e)
               | inr n ↦ inr (p.rest b (omega arith) n f)
@@ -106,7 +115,8 @@ tau_cost_opposite d P co j jl =
       | inr e ↦ (co.cost_decisions j (omega arith)).1 ∙ ap neg_ℤ (sym (co.cost_decisions j (omega arith)).0)
     ]
 
-pub set_pair : (d : RobustProgram) (f : ℕ → ℤ) (P : Program) → IsOverSet d P → HasCost d f P → (c : ℕ) → c < d.set_columns
+pub set_pair : (d : RobustProgram) (f : ℕ → ℤ) (P : Program) → IsOverSet d P → HasCost d f P
+    → (c : ℕ) → c < d.set_columns
     → AreOpposite P (plus c) (minus c)
 set_pair d f P se co c cl =
     let w : P.n ≡ d.set_columns + d.set_columns = se.width in

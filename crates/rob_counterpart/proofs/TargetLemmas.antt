@@ -32,19 +32,23 @@ target-over maximise n total t s b tp sp e =
     let f : pos 1 *ℤ b ≡ b = omega (arith, ints) in
     let g : neg_ℤ (t *ℤ b) ≡ neg_ℤ b *ℤ t = simp ring in
     let e2 : total *ℤ s ≡ neg_ℤ b *ℤ t = *ℤ_comm total s ∙ e ∙ ap (λ v. neg_ℤ (t *ℤ v)) f ∙ g in
-    ap₂ (λ x y. plan_vector x (zeros n) y) (over_same total (neg_ℤ b) t s tp sp e2 ∙ over-neg b s) (sign-over t (pos 1) tp)
+    ap₂ (λ x y. plan_vector x (zeros n) y) (over_same total (neg_ℤ b) t s tp sp e2 ∙ over-neg b s)
+    (sign-over t (pos 1) tp)
 
 -- a bound that gets better
 pub improves-over : (sense : Sense) (b t : ℤ) → pos 0 <ℤ t → pos 0 <ℤ (sign_of sense *ℤ b) → Improves sense (over b t)
-improves-over minimise b t tp h = subst (λ x. over b t <ℚ x) (over-zero t) (over_lt b (pos 0) t tp (omega (arith, ints)))
+improves-over minimise b t tp h =
+    subst (λ x. over b t <ℚ x) (over-zero t) (over_lt b (pos 0) t tp (omega (arith, ints)))
 improves-over maximise b t tp h = over_pos b t tp (omega (arith, ints))
 
 -- numbers that are 0 but for the first and the last
-pub ends-over : (n : ℕ) (e : ℕ → ℤ) (t tau total : ℤ) → e 0 ≡ total → ((j : ℕ) → j < n → e (suc j) ≡ pos 0) → e (suc n) ≡ tau
+pub ends-over : (n : ℕ) (e : ℕ → ℤ) (t tau total : ℤ) → e 0 ≡ total
+    → ((j : ℕ) → j < n → e (suc j) ≡ pos 0) → e (suc n) ≡ tau
     → tabulate (suc (suc n)) (λ j. over (e j) t) ≡ plan_vector (over total t) (zeros n) (over tau t)
 ends-over n e t tau total first middle last =
     tabulate-ends n (λ j. over (e j) t)
     ∙ ap₂ (λ x (xs : List Fraction). x ∷ xs) (ap (λ v. over v t) first)
     (ap₂ (λ (xs : List Fraction) x. xs ++ x ∷ [])
-    (tabulate-same n (λ j. over (e (suc j)) t) (λ j. 0ℚ) (λ j l. ap (λ v. over v t) (middle j l) ∙ over-zero t) ∙ sym (zeros-tabulate n))
+    (tabulate-same n (λ j. over (e (suc j)) t) (λ j. 0ℚ) (λ j l. ap (λ v. over v t) (middle j l) ∙ over-zero t)
+    ∙ sym (zeros-tabulate n))
     (ap (λ v. over v t) last))

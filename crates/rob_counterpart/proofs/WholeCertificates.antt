@@ -1,5 +1,5 @@
--- What the endings of the counterpart show, in scaled whole numbers. The plan z and its amounts stand for themselves over z 0,
--- bases and vectors of the items for themselves over `scale`.
+-- What the endings of the counterpart show, in scaled whole numbers. The plan z and its amounts stand for themselves
+-- over z 0, bases and vectors of the items for themselves over `scale`.
 use Rattle.std.specs.Prelude.{◌≡◌, ℕ, suc, ◌<◌, ℤ, pos, ◌+ℤ◌, ◌-ℤ◌, ◌*ℤ◌, ◌≤ℤ◌, ◌<ℤ◌, neg_ℤ}
 use Rattle.rob_linear.specs.Vectors.{Vector, sum_to, dot}
 use Rattle.rob_counterpart.specs.Reform.{multiplier, positive_row, negative_row, constant_row}
@@ -14,8 +14,8 @@ constant_at d i z = dot (suc (suc d.decisions)) (d.form i 0) z
 abbrev pub value_at : RobustProgram → ℕ → ℤ → Vector → Vector → ℤ
 value_at d i base p z = (base *ℤ constant_at d i z) +ℤ dot d.set_columns p (λ c. number_at d i c z)
 
--- The amounts, one for each set row, bound form i at the plan z: none is negative, the set rows times them sum to s times the
--- form's numbers, and the right sides times them, with s times its constant part, to at most 0.
+-- The amounts, one for each set row, bound form i at the plan z: none is negative, the set rows times them sum to s
+-- times the form's numbers, and the right sides times them, with s times its constant part, to at most 0.
 pub record BoundsForm (d : RobustProgram) (i : ℕ) (s : ℤ) (z amounts : Vector) : Type 0 where
   pub nonnegative : (r : ℕ) → r < d.set_rows → pos 0 ≤ℤ amounts r
   pub columns : (c : ℕ) → c < d.set_columns → sum_to d.set_rows (λ r. amounts r *ℤ d.left r c) ≡ s *ℤ number_at d i c z
@@ -38,7 +38,8 @@ base_of d y i = y (constant_row d i)
 abbrev pub vector_of : RobustProgram → (ℕ → ℤ) → ℕ → ℕ → ℤ
 vector_of d y i c = y (negative_row d i c) -ℤ y (positive_row d i c)
 
--- weights on the set rows that show that no point is in the set: they sum to 0 on each column, and to less than 0 on the right
+-- weights on the set rows that show that no point is in the set: they sum to 0
+-- on each column, and to less than 0 on the right
 pub record ShowsSetEmpty (d : RobustProgram) (w : ℕ → ℤ) : Type 0 where
   pub nonnegative : (r : ℕ) → r < d.set_rows → pos 0 ≤ℤ w r
   pub columns : (c : ℕ) → c < d.set_columns → sum_to d.set_rows (λ r. w r *ℤ d.left r c) ≡ pos 0
@@ -59,8 +60,10 @@ pub record ItemsSum (d : RobustProgram) (bases : ℕ → ℤ) (vectors : ℕ →
   pub on_tau : items_entry d bases vectors (suc d.decisions) ≡ tau
   pub on_constant : items_entry d bases vectors 0 ≡ constant
 
--- the items sum to 0 on each decision column, to the sense on tau, and to minus the sense times the plan's bound on the constant
-pub record ShowsOptimal (d : RobustProgram) (z : ℕ → ℤ) (amounts : ℕ → ℕ → ℤ) (scale : ℤ) (bases : ℕ → ℤ) (vectors : ℕ → ℕ → ℤ) : Type 0 where
+-- the items sum to 0 on each decision column, to the sense on tau, and to minus
+-- the sense times the plan's bound on the constant
+pub record ShowsOptimal (d : RobustProgram) (z : ℕ → ℤ) (amounts : ℕ → ℕ → ℤ) (scale : ℤ) (bases : ℕ → ℤ)
+    (vectors : ℕ → ℕ → ℤ) : Type 0 where
   pub plan_scale : pos 0 <ℤ z 0
   pub covers : BoundsForms d z amounts
   pub items_scale : pos 0 <ℤ scale
@@ -75,7 +78,8 @@ pub record ShowsInfeasible (d : RobustProgram) (bases : ℕ → ℤ) (vectors : 
   pub positive : pos 0 <ℤ total
 
 -- every form is bounded at the plan and at the direction, and the direction's bound gets better
-pub record ShowsUnbounded (d : RobustProgram) (z : ℕ → ℤ) (amounts : ℕ → ℕ → ℤ) (step : ℕ → ℤ) (holds : ℕ → ℕ → ℤ) : Type 0 where
+pub record ShowsUnbounded (d : RobustProgram) (z : ℕ → ℤ) (amounts : ℕ → ℕ → ℤ) (step : ℕ → ℤ)
+    (holds : ℕ → ℕ → ℤ) : Type 0 where
   pub plan_scale : pos 0 <ℤ z 0
   pub covers : BoundsForms d z amounts
   pub direction : step 0 ≡ pos 0
@@ -86,7 +90,8 @@ pub record ShowsUnbounded (d : RobustProgram) (z : ℕ → ℤ) (amounts : ℕ �
 abbrev pub cuts_entry : RobustProgram → Cuts → Vector → ℕ → ℤ
 cuts_entry d cuts weight j = sum_to cuts.count (λ q. weight q *ℤ cut_entry d cuts q j)
 
--- weights of at least 0, with which the cuts sum to 0 on each decision column and to these numbers on tau and the constant
+-- weights of at least 0, with which the cuts sum to 0 on each decision column
+-- and to these numbers on tau and the constant
 pub record CutsSum (d : RobustProgram) (cuts : Cuts) (weight : ℕ → ℤ) (tau constant : ℤ) : Type 0 where
   pub nonnegative : (q : ℕ) → q < cuts.count → pos 0 ≤ℤ weight q
   pub decisions : (j : ℕ) → j < d.decisions → cuts_entry d cuts weight (suc j) ≡ pos 0

@@ -1,5 +1,6 @@
 -- A counterpart worked by hand: minimise y, where y is at least d in every scenario, and d lies between 0 and 1.
--- Forms: y - tau, and d - y. Set rows: -d <= 0, and d <= 1. Columns: y in two, tau in two, two multipliers for each form.
+-- Forms: y - tau, and d - y. Set rows: -d <= 0, and d <= 1. Columns: y in two,
+-- tau in two, two multipliers for each form.
 use Rattle.std.proofs.Common.{◌≡◌, ℕ, zero, suc, List, [], ◌∷◌, refl}
 use lib.IntN.{ℤ, pos, negsuc}
 use Rattle.rob_linear.specs.Programs.{Program}
@@ -58,5 +59,6 @@ set_rows : rows_of (set_of example) ≡ (negsuc 0 ∷ pos 1 ∷ []) ∷ (pos 1 �
 set_rows = refl
 
 -- the worst case of d - y: its cost is 1 in d, whatever the plan
-search_costs : (z : ℕ → ℤ) → z 0 ≡ pos 1 → z 1 ≡ pos 7 → z 2 ≡ pos 7 → costs_of (search_of example 1 z) ≡ pos 1 ∷ negsuc 0 ∷ []
+search_costs : (z : ℕ → ℤ) → z 0 ≡ pos 1 → z 1 ≡ pos 7 → z 2 ≡ pos 7
+    → costs_of (search_of example 1 z) ≡ pos 1 ∷ negsuc 0 ∷ []
 search_costs z a b c = rw (a, b, c) refl

@@ -1,4 +1,5 @@
--- In a basis of the counterpart the columns of a pair are never basic together, and of two equating rows one slack is basic.
+-- In a basis of the counterpart the columns of a pair are never basic together,
+-- and of two equating rows one slack is basic.
 use Rattle.rob_linear.specs.Vectors.{Columns}
 use Rattle.std.specs.Prelude.{◌≡◌, ◌≢◌, ℕ, ◌+◌, ◌<◌, ◌≤◌, ◌⊎◌}
 use Rattle.rob_linear.specs.Programs.{Program}

@@ -1,4 +1,5 @@
--- The linear programs that are solved for a model: over its set, for the worst case of a form, the counterpart, the master.
+-- The linear programs that are solved for a model: over its set, for the worst
+-- case of a form, the counterpart, the master.
 use Rattle.std.specs.Prelude.{ℕ, ℤ, pos, negsuc, List, [], length, map, slice_index_or}
 use Rattle.rob_linear.specs.Vectors.{Vector, at}
 use Rattle.rob_linear.specs.Programs.{Program}

@@ -27,7 +27,8 @@ pub record InfeasibleEnding (P : Program) (own : Columns) (rows : Matrix) : Type
   pub ends : EndsInfeasible P rows
 
 -- a basis that is unbounded in the column, with its basic solution x and its move r
-pub record UnboundedEnding (P : Program) (own : Columns) (rows : Matrix) (column : ℕ) (x r : ℕ → Fraction) : Type 0 where
+pub record UnboundedEnding (P : Program) (own : Columns) (rows : Matrix) (column : ℕ)
+    (x r : ℕ → Fraction) : Type 0 where
   pub basis : IsBasis (system_of P) own rows
   pub ends : EndsUnbounded (system_of P) own rows column
   pub point : IsBasicPoint (system_of P) own rows x

@@ -1,5 +1,6 @@
 -- Certificates that are read off the endings of a model's counterpart: numbers of a basic solution, of a move, of dual
--- values or of Farkas weights. The columns of a pair, and a pair of equating rows, count as the difference of their numbers.
+-- values or of Farkas weights. The columns of a pair, and a pair of equating
+-- rows, count as the difference of their numbers.
 use Rattle.rob_linear.specs.Vectors.{Matrix, Columns}
 use Rattle.std.specs.Prelude.{◌≡◌, ℕ, ◌<◌, List, [], length}
 use Rattle.rob_algebra.specs.Fraction.{Fraction, of_int}

@@ -1,6 +1,6 @@
--- Certificates that are read off the numbers of an ending, as functions of whole numbers alone: points, moves, dual values
--- and Farkas weights. The columns of a pair, and a pair of equating rows, count as the difference of their numbers. The parts
--- that a status has no use for are empty, 0, or 1 for the scale.
+-- Certificates that are read off the numbers of an ending, as functions of whole numbers alone: points, moves, dual
+-- values and Farkas weights. The columns of a pair, and a pair of equating rows, count as the difference of their
+-- numbers. The parts that a status has no use for are empty, 0, or 1 for the scale.
 use Rattle.std.specs.Prelude.{ℕ, Bool, true, ◌&&◌, if◌then◌else◌, List, [], ◌∷◌, ◌++◌}
 use Rattle.rob_algebra.specs.Fraction.{Fraction, ◌-ℚ◌}
 use Rattle.rob_algebra.specs.FractionOrder.{eq_ℚ}

@@ -1,8 +1,9 @@
 -- The robust counterpart as one linear program: duality of linear programs, form by form.
 -- Ben-Tal, El Ghaoui, Nemirovski, Robust Optimization (2009), chapter 1.
 -- Columns: each decision column and tau as a pair; then a multiplier for each form and set row.
--- Rows, for each form: for each set column two rows that equate the multipliers' sum of the set rows with the form's number
--- at the plan, the one with the positive multipliers first; then one row that bounds the multipliers' sum of the right sides.
+-- Rows, for each form: for each set column two rows that equate the multipliers' sum
+-- of the set rows with the form's number at the plan, the one with the positive
+-- multipliers first; then one row that bounds the multipliers' sum of the right sides.
 use Rattle.rob_linear.specs.Vectors.{Vector}
 use Rattle.std.specs.Prelude.{◌≡◌, ◌≢◌, ℕ, suc, ◌<◌, ◌≤◌, ◌+◌, ◌*◌, ◌-◌, ◌/◌, ◌%◌, nat_lt, nat_eq, cond, ℤ, pos, neg_ℤ}
 use Rattle.rob_linear.specs.Programs.{Program}

@@ -1,6 +1,7 @@
 -- Robust programs in whole numbers: forms over the rows of a lifted uncertainty set, and their cuts.
 -- Ben-Tal, El Ghaoui, Nemirovski, Robust Optimization (2009), chapter 1.
--- A plan is a vector z: z 0 is its scale (0 at a direction), z 1 .. z decisions are its columns, and tau stands behind them.
+-- A plan is a vector z: z 0 is its scale (0 at a direction), z 1 .. z decisions
+-- are its columns, and tau stands behind them.
 use Rattle.std.specs.Prelude.{ℕ, suc, nat_lt, cond, ℤ, pos, ◌+ℤ◌, ◌*ℤ◌}
 use Rattle.rob_linear.specs.Vectors.{Vector, dot}
 

@@ -1,5 +1,5 @@
--- Programs over the lifted uncertainty set: whether it is empty, and the worst case of a form at a plan (the separation, or
--- pessimisation, problem). Set columns in pairs, the set rows.
+-- Programs over the lifted uncertainty set: whether it is empty, and the worst case of a form at a plan (the
+-- separation, or pessimisation, problem). Set columns in pairs, the set rows.
 use Rattle.rob_linear.specs.Vectors.{Vector}
 use Rattle.std.specs.Prelude.{◌≡◌, ℕ, ◌+◌, ◌/◌, ◌<◌, pos, neg_ℤ}
 use Rattle.rob_linear.specs.Programs.{Program}

@@ -1,5 +1,5 @@
--- Free columns in programs whose columns are at least 0: each is split in two, and the first of the pair counts positively.
--- Chvatal, Linear Programming (1983), chapter 1.
+-- Free columns in programs whose columns are at least 0: each is split in two, and the first of the pair counts
+-- positively. Chvatal, Linear Programming (1983), chapter 1.
 use Rattle.std.specs.Prelude.{◌≡◌, ℕ, suc, ◌+◌, ◌%◌, ◌⊎◌, nat_eq, cond, ℤ, neg_ℤ}
 use Rattle.rob_algebra.specs.Fraction.{Fraction, ◌-ℚ◌}
 use Rattle.rob_meaning.specs.Places.{0ℚ}

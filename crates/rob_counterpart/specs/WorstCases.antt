@@ -1,5 +1,5 @@
--- The worst case of a form at a plan, and what shows it. Bertsimas, Dunning, Lubin, Reformulation versus cutting-planes for
--- robust optimization (2016).
+-- The worst case of a form at a plan, and what shows it. Bertsimas, Dunning, Lubin, Reformulation versus cutting-planes
+-- for robust optimization (2016).
 use Rattle.std.specs.Prelude.{◌≡◌, ℕ, List, ◌++◌, length}
 use Rattle.rob_algebra.specs.Fraction.{Fraction, of_int, ◌≤ℚ◌, ◌<ℚ◌}
 use Rattle.rob_algebra.specs.FractionLists.{AllNonneg}
@@ -28,7 +28,8 @@ pub record IsWorstCase (m : RobustModel) (i : ℕ) (z scenario amounts : List Fr
   pub worst : (u : List Fraction) → Admits m u → form_at m i 1ℚ u z ≤ℚ form_at m i 1ℚ scenario z
   pub count : length amounts ≡ length (set_rows m)
   pub nonnegative : AllNonneg amounts
-  pub columns : vec_mat (set_column_count m) amounts (set_matrix m) ≡ parameter_part m i z ++ zeros (lift_count m.set_lines)
+  pub columns : vec_mat (set_column_count m) amounts (set_matrix m)
+      ≡ parameter_part m i z ++ zeros (lift_count m.set_lines)
   pub peak : dot amounts (set_limits m) ≡ dot (parameter_part m i z) scenario
 
 -- along the ray of the set form i grows without end

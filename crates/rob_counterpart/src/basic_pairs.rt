@@ -15,9 +15,9 @@ ghost use Rattle.rob_linear.specs.Programs.{Program, system_of};
 ghost use Rattle.rob_linear.specs.Systems.{IsBasis};
 ghost use Rattle.std.specs.Prelude.{◌≡◌, ◌<◌, ◌≤◌, ◌⊎◌, ℕ, ℤ};
 
-/// In every basis of the counterpart, and at every infeasible ending of its auxiliary form, the columns of a pair are never
-/// basic together, and of two equating rows one slack is basic. In every basis of a program over the set, and of a master, the
-/// columns of a pair are never basic together.
+/// In every basis of the counterpart, and at every infeasible ending of its auxiliary form, the columns of a pair
+/// are never basic together, and of two equating rows one slack is basic. In every basis of a program over the set,
+/// and of a master, the columns of a pair are never basic together.
 pub fn basis_laws()
     ensures counterpart { (d : RobustProgram) (P : Program) (own : Columns) (rows : Matrix)
         → IsReform d P → IsBasis (system_of P) own rows → KeepsPairs d P own }
@@ -31,8 +31,8 @@ pub fn basis_laws()
         → IsBasis (system_of P) own rows → KeepsPair P.m own j }
 {}
 
-/// So of two numbers that are read as a difference one is 0, and the difference is one of them or its negation: no number
-/// that is read is wider than those of the basis.
+/// So of two numbers that are read as a difference one is 0, and the difference is one of them or its negation: no
+/// number that is read is wider than those of the basis.
 pub fn difference_laws()
     ensures difference { (a b : Fraction) → OneIsZero a b → (a -ℚ b ≡ a) ⊎ (a -ℚ b ≡ neg_ℚ b) }
     ensures point { (d : RobustProgram) (P : Program) (own : Columns) (rows : Matrix)

@@ -23,7 +23,8 @@ pub fn place_laws()
     ensures master { (d : RobustProgram) (cuts : Cuts) → IsMaster d cuts (master_of d cuts) }
 {}
 
-/// Each program that is so described has the numbers of the function, and so its starting rows, its bases and its endings.
+/// Each program that is so described has the numbers of the function, and so its starting rows, its bases and its
+/// endings.
 pub fn sameness_laws()
     ensures counterpart { (d : RobustProgram) (P : Program) → IsReform d P → AreSame P (reform d) }
     ensures over_set { (d : RobustProgram) (f : Vector) (P : Program)

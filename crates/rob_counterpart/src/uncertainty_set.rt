@@ -14,8 +14,8 @@ ghost use Rattle.rob_meaning.specs.UncertaintySet.{Admits, IsEmptyIn, IsEmptySet
 ghost use Rattle.rob_meaning.specs.WellFormed.{IsModel};
 ghost use Rattle.std.specs.Prelude.{ℕ, ℤ};
 
-/// What the set's program says of scenarios. Where it ends infeasible, its Farkas weights show that no scenario is admitted;
-/// where it stands at a feasible basis, the parameters of the basic solution are an admitted scenario.
+/// What the set's program says of scenarios. Where it ends infeasible, its Farkas weights show that no scenario is
+/// admitted; where it stands at a feasible basis, the parameters of the basic solution are an admitted scenario.
 pub fn set_laws()
     ensures weights { (m : RobustModel) (own : Columns) (rows : Matrix)
         → InfeasibleEnding (set_program m) own rows → ShowsEmpty m (weights_read m rows) }

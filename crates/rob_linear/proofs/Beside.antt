@@ -1,4 +1,5 @@
--- The first phase with the auxiliary column kept out: the rows of the basis of the path, from those of the basis beside it.
+-- The first phase with the auxiliary column kept out: the rows of the basis of
+-- the path, from those of the basis beside it.
 use Rattle.std.proofs.Common.{◌≡◌, ◌≢◌, ℕ, suc, ◌+◌, ◌<◌, ◌≤◌, sym, ap, ◌∙◌, subst, arith, inl, inr, cond, eqb, ltb}
 use Rattle.std.proofs.lemmas.Int.{ints}
 use Rattle.std.proofs.lemmas.Bool.{cases_eq, cases_lt}
@@ -20,13 +21,15 @@ use Rattle.rob_linear.proofs.Turns.{own_low, own_high}
 use Rattle.rob_linear.proofs.Programs.{auxiliary_cost_zero, auxiliary_cost_entry, auxiliary_cost_objective}
 use Rattle.rob_linear.proofs.Multiples.{parallel_refl, parallel_sym, multiple_parallel, multiples_in, cleared_row, pivot_row}
 
-pub neg_along : (S : System) (own : ℕ → ℕ) (i : ℕ) (r : ℕ → ℤ) → LiesAlong S own i r → LiesAlong S own i (λ k. neg_ℤ (r k))
+pub neg_along : (S : System) (own : ℕ → ℕ) (i : ℕ) (r : ℕ → ℤ) → LiesAlong S own i r
+    → LiesAlong S own i (λ k. neg_ℤ (r k))
 neg_along S own i r a = record {
   zeros = λ j jl d. ap neg_ℤ (a.zeros j jl d);
   spanned = λ k kl.
       ap neg_ℤ (a.spanned k kl)
       ∙ sym (sum_neg (suc S.m) (λ t. r (S.tag t) *ℤ S.start t k))
-      ∙ sum_ext (suc S.m) (λ t. neg_ℤ (r (S.tag t) *ℤ S.start t k)) (λ t. neg_ℤ (r (S.tag t)) *ℤ S.start t k) (λ t tl. simp ring);
+      ∙ sum_ext (suc S.m) (λ t. neg_ℤ (r (S.tag t) *ℤ S.start t k))
+      (λ t. neg_ℤ (r (S.tag t)) *ℤ S.start t k) (λ t tl. simp ring);
 }
 
 pub kept_is : (P : Program) (t k : ℕ) → t < P.m → kept_row P t k ≡ auxiliary_row P t k
@@ -56,7 +59,8 @@ objective_at P r = grind (arith, nat_tests)
 pub objective_column : (P : Program) (r : ℕ → ℤ) → beside_objective P r (P.n + P.m) ≡ pos 0
 objective_column P r = grind (arith, nat_tests)
 
-pub objective_other : (P : Program) (r : ℕ → ℤ) (k : ℕ) → k ≢ P.n + P.m → k ≢ suc (P.n + P.m) → beside_objective P r k ≡ r k
+pub objective_other : (P : Program) (r : ℕ → ℤ) (k : ℕ) → k ≢ P.n + P.m → k ≢ suc (P.n + P.m)
+    → beside_objective P r k ≡ r k
 objective_other P r k d e = grind (arith, nat_tests)
 
 -- ---- the rows of the basis of the path, without a division
@@ -65,15 +69,18 @@ abbrev pub back_row : Program → ℕ → (ℕ → ℕ → ℤ) → ℕ → ℕ 
 back_row P q rows i k = (neg_ℤ (rows q (P.n + P.m)) *ℤ rows i k) +ℤ (rows i (P.n + P.m) *ℤ rows q k)
 
 abbrev pub back_rows : Program → ℕ → (ℕ → ℕ → ℤ) → ℕ → ℕ → ℤ
-back_rows P q rows i = cond (eqb i q) (λ k. neg_ℤ (rows q k)) (cond (ltb i P.m) (back_row P q rows i) (beside_objective P (rows q)))
+back_rows P q rows i =
+    cond (eqb i q) (λ k. neg_ℤ (rows q k)) (cond (ltb i P.m) (back_row P q rows i) (beside_objective P (rows q)))
 
 pub back_at : (P : Program) (q : ℕ) (rows : ℕ → ℕ → ℤ) → back_rows P q rows q ≡ (λ k. neg_ℤ (rows q k))
 back_at P q rows = grind (arith, nat_tests)
 
-pub back_other : (P : Program) (q : ℕ) (rows : ℕ → ℕ → ℤ) (i : ℕ) → i < P.m → i ≢ q → back_rows P q rows i ≡ back_row P q rows i
+pub back_other : (P : Program) (q : ℕ) (rows : ℕ → ℕ → ℤ) (i : ℕ) → i < P.m → i ≢ q
+    → back_rows P q rows i ≡ back_row P q rows i
 back_other P q rows i l d = grind (arith, nat_tests)
 
-pub back_last : (P : Program) (q : ℕ) (rows : ℕ → ℕ → ℤ) → q < P.m → back_rows P q rows P.m ≡ beside_objective P (rows q)
+pub back_last : (P : Program) (q : ℕ) (rows : ℕ → ℕ → ℤ) → q < P.m
+    → back_rows P q rows P.m ≡ beside_objective P (rows q)
 back_last P q rows ql = grind (arith, nat_tests)
 
 -- ---- the rows of the basis of the path
@@ -99,7 +106,8 @@ module _ (P : Program) (basis : ℕ → ℕ) (q f : ℕ) (rows : ℕ → ℕ →
       elim (cases_eq j q) [
         | inl c ↦
             let p : pos 0 <ℤ rows q (own_of (kept_of P) (put_at basis q f) q) = (row_in q (omega arith)).positive in
-            let x : rows q (own_of (kept_of P) (put_at basis q f) q) ≡ rows q (P.n + P.m) = ap (rows q) (ap (own_of (kept_of P) (put_at basis q f)) (sym c) ∙ e) in
+            let x : rows q (own_of (kept_of P) (put_at basis q f) q) ≡ rows q (P.n + P.m) =
+            ap (rows q) (ap (own_of (kept_of P) (put_at basis q f)) (sym c) ∙ e) in
             absurd (omega (arith, ints))
         | inr d ↦
             let z : rows q (own_of (kept_of P) (put_at basis q f) j) ≡ pos 0 = (row_in q (omega arith)).zeros j jl d in
@@ -111,11 +119,13 @@ module _ (P : Program) (basis : ℕ → ℕ) (q f : ℕ) (rows : ℕ → ℕ →
   last_beside = s.multiples.last
 
   -- the rows before m are rows of the auxiliary form too
-  pub to_auxiliary : (own : ℕ → ℕ) (i : ℕ) (r : ℕ → ℤ) → own P.m ≡ suc (P.n + P.m) → i < P.m → IsMultipleRow (kept_of P) own i r → IsMultipleRow (auxiliary_of P) own i r
+  pub to_auxiliary : (own : ℕ → ℕ) (i : ℕ) (r : ℕ → ℤ) → own P.m ≡ suc (P.n + P.m) → i < P.m
+      → IsMultipleRow (kept_of P) own i r → IsMultipleRow (auxiliary_of P) own i r
   to_auxiliary own i r om il h = record {
     along = record {
       zeros = h.zeros;
-      spanned = spanned_restarted (kept_of P) (auxiliary_row P) r (kept_tagged P).last (ap r (sym om) ∙ h.zeros P.m (omega arith) (omega arith)) (λ t k tl kl. kept_is P t k tl) h.spanned;
+      spanned = spanned_restarted (kept_of P) (auxiliary_row P) r (kept_tagged P).last
+          (ap r (sym om) ∙ h.zeros P.m (omega arith) (omega arith)) (λ t k tl kl. kept_is P t k tl) h.spanned;
     };
     positive = h.positive;
   }
@@ -130,7 +140,8 @@ module _ (P : Program) (basis : ℕ → ℕ) (q f : ℕ) (rows : ℕ → ℕ →
       spanned = (start_along (auxiliary_of P) (auxiliary_tagged P) P.m (omega arith)).spanned;
     };
     positive =
-        let e : auxiliary_row P P.m (own_of (kept_of P) (put_at basis q f) P.m) ≡ pos 1 = ap (auxiliary_row P P.m) last_beside ∙ auxiliary_cost_objective P in
+        let e : auxiliary_row P P.m (own_of (kept_of P) (put_at basis q f) P.m) ≡ pos 1 =
+        ap (auxiliary_row P P.m) last_beside ∙ auxiliary_cost_objective P in
         omega (arith, ints);
   }
 
@@ -138,31 +149,47 @@ module _ (P : Program) (basis : ℕ → ℕ) (q f : ℕ) (rows : ℕ → ℕ →
   own_last = own_high (kept_of P) basis P.m (omega arith)
 
   -- any row of position m, cleared of the auxiliary column, is the auxiliary objective's
-  pub cost_cleared : (new : ℕ → ℤ) → IsClearedBy (suc (suc (suc (P.n + P.m)))) (P.n + P.m) (auxiliary_row P P.m) (rows q) new → IsMultipleRow (auxiliary_of P) (own_of (kept_of P) basis) P.m new
+  pub cost_cleared : (new : ℕ → ℤ)
+      → IsClearedBy (suc (suc (suc (P.n + P.m)))) (P.n + P.m) (auxiliary_row P P.m) (rows q) new
+      → IsMultipleRow (auxiliary_of P) (own_of (kept_of P) basis) P.m new
   cost_cleared new c =
       let ql : q < P.m = s.inside in
-      cleared_row (auxiliary_of P) (own_of (kept_of P) (put_at basis q f)) (own_of (kept_of P) basis) (auxiliary_row P P.m) (rows q) new q (P.n + P.m) P.m (tags_in (auxiliary_of P) (auxiliary_tagged P)) bound own_at own_other (omega arith) (omega arith)
-      cost_beside (to_auxiliary (own_of (kept_of P) (put_at basis q f)) q (rows q) last_beside ql (row_in q (omega arith))).along c
+      cleared_row (auxiliary_of P) (own_of (kept_of P) (put_at basis q f)) (own_of (kept_of P) basis)
+      (auxiliary_row P P.m) (rows q) new q (P.n + P.m) P.m (tags_in (auxiliary_of P) (auxiliary_tagged P)) bound
+      own_at own_other (omega arith) (omega arith)
+      cost_beside
+      (to_auxiliary (own_of (kept_of P) (put_at basis q f)) q (rows q) last_beside ql
+      (row_in q (omega arith))).along c
 
   -- the rows of the other positions, the kept one too
-  pub other_cleared : (i : ℕ) (new : ℕ → ℤ) → i ≤ P.m → i ≢ q → IsClearedBy (suc (suc (suc (P.n + P.m)))) (P.n + P.m) (rows i) (rows q) new → IsMultipleRow (kept_of P) (own_of (kept_of P) basis) i new
+  pub other_cleared : (i : ℕ) (new : ℕ → ℤ) → i ≤ P.m → i ≢ q
+      → IsClearedBy (suc (suc (suc (P.n + P.m)))) (P.n + P.m) (rows i) (rows q) new
+      → IsMultipleRow (kept_of P) (own_of (kept_of P) basis) i new
   other_cleared i new il d c =
       let ql : q < P.m = s.inside in
-      cleared_row (kept_of P) (own_of (kept_of P) (put_at basis q f)) (own_of (kept_of P) basis) (rows i) (rows q) new q (P.n + P.m) i (tags_in (kept_of P) (kept_tagged P)) bound own_at own_other il d (row_in i il) (row_in q (omega arith)).along c
+      cleared_row (kept_of P) (own_of (kept_of P) (put_at basis q f)) (own_of (kept_of P) basis) (rows i) (rows q) new q
+      (P.n + P.m) i (tags_in (kept_of P) (kept_tagged P)) bound own_at own_other il d (row_in i il)
+      (row_in q (omega arith)).along c
 
   -- row q turned round
-  pub round_is : (new : ℕ → ℤ) → IsParallel (suc (suc (suc (P.n + P.m)))) new (λ k. neg_ℤ (rows q k)) → IsMultipleRow (kept_of P) (own_of (kept_of P) basis) q new
+  pub round_is : (new : ℕ → ℤ) → IsParallel (suc (suc (suc (P.n + P.m)))) new (λ k. neg_ℤ (rows q k))
+      → IsMultipleRow (kept_of P) (own_of (kept_of P) basis) q new
   round_is new h =
       let ql : q < P.m = s.inside in
       let n : rows q (P.n + P.m) <ℤ pos 0 = s.below in
       let m : IsMultipleRow (kept_of P) (own_of (kept_of P) basis) q (λ k. neg_ℤ (rows q k)) =
-      pivot_row (kept_of P) (own_of (kept_of P) (put_at basis q f)) (own_of (kept_of P) basis) (λ k. neg_ℤ (rows q k)) q (P.n + P.m) own_at own_other
-      (neg_along (kept_of P) (own_of (kept_of P) (put_at basis q f)) q (rows q) (row_in q (omega arith)).along) (omega (arith, ints)) in
-      multiple_parallel (kept_of P) (own_of (kept_of P) basis) q (λ k. neg_ℤ (rows q k)) new (tags_in (kept_of P) (kept_tagged P)) bound_at (omega arith) (parallel_sym (suc (suc (suc (P.n + P.m)))) new (λ k. neg_ℤ (rows q k)) h) m
+      pivot_row (kept_of P) (own_of (kept_of P) (put_at basis q f)) (own_of (kept_of P) basis) (λ k. neg_ℤ (rows q k)) q
+      (P.n + P.m) own_at own_other
+      (neg_along (kept_of P) (own_of (kept_of P) (put_at basis q f)) q (rows q) (row_in q (omega arith)).along)
+      (omega (arith, ints)) in
+      multiple_parallel (kept_of P) (own_of (kept_of P) basis) q (λ k. neg_ℤ (rows q k)) new
+      (tags_in (kept_of P) (kept_tagged P)) bound_at (omega arith)
+      (parallel_sym (suc (suc (suc (P.n + P.m)))) new (λ k. neg_ℤ (rows q k)) h) m
     where
       bound_at : (j : ℕ) → j ≤ P.m → own_of (kept_of P) basis j ≤ suc (suc (P.n + P.m))
       bound_at j l = elim (cases_eq j q) [
-        | inl c ↦ let e : own_of (kept_of P) basis j ≡ P.n + P.m = ap (own_of (kept_of P) basis) c ∙ own_at in omega arith
+        | inl c ↦ let e : own_of (kept_of P) basis j ≡ P.n + P.m =
+            ap (own_of (kept_of P) basis) c ∙ own_at in omega arith
         | inr d ↦ subst (λ v. v ≤ suc (suc (P.n + P.m))) (sym (own_other j d)) (bound j l)
       ]
 
@@ -173,21 +200,27 @@ module _ (P : Program) (basis : ℕ → ℕ) (q f : ℕ) (rows : ℕ → ℕ →
   ]
 
   -- rows of the auxiliary form, from any such pivot: the way back to the explicit form
-  pub back : (new : ℕ → ℕ → ℤ) → IsParallel (suc (suc (suc (P.n + P.m)))) (new q) (λ k. neg_ℤ (rows q k)) → ((i : ℕ) → i < P.m → i ≢ q → IsClearedBy (suc (suc (suc (P.n + P.m)))) (P.n + P.m) (rows i) (rows q) (new i)) → IsClearedBy (suc (suc (suc (P.n + P.m)))) (P.n + P.m) (auxiliary_row P P.m) (rows q) (new P.m) → HasMultipleRows (auxiliary_of P) (own_of (auxiliary_of P) basis) new
+  pub back : (new : ℕ → ℕ → ℤ) → IsParallel (suc (suc (suc (P.n + P.m)))) (new q) (λ k. neg_ℤ (rows q k))
+      → ((i : ℕ) → i < P.m → i ≢ q → IsClearedBy (suc (suc (suc (P.n + P.m)))) (P.n + P.m) (rows i) (rows q) (new i))
+      → IsClearedBy (suc (suc (suc (P.n + P.m)))) (P.n + P.m) (auxiliary_row P P.m) (rows q) (new P.m)
+      → HasMultipleRows (auxiliary_of P) (own_of (auxiliary_of P) basis) new
   back new at others cost = record {
     inside = own_inside;
     last = own_last;
     rows_of = λ i il. elim (cases_eq i P.m) [
-      | inl c ↦ subst (λ v. IsMultipleRow (auxiliary_of P) (own_of (kept_of P) basis) v (new v)) (sym c) (cost_cleared (new P.m) cost)
+      | inl c ↦ subst (λ v. IsMultipleRow (auxiliary_of P) (own_of (kept_of P) basis) v (new v)) (sym c)
+          (cost_cleared (new P.m) cost)
       | inr c ↦ to_auxiliary (own_of (kept_of P) basis) i (new i) own_last (omega arith) (elim (cases_eq i q) [
-        | inl g ↦ subst (λ v. IsMultipleRow (kept_of P) (own_of (kept_of P) basis) v (new v)) (sym g) (round_is (new q) at)
+        | inl g ↦ subst (λ v. IsMultipleRow (kept_of P) (own_of (kept_of P) basis) v (new v))
+            (sym g) (round_is (new q) at)
         | inr d ↦ other_cleared i (new i) il d (others i (omega arith) d)
       ])
     ];
   }
 
   -- ---- those without a division
-  pub objective_cleared : IsClearedBy (suc (suc (suc (P.n + P.m)))) (P.n + P.m) (auxiliary_row P P.m) (rows q) (beside_objective P (rows q))
+  pub objective_cleared : IsClearedBy (suc (suc (suc (P.n + P.m)))) (P.n + P.m) (auxiliary_row P P.m) (rows q)
+      (beside_objective P (rows q))
   objective_cleared =
       let ql : q < P.m = s.inside in
       let n : rows q (P.n + P.m) <ℤ pos 0 = s.below in
@@ -201,20 +234,28 @@ module _ (P : Program) (basis : ℕ → ℕ) (q f : ℕ) (rows : ℕ → ℕ →
             elim (cases_eq k (P.n + P.m)) [
               | inl c ↦
                   let a : auxiliary_row P P.m k ≡ pos 1 = ap (auxiliary_row P P.m) c ∙ auxiliary_cost_entry P in
-                  let b : beside_objective P (rows q) k ≡ pos 0 = ap (beside_objective P (rows q)) c ∙ objective_column P (rows q) in
+                  let b : beside_objective P (rows q) k ≡ pos 0 =
+                  ap (beside_objective P (rows q)) c ∙ objective_column P (rows q) in
                   let x : rows q k ≡ rows q (P.n + P.m) = ap (rows q) c in
-                  let y : neg_ℤ (rows q (P.n + P.m)) *ℤ auxiliary_row P P.m k ≡ neg_ℤ (rows q (P.n + P.m)) = ap (λ v. neg_ℤ (rows q (P.n + P.m)) *ℤ v) a ∙ mul-one (neg_ℤ (rows q (P.n + P.m))) in
+                  let y : neg_ℤ (rows q (P.n + P.m)) *ℤ auxiliary_row P P.m k ≡ neg_ℤ (rows q (P.n + P.m)) =
+                  ap (λ v. neg_ℤ (rows q (P.n + P.m)) *ℤ v) a ∙ mul-one (neg_ℤ (rows q (P.n + P.m))) in
                   omega (arith, ints)
               | inr d ↦ elim (cases_eq k (suc (P.n + P.m))) [
                 | inl c ↦
                     let a : auxiliary_row P P.m k ≡ pos 1 = ap (auxiliary_row P P.m) c ∙ auxiliary_cost_objective P in
-                    let b : beside_objective P (rows q) k ≡ neg_ℤ (rows q (P.n + P.m)) = ap (beside_objective P (rows q)) c ∙ objective_at P (rows q) in
-                    let z : rows q (own_of (kept_of P) (put_at basis q f) P.m) ≡ pos 0 = (row_in q (omega arith)).zeros P.m (omega arith) (omega arith) in
-                    let x : rows q k ≡ rows q (own_of (kept_of P) (put_at basis q f) P.m) = ap (rows q) (c ∙ sym last_beside) in
-                    let y : neg_ℤ (rows q (P.n + P.m)) *ℤ auxiliary_row P P.m k ≡ neg_ℤ (rows q (P.n + P.m)) = ap (λ v. neg_ℤ (rows q (P.n + P.m)) *ℤ v) a ∙ mul-one (neg_ℤ (rows q (P.n + P.m))) in
+                    let b : beside_objective P (rows q) k ≡ neg_ℤ (rows q (P.n + P.m)) =
+                    ap (beside_objective P (rows q)) c ∙ objective_at P (rows q) in
+                    let z : rows q (own_of (kept_of P) (put_at basis q f) P.m) ≡ pos 0 =
+                    (row_in q (omega arith)).zeros P.m (omega arith) (omega arith) in
+                    let x : rows q k ≡ rows q (own_of (kept_of P) (put_at basis q f) P.m) =
+                    ap (rows q) (c ∙ sym last_beside) in
+                    let y : neg_ℤ (rows q (P.n + P.m)) *ℤ auxiliary_row P P.m k ≡ neg_ℤ (rows q (P.n + P.m)) =
+                    ap (λ v. neg_ℤ (rows q (P.n + P.m)) *ℤ v) a ∙ mul-one (neg_ℤ (rows q (P.n + P.m))) in
                     omega (arith, ints)
                 | inr e ↦
-                    let a : neg_ℤ (rows q (P.n + P.m)) *ℤ auxiliary_row P P.m k ≡ pos 0 = ap (λ v. neg_ℤ (rows q (P.n + P.m)) *ℤ v) (auxiliary_cost_zero P k d e) ∙ mul-zero (neg_ℤ (rows q (P.n + P.m))) in
+                    let a : neg_ℤ (rows q (P.n + P.m)) *ℤ auxiliary_row P P.m k ≡ pos 0 =
+                    ap (λ v. neg_ℤ (rows q (P.n + P.m)) *ℤ v) (auxiliary_cost_zero P k d e)
+                    ∙ mul-zero (neg_ℤ (rows q (P.n + P.m))) in
                     let b : beside_objective P (rows q) k ≡ rows q k = objective_other P (rows q) k d e in
                     omega (arith, ints)
               ]
@@ -237,6 +278,10 @@ module _ (P : Program) (basis : ℕ → ℕ) (q f : ℕ) (rows : ℕ → ℕ →
 
   pub back_multiples : HasMultipleRows (auxiliary_of P) (own_of (auxiliary_of P) basis) (back_rows P q rows)
   back_multiples =
-      back (back_rows P q rows) (subst (λ r. IsParallel (suc (suc (suc (P.n + P.m)))) r (λ k. neg_ℤ (rows q k))) (sym (back_at P q rows)) (parallel_refl (suc (suc (suc (P.n + P.m)))) (λ k. neg_ℤ (rows q k))))
-      (λ i l d. subst (λ r. IsClearedBy (suc (suc (suc (P.n + P.m)))) (P.n + P.m) (rows i) (rows q) r) (sym (back_other P q rows i l d)) (back_cleared i))
-      (subst (λ r. IsClearedBy (suc (suc (suc (P.n + P.m)))) (P.n + P.m) (auxiliary_row P P.m) (rows q) r) (sym (back_last P q rows s.inside)) objective_cleared)
+      back (back_rows P q rows)
+      (subst (λ r. IsParallel (suc (suc (suc (P.n + P.m)))) r (λ k. neg_ℤ (rows q k))) (sym (back_at P q rows))
+      (parallel_refl (suc (suc (suc (P.n + P.m)))) (λ k. neg_ℤ (rows q k))))
+      (λ i l d. subst (λ r. IsClearedBy (suc (suc (suc (P.n + P.m)))) (P.n + P.m) (rows i) (rows q) r)
+      (sym (back_other P q rows i l d)) (back_cleared i))
+      (subst (λ r. IsClearedBy (suc (suc (suc (P.n + P.m)))) (P.n + P.m) (auxiliary_row P P.m) (rows q) r)
+      (sym (back_last P q rows s.inside)) objective_cleared)

@@ -14,6 +14,7 @@ use Rattle.rob_linear.proofs.Endings.{own_positive}
 use Rattle.rob_linear.proofs.Unique.{row_unique}
 use Rattle.rob_linear.proofs.Truths.{infeasible, auxiliary_spanned}
 use Rattle.rob_linear.proofs.Programs.{auxiliary_tag-slack, auxiliary_tag-objective, auxiliary_one, auxiliary_zero, auxiliary_left, auxiliary_entry, auxiliary_cost_left, auxiliary_cost_entry}
+use Rattle.rob_linear.proofs.Square.{cases_zero, cases_some}
 
 -- the number where the labels are the same, and 0 elsewhere
 abbrev only : ℕ → ℕ → ℤ → ℤ
@@ -41,23 +42,8 @@ entry_dropped l s x a h = elim (cases_eq l s) [
   | inr d ↦ ap (λ v. v *ℤ a) (only_other l s x d) ∙ zero-mul a
 ]
 
-zero_or_not : (x : ℤ) → (x ≡ pos 0) ⊎ (x ≢ pos 0)
-zero_or_not (pos zero) = inl refl
-zero_or_not (pos (suc n)) = inr (λ e. omega (arith, ints))
-zero_or_not (negsuc n) = inr (λ e. omega (arith, ints))
-
--- some entry is not 0, or all are
-some_or_none : (n : ℕ) (w : ℕ → ℤ) → ((r : ℕ) × (r < n) × (w r ≢ pos 0)) ⊎ ((i : ℕ) → i < n → w i ≡ pos 0)
-some_or_none zero w = inr (λ i l. absurd (omega arith))
-some_or_none (suc n) w = elim (some_or_none n w) [
-  | inl h ↦ inl (h.0, omega arith, h.2)
-  | inr none ↦ elim (zero_or_not (w n)) [
-    | inl e ↦ inr (λ i l. elim (cases_eq i n) [ inl c ↦ ap w c ∙ e | inr d ↦ none i (omega arith) ])
-    | inr d ↦ inl (n, omega arith, d)
-  ]
-]
-
-module _ (P : Program) (own : ℕ → ℕ) (rows : ℕ → ℕ → ℤ) (b : IsBasis (auxiliary_of P) own rows) (of_row of_column : ℕ → ℕ) (blocks : FallsIntoBlocks P of_row of_column) (s : ℕ) where
+module _ (P : Program) (own : ℕ → ℕ) (rows : ℕ → ℕ → ℤ) (b : IsBasis (auxiliary_of P) own rows)
+    (of_row of_column : ℕ → ℕ) (blocks : FallsIntoBlocks P of_row of_column) (s : ℕ) where
   -- the part of row m that the rows with the label make
   abbrev share : ℕ → ℤ
   share t = only (of_row t) s (rows P.m (P.n + t))
@@ -67,26 +53,32 @@ module _ (P : Program) (own : ℕ → ℕ) (rows : ℕ → ℕ → ℤ) (b : IsB
 
   part_slack : (u : ℕ) → u < P.m → part (auxiliary_tag P u) ≡ share u
   part_slack u ul =
-      let e : sum_to P.m (λ t. share t *ℤ auxiliary_row P t (auxiliary_tag P u)) ≡ share u *ℤ auxiliary_row P u (auxiliary_tag P u) =
+      let e : sum_to P.m (λ t. share t *ℤ auxiliary_row P t (auxiliary_tag P u))
+      ≡ share u *ℤ auxiliary_row P u (auxiliary_tag P u) =
       sum_one P.m u (λ t. share t *ℤ auxiliary_row P t (auxiliary_tag P u)) ul
-      (λ t tl d. ap (λ v. share t *ℤ v) (auxiliary_zero P t u (omega arith) (omega arith) (λ h. d (sym h))) ∙ mul-zero (share t)) in
-      let f : share u *ℤ auxiliary_row P u (auxiliary_tag P u) ≡ share u = ap (λ v. share u *ℤ v) (auxiliary_one P u (omega arith)) ∙ mul-one (share u) in
+      (λ t tl d. ap (λ v. share t *ℤ v) (auxiliary_zero P t u (omega arith) (omega arith) (λ h. d (sym h)))
+      ∙ mul-zero (share t)) in
+      let f : share u *ℤ auxiliary_row P u (auxiliary_tag P u) ≡ share u =
+      ap (λ v. share u *ℤ v) (auxiliary_one P u (omega arith)) ∙ mul-one (share u) in
       let g : sum_to P.m share *ℤ auxiliary_row P P.m (auxiliary_tag P u) ≡ pos 0 =
-      ap (λ v. sum_to P.m share *ℤ v) (auxiliary_zero P P.m u (omega arith) (omega arith) (omega arith)) ∙ mul-zero (sum_to P.m share) in
+      ap (λ v. sum_to P.m share *ℤ v) (auxiliary_zero P P.m u (omega arith) (omega arith) (omega arith))
+      ∙ mul-zero (sum_to P.m share) in
       omega (arith, ints)
 
   part_objective : part (auxiliary_tag P P.m) ≡ sum_to P.m share
   part_objective =
       let e : sum_to P.m (λ t. share t *ℤ auxiliary_row P t (auxiliary_tag P P.m)) ≡ pos 0 =
       sum_zero P.m (λ t. share t *ℤ auxiliary_row P t (auxiliary_tag P P.m))
-      (λ t tl. ap (λ v. share t *ℤ v) (auxiliary_zero P t P.m (omega arith) (omega arith) (omega arith)) ∙ mul-zero (share t)) in
+      (λ t tl. ap (λ v. share t *ℤ v) (auxiliary_zero P t P.m (omega arith) (omega arith) (omega arith))
+      ∙ mul-zero (share t)) in
       let f : sum_to P.m share *ℤ auxiliary_row P P.m (auxiliary_tag P P.m) ≡ sum_to P.m share =
       ap (λ v. sum_to P.m share *ℤ v) (auxiliary_one P P.m (omega arith)) ∙ mul-one (sum_to P.m share) in
       omega (arith, ints)
 
   part_spanned : IsSpanned (auxiliary_of P) part
   part_spanned k kl =
-      let e : sum_to P.m (λ t. part (auxiliary_tag P t) *ℤ auxiliary_row P t k) ≡ sum_to P.m (λ t. share t *ℤ auxiliary_row P t k) =
+      let e : sum_to P.m (λ t. part (auxiliary_tag P t) *ℤ auxiliary_row P t k)
+      ≡ sum_to P.m (λ t. share t *ℤ auxiliary_row P t k) =
       sum_ext P.m (λ t. part (auxiliary_tag P t) *ℤ auxiliary_row P t k) (λ t. share t *ℤ auxiliary_row P t k)
       (λ t tl. ap (λ v. v *ℤ auxiliary_row P t k) (part_slack t tl)) in
       let f : part (auxiliary_tag P P.m) *ℤ auxiliary_row P P.m k ≡ sum_to P.m share *ℤ auxiliary_row P P.m k =
@@ -98,7 +90,8 @@ module _ (P : Program) (own : ℕ → ℕ) (rows : ℕ → ℕ → ℤ) (b : IsB
   part_column : (k : ℕ) → k < P.n → part k ≡ sum_to P.m (λ t. share t *ℤ P.a t k)
   part_column k kl =
       let e : sum_to P.m (λ t. share t *ℤ auxiliary_row P t k) ≡ sum_to P.m (λ t. share t *ℤ P.a t k) =
-      sum_ext P.m (λ t. share t *ℤ auxiliary_row P t k) (λ t. share t *ℤ P.a t k) (λ t tl. ap (λ v. share t *ℤ v) (auxiliary_left P t k tl kl)) in
+      sum_ext P.m (λ t. share t *ℤ auxiliary_row P t k) (λ t. share t *ℤ P.a t k)
+      (λ t tl. ap (λ v. share t *ℤ v) (auxiliary_left P t k tl kl)) in
       let f : sum_to P.m share *ℤ auxiliary_row P P.m k ≡ pos 0 =
       ap (λ v. sum_to P.m share *ℤ v) (auxiliary_cost_left P k kl) ∙ mul-zero (sum_to P.m share) in
       omega (arith, ints)
@@ -118,7 +111,8 @@ module _ (P : Program) (own : ℕ → ℕ) (rows : ℕ → ℕ → ℤ) (b : IsB
             ∙ sym (row_column k kl) ∙ z
         | inr d ↦
             sum_zero P.m (λ t. share t *ℤ P.a t k)
-            (λ t tl. entry_dropped (of_row t) s (rows P.m (P.n + t)) (P.a t k) (λ c. blocks t k tl kl (λ e. d (sym e ∙ c))))
+            (λ t tl. entry_dropped (of_row t) s (rows P.m (P.n + t)) (P.a t k)
+            (λ c. blocks t k tl kl (λ e. d (sym e ∙ c))))
       ]
 
   zero_slack : (t : ℕ) → t < P.m → rows P.m (P.n + t) ≡ pos 0 → part (P.n + t) ≡ pos 0
@@ -168,7 +162,8 @@ module _ (P : Program) (own : ℕ → ℕ) (rows : ℕ → ℕ → ℤ) (b : IsB
       ∙ ap (λ v. rows P.m (suc (P.n + P.m)) *ℤ v) g
 
   -- where a row with the label has a weight, no other row has one
-  one_label : (r : ℕ) → r < P.m → of_row r ≡ s → pos 0 <ℤ rows P.m (P.n + r) → (i : ℕ) → i < P.m → rows P.m (P.n + i) ≢ pos 0 → of_row i ≡ s
+  one_label : (r : ℕ) → r < P.m → of_row r ≡ s → pos 0 <ℤ rows P.m (P.n + r) → (i : ℕ) → i < P.m
+      → rows P.m (P.n + i) ≢ pos 0 → of_row i ≡ s
   one_label r rl e p i il d =
       elim (cases_eq (of_row i) s) [
         | inl c ↦ c
@@ -186,20 +181,28 @@ module _ (P : Program) (own : ℕ → ℕ) (rows : ℕ → ℕ → ℤ) (b : IsB
             ∙ mul-zero (rows P.m (suc (P.n + P.m))))))
       ]
 
-pub one_block : (P : Program) (own : ℕ → ℕ) (rows : ℕ → ℕ → ℤ) (of_row of_column : ℕ → ℕ) → IsBasis (auxiliary_of P) own rows → EndsInfeasible P rows → FallsIntoBlocks P of_row of_column → LieInOneBlock P of_row (λ i. rows P.m (P.n + i))
+pub one_block : (P : Program) (own : ℕ → ℕ) (rows : ℕ → ℕ → ℤ) (of_row of_column : ℕ → ℕ)
+    → IsBasis (auxiliary_of P) own rows → EndsInfeasible P rows → FallsIntoBlocks P of_row of_column
+    → LieInOneBlock P of_row (λ i. rows P.m (P.n + i))
 one_block P own rows of_row of_column b ends blocks =
     let shows : ShowsEmpty P (λ i. rows P.m (P.n + i)) = infeasible P own rows b ends.no_improving ends.below in
-    elim (some_or_none P.m (λ i. rows P.m (P.n + i))) [
+    elim (cases_some P.m (λ i. rows P.m (P.n + i))) [
       | inl h ↦
           let low : pos 0 ≤ℤ rows P.m (P.n + h.0) = shows.nonnegative h.0 h.1 in
-          let d : rows P.m (P.n + h.0) ≢ pos 0 = h.2 in
-          (h.0, h.1, h.2, one_label P own rows b of_row of_column blocks (of_row h.0) h.0 h.1 refl (positive (rows P.m (P.n + h.0)) low d))
+          let d : rows P.m (P.n + h.0) ≢ pos 0 = h.2 in (
+            h.0,
+            h.1,
+            h.2,
+            one_label P own rows b of_row of_column blocks (of_row h.0) h.0 h.1 refl
+                (positive (rows P.m (P.n + h.0)) low d),
+          )
       | inr none ↦
           let e : dot P.m (λ i. rows P.m (P.n + i)) P.b ≡ pos 0 =
-          sum_zero P.m (λ i. rows P.m (P.n + i) *ℤ P.b i) (λ i il. ap (λ v. v *ℤ P.b i) (none i il) ∙ zero-mul (P.b i)) in
+          sum_zero P.m (λ i. rows P.m (P.n + i) *ℤ P.b i)
+          (λ i il. ap (λ v. v *ℤ P.b i) (none i il) ∙ zero-mul (P.b i)) in
           let below : dot P.m (λ i. rows P.m (P.n + i)) P.b <ℤ pos 0 = shows.below in
           absurd (omega (arith, ints))
     ]
   where
     positive : (x : ℤ) → pos 0 ≤ℤ x → x ≢ pos 0 → pos 0 <ℤ x
-    positive x l d = elim (zero_or_not x) [ inl e ↦ absurd (d e) | inr n ↦ omega (arith, ints) ]
+    positive x l d = elim (cases_zero x) [ inl e ↦ absurd (d e) | inr n ↦ omega (arith, ints) ]

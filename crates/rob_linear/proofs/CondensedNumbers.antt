@@ -14,7 +14,9 @@ use Rattle.rob_linear.proofs.Phases.{place_low, place_high}
 use Rattle.rob_linear.proofs.CondensedRows.{entry_near, entry_own, entry_zero}
 
 -- what holds of 0, of the row's own entry and of the numbers at its places holds of each entry
-pub entry_is : (m w n : ℕ) (at near basis : ℕ → ℕ) (table : ℕ → ℕ → ℤ) (own : ℕ → ℤ) (i : ℕ) (Q : ℤ → Type 0) → IsPlaced m w n at near basis → Q (pos 0) → Q (own i) → ((k : ℕ) → k < w → Q (table i k)) → (c : ℕ) → c < n → Q (entry_of w at table own i c)
+pub entry_is : (m w n : ℕ) (at near basis : ℕ → ℕ) (table : ℕ → ℕ → ℤ) (own : ℕ → ℤ) (i : ℕ) (Q : ℤ → Type 0)
+    → IsPlaced m w n at near basis → Q (pos 0) → Q (own i) → ((k : ℕ) → k < w → Q (table i k)) → (c : ℕ) → c < n
+    → Q (entry_of w at table own i c)
 entry_is m w n at near basis table own i Q h z o t c cl =
     elim (cases_lt (at c) w) [
       | inl a ↦ subst Q (sym (entry_near w at table own i c a)) (t (at c) a)
@@ -27,16 +29,20 @@ entry_is m w n at near basis table own i Q h z o t c cl =
     ]
 
 -- a row turned round, divided, or kept
-pub entry_times : (m w n : ℕ) (at near basis : ℕ → ℕ) (table table' : ℕ → ℕ → ℤ) (own own' : ℕ → ℤ) (i : ℕ) (a b : ℤ) → IsPlaced m w n at near basis → ((k : ℕ) → k < w → a *ℤ table' i k ≡ b *ℤ table i k) → a *ℤ own' i ≡ b *ℤ own i → (c : ℕ) → c < n → a *ℤ entry_of w at table' own' i c ≡ b *ℤ entry_of w at table own i c
+pub entry_times : (m w n : ℕ) (at near basis : ℕ → ℕ) (table table' : ℕ → ℕ → ℤ) (own own' : ℕ → ℤ) (i : ℕ) (a b : ℤ)
+    → IsPlaced m w n at near basis → ((k : ℕ) → k < w → a *ℤ table' i k ≡ b *ℤ table i k) → a *ℤ own' i ≡ b *ℤ own i
+    → (c : ℕ) → c < n → a *ℤ entry_of w at table' own' i c ≡ b *ℤ entry_of w at table own i c
 entry_times m w n at near basis table table' own own' i a b h t o c cl =
     elim (cases_lt (at c) w) [
-      | inl l ↦ ap (λ v. a *ℤ v) (entry_near w at table' own' i c l) ∙ t (at c) l ∙ ap (λ v. b *ℤ v) (sym (entry_near w at table own i c l))
+      | inl l ↦ ap (λ v. a *ℤ v) (entry_near w at table' own' i c l) ∙ t (at c) l
+          ∙ ap (λ v. b *ℤ v) (sym (entry_near w at table own i c l))
       | inr l ↦
           let j : (j : ℕ) × (j ≤ m) × (at c ≡ w + j) × (basis j ≡ c) = h.basic_column c cl (omega arith) in
           elim (cases_eq j.0 i) [
             | inl e ↦
                 let f : at c ≡ w + i = j.2 ∙ ap (λ v. w + v) e in
-                ap (λ v. a *ℤ v) (entry_own w at table' own' i c f) ∙ o ∙ ap (λ v. b *ℤ v) (sym (entry_own w at table own i c f))
+                ap (λ v. a *ℤ v) (entry_own w at table' own' i c f) ∙ o
+                ∙ ap (λ v. b *ℤ v) (sym (entry_own w at table own i c f))
             | inr d ↦
                 ap (λ v. a *ℤ v) (entry_zero w at table' own' i j.0 c j.2 d) ∙ mul-zero a
                 ∙ sym (ap (λ v. b *ℤ v) (entry_zero w at table own i j.0 c j.2 d) ∙ mul-zero b)
@@ -44,19 +50,28 @@ entry_times m w n at near basis table table' own own' i a b h t o c cl =
     ]
 
 -- no common divisor of the numbers, no common divisor of the entries
-pub entry_primitive : (m w n : ℕ) (at near basis : ℕ → ℕ) (table : ℕ → ℕ → ℤ) (own : ℕ → ℤ) (i : ℕ) → IsPlaced m w n at near basis → i ≤ m → ((d : ℕ) → ((k : ℕ) → k < w → d ∣ unsigned_abs (table i k)) → d ∣ unsigned_abs (own i) → d ≡ 1) → IsPrimitive n (entry_of w at table own i)
+pub entry_primitive : (m w n : ℕ) (at near basis : ℕ → ℕ) (table : ℕ → ℕ → ℤ) (own : ℕ → ℤ) (i : ℕ)
+    → IsPlaced m w n at near basis → i ≤ m
+    → ((d : ℕ) → ((k : ℕ) → k < w → d ∣ unsigned_abs (table i k)) → d ∣ unsigned_abs (own i) → d ≡ 1)
+    → IsPrimitive n (entry_of w at table own i)
 entry_primitive m w n at near basis table own i h il p d g =
     p d (λ k kl.
     let a : at (near k) ≡ k = h.near_at k kl in
-    subst (λ v. d ∣ unsigned_abs v) (entry_near w at table own i (near k) (subst (λ v. v < w) (sym a) kl) ∙ ap (table i) a) (g (near k) (h.near_in k kl)))
-    (subst (λ v. d ∣ unsigned_abs v) (entry_own w at table own i (basis i) (h.basic_at i il)) (g (basis i) (h.basic_in i il)))
+    subst (λ v. d ∣ unsigned_abs v) (entry_near w at table own i (near k) (subst (λ v. v < w) (sym a) kl)
+    ∙ ap (table i) a) (g (near k) (h.near_in k kl)))
+    (subst (λ v. d ∣ unsigned_abs v) (entry_own w at table own i (basis i) (h.basic_at i il))
+    (g (basis i) (h.basic_in i il)))
 
 -- numbers within a limit, entries within it
-pub entry_within : (m w n : ℕ) (at near basis : ℕ → ℕ) (table : ℕ → ℕ → ℤ) (own : ℕ → ℤ) (i limit : ℕ) → IsPlaced m w n at near basis → ((k : ℕ) → k < w → unsigned_abs (table i k) ≤ limit) → unsigned_abs (own i) ≤ limit → (c : ℕ) → c < n → unsigned_abs (entry_of w at table own i c) ≤ limit
-entry_within m w n at near basis table own i limit h t o = entry_is m w n at near basis table own i (λ v. unsigned_abs v ≤ limit) h (omega (arith, ints)) o t
+pub entry_within : (m w n : ℕ) (at near basis : ℕ → ℕ) (table : ℕ → ℕ → ℤ) (own : ℕ → ℤ) (i limit : ℕ)
+    → IsPlaced m w n at near basis → ((k : ℕ) → k < w → unsigned_abs (table i k) ≤ limit) → unsigned_abs (own i) ≤ limit
+    → (c : ℕ) → c < n → unsigned_abs (entry_of w at table own i c) ≤ limit
+entry_within m w n at near basis table own i limit h t o =
+    entry_is m w n at near basis table own i (λ v. unsigned_abs v ≤ limit) h (omega (arith, ints)) o t
 
 -- an entry of 0 in the auxiliary column is not missed
-pub primitive_without : (P : Program) (r : ℕ → ℤ) → r (P.n + P.m) ≡ pos 0 → IsPrimitive (suc (right (kept_of P))) r → IsPrimitive (suc (right (system_of P))) (λ k. r (auxiliary_place P k))
+pub primitive_without : (P : Program) (r : ℕ → ℤ) → r (P.n + P.m) ≡ pos 0 → IsPrimitive (suc (right (kept_of P))) r
+    → IsPrimitive (suc (right (system_of P))) (λ k. r (auxiliary_place P k))
 primitive_without P r z p d g =
     p d (λ c cl. elim (cases_eq c (P.n + P.m)) [
       | inl e ↦ subst (λ v. d ∣ unsigned_abs v) (sym (ap r e ∙ z)) (dvd-zero d)

@@ -29,6 +29,7 @@ pub mod Measure
 pub mod Phases
 pub mod Extensions
 pub mod Square
+pub mod Parallels
 pub mod Multiples
 pub mod Beside
 pub mod BesideTurns

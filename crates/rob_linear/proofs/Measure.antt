@@ -1,4 +1,5 @@
--- A number that rises with the objective's row, for rows whose numbers are within a limit: what is left of it is a loop's measure.
+-- A number that rises with the objective's row, for rows whose numbers are
+-- within a limit: what is left of it is a loop's measure.
 use Rattle.std.proofs.Common.{◌≡◌, ℕ, zero, suc, ◌+◌, ◌*◌, ◌/◌, ◌^◌, ◌<◌, ◌≤◌, sym, refl, ap, ◌∙◌, subst, arith, inl, inr}
 use Rattle.std.proofs.Math.Nat.{mul-le-mul_left, mul-le-mul_right, le_of_mul-le-mul_left, pow-zero, pow-succ', div-mul-le_self, mul-div-mul_left, le-div_iff_mul-le}
 use Rattle.std.proofs.lemmas.Int.{ints}
@@ -24,18 +25,22 @@ rises_by h w o v p q oh ph l d =
 -- w / o < v / p
 place_rises : (h w o v p : ℕ) → 0 < o → o ≤ h → 0 < p → p ≤ h → w * p < v * o → place h w o < place h v p
 place_rises h w o v p o0 oh p0 ph l =
-    (le-div_iff_mul-le p0).1 (le_of_mul-le-mul_left (rises_by h w o v p (place h w o) oh ph l (div-mul-le_self (w * (h * h)) o)) o0)
+    (le-div_iff_mul-le p0).1
+    (le_of_mul-le-mul_left (rises_by h w o v p (place h w o) oh ph l (div-mul-le_self (w * (h * h)) o)) o0)
 
 pub place_same : (h w o v p : ℕ) → 0 < o → 0 < p → w * p ≡ v * o → place h w o ≡ place h v p
 place_same h w o v p o0 p0 e =
     let a : (p * (w * (h * h))) / (p * o) ≡ (w * (h * h)) / o = mul-div-mul_left (w * (h * h)) o p0 in
     let b : (o * (v * (h * h))) / (o * p) ≡ (v * (h * h)) / p = mul-div-mul_left (v * (h * h)) p o0 in
-    let c : p * (w * (h * h)) ≡ o * (v * (h * h)) = let d : (w * p) * (h * h) ≡ (v * o) * (h * h) = ap (λ t. t * (h * h)) e in omega arith in
+    let c : p * (w * (h * h)) ≡ o * (v * (h * h)) =
+    let d : (w * p) * (h * h) ≡ (v * o) * (h * h) = ap (λ t. t * (h * h)) e in omega arith in
     let d : p * o ≡ o * p = omega arith in
     sym a ∙ ap (λ t. t / (p * o)) c ∙ ap (λ t. (o * (v * (h * h))) / t) d ∙ b
 
 le_place : (q h o : ℕ) → 0 < o → q * o ≤ ((h + h) * o) * (h * h) → q < suc ((h + h) * (h * h))
-le_place q h o o0 d = let e : q ≤ (h + h) * (h * h) = le_of_mul-le-mul_left {m = q} {n = (h + h) * (h * h)} {k = o} (omega arith) o0 in omega arith
+le_place q h o o0 d =
+    let e : q ≤ (h + h) * (h * h) =
+    le_of_mul-le-mul_left {m = q} {n = (h + h) * (h * h)} {k = o} (omega arith) o0 in omega arith
 
 place_below : (h w o : ℕ) → 0 < o → w ≤ (h + h) * o → place h w o < suc ((h + h) * (h * h))
 place_below h w o o0 l =
@@ -61,7 +66,8 @@ joined_same base (suc n) f g e =
     let o : f n ≡ g n = e n (omega arith) in
     ap (λ t. t * base + f n) ih ∙ ap (λ t. joined base n g * base + t) o
 
-pub joined_rises : (base n k : ℕ) (f g : ℕ → ℕ) → ((j : ℕ) → j < n → f j < base) → k < n → ((j : ℕ) → j < k → f j ≡ g j) → f k < g k → joined base n f < joined base n g
+pub joined_rises : (base n k : ℕ) (f g : ℕ → ℕ) → ((j : ℕ) → j < n → f j < base) → k < n → ((j : ℕ) → j < k → f j ≡ g j)
+    → f k < g k → joined base n f < joined base n g
 joined_rises base zero k f g h kl e l = absurd (omega arith)
 joined_rises base (suc n) k f g h kl e l =
     elim (cases_eq k n) [
@@ -71,7 +77,8 @@ joined_rises base (suc n) k f g h kl e l =
           let u : f n < g n = subst (λ t. f t < g t) c l in
           omega arith
       | inr d ↦
-          let ih : joined base n f < joined base n g = joined_rises base n k f g (λ j jl. h j (omega arith)) (omega arith) e l in
+          let ih : joined base n f < joined base n g =
+          joined_rises base n k f g (λ j jl. h j (omega arith)) (omega arith) e l in
           let o : f n < base = h n (omega arith) in
           let m : suc (joined base n f) * base ≤ joined base n g * base = mul-le-mul_right base ih in
           omega arith
@@ -106,7 +113,8 @@ shifted_below h z o l op =
     let m : (h + h) * unsigned_abs o ≡ h * unsigned_abs o + h * unsigned_abs o = omega arith in
     omega (arith, ints)
 
-cross_is : (h : ℕ) (z o p : ℤ) → unsigned_abs z ≤ h → pos 0 <ℤ o → pos 0 <ℤ p → pos (shifted h z o * unsigned_abs p) ≡ (p *ℤ z) +ℤ (pos h *ℤ (o *ℤ p))
+cross_is : (h : ℕ) (z o p : ℤ) → unsigned_abs z ≤ h → pos 0 <ℤ o → pos 0 <ℤ p
+    → pos (shifted h z o * unsigned_abs p) ≡ (p *ℤ z) +ℤ (pos h *ℤ (o *ℤ p))
 cross_is h z o p l op pp =
     let f : pos (unsigned_abs p) ≡ p = abs_pos p (omega (arith, ints)) in
     let r : (z +ℤ (pos h *ℤ o)) *ℤ p ≡ (p *ℤ z) +ℤ (pos h *ℤ (o *ℤ p)) = simp ring in
@@ -115,21 +123,28 @@ cross_is h z o p l op pp =
 pub rank_below : (S : System) (h : ℕ) (r : ℕ → ℤ) → IsWithin S h r → rank S h r < rank_limit S h
 rank_below S h r w =
     joined_below (suc ((h + h) * (h * h))) (suc S.m) (row_place S h r) (λ k l.
-    place_below h (shifted h (key S r k) (r (objective S))) (unsigned_abs (r (objective S))) (let p : pos 0 <ℤ r (objective S) = w.positive in omega (arith, ints)) (shifted_below h (key S r k) (r (objective S)) (w.keys k l) w.positive))
+    place_below h (shifted h (key S r k) (r (objective S))) (unsigned_abs (r (objective S)))
+    (let p : pos 0 <ℤ r (objective S) = w.positive in omega (arith, ints))
+    (shifted_below h (key S r k) (r (objective S)) (w.keys k l) w.positive))
 
-cross_less : (h : ℕ) (z o v p : ℤ) → unsigned_abs z ≤ h → pos 0 <ℤ o → unsigned_abs v ≤ h → pos 0 <ℤ p → (p *ℤ z) <ℤ (o *ℤ v) → shifted h z o * unsigned_abs p < shifted h v p * unsigned_abs o
+cross_less : (h : ℕ) (z o v p : ℤ) → unsigned_abs z ≤ h → pos 0 <ℤ o → unsigned_abs v ≤ h → pos 0 <ℤ p
+    → (p *ℤ z) <ℤ (o *ℤ v) → shifted h z o * unsigned_abs p < shifted h v p * unsigned_abs o
 cross_less h z o v p zl op vl pp l =
     let a : pos (shifted h z o * unsigned_abs p) ≡ (p *ℤ z) +ℤ (pos h *ℤ (o *ℤ p)) = cross_is h z o p zl op pp in
-    let b : pos (shifted h v p * unsigned_abs o) ≡ (o *ℤ v) +ℤ (pos h *ℤ (o *ℤ p)) = cross_is h v p o vl pp op ∙ ap (λ t. (o *ℤ v) +ℤ (pos h *ℤ t)) (*ℤ_comm p o) in
+    let b : pos (shifted h v p * unsigned_abs o) ≡ (o *ℤ v) +ℤ (pos h *ℤ (o *ℤ p)) =
+    cross_is h v p o vl pp op ∙ ap (λ t. (o *ℤ v) +ℤ (pos h *ℤ t)) (*ℤ_comm p o) in
     omega (arith, ints)
 
-pub cross_same : (h : ℕ) (z o v p : ℤ) → unsigned_abs z ≤ h → pos 0 <ℤ o → unsigned_abs v ≤ h → pos 0 <ℤ p → p *ℤ z ≡ o *ℤ v → shifted h z o * unsigned_abs p ≡ shifted h v p * unsigned_abs o
+pub cross_same : (h : ℕ) (z o v p : ℤ) → unsigned_abs z ≤ h → pos 0 <ℤ o → unsigned_abs v ≤ h → pos 0 <ℤ p
+    → p *ℤ z ≡ o *ℤ v → shifted h z o * unsigned_abs p ≡ shifted h v p * unsigned_abs o
 cross_same h z o v p zl op vl pp l =
     let a : pos (shifted h z o * unsigned_abs p) ≡ (p *ℤ z) +ℤ (pos h *ℤ (o *ℤ p)) = cross_is h z o p zl op pp in
-    let b : pos (shifted h v p * unsigned_abs o) ≡ (o *ℤ v) +ℤ (pos h *ℤ (o *ℤ p)) = cross_is h v p o vl pp op ∙ ap (λ t. (o *ℤ v) +ℤ (pos h *ℤ t)) (*ℤ_comm p o) in
+    let b : pos (shifted h v p * unsigned_abs o) ≡ (o *ℤ v) +ℤ (pos h *ℤ (o *ℤ p)) =
+    cross_is h v p o vl pp op ∙ ap (λ t. (o *ℤ v) +ℤ (pos h *ℤ t)) (*ℤ_comm p o) in
     omega (arith, ints)
 
-pub rank_rises : (S : System) (h : ℕ) (r r' : ℕ → ℤ) → IsWithin S h r → IsWithin S h r' → ComesBefore S r (r (objective S)) r' (r' (objective S)) → rank S h r < rank S h r'
+pub rank_rises : (S : System) (h : ℕ) (r r' : ℕ → ℤ) → IsWithin S h r → IsWithin S h r'
+    → ComesBefore S r (r (objective S)) r' (r' (objective S)) → rank S h r < rank S h r'
 rank_rises S h r r' w w' c =
     let o : pos 0 <ℤ r (objective S) = w.positive in
     let o' : pos 0 <ℤ r' (objective S) = w'.positive in
@@ -137,12 +152,18 @@ rank_rises S h r r' w w' c =
     let on' : 0 < unsigned_abs (r' (objective S)) = omega (arith, ints) in
     let cl : c.0 < suc S.m = c.1 in
     joined_rises (suc ((h + h) * (h * h))) (suc S.m) c.0 (row_place S h r) (row_place S h r')
-    (λ k l. place_below h (shifted h (key S r k) (r (objective S))) (unsigned_abs (r (objective S))) on (shifted_below h (key S r k) (r (objective S)) (w.keys k l) w.positive))
+    (λ k l. place_below h (shifted h (key S r k) (r (objective S))) (unsigned_abs (r (objective S))) on
+    (shifted_below h (key S r k) (r (objective S)) (w.keys k l) w.positive))
     c.1
     (λ j jl.
     let e : (r (objective S) *ℤ key S r' j) -ℤ (r' (objective S) *ℤ key S r j) ≡ pos 0 = c.2 j jl in
-    place_same h (shifted h (key S r j) (r (objective S))) (unsigned_abs (r (objective S))) (shifted h (key S r' j) (r' (objective S))) (unsigned_abs (r' (objective S))) on on'
-    (cross_same h (key S r j) (r (objective S)) (key S r' j) (r' (objective S)) (w.keys j (omega arith)) w.positive (w'.keys j (omega arith)) w'.positive (omega (arith, ints))))
+    place_same h (shifted h (key S r j) (r (objective S))) (unsigned_abs (r (objective S)))
+    (shifted h (key S r' j) (r' (objective S))) (unsigned_abs (r' (objective S))) on on'
+    (cross_same h (key S r j) (r (objective S)) (key S r' j) (r' (objective S)) (w.keys j (omega arith)) w.positive
+    (w'.keys j (omega arith)) w'.positive (omega (arith, ints))))
     (let e : pos 0 <ℤ ((r (objective S) *ℤ key S r' c.0) -ℤ (r' (objective S) *ℤ key S r c.0)) = c.3 in
-    place_rises h (shifted h (key S r c.0) (r (objective S))) (unsigned_abs (r (objective S))) (shifted h (key S r' c.0) (r' (objective S))) (unsigned_abs (r' (objective S))) on w.objective_in on' w'.objective_in
-    (cross_less h (key S r c.0) (r (objective S)) (key S r' c.0) (r' (objective S)) (w.keys c.0 c.1) w.positive (w'.keys c.0 c.1) w'.positive (omega (arith, ints))))
+    place_rises h (shifted h (key S r c.0) (r (objective S))) (unsigned_abs (r (objective S)))
+    (shifted h (key S r' c.0) (r' (objective S))) (unsigned_abs (r' (objective S))) on
+    w.objective_in on' w'.objective_in
+    (cross_less h (key S r c.0) (r (objective S)) (key S r' c.0) (r' (objective S)) (w.keys c.0 c.1) w.positive
+    (w'.keys c.0 c.1) w'.positive (omega (arith, ints))))

@@ -22,214 +22,18 @@ use Rattle.rob_linear.proofs.Lexical.{lex_ext, lex_scale, lex_unscale}
 use Rattle.rob_linear.proofs.Unique.{row_unique}
 use Rattle.rob_linear.proofs.Primitive.{primitive_part, chosen}
 use Rattle.rob_linear.proofs.Exact.{divides_other}
-
--- ---- vectors that are positive multiples of one another
-pub parallel_refl : (n : ℕ) (r : ℕ → ℤ) → IsParallel n r r
-parallel_refl n r = record { p = pos 1; q = pos 1; p_positive = omega (arith, ints); q_positive = omega (arith, ints); same = λ k l. refl }
-
-pub parallel_sym : (n : ℕ) (r s : ℕ → ℤ) → IsParallel n r s → IsParallel n s r
-parallel_sym n r s h = record { p = h.q; q = h.p; p_positive = h.q_positive; q_positive = h.p_positive; same = λ k l. sym (h.same k l) }
-
-pub parallel_trans : (n : ℕ) (r s t : ℕ → ℤ) → IsParallel n r s → IsParallel n s t → IsParallel n r t
-parallel_trans n r s t h g = record {
-  p = g.p *ℤ h.p;
-  q = h.q *ℤ g.q;
-  p_positive = mul-pos_z g.p h.p g.p_positive h.p_positive;
-  q_positive = mul-pos_z h.q g.q h.q_positive g.q_positive;
-  same = λ k l.
-      let a : (g.p *ℤ h.p) *ℤ r k ≡ g.p *ℤ (h.p *ℤ r k) = simp ring in
-      let b : g.p *ℤ (h.q *ℤ s k) ≡ h.q *ℤ (g.p *ℤ s k) = simp ring in
-      let c : h.q *ℤ (g.q *ℤ t k) ≡ (h.q *ℤ g.q) *ℤ t k = simp ring in
-      a ∙ ap (λ v. g.p *ℤ v) (h.same k l) ∙ b ∙ ap (λ v. h.q *ℤ v) (g.same k l) ∙ c;
-}
-
--- signs
-pub parallel_zero : (n : ℕ) (r s : ℕ → ℤ) (k : ℕ) → IsParallel n r s → k < n → r k ≡ pos 0 → s k ≡ pos 0
-parallel_zero n r s k h l z = mul_cancel_zero h.q (s k) h.q_positive (sym (h.same k l) ∙ ap (λ v. h.p *ℤ v) z ∙ mul-zero h.p)
-
-pub parallel_positive : (n : ℕ) (r s : ℕ → ℤ) (k : ℕ) → IsParallel n r s → k < n → pos 0 <ℤ r k → pos 0 <ℤ s k
-parallel_positive n r s k h l z =
-    mul_cancel_lt h.q (pos 0) (s k) h.q_positive
-    (subst (λ v. v <ℤ (h.q *ℤ s k)) (sym (mul-zero h.q)) (subst (λ v. pos 0 <ℤ v) (h.same k l) (mul-pos_z h.p (r k) h.p_positive z)))
-
-pub parallel_nonnegative : (n : ℕ) (r s : ℕ → ℤ) (k : ℕ) → IsParallel n r s → k < n → pos 0 ≤ℤ r k → pos 0 ≤ℤ s k
-parallel_nonnegative n r s k h l z =
-    let p : pos 0 <ℤ h.p = h.p_positive in
-    mul_cancel_nonneg h.q (s k) h.q_positive (subst (λ v. pos 0 ≤ℤ v) (h.same k l) (mul_nonneg h.p (r k) (omega (arith, ints)) z))
-
-pub parallel_negative : (n : ℕ) (r s : ℕ → ℤ) (k : ℕ) → IsParallel n r s → k < n → r k <ℤ pos 0 → s k <ℤ pos 0
-parallel_negative n r s k h l z =
-    by_lt_z (s k) (pos 0) (λ g. g) (λ g.
-    let a : pos 0 ≤ℤ r k = parallel_nonnegative n s r k (parallel_sym n r s h) l (omega (arith, ints)) in
-    absurd (omega (arith, ints)))
-
-pub parallel_nonpositive : (n : ℕ) (r s : ℕ → ℤ) (k : ℕ) → IsParallel n r s → k < n → r k ≤ℤ pos 0 → s k ≤ℤ pos 0
-parallel_nonpositive n r s k h l z =
-    by_lt_z (pos 0) (s k) (λ g.
-    let a : pos 0 <ℤ r k = parallel_positive n s r k (parallel_sym n r s h) l g in
-    absurd (omega (arith, ints))) (λ g. omega (arith, ints))
-
--- quotients of two entries
-pub parallel_quotient : (n : ℕ) (r s : ℕ → ℤ) (j k : ℕ) → IsParallel n r s → j < n → k < n → r j *ℤ s k ≡ s j *ℤ r k
-parallel_quotient n r s j k h jl kl =
-    let pq : pos 0 <ℤ h.p = h.p_positive in
-    let a : h.p *ℤ (r j *ℤ s k) ≡ (h.p *ℤ r j) *ℤ s k = simp ring in
-    let b : (h.q *ℤ s j) *ℤ s k ≡ s j *ℤ (h.q *ℤ s k) = simp ring in
-    let c : s j *ℤ (h.p *ℤ r k) ≡ h.p *ℤ (s j *ℤ r k) = simp ring in
-    mul_cancel h.p (r j *ℤ s k) (s j *ℤ r k) pq (a ∙ ap (λ v. v *ℤ s k) (h.same j jl) ∙ b ∙ ap (λ v. s j *ℤ v) (sym (h.same k kl)) ∙ c)
-
--- what spans and lies along a row
-pub parallel_along : (S : System) (own : ℕ → ℕ) (i : ℕ) (r s : ℕ → ℤ) → ((t : ℕ) → t ≤ S.m → S.tag t ≤ right S) → ((j : ℕ) → j ≤ S.m → own j ≤ right S) → IsParallel (suc (right S)) r s → LiesAlong S own i r → LiesAlong S own i s
-parallel_along S own i r s tags inside h a = record {
-  zeros = λ j jl d. let l : own j ≤ right S = inside j jl in parallel_zero (suc (right S)) r s (own j) h (omega arith) (a.zeros j jl d);
-  spanned = λ k kl.
-      mul_cancel h.q (s k) (sum_to (suc S.m) (λ t. s (S.tag t) *ℤ S.start t k)) h.q_positive
-      (sym (h.same k (omega arith)) ∙ ap (λ v. h.p *ℤ v) (a.spanned k kl)
-      ∙ sym (sum_scale (suc S.m) h.p (λ t. r (S.tag t) *ℤ S.start t k))
-      ∙ sum_ext (suc S.m) (λ t. h.p *ℤ (r (S.tag t) *ℤ S.start t k)) (λ t. h.q *ℤ (s (S.tag t) *ℤ S.start t k)) (λ t tl.
-      let g : S.tag t ≤ right S = tags t (omega arith) in
-      let x : h.p *ℤ (r (S.tag t) *ℤ S.start t k) ≡ (h.p *ℤ r (S.tag t)) *ℤ S.start t k = simp ring in
-      let y : (h.q *ℤ s (S.tag t)) *ℤ S.start t k ≡ h.q *ℤ (s (S.tag t) *ℤ S.start t k) = simp ring in
-      x ∙ ap (λ v. v *ℤ S.start t k) (h.same (S.tag t) (omega arith)) ∙ y)
-      ∙ sum_scale (suc S.m) h.q (λ t. s (S.tag t) *ℤ S.start t k));
-}
-
-pub multiple_parallel : (S : System) (own : ℕ → ℕ) (i : ℕ) (r s : ℕ → ℤ) → ((t : ℕ) → t ≤ S.m → S.tag t ≤ right S) → ((j : ℕ) → j ≤ S.m → own j ≤ right S) → i ≤ S.m → IsParallel (suc (right S)) r s → IsMultipleRow S own i r → IsMultipleRow S own i s
-multiple_parallel S own i r s tags inside il h a = record {
-  along = parallel_along S own i r s tags inside h a.along;
-  positive = let l : own i ≤ right S = inside i il in parallel_positive (suc (right S)) r s (own i) h (omega arith) a.positive;
-}
-
-pub multiples_in : (S : System) (own : ℕ → ℕ) (rows : ℕ → ℕ → ℤ) → HasMultipleRows S own rows → (i : ℕ) → i ≤ S.m → own i ≤ right S
-multiples_in S own rows h i l = let g : own i < suc S.columns = own_in S own h.inside h.last i l in omega arith
-
--- ---- the rows of the basis
-pub basis_multiples : (S : System) (own : ℕ → ℕ) (rows : ℕ → ℕ → ℤ) → IsBasis S own rows → HasMultipleRows S own rows
-basis_multiples S own rows b = record { inside = b.inside; last = b.last; rows_of = λ i l. record { along = (b.rows_of i l).along; positive = (b.rows_of i l).positive } }
-
-pub multiples_basis : (S : System) (own : ℕ → ℕ) (rows : ℕ → ℕ → ℤ) → HasMultipleRows S own rows → ((i : ℕ) → i ≤ S.m → IsPrimitive (suc (right S)) (rows i)) → IsBasis S own rows
-multiples_basis S own rows h p = record { inside = h.inside; last = h.last; rows_of = λ i l. record { along = (h.rows_of i l).along; positive = (h.rows_of i l).positive; primitive = p i l } }
-
--- a row made primitive is that of the position
-pub primitive_row : (S : System) (own : ℕ → ℕ) (i : ℕ) (r s : ℕ → ℤ) → IsTagged S → ((j : ℕ) → j ≤ S.m → own j ≤ right S) → i ≤ S.m → IsMultipleRow S own i r → IsParallel (suc (right S)) r s → IsPrimitive (suc (right S)) s → RowOf S own i s
-primitive_row S own i r s g inside il h e p =
-    let m : IsMultipleRow S own i s = multiple_parallel S own i r s (tags_in S g) inside il e h in
-    record { along = m.along; positive = m.positive; primitive = p }
-
-pub multiple_rows_exist : (S : System) (own : ℕ → ℕ) (rows : ℕ → ℕ → ℤ) → IsTagged S → HasMultipleRows S own rows → (prim : ℕ → ℕ → ℤ) × IsBasis S own prim
-multiple_rows_exist S own rows g h =
-    let t : (prim : ℕ → ℕ → ℤ) × ((i : ℕ) → i < suc S.m → RowOf S own i (prim i)) =
-    chosen (suc S.m) (λ i r. RowOf S own i r) (λ i l.
-    let il : i ≤ S.m = omega arith in
-    let o : own i ≤ right S = multiples_in S own rows h i il in
-    let w : (f : ℤ) × (new : ℕ → ℤ) × (pos 0 <ℤ f) × ((j : ℕ) → j < suc (right S) → f *ℤ new j ≡ rows i j) × IsPrimitive (suc (right S)) new =
-    primitive_part (suc (right S)) (rows i) (own i) (omega arith) (h.rows_of i il).positive in (
-      w.1,
-      primitive_row S own i (rows i) w.1 g (multiples_in S own rows h) il (h.rows_of i il)
-          (record { p = pos 1; q = w.0; p_positive = omega (arith, ints); q_positive = w.2; same = λ k kl. one-mul (rows i k) ∙ sym (w.3 k kl) }) w.4,
-    )) in
-    (t.0, record { inside = h.inside; last = h.last; rows_of = λ i il. t.1 i (omega arith) })
-
-pub rows_parallel : (S : System) (own : ℕ → ℕ) (prim rows : ℕ → ℕ → ℤ) → IsBasis S own prim → HasMultipleRows S own rows → AreParallel S rows prim
-rows_parallel S own prim rows b h i il = record {
-  p = prim i (own i);
-  q = rows i (own i);
-  p_positive = (b.rows_of i il).positive;
-  q_positive = (h.rows_of i il).positive;
-  same = λ k kl. sym (row_unique S own prim i (rows i) b il (h.rows_of i il).along k (omega arith));
-}
-
-pub are_sym : (S : System) (rows rows' : ℕ → ℕ → ℤ) → AreParallel S rows rows' → AreParallel S rows' rows
-are_sym S rows rows' h i il = parallel_sym (suc (right S)) (rows i) (rows' i) (h i il)
-
--- ---- choices
-pub key_parallel : (S : System) (r s : ℕ → ℤ) → ((t : ℕ) → t ≤ S.m → S.tag t ≤ right S) → (h : IsParallel (suc (right S)) r s) → (k : ℕ) → k < suc S.m → h.p *ℤ key S r k ≡ h.q *ℤ key S s k
-key_parallel S r s tags h zero l = h.same (right S) (omega arith)
-key_parallel S r s tags h (suc k) l = let g : S.tag k ≤ right S = tags k (omega arith) in h.same (S.tag k) (omega arith)
-
--- the order of two ratios, where each divisor goes with its row
-pub before_parallel : (S : System) (a a' b b' : ℕ → ℤ) (p p' q q' : ℤ) → IsTagged S → (h : IsParallel (suc (right S)) a a') → (g : IsParallel (suc (right S)) b b') → h.p *ℤ p ≡ h.q *ℤ p' → g.p *ℤ q ≡ g.q *ℤ q' → ComesBefore S a p b q → ComesBefore S a' p' b' q'
-before_parallel S a a' b b' p p' q q' t h g hp gq c =
-    lex_unscale (suc S.m) (h.q *ℤ g.q) (λ k. (p' *ℤ key S b' k) -ℤ (q' *ℤ key S a' k)) (mul-pos_z h.q g.q h.q_positive g.q_positive)
-    (lex_ext (suc S.m) (λ k. (h.p *ℤ g.p) *ℤ ((p *ℤ key S b k) -ℤ (q *ℤ key S a k))) (λ k. (h.q *ℤ g.q) *ℤ ((p' *ℤ key S b' k) -ℤ (q' *ℤ key S a' k)))
-    (λ k kl.
-    let x : (h.p *ℤ g.p) *ℤ ((p *ℤ key S b k) -ℤ (q *ℤ key S a k)) ≡ ((h.p *ℤ p) *ℤ (g.p *ℤ key S b k)) -ℤ ((g.p *ℤ q) *ℤ (h.p *ℤ key S a k)) = simp ring in
-    let y : ((h.q *ℤ p') *ℤ (g.q *ℤ key S b' k)) -ℤ ((g.q *ℤ q') *ℤ (h.q *ℤ key S a' k)) ≡ (h.q *ℤ g.q) *ℤ ((p' *ℤ key S b' k) -ℤ (q' *ℤ key S a' k)) = simp ring in
-    x
-    ∙ ap (λ v. (v *ℤ (g.p *ℤ key S b k)) -ℤ ((g.p *ℤ q) *ℤ (h.p *ℤ key S a k))) hp
-    ∙ ap (λ v. ((h.q *ℤ p') *ℤ v) -ℤ ((g.p *ℤ q) *ℤ (h.p *ℤ key S a k))) (key_parallel S b b' (tags_in S t) g k kl)
-    ∙ ap (λ v. ((h.q *ℤ p') *ℤ (g.q *ℤ key S b' k)) -ℤ (v *ℤ (h.p *ℤ key S a k))) gq
-    ∙ ap (λ v. ((h.q *ℤ p') *ℤ (g.q *ℤ key S b' k)) -ℤ ((g.q *ℤ q') *ℤ v)) (key_parallel S a a' (tags_in S t) h k kl)
-    ∙ y)
-    (lex_scale (suc S.m) (h.p *ℤ g.p) (λ k. (p *ℤ key S b k) -ℤ (q *ℤ key S a k)) (mul-pos_z h.p g.p h.p_positive g.p_positive) c))
-
--- with the entries of one column as divisors
-pub before_column : (S : System) (rows rows' : ℕ → ℕ → ℤ) (i j col : ℕ) → IsTagged S → AreParallel S rows rows' → i ≤ S.m → j ≤ S.m → col ≤ right S → ComesBefore S (rows i) (rows i col) (rows j) (rows j col) → ComesBefore S (rows' i) (rows' i col) (rows' j) (rows' j col)
-before_column S rows rows' i j col t h il jl cl c =
-    before_parallel S (rows i) (rows' i) (rows j) (rows' j) (rows i col) (rows' i col) (rows j col) (rows' j col) t (h i il) (h j jl) ((h i il).same col (omega arith)) ((h j jl).same col (omega arith)) c
-
-pub lex_parallel : (S : System) (r s : ℕ → ℤ) → IsTagged S → IsParallel (suc (right S)) r s → IsLexPositive (suc S.m) (key S r) → IsLexPositive (suc S.m) (key S s)
-lex_parallel S r s t h c =
-    lex_unscale (suc S.m) h.q (key S s) h.q_positive
-    (lex_ext (suc S.m) (λ k. h.p *ℤ key S r k) (λ k. h.q *ℤ key S s k) (λ k kl. key_parallel S r s (tags_in S t) h k kl)
-    (lex_scale (suc S.m) h.p (key S r) h.p_positive c))
-
-pub order_parallel : (S : System) (rows rows' : ℕ → ℕ → ℤ) → IsTagged S → AreParallel S rows rows' → IsLexFeasible S rows → IsLexFeasible S rows'
-order_parallel S rows rows' t h f i il = lex_parallel S (rows i) (rows' i) t (h i (omega arith)) (f i il)
-
-pub enters_parallel : (S : System) (rows rows' : ℕ → ℕ → ℤ) (col : ℕ) → AreParallel S rows rows' → Enters S rows col → Enters S rows' col
-enters_parallel S rows rows' col h v =
-    let ci : col < S.columns = v.inside in
-    record {
-      inside = v.inside;
-      improving = parallel_negative (suc (right S)) (rows S.m) (rows' S.m) col (h S.m (omega arith)) (omega arith) v.improving;
-      first = λ k kl. parallel_nonnegative (suc (right S)) (rows S.m) (rows' S.m) k (h S.m (omega arith)) (omega arith) (v.first k kl);
-    }
-
-pub leaves_parallel : (S : System) (rows rows' : ℕ → ℕ → ℤ) (col e : ℕ) → IsTagged S → col < S.columns → AreParallel S rows rows' → Leaves S rows col e → Leaves S rows' col e
-leaves_parallel S rows rows' col e t cl h v =
-    let el : e < S.m = v.inside in
-    record {
-      inside = v.inside;
-      positive = parallel_positive (suc (right S)) (rows e) (rows' e) col (h e (omega arith)) (omega arith) v.positive;
-      first = λ i il p c.
-          v.first i il (parallel_positive (suc (right S)) (rows' i) (rows i) col (parallel_sym (suc (right S)) (rows i) (rows' i) (h i (omega arith))) (omega arith) p)
-          (before_column S rows' rows i e col t (are_sym S rows rows' h) (omega arith) (omega arith) (omega arith) c);
-    }
-
-pub feasible_parallel : (S : System) (rows rows' : ℕ → ℕ → ℤ) → AreParallel S rows rows' → Feasible S rows → Feasible S rows'
-feasible_parallel S rows rows' h f i il = parallel_nonnegative (suc (right S)) (rows i) (rows' i) (right S) (h i (omega arith)) (omega arith) (f i il)
-
-pub none_improves_parallel : (S : System) (rows rows' : ℕ → ℕ → ℤ) → AreParallel S rows rows' → IsNonnegative S.columns (rows S.m) → IsNonnegative S.columns (rows' S.m)
-none_improves_parallel S rows rows' h n k kl = parallel_nonnegative (suc (right S)) (rows S.m) (rows' S.m) k (h S.m (omega arith)) (omega arith) (n k kl)
-
-pub no_limit_parallel : (S : System) (rows rows' : ℕ → ℕ → ℤ) (col : ℕ) → col < S.columns → AreParallel S rows rows' → ((i : ℕ) → i < S.m → rows i col ≤ℤ pos 0) → (i : ℕ) → i < S.m → rows' i col ≤ℤ pos 0
-no_limit_parallel S rows rows' col cl h n i il = parallel_nonpositive (suc (right S)) (rows i) (rows' i) col (h i (omega arith)) (omega arith) (n i il)
-
-pub optimal_parallel : (S : System) (rows rows' : ℕ → ℕ → ℤ) → AreParallel S rows rows' → EndsOptimal S rows → EndsOptimal S rows'
-optimal_parallel S rows rows' h o = record { feasible = feasible_parallel S rows rows' h o.feasible; no_improving = none_improves_parallel S rows rows' h o.no_improving }
-
-pub unbounded_parallel : (S : System) (own : ℕ → ℕ) (rows rows' : ℕ → ℕ → ℤ) (col : ℕ) → AreParallel S rows rows' → EndsUnbounded S own rows col → EndsUnbounded S own rows' col
-unbounded_parallel S own rows rows' col h u =
-    let ci : col < S.columns = u.inside in
-    record {
-      feasible = feasible_parallel S rows rows' h u.feasible;
-      inside = u.inside;
-      improving = parallel_negative (suc (right S)) (rows S.m) (rows' S.m) col (h S.m (omega arith)) (omega arith) u.improving;
-      no_limit = no_limit_parallel S rows rows' col u.inside h u.no_limit;
-    }
-
-pub rises_parallel : (S : System) (r s r' s' : ℕ → ℤ) → IsTagged S → IsParallel (suc (right S)) r s → IsParallel (suc (right S)) r' s' → Rises S r r' → Rises S s s'
-rises_parallel S r s r' s' t h h' c =
-    before_parallel S r s r' s' (r (objective S)) (s (objective S)) (r' (objective S)) (s' (objective S)) t h h' (h.same (objective S) (omega arith)) (h'.same (objective S) (omega arith)) c
+pub use Rattle.rob_linear.proofs.Parallels.{parallel_refl, parallel_sym, parallel_trans, parallel_zero, parallel_positive, parallel_nonnegative, parallel_negative, parallel_nonpositive, parallel_quotient, parallel_along, multiple_parallel, multiples_in, basis_multiples, multiples_basis, primitive_row, multiple_rows_exist, rows_parallel, are_sym, key_parallel, before_parallel, before_column, lex_parallel, order_parallel, enters_parallel, leaves_parallel, feasible_parallel, none_improves_parallel, no_limit_parallel, optimal_parallel, unbounded_parallel, rises_parallel}
 
 -- ---- pivots
-pub spanned_cleared : (S : System) (d p q : ℤ) (low top new : ℕ → ℤ) → ((t : ℕ) → t ≤ S.m → S.tag t ≤ right S) → pos 0 <ℤ d → ((k : ℕ) → k < suc (right S) → d *ℤ new k ≡ (p *ℤ low k) -ℤ (q *ℤ top k)) → IsSpanned S low → IsSpanned S top → IsSpanned S new
+pub spanned_cleared : (S : System) (d p q : ℤ) (low top new : ℕ → ℤ) → ((t : ℕ) → t ≤ S.m → S.tag t ≤ right S)
+    → pos 0 <ℤ d → ((k : ℕ) → k < suc (right S) → d *ℤ new k ≡ (p *ℤ low k) -ℤ (q *ℤ top k)) → IsSpanned S low
+    → IsSpanned S top → IsSpanned S new
 spanned_cleared S d p q low top new tags dp entries hl ht k kl =
     mul_cancel d (new k) (sum_to (suc S.m) (λ t. new (S.tag t) *ℤ S.start t k)) dp
     (entries k (omega arith) ∙ sym
     (sym (sum_scale (suc S.m) d (λ t. new (S.tag t) *ℤ S.start t k))
-    ∙ sum_ext (suc S.m) (λ t. d *ℤ (new (S.tag t) *ℤ S.start t k)) (λ t. ((p *ℤ low (S.tag t)) -ℤ (q *ℤ top (S.tag t))) *ℤ S.start t k) (λ t l.
+    ∙ sum_ext (suc S.m) (λ t. d *ℤ (new (S.tag t) *ℤ S.start t k))
+    (λ t. ((p *ℤ low (S.tag t)) -ℤ (q *ℤ top (S.tag t))) *ℤ S.start t k) (λ t l.
     let g : S.tag t ≤ right S = tags t (omega arith) in
     let a : d *ℤ (new (S.tag t) *ℤ S.start t k) ≡ (d *ℤ new (S.tag t)) *ℤ S.start t k = simp ring in
     a ∙ ap (λ v. v *ℤ S.start t k) (entries (S.tag t) (omega arith)))
@@ -238,7 +42,10 @@ spanned_cleared S d p q low top new tags dp entries hl ht k kl =
     ∙ ap (λ v. (p *ℤ low k) -ℤ (q *ℤ v)) (sym (ht k kl))))
 
 -- a row below the pivot's; the sign of the pivot's row is nothing to it
-pub cleared_row : (S : System) (own own' : ℕ → ℕ) (low top new : ℕ → ℤ) (e col i : ℕ) → ((t : ℕ) → t ≤ S.m → S.tag t ≤ right S) → ((j : ℕ) → j ≤ S.m → own j ≤ right S) → own' e ≡ col → ((j : ℕ) → j ≢ e → own' j ≡ own j) → i ≤ S.m → i ≢ e → IsMultipleRow S own i low → LiesAlong S own e top → IsClearedBy (suc (right S)) col low top new → IsMultipleRow S own' i new
+pub cleared_row : (S : System) (own own' : ℕ → ℕ) (low top new : ℕ → ℤ) (e col i : ℕ)
+    → ((t : ℕ) → t ≤ S.m → S.tag t ≤ right S) → ((j : ℕ) → j ≤ S.m → own j ≤ right S) → own' e ≡ col
+    → ((j : ℕ) → j ≢ e → own' j ≡ own j) → i ≤ S.m → i ≢ e → IsMultipleRow S own i low → LiesAlong S own e top
+    → IsClearedBy (suc (right S)) col low top new → IsMultipleRow S own' i new
 cleared_row S own own' low top new e col i tags inside at other il d hl ht c =
     let value : (j : ℕ) → j ≤ S.m → j ≢ e → c.divisor *ℤ new (own j) ≡ c.p *ℤ low (own j) =
     (λ j jl jd.
@@ -250,17 +57,21 @@ cleared_row S own own' low top new e col i tags inside at other il d hl ht c =
       along = record {
         zeros = λ j jl jd. elim (cases_eq j e) [
           | inl g ↦ ap new (ap own' g ∙ at) ∙ c.cleared
-          | inr g ↦ ap new (other j g) ∙ mul_cancel_zero c.divisor (new (own j)) c.divides (value j jl g ∙ ap (λ v. c.p *ℤ v) (hl.zeros j jl jd) ∙ mul-zero c.p)
+          | inr g ↦ ap new (other j g)
+              ∙ mul_cancel_zero c.divisor (new (own j)) c.divides
+              (value j jl g ∙ ap (λ v. c.p *ℤ v) (hl.zeros j jl jd) ∙ mul-zero c.p)
         ];
         spanned = spanned_cleared S c.divisor c.p c.q low top new tags c.divides c.entries hl.spanned ht.spanned;
       };
       positive = subst (λ v. pos 0 <ℤ new v) (sym (other i d))
           (mul_cancel_lt c.divisor (pos 0) (new (own i)) c.divides
-          (subst (λ v. v <ℤ (c.divisor *ℤ new (own i))) (sym (mul-zero c.divisor)) (subst (λ v. pos 0 <ℤ v) (sym (value i il d)) (mul-pos_z c.p (low (own i)) c.positive hl.positive))));
+          (subst (λ v. v <ℤ (c.divisor *ℤ new (own i))) (sym (mul-zero c.divisor))
+          (subst (λ v. pos 0 <ℤ v) (sym (value i il d)) (mul-pos_z c.p (low (own i)) c.positive hl.positive))));
     }
 
 -- the pivot's own row
-pub pivot_row : (S : System) (own own' : ℕ → ℕ) (top : ℕ → ℤ) (e col : ℕ) → own' e ≡ col → ((j : ℕ) → j ≢ e → own' j ≡ own j) → LiesAlong S own e top → pos 0 <ℤ top col → IsMultipleRow S own' e top
+pub pivot_row : (S : System) (own own' : ℕ → ℕ) (top : ℕ → ℤ) (e col : ℕ) → own' e ≡ col
+    → ((j : ℕ) → j ≢ e → own' j ≡ own j) → LiesAlong S own e top → pos 0 <ℤ top col → IsMultipleRow S own' e top
 pivot_row S own own' top e col at other ht p = record {
   along = record {
     zeros = λ j jl jd. ap top (other j jd) ∙ ht.zeros j jl jd;
@@ -269,31 +80,44 @@ pivot_row S own own' top e col at other ht p = record {
   positive = subst (λ v. pos 0 <ℤ top v) (sym at) p;
 }
 
-pub multiple_pivot : (S : System) (own own' : ℕ → ℕ) (rows rows' : ℕ → ℕ → ℤ) (e col : ℕ) → IsTagged S → IsPivotableMultiple S own rows e → IsMultiplePivot S own own' rows rows' e col → HasMultipleRows S own' rows'
+pub multiple_pivot : (S : System) (own own' : ℕ → ℕ) (rows rows' : ℕ → ℕ → ℤ) (e col : ℕ) → IsTagged S
+    → IsPivotableMultiple S own rows e → IsMultiplePivot S own own' rows rows' e col → HasMultipleRows S own' rows'
 multiple_pivot S own own' rows rows' e col g b v =
     let w : e < S.m = v.row_in in
     let ci : col < S.columns = v.col_in in
-    let inside' : (i : ℕ) → i < S.m → own' i < S.columns = (λ i l. elim (cases_eq i e) [ inl c ↦ subst (λ u. u < S.columns) (sym (ap own' c ∙ v.own_at)) v.col_in | inr c ↦ subst (λ u. u < S.columns) (sym (v.own_other i c)) (b.inside i l) ]) in
+    let inside' : (i : ℕ) → i < S.m → own' i < S.columns =
+    (λ i l. elim (cases_eq i e) [
+      | inl c ↦ subst (λ u. u < S.columns) (sym (ap own' c ∙ v.own_at)) v.col_in
+      | inr c ↦ subst (λ u. u < S.columns) (sym (v.own_other i c)) (b.inside i l)
+    ]) in
     let last' : own' S.m ≡ objective S = v.own_other S.m (omega arith) ∙ b.last in
-    let bound : (j : ℕ) → j ≤ S.m → own j ≤ right S = (λ j jl. let o : own j < suc S.columns = own_in S own b.inside b.last j jl in omega arith) in
-    let bound' : (j : ℕ) → j ≤ S.m → own' j ≤ right S = (λ j jl. let o : own' j < suc S.columns = own_in S own' inside' last' j jl in omega arith) in
+    let bound : (j : ℕ) → j ≤ S.m → own j ≤ right S =
+    (λ j jl. let o : own j < suc S.columns = own_in S own b.inside b.last j jl in omega arith) in
+    let bound' : (j : ℕ) → j ≤ S.m → own' j ≤ right S =
+    (λ j jl. let o : own' j < suc S.columns = own_in S own' inside' last' j jl in omega arith) in
     record {
       inside = inside';
       last = last';
       rows_of = λ i l. elim (cases_eq i e) [
         | inl c ↦
             subst (λ t. IsMultipleRow S own' t (rows' t)) (sym c)
-            (multiple_parallel S own' e (rows e) (rows' e) (tags_in S g) bound' (omega arith) (parallel_sym (suc (right S)) (rows' e) (rows e) v.row_at)
+            (multiple_parallel S own' e (rows e) (rows' e) (tags_in S g) bound' (omega arith)
+            (parallel_sym (suc (right S)) (rows' e) (rows e) v.row_at)
             (pivot_row S own own' (rows e) e col v.own_at v.own_other b.along v.entry))
-        | inr c ↦ cleared_row S own own' (rows i) (rows e) (rows' i) e col i (tags_in S g) bound v.own_at v.own_other l c (b.others i l c) b.along (v.row_other i l c)
+        | inr c ↦ cleared_row S own own' (rows i) (rows e) (rows' i) e col i (tags_in S g) bound v.own_at v.own_other l
+            c (b.others i l c) b.along (v.row_other i l c)
       ];
     }
 
 -- ---- turns
-pub multiple_turn : (S : System) (basis next : ℕ → ℕ) (rows rows' : ℕ → ℕ → ℤ) (e col : ℕ) → IsTagged S → StandsMultiple S basis rows → Enters S rows col → Leaves S rows col e → IsMultiplePivot S (own_of S basis) (own_of S next) rows rows' e col → TurnsTo S basis next × StandsMultiple S next rows' × Rises S (rows S.m) (rows' S.m)
+pub multiple_turn : (S : System) (basis next : ℕ → ℕ) (rows rows' : ℕ → ℕ → ℤ) (e col : ℕ) → IsTagged S
+    → StandsMultiple S basis rows → Enters S rows col → Leaves S rows col e
+    → IsMultiplePivot S (own_of S basis) (own_of S next) rows rows' e col → TurnsTo S basis next
+    × StandsMultiple S next rows' × Rises S (rows S.m) (rows' S.m)
 multiple_turn S basis next rows rows' e col g s en le v =
     let el : e < S.m = v.row_in in
-    let b : (prim : ℕ → ℕ → ℤ) × IsBasis S (own_of S basis) prim = multiple_rows_exist S (own_of S basis) rows g s.multiples in
+    let b : (prim : ℕ → ℕ → ℤ) × IsBasis S (own_of S basis) prim =
+    multiple_rows_exist S (own_of S basis) rows g s.multiples in
     let par : AreParallel S rows b.0 = rows_parallel S (own_of S basis) b.0 rows b.1 s.multiples in
     let t : TurnsTo S basis next = record {
       rows = b.0;
@@ -311,20 +135,32 @@ multiple_turn S basis next rows rows' e col g s en le v =
             sym (own_low S next i l) ∙ v.own_other i d ∙ own_low S basis i l ∙ sym f
       ];
     } in
-    let sw : StandsWith S basis b.0 = record { is_basis = b.1; feasible = order_parallel S rows b.0 g par s.feasible } in
-    let n : (rows'' : ℕ → ℕ → ℤ) × StandsWith S next rows'' × Rises S (b.0 S.m) (rows'' S.m) = turn_stands S basis next b.0 g sw t in
-    let pv : IsPivotableMultiple S (own_of S basis) rows e = record { inside = s.multiples.inside; last = s.multiples.last; others = λ i il d. s.multiples.rows_of i il; along = (s.multiples.rows_of e (omega arith)).along } in
-    let m' : HasMultipleRows S (own_of S next) rows' = multiple_pivot S (own_of S basis) (own_of S next) rows rows' e col g pv v in
+    let sw : StandsWith S basis b.0 =
+    record { is_basis = b.1; feasible = order_parallel S rows b.0 g par s.feasible } in
+    let n : (rows'' : ℕ → ℕ → ℤ) × StandsWith S next rows'' × Rises S (b.0 S.m) (rows'' S.m) =
+    turn_stands S basis next b.0 g sw t in
+    let pv : IsPivotableMultiple S (own_of S basis) rows e = record {
+      inside = s.multiples.inside;
+      last = s.multiples.last;
+      others = λ i il d. s.multiples.rows_of i il;
+      along = (s.multiples.rows_of e (omega arith)).along;
+    } in
+    let m' : HasMultipleRows S (own_of S next) rows' =
+    multiple_pivot S (own_of S basis) (own_of S next) rows rows' e col g pv v in
     let par' : AreParallel S rows' n.0 = rows_parallel S (own_of S next) n.0 rows' n.1.is_basis m' in (
       t,
       record { multiples = m'; feasible = order_parallel S n.0 rows' g (are_sym S rows' n.0 par') n.1.feasible },
-      rises_parallel S (b.0 S.m) (rows S.m) (n.0 S.m) (rows' S.m) g (parallel_sym (suc (right S)) (rows S.m) (b.0 S.m) (par S.m (omega arith))) (parallel_sym (suc (right S)) (rows' S.m) (n.0 S.m) (par' S.m (omega arith))) n.2,
+      rises_parallel S (b.0 S.m) (rows S.m) (n.0 S.m) (rows' S.m) g
+          (parallel_sym (suc (right S)) (rows S.m) (b.0 S.m) (par S.m (omega arith)))
+          (parallel_sym (suc (right S)) (rows' S.m) (n.0 S.m) (par' S.m (omega arith))) n.2,
     )
 
 -- ---- width
-least_of : (n p q : ℕ) (r s : ℕ → ℤ) → 0 < p → 0 < q → ((k : ℕ) → k < n → pos p *ℤ r k ≡ pos q *ℤ s k) → IsPrimitive n s → (k : ℕ) → k < n → unsigned_abs (s k) ≤ unsigned_abs (r k)
+least_of : (n p q : ℕ) (r s : ℕ → ℤ) → 0 < p → 0 < q → ((k : ℕ) → k < n → pos p *ℤ r k ≡ pos q *ℤ s k) → IsPrimitive n s
+    → (k : ℕ) → k < n → unsigned_abs (s k) ≤ unsigned_abs (r k)
 least_of n p q r s pp qp e h k kl =
-    let a : (k : ℕ) → k < n → p * unsigned_abs (r k) ≡ q * unsigned_abs (s k) = (λ k l. sym (unsigned_abs-mul (pos p) (r k)) ∙ ap unsigned_abs (e k l) ∙ unsigned_abs-mul (pos q) (s k)) in
+    let a : (k : ℕ) → k < n → p * unsigned_abs (r k) ≡ q * unsigned_abs (s k) =
+    (λ k l. sym (unsigned_abs-mul (pos p) (r k)) ∙ ap unsigned_abs (e k l) ∙ unsigned_abs-mul (pos q) (s k)) in
     let d : p ∣ q = divides_other n p q (λ k. unsigned_abs (r k)) (λ k. unsigned_abs (s k)) pp a h in
     let l : p ≤ q = le_of_dvd qp d in
     let b : p * unsigned_abs (s k) ≤ q * unsigned_abs (s k) = mul-le-mul_right (unsigned_abs (s k)) l in
@@ -332,35 +168,64 @@ least_of n p q r s pp qp e h k kl =
     le_of_mul-le-mul_left {m = unsigned_abs (s k)} {n = unsigned_abs (r k)} {k = p} (omega arith) pp
 
 -- the primitive one of parallel rows has the least entries
-pub primitive_least : (n : ℕ) (p q : ℤ) (r s : ℕ → ℤ) → pos 0 <ℤ p → pos 0 <ℤ q → ((k : ℕ) → k < n → p *ℤ r k ≡ q *ℤ s k) → IsPrimitive n s → (k : ℕ) → k < n → unsigned_abs (s k) ≤ unsigned_abs (r k)
+pub primitive_least : (n : ℕ) (p q : ℤ) (r s : ℕ → ℤ) → pos 0 <ℤ p → pos 0 <ℤ q
+    → ((k : ℕ) → k < n → p *ℤ r k ≡ q *ℤ s k) → IsPrimitive n s → (k : ℕ) → k < n
+    → unsigned_abs (s k) ≤ unsigned_abs (r k)
 primitive_least n (negsuc p) q r s pp qp e h k kl = absurd (omega (arith, ints))
 primitive_least n (pos p) (negsuc q) r s pp qp e h k kl = absurd (omega (arith, ints))
-primitive_least n (pos p) (pos q) r s pp qp e h k kl = least_of n p q r s (omega (arith, ints)) (omega (arith, ints)) e h k kl
+primitive_least n (pos p) (pos q) r s pp qp e h k kl =
+    least_of n p q r s (omega (arith, ints)) (omega (arith, ints)) e h k kl
 
 -- so no row is wide whose multiple at hand is not
-pub wide_multiple : (limit : ℕ) (S : System) (basis : ℕ → ℕ) (rows : ℕ → ℕ → ℤ) (i : ℕ) → IsTagged S → HasMultipleRows S (own_of S basis) rows → i ≤ S.m → IsWideIn limit S basis i → HasWideEntry limit S (rows i)
+pub wide_multiple : (limit : ℕ) (S : System) (basis : ℕ → ℕ) (rows : ℕ → ℕ → ℤ) (i : ℕ) → IsTagged S
+    → HasMultipleRows S (own_of S basis) rows → i ≤ S.m → IsWideIn limit S basis i → HasWideEntry limit S (rows i)
 wide_multiple limit S basis rows i g h il w =
     let b : (prim : ℕ → ℕ → ℤ) × IsBasis S (own_of S basis) prim = multiple_rows_exist S (own_of S basis) rows g h in
     let v : HasWideEntry limit S (b.0 i) = wide_in_rows limit S basis b.0 i b.1 il w in
     let par : IsParallel (suc (right S)) (rows i) (b.0 i) = rows_parallel S (own_of S basis) b.0 rows b.1 h i il in
     let kl : v.0 ≤ right S = v.1 in
     let x : limit < unsigned_abs (b.0 i v.0) = v.2 in
-    let y : unsigned_abs (b.0 i v.0) ≤ unsigned_abs (rows i v.0) = primitive_least (suc (right S)) par.p par.q (rows i) (b.0 i) par.p_positive par.q_positive par.same (b.1.rows_of i il).primitive v.0 (omega arith) in
+    let y : unsigned_abs (b.0 i v.0) ≤ unsigned_abs (rows i v.0) =
+    primitive_least (suc (right S)) par.p par.q (rows i) (b.0 i) par.p_positive par.q_positive par.same
+    (b.1.rows_of i il).primitive v.0 (omega arith) in
     (v.0, v.1, omega arith)
 
 -- and a row is wide whose multiple at hand, made primitive, is
-pub multiple_wide : (limit : ℕ) (S : System) (basis : ℕ → ℕ) (rows : ℕ → ℕ → ℤ) (i : ℕ) (s : ℕ → ℤ) → IsTagged S → HasMultipleRows S (own_of S basis) rows → i ≤ S.m → IsParallel (suc (right S)) (rows i) s → IsPrimitive (suc (right S)) s → HasWideEntry limit S s → IsWideIn limit S basis i
-multiple_wide limit S basis rows i s g h il par p w =
-    (s, listed_inside S basis h.inside, primitive_row S (own_of S basis) i (rows i) s g (multiples_in S (own_of S basis) rows h) il (h.rows_of i il) par p, w)
+pub multiple_wide : (limit : ℕ) (S : System) (basis : ℕ → ℕ) (rows : ℕ → ℕ → ℤ) (i : ℕ) (s : ℕ → ℤ) → IsTagged S
+    → HasMultipleRows S (own_of S basis) rows → i ≤ S.m → IsParallel (suc (right S)) (rows i) s
+    → IsPrimitive (suc (right S)) s → HasWideEntry limit S s → IsWideIn limit S basis i
+multiple_wide limit S basis rows i s g h il par p w = (
+  s,
+  listed_inside S basis h.inside,
+  primitive_row S (own_of S basis) i (rows i) s g (multiples_in S (own_of S basis) rows h) il
+      (h.rows_of i il) par p,
+  w,
+)
 
 -- the row that a pivot would make of row i, where it is in lowest terms
-pub pivot_wide : (limit : ℕ) (S : System) (basis next : ℕ → ℕ) (rows : ℕ → ℕ → ℤ) (e col i : ℕ) (new : ℕ → ℤ) → IsTagged S → IsPivotableMultiple S (own_of S basis) rows e → IsExchange S (own_of S basis) (own_of S next) rows e col → i ≤ S.m → i ≢ e → IsClearedBy (suc (right S)) col (rows i) (rows e) new → IsPrimitive (suc (right S)) new → HasWideEntry limit S new → IsWideIn limit S next i
+pub pivot_wide : (limit : ℕ) (S : System) (basis next : ℕ → ℕ) (rows : ℕ → ℕ → ℤ) (e col i : ℕ) (new : ℕ → ℤ)
+    → IsTagged S → IsPivotableMultiple S (own_of S basis) rows e
+    → IsExchange S (own_of S basis) (own_of S next) rows e col → i ≤ S.m → i ≢ e
+    → IsClearedBy (suc (right S)) col (rows i) (rows e) new → IsPrimitive (suc (right S)) new → HasWideEntry limit S new
+    → IsWideIn limit S next i
 pivot_wide limit S basis next rows e col i new g b v il d c p w =
-    let m : IsMultipleRow S (own_of S next) i new = cleared_row S (own_of S basis) (own_of S next) (rows i) (rows e) new e col i (tags_in S g) (λ j jl. let o : own_of S basis j < suc S.columns = own_in S (own_of S basis) b.inside b.last j jl in omega arith) v.own_at v.own_other il d (b.others i il d) b.along c in
-    (new, exchange_inside S (own_of S basis) next rows e col b.inside v, record { along = m.along; positive = m.positive; primitive = p }, w)
+    let m : IsMultipleRow S (own_of S next) i new =
+    cleared_row S (own_of S basis) (own_of S next) (rows i) (rows e) new e col i (tags_in S g)
+    (λ j jl. let o : own_of S basis j < suc S.columns = own_in S (own_of S basis) b.inside b.last j jl in
+    omega arith) v.own_at v.own_other il d (b.others i il d) b.along c in (
+      new,
+      exchange_inside S (own_of S basis) next rows e col b.inside v,
+      record {
+        along = m.along;
+        positive = m.positive;
+        primitive = p;
+      },
+      w,
+    )
 
 -- ---- a row that a pivot in lowest terms makes, or that stays since it is 0 in the column
-pub combined_clears : (n col : ℕ) (low top new : ℕ → ℤ) → col < n → pos 0 <ℤ top col → IsCombined n (top col) low (low col) top new → IsClearedBy n col low top new
+pub combined_clears : (n col : ℕ) (low top new : ℕ → ℤ) → col < n → pos 0 <ℤ top col
+    → IsCombined n (top col) low (low col) top new → IsClearedBy n col low top new
 combined_clears n col low top new l p c = record {
   divisor = c.divisor;
   p = top col;
@@ -374,7 +239,8 @@ combined_clears n col low top new l p c = record {
       mul_cancel_zero c.divisor (new col) c.positive (omega (arith, ints));
 }
 
-pub zero_clears : (n col : ℕ) (low top new : ℕ → ℤ) → col < n → low col ≡ pos 0 → ((k : ℕ) → k < n → new k ≡ low k) → IsClearedBy n col low top new
+pub zero_clears : (n col : ℕ) (low top new : ℕ → ℤ) → col < n → low col ≡ pos 0 → ((k : ℕ) → k < n → new k ≡ low k)
+    → IsClearedBy n col low top new
 zero_clears n col low top new l z e = record {
   divisor = pos 1;
   p = pos 1;
@@ -389,7 +255,8 @@ zero_clears n col low top new l z e = record {
 }
 
 -- with both factors divided by what is common to them
-pub factors_clear : (n col : ℕ) (low top new : ℕ → ℤ) (p q : ℤ) → col < n → pos 0 <ℤ p → p *ℤ low col ≡ q *ℤ top col → ((k : ℕ) → k < n → new k ≡ (p *ℤ low k) -ℤ (q *ℤ top k)) → IsClearedBy n col low top new
+pub factors_clear : (n col : ℕ) (low top new : ℕ → ℤ) (p q : ℤ) → col < n → pos 0 <ℤ p → p *ℤ low col ≡ q *ℤ top col
+    → ((k : ℕ) → k < n → new k ≡ (p *ℤ low k) -ℤ (q *ℤ top k)) → IsClearedBy n col low top new
 factors_clear n col low top new p q l pp s e = record {
   divisor = pos 1;
   p = p;
@@ -401,5 +268,13 @@ factors_clear n col low top new p q l pp s e = record {
 }
 
 -- a row divided by something common to its entries
-pub divided_parallel : (n : ℕ) (r s : ℕ → ℤ) (d : ℤ) → pos 0 <ℤ d → ((k : ℕ) → k < n → d *ℤ s k ≡ r k) → IsParallel n r s
-divided_parallel n r s d dp e = record { p = pos 1; q = d; p_positive = omega (arith, ints); q_positive = dp; same = λ k kl. one-mul (r k) ∙ sym (e k kl) }
+pub divided_parallel : (n : ℕ) (r s : ℕ → ℤ) (d : ℤ) → pos 0 <ℤ d
+    → ((k : ℕ) → k < n → d *ℤ s k ≡ r k) → IsParallel n r s
+divided_parallel n r s d dp e =
+    record {
+      p = pos 1;
+      q = d;
+      p_positive = omega (arith, ints);
+      q_positive = dp;
+      same = λ k kl. one-mul (r k) ∙ sym (e k kl);
+    }

@@ -24,7 +24,8 @@ sum_zero (suc n) f h =
 
 pub sum_add : (n : ℕ) (f g : ℕ → ℤ) → sum_to n (λ j. f j +ℤ g j) ≡ sum_to n f +ℤ sum_to n g
 sum_add zero f g = refl
-sum_add (suc n) f g = let ih : sum_to n (λ j. f j +ℤ g j) ≡ sum_to n f +ℤ sum_to n g = sum_add n f g in omega (arith, ints)
+sum_add (suc n) f g =
+    let ih : sum_to n (λ j. f j +ℤ g j) ≡ sum_to n f +ℤ sum_to n g = sum_add n f g in omega (arith, ints)
 
 pub sum_scale : (n : ℕ) (c : ℤ) (f : ℕ → ℤ) → sum_to n (λ j. c *ℤ f j) ≡ c *ℤ sum_to n f
 sum_scale zero c f = sym (mul-zero c)
@@ -62,7 +63,8 @@ pub sum_one : (n k : ℕ) (f : ℕ → ℤ) → k < n → ((j : ℕ) → j < n �
 sum_one zero k f l h = absurd (omega arith)
 sum_one (suc n) k f l h =
     elim (cases_eq n k) [
-      | inl e ↦ let z : sum_to n f ≡ pos 0 = sum_zero n f (λ j b. h j (omega arith) (omega arith)) in let q : f n ≡ f k = ap f e in omega (arith, ints)
+      | inl e ↦ let z : sum_to n f ≡ pos 0 = sum_zero n f (λ j b. h j (omega arith) (omega arith)) in
+          let q : f n ≡ f k = ap f e in omega (arith, ints)
       | inr e ↦
           let z : f n ≡ pos 0 = h n (omega arith) e in
           let ih : sum_to n f ≡ f k = sum_one n k f (omega arith) (λ j b d. h j (omega arith) d) in
@@ -73,7 +75,8 @@ sum_one (suc n) k f l h =
 pub sum_split : (n m : ℕ) (f : ℕ → ℤ) → sum_to (n + m) f ≡ sum_to n f +ℤ sum_to m (λ j. f (n + j))
 sum_split n zero f = ap (λ t. sum_to t f) (add-zero n) ∙ omega (arith, ints)
 sum_split n (suc m) f =
-    ap (λ t. sum_to t f) (add-suc n m) ∙ ap (λ t. t +ℤ f (n + m)) (sum_split n m f) ∙ add_assoc (sum_to n f) (sum_to m (λ j. f (n + j))) (f (n + m))
+    ap (λ t. sum_to t f) (add-suc n m) ∙ ap (λ t. t +ℤ f (n + m)) (sum_split n m f)
+    ∙ add_assoc (sum_to n f) (sum_to m (λ j. f (n + j))) (f (n + m))
 
 -- ---- scalar products
 
@@ -81,26 +84,33 @@ pub dot_ext : (n : ℕ) (f g x : ℕ → ℤ) → ((j : ℕ) → j < n → f j �
 dot_ext n f g x h = sum_ext n (λ j. f j *ℤ x j) (λ j. g j *ℤ x j) (λ j l. ap (λ t. t *ℤ x j) (h j l))
 
 -- of two multiples' difference
-pub dot_combine : (n : ℕ) (p q : ℤ) (f g x : ℕ → ℤ) → dot n (λ j. (p *ℤ f j) -ℤ (q *ℤ g j)) x ≡ (p *ℤ dot n f x) -ℤ (q *ℤ dot n g x)
+pub dot_combine : (n : ℕ) (p q : ℤ) (f g x : ℕ → ℤ)
+    → dot n (λ j. (p *ℤ f j) -ℤ (q *ℤ g j)) x ≡ (p *ℤ dot n f x) -ℤ (q *ℤ dot n g x)
 dot_combine n p q f g x =
-    sum_ext n (λ j. ((p *ℤ f j) -ℤ (q *ℤ g j)) *ℤ x j) (λ j. (p *ℤ (f j *ℤ x j)) +ℤ (neg_ℤ q *ℤ (g j *ℤ x j))) (λ j l. simp ring)
+    sum_ext n (λ j. ((p *ℤ f j) -ℤ (q *ℤ g j)) *ℤ x j)
+    (λ j. (p *ℤ (f j *ℤ x j)) +ℤ (neg_ℤ q *ℤ (g j *ℤ x j))) (λ j l. simp ring)
     ∙ sum_add n (λ j. p *ℤ (f j *ℤ x j)) (λ j. neg_ℤ q *ℤ (g j *ℤ x j))
     ∙ ap (λ t. t +ℤ sum_to n (λ j. neg_ℤ q *ℤ (g j *ℤ x j))) (sum_scale n p (λ j. f j *ℤ x j))
     ∙ ap (λ t. (p *ℤ dot n f x) +ℤ t) (sum_scale n (neg_ℤ q) (λ j. g j *ℤ x j) ∙ neg-mul q (dot n g x))
 
 -- a linear combination of rows, the scalar product of one, and its bound
-pub dot_rows : (m n : ℕ) (w : ℕ → ℤ) (a : ℕ → ℕ → ℤ) (x : ℕ → ℤ) → dot n (λ j. sum_to m (λ i. w i *ℤ a i j)) x ≡ sum_to m (λ i. w i *ℤ dot n (a i) x)
+pub dot_rows : (m n : ℕ) (w : ℕ → ℤ) (a : ℕ → ℕ → ℤ) (x : ℕ → ℤ)
+    → dot n (λ j. sum_to m (λ i. w i *ℤ a i j)) x ≡ sum_to m (λ i. w i *ℤ dot n (a i) x)
 dot_rows m n w a x =
     sum_ext n (λ j. sum_to m (λ i. w i *ℤ a i j) *ℤ x j) (λ j. sum_to m (λ i. w i *ℤ (a i j *ℤ x j))) (λ j l.
     *ℤ_comm (sum_to m (λ i. w i *ℤ a i j)) (x j)
     ∙ sym (sum_scale m (x j) (λ i. w i *ℤ a i j))
     ∙ sum_ext m (λ i. x j *ℤ (w i *ℤ a i j)) (λ i. w i *ℤ (a i j *ℤ x j)) (λ i k. simp ring))
     ∙ sum_swap n m (λ j i. w i *ℤ (a i j *ℤ x j))
-    ∙ sum_ext m (λ i. sum_to n (λ j. w i *ℤ (a i j *ℤ x j))) (λ i. w i *ℤ dot n (a i) x) (λ i l. sum_scale n (w i) (λ j. a i j *ℤ x j))
+    ∙ sum_ext m (λ i. sum_to n (λ j. w i *ℤ (a i j *ℤ x j))) (λ i. w i *ℤ dot n (a i) x)
+    (λ i l. sum_scale n (w i) (λ j. a i j *ℤ x j))
 
-pub rows_bound : (m n : ℕ) (w b : ℕ → ℤ) (a : ℕ → ℕ → ℤ) (x : ℕ → ℤ) → ((i : ℕ) → i < m → pos 0 ≤ℤ w i) → ((i : ℕ) → i < m → dot n (a i) x ≤ℤ b i) → dot n (λ j. sum_to m (λ i. w i *ℤ a i j)) x ≤ℤ dot m w b
+pub rows_bound : (m n : ℕ) (w b : ℕ → ℤ) (a : ℕ → ℕ → ℤ) (x : ℕ → ℤ) → ((i : ℕ) → i < m → pos 0 ≤ℤ w i)
+    → ((i : ℕ) → i < m → dot n (a i) x ≤ℤ b i) → dot n (λ j. sum_to m (λ i. w i *ℤ a i j)) x ≤ℤ dot m w b
 rows_bound m n w b a x wp h =
-    rw (dot_rows m n w a x) (sum_mono m (λ i. w i *ℤ dot n (a i) x) (λ i. w i *ℤ b i) (λ i l. mul_le_mul (w i) (dot n (a i) x) (b i) (wp i l) (h i l)))
+    rw (dot_rows m n w a x)
+    (sum_mono m (λ i. w i *ℤ dot n (a i) x) (λ i. w i *ℤ b i)
+    (λ i l. mul_le_mul (w i) (dot n (a i) x) (b i) (wp i l) (h i l)))
 
 -- a unit vector picks an entry
 pub dot_one : (n k : ℕ) (f x : ℕ → ℤ) → k < n → ((j : ℕ) → j < n → j ≢ k → f j ≡ pos 0) → dot n f x ≡ f k *ℤ x k
@@ -115,12 +125,16 @@ dot_along n f z r u =
     ∙ ap (λ t. dot n f z +ℤ t) (sum_scale n u (λ j. f j *ℤ r j))
 
 -- each column's bound, for x without negative entries
-pub dot_mono : (n : ℕ) (f g x : ℕ → ℤ) → ((j : ℕ) → j < n → f j ≤ℤ g j) → ((j : ℕ) → j < n → pos 0 ≤ℤ x j) → dot n f x ≤ℤ dot n g x
+pub dot_mono : (n : ℕ) (f g x : ℕ → ℤ) → ((j : ℕ) → j < n → f j ≤ℤ g j) → ((j : ℕ) → j < n → pos 0 ≤ℤ x j)
+    → dot n f x ≤ℤ dot n g x
 dot_mono n f g x h p =
-    sum_mono n (λ j. f j *ℤ x j) (λ j. g j *ℤ x j) (λ j l. rw (*ℤ_comm (f j) (x j), *ℤ_comm (g j) (x j)) (mul_le_mul (x j) (f j) (g j) (p j l) (h j l)))
+    sum_mono n (λ j. f j *ℤ x j) (λ j. g j *ℤ x j)
+    (λ j l. rw (*ℤ_comm (f j) (x j), *ℤ_comm (g j) (x j)) (mul_le_mul (x j) (f j) (g j) (p j l) (h j l)))
 
 pub dot_scale : (n : ℕ) (u : ℤ) (f x : ℕ → ℤ) → dot n (λ j. u *ℤ f j) x ≡ u *ℤ dot n f x
-dot_scale n u f x = sum_ext n (λ j. (u *ℤ f j) *ℤ x j) (λ j. u *ℤ (f j *ℤ x j)) (λ j l. simp ring) ∙ sum_scale n u (λ j. f j *ℤ x j)
+dot_scale n u f x =
+    sum_ext n (λ j. (u *ℤ f j) *ℤ x j) (λ j. u *ℤ (f j *ℤ x j)) (λ j l. simp ring) ∙ sum_scale n u (λ j. f j *ℤ x j)
 
 pub dot_scale_right : (n : ℕ) (u : ℤ) (f x : ℕ → ℤ) → dot n f (λ j. u *ℤ x j) ≡ u *ℤ dot n f x
-dot_scale_right n u f x = sum_ext n (λ j. f j *ℤ (u *ℤ x j)) (λ j. u *ℤ (f j *ℤ x j)) (λ j l. simp ring) ∙ sum_scale n u (λ j. f j *ℤ x j)
+dot_scale_right n u f x =
+    sum_ext n (λ j. f j *ℤ (u *ℤ x j)) (λ j. u *ℤ (f j *ℤ x j)) (λ j l. simp ring) ∙ sum_scale n u (λ j. f j *ℤ x j)

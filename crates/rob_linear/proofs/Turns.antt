@@ -23,14 +23,16 @@ own_low S basis i l = grind (arith, nat_tests)
 pub own_high : (S : System) (basis : ℕ → ℕ) (i : ℕ) → S.m ≤ i → own_of S basis i ≡ objective S
 own_high S basis i l = grind (arith, nat_tests)
 
-pub own_same : (S : System) (basis basis' : ℕ → ℕ) → IsSameBasis S.m basis basis' → (i : ℕ) → own_of S basis i ≡ own_of S basis' i
+pub own_same : (S : System) (basis basis' : ℕ → ℕ) → IsSameBasis S.m basis basis' → (i : ℕ)
+    → own_of S basis i ≡ own_of S basis' i
 own_same S basis basis' h i =
     elim (cases_lt i S.m) [
       | inl l ↦ own_low S basis i l ∙ h i l ∙ sym (own_low S basis' i l)
       | inr l ↦ own_high S basis i (omega arith) ∙ sym (own_high S basis' i (omega arith))
     ]
 
-pub basis_same : (S : System) (own own' : ℕ → ℕ) (rows : ℕ → ℕ → ℤ) → ((i : ℕ) → i ≤ S.m → own' i ≡ own i) → IsBasis S own' rows → IsBasis S own rows
+pub basis_same : (S : System) (own own' : ℕ → ℕ) (rows : ℕ → ℕ → ℤ) → ((i : ℕ) → i ≤ S.m → own' i ≡ own i)
+    → IsBasis S own' rows → IsBasis S own rows
 basis_same S own own' rows e b = record {
   inside = λ i l. subst (λ v. v < S.columns) (e i (omega arith)) (b.inside i l);
   last = sym (e S.m (omega arith)) ∙ b.last;
@@ -49,37 +51,48 @@ abbrev pub AreEqual : System → (ℕ → ℕ → ℤ) → (ℕ → ℕ → ℤ)
 AreEqual S rows rows' = (i : ℕ) → i ≤ S.m → (k : ℕ) → k ≤ right S → rows i k ≡ rows' i k
 
 -- what holds of the rows of a basis holds of rows with the same entries
-pub row_of_equal : (S : System) (own : ℕ → ℕ) (i : ℕ) (r r' : ℕ → ℤ) → IsTagged S → ((j : ℕ) → j ≤ S.m → own j ≤ right S) → i ≤ S.m → ((k : ℕ) → k ≤ right S → r k ≡ r' k) → RowOf S own i r → RowOf S own i r'
+pub row_of_equal : (S : System) (own : ℕ → ℕ) (i : ℕ) (r r' : ℕ → ℤ) → IsTagged S
+    → ((j : ℕ) → j ≤ S.m → own j ≤ right S) → i ≤ S.m → ((k : ℕ) → k ≤ right S → r k ≡ r' k)
+    → RowOf S own i r → RowOf S own i r'
 row_of_equal S own i r r' g inside il e h = record {
   along = record {
     zeros = λ j jl d. sym (e (own j) (inside j jl)) ∙ h.zeros j jl d;
     spanned = λ k kl.
         sym (e k kl) ∙ h.spanned k kl
-        ∙ sum_ext (suc S.m) (λ t. r (S.tag t) *ℤ S.start t k) (λ t. r' (S.tag t) *ℤ S.start t k) (λ t tl. ap (λ v. v *ℤ S.start t k) (e (S.tag t) (tags_in S g t (omega arith))));
+        ∙ sum_ext (suc S.m) (λ t. r (S.tag t) *ℤ S.start t k) (λ t. r' (S.tag t) *ℤ S.start t k)
+        (λ t tl. ap (λ v. v *ℤ S.start t k) (e (S.tag t) (tags_in S g t (omega arith))));
   };
   positive = subst (λ v. pos 0 <ℤ v) (e (own i) (inside i il)) h.positive;
   primitive = λ d k. h.primitive d (λ j jl. subst (λ v. d ∣ unsigned_abs v) (sym (e j (omega arith))) (k j jl));
 }
 
-pub basis_equal : (S : System) (own : ℕ → ℕ) (rows rows' : ℕ → ℕ → ℤ) → IsTagged S → AreEqual S rows rows' → IsBasis S own rows → IsBasis S own rows'
+pub basis_equal : (S : System) (own : ℕ → ℕ) (rows rows' : ℕ → ℕ → ℤ) → IsTagged S → AreEqual S rows rows'
+    → IsBasis S own rows → IsBasis S own rows'
 basis_equal S own rows rows' g e b = record {
   inside = b.inside;
   last = b.last;
-  rows_of = λ i il. row_of_equal S own i (rows i) (rows' i) g (λ j jl. let l : own j < suc S.columns = own_below S own rows b j jl in omega arith) il (e i il) (b.rows_of i il);
+  rows_of = λ i il. row_of_equal S own i (rows i) (rows' i) g
+      (λ j jl. let l : own j < suc S.columns = own_below S own rows b j jl in omega arith) il (e i il) (b.rows_of i il);
 }
 
-pub before_same : (S : System) (a a' b b' : ℕ → ℤ) (p p' q q' : ℤ) → IsTagged S → ((k : ℕ) → k ≤ right S → a k ≡ a' k) → ((k : ℕ) → k ≤ right S → b k ≡ b' k) → p ≡ p' → q ≡ q' → ComesBefore S a p b q → ComesBefore S a' p' b' q'
+pub before_same : (S : System) (a a' b b' : ℕ → ℤ) (p p' q q' : ℤ) → IsTagged S → ((k : ℕ) → k ≤ right S → a k ≡ a' k)
+    → ((k : ℕ) → k ≤ right S → b k ≡ b' k) → p ≡ p' → q ≡ q' → ComesBefore S a p b q → ComesBefore S a' p' b' q'
 before_same S a a' b b' p p' q q' g ha hb hp hq c =
-    lex_ext (suc S.m) (λ k. (p *ℤ key S b k) -ℤ (q *ℤ key S a k)) (λ k. (p' *ℤ key S b' k) -ℤ (q' *ℤ key S a' k)) (λ k kl.
+    lex_ext (suc S.m) (λ k. (p *ℤ key S b k) -ℤ (q *ℤ key S a k))
+    (λ k. (p' *ℤ key S b' k) -ℤ (q' *ℤ key S a' k)) (λ k kl.
     ap (λ v. (v *ℤ key S b k) -ℤ (q *ℤ key S a k)) hp
     ∙ ap (λ v. (p' *ℤ v) -ℤ (q *ℤ key S a k)) (sym (key_same S b' b (tags_in S g) hb k kl))
     ∙ ap (λ v. (p' *ℤ key S b' k) -ℤ (v *ℤ key S a k)) hq
     ∙ ap (λ v. (p' *ℤ key S b' k) -ℤ (q' *ℤ v)) (sym (key_same S a' a (tags_in S g) ha k kl))) c
 
-pub feasible_same : (S : System) (rows rows' : ℕ → ℕ → ℤ) → IsTagged S → AreEqual S rows rows' → IsLexFeasible S rows → IsLexFeasible S rows'
-feasible_same S rows rows' g e f i il = lex_ext (suc S.m) (key S (rows i)) (key S (rows' i)) (λ k kl. sym (key_same S (rows' i) (rows i) (tags_in S g) (e i (omega arith)) k kl)) (f i il)
+pub feasible_same : (S : System) (rows rows' : ℕ → ℕ → ℤ) → IsTagged S → AreEqual S rows rows'
+    → IsLexFeasible S rows → IsLexFeasible S rows'
+feasible_same S rows rows' g e f i il =
+    lex_ext (suc S.m) (key S (rows i)) (key S (rows' i))
+    (λ k kl. sym (key_same S (rows' i) (rows i) (tags_in S g) (e i (omega arith)) k kl)) (f i il)
 
-pub enters_same : (S : System) (rows rows' : ℕ → ℕ → ℤ) (col : ℕ) → AreEqual S rows rows' → Enters S rows col → Enters S rows' col
+pub enters_same : (S : System) (rows rows' : ℕ → ℕ → ℤ) (col : ℕ) → AreEqual S rows rows'
+    → Enters S rows col → Enters S rows' col
 enters_same S rows rows' col e v =
     let ci : col < S.columns = v.inside in
     record {
@@ -88,7 +101,8 @@ enters_same S rows rows' col e v =
       first = λ k kl. subst (λ u. pos 0 ≤ℤ u) (e S.m (omega arith) k (omega arith)) (v.first k kl);
     }
 
-pub leaves_same : (S : System) (rows rows' : ℕ → ℕ → ℤ) (col p : ℕ) → IsTagged S → col < S.columns → AreEqual S rows rows' → Leaves S rows col p → Leaves S rows' col p
+pub leaves_same : (S : System) (rows rows' : ℕ → ℕ → ℤ) (col p : ℕ) → IsTagged S → col < S.columns
+    → AreEqual S rows rows' → Leaves S rows col p → Leaves S rows' col p
 leaves_same S rows rows' col p g cl e v =
     let pl : p < S.m = v.inside in
     record {
@@ -97,7 +111,8 @@ leaves_same S rows rows' col p g cl e v =
       first = λ i il h c.
           v.first i il (subst (λ u. pos 0 <ℤ u) (sym (e i (omega arith) col (omega arith))) h)
           (before_same S (rows' i) (rows i) (rows' p) (rows p) (rows' i col) (rows i col) (rows' p col) (rows p col) g
-          (λ k kl. sym (e i (omega arith) k kl)) (λ k kl. sym (e p (omega arith) k kl)) (sym (e i (omega arith) col (omega arith))) (sym (e p (omega arith) col (omega arith))) c);
+          (λ k kl. sym (e i (omega arith) k kl)) (λ k kl. sym (e p (omega arith) k kl))
+          (sym (e i (omega arith) col (omega arith))) (sym (e p (omega arith) col (omega arith))) c);
     }
 
 -- ---- one column enters, and one position leaves
@@ -112,7 +127,8 @@ enters_unique S rows c d v w =
     ]
 
 -- two rows can't tie: their keys are no multiples of one another
-pub leaves_unique : (S : System) (own : ℕ → ℕ) (rows : ℕ → ℕ → ℤ) (col p q : ℕ) → IsTagged S → IsBasis S own rows → Leaves S rows col p → Leaves S rows col q → p ≡ q
+pub leaves_unique : (S : System) (own : ℕ → ℕ) (rows : ℕ → ℕ → ℤ) (col p q : ℕ) → IsTagged S → IsBasis S own rows
+    → Leaves S rows col p → Leaves S rows col q → p ≡ q
 leaves_unique S own rows col p q g b v w =
     elim (cases_eq p q) [
       | inl e ↦ e
@@ -120,13 +136,18 @@ leaves_unique S own rows col p q g b v w =
         | inl h ↦ absurd (w.first p v.inside v.positive h)
         | inr (inl h) ↦
             absurd (v.first q w.inside w.positive
-            (lex_ext (suc S.m) (λ k. neg_ℤ ((rows p col *ℤ key S (rows q) k) -ℤ (rows q col *ℤ key S (rows p) k))) (λ k. (rows q col *ℤ key S (rows p) k) -ℤ (rows p col *ℤ key S (rows q) k)) (λ k kl. omega (arith, ints)) h))
-        | inr (inr h) ↦ absurd (not_proportional S own rows q p (rows p col) (rows q col) (tags_in S g) g.last b w.inside v.inside (λ e. d (sym e)) v.positive h)
+            (lex_ext (suc S.m) (λ k. neg_ℤ ((rows p col *ℤ key S (rows q) k) -ℤ (rows q col *ℤ key S (rows p) k)))
+            (λ k. (rows q col *ℤ key S (rows p) k) -ℤ (rows p col *ℤ key S (rows q) k))
+            (λ k kl. omega (arith, ints)) h))
+        | inr (inr h) ↦
+            absurd (not_proportional S own rows q p (rows p col) (rows q col) (tags_in S g) g.last b w.inside v.inside
+            (λ e. d (sym e)) v.positive h)
       ]
     ]
 
 -- ---- turns
-pub turn_same : (S : System) (basis basis' next : ℕ → ℕ) → IsSameBasis S.m basis basis' → TurnsTo S basis next → TurnsTo S basis' next
+pub turn_same : (S : System) (basis basis' next : ℕ → ℕ) → IsSameBasis S.m basis basis'
+    → TurnsTo S basis next → TurnsTo S basis' next
 turn_same S basis basis' next h t = record {
   rows = t.rows;
   position = t.position;
@@ -138,17 +159,22 @@ turn_same S basis basis' next h t = record {
 }
 
 -- from one basis to one basis
-pub turn_unique : (S : System) (basis next next' : ℕ → ℕ) → IsTagged S → TurnsTo S basis next → TurnsTo S basis next' → IsSameBasis S.m next next'
+pub turn_unique : (S : System) (basis next next' : ℕ → ℕ) → IsTagged S → TurnsTo S basis next → TurnsTo S basis next'
+    → IsSameBasis S.m next next'
 turn_unique S basis next next' g t u =
     let e : AreEqual S u.rows t.rows = rows_equal S (own_of S basis) u.rows t.rows u.is_basis t.is_basis in
-    let c : t.column ≡ u.column = enters_unique S t.rows t.column u.column t.enters (enters_same S u.rows t.rows u.column e u.enters) in
+    let c : t.column ≡ u.column =
+    enters_unique S t.rows t.column u.column t.enters (enters_same S u.rows t.rows u.column e u.enters) in
     let p : t.position ≡ u.position =
     leaves_unique S (own_of S basis) t.rows t.column t.position u.position g t.is_basis t.leaves
-    (leaves_same S u.rows t.rows t.column u.position g t.enters.inside e (subst (λ v. Leaves S u.rows v u.position) (sym c) u.leaves)) in
-    (λ i l. t.exchanged i l ∙ ap (λ v. cond (eqb i v) t.column (basis i)) p ∙ ap (λ v. cond (eqb i u.position) v (basis i)) c ∙ sym (u.exchanged i l))
+    (leaves_same S u.rows t.rows t.column u.position g t.enters.inside e
+    (subst (λ v. Leaves S u.rows v u.position) (sym c) u.leaves)) in
+    (λ i l. t.exchanged i l ∙ ap (λ v. cond (eqb i v) t.column (basis i)) p
+    ∙ ap (λ v. cond (eqb i u.position) v (basis i)) c ∙ sym (u.exchanged i l))
 
 -- the pivot that a turn makes
-pub turn_exchange : (S : System) (basis next : ℕ → ℕ) → (t : TurnsTo S basis next) → IsExchange S (own_of S basis) (own_of S next) t.rows t.position t.column
+pub turn_exchange : (S : System) (basis next : ℕ → ℕ) → (t : TurnsTo S basis next)
+    → IsExchange S (own_of S basis) (own_of S next) t.rows t.position t.column
 turn_exchange S basis next t =
     let pl : t.position < S.m = t.leaves.inside in
     record {
@@ -167,7 +193,8 @@ turn_exchange S basis next t =
     }
 
 -- a turn of rows is one of bases
-pub rows_turn : (S : System) (basis next : ℕ → ℕ) (rows rows' : ℕ → ℕ → ℤ) (e col : ℕ) → IsBasis S (own_of S basis) rows → IsTurn S (own_of S basis) (own_of S next) rows rows' e col → TurnsTo S basis next
+pub rows_turn : (S : System) (basis next : ℕ → ℕ) (rows rows' : ℕ → ℕ → ℤ) (e col : ℕ) → IsBasis S (own_of S basis) rows
+    → IsTurn S (own_of S basis) (own_of S next) rows rows' e col → TurnsTo S basis next
 rows_turn S basis next rows rows' e col b t = record {
   rows = rows;
   position = e;
@@ -186,32 +213,51 @@ rows_turn S basis next rows rows' e col b t = record {
 }
 
 -- ---- the rows of a basis that a path has reached
-pub stands_same : (S : System) (basis basis' : ℕ → ℕ) (rows : ℕ → ℕ → ℤ) → IsSameBasis S.m basis basis' → StandsWith S basis rows → StandsWith S basis' rows
-stands_same S basis basis' rows h s = record { is_basis = basis_same S (own_of S basis') (own_of S basis) rows (λ i l. own_same S basis basis' h i) s.is_basis; feasible = s.feasible }
+pub stands_same : (S : System) (basis basis' : ℕ → ℕ) (rows : ℕ → ℕ → ℤ) → IsSameBasis S.m basis basis'
+    → StandsWith S basis rows → StandsWith S basis' rows
+stands_same S basis basis' rows h s = record {
+  is_basis = basis_same S (own_of S basis') (own_of S basis) rows (λ i l. own_same S basis basis' h i) s.is_basis;
+  feasible = s.feasible;
+}
 
-pub stands_with : (S : System) (basis : ℕ → ℕ) (rows rows' : ℕ → ℕ → ℤ) → IsTagged S → StandsWith S basis rows → IsBasis S (own_of S basis) rows' → StandsWith S basis rows'
-stands_with S basis rows rows' g s b = record { is_basis = b; feasible = feasible_same S rows rows' g (rows_equal S (own_of S basis) rows rows' s.is_basis b) s.feasible }
-
-pub stands_equal : (S : System) (basis : ℕ → ℕ) (rows rows' : ℕ → ℕ → ℤ) → IsTagged S → AreEqual S rows rows' → StandsWith S basis rows → StandsWith S basis rows'
-stands_equal S basis rows rows' g e s = record { is_basis = basis_equal S (own_of S basis) rows rows' g e s.is_basis; feasible = feasible_same S rows rows' g e s.feasible }
+pub stands_equal : (S : System) (basis : ℕ → ℕ) (rows rows' : ℕ → ℕ → ℤ) → IsTagged S → AreEqual S rows rows'
+    → StandsWith S basis rows → StandsWith S basis rows'
+stands_equal S basis rows rows' g e s = record {
+  is_basis = basis_equal S (own_of S basis) rows rows' g e s.is_basis;
+  feasible = feasible_same S rows rows' g e s.feasible;
+}
 
 -- a turn keeps the rows' order, and the objective's row rises
-pub turn_stands : (S : System) (basis next : ℕ → ℕ) (rows : ℕ → ℕ → ℤ) → IsTagged S → StandsWith S basis rows → TurnsTo S basis next → (rows' : ℕ → ℕ → ℤ) × StandsWith S next rows' × Rises S (rows S.m) (rows' S.m)
+pub turn_stands : (S : System) (basis next : ℕ → ℕ) (rows : ℕ → ℕ → ℤ) → IsTagged S → StandsWith S basis rows
+    → TurnsTo S basis next → (rows' : ℕ → ℕ → ℤ) × StandsWith S next rows' × Rises S (rows S.m) (rows' S.m)
 turn_stands S basis next rows g s t =
     let e : AreEqual S t.rows rows = rows_equal S (own_of S basis) t.rows rows t.is_basis s.is_basis in
     let cl : t.column < S.columns = t.enters.inside in
     let pl : t.position < S.m = t.leaves.inside in
     let x : IsExchange S (own_of S basis) (own_of S next) rows t.position t.column =
     let y : IsExchange S (own_of S basis) (own_of S next) t.rows t.position t.column = turn_exchange S basis next t in
-    record { row_in = y.row_in; col_in = y.col_in; entry = subst (λ v. pos 0 <ℤ v) (e t.position (omega arith) t.column (omega arith)) y.entry; own_at = y.own_at; own_other = y.own_other } in
+    record {
+      row_in = y.row_in;
+      col_in = y.col_in;
+      entry = subst (λ v. pos 0 <ℤ v) (e t.position (omega arith) t.column (omega arith)) y.entry;
+      own_at = y.own_at;
+      own_other = y.own_other;
+    } in
     let v : (rows' : ℕ → ℕ → ℤ) × IsPivot S (own_of S basis) (own_of S next) rows rows' t.position t.column =
-    pivot_exists S (own_of S basis) (own_of S next) rows t.position t.column (basis_pivotable S (own_of S basis) rows t.position (omega arith) s.is_basis) x in
+    pivot_exists S (own_of S basis) (own_of S next) rows t.position t.column
+    (basis_pivotable S (own_of S basis) rows t.position (omega arith) s.is_basis) x in
     let u : IsTurn S (own_of S basis) (own_of S next) rows v.0 t.position t.column =
-    record { pivot = v.1; enters = enters_same S t.rows rows t.column e t.enters; leaves = leaves_same S t.rows rows t.column t.position g cl e t.leaves } in (
+    record {
+      pivot = v.1;
+      enters = enters_same S t.rows rows t.column e t.enters;
+      leaves = leaves_same S t.rows rows t.column t.position g cl e t.leaves;
+    } in (
       v.0,
       record {
-        is_basis = pivot_is_basis S (own_of S basis) (own_of S next) rows v.0 t.position t.column (tags_in S g) (basis_pivotable S (own_of S basis) rows t.position (omega arith) s.is_basis) v.1;
-        feasible = turn_keeps_order S (own_of S basis) (own_of S next) rows v.0 t.position t.column (tags_in S g) g.last s.is_basis s.feasible u;
+        is_basis = pivot_is_basis S (own_of S basis) (own_of S next) rows v.0 t.position t.column (tags_in S g)
+            (basis_pivotable S (own_of S basis) rows t.position (omega arith) s.is_basis) v.1;
+        feasible = turn_keeps_order S (own_of S basis) (own_of S next) rows v.0 t.position t.column (tags_in S g) g.last
+            s.is_basis s.feasible u;
       },
       turn_rises S (own_of S basis) (own_of S next) rows v.0 t.position t.column g s.is_basis s.feasible u,
     )

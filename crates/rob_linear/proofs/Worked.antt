@@ -35,7 +35,9 @@ selling_turn = record {
   exchanged = λ i l. placed i l;
 }
   where
-    alone : (i : ℕ) → i < 1 → pos 0 <ℤ starting_row selling i 0 → ¬ (ComesBefore (system_of selling) (starting_row selling i) (starting_row selling i 0) (starting_row selling 0) (starting_row selling 0 0))
+    alone : (i : ℕ) → i < 1 → pos 0 <ℤ starting_row selling i 0
+        → ¬ (ComesBefore (system_of selling) (starting_row selling i) (starting_row selling i 0)
+        (starting_row selling 0) (starting_row selling 0 0))
     alone zero l p = before_not_self (system_of selling) (starting_row selling 0) (starting_row selling 0 0)
     alone (suc i) l p = absurd (omega arith)
 
@@ -48,9 +50,15 @@ selling_rows : ℕ → ℕ → ℤ
 selling_rows zero = at (pos 1 ∷ pos 1 ∷ pos 0 ∷ pos 4 ∷ [])
 selling_rows (suc i) = at (pos 0 ∷ pos 3 ∷ pos 1 ∷ pos 12 ∷ [])
 
-selling_pivot : IsPivot (system_of selling) (own_of (system_of selling) (λ i. 1)) (own_of (system_of selling) (λ i. 0)) (starting_row selling) selling_rows 0 0
+selling_pivot : IsPivot (system_of selling) (own_of (system_of selling) (λ i. 1)) (own_of (system_of selling) (λ i. 0))
+    (starting_row selling) selling_rows 0 0
 unfolding selling_rows selling_turn
-selling_pivot = record { exchange = turn_exchange (system_of selling) (λ i. 1) (λ i. 0) selling_turn; row_at = stays; row_other = becomes }
+selling_pivot =
+    record {
+      exchange = turn_exchange (system_of selling) (λ i. 1) (λ i. 0) selling_turn;
+      row_at = stays;
+      row_other = becomes;
+    }
   where
     stays : (k : ℕ) → k ≤ 3 → selling_rows 0 k ≡ starting_row selling 0 k
     stays zero l = refl
@@ -59,27 +67,51 @@ selling_pivot = record { exchange = turn_exchange (system_of selling) (λ i. 1) 
     stays (suc (suc (suc zero))) l = refl
     stays (suc (suc (suc (suc k)))) l = absurd (omega arith)
 
-    entries : (k : ℕ) → k < 4 → pos 1 *ℤ selling_rows 1 k ≡ (pos 1 *ℤ starting_row selling 1 k) -ℤ (negsuc 2 *ℤ starting_row selling 0 k)
+    entries : (k : ℕ) → k < 4 → pos 1 *ℤ selling_rows 1 k
+        ≡ (pos 1 *ℤ starting_row selling 1 k) -ℤ (negsuc 2 *ℤ starting_row selling 0 k)
     entries zero l = refl
     entries (suc zero) l = refl
     entries (suc (suc zero)) l = refl
     entries (suc (suc (suc zero))) l = refl
     entries (suc (suc (suc (suc k)))) l = absurd (omega arith)
 
-    becomes : (i : ℕ) → i ≤ 1 → i ≢ 0 → IsCombined 4 (starting_row selling 0 0) (starting_row selling i) (starting_row selling i 0) (starting_row selling 0) (selling_rows i)
+    becomes : (i : ℕ) → i ≤ 1 → i ≢ 0
+        → IsCombined 4 (starting_row selling 0 0) (starting_row selling i) (starting_row selling i 0)
+        (starting_row selling 0) (selling_rows i)
     becomes zero l d = absurd (d refl)
-    becomes (suc zero) l d = record { divisor = pos 1; positive = record { lt = tt }; entries = entries; primitive = primitive_by_one 4 2 (selling_rows 1) (omega arith) refl }
+    becomes (suc zero) l d =
+        record {
+          divisor = pos 1;
+          positive = record {
+            lt = tt;
+          };
+          entries = entries;
+          primitive = primitive_by_one 4 2 (selling_rows 1) (omega arith) refl;
+        }
     becomes (suc (suc i)) l d = absurd (omega arith)
 
 selling_basis : IsBasis (system_of selling) (own_of (system_of selling) (λ i. 0)) selling_rows
 selling_basis =
-    pivot_is_basis (system_of selling) (own_of (system_of selling) (λ i. 1)) (own_of (system_of selling) (λ i. 0)) (starting_row selling) selling_rows 0 0 (tags_in (system_of selling) (system_tagged selling))
-    (basis_pivotable (system_of selling) (own_of (system_of selling) (λ i. 1)) (starting_row selling) 0 (omega arith) (slacks_stand selling (λ i. 1) selling_start).is_basis) selling_pivot
+    pivot_is_basis (system_of selling) (own_of (system_of selling) (λ i. 1)) (own_of (system_of selling) (λ i. 0))
+    (starting_row selling) selling_rows 0 0 (tags_in (system_of selling) (system_tagged selling))
+    (basis_pivotable (system_of selling) (own_of (system_of selling) (λ i. 1)) (starting_row selling) 0 (omega arith)
+    (slacks_stand selling (λ i. 1) selling_start).is_basis) selling_pivot
 
 -- the path ends with a in the basis
 selling_last : Last selling (λ i. 0)
 unfolding selling_rows
-selling_last = optimum_is_last selling (λ i. 0) (1, ((λ i. 1), inl selling_start, inr (stands_without selling (λ i. 1) (starting_row selling) (slacks_stand selling (λ i. 1) selling_start), selling_turn))) (selling_rows, selling_basis, record { feasible = feasible; no_improving = none })
+selling_last =
+    optimum_is_last selling (λ i. 0) (
+      1,
+      (
+        (λ i. 1),
+        inl selling_start,
+        inr (
+          stands_without selling (λ i. 1) (starting_row selling) (slacks_stand selling (λ i. 1) selling_start),
+          selling_turn,
+        ),
+      ),
+    ) (selling_rows, selling_basis, record { feasible = feasible; no_improving = none })
   where
     feasible : (i : ℕ) → i < 1 → pos 0 ≤ℤ selling_rows i 3
     feasible zero l = record { le = tt }
@@ -90,15 +122,18 @@ selling_last = optimum_is_last selling (λ i. 0) (1, ((λ i. 1), inl selling_sta
     none (suc zero) l = record { le = tt }
     none (suc (suc k)) l = absurd (omega arith)
 
--- ---- maximise a; a <= -1, which no a >= 0 keeps. Columns: a, its slack, the auxiliary column, the objective, the right side.
+-- ---- maximise a; a <= -1, which no a >= 0 keeps. Columns: a, its slack, the
+-- auxiliary column, the objective, the right side.
 abbrev buying : Program
 buying = record { m = 1; n = 1; a = λ i j. pos 1; b = λ i. negsuc 0; c = λ j. pos 1 }
 
 -- the auxiliary column comes in for the only row
 buying_start : StartsAtAuxiliary buying (λ i. 2)
-buying_start = record { row = 0; inside = omega arith; negative = record { lt = tt }; first = alone; exchanged = placed }
+buying_start =
+    record { row = 0; inside = omega arith; negative = record { lt = tt }; first = alone; exchanged = placed }
   where
-    alone : (i : ℕ) → i < 1 → ¬ (ComesBefore (auxiliary_of buying) (auxiliary_row buying i) (pos 1) (auxiliary_row buying 0) (pos 1))
+    alone : (i : ℕ) → i < 1
+        → ¬ (ComesBefore (auxiliary_of buying) (auxiliary_row buying i) (pos 1) (auxiliary_row buying 0) (pos 1))
     alone zero l = before_not_self (auxiliary_of buying) (auxiliary_row buying 0) (pos 1)
     alone (suc i) l = absurd (omega arith)
 
@@ -111,7 +146,8 @@ buying_rows : ℕ → ℕ → ℤ
 buying_rows zero = at (negsuc 0 ∷ negsuc 0 ∷ pos 1 ∷ pos 0 ∷ pos 1 ∷ [])
 buying_rows (suc i) = at (pos 1 ∷ pos 1 ∷ pos 0 ∷ pos 1 ∷ negsuc 0 ∷ [])
 
-buying_pivot : IsPivot (auxiliary_of buying) (auxiliary_tag buying) (own_of (auxiliary_of buying) (λ i. 2)) (turned_round (auxiliary_of buying) 0) buying_rows 0 2
+buying_pivot : IsPivot (auxiliary_of buying) (auxiliary_tag buying) (own_of (auxiliary_of buying) (λ i. 2))
+    (turned_round (auxiliary_of buying) 0) buying_rows 0 2
 unfolding buying_rows buying_start
 buying_pivot = record { exchange = start_exchange buying (λ i. 2) buying_start; row_at = stays; row_other = becomes }
   where
@@ -123,7 +159,8 @@ buying_pivot = record { exchange = start_exchange buying (λ i. 2) buying_start;
     stays (suc (suc (suc (suc zero)))) l = refl
     stays (suc (suc (suc (suc (suc k))))) l = absurd (omega arith)
 
-    entries : (k : ℕ) → k < 5 → pos 1 *ℤ buying_rows 1 k ≡ (pos 1 *ℤ turned_round (auxiliary_of buying) 0 1 k) -ℤ (pos 1 *ℤ turned_round (auxiliary_of buying) 0 0 k)
+    entries : (k : ℕ) → k < 5 → pos 1 *ℤ buying_rows 1 k
+        ≡ (pos 1 *ℤ turned_round (auxiliary_of buying) 0 1 k) -ℤ (pos 1 *ℤ turned_round (auxiliary_of buying) 0 0 k)
     entries zero l = refl
     entries (suc zero) l = refl
     entries (suc (suc zero)) l = refl
@@ -131,9 +168,19 @@ buying_pivot = record { exchange = start_exchange buying (λ i. 2) buying_start;
     entries (suc (suc (suc (suc zero)))) l = refl
     entries (suc (suc (suc (suc (suc k))))) l = absurd (omega arith)
 
-    becomes : (i : ℕ) → i ≤ 1 → i ≢ 0 → IsCombined 5 (turned_round (auxiliary_of buying) 0 0 2) (turned_round (auxiliary_of buying) 0 i) (turned_round (auxiliary_of buying) 0 i 2) (turned_round (auxiliary_of buying) 0 0) (buying_rows i)
+    becomes : (i : ℕ) → i ≤ 1 → i ≢ 0
+        → IsCombined 5 (turned_round (auxiliary_of buying) 0 0 2) (turned_round (auxiliary_of buying) 0 i)
+        (turned_round (auxiliary_of buying) 0 i 2) (turned_round (auxiliary_of buying) 0 0) (buying_rows i)
     becomes zero l d = absurd (d refl)
-    becomes (suc zero) l d = record { divisor = pos 1; positive = record { lt = tt }; entries = entries; primitive = primitive_by_one 5 0 (buying_rows 1) (omega arith) refl }
+    becomes (suc zero) l d =
+        record {
+          divisor = pos 1;
+          positive = record {
+            lt = tt;
+          };
+          entries = entries;
+          primitive = primitive_by_one 5 0 (buying_rows 1) (omega arith) refl;
+        }
     becomes (suc (suc i)) l d = absurd (omega arith)
 
 -- the path ends at its start: weight 1 on the row shows that nothing is feasible
@@ -143,7 +190,9 @@ buying_last =
     first_phase_is_last buying (λ i. 2) (0, inr buying_start) (
       buying_rows,
       (0, omega arith, refl),
-      pivot_is_basis (auxiliary_of buying) (auxiliary_tag buying) (own_of (auxiliary_of buying) (λ i. 2)) (turned_round (auxiliary_of buying) 0) buying_rows 0 2 (tags_in (auxiliary_of buying) (auxiliary_tagged buying))
+      pivot_is_basis (auxiliary_of buying) (auxiliary_tag buying) (own_of (auxiliary_of buying) (λ i. 2))
+          (turned_round (auxiliary_of buying) 0) buying_rows 0 2
+          (tags_in (auxiliary_of buying) (auxiliary_tagged buying))
           (round_pivotable (auxiliary_of buying) 0 (auxiliary_tagged buying) (omega arith)) buying_pivot,
       record { feasible = feasible; no_improving = none; below = record { lt = tt } },
     )

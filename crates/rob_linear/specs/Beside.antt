@@ -1,6 +1,6 @@
--- The first phase with the auxiliary column kept out of the basis of the table. At a basis of the path where it is basic at
--- position q, the table has the rows, up to factors, of the basis with another column f there: the slack column at the start,
--- later the column that left last. The auxiliary column is then one of the others in these rows.
+-- The first phase with the auxiliary column kept out of the basis of the table. At a basis of the path where it is
+-- basic at position q, the table has the rows, up to factors, of the basis with another column f there: the slack
+-- column at the start, later the column that left last. The auxiliary column is then one of the others in these rows.
 use Rattle.std.specs.Prelude.{◌≡◌, ◌≢◌, ℕ, suc, ◌+◌, ◌<◌, ◌≤◌, ◌⊎◌, nat_eq, cond, ℤ, pos, ◌≤ℤ◌, ◌<ℤ◌, neg_ℤ}
 use Rattle.rob_linear.specs.Vectors.{Columns, Matrix, Vector}
 use Rattle.rob_linear.specs.Systems.{System, right}
@@ -37,12 +37,15 @@ pub record IsBegun (P : Program) (q col : ℕ) (rows begun : Matrix) : Type 0 wh
   pub row_at : IsParallel (suc (right (kept_of P))) (begun q) (λ k. neg_ℤ (rows q k))
   pub row_other :
       (i : ℕ) → i ≤ P.m → i ≢ q
-      → IsParallel (suc (right (kept_of P))) (rows i) (begun i) ⊎ IsClearedBy (suc (right (kept_of P))) col (rows i) (rows q) (begun i)
+      → IsParallel (suc (right (kept_of P))) (rows i) (begun i)
+      ⊎ IsClearedBy (suc (right (kept_of P))) col (rows i) (rows q) (begun i)
 
--- the pivot at row q and the auxiliary column, with the row of the auxiliary cost put in, and `kept` made of the kept row
+-- the pivot at row q and the auxiliary column, with the row of the auxiliary
+-- cost put in, and `kept` made of the kept row
 pub record IsBackPivot (P : Program) (q : ℕ) (begun new : Matrix) (kept : Vector) : Type 0 where
   pub row_at : IsParallel (suc (right (kept_of P))) (new q) (begun q)
-  pub row_other : (i : ℕ) → i < P.m → i ≢ q → IsClearedBy (suc (right (kept_of P))) (auxiliary_column P) (begun i) (begun q) (new i)
+  pub row_other : (i : ℕ) → i < P.m → i ≢ q
+      → IsClearedBy (suc (right (kept_of P))) (auxiliary_column P) (begun i) (begun q) (new i)
   pub cost : IsClearedBy (suc (right (kept_of P))) (auxiliary_column P) (auxiliary_row P P.m) (begun q) (new P.m)
   pub kept_row : IsClearedBy (suc (right (kept_of P))) (auxiliary_column P) (begun P.m) (begun q) kept
 
@@ -50,7 +53,8 @@ pub record IsBackPivot (P : Program) (q : ℕ) (begun new : Matrix) (kept : Vect
 abbrev pub IsLexNegative : ℕ → Vector → Type 0
 IsLexNegative n f = IsLexPositive n (λ k. neg_ℤ (f k))
 
--- of the rows that are negative in the column and lexicographically negative, the one that comes first over minus that entry
+-- of the rows that are negative in the column and lexicographically negative,
+-- the one that comes first over minus that entry
 pub record IsLeast (S : System) (col : ℕ) (rows : Matrix) (e : ℕ) : Type 0 where
   pub inside : e < S.m
   pub below : rows e col <ℤ pos 0
@@ -73,7 +77,8 @@ swapped q p rows i = rows (exchanged q p i)
 
 -- the auxiliary objective's row at the basis of the path, up to a factor, read off row q
 abbrev pub beside_objective : Program → Vector → ℕ → ℤ
-beside_objective P r k = cond (nat_eq k (suc (P.n + P.m))) (neg_ℤ (r (P.n + P.m))) (cond (nat_eq k (P.n + P.m)) (pos 0) (r k))
+beside_objective P r k =
+    cond (nat_eq k (suc (P.n + P.m))) (neg_ℤ (r (P.n + P.m))) (cond (nat_eq k (P.n + P.m)) (pos 0) (r k))
 
 -- the rows without the auxiliary column
 abbrev pub without_column : Program → Matrix → Matrix
@@ -84,6 +89,8 @@ without_column P rows i k = rows i (auxiliary_place P k)
 abbrev pub path_basis : Program → Columns → ℕ → ℕ → ℕ
 path_basis P columns q = put_at columns q (auxiliary_column P)
 
+-- the table with these columns as its basis has rows up to factors, and at position q the auxiliary column's entry is
+-- negative
 pub record HoldsBeside (P : Program) (columns : Columns) (q : ℕ) (rows : Matrix) : Type 0 where
   pub inside : q < P.m
   pub multiples : HasMultipleRows (kept_of P) (own_of (kept_of P) columns) rows

@@ -36,15 +36,16 @@ pub record IsPivotableMultiple (S : System) (own : Columns) (rows : Matrix) (e :
   pub others : (i : ℕ) → i ≤ S.m → i ≢ e → IsMultipleRow S own i (rows i)
   pub along : LiesAlong S own e (rows e)
 
--- what a pivot makes of a row `low`: some positive times of it less some times the row `top` of the leaving position,
--- divided by something common, which may be 1, so that the entry in the entering column goes. A row that is 0 there may stay
-pub record IsClearedBy (n col : ℕ) (low top new : Vector) : Type 0 where
+-- what a pivot makes of a row: some positive times of it less some times the pivot's row, that of the leaving position,
+-- divided by something common, which may be 1, so that the entry in the entering column goes. A row that is 0 there may
+-- stay
+pub record IsClearedBy (n col : ℕ) (row pivot_row new : Vector) : Type 0 where
   pub divisor : ℤ
   pub p : ℤ
   pub q : ℤ
   pub divides : pos 0 <ℤ divisor
   pub positive : pos 0 <ℤ p
-  pub entries : (k : ℕ) → k < n → divisor *ℤ new k ≡ (p *ℤ low k) -ℤ (q *ℤ top k)
+  pub entries : (k : ℕ) → k < n → divisor *ℤ new k ≡ (p *ℤ row k) -ℤ (q *ℤ pivot_row k)
   pub cleared : new col ≡ pos 0
 
 -- a pivot of rows up to factors

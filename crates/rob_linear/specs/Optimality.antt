@@ -1,6 +1,7 @@
 -- What a linear program says of points of fractions: maximise c * x with A * x at most b and x at least 0.
 -- A point gives each column a fraction, and dual values give each row one; both are read up to the program's size.
--- Chvatal, Linear Programming (1983): chapter 3 (endings of the simplex method), chapter 5 (duality), chapter 8 (general form).
+-- Chvatal, Linear Programming (1983): chapter 3 (endings of the simplex
+-- method), chapter 5 (duality), chapter 8 (general form).
 use Rattle.std.specs.Prelude.{◌≡◌, ◌≢◌, ℕ, zero, suc, ◌<◌, ℤ, pos, neg_ℤ}
 use Rattle.rob_algebra.specs.Fraction.{Fraction, of_int, ◌+ℚ◌, ◌*ℚ◌, ◌≤ℚ◌, ◌<ℚ◌}
 use Rattle.rob_linear.specs.Vectors.{Columns, Matrix, Vector}
@@ -57,7 +58,8 @@ pub record IsImprovingRay (P : Program) (r : ℕ → Fraction) : Type 0 where
 abbrev pub IsScaled : ℕ → (ℕ → Fraction) → ℤ → Vector → Type 0
 IsScaled n x s z = (j : ℕ) → j < n → of_int s *ℚ x j ≡ of_int (z j)
 
--- the basic solution: column `own i` has the right side of its row over the row's own entry, and the other columns are 0
+-- the basic solution: column `own i` has the right side of its row over the
+-- row's own entry, and the other columns are 0
 pub record IsBasicPoint (S : System) (own : Columns) (rows : Matrix) (x : ℕ → Fraction) : Type 0 where
   pub basic : (i : ℕ) → i < S.m → of_int (rows i (own i)) *ℚ x (own i) ≡ of_int (rows i (right S))
   pub rest : (k : ℕ) → k < S.columns → ((i : ℕ) → i < S.m → k ≢ own i) → x k ≡ of_int (pos 0)

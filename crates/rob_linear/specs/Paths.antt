@@ -1,6 +1,6 @@
 -- The path of bases that the simplex method passes on a program, in both phases.
--- While the auxiliary column is basic, turns are those of the auxiliary form; once it has left, those of the program itself.
--- The auxiliary column never stays in the basis at value 0 at its optimum, so no rule is needed for that.
+-- While the auxiliary column is basic, turns are those of the auxiliary form; once it has left, those of the program
+-- itself. The auxiliary column never stays in the basis at value 0 at its optimum, so no rule is needed for that.
 -- Dantzig; Chvatal, Linear Programming (1983), chapter 3, with the first improving column as the one that enters.
 use Rattle.std.specs.Prelude.{◌≡◌, ℕ, zero, suc, ◌+◌, ◌<◌, ◌⊎◌, nat_eq, cond, pos, ◌≤ℤ◌, ◌<ℤ◌}
 use Rattle.rob_linear.specs.Vectors.{Columns, Matrix}
@@ -33,7 +33,8 @@ HasAuxiliary P basis = (i : ℕ) × (i < P.m) × (auxiliary_column P ≡ basis i
 -- one turn, in the auxiliary form while the auxiliary column is basic, else in the program's own
 abbrev pub Steps : Program → Columns → Columns → Type 0
 Steps P basis basis' =
-    (HasAuxiliary P basis × TurnsTo (auxiliary_of P) basis basis') ⊎ (¬ (HasAuxiliary P basis) × TurnsTo (system_of P) basis basis')
+    (HasAuxiliary P basis × TurnsTo (auxiliary_of P) basis basis')
+    ⊎ (¬ (HasAuxiliary P basis) × TurnsTo (system_of P) basis basis')
 
 -- k turns lead from the program's start to this basis
 abbrev pub Turned : Program → ℕ → Columns → Type 0
@@ -69,7 +70,8 @@ pub record LastFrom (P : Program) (start basis : Columns) : Type 0 where
 
 -- with a best point, whose rows are those of the program
 abbrev pub EndsAtOptimum : Program → Columns → Type 0
-EndsAtOptimum P basis = (rows : Matrix) × IsBasis (system_of P) (own_of (system_of P) basis) rows × EndsOptimal (system_of P) rows
+EndsAtOptimum P basis =
+    (rows : Matrix) × IsBasis (system_of P) (own_of (system_of P) basis) rows × EndsOptimal (system_of P) rows
 
 -- with an entering column in which no row is positive
 abbrev pub EndsAtRay : Program → Columns → Type 0

@@ -1,6 +1,6 @@
--- Programs in whole numbers: maximise c * x with A * x at most b and x at least 0. Points are scaled: z and s stand for z / s.
--- A program's columns are n structural ones, then m slack ones; in the auxiliary form one auxiliary column stands behind these.
--- Chvatal, Linear Programming (1983), chapters 1, 3 (the auxiliary problem) and 5 (duality).
+-- Programs in whole numbers: maximise c * x with A * x at most b and x at least 0. Points are scaled: z and s stand for
+-- z / s. A program's columns are n structural ones, then m slack ones; in the auxiliary form one auxiliary column
+-- stands behind these. Chvatal, Linear Programming (1983), chapters 1, 3 (the auxiliary problem) and 5 (duality).
 use Rattle.std.specs.Prelude.{◌≡◌, ◌≢◌, ℕ, suc, ◌+◌, ◌<◌, nat_lt, nat_eq, cond, ℤ, pos, negsuc, ◌*ℤ◌, ◌≤ℤ◌, ◌<ℤ◌, neg_ℤ}
 use Rattle.rob_linear.specs.Vectors.{Matrix, Vector, sum_to, dot}
 use Rattle.rob_linear.specs.Systems.{System, right, IsNonnegative, Feasible, with_objective}
@@ -39,7 +39,8 @@ right_of P t = cond (nat_lt t P.m) (P.b t) (pos 0)
 -- starting row t, with 1 in its own slack column, or in the objective's column where t is m
 abbrev pub starting_row : Program → ℕ → ℕ → ℤ
 starting_row P t k =
-    cond (nat_lt k P.n) (left_of P t k) (cond (nat_eq k (P.n + t)) (pos 1) (cond (nat_eq k (suc (P.n + P.m))) (right_of P t) (pos 0)))
+    cond (nat_lt k P.n) (left_of P t k)
+    (cond (nat_eq k (P.n + t)) (pos 1) (cond (nat_eq k (suc (P.n + P.m))) (right_of P t) (pos 0)))
 
 -- the program's starting rows
 abbrev pub system_of : Program → System

@@ -1,6 +1,6 @@
--- A number that rises with the objective's row where all kept numbers are within a limit. A loop's measure is what is left of it.
--- The keys of that row over its objective entry are fractions with small denominators, so each has a place among
--- finitely many, and the places are the digits of the rank.
+-- A number that rises with the objective's row where all kept numbers are within a limit. A loop's measure is what is
+-- left of it. The keys of that row over its objective entry are fractions with small denominators, so each has a place
+-- among finitely many, and the places are the digits of the rank.
 use Rattle.std.specs.Prelude.{ℕ, zero, suc, ◌+◌, ◌*◌, ◌/◌, ◌^◌, ◌<◌, ◌≤◌, ℤ, pos, ◌+ℤ◌, ◌*ℤ◌, ◌<ℤ◌}
 use Rattle.std.specs.Int.RustNames.{unsigned_abs}
 use Rattle.rob_linear.specs.Vectors.{Vector}

@@ -1,5 +1,6 @@
 -- The objective's row made column by column, as a new cost is put on a basis that stands.
--- Each stage is a row of the objective's position, for a cost that is 0 from some column on. Dantzig (parametric costs).
+-- Each stage is a row of the objective's position, for a cost that is 0 from
+-- some column on. Dantzig (parametric costs).
 use Rattle.std.specs.Prelude.{ℕ, suc, ◌+◌, nat_lt, nat_eq, cond, ℤ, pos, ◌*ℤ◌}
 use Rattle.rob_linear.specs.Vectors.{Columns, Vector}
 use Rattle.rob_linear.specs.Systems.{right, RowOf, IsCombined}
@@ -21,7 +22,8 @@ IsStage P own j r = RowOf (system_of (truncated P j)) own P.m r
 abbrev pub unit_row : ℕ → ℕ → ℤ
 unit_row j k = cond (nat_eq k j) (pos 1) (pos 0)
 
--- between stage j and stage j + 1: c j times the objective entry is subtracted in column j, which isn't cleared yet where it is basic
+-- between stage j and stage j + 1: c j times the objective entry is subtracted
+-- in column j, which isn't cleared yet where it is basic
 pub record IsHalfStage (P : Program) (own : Columns) (j : ℕ) (r : Vector) : Type 0 where
   pub stage : Vector
   pub is_stage : IsStage P own j stage

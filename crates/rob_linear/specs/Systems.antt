@@ -57,7 +57,8 @@ pub record IsBasis (S : System) (own : Columns) (rows : Matrix) : Type 0 where
   pub last : own S.m ≡ objective S
   pub rows_of : (i : ℕ) → i ≤ S.m → RowOf S own i (rows i)
 
--- z / s solves the equation of a row: its entries times z, the value in the objective's column, sum to its right side times s
+-- z / s solves the equation of a row: its entries times z, the value in the
+-- objective's column, sum to its right side times s
 abbrev pub Meets : System → Vector → ℤ → Vector → Type 0
 Meets S r s z = dot (suc S.columns) r z ≡ s *ℤ r (right S)
 
@@ -80,13 +81,15 @@ pub record IsSolution (S : System) (s : ℤ) (z : Vector) : Type 0 where
 abbrev pub Feasible : System → Matrix → Type 0
 Feasible S rows = (i : ℕ) → i < S.m → pos 0 ≤ℤ rows i (right S)
 
--- the basic solution, z / s: column `own i` has the right side of its row over the row's own entry, and all others are 0
+-- the basic solution, z / s: column `own i` has the right side of its row over
+-- the row's own entry, and all others are 0
 pub record Point (S : System) (own : Columns) (rows : Matrix) (s : ℤ) (z : Vector) : Type 0 where
   pub scale : pos 0 <ℤ s
   pub basic : (i : ℕ) → i ≤ S.m → rows i (own i) *ℤ z (own i) ≡ s *ℤ rows i (right S)
   pub rest : (k : ℕ) → k ≤ objective S → ((i : ℕ) → i ≤ S.m → k ≢ own i) → z k ≡ pos 0
 
--- the basic direction: column `col` grows by s, and column `own i` by minus s times its row's entry in `col` over its own
+-- the basic direction: column `col` grows by s, and column `own i` by minus s
+-- times its row's entry in `col` over its own
 pub record Move (S : System) (own : Columns) (rows : Matrix) (col : ℕ) (s : ℤ) (z : Vector) : Type 0 where
   pub scale : pos 0 <ℤ s
   pub entering : z col ≡ s
@@ -105,11 +108,12 @@ pub record EndsUnbounded (S : System) (own : Columns) (rows : Matrix) (col : ℕ
   pub improving : rows S.m col <ℤ pos 0
   pub no_limit : (i : ℕ) → i < S.m → rows i col ≤ℤ pos 0
 
--- what a pivot makes of a row `low`: p times it less q times the row `top` of the leaving position, divided by what is common
-pub record IsCombined (n : ℕ) (p : ℤ) (low : Vector) (q : ℤ) (top new : Vector) : Type 0 where
+-- what a pivot makes of a row: p times it less q times the pivot's row, that of the leaving position, divided by what
+-- is common
+pub record IsCombined (n : ℕ) (p : ℤ) (row : Vector) (q : ℤ) (pivot_row new : Vector) : Type 0 where
   pub divisor : ℤ
   pub positive : pos 0 <ℤ divisor
-  pub entries : (k : ℕ) → k < n → divisor *ℤ new k ≡ (p *ℤ low k) -ℤ (q *ℤ top k)
+  pub entries : (k : ℕ) → k < n → divisor *ℤ new k ≡ (p *ℤ row k) -ℤ (q *ℤ pivot_row k)
   pub primitive : IsPrimitive n new
 
 -- the rows, with r as the objective's

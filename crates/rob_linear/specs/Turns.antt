@@ -42,7 +42,8 @@ pub record IsPivot (S : System) (own own' : Columns) (rows rows' : Matrix) (e co
   pub exchange : IsExchange S own own' rows e col
   pub open exchange use *
   pub row_at : (k : ℕ) → k ≤ right S → rows' e k ≡ rows e k
-  pub row_other : (i : ℕ) → i ≤ S.m → i ≢ e → IsCombined (suc (right S)) (rows e col) (rows i) (rows i col) (rows e) (rows' i)
+  pub row_other : (i : ℕ) → i ≤ S.m → i ≢ e
+      → IsCombined (suc (right S)) (rows e col) (rows i) (rows i col) (rows e) (rows' i)
 
 -- the column that enters: the first one with a negative entry in the objective's row
 pub record Enters (S : System) (rows : Matrix) (col : ℕ) : Type 0 where

@@ -1,4 +1,5 @@
--- Rows of a basis on the path with a number over the limit. A position's row is one, so no other rows could have been kept.
+-- Rows of a basis on the path with a number over the limit. A position's row is
+-- one, so no other rows could have been kept.
 use Rattle.std.specs.Prelude.{◌≡◌, ℕ, ◌<◌, ◌≤◌, ◌⊎◌, pos, ◌<ℤ◌}
 use Rattle.std.specs.Int.RustNames.{unsigned_abs}
 use Rattle.rob_linear.specs.Vectors.{Columns, Vector}
@@ -16,8 +17,8 @@ HasWideEntry limit S r = (k : ℕ) × (k ≤ right S) × (limit < unsigned_abs (
 abbrev pub IsInside : System → Columns → Type 0
 IsInside S basis = (j : ℕ) → j < S.m → basis j < S.columns
 
--- the row of a position at a basis of the system is wide. A program's own rows have no auxiliary column, so where that is
--- basic they have no wide row
+-- the row of a position at a basis of the system is wide. A program's own rows have no auxiliary column, so where that
+-- is basic they have no wide row
 abbrev pub IsWideIn : ℕ → System → Columns → ℕ → Type 0
 IsWideIn limit S basis i = (r : Vector) × IsInside S basis × RowOf S (own_of S basis) i r × HasWideEntry limit S r
 
@@ -25,7 +26,8 @@ IsWideIn limit S basis i = (r : Vector) × IsInside S basis × RowOf S (own_of S
 abbrev pub IsWideStage : ℕ → Program → Columns → Type 0
 IsWideStage limit P basis =
     (j : ℕ) × (r : Vector) × (j < P.n)
-    × (IsStage P (own_of (system_of P) basis) j r ⊎ IsHalfStage P (own_of (system_of P) basis) j r) × HasWideEntry limit (system_of P) r
+    × (IsStage P (own_of (system_of P) basis) j r ⊎ IsHalfStage P (own_of (system_of P) basis) j r)
+    × HasWideEntry limit (system_of P) r
 
 -- a right side is negative, so the auxiliary column is brought in
 abbrev pub NeedsAuxiliary : Program → Type 0

@@ -1,5 +1,5 @@
-// The rows of a basis. Chvatal, chapter 2 (dictionaries) and chapter 7 (the rows by the columns of
-// a basis).
+//! The rows of a basis. Chvatal, chapter 2 (dictionaries) and chapter 7 (the rows by the columns of
+//! a basis).
 
 ghost use Rattle.std.specs.Prelude.{◌≡◌, ◌≢◌, ℕ, ◌<◌, ◌≤◌, ℤ, pos, ◌*ℤ◌, List, length};
 ghost use Rattle.rob_algebra.specs.Fraction.{Fraction};

@@ -1,5 +1,5 @@
-// Condensed rows: only the entries of the columns that are not basic, and each row's own entry. Read as functions of the
-// column they are whole rows.
+//! Condensed rows: only the entries of the columns that are not basic, and each row's own entry. Read as functions
+//! of the column they are whole rows.
 
 ghost use Rattle.std.specs.Prelude.{◌≡◌, ◌≢◌, ℕ, suc, ◌+◌, ◌<◌, ◌≤◌, ℤ, pos, ◌*ℤ◌, ◌<ℤ◌, ◌≤ℤ◌};
 ghost use Rattle.std.specs.Int.RustNames.{unsigned_abs};

@@ -1,4 +1,4 @@
-// Duality, and the fundamental theorem of linear programming. Chvatal, chapters 3, 5 and 9.
+//! Duality, and the fundamental theorem of linear programming. Chvatal, chapters 3, 5 and 9.
 
 ghost use Rattle.std.specs.Prelude.{◌≡◌, ℕ, ℤ, ◌⊎◌};
 ghost use Rattle.rob_algebra.specs.Fraction.{Fraction, ◌≤ℚ◌};

@@ -1,4 +1,4 @@
-// How the simplex method ends, and what each ending says of the program. Chvatal, chapter 3.
+//! How the simplex method ends, and what each ending says of the program. Chvatal, chapter 3.
 
 ghost use Rattle.std.specs.Prelude.{◌≡◌, ℕ, ◌+◌, ◌<◌, ℤ, pos, ◌*ℤ◌, ◌<ℤ◌};
 ghost use Rattle.rob_algebra.specs.Fraction.{Fraction};

@@ -1,4 +1,4 @@
-// The first phase with the auxiliary column kept out of the table's basis. Its turns are those of the path.
+//! The first phase with the auxiliary column kept out of the table's basis. Its turns are those of the path.
 
 ghost use Rattle.std.specs.Prelude.{◌≡◌, ◌≢◌, ℕ, zero, suc, ◌+◌, ◌<◌, ◌≤◌, ◌⊎◌, ℤ, pos, ◌*ℤ◌, ◌<ℤ◌, ◌≤ℤ◌};
 ghost use Rattle.std.specs.Int.RustNames.{unsigned_abs};
@@ -25,9 +25,9 @@ pub fn start_beside()
         → HasNoLeast (auxiliary_of P) (auxiliary_column P) rows → StartsAtSlacks P slacks }
 {}
 
-/// A turn: after the pivot the least row tells the position that leaves. Its row is exchanged with row q, and the column
-/// that stood there is the other column beside. Where there is none the auxiliary column leaves, and the rows are the
-/// program's.
+/// A turn: after the pivot the least row tells the position that leaves. Its row is exchanged with row q, and the
+/// column that stood there is the other column beside. Where there is none the auxiliary column leaves, and the
+/// rows are the program's.
 pub fn turn_beside()
     ensures stays { (P : Program) (k : ℕ) (basis : Columns) (q f col p : ℕ) (rows rows' : Matrix)
         → Turned P k basis → StandsBeside P basis q f rows → EntersBeside P q rows col
@@ -101,8 +101,8 @@ pub fn measure_beside()
         < rank (auxiliary_of P) h (beside_objective P (rows' p)) }
 {}
 
-/// The way back to the explicit form, also where a pivot was begun: one pivot at row q and the auxiliary column, with the
-/// row of the auxiliary cost put in and the kept row behind.
+/// The way back to the explicit form, also where a pivot was begun: one pivot at row q and the auxiliary column,
+/// with the row of the auxiliary cost put in and the kept row behind.
 pub fn back_from_beside()
     ensures rows { (P : Program) (basis : Columns) (q f col : ℕ) (rows begun new : Matrix) (kept : Vector)
         → StandsBeside P basis q f rows → Reached P basis → IsBegun P q col rows begun
@@ -133,8 +133,8 @@ pub fn back_from_beside()
         → StandsBeside P basis q f rows → AreParallel (kept_of P) rows new → StandsBeside P basis q f new }
 {}
 
-/// After the first phase the rows may stay in the order of the auxiliary form: what is chosen and done there is chosen and
-/// done without the auxiliary column. So they may from the start, where no first phase is needed.
+/// After the first phase the rows may stay in the order of the auxiliary form: what is chosen and done there is
+/// chosen and done without the auxiliary column. So they may from the start, where no first phase is needed.
 pub fn rows_without_the_column()
     ensures start { (P : Program) (slacks : Columns) (rows : Matrix) → StartsAtSlacks P slacks
         → ((i k : ℕ) → i ≤ P.m → k ≤ right (kept_of P) → k ≢ auxiliary_column P → rows i k ≡ kept_row P i k)

@@ -1,6 +1,7 @@
-// Linear programs in whole numbers: bases and their rows, pivots, the path of the simplex method,
-// duality. No function here does anything: each one's clauses are the theorems of its subject, and
-// its body is empty. Chvatal, Linear Programming (1983), chapters 2, 3, 5, 8.
+//! Linear programs in whole numbers: bases and their rows, pivots, the path of the simplex method,
+//! duality. No function here does anything: each one's clauses are the theorems of its subject, and
+//! its body is empty. Chvatal, Linear Programming (1983), chapters 2, 3, 5, 8.
+
 #![tactic(auto)]
 
 /// Rows of a basis: each position has one.

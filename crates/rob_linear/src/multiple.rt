@@ -1,5 +1,5 @@
-// Rows kept up to positive factors: they choose as the rows of the basis do, a pivot keeps them such, and the numbers
-// and the width that they show are those of the basis.
+//! Rows kept up to positive factors: they choose as the rows of the basis do, a pivot keeps them such, and the numbers
+//! and the width that they show are those of the basis.
 
 ghost use Rattle.std.specs.Prelude.{◌≡◌, ◌≢◌, ℕ, zero, suc, ◌+◌, ◌<◌, ◌≤◌, ℤ, pos, ◌-ℤ◌, ◌*ℤ◌, ◌<ℤ◌, ◌≤ℤ◌};
 ghost use Rattle.rob_algebra.specs.Fraction.{Fraction};
@@ -61,7 +61,8 @@ pub fn numbers_up_to_factors()
         → IsParallel (suc (right S)) r s → rank S h r ≡ rank S h s }
 {}
 
-/// A pivot with any positive factors gives rows of the next basis up to factors, and with them a turn is one of the path.
+/// A pivot with any positive factors gives rows of the next basis up to factors, and with them a turn is one of the
+/// path.
 pub fn pivots_up_to_factors()
     ensures row { (S : System) (own own' : Columns) (low top new : Vector) (e col i : ℕ)
         → ((t : ℕ) → t ≤ S.m → S.tag t ≤ right S) → ((j : ℕ) → j ≤ S.m → own j ≤ right S)
@@ -100,8 +101,8 @@ pub fn paths_up_to_factors()
         → LastFrom P start basis }
 {}
 
-/// Ways to make such rows: in lowest terms, by factors that are divided by what is common to them, by leaving a row that
-/// is 0 in the column, and by dividing a row.
+/// Ways to make such rows: in lowest terms, by factors that are divided by what is common to them, by leaving a row
+/// that is 0 in the column, and by dividing a row.
 pub fn ways_to_make_rows()
     ensures combined { (n col : ℕ) (low top new : Vector) → col < n → pos 0 <ℤ top col
         → IsCombined n (top col) low (low col) top new → IsClearedBy n col low top new }

@@ -1,5 +1,5 @@
-// The path of bases: one from each start, without return, and finite. Chvatal, chapter 3 (the
-// lexicographic rule).
+//! The path of bases: one from each start, without return, and finite. Chvatal, chapter 3 (the
+//! lexicographic rule).
 
 ghost use Rattle.std.specs.Prelude.{ℕ, suc, ◌+◌, ◌^◌, ◌<◌, ℤ, ◌⊎◌};
 ghost use Rattle.rob_linear.specs.Vectors.{Columns, Matrix};

@@ -1,4 +1,4 @@
-// The start of the path, and the two phases. Chvatal, chapter 3 (the auxiliary problem).
+//! The start of the path, and the two phases. Chvatal, chapter 3 (the auxiliary problem).
 
 ghost use Rattle.std.specs.Prelude.{ℕ, zero, suc, ◌+◌, ◌<◌};
 ghost use Rattle.rob_linear.specs.Vectors.{Columns, Matrix, Vector};

@@ -1,4 +1,4 @@
-// Pivots, the lexicographic rule, and the rank that rises with each turn. Chvatal, chapter 3.
+//! Pivots, the lexicographic rule, and the rank that rises with each turn. Chvatal, chapter 3.
 
 ghost use Rattle.std.specs.Prelude.{ℕ, ◌<◌, ℤ};
 ghost use Rattle.rob_linear.specs.Vectors.{Columns, Matrix, Vector};

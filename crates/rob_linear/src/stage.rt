@@ -1,4 +1,4 @@
-// The objective's row made column by column, paths of other costs, and rows that are too wide.
+//! The objective's row made column by column, paths of other costs, and rows that are too wide.
 
 ghost use Rattle.std.specs.Prelude.{◌≡◌, ◌≢◌, ℕ, zero, suc, ◌+◌, ◌<◌, ◌≤◌, pos, ◌⊎◌};
 ghost use Rattle.rob_linear.specs.Vectors.{Columns, Matrix, Vector};

@@ -1,5 +1,5 @@
--- A joint scenario is admitted exactly where it is admitted condition by condition: each bound and each statement belongs to
--- a set. And some joint scenario is admitted exactly where each set admits something.
+-- A joint scenario is admitted exactly where it is admitted condition by condition: each bound and each statement
+-- belongs to a set. And some joint scenario is admitted exactly where each set admits something.
 use Rattle.std.specs.Prelude.{◌≡◌, ℕ, zero, suc, ◌+◌, ◌*◌, ◌<◌, List, [], ◌∷◌, ◌++◌, length, map, flat_map, refl, ◌↔◌}
 use Rattle.std.proofs.Common.{sym, ◌∙◌, ap, ap₂, subst, arith, length-append, suc-mul, zero-mul, length-take-le, div-le_self}
 use Rattle.std.proofs.lemmas.List.{length-map}
@@ -60,11 +60,13 @@ module _ (u : List Fraction) where
   abbrev pub Bounded : ℕ → Parameter → Type 0
   Bounded k d = KeepsBounds d.lower d.upper (at u k)
 
-  mapped_in : (set : List ℕ) (k : ℕ) (ps : List Parameter) → EachFrom k Bounded ps → EachFrom k Bounded (map (in_set set) ps)
+  mapped_in : (set : List ℕ) (k : ℕ) (ps : List Parameter) → EachFrom k Bounded ps
+      → EachFrom k Bounded (map (in_set set) ps)
   mapped_in set k [] h = tt
   mapped_in set k (p ∷ ps) h = (h.0, mapped_in set (suc k) ps h.1)
 
-  mapped_out : (set : List ℕ) (k : ℕ) (ps : List Parameter) → EachFrom k Bounded (map (in_set set) ps) → EachFrom k Bounded ps
+  mapped_out : (set : List ℕ) (k : ℕ) (ps : List Parameter)
+      → EachFrom k Bounded (map (in_set set) ps) → EachFrom k Bounded ps
   mapped_out set k [] h = tt
   mapped_out set k (p ∷ ps) h = (h.0, mapped_out set (suc k) ps h.1)
 
@@ -98,7 +100,8 @@ module _ (u : List Fraction) where
         EachFrom k Bounded (joint_parameters ps sets)
     blocks_in [] k h =
         each_from_append Bounded k ps []
-        (subst (λ j. EachFrom j Bounded ps) (let e : k + zero * length ps ≡ k = omega (arith, zero-mul (length ps)) in e)
+        (subst (λ j. EachFrom j Bounded ps) (let e : k + zero * length ps ≡ k =
+        omega (arith, zero-mul (length ps)) in e)
         (h zero (omega arith))) tt
     blocks_in (set ∷ sets) k h =
         let next : EachFrom (k + length ps) Bounded (joint_parameters ps sets) =
@@ -107,7 +110,8 @@ module _ (u : List Fraction) where
         (let e : k + suc S * length ps ≡ (k + length ps) + S * length ps = omega (arith, suc-mul S (length ps)) in e)
         (h (suc S) (omega arith))) in
         each_from_append Bounded k ps (later (set ∷ sets))
-        (subst (λ j. EachFrom j Bounded ps) (let e : k + zero * length ps ≡ k = omega (arith, zero-mul (length ps)) in e)
+        (subst (λ j. EachFrom j Bounded ps) (let e : k + zero * length ps ≡ k =
+        omega (arith, zero-mul (length ps)) in e)
         (h zero (omega arith)))
         (each_from_append Bounded (k + length ps) (map (in_set set) ps) (later sets)
         (mapped_in set (k + length ps) ps (each_from_left Bounded (k + length ps) ps (later sets) next))
@@ -120,7 +124,8 @@ length-later ps [] = sym (zero-mul (length ps))
 length-later ps (set ∷ sets) =
     length-append (map (in_set set) ps) (flat_map (λ set. map (in_set set) ps) sets)
     ∙ ap₂ ◌+◌ (length-map ps (in_set set)) (length-later ps sets)
-    ∙ (let e : length ps + length sets * length ps ≡ suc (length sets) * length ps = omega (arith, suc-mul (length sets) (length ps)) in e)
+    ∙ (let e : length ps + length sets * length ps ≡ suc (length sets) * length ps =
+    omega (arith, suc-mul (length sets) (length ps)) in e)
 
 module _ (m : RobustModel) (model : IsModel m) where
   -- ---- counts
@@ -154,7 +159,8 @@ module _ (m : RobustModel) (model : IsModel m) where
         ∙ at-part_of m S u i below
         ∙ ap (λ j. at u j)
         (ap (λ l. S * l + i) (sym length-written)
-        ∙ (let e : S * length (written_parameters m) + i ≡ zero + S * length (written_parameters m) + i = omega arith in e)))
+        ∙ (let e : S * length (written_parameters m) + i ≡ zero + S * length (written_parameters m) + i = omega arith in
+        e)))
         k))
         (h S some)))
 
@@ -171,7 +177,8 @@ module _ (m : RobustModel) (model : IsModel m) where
         ∙ at-part_of m S u i below
         ∙ ap (λ j. at u j)
         (ap (λ l. S * l + i) (sym length-written)
-        ∙ (let e : S * length (written_parameters m) + i ≡ zero + S * length (written_parameters m) + i = omega arith in e))))
+        ∙ (let e : S * length (written_parameters m) + i ≡ zero + S * length (written_parameters m) + i = omega arith in
+        e))))
         k))
         (blocks_out u (written_parameters m) m.sets zero
         (subst (λ (ps : List Parameter). EachFrom zero (Bounded u) ps) model.parameters h) S some)
@@ -179,7 +186,8 @@ module _ (m : RobustModel) (model : IsModel m) where
     -- ---- statements
     lines_joint : (k : ℕ) (cs : List SetLine) →
         EachFrom k (λ i c. (line_set m i < set_count m) × IsLineOf m (line_set m i) c) cs →
-        EachFrom k (λ i c. (S : ℕ) → S < set_count m → line_set m i ≡ S → KeepsLine m (in_each_set m (part_of m S u)) c) cs →
+        EachFrom k (λ i c. (S : ℕ) → S < set_count m → line_set m i ≡ S
+        → KeepsLine m (in_each_set m (part_of m S u)) c) cs →
         Each (KeepsLine m u) cs
     lines_joint k [] own h = tt
     lines_joint k (c ∷ cs) own h = (
@@ -193,7 +201,8 @@ module _ (m : RobustModel) (model : IsModel m) where
         EachFrom k (λ i c. line_set m i ≡ S → KeepsLine m (in_each_set m (part_of m S u)) c) cs
     lines_apart S some k [] own h = tt
     lines_apart S some k (c ∷ cs) own h = (
-      λ e. line_same m model.lists S u (in_each_set m (part_of m S u)) (λ j small. sym (agree_part m S u some j small)) c
+      λ e. line_same m model.lists S u (in_each_set m (part_of m S u))
+          (λ j small. sym (agree_part m S u some j small)) c
           (subst (λ T. IsLineOf m T c) e own.0.1) h.0,
       lines_apart S some (suc k) cs own.1 h.1,
     )
@@ -205,7 +214,8 @@ module _ (m : RobustModel) (model : IsModel m) where
       bounds = bounds_joint (λ S some. (h.parts S some).bounds);
       lines =
           lines_joint zero m.set_lines model.own_lines
-          (each_from_over (set_count m) (λ S i c. line_set m i ≡ S → KeepsLine m (in_each_set m (part_of m S u)) c) zero m.set_lines
+          (each_from_over (set_count m) (λ S i c. line_set m i ≡ S
+          → KeepsLine m (in_each_set m (part_of m S u)) c) zero m.set_lines
           (λ S some. (h.parts S some).lines));
     }
 
@@ -234,7 +244,8 @@ module _ (m : RobustModel) (model : IsModel m) where
   joined_admits f h = record {
     numbers = length-joined (written_count m) (length m.sets) f (λ S some. (h S some).numbers) ∙ sym length-parameters;
     parts = λ S some.
-        subst (λ (u : List Fraction). AdmitsIn m S u) (sym (part_of_joined m f (λ S some. (h S some).numbers) S some)) (h S some);
+        subst (λ (u : List Fraction). AdmitsIn m S u)
+        (sym (part_of_joined m f (λ S some. (h S some).numbers) S some)) (h S some);
   }
 
 -- ---- one set alone
@@ -243,7 +254,9 @@ module _ (m : RobustModel) (model : IsModel m) (alone : m.sets ≡ []) where
   one_set = ap (λ (sets : List (List ℕ)). suc (length sets)) alone
 
   all_written : written_count m ≡ length m.parameters
-  all_written = sym (length-parameters m model ∙ ap (λ n. n * written_count m) one_set ∙ omega (arith, suc-mul 0 (written_count m)))
+  all_written =
+      sym (length-parameters m model ∙ ap (λ n. n * written_count m) one_set
+      ∙ omega (arith, suc-mul 0 (written_count m)))
 
   own_part : (u : List Fraction) → length u ≡ written_count m → part_of m 0 u ≡ u
   own_part u fits =
@@ -253,7 +266,8 @@ module _ (m : RobustModel) (model : IsModel m) (alone : m.sets ≡ []) where
       at-part_of m 0 u k (omega arith)
       ∙ ap (λ j. at u j) (let e : zero * written_count m + k ≡ k = omega (arith, zero-mul (written_count m)) in e)))
 
-  only_part : (u : List Fraction) → AdmitsIn m 0 (part_of m 0 u) → (S : ℕ) → S < set_count m → AdmitsIn m S (part_of m S u)
+  only_part : (u : List Fraction) → AdmitsIn m 0 (part_of m 0 u) → (S : ℕ) → S < set_count m
+      → AdmitsIn m S (part_of m S u)
   only_part u h zero some = h
   only_part u h (suc S) some = absurd (let one = one_set in omega arith)
 

@@ -1,4 +1,5 @@
--- A model without named sets is well formed where its numbers, degrees and deviations are: all parameters are of the one set.
+-- A model without named sets is well formed where its numbers, degrees and
+-- deviations are: all parameters are of the one set.
 use Rattle.std.specs.Prelude.{◌≡◌, ℕ, zero, suc, ◌+◌, ◌*◌, ◌/◌, ◌<◌, List, [], ◌∷◌, length, take, refl}
 use Rattle.std.proofs.Common.{sym, ◌∙◌, ap, subst, arith, append-nil, div-one, take_all, zero-mul}
 use Rattle.rob_meaning.proofs.EachLemmas.{each_map}
@@ -88,6 +89,7 @@ module _ (m : RobustModel) (alone : m.sets ≡ []) where
     objective = goal;
     rows = all_rows;
     own_lines = own_lines lines zero m.set_lines set_lines;
-    own_objective = subst (λ S. (S < set_count m) × IsOf m S m.objective) (sym objective) (default_is, own m.objective goal.0);
+    own_objective =
+        subst (λ S. (S < set_count m) × IsOf m S m.objective) (sym objective) (default_is, own m.objective goal.0);
     own_rows = own_rows rows zero m.rows all_rows;
   }

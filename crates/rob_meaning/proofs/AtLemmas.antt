@@ -1,4 +1,5 @@
--- At is linear in the vector and in the plan; and a plan has a bound exactly where each At is at most 0 in every scenario.
+-- At is linear in the vector and in the plan; and a plan has a bound exactly
+-- where each At is at most 0 in every scenario.
 use Rattle.std.specs.Prelude.{◌≡◌, ℕ, zero, suc, ◌<◌, ℤ, List, [], ◌∷◌, ◌++◌, length, map, refl, ◌↔◌, slice_get, IfSome}
 use Rattle.std.proofs.Common.{sym, ◌∙◌, ap, ap₂, arith, length-append}
 use Rattle.rob_algebra.specs.Fraction.{Fraction, ◌+ℚ◌, ◌*ℚ◌, ◌≤ℚ◌}
@@ -94,7 +95,8 @@ module _ (m : RobustModel) (model : IsModel m) (plan : List Fraction) (tau : Fra
   joint_bound_at h u admitted = keeps_at u admitted.numbers h.columns (h.keeps u (admits_jointly m model u admitted))
 
   pub at_joint_bound : length plan ≡ column_count m →
-      ((u : List Fraction) → Admits m u → (i : ℕ) → i < length (matrices m) → form_at m i 1ℚ u (plan_vector 1ℚ plan tau) ≤ℚ 0ℚ) →
+      ((u : List Fraction) → Admits m u → (i : ℕ) → i < length (matrices m)
+      → form_at m i 1ℚ u (plan_vector 1ℚ plan tau) ≤ℚ 0ℚ) →
       HasJointBound m plan tau
   at_joint_bound fits h = record {
     columns = fits;
@@ -113,7 +115,8 @@ module _ (m : RobustModel) (model : IsModel m) (plan : List Fraction) (tau : Fra
   bound_at h = joint_bound_at (bound_joint m model plan tau h)
 
   pub at_bound : (inside : List Fraction) → Admits m inside → length plan ≡ column_count m →
-      ((u : List Fraction) → Admits m u → (i : ℕ) → i < length (matrices m) → form_at m i 1ℚ u (plan_vector 1ℚ plan tau) ≤ℚ 0ℚ) →
+      ((u : List Fraction) → Admits m u → (i : ℕ) → i < length (matrices m)
+      → form_at m i 1ℚ u (plan_vector 1ℚ plan tau) ≤ℚ 0ℚ) →
       HasBound m plan tau
   at_bound inside some fits h =
       joint_bound m model plan tau inside (admits_jointly m model inside some) (at_joint_bound fits h)

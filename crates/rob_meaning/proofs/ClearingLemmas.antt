@@ -14,6 +14,7 @@ use Rattle.rob_algebra.specs.Ring.{lit, ◌:*◌, v0, v1, v2, v3}
 use Rattle.rob_meaning.proofs.AlongLemmas.{suc_same}
 use Rattle.rob_meaning.specs.Clearing.{cleared, denominator, entries, fractions, lcm, whole_at}
 use Rattle.rob_meaning.specs.Places.{0ℚ, Each, along, tabulate}
+pub use Rattle.rob_meaning.proofs.TabulateLemmas.{length-tabulate}
 
 across : (x y g : ℕ) → (x * g) * y ≡ x * (y * g)
 across x y g = mul_assoc x g y ∙ ap (λ n. x * n) (mul_comm g y)
@@ -110,7 +111,3 @@ dot-append (x ∷ xs) b [] t e = cc
 dot-append (x ∷ xs) b (y ∷ ys) t e =
     ap (λ z. x *ℚ y +ℚ z) (dot-append xs b ys t (suc_same e))
     ∙ sym (Q.ℚ-add_assoc (x *ℚ y) (dot ℚ_ring xs ys) (dot ℚ_ring b t))
-
-pub length-tabulate : {A : Type 0} (n : ℕ) (f : ℕ → A) → length (tabulate n f) ≡ n
-length-tabulate zero f = refl
-length-tabulate (suc n) f = ap suc (length-tabulate n (λ k. f (suc k)))

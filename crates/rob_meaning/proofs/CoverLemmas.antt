@@ -31,7 +31,7 @@ pub dot-split : (b : Fraction) (p xs : List Fraction) (n : ℕ) → length xs �
 dot-split b p [] n e = cc
 dot-split b p (x ∷ xs) n e = ap (λ z. b *ℚ x +ℚ z) (dot_comm ℚ_ring p xs)
 
-length-tail : (xs : List Fraction) (n : ℕ) → length xs ≡ suc n → length (tail_of xs) ≡ n
+pub length-tail : (xs : List Fraction) (n : ℕ) → length xs ≡ suc n → length (tail_of xs) ≡ n
 length-tail [] n e = cc
 length-tail (x ∷ xs) n e = suc_same e
 

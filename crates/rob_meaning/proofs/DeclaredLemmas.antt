@@ -12,6 +12,7 @@ use Rattle.rob_meaning.specs.Names.{Name, Parts, joined, parameter_name}
 use Rattle.rob_meaning.specs.Places.{Each}
 use Rattle.rob_meaning.specs.RobustModel.{Parameter, RobustModel, in_set, joint_parameters, set_count, written_count, written_parameters}
 use Rattle.rob_meaning.specs.WellFormed.{IsModel}
+use Rattle.std.proofs.lemmas.List.{append-nil}
 
 module _ (m : RobustModel) (named : IsNamed m) where
   -- the names behind those of the parameters, behind those of the sets, and behind those of the rows
@@ -58,7 +59,8 @@ module _ (m : RobustModel) (named : IsNamed m) where
 
   pub rows_apart_adaptives : Apart (row_names m) (adaptive_names m)
   rows_apart_adaptives =
-      apart_right (row_names m) (variable_names m) (adaptive_names m) (distinct_apart (row_names m) last behind_distinct)
+      apart_right (row_names m) (variable_names m) (adaptive_names m)
+      (distinct_apart (row_names m) last behind_distinct)
 
   -- ---- a property of all declared names, by kind
   module _ (P : Name → Type 0) (all : Each P (declared_names m)) where
@@ -98,19 +100,16 @@ module _ (m : RobustModel) (model : IsModel m) (named : IsNamed m) where
   abbrev joint_parts : List Parameter → List Name → List Parts
   joint_parts ps sets = map own ps ++ flat_map (λ set. map (in_parts set) ps) sets
 
-  append_none : (xs : Name) → xs ++ [] ≡ xs
-  append_none [] = refl
-  append_none (x ∷ xs) = ap (λ (ys : Name). x ∷ ys) (append_none xs)
-
   own_joined : (ps : List Parameter) → map joined (map own ps) ≡ map (λ (p : Parameter). p.name) ps
   own_joined [] = refl
-  own_joined (p ∷ ps) = ap₂ (λ (x : Name) (xs : List Name). x ∷ xs) (append_none p.name) (own_joined ps)
+  own_joined (p ∷ ps) = ap₂ (λ (x : Name) (xs : List Name). x ∷ xs) (append-nil p.name) (own_joined ps)
 
   set_joined : (set : Name) (ps : List Parameter) →
       map joined (map (in_parts set) ps) ≡ map (λ (p : Parameter). p.name) (map (in_set set) ps)
   set_joined set [] = refl
   set_joined set (p ∷ ps) =
-      ap₂ (λ (x : Name) (xs : List Name). x ∷ xs) (ap (λ (x : Name). set ++ (46 ∷ x)) (append_none p.name)) (set_joined set ps)
+      ap₂ (λ (x : Name) (xs : List Name). x ∷ xs)
+      (ap (λ (x : Name). set ++ (46 ∷ x)) (append-nil p.name)) (set_joined set ps)
 
   later_joined : (ps : List Parameter) (sets : List Name) →
       map joined (flat_map (λ set. map (in_parts set) ps) sets)
@@ -132,14 +131,16 @@ module _ (m : RobustModel) (model : IsModel m) (named : IsNamed m) where
   written = written_parameters m
 
   plain_parameters : Each (λ (p : Parameter). IsPlain p.name) (written_parameters m)
-  plain_parameters = each_unmapped IsPlain (λ (p : Parameter). p.name) written (on_parameters m named IsPlain named.plain)
+  plain_parameters =
+      each_unmapped IsPlain (λ (p : Parameter). p.name) written (on_parameters m named IsPlain named.plain)
 
   joint_parts_plain : Each ArePlain (joint_parts (written_parameters m) m.sets)
   joint_parts_plain =
       each_append ArePlain (map own written) (flat_map (λ set. map (in_parts set) written) m.sets)
       (each_mapped ArePlain own (λ (p : Parameter). IsPlain p.name) (λ p h. (h, tt)) written plain_parameters)
       (each_flat ArePlain IsPlain (λ set. map (in_parts set) written)
-      (λ set h. each_mapped ArePlain (in_parts set) (λ (p : Parameter). IsPlain p.name) (λ p k. (h, (k, tt))) written plain_parameters)
+      (λ set h. each_mapped ArePlain (in_parts set) (λ (p : Parameter). IsPlain p.name) (λ p k. (h, (k, tt)))
+      written plain_parameters)
       m.sets (on_sets m named IsPlain named.plain))
 
   joint_parts_distinct : AreDistinct (joint_parts (written_parameters m) m.sets)
@@ -160,7 +161,8 @@ module _ (m : RobustModel) (model : IsModel m) (named : IsNamed m) where
       (apart_by (λ p. length p ≡ 1) (λ p. length p ≡ 2)
       (λ p q one two same. shorter (sym one ∙ ap length same ∙ two)) (map own written)
       (flat_map (λ set. map (in_parts set) written) m.sets)
-      (each_mapped (λ p. length p ≡ 1) own (λ p. Unit {0}) (λ p k. refl) written (each_all (λ p. Unit {0}) (λ p. tt) written))
+      (each_mapped (λ p. length p ≡ 1) own (λ p. Unit {0}) (λ p k. refl) written
+      (each_all (λ p. Unit {0}) (λ p. tt) written))
       (each_flat (λ p. length p ≡ 2) (λ set. Unit {0}) (λ set. map (in_parts set) written)
       (λ set h. each_mapped (λ p. length p ≡ 2) (in_parts set) (λ p. Unit {0}) (λ p k. refl) written
       (each_all (λ p. Unit {0}) (λ p. tt) written)) m.sets (each_all (λ set. Unit {0}) (λ set. tt) m.sets)))
@@ -195,7 +197,8 @@ module _ (m : RobustModel) (model : IsModel m) (named : IsNamed m) where
       (λ p h k. short_one p (h, k)) written plain_parameters
       (each_unmapped IsFree (λ (p : Parameter). p.name) written (on_parameters m named IsFree named.free)))
       (each_flat IsShort (λ set. IsPlain set × IsFree set) (λ set. map (in_set set) written)
-      (λ set h. each_mapped IsShort (in_set set) (λ (p : Parameter). IsPlain p.name) (short_two set h) written plain_parameters)
+      (λ set h. each_mapped IsShort (in_set set) (λ (p : Parameter). IsPlain p.name) (short_two set h)
+      written plain_parameters)
       m.sets
       (each_both IsPlain IsFree (λ set. IsPlain set × IsFree set) (λ set h k. (h, k)) m.sets
       (on_sets m named IsPlain named.plain) (on_sets m named IsFree named.free))))

@@ -26,6 +26,11 @@ pub each_both : {A : Type 0} (P Q R : A → Type 0) → ((x : A) → P x → Q x
 each_both P Q R f [] h k = tt
 each_both P Q R f (x ∷ xs) h k = (f x h.0 k.0, each_both P Q R f xs h.1 k.1)
 
+-- what holds of all items holds of each
+pub each_all : {A : Type 0} (P : A → Type 0) → ((x : A) → P x) → (xs : List A) → Each P xs
+each_all P h [] = tt
+each_all P h (x ∷ xs) = (h x, each_all P h xs)
+
 -- along a declared bound, if there is one
 pub declared : {A B : Type 0} (P : A → Type 0) (Q : B → Type 0) (f : Fraction → A) (g : Fraction → B) →
     ((x : Fraction) → P (f x) → Q (g x)) → (o : Option Fraction) →
@@ -38,13 +43,3 @@ pub each_at : {A : Type 0} (P : A → Type 0) (xs : List A) → Each P xs → Al
 each_at P [] h k d some = absurd (omega arith)
 each_at P (x ∷ xs) h zero d some = h.0
 each_at P (x ∷ xs) h (suc k) d some = each_at P xs h.1 k d (omega arith)
-
-pub at_each : {A : Type 0} (P : A → Type 0) (xs : List A) → All P xs → Each P xs
-at_each P [] h = tt
-at_each P (x ∷ xs) h = (h zero x (omega arith), at_each P xs (λ k d some. h (suc k) d (omega arith)))
-
--- the number at a place, by the list's own word
-pub at-get_or : (xs : List Fraction) (k : ℕ) → at xs k ≡ get_or xs k 0ℚ
-at-get_or [] k = refl
-at-get_or (x ∷ xs) zero = refl
-at-get_or (x ∷ xs) (suc k) = at-get_or xs k

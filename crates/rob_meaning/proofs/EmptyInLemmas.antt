@@ -112,7 +112,8 @@ module _
         x *ℚ dot ℚ_ring (map of_int (whole_row m r)) (u ++ T) ≤ℚ x *ℚ of_int (whole_limit m r)
     weighed_row R r holds x low own = by (none_or_some x low)
       where
-        by : (x ≡ 0ℚ) ⊎ (x ≢ 0ℚ) → x *ℚ dot ℚ_ring (map of_int (whole_row m r)) (u ++ T) ≤ℚ x *ℚ of_int (whole_limit m r)
+        by : (x ≡ 0ℚ) ⊎ (x ≢ 0ℚ) → x *ℚ dot ℚ_ring (map of_int (whole_row m r)) (u ++ T)
+            ≤ℚ x *ℚ of_int (whole_limit m r)
         by (inl e) =
             subst (λ y. y *ℚ dot ℚ_ring (map of_int (whole_row m r)) (u ++ T) ≤ℚ y *ℚ of_int (whole_limit m r)) (sym e)
             (subst (λ y. y ≤ℚ 0ℚ *ℚ of_int (whole_limit m r))

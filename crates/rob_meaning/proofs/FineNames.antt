@@ -7,6 +7,7 @@ use Rattle.rob_meaning.proofs.JoinedLemmas.{ArePlain, joined_same}
 use Rattle.rob_meaning.specs.Named.{IsPlain}
 use Rattle.rob_meaning.specs.Names.{Name, Parts, behind_dots, joined}
 use Rattle.rob_meaning.specs.Places.{Each}
+use Rattle.std.proofs.lemmas.List.{append-nil}
 
 -- a byte before the first part
 abbrev pub push : ℕ → Parts → Parts
@@ -30,7 +31,8 @@ pub split_plain : (name : Name) → ArePlain (split name)
 split_plain [] = (tt, tt)
 split_plain (b ∷ rest) = by (eqb b 46) refl (split_plain rest)
   where
-    by : (t : Bool) → eqb b 46 ≡ t → ArePlain (split rest) → ArePlain (if t then [] ∷ split rest else push b (split rest))
+    by : (t : Bool) → eqb b 46 ≡ t → ArePlain (split rest)
+        → ArePlain (if t then [] ∷ split rest else push b (split rest))
     by true e h = (tt, all_plain (split rest) h)
     by false e h = push_plain b (split rest) (eqb-false b 46 e) h
 
@@ -60,16 +62,12 @@ split_joined ps h = joined_same (split (joined ps)) ps (split_plain (joined ps))
 pub split_same : (a b : Name) → split a ≡ split b → a ≡ b
 split_same a b e = sym (joined_split a) ∙ ap joined e ∙ joined_split b
 
-append_none : (xs : Name) → xs ++ [] ≡ xs
-append_none [] = refl
-append_none (x ∷ xs) = ap (λ (ys : Name). x ∷ ys) (append_none xs)
-
 pub split_one : (name : Name) → IsPlain name → split name ≡ name ∷ []
-split_one name h = ap split (sym (append_none name)) ∙ split_joined (name ∷ []) (h, tt)
+split_one name h = ap split (sym (append-nil name)) ∙ split_joined (name ∷ []) (h, tt)
 
 pub split_two : (a b : Name) → IsPlain a → IsPlain b → split (a ++ (46 ∷ b)) ≡ a ∷ b ∷ []
 split_two a b h k =
-    ap (λ (xs : Name). split (a ++ (46 ∷ xs))) (sym (append_none b)) ∙ split_joined (a ∷ b ∷ []) (h, (k, tt))
+    ap (λ (xs : Name). split (a ++ (46 ∷ xs))) (sym (append-nil b)) ∙ split_joined (a ∷ b ∷ []) (h, (k, tt))
 
 -- ---- a name among parts is as its own parts are
 behind_append : (ps qs : Parts) → behind_dots (ps ++ qs) ≡ behind_dots ps ++ behind_dots qs

@@ -20,10 +20,8 @@ use Rattle.rob_meaning.specs.UncertaintySet.{KeepsBounds, KeepsLower, KeepsUpper
 use Rattle.rob_meaning.specs.Values.{rule_value, value}
 use Rattle.rob_meaning.specs.WellFormed.{IsExpression, IsModel}
 
-module _ (m : RobustModel) (plan : List Fraction) (tau : Fraction) (u : List Fraction) (fits : length plan ≡ column_count m) where
-  with_tau : List Fraction
-  with_tau = plan ++ tau ∷ []
-
+module _ (m : RobustModel) (plan : List Fraction) (tau : Fraction) (u : List Fraction)
+    (fits : length plan ≡ column_count m) where
   -- the form's value is at most 0
   abbrev pub Nonpositive : Expression → Type 0
   Nonpositive e = value m (plan ++ tau ∷ []) u e ≤ℚ 0ℚ
@@ -195,7 +193,8 @@ module _ (m : RobustModel) (plan : List Fraction) (tau : Fraction) (u : List Fra
 
   pub forms_keep : IsModel m → Each Nonpositive (forms m) → Keeps m plan tau u
   forms_keep model h =
-      let rest = each_right Nonpositive (row_forms m.rows) (variable_forms zero m.variables ++ adaptive_forms zero m.adaptives) h.1 in
+      let rest = each_right Nonpositive (row_forms m.rows)
+      (variable_forms zero m.variables ++ adaptive_forms zero m.adaptives) h.1 in
       record {
         objective = objective_out m.sense m.objective model.objective h.0;
         rows =

@@ -54,7 +54,8 @@ behind_dots_same [] (q ∷ qs) h k e = absurd (not_empty 46 (q ++ behind_dots qs
 behind_dots_same (p ∷ ps) [] h k e = absurd (not_empty 46 (p ++ behind_dots ps) (sym e))
 behind_dots_same (p ∷ ps) (q ∷ qs) h k e =
     let rest = tail_same 46 46 (p ++ behind_dots ps) (q ++ behind_dots qs) e in
-    let split = first_part p q (behind_dots ps) (behind_dots qs) h.0 k.0 (behind_dots_begins ps) (behind_dots_begins qs) rest in
+    let split =
+    first_part p q (behind_dots ps) (behind_dots qs) h.0 k.0 (behind_dots_begins ps) (behind_dots_begins qs) rest in
     ap₂ (λ (x : Name) (xs : Parts). x ∷ xs) split.0 (behind_dots_same ps qs h.1 k.1 split.1)
 
 -- some parts, all plain
@@ -66,7 +67,8 @@ pub joined_same : (ps qs : Parts) → ArePlain ps → ArePlain qs → joined ps 
 joined_same [] qs h k e = absurd h
 joined_same (p ∷ ps) [] h k e = absurd k
 joined_same (p ∷ ps) (q ∷ qs) h k e =
-    let split = first_part p q (behind_dots ps) (behind_dots qs) h.0 k.0 (behind_dots_begins ps) (behind_dots_begins qs) e in
+    let split =
+    first_part p q (behind_dots ps) (behind_dots qs) h.0 k.0 (behind_dots_begins ps) (behind_dots_begins qs) e in
     ap₂ (λ (x : Name) (xs : Parts). x ∷ xs) split.0 (behind_dots_same ps qs h.1 k.1 split.1)
 
 -- distinct lists of plain parts make distinct names

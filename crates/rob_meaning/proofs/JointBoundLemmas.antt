@@ -1,5 +1,5 @@
--- Where every set admits something, a plan has a bound set by set exactly where it has it over joint scenarios; and so the
--- statuses are the same.
+-- Where every set admits something, a plan has a bound set by set exactly where
+-- it has it over joint scenarios; and so the statuses are the same.
 use Rattle.std.specs.Prelude.{◌≡◌, ℕ, zero, suc, ◌<◌, Bool, true, false, eqb, List, [], ◌∷◌, length, refl, ◌↔◌}
 use Rattle.std.proofs.Common.{sym, ◌∙◌, ap, subst, arith}
 use Rattle.std.proofs.lemmas.Bool.{eqb-true, eqb-false}
@@ -35,7 +35,8 @@ module _ (m : RobustModel) (model : IsModel m) (plan : List Fraction) (tau : Fra
   abbrev RuleKept : List Fraction → ℕ → AdaptiveVariable → Type 0
   RuleKept u k y = KeepsBounds y.lower y.upper (rule_value m plan u k)
 
-  rules_same : (u w : List Fraction) → Agree m 0 u w → (k : ℕ) (ys : List AdaptiveVariable) → EachFrom k (RuleKept u) ys →
+  rules_same : (u w : List Fraction) → Agree m 0 u w → (k : ℕ) (ys : List AdaptiveVariable)
+      → EachFrom k (RuleKept u) ys →
       EachFrom k (RuleKept w) ys
   rules_same u w agree k ys h =
       each_from_same (RuleKept u) (RuleKept w) k ys
@@ -60,11 +61,13 @@ module _ (m : RobustModel) (model : IsModel m) (plan : List Fraction) (tau : Fra
       record {
         objective =
             subst (λ x. IsNoWorse m.sense x tau)
-            (value_same m model.lists plan S (in_each_set m (part_of m S u)) u (agree_part m S u some) m.objective model.own_objective.1)
+            (value_same m model.lists plan S (in_each_set m (part_of m S u)) u (agree_part m S u some)
+            m.objective model.own_objective.1)
             ((h.keeps S some (part_of m S u) (admitted.parts S some)).objective refl);
         rows =
             rows_joint u zero m.rows model.own_rows
-            (each_from_over (set_count m) (λ S i r. row_set m i ≡ S → RowKept (in_each_set m (part_of m S u)) r) zero m.rows
+            (each_from_over (set_count m) (λ S i r. row_set m i ≡ S
+            → RowKept (in_each_set m (part_of m S u)) r) zero m.rows
             (λ S some. (h.keeps S some (part_of m S u) (admitted.parts S some)).rows));
         variables = h.variables;
         adaptives =
@@ -88,7 +91,8 @@ module _ (m : RobustModel) (model : IsModel m) (plan : List Fraction) (tau : Fra
     rows_apart S u w agree (suc k) rs own.1 h.1,
   )
 
-  pub keeps_apart : (S : ℕ) (u w : List Fraction) → Agree m S w (in_each_set m u) → Keeps m plan tau w → KeepsIn m plan tau S u
+  pub keeps_apart : (S : ℕ) (u w : List Fraction) → Agree m S w (in_each_set m u) → Keeps m plan tau w
+      → KeepsIn m plan tau S u
   keeps_apart S u w agree h = record {
     objective = λ e.
         subst (λ x. IsNoWorse m.sense x tau)
@@ -96,7 +100,8 @@ module _ (m : RobustModel) (model : IsModel m) (plan : List Fraction) (tau : Fra
         (subst (λ T. IsOf m T m.objective) e model.own_objective.1)) h.objective;
     rows = rows_apart S w (in_each_set m u) agree zero m.rows model.own_rows h.rows;
     adaptives = λ e.
-        rules_same w (in_each_set m u) (subst (λ T. Agree m T w (in_each_set m u)) (sym e) agree) zero m.adaptives h.adaptives;
+        rules_same w (in_each_set m u) (subst (λ T. Agree m T w (in_each_set m u)) (sym e) agree) zero
+        m.adaptives h.adaptives;
   }
 
   module _ (inside : List Fraction) (admitted : AdmitsJointly m inside) (S : ℕ) (some : S < set_count m)
@@ -127,13 +132,16 @@ module _ (m : RobustModel) (model : IsModel m) (plan : List Fraction) (tau : Fra
     together_agrees k small =
         sym (agree_in_each m S u (joined_scenarios (length m.sets) replaced) some own.numbers
         (λ k small. sym
-        (at-joined (written_count m) (length m.sets) replaced (λ T small. (replaced_admits T small).numbers) S k some small
+        (at-joined (written_count m) (length m.sets) replaced
+        (λ T small. (replaced_admits T small).numbers) S k some small
         ∙ ap (λ (v : List Fraction). at v k) replaced_here))
         k small)
 
     together_admitted : AdmitsJointly m together
     unfolding together
-    together_admitted = admits_jointly m model (joined_scenarios (length m.sets) replaced) (joined_admits m model replaced replaced_admits)
+    together_admitted =
+        admits_jointly m model (joined_scenarios (length m.sets) replaced)
+        (joined_admits m model replaced replaced_admits)
 
     kept_in_set : HasJointBound m plan tau → KeepsIn m plan tau S u
     kept_in_set h = keeps_apart S u together together_agrees (h.keeps together together_admitted)

@@ -10,21 +10,20 @@ use Rattle.rob_meaning.specs.RobustModel.{AdaptiveVariable, Member, Relation, Ro
 use Rattle.rob_meaning.specs.UncertaintySet.{KeepsLine, Relates, abs_ℚ, in_each_set, joined_scenarios, part_of, total_deviation}
 use Rattle.rob_meaning.specs.Values.{product_value, rule_part, rule_value, rule_value_in, signed, sum_value, value}
 use Rattle.rob_meaning.specs.WellFormed.{FactorsOf, IsLineOf, IsOf, IsParameterOf, TermsOf}
+pub use Rattle.rob_meaning.proofs.TabulateLemmas.{length-tabulate}
 
 pub at-right : (xs ys : List Fraction) (k : ℕ) → at (xs ++ ys) (length xs + k) ≡ at ys k
 at-right [] ys k = ap (λ j. at ys j) (let e : zero + k ≡ k = omega arith in e)
 at-right (x ∷ xs) ys k =
-    ap (λ j. at (x ∷ (xs ++ ys)) j) (let e : suc (length xs) + k ≡ suc (length xs + k) = omega arith in e) ∙ at-right xs ys k
-
-pub length-tabulate : {A : Type 0} (n : ℕ) (f : ℕ → A) → length (tabulate n f) ≡ n
-length-tabulate zero f = refl
-length-tabulate (suc n) f = ap suc (length-tabulate n (λ k. f (suc k)))
+    ap (λ j. at (x ∷ (xs ++ ys)) j) (let e : suc (length xs) + k ≡ suc (length xs + k) = omega arith in e)
+    ∙ at-right xs ys k
 
 -- ---- scenarios put together
 module _ (n : ℕ) where
   pub length-joined : (named : ℕ) (f : ℕ → List Fraction) → ((S : ℕ) → S < suc named → length (f S) ≡ n) →
       length (joined_scenarios named f) ≡ suc named * n
-  length-joined zero f h = h zero (omega arith) ∙ (let e : n ≡ suc zero * n = omega (arith, suc-mul zero n, zero-mul n) in e)
+  length-joined zero f h =
+      h zero (omega arith) ∙ (let e : n ≡ suc zero * n = omega (arith, suc-mul zero n, zero-mul n) in e)
   length-joined (suc named) f h =
       length-append (f zero) (joined_scenarios named (λ S. f (suc S)))
       ∙ ap₂ ◌+◌ (h zero (omega arith)) (length-joined named (λ S. f (suc S)) (λ S some. h (suc S) (omega arith)))
@@ -32,7 +31,8 @@ module _ (n : ℕ) where
 
   pub at-joined : (named : ℕ) (f : ℕ → List Fraction) → ((S : ℕ) → S < suc named → length (f S) ≡ n) →
       (S k : ℕ) → S < suc named → k < n → at (joined_scenarios named f) (S * n + k) ≡ at (f S) k
-  at-joined zero f h zero k some small = ap (λ j. at (f zero) j) (let e : zero * n + k ≡ k = omega (arith, zero-mul n) in e)
+  at-joined zero f h zero k some small =
+      ap (λ j. at (f zero) j) (let e : zero * n + k ≡ k = omega (arith, zero-mul n) in e)
   at-joined zero f h (suc S) k some small = absurd (omega arith)
   at-joined (suc named) f h zero k some small =
       ap (λ j. at (f zero ++ joined_scenarios named (λ S. f (suc S))) j)

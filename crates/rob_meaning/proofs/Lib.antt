@@ -3,6 +3,7 @@ pub mod AlongLemmas
 pub mod LinearLemmas
 pub mod AbsoluteLemmas
 pub mod TableLemmas
+pub mod TabulateLemmas
 pub mod EntryLemmas
 pub mod ClearingLemmas
 pub mod LeastLemmas
@@ -23,6 +24,7 @@ pub mod AtLemmas
 pub mod StatusLemmas
 pub mod CoverLemmas
 pub mod EmptyLemmas
+pub mod RowSetLemmas
 pub mod OwnRowLemmas
 pub mod EmptyInLemmas
 pub mod ItemLemmas
@@ -35,7 +37,9 @@ pub mod NamedLemmas
 pub mod FineNames
 pub mod DeclaredLemmas
 pub mod NamedFormLemmas
+pub mod FinePartLemmas
 pub mod NamedSetLemmas
+pub mod WorkedDecisions
 pub mod WorkedTests
 pub mod WorkedNotation
 mod WorkedModels

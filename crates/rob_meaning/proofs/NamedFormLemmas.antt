@@ -23,7 +23,8 @@ module _ (m : RobustModel) (model : IsModel m) (named : IsNamed m) where
         (λ k. k < written_count m)
         (λ k some e. shorter (ap length e)) y.on inside,
     distinct_map (λ k. k < written_count m) (λ d. y.name ∷ parameter_name m.parameters d ∷ [])
-        (λ i j hi hj e. pname_same m model named i j (written_below m model named i hi) (written_below m model named j hj)
+        (λ i j hi hj e. pname_same m model named i j (written_below m model named i hi)
+        (written_below m model named j hj)
         (ap (part 1) e)) y.on inside d,
   )
     where

@@ -13,6 +13,7 @@ use Rattle.rob_meaning.specs.Named.{AreDistinct, IsPlain}
 use Rattle.rob_meaning.specs.Names.{Name, Parts, parameter_name, bound_parts, side_parts, by_number}
 use Rattle.rob_meaning.specs.Places.{Each}
 use Rattle.rob_meaning.specs.RobustModel.{Relation, at_most, at_least, equal, Parameter, SetLine}
+pub use Rattle.rob_meaning.proofs.EachLemmas.{each_all}
 
 -- a part of a name, counted from 0
 abbrev pub part : ℕ → Parts → Name
@@ -109,10 +110,6 @@ pub each_unmapped : {A B : Type 0} (P : B → Type 0) (f : A → B) (xs : List A
     Each (λ x. P (f x)) xs
 each_unmapped P f [] h = tt
 each_unmapped P f (x ∷ xs) h = (h.0, each_unmapped P f xs h.1)
-
-pub each_all : {A : Type 0} (P : A → Type 0) → ((x : A) → P x) → (xs : List A) → Each P xs
-each_all P h [] = tt
-each_all P h (x ∷ xs) = (h x, each_all P h xs)
 
 pub each_flat : {X A : Type 0} (P : A → Type 0) (Q : X → Type 0) (f : X → List A) → ((x : X) → Q x → Each P (f x)) →
     (xs : List X) →

@@ -1,4 +1,5 @@
--- In a model whose declared names are plain, free and distinct, no two set rows, set columns or set conditions share a name.
+-- In a model whose declared names are plain, free and distinct, no two set
+-- rows, set columns or set conditions share a name.
 use Rattle.std.proofs.Common.{inl, inr, sym, ◌∙◌, ap, ap₂, subst, refl, arith, append-nil, length-append}
 use Rattle.std.proofs.lemmas.List.{map-append}
 use Rattle.std.specs.Fmt.{decimal}
@@ -16,64 +17,7 @@ use Rattle.rob_meaning.specs.Places.{Each}
 use Rattle.rob_meaning.specs.RobustModel.{Relation, at_most, at_least, equal, Parameter, Member, SetLine, line, budget, RobustModel}
 use Rattle.rob_meaning.specs.SetConditions.{if_declared}
 use Rattle.rob_meaning.specs.WellFormed.{IsMember, IsSetLine, IsModel}
-
--- lists that are joined alike
-flat_joined : {X : Type 0} (f g : X → List Parts) → ((x : X) → map joined (f x) ≡ map joined (g x)) → (xs : List X) →
-    map joined (flat_map f xs) ≡ map joined (flat_map g xs)
-flat_joined f g h [] = refl
-flat_joined f g h (x ∷ xs) =
-    map-append joined (f x) (flat_map f xs)
-    ∙ ap₂ (λ (a : List Name) (b : List Name). a ++ b) (h x) (flat_joined f g h xs)
-    ∙ sym (map-append joined (g x) (flat_map g xs))
-
-number_joined : (f g : ℕ → SetLine → List Parts) → ((n : ℕ) (c : SetLine) → map joined (f n c) ≡ map joined (g n c)) →
-    (n : ℕ) (cs : List SetLine) → map joined (by_number f n cs) ≡ map joined (by_number g n cs)
-number_joined f g h n [] = refl
-number_joined f g h n (c ∷ cs) =
-    map-append joined (f n c) (by_number f (suc n) cs)
-    ∙ ap₂ (λ (a : List Name) (b : List Name). a ++ b) (h n c) (number_joined f g h (suc n) cs)
-    ∙ sym (map-append joined (g n c) (by_number g (suc n) cs))
-
-both_joined : (a b c d : List Parts) → map joined a ≡ map joined c → map joined b ≡ map joined d →
-    map joined (a ++ b) ≡ map joined (c ++ d)
-both_joined a b c d e f =
-    map-append joined a b ∙ ap₂ (λ (x : List Name) (y : List Name). x ++ y) e f ∙ sym (map-append joined c d)
-
--- the names of a parameter's bounds by their plain parts
-abbrev fine_bounds : Name → Option Fraction → Option Fraction → List Parts
-fine_bounds name lower upper =
-    if_declared (λ l. split name ++ codes "lower" ∷ []) lower ++ if_declared (λ b. split name ++ codes "upper" ∷ []) upper
-
-fine_bounds_joined : (name : Name) (lo hi : Option Fraction) →
-    map joined (fine_bounds name lo hi) ≡ map joined (bound_parts name lo hi)
-fine_bounds_joined name None None = refl
-fine_bounds_joined name None (Some b) =
-    ap (λ (x : Name). x ∷ []) (joined_begins name (codes "upper" ∷ []))
-fine_bounds_joined name (Some l) None =
-    ap (λ (x : Name). x ∷ []) (joined_begins name (codes "lower" ∷ []))
-fine_bounds_joined name (Some l) (Some b) =
-    ap₂ (λ (x : Name) (y : Name). x ∷ y ∷ []) (joined_begins name (codes "lower" ∷ [])) (joined_begins name (codes "upper" ∷ []))
-
-fine_bounds_distinct : (name : Name) (lo hi : Option Fraction) → AreDistinct (fine_bounds name lo hi)
-fine_bounds_distinct name None None = tt
-fine_bounds_distinct name None (Some b) = (tt, tt)
-fine_bounds_distinct name (Some l) None = (tt, tt)
-fine_bounds_distinct name (Some l) (Some b) = (
-  (
-    λ e. lower_is_not_upper
-        (sym (last_part (split name) (codes "lower")) ∙ ap (part (length (split name))) e ∙ last_part (split name) (codes "upper")),
-    tt,
-  ),
-  (tt, tt),
-)
-
--- a property of both
-each_bound : (P : Parts → Type 0) (name : Name) (lo hi : Option Fraction) → P (split name ++ codes "lower" ∷ []) →
-    P (split name ++ codes "upper" ∷ []) → Each P (fine_bounds name lo hi)
-each_bound P name None None l u = tt
-each_bound P name None (Some b) l u = (u, tt)
-each_bound P name (Some a) None l u = (l, tt)
-each_bound P name (Some a) (Some b) l u = (l, (u, tt))
+pub use Rattle.rob_meaning.proofs.FinePartLemmas.{flat_joined, number_joined, both_joined, fine_bounds, fine_bounds_joined, fine_bounds_distinct, each_bound}
 
 module _ (m : RobustModel) (model : IsModel m) (named : IsNamed m) where
   -- ---- the uncertainty sets
@@ -84,14 +28,16 @@ module _ (m : RobustModel) (model : IsModel m) (named : IsNamed m) where
   names_distinct : AreDistinct (map (λ (p : Parameter). split p.name) m.parameters)
   names_distinct =
       subst AreDistinct (map_map split (λ (p : Parameter). p.name) m.parameters)
-      (distinct_map (λ name. Unit {0}) split (λ x y h k e. split_same x y e) (map (λ (p : Parameter). p.name) m.parameters)
+      (distinct_map (λ name. Unit {0}) split (λ x y h k e. split_same x y e)
+      (map (λ (p : Parameter). p.name) m.parameters)
       (each_all (λ name. Unit {0}) (λ name. tt) (map (λ (p : Parameter). p.name) m.parameters))
       (parameters_distinct m model named))
 
   bounds_of_parameters : Keyed front (λ (p : Parameter). split p.name) parameter_bound m.parameters
   bounds_of_parameters =
       each_all (λ d. Each (λ p. front p ≡ split d.name) (parameter_bound d))
-      (λ d. each_bound (λ p. front p ≡ split d.name) d.name d.lower d.upper (front_append (split d.name) (codes "lower"))
+      (λ d. each_bound (λ p. front p ≡ split d.name) d.name d.lower d.upper
+      (front_append (split d.name) (codes "lower"))
       (front_append (split d.name) (codes "upper"))) m.parameters
 
   abbrev all_bounds : List Parts
@@ -121,7 +67,8 @@ module _ (m : RobustModel) (model : IsModel m) (named : IsNamed m) where
       each_flat (λ p. IsFree (part 0 p)) (IsShort m model named) parameter_bound
       (λ d h. each_bound (λ p. IsFree (part 0 p)) d.name d.lower d.upper
       (subst IsFree (sym (first_part_of d.name (codes "lower" ∷ []))) h.0)
-      (subst IsFree (sym (first_part_of d.name (codes "upper" ∷ []))) h.0)) m.parameters (parameters_short m model named)
+      (subst IsFree (sym (first_part_of d.name (codes "upper" ∷ []))) h.0)) m.parameters
+      (parameters_short m model named)
 
   -- the name begins with the word of a set line or of a budget
   abbrev BeginsStated : Parts → Type 0
@@ -144,7 +91,8 @@ module _ (m : RobustModel) (model : IsModel m) (named : IsNamed m) where
       AreDistinct (map joined (parameter_bound_parts m.parameters ++ by_number f 1 m.set_lines))
   stated_distinct f g same keyed begins plain Good good distinct =
       subst AreDistinct
-      (both_joined all_bounds (by_number g 1 m.set_lines) (parameter_bound_parts m.parameters) (by_number f 1 m.set_lines)
+      (both_joined all_bounds (by_number g 1 m.set_lines) (parameter_bound_parts m.parameters)
+      (by_number f 1 m.set_lines)
       all_bounds_joined (number_joined g f same 1 m.set_lines))
       (distinct_joined (all_bounds ++ by_number g 1 m.set_lines)
       (each_append ArePlain all_bounds (by_number g 1 m.set_lines) parameter_bounds_plain
@@ -174,7 +122,8 @@ module _ (m : RobustModel) (model : IsModel m) (named : IsNamed m) where
 
   pub distinct_set_conditions : AreDistinct (set_condition_names m)
   distinct_set_conditions =
-      stated_distinct condition_parts condition_parts (λ n c. refl) conditions_keyed conditions_begin conditions_plain (λ c. Unit {0})
+      stated_distinct condition_parts condition_parts (λ n c. refl) conditions_keyed conditions_begin
+      conditions_plain (λ c. Unit {0})
       (each_all (λ c. Unit {0}) (λ c. tt) m.set_lines) condition_distinct
 
   -- ---- set rows
@@ -252,8 +201,18 @@ module _ (m : RobustModel) (model : IsModel m) (named : IsNamed m) where
       let word = plain_word (codes "budget") refl in
       let digits = decimal_plain n small in
       each_budget ArePlain n hs
-      (λ k. (word, (digits, split_each (parameter_name m.parameters k) (codes "up" ∷ []) (plain_word (codes "up") refl, tt))))
-      (λ k. (word, (digits, split_each (parameter_name m.parameters k) (codes "down" ∷ []) (plain_word (codes "down") refl, tt))))
+      (λ k. (
+        word,
+        (digits, split_each (parameter_name m.parameters k) (codes "up" ∷ []) (plain_word (codes "up") refl, tt)),
+      ))
+      (λ k. (
+        word,
+        (
+          digits,
+          split_each (parameter_name m.parameters k) (codes "down" ∷ [])
+              (plain_word (codes "down") refl, tt),
+        ),
+      ))
       (word, (digits, (plain_word (codes "sum") refl, tt)))
 
   -- the members' parameters have distinct names
@@ -297,7 +256,8 @@ module _ (m : RobustModel) (model : IsModel m) (named : IsNamed m) where
       (apart_by (λ p. 4 ≤ length p) (λ p. length p ≡ 3)
       (λ p q four three same. shorter (length p) four (ap length same ∙ three))
       (flat_map (fine_member n) hs) (sum_part n)
-      (each_member (λ p. 4 ≤ length p) n hs (λ k. member_long n k (codes "up")) (λ k. member_long n k (codes "down"))) (refl, tt))
+      (each_member (λ p. 4 ≤ length p) n hs (λ k. member_long n k (codes "up")) (λ k. member_long n k (codes "down")))
+      (refl, tt))
     where
       shorter : (k : ℕ) → 4 ≤ k → k ≡ 3 → ⊥
       shorter k h e = omega arith
@@ -309,7 +269,8 @@ module _ (m : RobustModel) (model : IsModel m) (named : IsNamed m) where
 
   pub distinct_set_rows : AreDistinct (set_row_names m)
   distinct_set_rows =
-      stated_distinct (statement_parts m.parameters) fine_statement fine_statement_joined statements_keyed statements_begin
+      stated_distinct (statement_parts m.parameters) fine_statement fine_statement_joined
+      statements_keyed statements_begin
       statements_plain (λ c. IsSetLine m c × HasDistinctMembers c)
       (both_good m.set_lines model.set_lines named.members) statement_distinct
 
@@ -338,7 +299,8 @@ module _ (m : RobustModel) (model : IsModel m) (named : IsNamed m) where
       Each P (fine_lift n c)
   each_lift P n h (line l relation r) = tt
   each_lift P n h (budget limit hs) =
-      each_mapped P (λ (b : Member). codes "t" ∷ decimal n ∷ pname b.parameter) (λ b. Unit {0}) (λ b k. h b.parameter) hs
+      each_mapped P (λ (b : Member). codes "t" ∷ decimal n ∷ pname b.parameter) (λ b. Unit {0})
+      (λ b k. h b.parameter) hs
       (each_all (λ b. Unit {0}) (λ b. tt) hs)
 
   lift_distinct : (n : ℕ) (c : SetLine) → IsSetLine m c × HasDistinctMembers c → AreDistinct (fine_lift n c)
@@ -358,7 +320,8 @@ module _ (m : RobustModel) (model : IsModel m) (named : IsNamed m) where
       let own = map parameter_part m.parameters in
       let lifts = by_number fine_lift 1 m.set_lines in
       subst AreDistinct
-      (both_joined own lifts (map (λ (p : Parameter). p.name ∷ []) m.parameters) (by_number (lift_parts m.parameters) 1 m.set_lines)
+      (both_joined own lifts (map (λ (p : Parameter). p.name ∷ []) m.parameters)
+      (by_number (lift_parts m.parameters) 1 m.set_lines)
       (own_joined m.parameters) (number_joined fine_lift (lift_parts m.parameters) fine_lift_joined 1 m.set_lines))
       (distinct_joined (own ++ lifts)
       (each_append ArePlain own lifts
@@ -366,7 +329,10 @@ module _ (m : RobustModel) (model : IsModel m) (named : IsNamed m) where
       (each_all (λ p. Unit {0}) (λ p. tt) m.parameters))
       (number_each fine_lift ArePlain
       (λ n c small. each_lift ArePlain n
-      (λ k. (plain_word (codes "t") refl, (decimal_plain n small, all_plain (pname k) (split_plain (parameter_name m.parameters k))))) c)
+      (λ k. (
+        plain_word (codes "t") refl,
+        (decimal_plain n small, all_plain (pname k) (split_plain (parameter_name m.parameters k))),
+      )) c)
       1 m.set_lines few))
       (distinct_append own lifts names_distinct
       (number_distinct fine_lift (λ n c. each_lift (λ p. part 1 p ≡ decimal n) n (λ k. refl) c)
@@ -376,12 +342,14 @@ module _ (m : RobustModel) (model : IsModel m) (named : IsNamed m) where
       (λ p q two three same. shorter (length p) (length q) two three (ap length same)) own lifts
       (each_mapped (λ p. length p ≤ 2) parameter_part (IsShort m model named) (λ p k. k.1) m.parameters
       (parameters_short m model named))
-      (number_each fine_lift (λ p. 3 ≤ length p) (λ n c small. each_lift (λ p. 3 ≤ length p) n (lift_long n) c) 1 m.set_lines few))))
+      (number_each fine_lift (λ p. 3 ≤ length p)
+      (λ n c small. each_lift (λ p. 3 ≤ length p) n (lift_long n) c) 1 m.set_lines few))))
     where
       shorter : (a b : ℕ) → a ≤ 2 → 3 ≤ b → a ≡ b → ⊥
       shorter a b h k e = omega arith
 
-      own_joined : (ps : List Parameter) → map joined (map parameter_part ps) ≡ map joined (map (λ (p : Parameter). p.name ∷ []) ps)
+      own_joined : (ps : List Parameter)
+          → map joined (map parameter_part ps) ≡ map joined (map (λ (p : Parameter). p.name ∷ []) ps)
       own_joined [] = refl
       own_joined (p ∷ ps) =
           ap₂ (λ (x : Name) (xs : List Name). x ∷ xs) (joined_split p.name ∙ sym (append-nil p.name)) (own_joined ps)

@@ -25,14 +25,16 @@ module _ (m : RobustModel) (one : HasOneSet m) where
   plain_model model = record {
     set_lines = model.set_lines;
     lists =
-        subst (λ n. Each (λ (y : AdaptiveVariable). Each (λ k. k < n) y.on) m.adaptives) (all_written m one.sets) model.lists;
+        subst (λ n. Each (λ (y : AdaptiveVariable). Each (λ k. k < n) y.on) m.adaptives)
+        (all_written m one.sets) model.lists;
     objective = model.objective;
     rows = model.rows;
   }
 
   model_plain : IsPlainModel m → IsModel m
   model_plain h =
-      model_alone m one.sets (all_default m.line_sets one.lines) (all_default m.row_sets one.rows) one.objective h.set_lines
+      model_alone m one.sets (all_default m.line_sets one.lines) (all_default m.row_sets one.rows)
+      one.objective h.set_lines
       h.lists h.objective h.rows
 
   pub well_formed_law : IsModel m ↔ IsPlainModel m
@@ -56,7 +58,8 @@ module _ (m : RobustModel) (model : IsModel m) (alone : m.sets ≡ []) where
         keeps_apart m model plan tau 0 u u
         (λ k small. sym
         (agree_in_each m 0 u u (omega arith) own.numbers
-        (λ k small. ap (λ j. at u j) (let e : k ≡ zero * written_count m + k = omega (arith, zero-mul (written_count m)) in e))
+        (λ k small. ap (λ j. at u j) (let e : k ≡ zero * written_count m + k =
+        omega (arith, zero-mul (written_count m)) in e))
         k small))
         (h.keeps u ((one_set_law m model alone u).0 own))
 

@@ -44,7 +44,7 @@ target_zero maximise n v plan fits =
     ends n (neg_ℚ v) 1ℚ 1ℚ v plan fits ∙ Q.ring (v ∷ [])
     (minus v0 :* lit (pos 1) :+ lit (pos 1) :* v0) (lit (pos 0)) refl
 
-plus_all-append : (xs ys : List Fraction) (x y : Fraction) → length xs ≡ length ys →
+pub plus_all-append : (xs ys : List Fraction) (x y : Fraction) → length xs ≡ length ys →
     plus_all ℚ_ring (xs ++ x ∷ []) (ys ++ y ∷ []) ≡ plus_all ℚ_ring xs ys ++ (x +ℚ y) ∷ []
 plus_all-append [] [] x y e = refl
 plus_all-append [] (b ∷ ys) x y e = cc
@@ -52,17 +52,17 @@ plus_all-append (a ∷ xs) [] x y e = cc
 plus_all-append (a ∷ xs) (b ∷ ys) x y e =
     ap (λ (zs : List Fraction). (a +ℚ b) ∷ zs) (plus_all-append xs ys x y (suc_same e))
 
-length-last : (xs : List Fraction) (x : Fraction) → length (xs ++ x ∷ []) ≡ suc (length xs)
+pub length-last : (xs : List Fraction) (x : Fraction) → length (xs ++ x ∷ []) ≡ suc (length xs)
 length-last [] x = refl
 length-last (y ∷ xs) x = ap suc (length-last xs x)
 
-scale-append : (c : Fraction) (xs : List Fraction) (x : Fraction) →
+pub scale-append : (c : Fraction) (xs : List Fraction) (x : Fraction) →
     scale ℚ_ring c (xs ++ x ∷ []) ≡ scale ℚ_ring c xs ++ (c *ℚ x) ∷ []
 scale-append c [] x = refl
 scale-append c (y ∷ xs) x = ap (λ (zs : List Fraction). (c *ℚ y) ∷ zs) (scale-append c xs x)
 
 -- a plan moved along a direction
-moved : (plan step : List Fraction) (v d c : Fraction) → length plan ≡ length step →
+pub moved : (plan step : List Fraction) (v d c : Fraction) → length plan ≡ length step →
     plus_all ℚ_ring (plan_vector 1ℚ plan v) (scale ℚ_ring c (plan_vector 0ℚ step d)) ≡ plan_vector 1ℚ
     (plus_all ℚ_ring plan (scale ℚ_ring c step)) (v +ℚ c *ℚ d)
 moved plan step v d c e =
@@ -204,7 +204,8 @@ module _ (m : RobustModel) (model : IsModel m) where
   unfolding Reach
   proves_unbounded c h t = by (reach m.sense c.value c.step_bound t h.improves)
     where
-      by : IsNoWorse m.sense c.value t ⊎ ((times : Fraction) × ((0ℚ ≤ℚ times) × (c.value +ℚ times *ℚ c.step_bound ≡ t))) →
+      by : IsNoWorse m.sense c.value t
+          ⊎ ((times : Fraction) × ((0ℚ ≤ℚ times) × (c.value +ℚ times *ℚ c.step_bound ≡ t))) →
           (plan : List Fraction) × HasBound m plan t
       by (inl k) = (
         c.plan,

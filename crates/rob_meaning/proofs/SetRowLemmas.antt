@@ -262,7 +262,9 @@ module _ (m : RobustModel) (s : Fraction) (p : List Fraction) where
           (statement_rows m t rest) h),
     )
     statements_out t (budget limit hs ∷ rest) ok h =
-        let right = each_right (RowHolds s p T) (member_rows t hs) (budget_row t limit hs ∷ statement_rows m (length hs + t) rest) h in (
+        let right =
+        each_right (RowHolds s p T) (member_rows t hs)
+        (budget_row t limit hs ∷ statement_rows m (length hs + t) rest) h in (
           Q.le_trans_ℚ (total_taken m s p hs) (along (members_sum t hs) T) (s *ℚ limit)
               (total_le t hs ok.0 (each_left (RowHolds s p T) (member_rows t hs)
               (budget_row t limit hs ∷ statement_rows m (length hs + t) rest) h))

@@ -78,7 +78,8 @@ attained_is_worst_case m plan u v model b admitted e =
     record {
       bound = b;
       none_better = λ tau k.
-          subst (λ x. IsNoWorse m.sense x tau) e ((k.keeps m.objective_set model.own_objective.0 u admitted).objective refl);
+          subst (λ x. IsNoWorse m.sense x tau) e
+          ((k.keeps m.objective_set model.own_objective.0 u admitted).objective refl);
     }
 
 -- a plan has one worst case

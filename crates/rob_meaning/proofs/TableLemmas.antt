@@ -19,7 +19,7 @@ abbrev pub NoColumns : Table → Type 0
 NoColumns f = (k j : ℕ) → f k (suc j) ≡ 0ℚ
 
 -- ---- products of tables
-times_comm : (f g : Table) (k j : ℕ) → table_times f g k j ≡ table_times g f k j
+pub times_comm : (f g : Table) (k j : ℕ) → table_times f g k j ≡ table_times g f k j
 times_comm f g zero zero = Q.ring (f 0 0 ∷ g 0 0 ∷ []) (v0 :* v1) (v1 :* v0) refl
 times_comm f g (suc k) zero =
     Q.ring (f (suc k) 0 ∷ g 0 0 ∷ f 0 0 ∷ g (suc k) 0 ∷ []) (v0 :* v1 :+ v2 :* v3) (v3 :* v2 :+ v1 :* v0) refl
@@ -51,8 +51,10 @@ assoc_one a b e f i j =
     (v1 :* (v2 :* v4) :+ v0 :* (v3 :* v4 :+ v2 :* v5)) refl
 
 assoc_two : (a b c d e f g h i j k l : Fraction) →
-    (((d *ℚ e +ℚ b *ℚ g) +ℚ (c *ℚ f +ℚ a *ℚ h)) *ℚ i +ℚ (b *ℚ e +ℚ a *ℚ f) *ℚ k) +ℚ ((c *ℚ e +ℚ a *ℚ g) *ℚ j +ℚ a *ℚ e *ℚ l)
-    ≡ (d *ℚ (e *ℚ i) +ℚ b *ℚ (g *ℚ i +ℚ e *ℚ k)) +ℚ (c *ℚ (f *ℚ i +ℚ e *ℚ j) +ℚ a *ℚ ((h *ℚ i +ℚ f *ℚ k) +ℚ (g *ℚ j +ℚ e *ℚ l)))
+    (((d *ℚ e +ℚ b *ℚ g) +ℚ (c *ℚ f +ℚ a *ℚ h)) *ℚ i +ℚ (b *ℚ e +ℚ a *ℚ f) *ℚ k)
+    +ℚ ((c *ℚ e +ℚ a *ℚ g) *ℚ j +ℚ a *ℚ e *ℚ l)
+    ≡ (d *ℚ (e *ℚ i) +ℚ b *ℚ (g *ℚ i +ℚ e *ℚ k))
+    +ℚ (c *ℚ (f *ℚ i +ℚ e *ℚ j) +ℚ a *ℚ ((h *ℚ i +ℚ f *ℚ k) +ℚ (g *ℚ j +ℚ e *ℚ l)))
 assoc_two a b c d e f g h i j k l =
     Q.ring (a ∷ b ∷ c ∷ d ∷ e ∷ f ∷ g ∷ h ∷ i ∷ j ∷ k ∷ l ∷ [])
     ((((v3 :* v4 :+ v1 :* v6) :+ (v2 :* v5 :+ v0 :* v7)) :* var 8 :+ (v1 :* v4 :+ v0 :* v5) :* var
@@ -69,12 +71,6 @@ table_times-assoc f g h zero (suc j) = assoc_one (f 0 0) (f 0 (suc j)) (g 0 0) (
 table_times-assoc f g h (suc k) (suc j) =
     assoc_two (f 0 0) (f (suc k) 0) (f 0 (suc j)) (f (suc k) (suc j)) (g 0 0) (g (suc k) 0) (g 0 (suc j))
     (g (suc k) (suc j)) (h 0 0) (h (suc k) 0) (h 0 (suc j)) (h (suc k) (suc j))
-
-pub table_times-one : (f : Table) (k j : ℕ) → table_times (single 0 0) f k j ≡ f k j
-table_times-one f k j =
-    times_constant (single 0 0) f (λ k j. Q.ring (unit 0 j ∷ []) (lit (pos 0) :* v0) (lit (pos 0)) refl)
-    (λ k j. Q.ring (unit 0 k ∷ []) (v0 :* lit (pos 0)) (lit (pos 0)) refl) k j
-    ∙ Q.ring (f k j ∷ []) (lit (pos 1) :* lit (pos 1) :* v0) v0 refl
 
 -- one has no parameter and the other no column
 times_apart : (f g : Table) → NoParams f → NoColumns g → (k j : ℕ) → table_times f g k j ≡ g k 0 *ℚ f 0 j
@@ -118,9 +114,6 @@ no_columns_at f p z h =
     (λ k. times_one (f k 0) (along (λ j. f k (suc j)) z) (along-none (λ j. f k (suc j)) z (h k)))
 
 module _ (u z : List Fraction) where
-  whole_at_one : Table → Fraction
-  whole_at_one f = table_at f (1ℚ ∷ u) (1ℚ ∷ z)
-
   constant_at : (f : Table) → NoParams f → NoColumns f → table_at f (1ℚ ∷ u) (1ℚ ∷ z) ≡ f 0 0
   constant_at f np nc =
       no_params_at f u (1ℚ ∷ z) np ∙ times_one (f 0 0) (along (λ j. f 0 (suc j)) z)
@@ -159,14 +152,14 @@ module _ (u z : List Fraction) where
   times_at f g (suc a) (suc b) c d pf cf pg cg h k =
       turned f g (times_at-constant g f (pg (omega arith)) (cg (omega arith)))
 
-signed-zero : (is_minus : Bool) → signed is_minus 0ℚ ≡ 0ℚ
+pub signed-zero : (is_minus : Bool) → signed is_minus 0ℚ ≡ 0ℚ
 signed-zero true = Q.ring [] (minus (lit (pos 0))) (lit (pos 0)) refl
 signed-zero false = refl
 
-zero_times : (x : Fraction) → 0ℚ *ℚ x ≡ 0ℚ
+pub zero_times : (x : Fraction) → 0ℚ *ℚ x ≡ 0ℚ
 zero_times x = Q.ring (x ∷ []) (lit (pos 0) :* v0) (lit (pos 0)) refl
 
-times_zero : (x : Fraction) → x *ℚ 0ℚ ≡ 0ℚ
+pub times_zero : (x : Fraction) → x *ℚ 0ℚ ≡ 0ℚ
 times_zero x = Q.ring (x ∷ []) (v0 :* lit (pos 0)) (lit (pos 0)) refl
 
 zero_and_zero : 0ℚ +ℚ 0ℚ ≡ 0ℚ
@@ -212,10 +205,6 @@ module _ (m : RobustModel) where
         times_no_params (table m e) (product_table m fs) (no_params e (omega arith))
         (product_no_params fs (omega arith)) k j
 
-  no_rule_column : (ks : List ℕ) (column k : ℕ) → rule_table ks column k 0 ≡ 0ℚ
-  no_rule_column [] column k = refl
-  no_rule_column (d ∷ ds) column k = rw (no_rule_column ds (suc column) k, times_zero (unit (suc d) k)) zero_and_zero
-
   mutual
     pub no_columns : (e : Expression) → decision_degree m e ≡ 0 → NoColumns (table m e)
     no_columns (number q) h k j = ap (λ x. q *ℚ x) (times_zero (unit 0 k)) ∙ times_zero q
@@ -239,9 +228,6 @@ module _ (m : RobustModel) where
         (product_no_columns fs (omega arith)) k j
 
 module _ (m : RobustModel) (u plan : List Fraction) where
-  at_one : Table → Fraction
-  at_one f = table_at f (1ℚ ∷ u) (1ℚ ∷ plan)
-
   rule-table : (ks : List ℕ) (column : ℕ) →
       table_at (rule_table ks column) (1ℚ ∷ u) (1ℚ ∷ plan) ≡ rule_part m plan u ks column
   rule-table [] column = table_at-zero (1ℚ ∷ u) (1ℚ ∷ plan)

@@ -33,7 +33,8 @@ module _
         dot ℚ_ring (map of_int (whole_row m r)) (p ++ t) ≡ of_int
         (pos (row_denominator m r)) *ℚ (along r.on_parameters p +ℚ along r.on_lifts t)
     whole_dot r =
-        let divides = each_divides (row_denominator m r) (r.limit ∷ coefficients m r) (dvd_refl (row_denominator m r)) in
+        let divides =
+        each_divides (row_denominator m r) (r.limit ∷ coefficients m r) (dvd_refl (row_denominator m r)) in
         ap (λ (xs : List Fraction). dot ℚ_ring xs (p ++ t))
         (whole-row (row_denominator m r) (coefficients m r) divides.1)
         ∙ dot-scale ℚ_ring (of_int (pos (row_denominator m r))) (coefficients m r) (p ++ t)
@@ -41,7 +42,8 @@ module _
 
     right_side : (r : SetRow) → s *ℚ of_int (whole_limit m r) ≡ of_int (pos (row_denominator m r)) *ℚ (s *ℚ r.limit)
     right_side r =
-        let divides = each_divides (row_denominator m r) (r.limit ∷ coefficients m r) (dvd_refl (row_denominator m r)) in
+        let divides =
+        each_divides (row_denominator m r) (r.limit ∷ coefficients m r) (dvd_refl (row_denominator m r)) in
         ap (λ z. s *ℚ z) (whole_at-is (row_denominator m r) r.limit divides.0)
         ∙ Q.ring (s ∷ of_int (pos (row_denominator m r)) ∷ r.limit ∷ []) (v0 :* (v1 :* v2)) (v1 :* (v0 :* v2)) refl
 

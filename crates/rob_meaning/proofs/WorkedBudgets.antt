@@ -71,8 +71,8 @@ two_periods_with_a_budget = record (two_demands_with_a_budget 1ℚ) {
       ∷ row (codes "all") (variable 0 ⊕ adaptive 0) at_least (parameter 0 ⊕ parameter 1) ∷ [];
 }
 
--- x = 12, y = 5 + d1/2: the objective is 34 in every scenario; all is tight at (10, 12), and the objective is wanted at d1 = 8
--- and d1 = 12, half each
+-- x = 12, y = 5 + d1/2: the objective is 34 in every scenario; all is tight at (10, 12), and the objective is wanted at
+-- d1 = 8 and d1 = 12, half each
 two_periods_cost_34 : IsOptimal two_periods_with_a_budget (int 34)
 unfolding ratio
 two_periods_cost_34 =
@@ -100,8 +100,8 @@ without_a_rule_cost_36 =
     (item 0 1ℚ (int 8 ∷ int 10 ∷ []) ∷ item 2 (int 2) (int 12 ∷ int 10 ∷ []) ∷ [])))
     tt
 
--- ---- orders and stock: d1 in [9, 13] and d2 in [10, 14] with a budget of 1 round 11 and 12; the cost counts the orders and
--- what is in stock behind each period
+-- ---- orders and stock: d1 in [9, 13] and d2 in [10, 14] with a budget of 1 round 11 and 12; the cost counts the
+-- orders and what is in stock behind each period
 abbrev stock_one : Expression
 stock_one = variable 0 ⊖ parameter 0
 

@@ -1,5 +1,6 @@
--- Models worked by hand, each with the certificate of its answer. A certificate lists the plan's number for each decision
--- column, what each set row gives to cover a form, and the items: forms, taken at scenarios, whose sum no plan can escape.
+-- Models worked by hand, each with the certificate of its answer. A certificate
+-- lists the plan's number for each decision column, what each set row gives to cover
+-- a form, and the items: forms, taken at scenarios, whose sum no plan can escape.
 use Rattle.std.specs.Prelude.{[], ◌∷◌, Some, None, codes}
 use Rattle.rob_algebra.specs.Fraction.{ratio}
 use Rattle.rob_meaning.proofs.StatusLemmas.{optimum_is_worst_case}

@@ -35,7 +35,8 @@ hard_and_soft = record {
   objective = variable 0 ⊕ variable 1;
   objective_set = 0;
   rows =
-      row (codes "hard") (variable 0) at_least (parameter 0) ∷ row (codes "soft") (variable 1) at_least (parameter 1) ∷ [];
+      row (codes "hard") (variable 0) at_least (parameter 0)
+      ∷ row (codes "soft") (variable 1) at_least (parameter 1) ∷ [];
   row_sets = 0 ∷ 1 ∷ [];
 }
 
@@ -93,9 +94,12 @@ its_row_sets_alone = refl
 
 -- rows: the constant, d, calm.d; columns: the constant, x, z, tau
 its_matrices : matrices hard_and_soft ≡
-    ((pos 0 ∷ pos 1 ∷ pos 1 ∷ negsuc 0 ∷ []) ∷ (pos 0 ∷ pos 0 ∷ pos 0 ∷ pos 0 ∷ []) ∷ (pos 0 ∷ pos 0 ∷ pos 0 ∷ pos 0 ∷ []) ∷ [])
-    ∷ ((pos 0 ∷ negsuc 0 ∷ pos 0 ∷ pos 0 ∷ []) ∷ (pos 1 ∷ pos 0 ∷ pos 0 ∷ pos 0 ∷ []) ∷ (pos 0 ∷ pos 0 ∷ pos 0 ∷ pos 0 ∷ []) ∷ [])
-    ∷ ((pos 0 ∷ pos 0 ∷ negsuc 0 ∷ pos 0 ∷ []) ∷ (pos 0 ∷ pos 0 ∷ pos 0 ∷ pos 0 ∷ []) ∷ (pos 1 ∷ pos 0 ∷ pos 0 ∷ pos 0 ∷ []) ∷ [])
+    ((pos 0 ∷ pos 1 ∷ pos 1 ∷ negsuc 0 ∷ []) ∷ (pos 0 ∷ pos 0 ∷ pos 0 ∷ pos 0 ∷ [])
+    ∷ (pos 0 ∷ pos 0 ∷ pos 0 ∷ pos 0 ∷ []) ∷ [])
+    ∷ ((pos 0 ∷ negsuc 0 ∷ pos 0 ∷ pos 0 ∷ []) ∷ (pos 1 ∷ pos 0 ∷ pos 0 ∷ pos 0 ∷ [])
+    ∷ (pos 0 ∷ pos 0 ∷ pos 0 ∷ pos 0 ∷ []) ∷ [])
+    ∷ ((pos 0 ∷ pos 0 ∷ negsuc 0 ∷ pos 0 ∷ []) ∷ (pos 0 ∷ pos 0 ∷ pos 0 ∷ pos 0 ∷ [])
+    ∷ (pos 1 ∷ pos 0 ∷ pos 0 ∷ pos 0 ∷ []) ∷ [])
     ∷ []
 unfolding ratio
 its_matrices = refl
@@ -177,9 +181,12 @@ rule_in_two_sets_costs_12 =
 
 -- rows: the constant, d, calm.d; columns: the constant, y, y.d, tau
 its_rule_matrices : matrices a_rule_in_two_sets ≡
-    ((pos 0 ∷ pos 1 ∷ pos 0 ∷ negsuc 0 ∷ []) ∷ (pos 0 ∷ pos 0 ∷ pos 1 ∷ pos 0 ∷ []) ∷ (pos 0 ∷ pos 0 ∷ pos 0 ∷ pos 0 ∷ []) ∷ [])
-    ∷ ((pos 0 ∷ negsuc 0 ∷ pos 0 ∷ pos 0 ∷ []) ∷ (pos 1 ∷ pos 0 ∷ negsuc 0 ∷ pos 0 ∷ []) ∷ (pos 0 ∷ pos 0 ∷ pos 0 ∷ pos 0 ∷ []) ∷ [])
-    ∷ ((negsuc 10 ∷ pos 1 ∷ pos 0 ∷ pos 0 ∷ []) ∷ (pos 0 ∷ pos 0 ∷ pos 0 ∷ pos 0 ∷ []) ∷ (pos 0 ∷ pos 0 ∷ pos 1 ∷ pos 0 ∷ []) ∷ [])
+    ((pos 0 ∷ pos 1 ∷ pos 0 ∷ negsuc 0 ∷ []) ∷ (pos 0 ∷ pos 0 ∷ pos 1 ∷ pos 0 ∷ [])
+    ∷ (pos 0 ∷ pos 0 ∷ pos 0 ∷ pos 0 ∷ []) ∷ [])
+    ∷ ((pos 0 ∷ negsuc 0 ∷ pos 0 ∷ pos 0 ∷ []) ∷ (pos 1 ∷ pos 0 ∷ negsuc 0 ∷ pos 0 ∷ [])
+    ∷ (pos 0 ∷ pos 0 ∷ pos 0 ∷ pos 0 ∷ []) ∷ [])
+    ∷ ((negsuc 10 ∷ pos 1 ∷ pos 0 ∷ pos 0 ∷ []) ∷ (pos 0 ∷ pos 0 ∷ pos 0 ∷ pos 0 ∷ [])
+    ∷ (pos 0 ∷ pos 0 ∷ pos 1 ∷ pos 0 ∷ []) ∷ [])
     ∷ []
 unfolding ratio
 its_rule_matrices = refl

@@ -55,7 +55,8 @@ empty_interval_is_a_model = found (test_model an_empty_interval) tt
 empty_interval_is_unbounded : IsUnbounded an_empty_interval
 empty_interval_is_unbounded tau = (0ℚ ∷ [], record { columns = refl; keeps = none; variables = ((tt, tt), tt) })
   where
-    none : (S : ℕ) → S < 1 → (u : List Fraction) → AdmitsIn an_empty_interval S u → KeepsIn an_empty_interval (0ℚ ∷ []) tau S u
+    none : (S : ℕ) → S < 1 → (u : List Fraction) → AdmitsIn an_empty_interval S u
+        → KeepsIn an_empty_interval (0ℚ ∷ []) tau S u
     none zero some u h =
         absurd (empty_interval_admits_nothing u
         (jointly_admits an_empty_interval empty_interval_is_a_model u
@@ -92,7 +93,8 @@ centre_is_admitted = found (test_admits a_budget_of_0 (found (test_model a_budge
 one_is_not_admitted : Admits a_budget_of_0 (1ℚ ∷ []) → ⊥
 unfolding ratio
 one_is_not_admitted h =
-    not_lt_ℚ (over 1 2) 0ℚ (admits_jointly a_budget_of_0 (found (test_model a_budget_of_0) tt) (1ℚ ∷ []) h).lines.0 (found (test_lt 0ℚ (over 1 2)) tt)
+    not_lt_ℚ (over 1 2) 0ℚ (admits_jointly a_budget_of_0 (found (test_model a_budget_of_0) tt) (1ℚ ∷ []) h).lines.0
+    (found (test_lt 0ℚ (over 1 2)) tt)
 
 -- a ray is 0 in a budget's member
 zero_is_a_ray : IsRay a_budget_of_0 (0ℚ ∷ [])
@@ -155,7 +157,8 @@ its_set_column_names : set_column_names a_rule_under_a_budget ≡ codes "d" ∷ 
 unfolding digits
 its_set_column_names = refl
 
-its_set_condition_names : set_condition_names a_rule_under_a_budget ≡ codes "d.lower" ∷ codes "d.upper" ∷ codes "budget.1" ∷ []
+its_set_condition_names : set_condition_names a_rule_under_a_budget
+    ≡ codes "d.lower" ∷ codes "d.upper" ∷ codes "budget.1" ∷ []
 unfolding digits
 its_set_condition_names = refl
 

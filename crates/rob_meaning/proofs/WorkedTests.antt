@@ -23,121 +23,7 @@ use Rattle.rob_meaning.specs.SetRows.{set_rows, set_column_count, lift_count}
 use Rattle.rob_meaning.specs.UncertaintySet.{Relates, Admits}
 use Rattle.rob_meaning.specs.Vectors.{dot, scale, zeros, vec_mat}
 use Rattle.rob_meaning.specs.WellFormed.{IsInside, TermsInside, FactorsInside, IsExpression, IsSetSide, IsMember, IsSetLine, IsParameterOf, IsOf, TermsOf, FactorsOf, IsLineOf, IsModel}
-
--- the test found the fact
-abbrev pub Found : {A : Type 0} → Option A → Type 0
-Found None = ⊥
-Found (Some x) = Unit {0}
-
-abbrev pub found : {A : Type 0} (o : Option A) → Found o → A
-found None h = absurd h
-found (Some x) h = x
-
-abbrev both : {A B : Type 0} → Option A → Option B → Option (A × B)
-both None b = None
-both (Some x) None = None
-both (Some x) (Some y) = Some (x, y)
-
-abbrev so : {A B : Type 0} → (A → B) → Option A → Option B
-so f None = None
-so f (Some x) = Some (f x)
-
--- ---- numbers
-abbrev decided : {A : Type 0} (b : Bool) → (b ≡ true → A) → Option A
-decided true f = Some (f refl)
-decided false f = None
-
-abbrev test_below : (a b : ℕ) → Option (a < b)
-test_below a b = decided (ltb a b) (ltb-true a b)
-
-abbrev test_at_most : (a b : ℕ) → Option (a ≤ b)
-test_at_most a b = decided (leb a b) (leb-true a b)
-
-abbrev test_count : (a b : ℕ) → Option (a ≡ b)
-test_count a b = decided (eqb a b) (eqb-true a b)
-
-pub below_differs : (a b : ℕ) → ltb a b ≡ true → a ≢ b
-below_differs a b e same = apart a b (ltb-true a b e) same
-  where
-    apart : (a b : ℕ) → a < b → a ≡ b → ⊥
-    apart a b h e = omega arith
-
-abbrev either : {A : Type 0} → Option A → Option A → Option A
-either None o = o
-either (Some x) o = Some x
-
--- two names differ, by the byte at a place, the names' ends counting as 0
-abbrev pub test_differ : (a b : List ℕ) → Option (a ≢ b)
-test_differ a b = differ_from 0 (length a + length b)
-  where
-    below : (k : ℕ) → Option (a ≢ b)
-    below k =
-        decided (ltb (get_or a k 0) (get_or b k 0))
-        (λ e same. below_differs (get_or a k 0) (get_or b k 0) e (ap (λ xs. get_or xs k 0) same))
-
-    above : (k : ℕ) → Option (a ≢ b)
-    above k =
-        decided (ltb (get_or b k 0) (get_or a k 0))
-        (λ e same. below_differs (get_or b k 0) (get_or a k 0) e (sym (ap (λ xs. get_or xs k 0) same)))
-
-    differ_from : ℕ → ℕ → Option (a ≢ b)
-    differ_from k zero = None
-    differ_from k (suc n) = either (either (below k) (above k)) (differ_from (suc k) n)
-
--- each number below n has the property
-abbrev test_numbers : (n : ℕ) (P : ℕ → Type 0) → ((i : ℕ) → Option (P i)) → Option ((i : ℕ) → i < n → P i)
-test_numbers zero P test = Some (λ i h. absurd (omega arith))
-test_numbers (suc n) P test =
-    so (λ h. first_and_rest n P h.0 h.1) (both (test zero) (test_numbers n (λ i. P (suc i)) (λ i. test (suc i))))
-  where
-    first_and_rest : (n : ℕ) (P : ℕ → Type 0) → P zero → ((i : ℕ) → i < n → P (suc i)) → (i : ℕ) → i < suc n → P i
-    first_and_rest n P p h zero k = p
-    first_and_rest n P p h (suc i) k = h i (omega arith)
-
-abbrev le_ranked : (x y : Fraction) (r : Ordering) → MatchOrdering r (x <ℚ y) (x ≡ y) (y <ℚ x) → Option (x ≤ℚ y)
-le_ranked x y Less h = Some (Q.le_of_lt_ℚ x y h)
-le_ranked x y Equal h = Some (subst (λ z. x ≤ℚ z) h (Q.le_refl_ℚ x))
-le_ranked x y Greater h = None
-
-abbrev lt_ranked : (x y : Fraction) (r : Ordering) → MatchOrdering r (x <ℚ y) (x ≡ y) (y <ℚ x) → Option (x <ℚ y)
-lt_ranked x y Less h = Some h
-lt_ranked x y Equal h = None
-lt_ranked x y Greater h = None
-
-abbrev same_ranked : (x y : Fraction) (r : Ordering) → MatchOrdering r (x <ℚ y) (x ≡ y) (y <ℚ x) → Option (x ≡ y)
-same_ranked x y Less h = None
-same_ranked x y Equal h = Some h
-same_ranked x y Greater h = None
-
-abbrev pub test_le : (x y : Fraction) → Option (x ≤ℚ y)
-test_le x y = le_ranked x y (cmp_ℚ x y) (cmp_ℚ-ranks x y)
-
-abbrev pub test_lt : (x y : Fraction) → Option (x <ℚ y)
-test_lt x y = lt_ranked x y (cmp_ℚ x y) (cmp_ℚ-ranks x y)
-
-abbrev pub test_same : (x y : Fraction) → Option (x ≡ y)
-test_same x y = same_ranked x y (cmp_ℚ x y) (cmp_ℚ-ranks x y)
-
--- ---- lists
-abbrev test_each : {A : Type 0} (P : A → Type 0) → ((x : A) → Option (P x)) → (xs : List A) → Option (Each P xs)
-test_each P test [] = Some tt
-test_each P test (x ∷ xs) = both (test x) (test_each P test xs)
-
-abbrev test_nonnegative : (xs : List Fraction) → Option (AllNonneg xs)
-test_nonnegative [] = Some tt
-test_nonnegative (x ∷ xs) = both (test_le 0ℚ x) (test_nonnegative xs)
-
-abbrev test_list : (xs ys : List Fraction) → Option (xs ≡ ys)
-test_list [] [] = Some refl
-test_list [] (y ∷ ys) = None
-test_list (x ∷ xs) [] = None
-test_list (x ∷ xs) (y ∷ ys) =
-    so (λ h. ap₂ (λ (z : Fraction) (zs : List Fraction). z ∷ zs) h.0 h.1) (both (test_same x y) (test_list xs ys))
-
-abbrev test_each_from : {A : Type 0} (P : ℕ → A → Type 0) → ((i : ℕ) (x : A) → Option (P i x)) → (k : ℕ) (xs : List A) →
-    Option (EachFrom k P xs)
-test_each_from P test k [] = Some tt
-test_each_from P test k (x ∷ xs) = both (test k x) (test_each_from P test (suc k) xs)
+pub use Rattle.rob_meaning.proofs.WorkedDecisions.{Found, found, both, so, test_below, test_at_most, test_count, below_differs, test_differ, test_numbers, test_le, test_lt, test_same, test_each, test_nonnegative, test_list, test_each_from}
 
 -- ---- parameters
 abbrev test_name : (xs ys : List ℕ) → Option (xs ≡ ys)
@@ -167,7 +53,8 @@ test_parameters [] [] = Some refl
 test_parameters [] (q ∷ qs) = None
 test_parameters (p ∷ ps) [] = None
 test_parameters (p ∷ ps) (q ∷ qs) =
-    so (λ h. ap₂ (λ (x : Parameter) (xs : List Parameter). x ∷ xs) h.0 h.1) (both (test_parameter p q) (test_parameters ps qs))
+    so (λ h. ap₂ (λ (x : Parameter) (xs : List Parameter). x ∷ xs) h.0 h.1)
+    (both (test_parameter p q) (test_parameters ps qs))
 
 module _ (m : RobustModel) where
   -- ---- models
@@ -228,7 +115,8 @@ module _ (m : RobustModel) where
   abbrev test_parameter_of : (S k : ℕ) → Option (IsParameterOf m S k)
   test_parameter_of S k =
       so (λ h. (k - S * written_count m, h.0, h.1))
-      (both (test_below (k - S * written_count m) (written_count m)) (test_count k (joint_number m S (k - S * written_count m))))
+      (both (test_below (k - S * written_count m) (written_count m))
+      (test_count k (joint_number m S (k - S * written_count m))))
 
   abbrev mutual
     test_of : (S : ℕ) (e : Expression) → Option (IsOf m S e)
@@ -280,7 +168,8 @@ module _ (m : RobustModel) where
       (both (both (test_below m.objective_set (set_count m)) (test_of m.objective_set m.objective))
       (test_each_from
       (λ i (r : Row). (row_set m i < set_count m) × (IsOf m (row_set m i) r.left × IsOf m (row_set m i) r.right))
-      (λ i r. both (test_below (row_set m i) (set_count m)) (both (test_of (row_set m i) r.left) (test_of (row_set m i) r.right)))
+      (λ i r. both (test_below (row_set m i) (set_count m))
+      (both (test_of (row_set m i) r.left) (test_of (row_set m i) r.right)))
       0 m.rows))))
 
   -- ---- the uncertainty set
@@ -352,7 +241,14 @@ module _ (m : RobustModel) where
 
     abbrev test_optimal : (c : Certificate) → Option (ProvesOptimal m c)
     test_optimal c =
-        so (λ h. record { inside = h.0.0; items = h.0.1; scale = h.1.0.0; columns = h.1.0.1.0; covered = h.1.0.1.1; sums = h.1.1 })
+        so (λ h. record {
+          inside = h.0.0;
+          items = h.0.1;
+          scale = h.1.0.0;
+          columns = h.1.0.1.0;
+          covered = h.1.0.1.1;
+          sums = h.1.1;
+        })
         (both (test_inside_and_items c)
         (both (test_plan c) (test_list (combination m c.items) (target m.sense (column_count m) c.value))))
 

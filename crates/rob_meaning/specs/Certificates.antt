@@ -13,16 +13,17 @@ pub record Cover : Type 0 where
   pub set_row : ℕ
   pub amount : Fraction
 
--- a form with a weight, and where the form is taken: at a vector that is `base` times a scenario, or, with base 0, a ray
+-- a form with a weight, and where the form is taken: at a vector that is `base`
+-- times a scenario, or, with base 0, a ray
 pub record Item : Type 0 where
   pub form : ℕ
   pub weight : Fraction
   pub base : Fraction
   pub vector : List Fraction
 
--- a certificate: its status; the value, which is the optimum or the bound of an unbounded model's plan; the positive number
--- that the covers of the plan are taken with; an admitted scenario; the plan; a direction, and how far its bound moves; the
--- covers of the plan, and those of the direction, which are taken with 1; the items
+-- a certificate: its status; the value, which is the optimum or the bound of an unbounded model's plan; the positive
+-- number that the covers of the plan are taken with; an admitted scenario; the plan; a direction, and how far its bound
+-- moves; the covers of the plan, and those of the direction, which are taken with 1; the items
 pub record Certificate : Type 0 where
   pub status : Status
   pub value : Fraction

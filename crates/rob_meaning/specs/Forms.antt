@@ -1,6 +1,6 @@
--- The forms of a model: its robust constraints, each an expression that is at most 0, in order; and their whole matrices.
--- The objective's form has one column more, tau, for the bound: the epigraph of the objective.
--- Ben-Tal, El Ghaoui, Nemirovski, Robust Optimization (2009), chapter 1.
+-- The forms of a model: its robust constraints, each an expression that is at most 0, in order; and their whole
+-- matrices. The objective's form has one column more, tau, for the bound: the epigraph of the objective. Ben-Tal, El
+-- Ghaoui, Nemirovski, Robust Optimization (2009), chapter 1.
 use Rattle.std.specs.Prelude.{ℕ, zero, suc, true, false, ℤ, List, [], ◌∷◌, ◌++◌, length, map, Option, slice_get, IfSome}
 use Rattle.rob_algebra.specs.Fraction.{Fraction, ◌≤ℚ◌}
 use Rattle.rob_meaning.specs.Clearing.{denominator, entries, cleared, fractions}

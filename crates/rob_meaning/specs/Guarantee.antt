@@ -1,6 +1,6 @@
--- What a plan guarantees, set by set: every row in every scenario that its set admits, every declared bound, and how bad the
--- objective can be. This is the robust counterpart, directly over all scenarios.
--- Ben-Tal, El Ghaoui, Nemirovski, Robust Optimization (2009), chapter 1; affine decision rules: chapter 14.
+-- What a plan guarantees, set by set: every row in every scenario that its set admits, every declared bound, and how
+-- bad the objective can be. This is the robust counterpart, directly over all scenarios. Ben-Tal, El Ghaoui,
+-- Nemirovski, Robust Optimization (2009), chapter 1; affine decision rules: chapter 14.
 use Rattle.std.specs.Prelude.{◌≡◌, ◌<◌, ℕ, zero, List, length}
 use Rattle.rob_algebra.specs.Fraction.{Fraction, ◌≤ℚ◌}
 use Rattle.rob_meaning.specs.Places.{at, EachFrom}
@@ -13,8 +13,8 @@ abbrev pub IsNoWorse : Sense → Fraction → Fraction → Type 0
 IsNoWorse minimise a b = a ≤ℚ b
 IsNoWorse maximise a b = b ≤ℚ a
 
--- what a plan keeps in one scenario of set S: each row of that set; an objective no worse than tau, where it is of that set;
--- and each declared bound of an adaptive variable, where that is the default set
+-- what a plan keeps in one scenario of set S: each row of that set; an objective no worse than tau, where it is of that
+-- set; and each declared bound of an adaptive variable, where that is the default set
 pub record KeepsIn (m : RobustModel) (plan : List Fraction) (tau : Fraction) (S : ℕ) (u : List Fraction) : Type 0 where
   pub objective : m.objective_set ≡ S → IsNoWorse m.sense (value m plan (in_each_set m u) m.objective) tau
   pub rows :
@@ -27,8 +27,8 @@ pub record KeepsIn (m : RobustModel) (plan : List Fraction) (tau : Fraction) (S 
       EachFrom zero (λ k (y : AdaptiveVariable). KeepsBounds y.lower y.upper (rule_value m plan (in_each_set m u) k))
       m.adaptives
 
--- the plan has bound tau: it has a number for each decision column, keeps all that in every scenario that a set admits, and
--- keeps each declared bound of a variable
+-- the plan has bound tau: it has a number for each decision column, keeps all that in every scenario that a set admits,
+-- and keeps each declared bound of a variable
 pub record HasBound (m : RobustModel) (plan : List Fraction) (tau : Fraction) : Type 0 where
   pub columns : length plan ≡ column_count m
   pub keeps : (S : ℕ) → S < set_count m → (u : List Fraction) → AdmitsIn m S u → KeepsIn m plan tau S u

@@ -1,6 +1,6 @@
--- The names by which texts speak of a model's parts, each list in the order of what it names. A name is a list of bytes.
--- Names that are not declared have several parts with dots between them: declared names, words, and a statement's number in
--- decimal digits.
+-- The names by which texts speak of a model's parts, each list in the order of what it names. A name is a list of
+-- bytes. Names that are not declared have several parts with dots between them: declared names, words, and a
+-- statement's number in decimal digits.
 use Rattle.std.specs.Fmt.{decimal}
 use Rattle.std.specs.Prelude.{ℕ, zero, suc, List, [], ◌∷◌, ◌++◌, map, flat_map, Option, codes}
 use Rattle.rob_algebra.specs.Fraction.{Fraction}

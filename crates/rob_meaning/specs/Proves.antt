@@ -1,6 +1,6 @@
 -- When a certificate proves what it claims.
--- Covers show that a plan keeps every form; items are a sum of forms, taken at scenarios and rays, that no plan can escape.
--- Multipliers: Schrijver, Theory of Linear and Integer Programming (1986), chapter 7.
+-- Covers show that a plan keeps every form; items are a sum of forms, taken at scenarios and rays, that no plan can
+-- escape. Multipliers: Schrijver, Theory of Linear and Integer Programming (1986), chapter 7.
 use Rattle.std.specs.Prelude.{◌≡◌, ◌<◌, ℕ, nat_eq, ◌&&◌, if◌then◌else◌, negsuc, List, [], ◌∷◌, length, map}
 use Rattle.rob_algebra.specs.Fraction.{Fraction, of_int, neg_ℚ, ◌<ℚ◌}
 use Rattle.rob_meaning.specs.Certificates.{Status, optimal, infeasible, unbounded, Cover, Item, Certificate}

@@ -1,7 +1,7 @@
--- The conditions of the uncertainty set one by one, each taken s times: its constants are multiplied by s. Taken once they
--- say what admission says; taken 0 times they make a ray, a direction in which the set goes on without end. A vector with an
--- s at least 0 that meets them is in the cone over the set.
--- Rockafellar, Convex Analysis (1970), section 8: recession directions, and the cone over a convex set.
+-- The conditions of the uncertainty set one by one, each taken s times: its constants are multiplied by s. Taken once
+-- they say what admission says; taken 0 times they make a ray, a direction in which the set goes on without end. A
+-- vector with an s at least 0 that meets them is in the cone over the set. Rockafellar, Convex Analysis (1970), section
+-- 8: recession directions, and the cone over a convex set.
 use Rattle.std.specs.Prelude.{◌≡◌, ℕ, zero, suc, List, [], ◌∷◌, ◌++◌, length, Option, Some, None, ◌⊎◌}
 use Rattle.rob_algebra.specs.Fraction.{Fraction, ◌+ℚ◌, ◌-ℚ◌, ◌*ℚ◌, ◌/ℚ◌, inv_ℚ, ◌≤ℚ◌, ◌<ℚ◌}
 use Rattle.rob_meaning.specs.Expressions.{Expression}

@@ -1,5 +1,5 @@
--- The lifted set: the uncertainty set as linear rows in the parameters and in one more column t for each budget's member.
--- A set row says: the sum over the parameters, plus the sum over the columns t, is at most its right side.
+-- The lifted set: the uncertainty set as linear rows in the parameters and in one more column t for each budget's
+-- member. A set row says: the sum over the parameters, plus the sum over the columns t, is at most its right side.
 -- Bertsimas and Sim, The Price of Robustness (2004): a budget's absolute values as linear rows.
 use Rattle.std.specs.Prelude.{◌≡◌, ℕ, zero, suc, ◌+◌, ◌/◌, ℤ, List, [], ◌∷◌, ◌++◌, length, map, get_or, slice_index_or, pos}
 use Rattle.rob_algebra.specs.Fraction.{Fraction, of_int, ◌+ℚ◌, ◌*ℚ◌, neg_ℚ, ◌≤ℚ◌}
@@ -108,7 +108,8 @@ module _ (m : RobustModel) where
   member_row_sets S [] = []
   member_row_sets S (h ∷ hs) = S ∷ (S ∷ member_row_sets S hs)
 
-  -- the sets of the rows of the statements, the first statement having number `i`: each row belongs to its statement's set
+  -- the sets of the rows of the statements, the first statement having number
+  -- `i`: each row belongs to its statement's set
   abbrev pub statement_row_sets : ℕ → List SetLine → List ℕ
   statement_row_sets i [] = []
   statement_row_sets i (line left relation right ∷ rest) =

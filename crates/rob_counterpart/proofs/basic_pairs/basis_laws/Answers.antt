@@ -10,7 +10,9 @@ pub returns-clause-infeasible : goal.returns-clause-infeasible
 returns-clause-infeasible c = λ d P own rows re en. ending_keeps_pairs d P own rows re en.basis en.ends.below
 
 pub returns-clause-over_set : goal.returns-clause-over_set
-returns-clause-over_set c = λ d f P own rows k se co l b. opposite_apart P (plus k) (minus k) (set_pair d f P se co k l) own rows b
+returns-clause-over_set c =
+    λ d f P own rows k se co l b. opposite_apart P (plus k) (minus k) (set_pair d f P se co k l) own rows b
 
 pub returns-clause-master : goal.returns-clause-master
-returns-clause-master c = λ d cuts P own rows j ma l b. opposite_apart P (plus j) (minus j) (master_pair d cuts P ma j l) own rows b
+returns-clause-master c =
+    λ d cuts P own rows j ma l b. opposite_apart P (plus j) (minus j) (master_pair d cuts P ma j l) own rows b

@@ -14,7 +14,8 @@ pub returns-clause-weight : goal.returns-clause-weight
 returns-clause-weight c = λ d P own rows i k re en. weight_one d P re own rows en i k
 
 pub returns-clause-unbounded_point : goal.returns-clause-unbounded_point
-returns-clause-unbounded_point c = λ d P own rows column x r j re en. unbounded_point_one d P re own rows column x r en j
+returns-clause-unbounded_point c =
+    λ d P own rows column x r j re en. unbounded_point_one d P re own rows column x r en j
 
 pub returns-clause-direction : goal.returns-clause-direction
 returns-clause-direction c = λ d P own rows column x r j re en. move_one d P re own rows column x r en j

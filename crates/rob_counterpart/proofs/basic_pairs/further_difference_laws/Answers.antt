@@ -16,4 +16,5 @@ returns-clause-master_point c = λ d cuts P own rows x j ma l b p.
 
 pub returns-clause-master_direction : goal.returns-clause-master_direction
 returns-clause-master_direction c = λ d cuts P own rows column x r j ma l en.
-    move_opposite P (plus j) (minus j) (master_pair d cuts P ma j l) own rows en.basis column r en.ends.improving en.move
+    move_opposite P (plus j) (minus j) (master_pair d cuts P ma j l) own rows en.basis column r
+    en.ends.improving en.move

@@ -8,4 +8,5 @@ pub returns-clause-infeasible : goal.returns-clause-infeasible
 returns-clause-infeasible c = λ m own rows cert model inside. read_infeasible_proves m model own rows cert inside
 
 pub returns-clause-unbounded : goal.returns-clause-unbounded
-returns-clause-unbounded c = λ m own rows column x r cert model inside. read_unbounded_proves m model own rows cert inside column x r
+returns-clause-unbounded c =
+    λ m own rows column x r cert model inside. read_unbounded_proves m model own rows cert inside column x r

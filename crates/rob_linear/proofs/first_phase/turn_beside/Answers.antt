@@ -16,9 +16,16 @@ returns c = record {
       ((basis, t, x.0), x.1, x.2);
   leaves_exact = λ P basis q f col rows rows' r s. beside_leaves_exact P basis q f col rows rows' s r;
   goes_on = λ P q rows. elim (enters_beside_or_none P q rows) [
-    | inl h ↦ inl (h.0, h.1, (beside_pivot_exists P q h.0 rows h.1.improving).0, (beside_pivot_exists P q h.0 rows h.1.improving).1, least_or_none (auxiliary_of P) (auxiliary_column P) (beside_pivot_exists P q h.0 rows h.1.improving).0)
+    | inl h ↦ inl (
+      h.0,
+      h.1,
+      (beside_pivot_exists P q h.0 rows h.1.improving).0,
+      (beside_pivot_exists P q h.0 rows h.1.improving).1,
+      least_or_none (auxiliary_of P) (auxiliary_column P) (beside_pivot_exists P q h.0 rows h.1.improving).0,
+    )
     | inr n ↦ inr n
   ];
-  other = λ P basis q f col p rows rows' s v w. least_is_other P q col rows rows' s.inside s.below v.inside v.improving w p;
+  other = λ P basis q f col p rows rows' s v w.
+      least_is_other P q col rows rows' s.inside s.below v.inside v.improving w p;
   row = λ q p rows. ap rows (exchanged_q q p);
 }

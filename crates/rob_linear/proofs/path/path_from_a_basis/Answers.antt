@@ -10,5 +10,7 @@ returns c = record {
   no_return = no_return;
   bounded = turns_bounded;
   one = path_unique;
-  last = λ P start basis basis' l k. end_unique (system_of P) start l.reached.turns k.reached.turns basis basis' (system_tagged P) l.reached.turned l.ends k.reached.turned k.ends;
+  last = λ P start basis basis' l k.
+      end_unique (system_of P) start l.reached.turns k.reached.turns basis basis' (system_tagged P) l.reached.turned
+      l.ends k.reached.turned k.ends;
 }
