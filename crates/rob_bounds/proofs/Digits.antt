@@ -20,15 +20,19 @@ pub digits_below : (m base u j : ℕ) → 0 < base → digits m base u j < base
 digits_below zero base u j p = p
 digits_below (suc m) base u j p =
     elim (cases_eq j m) [
-      | inl e ↦ let a : u % base < base = mod-lt u p in let b : digits (suc m) base u j ≡ u % base = ap (digits (suc m) base u) e ∙ digits-last m base u in omega arith
-      | inr d ↦ let a : digits m base (u / base) j < base = digits_below m base (u / base) j p in let b : digits (suc m) base u j ≡ digits m base (u / base) j = digits-other m base u j d in omega arith
+      | inl e ↦ let a : u % base < base = mod-lt u p in
+          let b : digits (suc m) base u j ≡ u % base =
+          ap (digits (suc m) base u) e ∙ digits-last m base u in omega arith
+      | inr d ↦ let a : digits m base (u / base) j < base = digits_below m base (u / base) j p in
+          let b : digits (suc m) base u j ≡ digits m base (u / base) j = digits-other m base u j d in omega arith
     ]
 
 pub code_ext : (m base : ℕ) (x y : ℕ → ℕ) → ((j : ℕ) → j < m → x j ≡ y j) → code m base x ≡ code m base y
 code_ext zero base x y h = refl
 code_ext (suc m) base x y h =
     let a : x m ≡ y m = h m (omega arith) in
-    let b : base * code m base x ≡ base * code m base y = ap (λ v. base * v) (code_ext m base x y (λ j l. h j (omega arith))) in
+    let b : base * code m base x ≡ base * code m base y =
+    ap (λ v. base * v) (code_ext m base x y (λ j l. h j (omega arith))) in
     omega arith
 
 -- a number is that of its digits
@@ -39,7 +43,9 @@ code-digits (suc m) base u p l =
     let d : base * (u / base) ≤ u = mul-div-le u base in
     let s : u / base < base ^ m = lt_of_mul-lt-mul_left base (omega arith) in
     let ih : code m base (digits m base (u / base)) ≡ u / base = code-digits m base (u / base) p s in
-    let x : code m base (digits (suc m) base u) ≡ code m base (digits m base (u / base)) = code_ext m base (digits (suc m) base u) (digits m base (u / base)) (λ j jl. digits-other m base u j (omega arith)) in
+    let x : code m base (digits (suc m) base u) ≡ code m base (digits m base (u / base)) =
+    code_ext m base (digits (suc m) base u) (digits m base (u / base))
+    (λ j jl. digits-other m base u j (omega arith)) in
     let y : base * code m base (digits (suc m) base u) ≡ base * (u / base) = ap (λ v. base * v) (x ∙ ih) in
     let z : digits (suc m) base u m ≡ u % base = digits-last m base u in
     let w : u % base + base * (u / base) ≡ u = mod-add-div u base in
@@ -58,9 +64,12 @@ differ_or_same (suc n) x y =
     ]
 
 -- different numbers have different digits
-pub digits_apart : (m base u v : ℕ) → 0 < base → u < base ^ m → v < base ^ m → u ≢ v → (j : ℕ) × (j < m) × (digits m base u j ≢ digits m base v j)
+pub digits_apart : (m base u v : ℕ) → 0 < base → u < base ^ m → v < base ^ m → u ≢ v → (j : ℕ) × (j < m)
+    × (digits m base u j ≢ digits m base v j)
 digits_apart m base u v p ul vl d =
     elim (differ_or_same m (digits m base u) (digits m base v)) [
       | inl h ↦ h
-      | inr h ↦ absurd (d (sym (code-digits m base u p ul) ∙ code_ext m base (digits m base u) (digits m base v) h ∙ code-digits m base v p vl))
+      | inr h ↦ absurd
+          (d (sym (code-digits m base u p ul) ∙ code_ext m base (digits m base u) (digits m base v) h
+          ∙ code-digits m base v p vl))
     ]

@@ -1,4 +1,5 @@
--- The starting rows of a program, of its auxiliary form and of its stages are no larger than the program's numbers, or 1.
+-- The starting rows of a program, of its auxiliary form and of its stages are
+-- no larger than the program's numbers, or 1.
 use Rattle.std.proofs.Common.{◌≡◌, ℕ, suc, ◌+◌, ◌<◌, ◌≤◌, sym, subst, arith, inl, inr}
 use Rattle.std.proofs.lemmas.Int.{ints}
 use Rattle.std.proofs.lemmas.Bool.{cases_eq, cases_lt}

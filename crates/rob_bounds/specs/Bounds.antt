@@ -47,7 +47,8 @@ pub record IsNarrow (limit : ℕ) (P : Program) : Type 0 where
 -- product times k more factors, or nothing as soon as that is over the limit
 abbrev pub power_within : ℕ → ℕ → ℕ → ℕ → Option ℕ
 power_within limit factor zero product = Some product
-power_within limit factor (suc k) product = cond (nat_lt limit (product * factor)) None (power_within limit factor k (product * factor))
+power_within limit factor (suc k) product =
+    cond (nat_lt limit (product * factor)) None (power_within limit factor k (product * factor))
 
 -- the bound, or nothing where it is over the limit
 abbrev pub bound_within : ℕ → ℕ → ℕ → Option ℕ

@@ -1,4 +1,4 @@
-// Counting. The pigeonhole principle; Siegel's lemma (Hindry, Silverman, lemma D.4.1).
+//! Counting. The pigeonhole principle; Siegel's lemma (Hindry, Silverman, lemma D.4.1).
 
 ghost use Rattle.std.specs.Prelude.{◌≡◌, ℕ, suc, ◌*◌, ◌^◌, ◌<◌, ◌≤◌};
 ghost use Rattle.std.specs.Int.RustNames.{unsigned_abs};

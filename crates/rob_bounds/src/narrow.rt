@@ -1,4 +1,4 @@
-// Programs so small that none of their rows is ever wide.
+//! Programs so small that none of their rows is ever wide.
 
 ghost use Rattle.std.specs.Prelude.{◌≡◌, ℕ, suc, ◌+◌, ◌<◌, ◌≤◌, Some, None};
 ghost use Rattle.std.specs.Int.RustNames.{unsigned_abs};

@@ -1,5 +1,5 @@
-// The entries of the rows of a basis. The amounts of the starting rows in a row solve equations,
-// one for each basic column of another position.
+//! The entries of the rows of a basis. The amounts of the starting rows in a row solve equations,
+//! one for each basic column of another position.
 
 ghost use Rattle.std.specs.Prelude.{ℕ, suc, ◌*◌, ◌^◌, ◌<◌, ◌≤◌};
 ghost use Rattle.std.specs.Int.RustNames.{unsigned_abs};

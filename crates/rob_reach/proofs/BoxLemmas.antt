@@ -1,4 +1,5 @@
--- Boxes: a bound in a box is a bound in the model, and a plan with a whole number has its bound in one of the two boxes.
+-- Boxes: a bound in a box is a bound in the model, and a plan with a whole
+-- number has its bound in one of the two boxes.
 use Rattle.std.specs.Prelude.{◌≡◌, ℕ, zero, suc, ◌+◌, ℤ, pos, ◌+ℤ◌, ◌≤ℤ◌, ◌<ℤ◌, Bool, true, false, List, [], ◌∷◌, length, Option, Some, None, ◌⊎◌, ◌↔◌, refl}
 use Rattle.std.proofs.Common.{ap, sym, ◌∙◌, subst, inl, inr, arith, Ordering, Less, Equal, Greater}
 use Rattle.std.proofs.lemmas.Int.{ints}
@@ -64,10 +65,8 @@ abbrev pub IsOnSide : Bool → ℤ → Fraction → Type 0
 IsOnSide true k x = x ≤ℚ of_int k
 IsOnSide false k x = of_int k ≤ℚ x
 
-KeepsThose : Fraction → Variable → Type 0
-KeepsThose x v = KeepsBounds v.lower v.upper x
-
-pub tightened_in : (upper : Bool) (k : ℤ) (v : Variable) (x : Fraction) → KeepsBounds v.lower v.upper x → IsOnSide upper k x →
+pub tightened_in : (upper : Bool) (k : ℤ) (v : Variable) (x : Fraction)
+    → KeepsBounds v.lower v.upper x → IsOnSide upper k x →
     KeepsBounds (tightened upper k v).lower (tightened upper k v).upper x
 tightened_in true k v x h g = (h.0, upper_in v.upper (of_int k) x h.1 g)
 tightened_in false k v x h g = (lower_in v.lower (of_int k) x h.0 g, h.1)
@@ -89,16 +88,22 @@ module _ (f : Variable → Variable) (P : ℕ → Variable → Type 0) where
   change_in j first [] h g = tt
   change_in zero first (x ∷ xs) h g =
       (subst (λ n. P n (f x)) (omega arith) (h x (subst (λ n. P n x) (omega arith) g.0)), g.1)
-  change_in (suc j) first (x ∷ xs) h g =
-      (g.0, change_in j (suc first) xs (λ y p. subst (λ n. P n (f y)) (omega arith) (h y (subst (λ n. P n y) (omega arith) p))) g.1)
+  change_in (suc j) first (x ∷ xs) h g = (
+    g.0,
+    change_in j (suc first) xs
+        (λ y p. subst (λ n. P n (f y)) (omega arith) (h y (subst (λ n. P n y) (omega arith) p))) g.1,
+  )
 
   change_out : (j first : ℕ) (xs : List Variable) → ((x : Variable) → P (first + j) (f x) → P (first + j) x) →
       EachFrom first P (change_at f j xs) → EachFrom first P xs
   change_out j first [] h g = tt
   change_out zero first (x ∷ xs) h g =
       (subst (λ n. P n x) (omega arith) (h x (subst (λ n. P n (f x)) (omega arith) g.0)), g.1)
-  change_out (suc j) first (x ∷ xs) h g =
-      (g.0, change_out j (suc first) xs (λ y p. subst (λ n. P n y) (omega arith) (h y (subst (λ n. P n (f y)) (omega arith) p))) g.1)
+  change_out (suc j) first (x ∷ xs) h g = (
+    g.0,
+    change_out j (suc first) xs
+        (λ y p. subst (λ n. P n y) (omega arith) (h y (subst (λ n. P n (f y)) (omega arith) p))) g.1,
+  )
 
 -- ---- boxes
 module _ (m : RobustModel) (b : Branch) where
@@ -147,12 +152,14 @@ module _ (m : RobustModel) (b : Branch) where
           keeps = λ S some u admitted.
               Same.keeps_out m m.set_lines variables fits plan u tau S (h.keeps S some u (set_admits_in S u admitted));
           variables =
-              change_out (tightened b.is_upper b.bound) (λ k x. KeepsBounds x.lower x.upper (at plan k)) b.variable zero m.variables
+              change_out (tightened b.is_upper b.bound) (λ k x. KeepsBounds x.lower x.upper (at plan k))
+              b.variable zero m.variables
               (λ x g. tightened_out b.is_upper b.bound x (at plan (zero + b.variable)) g) h.variables;
         }
 
     -- where the variable's number is on the box's side, a bound in the model is a bound in the box
-    pub bound_in : IsOnSide b.is_upper b.bound (at plan b.variable) → HasBound m plan tau → HasBound (behind m b) plan tau
+    pub bound_in : IsOnSide b.is_upper b.bound (at plan b.variable) → HasBound m plan tau
+        → HasBound (behind m b) plan tau
     unfolding variables
     bound_in side h =
         record {
@@ -160,7 +167,8 @@ module _ (m : RobustModel) (b : Branch) where
           keeps = λ S some u admitted.
               Same.keeps_in m m.set_lines variables fits plan u tau S (h.keeps S some u (set_admits_out S u admitted));
           variables =
-              change_in (tightened b.is_upper b.bound) (λ k x. KeepsBounds x.lower x.upper (at plan k)) b.variable zero m.variables
+              change_in (tightened b.is_upper b.bound) (λ k x. KeepsBounds x.lower x.upper (at plan k))
+              b.variable zero m.variables
               (λ x g. tightened_in b.is_upper b.bound x (at plan (zero + b.variable)) g
               (subst (λ n. IsOnSide b.is_upper b.bound (at plan n)) (omega arith) side)) h.variables;
         }
@@ -174,7 +182,8 @@ on_one_side x k h = by (Z.le_total x.num k)
 
     by : (x.num ≤ℤ k) ⊎ (k <ℤ x.num) → (x ≤ℚ of_int k) ⊎ (of_int (k +ℤ pos 1) ≤ℚ x)
     by (inl g) = inl (subst (λ y. y ≤ℚ of_int k) (sym (whole_is x h)) (int_le_in x.num k g))
-    by (inr g) = inr (subst (λ y. of_int (k +ℤ pos 1) ≤ℚ y) (sym (whole_is x h)) (int_le_in (k +ℤ pos 1) x.num (next k x.num g)))
+    by (inr g) =
+        inr (subst (λ y. of_int (k +ℤ pos 1) ≤ℚ y) (sym (whole_is x h)) (int_le_in (k +ℤ pos 1) x.num (next k x.num g)))
 
 -- a plan whose number of variable j is whole has its bound in one of the two boxes
 pub split_covers : (m : RobustModel) (j : ℕ) (k : ℤ) (plan : List Fraction) (tau : Fraction) → IsWhole (at plan j) →
@@ -187,13 +196,16 @@ split_covers m j k plan tau whole h = by (on_one_side (at plan j) k whole)
     by (inr g) = inr (bound_in m (at_least_branch j k) plan tau g h)
 
 -- ---- the same for plans with whole numbers
-pub whole_at : (names : List ℕ) (plan : List Fraction) (j : ℕ) → IsIn j names → IsWholeOn names plan → IsWhole (at plan j)
+pub whole_at : (names : List ℕ) (plan : List Fraction) (j : ℕ) → IsIn j names
+    → IsWholeOn names plan → IsWhole (at plan j)
 whole_at [] plan j h k = absurd h
 whole_at (i ∷ names) plan j (inl e) k = subst (λ n. IsWhole (at plan n)) (sym e) k.0
 whole_at (i ∷ names) plan j (inr h) k = whole_at names plan j h k.1
 
-pub whole_split : (m : RobustModel) (names : List ℕ) (j : ℕ) (k : ℤ) (plan : List Fraction) (tau : Fraction) → IsIn j names →
-    WholeBound m names plan tau → WholeBound (box_below m j k) names plan tau ⊎ WholeBound (box_above m j k) names plan tau
+pub whole_split : (m : RobustModel) (names : List ℕ) (j : ℕ) (k : ℤ) (plan : List Fraction) (tau : Fraction)
+    → IsIn j names →
+    WholeBound m names plan tau → WholeBound (box_below m j k) names plan tau
+    ⊎ WholeBound (box_above m j k) names plan tau
 whole_split m names j k plan tau on h = by (split_covers m j k plan tau (whole_at names plan j on h.whole) h.bound)
   where
     by : HasBound (box_below m j k) plan tau ⊎ HasBound (box_above m j k) plan tau →

@@ -1,5 +1,5 @@
--- What a certificate that proves says of its own plan: it has the certificate's value as a bound; and, in an unbounded one,
--- moved along the step as well.
+-- What a certificate that proves says of its own plan: it has the certificate's value as a bound; and, in an unbounded
+-- one, moved along the step as well.
 use Rattle.std.specs.Prelude.{◌≡◌, ℕ, suc, ◌<◌, pos, List, [], ◌∷◌, ◌++◌, length, refl, ◌⊎◌}
 use Rattle.std.proofs.Common.{sym, ◌∙◌, ap, ap₂, subst, inl, inr}
 use Rattle.rob_algebra.specs.Fraction.{Fraction, ◌+ℚ◌, ◌-ℚ◌, ◌*ℚ◌, inv_ℚ, neg_ℚ, ◌≤ℚ◌, ◌<ℚ◌}
@@ -22,35 +22,10 @@ use Rattle.rob_meaning.specs.Proves.{EachCovered, Improves, ProvesOptimal, Prove
 use Rattle.rob_meaning.specs.RobustModel.{RobustModel, Sense, maximise, minimise}
 use Rattle.rob_meaning.specs.UncertaintySet.{Admits}
 use Rattle.rob_meaning.specs.WellFormed.{IsModel}
+use Rattle.rob_meaning.proofs.ProvesLemmas.{plus_all-append, length-last, scale-append, moved}
 
-plus_all-append : (xs ys : List Fraction) (x y : Fraction) → length xs ≡ length ys →
-    plus_all ℚ_ring (xs ++ x ∷ []) (ys ++ y ∷ []) ≡ plus_all ℚ_ring xs ys ++ (x +ℚ y) ∷ []
-plus_all-append [] [] x y e = refl
-plus_all-append [] (b ∷ ys) x y e = cc
-plus_all-append (a ∷ xs) [] x y e = cc
-plus_all-append (a ∷ xs) (b ∷ ys) x y e =
-    ap (λ (zs : List Fraction). (a +ℚ b) ∷ zs) (plus_all-append xs ys x y (suc_same e))
-
-length-last : (xs : List Fraction) (x : Fraction) → length (xs ++ x ∷ []) ≡ suc (length xs)
-length-last [] x = refl
-length-last (y ∷ xs) x = ap suc (length-last xs x)
-
-scale-append : (c : Fraction) (xs : List Fraction) (x : Fraction) →
-    scale ℚ_ring c (xs ++ x ∷ []) ≡ scale ℚ_ring c xs ++ (c *ℚ x) ∷ []
-scale-append c [] x = refl
-scale-append c (y ∷ xs) x = ap (λ (zs : List Fraction). (c *ℚ y) ∷ zs) (scale-append c xs x)
-
--- a plan moved along a direction
-moved : (plan step : List Fraction) (v d c : Fraction) → length plan ≡ length step →
-    plus_all ℚ_ring (plan_vector 1ℚ plan v) (scale ℚ_ring c (plan_vector 0ℚ step d)) ≡ plan_vector 1ℚ
-    (plus_all ℚ_ring plan (scale ℚ_ring c step)) (v +ℚ c *ℚ d)
-moved plan step v d c e =
-    ap₂ (λ (x : Fraction) (xs : List Fraction). x ∷ xs)
-    (Q.ring (c ∷ []) (lit (pos 1) :+ v0 :* lit (pos 0)) (lit (pos 1)) refl)
-    (ap (λ (xs : List Fraction). plus_all ℚ_ring (plan ++ v ∷ []) xs) (scale-append c step d)
-    ∙ plus_all-append plan (scale ℚ_ring c step) v (c *ℚ d) (e ∙ sym (length-scale ℚ_ring c step)))
-
--- along a direction that improves, any number is reached: the bound is no worse than it from the start, or at some multiple
+-- along a direction that improves, any number is reached: the bound is no worse
+-- than it from the start, or at some multiple
 abbrev pub IsReached : Sense → Fraction → Fraction → Fraction → Type 0
 IsReached sense v d t = (c : Fraction) × ((0ℚ ≤ℚ c) × IsNoWorse sense (v +ℚ c *ℚ d) t)
 
@@ -82,7 +57,8 @@ reached maximise v d t h = by (Q.le_total_ℚ t v)
         Q.mul_nonneg_ℚ (t -ℚ v) (inv_ℚ d) (Q.nonneg_sub_ℚ v t (Q.le_of_lt_ℚ v t k))
             (Q.le_of_lt_ℚ 0ℚ (inv_ℚ d) (inv_pos d h)),
         subst (λ x. t ≤ℚ x)
-            (sym (Solver.from_one ℚ_ring (v ∷ t ∷ d ∷ inv_ℚ d ∷ []) (v0 :+ (v1 :- v0) :* v3 :* v2) v1 (v1 :- v0) (v2 :* v3)
+            (sym (Solver.from_one ℚ_ring (v ∷ t ∷ d ∷ inv_ℚ d ∷ []) (v0 :+ (v1 :- v0) :* v3 :* v2)
+            v1 (v1 :- v0) (v2 :* v3)
             (lit (pos 1)) refl (Q.mul_inv d (pos_some d h)))) (Q.le_refl_ℚ t),
       ),
     )
@@ -130,7 +106,8 @@ module _ (m : RobustModel) (model : IsModel m) where
   pub moved_bound : (c : Certificate) → ProvesUnbounded m c → (times : Fraction) → 0ℚ ≤ℚ times →
       HasBound m (plus_all ℚ_ring c.plan (scale ℚ_ring times c.step)) (c.value +ℚ times *ℚ c.step_bound)
   moved_bound c h times some =
-      at_bound m model (plus_all ℚ_ring c.plan (scale ℚ_ring times c.step)) (c.value +ℚ times *ℚ c.step_bound) c.inside h.inside
+      at_bound m model (plus_all ℚ_ring c.plan (scale ℚ_ring times c.step))
+      (c.value +ℚ times *ℚ c.step_bound) c.inside h.inside
       (length-plus_all ℚ_ring c.plan (scale ℚ_ring times c.step)
       (h.columns ∙ sym (length-scale ℚ_ring times c.step ∙ h.step_columns))
       ∙ length-scale ℚ_ring times c.step ∙ h.step_columns)

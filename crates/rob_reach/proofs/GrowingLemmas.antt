@@ -36,7 +36,8 @@ pub broken_is : (names : List ℕ) (plan : List Fraction) (j : ℕ) → first_br
 broken_is [] plan j e = cc
 broken_is (i ∷ names) plan j e = by (broken_is names plan j) (eqb (at plan i).den 1) refl e
   where
-    by : (first_broken names plan ≡ Some j → IsIn j names × (IsWhole (at plan j) → ⊥)) → (b : Bool) → eqb (at plan i).den 1 ≡ b →
+    by : (first_broken names plan ≡ Some j → IsIn j names × (IsWhole (at plan j) → ⊥)) → (b : Bool)
+        → eqb (at plan i).den 1 ≡ b →
         (if b then first_broken names plan else Some i) ≡ Some j → IsIn j (i ∷ names) × (IsWhole (at plan j) → ⊥)
     by rest true d e = (inr (rest e).0, (rest e).1)
     by rest false d e =
@@ -74,7 +75,8 @@ asks_branch names sense s c j k e =
           planned = planned;
         }
 
-    by : (status : Status) (beaten : Bool) (broken : Option ℕ) → c.status ≡ status → first_broken names c.plan ≡ broken →
+    by : (status : Status) (beaten : Bool) (broken : Option ℕ) → c.status ≡ status
+        → first_broken names c.plan ≡ broken →
         outcome_by s c status beaten broken ≡ branches j k → AsksBranch names c j k
     by infeasible beaten broken t b e = cc
     by optimal true broken t b e = cc
@@ -84,7 +86,8 @@ asks_branch names sense s c j k e =
     by unbounded beaten (Some i) t b e = taken i b e (inr t)
 
 -- the certificate of a branched box has a plan with a bound
-branched_plan : (m : RobustModel) → IsModel m → (c : Certificate) → Proves m c → (c.status ≡ optimal) ⊎ (c.status ≡ unbounded) →
+branched_plan : (m : RobustModel) → IsModel m → (c : Certificate) → Proves m c → (c.status ≡ optimal)
+    ⊎ (c.status ≡ unbounded) →
     HasBound m c.plan c.value
 branched_plan m model c h (inl e) =
     let p = subst (λ s. ProvesAs s m c) e h in optimal_bound m model c p
@@ -102,7 +105,8 @@ allows_branch m names s c j k h = by (asks_branch names m.sense s c j k h.decide
         record { proves = h.proves; planned = a.planned; named = broken.0; broken = broken.1; at_floor = a.at_floor }
 
 -- ---- the measure
-module _ (m : RobustModel) (model : IsModel m) (names : List ℕ) (bounded : T (are_bounded m.variables names)) (c : Certificate)
+module _ (m : RobustModel) (model : IsModel m) (names : List ℕ)
+    (bounded : T (are_bounded m.variables names)) (c : Certificate)
     (j : ℕ) (k : ℤ) (a : AllowsBranch m names c j k) where
   -- the products of ranges of the two boxes of a branch sum to at most that of the box
   pub measure_splits :
@@ -114,7 +118,8 @@ module _ (m : RobustModel) (model : IsModel m) (names : List ℕ) (bounded : T (
       let between = number_between c.plan zero m.variables j some plan.variables in
       let here = subst (λ n. (lower_at m.variables j ≤ℚ at c.plan n) × (at c.plan n ≤ℚ upper_at m.variables j))
       (zero_plus j) between in
-      subst (λ z. product_of_ranges (box_below m j z).variables names + product_of_ranges (box_above m j z).variables names
+      subst (λ z. product_of_ranges (box_below m j z).variables names
+      + product_of_ranges (box_above m j z).variables names
       ≤ product_of_ranges m.variables names) a.at_floor
       (products_split (at c.plan j) a.broken m.variables names j a.named some here.0 here.1)
     where
@@ -125,13 +130,15 @@ module _ (m : RobustModel) (model : IsModel m) (names : List ℕ) (bounded : T (
   pub measure_falls : (product_of_ranges (box_below m j k).variables names < product_of_ranges m.variables names)
       × (product_of_ranges (box_above m j k).variables names < product_of_ranges m.variables names)
   measure_falls =
-      by (product_positive (box_below m j k).variables names) (product_positive (box_above m j k).variables names) measure_splits
+      by (product_positive (box_below m j k).variables names)
+      (product_positive (box_above m j k).variables names) measure_splits
     where
       by : {p q r : ℕ} → 1 ≤ p → 1 ≤ q → p + q ≤ r → (p < r) × (q < r)
       by h g k = (omega arith, omega arith)
 
 -- a path of allowed branches is shorter than the product of ranges
-pub path_short : (m : RobustModel) → IsModel m → (names : List ℕ) → T (are_bounded m.variables names) → (path : List Branch) →
+pub path_short : (m : RobustModel) → IsModel m → (names : List ℕ) → T (are_bounded m.variables names)
+    → (path : List Branch) →
     IsAllowedPath m names path → length path < product_of_ranges m.variables names
 path_short m model names bounded [] h = product_positive m.variables names
 path_short m model names bounded (b ∷ path) h =
@@ -152,7 +159,8 @@ path_short m model names bounded (b ∷ path) h =
 
 -- ---- at most as many leaves as the product of ranges
 pub leaves_bounded : (m : RobustModel) → IsModel m → (names : List ℕ) → T (are_bounded m.variables names) →
-    (before after : Search) (node : Node) → Grows m names before node after → leaf_count node ≤ product_of_ranges m.variables names
+    (before after : Search) (node : Node) → Grows m names before node after
+    → leaf_count node ≤ product_of_ranges m.variables names
 leaves_bounded m model names bounded before after (leaf c) h = product_positive m.variables names
 leaves_bounded m model names bounded before after left_open h = product_positive m.variables names
 leaves_bounded m model names bounded before after (split j k below above) h =
@@ -184,7 +192,8 @@ length-leaves m (split j k below above) =
     ∙ ap₂ ◌+◌ (length-leaves (box_below m j k) below) (length-leaves (box_above m j k) above)
 
 -- ---- each branch is on a named variable
-pub grows_on : (m : RobustModel) (names : List ℕ) (before after : Search) (node : Node) → Grows m names before node after →
+pub grows_on : (m : RobustModel) (names : List ℕ) (before after : Search) (node : Node)
+    → Grows m names before node after →
     BranchesOn names node
 grows_on m names before after (leaf c) h = tt
 grows_on m names before after left_open h = tt

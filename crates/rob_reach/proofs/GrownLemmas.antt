@@ -17,12 +17,13 @@ use Rattle.rob_reach.proofs.BoxLemmas.{model_behind}
 use Rattle.rob_reach.proofs.RangeLemmas.{changes_bounded}
 use Rattle.rob_reach.proofs.SplitLemmas.{product_positive}
 use Rattle.rob_reach.proofs.GrowingLemmas.{all_whole, allows_branch, measure_splits, grows_on}
-use Rattle.rob_reach.proofs.TreeLemmas.{each_append, tree_true}
+use Rattle.rob_reach.proofs.TreeLemmas.{tree_true}
 use Rattle.rob_reach.specs.Boxes.{box_below, box_above, at_most_branch, at_least_branch}
 use Rattle.rob_reach.specs.Growing.{Best, Search, start, is_least, is_no_better, is_beaten, first_broken, Outcome, ends, branches, counted, improved, shown_endless, outcome_by, outcome, Decides, Grows, tree_by, IsGrown, Solves}
 use Rattle.rob_reach.specs.Ranges.{are_bounded, product_of_ranges}
 use Rattle.rob_reach.specs.Trees.{Node, leaf, split, left_open, Tree, Leaf, leaves, BranchesOn, HasLeaf, IsProved, IsInfeasibleLeaf, IsNoBetterLeaf, IsBestLeaf, IsEndlessLeaf, ProvesTree}
 use Rattle.rob_reach.specs.WholeStatus.{HasWholeStatus}
+use Rattle.rob_meaning.proofs.EachLemmas.{each_append}
 
 -- ---- comparing values
 no_better_true : (sense : Sense) (a b : Fraction) → is_no_better sense a b ≡ true → IsNoWorse sense b a
@@ -116,7 +117,8 @@ module _ (names : List ℕ) (sense : Sense) (done : List Leaf) (l : Leaf) where
     no_better_yet None None none beaten k =
         each_map IsInfeasibleLeaf (IsNoBetterLeaf sense c.value) (λ x h. (h.0, h.1, inl h.2)) done k
     no_better_yet None (Some b) none beaten k =
-        each_map (IsNoBetterLeaf sense b.value) (IsNoBetterLeaf sense c.value) (λ x h. (h.0, h.1, worse h.0 h.2)) done k.0
+        each_map (IsNoBetterLeaf sense b.value) (IsNoBetterLeaf sense c.value)
+        (λ x h. (h.0, h.1, worse h.0 h.2)) done k.0
       where
         worse : (d : Certificate) → (d.status ≡ infeasible) ⊎ ((d.status ≡ optimal) × IsNoWorse sense b.value d.value) →
             (d.status ≡ infeasible) ⊎ ((d.status ≡ optimal) × IsNoWorse sense c.value d.value)
@@ -171,14 +173,23 @@ module _ (m : RobustModel) (names : List ℕ) (done : List Leaf) (before after :
             count = count_more;
             proved = proved_more;
             shows =
-                subst (λ o. ShowsSoFar names m.sense o (Some record { number = suc before.count; value = c.value }) (done ++ this ∷ []))
+                subst (λ o. ShowsSoFar names m.sense o (Some record {
+                  number = suc before.count;
+                  value = c.value;
+                }) (done ++ this ∷ []))
                 (sym h.going) (
                   each_append (IsNoBetterLeaf m.sense c.value) done (this ∷ [])
                       (no_better_yet names m.sense done this c refl t before.endless before.best h.going d stands.shows)
                       ((c, refl, inr (t, no_worse_refl m.sense c.value)), tt),
                   subst (λ n. HasLeaf (IsBestLeaf names c.value) (done ++ this ∷ []) n) (ap suc (sym stands.count))
                       (has_leaf_last (IsBestLeaf names c.value) done this
-                      record { certificate = c; here = refl; status = t; value = refl; whole = all_whole names c.plan b }),
+                      record {
+                        certificate = c;
+                        here = refl;
+                        status = t;
+                        value = refl;
+                        whole = all_whole names c.plan b;
+                      }),
                 );
           }
       by optimal false (Some j) t d b e = cc
@@ -199,7 +210,8 @@ open_leaf m = record { box = m; certificate = None }
 
 -- a node
 pub grows_stands : (m : RobustModel) (names : List ℕ) (done : List Leaf) (before after : Search) (node : Node) →
-    Grows m names before node after → Stands names m.sense done before → Stands names m.sense (done ++ leaves m node) after
+    Grows m names before node after → Stands names m.sense done before
+    → Stands names m.sense (done ++ leaves m node) after
 grows_stands m names done before after (leaf c) h stands = leaf_stands m names done before after c stands h
 grows_stands m names done before after left_open h stands =
     subst (λ s. Stands names m.sense (done ++ open_leaf m ∷ []) s) (sym h.1)
@@ -215,7 +227,8 @@ grows_stands m names done before after (split j k below above) h stands =
     (grows_stands (box_below m j k) names done before h.1.0 below h.1.1.0 stands))
 
 -- ---- the tree of a search that is over
-shown_by : (m : RobustModel) (names : List ℕ) (root : Node) (e : Option ℕ) (b : Option Best) → Each IsProved (leaves m root) →
+shown_by : (m : RobustModel) (names : List ℕ) (root : Node) (e : Option ℕ) (b : Option Best)
+    → Each IsProved (leaves m root) →
     ShowsSoFar names m.sense e b (leaves m root) → ProvesTree m names (tree_by e b root)
 shown_by m names root (Some i) b proved h = record { proved = proved; shows = h }
 shown_by m names root None (Some b) proved h = record { proved = proved; shows = h }
@@ -229,7 +242,8 @@ root-tree_by None None root = refl
 module _ (m : RobustModel) (names : List ℕ) (t : Tree) (h : IsGrown m names t) where
   pub grown_proves : ProvesTree m names t
   grown_proves =
-      subst (λ t. ProvesTree m names t) (sym h.finished) (shown_by m names t.root h.after.endless h.after.best last.proved last.shows)
+      subst (λ t. ProvesTree m names t) (sym h.finished)
+      (shown_by m names t.root h.after.endless h.after.best last.proved last.shows)
     where
       last : Stands names m.sense (leaves m t.root) h.after
       last = grows_stands m names [] start h.after t.root h.grows record { count = refl; proved = tt; shows = tt }
@@ -250,11 +264,13 @@ pub record Growth (m : RobustModel) (names : List ℕ) (before : Search) : Type 
 -- boxes with a measure of at most n grow
 abbrev GrowsWithin : ℕ → List ℕ → Type 0
 GrowsWithin n names =
-    (m : RobustModel) → IsModel m → T (are_bounded m.variables names) → product_of_ranges m.variables names ≤ n → Solves m →
+    (m : RobustModel) → IsModel m → T (are_bounded m.variables names)
+    → product_of_ranges m.variables names ≤ n → Solves m →
     (before : Search) → Growth m names before
 
 module _ (names : List ℕ) (n : ℕ) (smaller : GrowsWithin n names) (m : RobustModel) (model : IsModel m)
-    (bounded : T (are_bounded m.variables names)) (small : product_of_ranges m.variables names ≤ suc n) (solve : Solves m)
+    (bounded : T (are_bounded m.variables names))
+    (small : product_of_ranges m.variables names ≤ suc n) (solve : Solves m)
     (before : Search) where
   branched : (c : Certificate) (j : ℕ) (k : ℤ) → Decides m names before c (branches j k) → Growth m names before
   branched c j k h =
@@ -282,7 +298,8 @@ module _ (names : List ℕ) (n : ℕ) (smaller : GrowsWithin n names) (m : Robus
   grow_one : Growth m names before
   grow_one = by before.endless refl
     where
-      decided : (c : Certificate) → Proves m c → before.endless ≡ None → (o : Outcome) → outcome names m.sense before c ≡ o →
+      decided : (c : Certificate) → Proves m c → before.endless ≡ None → (o : Outcome)
+          → outcome names m.sense before c ≡ o →
           Growth m names before
       decided c proves going (ends after) e =
           record { node = leaf c; after = after; grows = record { going = going; proves = proves; decides = e } }
@@ -309,8 +326,10 @@ grown m model names bounded solve =
       tree_by g.after.endless g.after.best g.node,
       record {
         after = g.after;
-        grows = subst (λ root. Grows m names start root g.after) (sym (root-tree_by g.after.endless g.after.best g.node)) g.grows;
+        grows = subst (λ root. Grows m names start root g.after)
+            (sym (root-tree_by g.after.endless g.after.best g.node)) g.grows;
         finished =
-            ap (λ root. tree_by g.after.endless g.after.best root) (sym (root-tree_by g.after.endless g.after.best g.node));
+            ap (λ root. tree_by g.after.endless g.after.best root)
+            (sym (root-tree_by g.after.endless g.after.best g.node));
       },
     )

@@ -1,5 +1,5 @@
--- A tree that has grown keeps what a tree's text keeps: leaves are open in an unbounded tree alone, and the leaf that shows the
--- status is one of them.
+-- A tree that has grown keeps what a tree's text keeps: leaves are open in an unbounded tree alone, and the leaf that
+-- shows the status is one of them.
 use Rattle.std.specs.Prelude.{◌≡◌, ◌<◌, ◌≤◌, ℕ, zero, suc, List, [], ◌∷◌, length, Option, Some, None, refl}
 use Rattle.std.proofs.Common.{ap, sym, ◌∙◌, subst, arith}
 use Rattle.rob_meaning.specs.Certificates.{Status, optimal, infeasible, unbounded}
@@ -18,14 +18,16 @@ different : {i : ℕ} {o : Option ℕ} → o ≡ Some i → o ≡ None → ⊥
 different e d = cc
 
 -- once the model is shown to be unbounded, it stays so
-stays_endless : (m : RobustModel) (names : List ℕ) (before after : Search) (node : Node) → Grows m names before node after →
+stays_endless : (m : RobustModel) (names : List ℕ) (before after : Search) (node : Node)
+    → Grows m names before node after →
     (i : ℕ) → before.endless ≡ Some i → after.endless ≡ Some i
 stays_endless m names before after (leaf c) h i e = absurd (different e h.going)
 stays_endless m names before after (split j k below above) h i e = absurd (different e h.0.1.going)
 stays_endless m names before after left_open h i e = ap (λ (s : Search). s.endless) h.1 ∙ e
 
 -- where it isn't shown to be, no leaf is open
-grows_closed : (m : RobustModel) (names : List ℕ) (before after : Search) (node : Node) → Grows m names before node after →
+grows_closed : (m : RobustModel) (names : List ℕ) (before after : Search) (node : Node)
+    → Grows m names before node after →
     after.endless ≡ None → IsClosed node
 grows_closed m names before after (leaf c) h none = tt
 grows_closed m names before after left_open h none =

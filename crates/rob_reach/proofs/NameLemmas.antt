@@ -1,5 +1,5 @@
--- A box of branches on bounded variables, and a model with another budget, have the names of the model: a text about one is a
--- text about the other.
+-- A box of branches on bounded variables, and a model with another budget, have the names of the model: a text about
+-- one is a text about the other.
 use Rattle.std.specs.Prelude.{◌≡◌, ℕ, zero, suc, ℤ, Bool, true, false, T, List, [], ◌∷◌, ◌++◌, map, flat_map, codes, Option, Some, None, refl}
 use Rattle.std.proofs.Common.{ap, sym, subst}
 use Rattle.rob_algebra.specs.Fraction.{Fraction}
@@ -33,7 +33,8 @@ module _ (upper : Bool) (k : ℤ) where
   bound_parts-tightened x h = by upper x.lower x.upper h
     where
       by : (b : Bool) (l u : Option Fraction) → T (has_both l u) →
-          bound_parts (tightened b k (record x { lower = l; upper = u })).name (tightened b k (record x { lower = l; upper = u })).lower
+          bound_parts (tightened b k (record x { lower = l; upper = u })).name
+          (tightened b k (record x { lower = l; upper = u })).lower
           (tightened b k (record x { lower = l; upper = u })).upper
           ≡ bound_parts x.name l u
       by true None u h = absurd h
@@ -72,11 +73,14 @@ module _ (m : RobustModel) (b : Branch) where
   pub named_behind : IsNamed m → IsNamed (behind m b)
   named_behind h =
       record {
-        plain = subst (λ (ns : List Name). Each IsPlain (written_names m ++ (m.sets ++ (row_names m ++ (ns ++ adaptive_names m)))))
+        plain = subst (λ (ns : List Name).
+            Each IsPlain (written_names m ++ (m.sets ++ (row_names m ++ (ns ++ adaptive_names m)))))
             (sym variable_names-behind) h.plain;
-        free = subst (λ (ns : List Name). Each IsFree (written_names m ++ (m.sets ++ (row_names m ++ (ns ++ adaptive_names m)))))
+        free = subst (λ (ns : List Name).
+            Each IsFree (written_names m ++ (m.sets ++ (row_names m ++ (ns ++ adaptive_names m)))))
             (sym variable_names-behind) h.free;
-        distinct = subst (λ (ns : List Name). AreDistinct (written_names m ++ (m.sets ++ (row_names m ++ (ns ++ adaptive_names m)))))
+        distinct = subst (λ (ns : List Name).
+            AreDistinct (written_names m ++ (m.sets ++ (row_names m ++ (ns ++ adaptive_names m)))))
             (sym variable_names-behind) h.distinct;
         lists = h.lists;
         members = h.members;
@@ -98,6 +102,7 @@ parts-limit_at m k (suc zero) g (c ∷ cs) =
 parts-limit_at m k (suc (suc n)) g (c ∷ cs) =
     ap (λ ps. statement_parts m.parameters k c ++ ps) (parts-limit_at m (suc k) (suc n) g cs)
 
-pub set_row_names-with_budget : (m : RobustModel) (n : ℕ) (g : Fraction) → set_row_names (with_budget m n g) ≡ set_row_names m
+pub set_row_names-with_budget : (m : RobustModel) (n : ℕ) (g : Fraction)
+    → set_row_names (with_budget m n g) ≡ set_row_names m
 set_row_names-with_budget m n g =
     ap (λ ps. map joined (parameter_bound_parts m.parameters ++ ps)) (parts-limit_at m 1 n g m.set_lines)

@@ -1,5 +1,5 @@
--- Ranges of the named variables: a plan's number stands between its bounds, boxes keep that bounds are declared, and a branch
--- splits a range into two.
+-- Ranges of the named variables: a plan's number stands between its bounds, boxes keep that bounds are declared, and a
+-- branch splits a range into two.
 use Rattle.std.specs.Prelude.{◌≡◌, ◌<◌, ℕ, zero, suc, ◌+◌, ℤ, Bool, true, false, ◌&&◌, T, List, [], ◌∷◌, length, Option, Some, None, refl}
 use Rattle.std.proofs.Common.{sym, subst, inl, inr, arith}
 use Rattle.rob_algebra.specs.Fraction.{Fraction, of_int, ◌≤ℚ◌}
@@ -38,9 +38,11 @@ pub both_true : (a b : Bool) → T a → T b → T (a && b)
 both_true true b h k = k
 both_true false b h k = absurd h
 
-pub bounded_in : (xs : List Variable) (names : List ℕ) (j : ℕ) → IsIn j names → T (are_bounded xs names) → T (is_bounded xs j)
+pub bounded_in : (xs : List Variable) (names : List ℕ) (j : ℕ) → IsIn j names
+    → T (are_bounded xs names) → T (is_bounded xs j)
 bounded_in xs [] j h k = absurd h
-bounded_in xs (i ∷ names) j (inl e) k = subst (λ n. T (is_bounded xs n)) (sym e) (both_left (is_bounded xs i) (are_bounded xs names) k)
+bounded_in xs (i ∷ names) j (inl e) k =
+    subst (λ n. T (is_bounded xs n)) (sym e) (both_left (is_bounded xs i) (are_bounded xs names) k)
 bounded_in xs (i ∷ names) j (inr h) k = bounded_in xs names j h (both_right (is_bounded xs i) (are_bounded xs names) k)
 
 between_declared : (l b : Option Fraction) (x : Fraction) → T (has_both l b) → KeepsBounds l b x →
@@ -48,16 +50,6 @@ between_declared : (l b : Option Fraction) (x : Fraction) → T (has_both l b) �
 between_declared None b x h k = absurd h
 between_declared (Some l) None x h k = absurd h
 between_declared (Some l) (Some b) x h k = k
-
-range-declared : (l b : Option Fraction) → T (has_both l b) → range_between l b ≡ range (declared l) (declared b)
-range-declared None b h = absurd h
-range-declared (Some l) None h = absurd h
-range-declared (Some l) (Some b) h = refl
-
-pub range_at-range : (xs : List Variable) (j : ℕ) → T (is_bounded xs j) → range_at xs j ≡ range (lower_at xs j) (upper_at xs j)
-range_at-range [] j h = absurd h
-range_at-range (x ∷ xs) zero h = range-declared x.lower x.upper h
-range_at-range (x ∷ xs) (suc j) h = range_at-range xs j h
 
 -- the number of a bounded variable stands between its bounds
 pub number_between : (plan : List Fraction) (first : ℕ) (xs : List Variable) (j : ℕ) → T (is_bounded xs j) →
@@ -97,7 +89,8 @@ pub changes_bounded : (upper : Bool) (k : ℤ) (j : ℕ) (xs : List Variable) (n
     T (are_bounded (change_at (tightened upper k) j xs) names)
 changes_bounded upper k j xs [] h = tt
 changes_bounded upper k j xs (i ∷ names) h =
-    both_true (is_bounded (change_at (tightened upper k) j xs) i) (are_bounded (change_at (tightened upper k) j xs) names)
+    both_true (is_bounded (change_at (tightened upper k) j xs) i)
+    (are_bounded (change_at (tightened upper k) j xs) names)
     (change_bounded upper k j xs i (both_left (is_bounded xs i) (are_bounded xs names) h))
     (changes_bounded upper k j xs names (both_right (is_bounded xs i) (are_bounded xs names) h))
 

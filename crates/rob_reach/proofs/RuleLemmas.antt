@@ -31,7 +31,8 @@ module _ (m : RobustModel) (names : List ℕ) where
       out true false d k e = cc
       out false l d k e = cc
 
-      back : (b l : Bool) → leb (product_of_ranges m.variables names) 1000 ≡ l → T b → product_of_ranges m.variables names ≤ 1000 →
+      back : (b l : Bool) → leb (product_of_ranges m.variables names) 1000 ≡ l → T b
+          → product_of_ranges m.variables names ≤ 1000 →
           rule_by b l ≡ None
       back true true k h g = refl
       back true false k h g = absurd (over (product_of_ranges m.variables names) k g)
@@ -60,7 +61,8 @@ module _ (m : RobustModel) (names : List ℕ) where
       back false l h = refl
 
   -- rule 63 is told exactly where each has both bounds and the product of the ranges is over 1,000
-  pub rule_63 : (whole_rule m names ≡ Some 63) ↔ (KeepsBothBounds m names × (1000 < product_of_ranges m.variables names))
+  pub rule_63 : (whole_rule m names ≡ Some 63)
+      ↔ (KeepsBothBounds m names × (1000 < product_of_ranges m.variables names))
   rule_63 = (
     λ e. out (are_bounded m.variables names) (leb (product_of_ranges m.variables names) 1000) refl refl e,
     λ h. back (are_bounded m.variables names) (leb (product_of_ranges m.variables names) 1000) refl h.0 h.1,
@@ -78,9 +80,11 @@ module _ (m : RobustModel) (names : List ℕ) where
           apart : ◌≡◌ {A = ℕ} 62 63 → ⊥
           apart e = omega arith
 
-      back : (b l : Bool) → leb (product_of_ranges m.variables names) 1000 ≡ l → T b → 1000 < product_of_ranges m.variables names →
+      back : (b l : Bool) → leb (product_of_ranges m.variables names) 1000 ≡ l → T b
+          → 1000 < product_of_ranges m.variables names →
           rule_by b l ≡ Some 63
-      back true true k h g = absurd (over (product_of_ranges m.variables names) (leb-true (product_of_ranges m.variables names) 1000 k) g)
+      back true true k h g =
+          absurd (over (product_of_ranges m.variables names) (leb-true (product_of_ranges m.variables names) 1000 k) g)
         where
           over : (p : ℕ) → p ≤ 1000 → 1000 < p → ⊥
           over p h g = omega arith
@@ -91,7 +95,8 @@ module _ (m : RobustModel) (names : List ℕ) where
 pub leaves_at_most_1000 : (m : RobustModel) → IsModel m → (names : List ℕ) → whole_rule m names ≡ None → (t : Tree) →
     IsGrown m names t → (leaf_count t.root ≤ 1000) × (branch_count t.root < 1000)
 leaves_at_most_1000 m model names e t h =
-    by (leaves_bounded m model names ((rules_kept m names).0 e).0 start h.after t.root h.grows) ((rules_kept m names).0 e).1
+    by (leaves_bounded m model names ((rules_kept m names).0 e).0 start h.after t.root h.grows)
+    ((rules_kept m names).0 e).1
     (leaves-branches t.root)
   where
     by : {l b p : ℕ} → l ≤ p → p ≤ 1000 → l ≡ suc b → (l ≤ 1000) × (b < 1000)

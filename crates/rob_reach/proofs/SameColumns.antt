@@ -1,5 +1,5 @@
--- A model with other set lines and other bounds of variables: as many variables, so the same columns, and expressions have
--- the same values.
+-- A model with other set lines and other bounds of variables: as many
+-- variables, so the same columns, and expressions have the same values.
 use Rattle.std.specs.Prelude.{◌≡◌, ◌<◌, ℕ, zero, suc, List, [], ◌∷◌, length, refl}
 use Rattle.std.proofs.Common.{ap, ap₂, sym, subst}
 use Rattle.rob_algebra.specs.Fraction.{Fraction, ◌+ℚ◌, ◌*ℚ◌, ◌≤ℚ◌}
@@ -11,17 +11,15 @@ use Rattle.rob_meaning.specs.RobustModel.{Variable, AdaptiveVariable, SetLine, l
 use Rattle.rob_meaning.specs.UncertaintySet.{Relates, KeepsBounds, KeepsLine, total_deviation, in_each_set}
 use Rattle.rob_meaning.specs.Values.{value, sum_value, product_value, signed, rule_part, rule_value, rule_value_in}
 use Rattle.rob_meaning.specs.WellFormed.{IsInside, TermsInside, FactorsInside, IsExpression, IsSetLine, IsParameterOf, IsOf, TermsOf, FactorsOf, IsLineOf, IsModel}
-
-pub each_map : {A : Type 0} (P Q : A → Type 0) → ((x : A) → P x → Q x) → (xs : List A) → Each P xs → Each Q xs
-each_map P Q f [] h = tt
-each_map P Q f (x ∷ xs) h = (f x h.0, each_map P Q f xs h.1)
+use Rattle.rob_meaning.proofs.EachLemmas.{each_map}
 
 pub each_from_map : {A : Type 0} (P Q : ℕ → A → Type 0) → ((k : ℕ) (x : A) → P k x → Q k x) → (k : ℕ) (xs : List A) →
     EachFrom k P xs → EachFrom k Q xs
 each_from_map P Q f k [] h = tt
 each_from_map P Q f k (x ∷ xs) h = (f k x h.0, each_from_map P Q f (suc k) xs h.1)
 
-module _ (m : RobustModel) (lines : List SetLine) (variables : List Variable) (fits : length variables ≡ length m.variables) where
+module _ (m : RobustModel) (lines : List SetLine) (variables : List Variable)
+    (fits : length variables ≡ length m.variables) where
   -- the model with those
   abbrev pub other : RobustModel
   other = record m { set_lines = lines; variables = variables }
@@ -56,7 +54,8 @@ module _ (m : RobustModel) (lines : List SetLine) (variables : List Variable) (f
             ≡ at plan d +ℚ rule_part m plan u (list_in_set m S y) (suc d)
         by c d e =
             ap₂ ◌+ℚ◌ (ap (λ n. at plan n) e)
-            (subst (λ n. rule_part other plan u (list_in_set m S y) (suc c) ≡ rule_part m plan u (list_in_set m S y) (suc n)) e
+            (subst (λ n. rule_part other plan u (list_in_set m S y) (suc c)
+            ≡ rule_part m plan u (list_in_set m S y) (suc n)) e
             (rule_part-other (list_in_set m S y) (suc c)))
 
     mutual
@@ -95,29 +94,43 @@ module _ (m : RobustModel) (lines : List SetLine) (variables : List Variable) (f
     pub keeps_in : KeepsIn m plan tau S u → KeepsIn other plan tau S u
     keeps_in h =
         record {
-          objective = λ e. subst (λ v. IsNoWorse m.sense v tau) (sym (value-other plan (in_each_set m u) m.objective)) (h.objective e);
+          objective =
+              λ e. subst (λ v. IsNoWorse m.sense v tau)
+              (sym (value-other plan (in_each_set m u) m.objective)) (h.objective e);
           rows = each_from_map
-              (λ i (r : Row). row_set m i ≡ S → Relates r.relation (value m plan (in_each_set m u) r.left) (value m plan (in_each_set m u) r.right))
-              (λ i (r : Row). row_set m i ≡ S → Relates r.relation (value other plan (in_each_set m u) r.left) (value other plan (in_each_set m u) r.right))
+              (λ i (r : Row). row_set m i ≡ S
+              → Relates r.relation (value m plan (in_each_set m u) r.left) (value m plan (in_each_set m u) r.right))
+              (λ i (r : Row). row_set m i ≡ S
+              → Relates r.relation (value other plan (in_each_set m u) r.left)
+              (value other plan (in_each_set m u) r.right))
               (λ i r g e. row_in plan (in_each_set m u) r (g e)) zero m.rows h.rows;
           adaptives = λ e.
-              each_from_map (λ k (y : AdaptiveVariable). KeepsBounds y.lower y.upper (rule_value m plan (in_each_set m u) k))
+              each_from_map
+              (λ k (y : AdaptiveVariable). KeepsBounds y.lower y.upper (rule_value m plan (in_each_set m u) k))
               (λ k (y : AdaptiveVariable). KeepsBounds y.lower y.upper (rule_value other plan (in_each_set m u) k))
-              (λ k y g. subst (λ v. KeepsBounds y.lower y.upper v) (sym (rule_value-other plan (in_each_set m u) k)) g) zero m.adaptives (h.adaptives e);
+              (λ k y g. subst (λ v. KeepsBounds y.lower y.upper v) (sym (rule_value-other plan (in_each_set m u) k)) g)
+              zero m.adaptives (h.adaptives e);
         }
 
     pub keeps_out : KeepsIn other plan tau S u → KeepsIn m plan tau S u
     keeps_out h =
         record {
-          objective = λ e. subst (λ v. IsNoWorse m.sense v tau) (value-other plan (in_each_set m u) m.objective) (h.objective e);
+          objective =
+              λ e. subst (λ v. IsNoWorse m.sense v tau)
+              (value-other plan (in_each_set m u) m.objective) (h.objective e);
           rows = each_from_map
-              (λ i (r : Row). row_set m i ≡ S → Relates r.relation (value other plan (in_each_set m u) r.left) (value other plan (in_each_set m u) r.right))
-              (λ i (r : Row). row_set m i ≡ S → Relates r.relation (value m plan (in_each_set m u) r.left) (value m plan (in_each_set m u) r.right))
+              (λ i (r : Row). row_set m i ≡ S
+              → Relates r.relation (value other plan (in_each_set m u) r.left)
+              (value other plan (in_each_set m u) r.right))
+              (λ i (r : Row). row_set m i ≡ S
+              → Relates r.relation (value m plan (in_each_set m u) r.left) (value m plan (in_each_set m u) r.right))
               (λ i r g e. row_out plan (in_each_set m u) r (g e)) zero m.rows h.rows;
           adaptives = λ e.
-              each_from_map (λ k (y : AdaptiveVariable). KeepsBounds y.lower y.upper (rule_value other plan (in_each_set m u) k))
+              each_from_map
+              (λ k (y : AdaptiveVariable). KeepsBounds y.lower y.upper (rule_value other plan (in_each_set m u) k))
               (λ k (y : AdaptiveVariable). KeepsBounds y.lower y.upper (rule_value m plan (in_each_set m u) k))
-              (λ k y g. subst (λ v. KeepsBounds y.lower y.upper v) (rule_value-other plan (in_each_set m u) k) g) zero m.adaptives (h.adaptives e);
+              (λ k y g. subst (λ v. KeepsBounds y.lower y.upper v) (rule_value-other plan (in_each_set m u) k) g) zero
+              m.adaptives (h.adaptives e);
         }
 
   -- ---- statements on the set
@@ -141,18 +154,21 @@ module _ (m : RobustModel) (lines : List SetLine) (variables : List Variable) (f
 
   -- those of one set, which a scenario of it keeps
   module _ (S : ℕ) (u : List Fraction) where
-    pub set_lines_in : (k : ℕ) (cs : List SetLine) → EachFrom k (λ i c. line_set m i ≡ S → KeepsLine m (in_each_set m u) c) cs →
+    pub set_lines_in : (k : ℕ) (cs : List SetLine)
+        → EachFrom k (λ i c. line_set m i ≡ S → KeepsLine m (in_each_set m u) c) cs →
         EachFrom k (λ i c. line_set m i ≡ S → KeepsLine other (in_each_set m u) c) cs
     set_lines_in k cs h =
         each_from_map (λ i c. line_set m i ≡ S → KeepsLine m (in_each_set m u) c)
-        (λ i c. line_set m i ≡ S → KeepsLine other (in_each_set m u) c) (λ i c g e. keeps_line_in (in_each_set m u) c (g e)) k cs h
+        (λ i c. line_set m i ≡ S → KeepsLine other (in_each_set m u) c)
+        (λ i c g e. keeps_line_in (in_each_set m u) c (g e)) k cs h
 
     pub set_lines_out : (k : ℕ) (cs : List SetLine) →
         EachFrom k (λ i c. line_set m i ≡ S → KeepsLine other (in_each_set m u) c) cs →
         EachFrom k (λ i c. line_set m i ≡ S → KeepsLine m (in_each_set m u) c) cs
     set_lines_out k cs h =
         each_from_map (λ i c. line_set m i ≡ S → KeepsLine other (in_each_set m u) c)
-        (λ i c. line_set m i ≡ S → KeepsLine m (in_each_set m u) c) (λ i c g e. keeps_line_out (in_each_set m u) c (g e)) k cs h
+        (λ i c. line_set m i ≡ S → KeepsLine m (in_each_set m u) c)
+        (λ i c g e. keeps_line_out (in_each_set m u) c (g e)) k cs h
 
   -- ---- well-formed expressions
   mutual
@@ -240,6 +256,8 @@ module _ (m : RobustModel) (lines : List SetLine) (variables : List Variable) (f
         own_objective = (h.own_objective.0, of-other m.objective_set m.objective h.own_objective.1);
         own_rows = each_from_map
             (λ i (r : Row). (row_set m i < set_count m) × (IsOf m (row_set m i) r.left × IsOf m (row_set m i) r.right))
-            (λ i (r : Row). (row_set m i < set_count m) × (IsOf other (row_set m i) r.left × IsOf other (row_set m i) r.right))
-            (λ i r g. (g.0, (of-other (row_set m i) r.left g.1.0, of-other (row_set m i) r.right g.1.1))) zero m.rows h.own_rows;
+            (λ i (r : Row). (row_set m i < set_count m)
+            × (IsOf other (row_set m i) r.left × IsOf other (row_set m i) r.right))
+            (λ i r g. (g.0, (of-other (row_set m i) r.left g.1.0, of-other (row_set m i) r.right g.1.1))) zero m.rows
+            h.own_rows;
       }

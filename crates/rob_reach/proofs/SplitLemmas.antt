@@ -83,7 +83,8 @@ module _ (x : Fraction) (broken : IsWhole x → ⊥) where
       by : (z ≤ℤ floor x) ⊎ (floor x <ℤ z) → (floor x +ℤ pos 1) ≤ℤ z
       by (inl g) =
           absurd (broken (subst IsWhole
-          (Q.le_antisym_ℚ (of_int (floor x)) x below_number (Q.le_trans_ℚ x (of_int z) (of_int (floor x)) h (int_le_in z (floor x) g)))
+          (Q.le_antisym_ℚ (of_int (floor x)) x below_number
+          (Q.le_trans_ℚ x (of_int z) (of_int (floor x)) h (int_le_in z (floor x) g)))
           (of_int-parts (floor x)).1))
       by (inr g) = next (floor x) z g
 
@@ -100,7 +101,8 @@ module _ (x : Fraction) (broken : IsWhole x → ⊥) where
       (Q.le_trans_ℚ l x (of_int (floor x +ℤ pos 1)) h above_number))
       ∙ ap (λ z. at_least_1 (ceiling b -ℤ z +ℤ pos 1)) (floor-int (floor x +ℤ pos 1)))
       ∙ counts_add (floor l) (floor x) (ceiling b)
-      (floor_greatest (floor l) x (Q.le_trans_ℚ (of_int (floor l)) l x (at_most_floor (floor l) l (le_self (floor l))) h))
+      (floor_greatest (floor l) x
+      (Q.le_trans_ℚ (of_int (floor l)) l x (at_most_floor (floor l) l (le_self (floor l))) h))
       (next_above (ceiling b) (Q.le_trans_ℚ x b (of_int (ceiling b)) g (at_most_ceiling b)))
     where
       le_self : (a : ℤ) → a ≤ℤ a
@@ -108,13 +110,15 @@ module _ (x : Fraction) (broken : IsWhole x → ⊥) where
 
   -- the range of the branched variable splits
   pub here_splits : (xs : List Variable) (j : ℕ) → T (is_bounded xs j) → lower_at xs j ≤ℚ x → x ≤ℚ upper_at xs j →
-      range_at (change_at (tightened true (floor x)) j xs) j + range_at (change_at (tightened false (floor x +ℤ pos 1)) j xs) j
+      range_at (change_at (tightened true (floor x)) j xs) j
+      + range_at (change_at (tightened false (floor x +ℤ pos 1)) j xs) j
       ≡ range_at xs j
   here_splits [] j some h g = absurd some
   here_splits (v ∷ xs) zero some h g = by v.lower v.upper some h g
     where
       by : (l b : Option Fraction) → T (has_both l b) → declared l ≤ℚ x → x ≤ℚ declared b →
-          range_between l (Some (lesser b (of_int (floor x)))) + range_between (Some (greater l (of_int (floor x +ℤ pos 1)))) b
+          range_between l (Some (lesser b (of_int (floor x))))
+          + range_between (Some (greater l (of_int (floor x +ℤ pos 1)))) b
           ≡ range_between l b
       by None b some h g = absurd some
       by (Some l) None some h g = absurd some
@@ -177,7 +181,8 @@ rest_splits a b c p q r d e h =
     (subst (λ n. n ≤ c * r) (mul-add c p q) (mul-le-mul {n₁ = c} {n₂ = c} (omega arith) h)))
 
 module _ (f g : Variable → Variable) (xs : List Variable) (j : ℕ)
-    (splits : (i : ℕ) → Splits i j (range_at (change_at f j xs) i) (range_at (change_at g j xs) i) (range_at xs i)) where
+    (splits : (i : ℕ)
+    → Splits i j (range_at (change_at f j xs) i) (range_at (change_at g j xs) i) (range_at xs i)) where
   below_smaller : (names : List ℕ) → product_of_ranges (change_at f j xs) names ≤ product_of_ranges xs names
   below_smaller [] = omega arith
   below_smaller (i ∷ names) = mul-le-mul (by (splits i)) (below_smaller names)
@@ -198,13 +203,15 @@ module _ (f g : Variable → Variable) (xs : List Variable) (j : ℕ)
 
   -- together the two products are at most the whole one
   product_splits : (names : List ℕ) → IsIn j names →
-      product_of_ranges (change_at f j xs) names + product_of_ranges (change_at g j xs) names ≤ product_of_ranges xs names
+      product_of_ranges (change_at f j xs) names + product_of_ranges (change_at g j xs) names
+      ≤ product_of_ranges xs names
   product_splits [] h = absurd h
   product_splits (i ∷ names) h = by (product_splits names) (splits i) h
     where
       by : (IsIn j names → product_of_ranges (change_at f j xs) names + product_of_ranges (change_at g j xs) names
           ≤ product_of_ranges xs names) →
-          Splits i j (range_at (change_at f j xs) i) (range_at (change_at g j xs) i) (range_at xs i) → IsIn j (i ∷ names) →
+          Splits i j (range_at (change_at f j xs) i) (range_at (change_at g j xs) i) (range_at xs i)
+          → IsIn j (i ∷ names) →
           product_of_ranges (change_at f j xs) (i ∷ names) + product_of_ranges (change_at g j xs) (i ∷ names)
           ≤ product_of_ranges xs (i ∷ names)
       by rest (inl k) h =
@@ -224,5 +231,6 @@ pub products_split : (x : Fraction) → (IsWhole x → ⊥) → (xs : List Varia
     + product_of_ranges (change_at (tightened false (floor x +ℤ pos 1)) j xs) names ≤ product_of_ranges xs names
 products_split x broken xs names j within some h g =
     product_splits (tightened true (floor x)) (tightened false (floor x +ℤ pos 1)) xs j
-    (each_splits (tightened true (floor x)) (tightened false (floor x +ℤ pos 1)) xs j (here_splits x broken xs j some h g))
+    (each_splits (tightened true (floor x)) (tightened false (floor x +ℤ pos 1)) xs j
+    (here_splits x broken xs j some h g))
     names within

@@ -8,22 +8,7 @@ use Rattle.rob_meaning.specs.Guarantee.{IsNoWorse}
 use Rattle.rob_meaning.specs.Places.{0ℚ, 1ℚ}
 use Rattle.rob_meaning.specs.RobustModel.{RobustModel, Sense, maximise, minimise}
 use Rattle.rob_reach.specs.WholeStatus.{IsWholeOptimal, IsWholeInfeasible, IsWholeUnbounded}
-
-no_worse_both : (sense : Sense) (a b : Fraction) → IsNoWorse sense a b → IsNoWorse sense b a → a ≡ b
-no_worse_both minimise a b h k = Q.le_antisym_ℚ a b h k
-no_worse_both maximise a b h k = Q.le_antisym_ℚ a b k h
-
--- a better number
-better : Sense → Fraction → Fraction
-better minimise v = v -ℚ 1ℚ
-better maximise v = v +ℚ 1ℚ
-
-not_better : (sense : Sense) (v : Fraction) → IsNoWorse sense v (better sense v) → ⊥
-unfolding better
-not_better minimise v h =
-    Q.not_lt_ℚ v (v -ℚ 1ℚ) h (Q.lt_from (v ∷ []) (v0 :- lit (pos 1)) v0 (lit (pos 1)) refl zero_lt_one)
-not_better maximise v h =
-    Q.not_lt_ℚ (v +ℚ 1ℚ) v h (Q.lt_from (v ∷ []) v0 (v0 :+ lit (pos 1)) (lit (pos 1)) refl zero_lt_one)
+use Rattle.rob_meaning.proofs.StatusLemmas.{no_worse_both, better, not_better}
 
 module _ (m : RobustModel) (names : List ℕ) where
   pub one_optimum : (v w : Fraction) → IsWholeOptimal m names v → IsWholeOptimal m names w → v ≡ w

@@ -12,7 +12,7 @@ use Rattle.rob_meaning.specs.Status.{IsOptimal, IsInfeasible, IsUnbounded}
 use Rattle.rob_meaning.specs.UncertaintySet.{in_each_set, part_of, Admits, AdmitsIn, IsEmptySet, KeepsLine, total_deviation}
 use Rattle.rob_meaning.specs.WellFormed.{IsModel, IsSetLine, IsLineOf}
 use Rattle.rob_reach.proofs.SameColumns as Same
-use Rattle.rob_reach.proofs.SameColumns.{each_map}
+use Rattle.rob_meaning.proofs.EachLemmas.{each_map}
 use Rattle.rob_reach.specs.Sweeps.{limited, limit_at, with_budget, Rises, SweepAnswer, is_optimal, is_infeasible, is_unbounded, is_empty, Answers, Swept, GrowsHarder}
 
 -- ---- one number is replaced
@@ -29,7 +29,8 @@ limit_here zero g limit members (c ∷ cs) e =
     let same : c ≡ budget limit members = cc in ap (λ d. Some (limited g d)) same
 limit_here (suc k) g limit members (c ∷ cs) e = limit_here k g limit members cs e
 
-pub limit_elsewhere : (n k : ℕ) (g : Fraction) (cs : List SetLine) → suc k ≢ n → slice_get (limit_at n g cs) k ≡ slice_get cs k
+pub limit_elsewhere : (n k : ℕ) (g : Fraction) (cs : List SetLine) → suc k ≢ n
+    → slice_get (limit_at n g cs) k ≡ slice_get cs k
 limit_elsewhere n k g [] h = refl
 limit_elsewhere zero k g (c ∷ cs) h = refl
 limit_elsewhere (suc zero) zero g (c ∷ cs) h = absurd (h refl)
@@ -38,7 +39,8 @@ limit_elsewhere (suc (suc n)) zero g (c ∷ cs) h = refl
 limit_elsewhere (suc (suc n)) (suc k) g (c ∷ cs) h = limit_elsewhere (suc n) k g cs (λ e. h (ap suc e))
 
 -- what says nothing of limits holds of the new statements too
-limit_each : (P : SetLine → Type 0) (g : Fraction) → ((c : SetLine) → P c → P (limited g c)) → (n : ℕ) (cs : List SetLine) →
+limit_each : (P : SetLine → Type 0) (g : Fraction) → ((c : SetLine) → P c → P (limited g c))
+    → (n : ℕ) (cs : List SetLine) →
     Each P cs → Each P (limit_at n g cs)
 limit_each P g f n [] h = tt
 limit_each P g f zero (c ∷ cs) h = h
@@ -54,8 +56,10 @@ limit_each_from P g f (suc (suc n)) k (c ∷ cs) h = (h.0, limit_each_from P g f
 
 pub with_budget_model : (m : RobustModel) (n : ℕ) (g : Fraction) → IsModel m → IsModel (with_budget m n g)
 with_budget_model m n g h =
-    Same.model-other m (limit_at n g m.set_lines) m.variables refl h (limit_each (IsSetLine m) g kept n m.set_lines h.set_lines)
-    (limit_each_from (λ i c. (line_set m i < set_count m) × IsLineOf m (line_set m i) c) g own n zero m.set_lines h.own_lines)
+    Same.model-other m (limit_at n g m.set_lines) m.variables refl h
+    (limit_each (IsSetLine m) g kept n m.set_lines h.set_lines)
+    (limit_each_from (λ i c. (line_set m i < set_count m) × IsLineOf m (line_set m i) c) g own n zero
+    m.set_lines h.own_lines)
   where
     kept : (c : SetLine) → IsSetLine m c → IsSetLine m (limited g c)
     kept (line l relation r) h = h
@@ -102,7 +106,8 @@ module _ (m : RobustModel) (n : ℕ) (g h : Fraction) (le : g ≤ℚ h) where
         lines =
             Same.set_lines_in m (limit_at n h m.set_lines) m.variables refl S u zero (limit_at n h m.set_lines)
             (lines_at S (in_each_set m u) n zero m.set_lines
-            (Same.set_lines_out m (limit_at n g m.set_lines) m.variables refl S u zero (limit_at n g m.set_lines) k.lines));
+            (Same.set_lines_out m (limit_at n g m.set_lines) m.variables refl S u zero
+            (limit_at n g m.set_lines) k.lines));
       }
 
   pub admits_more : (u : List Fraction) → Admits (with_budget m n g) u → Admits (with_budget m n h) u
@@ -116,7 +121,8 @@ module _ (m : RobustModel) (n : ℕ) (g h : Fraction) (le : g ≤ℚ h) where
         columns = k.columns;
         keeps = λ S some u admitted.
             Same.keeps_in m (limit_at n g m.set_lines) m.variables refl plan u tau S
-            (Same.keeps_out m (limit_at n h m.set_lines) m.variables refl plan u tau S (k.keeps S some u (set_admits_more S u admitted)));
+            (Same.keeps_out m (limit_at n h m.set_lines) m.variables refl plan u tau S
+            (k.keeps S some u (set_admits_more S u admitted)));
         variables = k.variables;
       }
 
@@ -168,7 +174,8 @@ one_sweep m n (g ∷ limits) (x ∷ xs) (y ∷ ys) h k =
     (one_sweep m n limits xs ys h.1 k.1)
 
 -- ---- an earlier and a later answer
-module _ (m : RobustModel) (n : ℕ) (g h : Fraction) (le : g ≤ℚ h) (a b : SweepAnswer) (earlier : Answers (with_budget m n g) a)
+module _ (m : RobustModel) (n : ℕ) (g h : Fraction) (le : g ≤ℚ h) (a b : SweepAnswer)
+    (earlier : Answers (with_budget m n g) a)
     (later : Answers (with_budget m n h) b) where
   status_of : (m : RobustModel) (x y : SweepAnswer) → Answers m x → x ≡ y → Answers m y
   status_of m x y k e = subst (Answers m) e k
@@ -221,7 +228,8 @@ module _ (m : RobustModel) (n : ℕ) where
       behind_first g a first limits below.1 answers swept.1 j b e
 
   -- for any two answers, an earlier and a later one
-  pub sweep_grows_harder : (limits : List Fraction) (answers : List SweepAnswer) → Rises limits → Swept m n limits answers →
+  pub sweep_grows_harder : (limits : List Fraction) (answers : List SweepAnswer) → Rises limits
+      → Swept m n limits answers →
       (i j : ℕ) → i < j → (a b : SweepAnswer) → slice_get answers i ≡ Some a → slice_get answers j ≡ Some b →
       GrowsHarder m.sense a b
   sweep_grows_harder [] [] rises swept i j lt a b e f = cc
@@ -230,6 +238,7 @@ module _ (m : RobustModel) (n : ℕ) where
   sweep_grows_harder (g ∷ limits) (c ∷ answers) rises swept i zero lt a b e f = absurd (omega arith)
   sweep_grows_harder (g ∷ limits) (c ∷ answers) rises swept zero (suc j) lt a b e f =
       let same : c ≡ a = cc in
-      behind_first g a (subst (Answers (with_budget m n g)) same swept.0) limits (below_all g limits rises) answers swept.1 j b f
+      behind_first g a (subst (Answers (with_budget m n g)) same swept.0) limits
+      (below_all g limits rises) answers swept.1 j b f
   sweep_grows_harder (g ∷ limits) (c ∷ answers) rises swept (suc i) (suc j) lt a b e f =
       sweep_grows_harder limits answers (rest_rises g limits rises) swept.1 i j (omega arith) a b e f

@@ -23,6 +23,7 @@ use Rattle.rob_reach.specs.Ranges.{is_bounded, are_bounded}
 use Rattle.rob_reach.specs.Trees.{Node, leaf, split, left_open, Tree, Leaf, leaves, BranchesOn, HasLeaf, IsProved, IsInfeasibleLeaf, IsNoBetterLeaf, IsBestLeaf, IsEndlessLeaf, ShowsStatus, ProvesTree}
 use Rattle.rob_reach.specs.WholeNumbers.{IsWhole}
 use Rattle.rob_reach.specs.WholeStatus.{IsWholeOn, WholeBound, IsWholeInfeasible, IsWholeUnbounded, HasWholeStatus}
+use Rattle.rob_meaning.proofs.EachLemmas.{each_append}
 
 -- ---- lists of leaves
 -- some leaf has the property
@@ -44,10 +45,6 @@ some_of_two P xs ys f g (inr h) = right P xs ys (g h)
     right P [] ys h = h
     right P (x ∷ xs) ys h = inr (right P xs ys h)
 
-pub each_append : {A : Type 0} (P : A → Type 0) (xs ys : List A) → Each P xs → Each P ys → Each P (xs ++ ys)
-each_append P [] ys h k = k
-each_append P (x ∷ xs) ys h k = (h.0, each_append P xs ys h.1 k)
-
 each_and : (P Q : Leaf → Type 0) (xs : List Leaf) → Each P xs → Each Q xs → Each (λ l. P l × Q l) xs
 each_and P Q [] h k = tt
 each_and P Q (x ∷ xs) h k = ((h.0, k.0), each_and P Q xs h.1 k.1)
@@ -67,7 +64,8 @@ numbered P Q (x ∷ xs) (suc (suc i)) h k = numbered P Q xs (suc i) h k.1
 -- ---- the boxes of the leaves
 -- a plan with whole numbers that has a bound has it in the box of some leaf
 pub leaves_cover : (m : RobustModel) (names : List ℕ) (node : Node) → BranchesOn names node → (plan : List Fraction)
-    (tau : Fraction) → IsWholeOn names plan → HasBound m plan tau → HasSome (λ l. HasBound l.box plan tau) (leaves m node)
+    (tau : Fraction) → IsWholeOn names plan → HasBound m plan tau
+    → HasSome (λ l. HasBound l.box plan tau) (leaves m node)
 leaves_cover m names (leaf c) on plan tau whole h = inl h
 leaves_cover m names left_open on plan tau whole h = inl h
 leaves_cover m names (split j k below above) on plan tau whole h =
@@ -107,11 +105,13 @@ leaves_boxed m (split j k below above) =
     (box_of_behind m (at_least_branch j k) (leaves (box_above m j k) above) (leaves_boxed (box_above m j k) above))
 
 -- ---- a proved leaf
-proved_as : (l : Leaf) (c : Certificate) (s : Status) → l.certificate ≡ Some c → c.status ≡ s → IsProved l → ProvesAs s l.box c
+proved_as : (l : Leaf) (c : Certificate) (s : Status) → l.certificate ≡ Some c → c.status ≡ s
+    → IsProved l → ProvesAs s l.box c
 proved_as l c s here status h =
     subst (λ t. ProvesAs t l.box c) status (subst (λ o. IfSome o (λ c. Proves l.box c)) here h)
 
-status_as : (l : Leaf) (c : Certificate) (s : Status) → IsModel l.box → l.certificate ≡ Some c → c.status ≡ s → IsProved l →
+status_as : (l : Leaf) (c : Certificate) (s : Status) → IsModel l.box → l.certificate ≡ Some c
+    → c.status ≡ s → IsProved l →
     HasStatus l.box s c.value
 status_as l c s model here status h =
     subst (λ t. HasStatus l.box t c.value) status
@@ -123,10 +123,12 @@ module _ (m : RobustModel) (model : IsModel m) (names : List ℕ) (root : Node) 
   both = each_and (IsBoxOf m) IsProved (leaves m root) (leaves_boxed m root) proved
 
   -- ---- optimal
-  attained : (v : Fraction) (i : ℕ) → HasLeaf (IsBestLeaf names v) (leaves m root) i → (plan : List Fraction) × WholeBound m names plan v
+  attained : (v : Fraction) (i : ℕ) → HasLeaf (IsBestLeaf names v) (leaves m root) i → (plan : List Fraction)
+      × WholeBound m names plan v
   attained v i h = by (numbered (IsBestLeaf names v) (λ l. IsBoxOf m l × IsProved l) (leaves m root) i h both)
     where
-      by : (l : Leaf) × (IsBestLeaf names v l × (IsBoxOf m l × IsProved l)) → (plan : List Fraction) × WholeBound m names plan v
+      by : (l : Leaf) × (IsBestLeaf names v l × (IsBoxOf m l × IsProved l)) → (plan : List Fraction)
+          × WholeBound m names plan v
       by g =
           let l : Leaf = g.0 in
           let c : Certificate = g.1.0.certificate in
@@ -139,24 +141,29 @@ module _ (m : RobustModel) (model : IsModel m) (names : List ℕ) (root : Node) 
             },
           )
 
-  none_better : (v : Fraction) → Each (IsNoBetterLeaf m.sense v) (leaves m root) → (plan : List Fraction) (tau : Fraction) →
+  none_better : (v : Fraction) → Each (IsNoBetterLeaf m.sense v) (leaves m root)
+      → (plan : List Fraction) (tau : Fraction) →
       WholeBound m names plan tau → IsNoWorse m.sense v tau
   none_better v each plan tau h =
-      by (found (λ l. HasBound l.box plan tau) (λ l. (IsBoxOf m l × IsProved l) × IsNoBetterLeaf m.sense v l) (leaves m root)
+      by (found (λ l. HasBound l.box plan tau)
+      (λ l. (IsBoxOf m l × IsProved l) × IsNoBetterLeaf m.sense v l) (leaves m root)
       (leaves_cover m names root on plan tau h.whole h.bound)
       (each_and (λ l. IsBoxOf m l × IsProved l) (IsNoBetterLeaf m.sense v) (leaves m root) both each))
     where
-      by : (l : Leaf) × (HasBound l.box plan tau × ((IsBoxOf m l × IsProved l) × IsNoBetterLeaf m.sense v l)) → IsNoWorse m.sense v tau
+      by : (l : Leaf) × (HasBound l.box plan tau × ((IsBoxOf m l × IsProved l) × IsNoBetterLeaf m.sense v l))
+          → IsNoWorse m.sense v tau
       by g = cases g.1.1.1.2
         where
-          cases : (g.1.1.1.0.status ≡ infeasible) ⊎ ((g.1.1.1.0.status ≡ optimal) × IsNoWorse m.sense v g.1.1.1.0.value) →
+          cases : (g.1.1.1.0.status ≡ infeasible)
+              ⊎ ((g.1.1.1.0.status ≡ optimal) × IsNoWorse m.sense v g.1.1.1.0.value) →
               IsNoWorse m.sense v tau
           cases (inl e) =
               absurd (status_as g.0 g.1.1.1.0 infeasible (g.1.1.0.0.model model) g.1.1.1.1 e g.1.1.0.1 plan tau g.1.0)
           cases (inr e) =
               no_worse_trans m.sense v g.1.1.1.0.value tau e.1
               (subst (λ s. IsNoWorse s g.1.1.1.0.value tau) g.1.1.0.0.sense
-              ((status_as g.0 g.1.1.1.0 optimal (g.1.1.0.0.model model) g.1.1.1.1 e.0 g.1.1.0.1).none_better plan tau g.1.0))
+              ((status_as g.0 g.1.1.1.0 optimal (g.1.1.0.0.model model) g.1.1.1.1 e.0 g.1.1.0.1).none_better plan tau
+              g.1.0))
 
   -- ---- infeasible
   none_at_all : Each IsInfeasibleLeaf (leaves m root) → IsWholeInfeasible m names
@@ -170,7 +177,8 @@ module _ (m : RobustModel) (model : IsModel m) (names : List ℕ) (root : Node) 
           status_as g.0 g.1.1.1.0 infeasible (g.1.1.0.0.model model) g.1.1.1.1 g.1.1.1.2 g.1.1.0.1 plan tau g.1.0
 
 -- ---- unbounded
-module _ (m : RobustModel) (model : IsModel m) (names : List ℕ) (bounded : T (are_bounded m.variables names)) (c : Certificate)
+module _ (m : RobustModel) (model : IsModel m) (names : List ℕ)
+    (bounded : T (are_bounded m.variables names)) (c : Certificate)
     (h : ProvesUnbounded m c) (whole : IsWholeOn names c.plan) where
   lengths : (t : Fraction) → length c.plan ≡ length (scale ℚ_ring t c.step)
   lengths t = h.columns ∙ sym (length-scale ℚ_ring t c.step ∙ h.step_columns)
@@ -210,7 +218,8 @@ module _ (m : RobustModel) (model : IsModel m) (names : List ℕ) (bounded : T (
       let r = reached m.sense c.value c.step_bound tau h.improves in (
         plus_all ℚ_ring c.plan (scale ℚ_ring r.0 c.step),
         record {
-          bound = bound_weakens m (plus_all ℚ_ring c.plan (scale ℚ_ring r.0 c.step)) (c.value +ℚ r.0 *ℚ c.step_bound) tau r.1.1
+          bound = bound_weakens m (plus_all ℚ_ring c.plan (scale ℚ_ring r.0 c.step))
+              (c.value +ℚ r.0 *ℚ c.step_bound) tau r.1.1
               (moved_bound m model c h r.0 r.1.0);
           whole = moved_whole r.0 names bounded whole;
         },
@@ -218,7 +227,8 @@ module _ (m : RobustModel) (model : IsModel m) (names : List ℕ) (bounded : T (
 
 -- ---- the law of trees
 module _ (m : RobustModel) (model : IsModel m) (names : List ℕ) (bounded : T (are_bounded m.variables names)) where
-  unbounded_true : (root : Node) (i : ℕ) → Each IsProved (leaves m root) → HasLeaf (IsEndlessLeaf names) (leaves m root) i →
+  unbounded_true : (root : Node) (i : ℕ) → Each IsProved (leaves m root)
+      → HasLeaf (IsEndlessLeaf names) (leaves m root) i →
       IsWholeUnbounded m names
   unbounded_true root i proved h =
       by (numbered (IsEndlessLeaf names) (λ l. IsBoxOf m l × IsProved l) (leaves m root) i h

@@ -7,19 +7,11 @@ use Rattle.rob_meaning.specs.Guarantee.{IsNoWorse}
 use Rattle.rob_meaning.specs.Places.{Each}
 use Rattle.rob_meaning.specs.RobustModel.{RobustModel, Sense}
 use Rattle.rob_reach.proofs.GrowingLemmas.{length-leaves}
-use Rattle.rob_reach.proofs.TreeLemmas.{each_append}
 use Rattle.rob_reach.specs.Boxes.{box_below, box_above}
 use Rattle.rob_reach.specs.Trees.{Node, leaf, split, left_open, Tree, Leaf, leaves, leaf_count, HasLeaf, IsProved, IsInfeasibleLeaf, IsNoBetterLeaf, IsBestLeaf, IsEndlessLeaf, ShowsStatus, ProvesTree}
 use Rattle.rob_reach.specs.Verdicts.{IsTree, IsFirstFault, IsClosed, KeepsOpen, KeepsBest, status, value, best, whole, Condition, leaf_at, leaf_conditions, best_conditions, last_conditions, tree_conditions, MayBe, KeepsValue, HoldsOf, Holds}
 use Rattle.rob_reach.specs.WholeStatus.{IsWholeOn}
-
-each_left : {A : Type 0} (P : A → Type 0) (xs ys : List A) → Each P (xs ++ ys) → Each P xs
-each_left P [] ys h = tt
-each_left P (x ∷ xs) ys h = (h.0, each_left P xs ys h.1)
-
-each_right : {A : Type 0} (P : A → Type 0) (xs ys : List A) → Each P (xs ++ ys) → Each P ys
-each_right P [] ys h = h
-each_right P (x ∷ xs) ys h = each_right P xs ys h.1
+use Rattle.rob_meaning.proofs.EachLemmas.{each_append, each_left, each_right}
 
 -- the leaf isn't open
 abbrev HasCertificate : Leaf → Type 0
@@ -37,18 +29,21 @@ module _ (sense : Sense) (names : List ℕ) (v : Fraction) where
   abbrev parts : Status → Condition → Type 0
   parts claimed c = HoldsOf c.fault sense names claimed v c.leaf
 
-  of_leaves : (claimed : Status) (P : Leaf → Type 0) → ((l : Leaf) → P l → IsProved l → HoldsOf status sense names claimed v l
+  of_leaves : (claimed : Status) (P : Leaf → Type 0)
+      → ((l : Leaf) → P l → IsProved l → HoldsOf status sense names claimed v l
       × HoldsOf value sense names claimed v l) → (i : ℕ) (ls : List Leaf) → Each IsProved ls → Each P ls →
       Each (parts claimed) (leaf_conditions i ls)
   of_leaves claimed P f i [] h k = tt
   of_leaves claimed P f i (l ∷ ls) h k =
       (h.0, ((f l k.0 h.0).0, ((f l k.0 h.0).1, of_leaves claimed P f (suc i) ls h.1 k.1)))
 
-  proved_of : (claimed : Status) (i : ℕ) (ls : List Leaf) → Each (parts claimed) (leaf_conditions i ls) → Each IsProved ls
+  proved_of : (claimed : Status) (i : ℕ) (ls : List Leaf)
+      → Each (parts claimed) (leaf_conditions i ls) → Each IsProved ls
   proved_of claimed i [] h = tt
   proved_of claimed i (l ∷ ls) h = (h.0, proved_of claimed (suc i) ls h.1.1.1)
 
-  to_leaves : (claimed : Status) (P : Leaf → Type 0) → ((l : Leaf) → HasCertificate l → HoldsOf status sense names claimed v l →
+  to_leaves : (claimed : Status) (P : Leaf → Type 0)
+      → ((l : Leaf) → HasCertificate l → HoldsOf status sense names claimed v l →
       HoldsOf value sense names claimed v l → P l) → (i : ℕ) (ls : List Leaf) → Each HasCertificate ls →
       Each (parts claimed) (leaf_conditions i ls) → Each P ls
   to_leaves claimed P f i [] c h = tt
@@ -75,7 +70,8 @@ module _ (sense : Sense) (names : List ℕ) (v : Fraction) where
           apart e = cc
       keeps c (inr e) d = e.1
 
-  no_better_in : (l : Leaf) → HasCertificate l → HoldsOf status sense names optimal v l → HoldsOf value sense names optimal v l →
+  no_better_in : (l : Leaf) → HasCertificate l → HoldsOf status sense names optimal v l
+      → HoldsOf value sense names optimal v l →
       IsNoBetterLeaf sense v l
   no_better_in l c h k = (
     c.0,
@@ -84,7 +80,8 @@ module _ (sense : Sense) (names : List ℕ) (v : Fraction) where
         (subst (λ o. IfSome o (λ c. KeepsValue optimal sense v c)) c.1 k),
   )
     where
-      by : (c : Certificate) → (c.status ≡ infeasible) ⊎ (c.status ≡ optimal) → (c.status ≡ optimal → IsNoWorse sense v c.value) →
+      by : (c : Certificate) → (c.status ≡ infeasible) ⊎ (c.status ≡ optimal)
+          → (c.status ≡ optimal → IsNoWorse sense v c.value) →
           (c.status ≡ infeasible) ⊎ ((c.status ≡ optimal) × IsNoWorse sense v c.value)
       by c (inl e) f = inl e
       by c (inr e) f = inr (e, f e)
@@ -125,7 +122,8 @@ module _ (sense : Sense) (names : List ℕ) (v : Fraction) where
     subst (λ o. IfSome o (λ c. IsWholeOn names c.plan)) (sym h.here) h.whole,
   )
 
-  best_leaf_in : (l : Leaf) → HoldsOf best sense names optimal v l → HoldsOf whole sense names optimal v l → IsBestLeaf names v l
+  best_leaf_in : (l : Leaf) → HoldsOf best sense names optimal v l
+      → HoldsOf whole sense names optimal v l → IsBestLeaf names v l
   best_leaf_in l h k =
       record {
         certificate = h.0;
@@ -177,13 +175,16 @@ module _ (m : RobustModel) (names : List ℕ) (t : Tree) (closed : KeepsOpen t.s
   conditions_hold h = by t.status h.shows
     where
       by : (s : Status) → ShowsStatus s m names t →
-          Each (parts m.sense names t.value s) (leaf_conditions 1 (leaves m t.root) ++ last_conditions s t.best (leaves m t.root))
+          Each (parts m.sense names t.value s)
+          (leaf_conditions 1 (leaves m t.root) ++ last_conditions s t.best (leaves m t.root))
       by optimal k =
           each_append (parts m.sense names t.value optimal) (leaf_conditions 1 (leaves m t.root))
           (last_conditions optimal t.best (leaves m t.root))
-          (of_leaves m.sense names t.value optimal (IsNoBetterLeaf m.sense t.value) (no_better_out m.sense names t.value) 1
+          (of_leaves m.sense names t.value optimal (IsNoBetterLeaf m.sense t.value)
+          (no_better_out m.sense names t.value) 1
           (leaves m t.root) h.proved k.0)
-          (best_out m.sense names t.value optimal (IsBestLeaf names t.value) (best_leaf_out m.sense names t.value) t.best t.best
+          (best_out m.sense names t.value optimal (IsBestLeaf names t.value)
+          (best_leaf_out m.sense names t.value) t.best t.best
           (leaves m t.root) k.1)
       by infeasible k =
           each_append (parts m.sense names t.value infeasible) (leaf_conditions 1 (leaves m t.root)) []
@@ -193,9 +194,11 @@ module _ (m : RobustModel) (names : List ℕ) (t : Tree) (closed : KeepsOpen t.s
       by unbounded k =
           each_append (parts m.sense names t.value unbounded) (leaf_conditions 1 (leaves m t.root))
           (last_conditions unbounded t.best (leaves m t.root))
-          (of_leaves m.sense names t.value unbounded (λ l. Unit {0}) (unbounded_out m.sense names t.value) 1 (leaves m t.root)
+          (of_leaves m.sense names t.value unbounded (λ l. Unit {0})
+          (unbounded_out m.sense names t.value) 1 (leaves m t.root)
           h.proved (any_each m.sense names t.value (leaves m t.root)))
-          (best_out m.sense names t.value unbounded (IsEndlessLeaf names) (endless_leaf_out m.sense names t.value) t.best t.best
+          (best_out m.sense names t.value unbounded (IsEndlessLeaf names)
+          (endless_leaf_out m.sense names t.value) t.best t.best
           (leaves m t.root) k)
 
   proves_by_conditions : Each (Holds m.sense names t) (tree_conditions m t) → ProvesTree m names t
@@ -209,24 +212,28 @@ module _ (m : RobustModel) (names : List ℕ) (t : Tree) (closed : KeepsOpen t.s
       }
     where
       by : (s : Status) → KeepsOpen s t.root → KeepsBest s t.best (leaf_count t.root) →
-          Each (parts m.sense names t.value s) (leaf_conditions 1 (leaves m t.root) ++ last_conditions s t.best (leaves m t.root)) →
+          Each (parts m.sense names t.value s)
+          (leaf_conditions 1 (leaves m t.root) ++ last_conditions s t.best (leaves m t.root)) →
           ShowsStatus s m names t
       by optimal c w k = (
         to_leaves m.sense names t.value optimal (IsNoBetterLeaf m.sense t.value) (no_better_in m.sense names t.value) 1
             (leaves m t.root) (closed_leaves m t.root c)
             (each_left (parts m.sense names t.value optimal) (leaf_conditions 1 (leaves m t.root))
             (last_conditions optimal t.best (leaves m t.root)) k),
-        best_in m.sense names t.value optimal (IsBestLeaf names t.value) (best_leaf_in m.sense names t.value) t.best t.best
+        best_in m.sense names t.value optimal (IsBestLeaf names t.value)
+            (best_leaf_in m.sense names t.value) t.best t.best
             (leaves m t.root) w.0 (subst (λ n. t.best ≤ n) (sym (length-leaves m t.root)) w.1)
             (each_right (parts m.sense names t.value optimal) (leaf_conditions 1 (leaves m t.root))
             (last_conditions optimal t.best (leaves m t.root)) k),
       )
       by infeasible c w k =
-          to_leaves m.sense names t.value infeasible IsInfeasibleLeaf (infeasible_in m.sense names t.value) 1 (leaves m t.root)
+          to_leaves m.sense names t.value infeasible IsInfeasibleLeaf
+          (infeasible_in m.sense names t.value) 1 (leaves m t.root)
           (closed_leaves m t.root c)
           (each_left (parts m.sense names t.value infeasible) (leaf_conditions 1 (leaves m t.root)) [] k)
       by unbounded c w k =
-          best_in m.sense names t.value unbounded (IsEndlessLeaf names) (endless_leaf_in m.sense names t.value) t.best t.best
+          best_in m.sense names t.value unbounded (IsEndlessLeaf names)
+          (endless_leaf_in m.sense names t.value) t.best t.best
           (leaves m t.root) w.0 (subst (λ n. t.best ≤ n) (sym (length-leaves m t.root)) w.1)
           (each_right (parts m.sense names t.value unbounded) (leaf_conditions 1 (leaves m t.root))
           (last_conditions unbounded t.best (leaves m t.root)) k)
@@ -255,7 +262,8 @@ first_of P (a ∷ xs) (b ∷ ys) zs ws x y e h k f g = first_of P xs ys zs ws x 
 pub one_fault : (m : RobustModel) (names : List ℕ) (t : Tree) (c d : Condition) → IsFirstFault m names t c →
     IsFirstFault m names t d → c ≡ d
 one_fault m names t c d h k =
-    first_of (Holds m.sense names t) h.before k.before h.after k.after c d (sym h.stands ∙ k.stands) h.hold k.hold h.fails k.fails
+    first_of (Holds m.sense names t) h.before k.before h.after k.after c d (sym h.stands ∙ k.stands)
+    h.hold k.hold h.fails k.fails
 
 -- and none where it proves
 pub fault_refuses : (m : RobustModel) (names : List ℕ) (t : Tree) → IsTree names t → (c : Condition) →

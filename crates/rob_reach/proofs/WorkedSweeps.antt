@@ -14,7 +14,8 @@ use Rattle.rob_reach.specs.Sweeps.{Swept, IsBudgetAt, is_optimal, is_empty, with
 abbrev two_demands : RobustModel
 two_demands = record {
   parameters =
-      uncertain (codes "d1") (Some (int 8)) (Some (int 12)) ∷ uncertain (codes "d2") (Some (int 8)) (Some (int 12)) ∷ [];
+      uncertain (codes "d1") (Some (int 8)) (Some (int 12))
+      ∷ uncertain (codes "d2") (Some (int 8)) (Some (int 12)) ∷ [];
   set_lines = budget 1ℚ (around 0 (int 10) (int 2) ∷ around 1 (int 10) (int 2) ∷ []) ∷ [];
   variables = var (codes "x") None None ∷ [];
   adaptives = [];
@@ -34,7 +35,8 @@ price_of_robustness :
 unfolding ratio
 price_of_robustness = (
   (
-    λ none. none (int 10 ∷ int 10 ∷ []) (found (test_admitted (with_budget two_demands 1 0ℚ) (int 10 ∷ int 10 ∷ [])) tt),
+    λ none. none (int 10 ∷ int 10 ∷ [])
+        (found (test_admitted (with_budget two_demands 1 0ℚ) (int 10 ∷ int 10 ∷ [])) tt),
     found (test_certificate (with_budget two_demands 1 0ℚ)
         (best (int 20) (int 10 ∷ int 10 ∷ []) (int 20 ∷ [])
         (cover 1 4 1ℚ ∷ cover 1 6 1ℚ ∷ cover 1 8 (int 2) ∷ [])
@@ -42,7 +44,8 @@ price_of_robustness = (
   ),
   (
     (
-      λ none. none (int 10 ∷ int 10 ∷ []) (found (test_admitted (with_budget two_demands 1 1ℚ) (int 10 ∷ int 10 ∷ [])) tt),
+      λ none. none (int 10 ∷ int 10 ∷ [])
+          (found (test_admitted (with_budget two_demands 1 1ℚ) (int 10 ∷ int 10 ∷ [])) tt),
       found (test_certificate (with_budget two_demands 1 1ℚ)
           (best (int 22) (int 10 ∷ int 10 ∷ []) (int 22 ∷ [])
           (cover 1 4 1ℚ ∷ cover 1 6 1ℚ ∷ cover 1 8 (int 2) ∷ [])

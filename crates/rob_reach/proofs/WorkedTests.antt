@@ -1,5 +1,5 @@
--- Tests for worked examples: each gives the fact itself, where it holds of data without variables. What is here up to trees
--- is that of rob_meaning's WorkedTests, which keeps it to itself.
+-- Tests for worked examples: each gives the fact itself, where it holds of data without variables. What is here up to
+-- trees is that of rob_meaning's WorkedTests, which keeps it to itself.
 use Rattle.std.proofs.Common.{ap₂, sym, subst, inl, inr, refl, arith}
 use Rattle.std.specs.Prelude.{◌≡◌, ◌<◌, ℕ, zero, suc, Bool, true, false, eqb, List, [], ◌∷◌, ◌++◌, length, Option, Some, None, IfSome, ◌⊎◌, T}
 use Rattle.std.proofs.lemmas.Bool.{eqb-true}
@@ -82,7 +82,8 @@ module _ (m : RobustModel) where
       (scale s (parameter_part m i z) ++ zeros (lift_count m.set_lines)))
       (test_le (dot amounts (set_limits m) +ℚ s *ℚ constant_part m i z) 0ℚ)))
 
-  abbrev test_each_covered : (covers : List Cover) (s : Fraction) (z : List Fraction) → Option (EachCovered m covers s z)
+  abbrev test_each_covered : (covers : List Cover) (s : Fraction) (z : List Fraction)
+      → Option (EachCovered m covers s z)
   test_each_covered covers s z =
       test_numbers (length (matrices m)) (λ i. Covers m i s z (amounts_of m covers i))
       (λ i. test_covers i s z (amounts_of m covers i))
@@ -109,7 +110,14 @@ module _ (m : RobustModel) where
 
     abbrev test_as : (status : Status) (c : Certificate) → Option (ProvesAs status m c)
     test_as optimal c =
-        so (λ h. record { inside = h.0.0; items = h.0.1; scale = h.1.0.0; columns = h.1.0.1.0; covered = h.1.0.1.1; sums = h.1.1 })
+        so (λ h. record {
+          inside = h.0.0;
+          items = h.0.1;
+          scale = h.1.0.0;
+          columns = h.1.0.1.0;
+          covered = h.1.0.1.1;
+          sums = h.1.1;
+        })
         (both (test_inside_and_items c)
         (both (test_plan c) (test_list (combination m c.items) (target m.sense (column_count m) c.value))))
     test_as infeasible c =
@@ -169,7 +177,8 @@ abbrev test_branches : (names : List ℕ) (node : Node) → Option (BranchesOn n
 test_branches names (leaf c) = Some tt
 test_branches names left_open = Some tt
 test_branches names (split j k below above) =
-    so (λ h. (h.0, h.1.0, h.1.1)) (both (test_in j names) (both (test_branches names below) (test_branches names above)))
+    so (λ h. (h.0, h.1.0, h.1.1))
+    (both (test_in j names) (both (test_branches names below) (test_branches names above)))
 
 abbrev test_whole : (names : List ℕ) (plan : List Fraction) → Option (IsWholeOn names plan)
 test_whole names plan = test_each (λ k. (at plan k).den ≡ 1) (λ k. test_count (at plan k).den 1) names
@@ -184,7 +193,8 @@ abbrev test_no_worse : (sense : Sense) (a b : Fraction) → Option (IsNoWorse se
 test_no_worse minimise a b = test_le a b
 test_no_worse maximise a b = test_le b a
 
-abbrev test_certified : (P : Leaf → Type 0) (l : Leaf) → ((c : Certificate) → l.certificate ≡ Some c → Option (P l)) → Option (P l)
+abbrev test_certified : (P : Leaf → Type 0) (l : Leaf)
+    → ((c : Certificate) → l.certificate ≡ Some c → Option (P l)) → Option (P l)
 test_certified P l test = by l.certificate refl
   where
     by : (o : Option Certificate) → l.certificate ≡ o → Option (P l)
@@ -199,7 +209,8 @@ test_proved l = by l.certificate
     by (Some c) = test_proves l.box c
 
 abbrev test_infeasible_leaf : (l : Leaf) → Option (IsInfeasibleLeaf l)
-test_infeasible_leaf l = test_certified IsInfeasibleLeaf l (λ c e. so (λ h. (c, e, h)) (test_status c.status infeasible))
+test_infeasible_leaf l =
+    test_certified IsInfeasibleLeaf l (λ c e. so (λ h. (c, e, h)) (test_status c.status infeasible))
 
 abbrev test_no_better : (sense : Sense) (v : Fraction) (l : Leaf) → Option (IsNoBetterLeaf sense v l)
 test_no_better sense v l =
@@ -219,7 +230,8 @@ test_endless names l =
     (λ c e. so (λ h. record { certificate = c; here = e; status = h.0; whole = h.1 })
     (both (test_status c.status unbounded) (test_whole names c.plan)))
 
-abbrev test_leaf : (P : Leaf → Type 0) → ((l : Leaf) → Option (P l)) → (ls : List Leaf) (i : ℕ) → Option (HasLeaf P ls i)
+abbrev test_leaf : (P : Leaf → Type 0) → ((l : Leaf) → Option (P l)) → (ls : List Leaf) (i : ℕ)
+    → Option (HasLeaf P ls i)
 test_leaf P test [] i = None
 test_leaf P test (l ∷ ls) zero = None
 test_leaf P test (l ∷ ls) (suc zero) = test l
@@ -239,7 +251,8 @@ module _ (m : RobustModel) (names : List ℕ) (t : Tree) where
       so (λ h. record { proved = h.0; shows = h.1 })
       (both (test_each IsProved test_proved (leaves m t.root)) (test_shows t.status))
 
-  abbrev with_all : (b : Bool) → are_bounded m.variables names ≡ b → Option (IsModel m) → Option (BranchesOn names t.root) →
+  abbrev with_all : (b : Bool) → are_bounded m.variables names ≡ b → Option (IsModel m)
+      → Option (BranchesOn names t.root) →
       Option (ProvesTree m names t) → Option (HasWholeStatus m names t.status t.value)
   with_all false e model on h = None
   with_all true e None on h = None

@@ -58,7 +58,8 @@ order_7 =
     (item 0 1ℚ (int 8 ∷ []) ∷ item 2 1ℚ (int 8 ∷ []) ∷ [])
 
 abbrev whole_orders : Tree
-whole_orders = record { status = optimal; value = int 7; best = 2; root = split 0 (pos 6) (leaf not_below_6) (leaf order_7) }
+whole_orders =
+    record { status = optimal; value = int 7; best = 2; root = split 0 (pos 6) (leaf not_below_6) (leaf order_7) }
 
 whole_orders_cost_7 : IsWholeOptimal half_a_demand (0 ∷ []) (int 7)
 unfolding ratio
@@ -78,8 +79,16 @@ whole_orders_grow =
         (
           record { count = 1; best = None; endless = None },
           (
-            record { going = refl; proves = found (test_proves (box_below half_a_demand 0 (pos 6)) not_below_6) tt; decides = refl },
-            record { going = refl; proves = found (test_proves (box_above half_a_demand 0 (pos 6)) order_7) tt; decides = refl },
+            record {
+              going = refl;
+              proves = found (test_proves (box_below half_a_demand 0 (pos 6)) not_below_6) tt;
+              decides = refl;
+            },
+            record {
+              going = refl;
+              proves = found (test_proves (box_above half_a_demand 0 (pos 6)) order_7) tt;
+              decides = refl;
+            },
           ),
         ),
       );
@@ -100,14 +109,32 @@ unfolding ratio
 seven_isnt_six =
     record {
       before =
-          record { number = 1; fault = proof; leaf = below_leaf } ∷ record { number = 1; fault = status; leaf = below_leaf }
-          ∷ record { number = 1; fault = value; leaf = below_leaf } ∷ record { number = 2; fault = proof; leaf = above_leaf }
-          ∷ record { number = 2; fault = status; leaf = above_leaf } ∷ record { number = 2; fault = value; leaf = above_leaf } ∷ [];
+          record { number = 1; fault = proof; leaf = below_leaf } ∷ record {
+            number = 1;
+            fault = status;
+            leaf = below_leaf;
+          }
+          ∷ record { number = 1; fault = value; leaf = below_leaf } ∷ record {
+            number = 2;
+            fault = proof;
+            leaf = above_leaf;
+          }
+          ∷ record { number = 2; fault = status; leaf = above_leaf } ∷ record {
+            number = 2;
+            fault = value;
+            leaf = above_leaf;
+          } ∷ [];
       after = record { number = 2; fault = whole; leaf = above_leaf } ∷ [];
       stands = refl;
       hold = (
         found (test_proved below_leaf) tt,
-        (inl refl, (λ e. cc, (found (test_proved above_leaf) tt, (inr refl, (λ e. found (test_le (int 6) (int 7)) tt, tt))))),
+        (
+          inl refl,
+          (
+            λ e. cc,
+            (found (test_proved above_leaf) tt, (inr refl, (λ e. found (test_le (int 6) (int 7)) tt, tt))),
+          ),
+        ),
       );
       fails = λ h. other (ap value_of (same h.1.0) ∙ h.1.1.1);
     }
@@ -153,12 +180,14 @@ eleven_numbers : product_of_ranges half_a_demand.variables (0 ∷ []) ≡ 11
 unfolding ratio
 eleven_numbers = refl
 
-a_bound_is_lacking : whole_rule (record an_odd_demand { variables = var (codes "x") (Some 0ℚ) None ∷ [] }) (0 ∷ []) ≡ Some 62
+a_bound_is_lacking : whole_rule (record an_odd_demand { variables = var (codes "x") (Some 0ℚ) None ∷ [] }) (0 ∷ [])
+    ≡ Some 62
 unfolding ratio
 a_bound_is_lacking = refl
 
 the_range_is_over_1000 :
-    whole_rule (record an_odd_demand { variables = var (codes "x") (Some 0ℚ) (Some (int 1000)) ∷ [] }) (0 ∷ []) ≡ Some 63
+    whole_rule (record an_odd_demand { variables = var (codes "x") (Some 0ℚ) (Some (int 1000)) ∷ [] }) (0 ∷ [])
+    ≡ Some 63
 unfolding ratio
 the_range_is_over_1000 = refl
 
@@ -222,13 +251,25 @@ first_of_two_grows =
       grows = (
         (
           nothing_at (over 1 2),
-          record { going = refl; proves = found (test_proves nothing_to_pay (nothing_at (over 1 2))) tt; decides = refl },
+          record {
+            going = refl;
+            proves = found (test_proves nothing_to_pay (nothing_at (over 1 2))) tt;
+            decides = refl;
+          },
         ),
         (
           record { count = 1; best = Some record { number = 1; value = 0ℚ }; endless = None },
           (
-            record { going = refl; proves = found (test_proves (box_below nothing_to_pay 0 (pos 0)) (nothing_at 0ℚ)) tt; decides = refl },
-            record { going = refl; proves = found (test_proves (box_above nothing_to_pay 0 (pos 0)) (nothing_at 1ℚ)) tt; decides = refl },
+            record {
+              going = refl;
+              proves = found (test_proves (box_below nothing_to_pay 0 (pos 0)) (nothing_at 0ℚ)) tt;
+              decides = refl;
+            },
+            record {
+              going = refl;
+              proves = found (test_proves (box_above nothing_to_pay 0 (pos 0)) (nothing_at 1ℚ)) tt;
+              decides = refl;
+            },
           ),
         ),
       );
@@ -272,12 +313,20 @@ half_open_grows =
       grows = (
         (
           gain_from (over 1 2),
-          record { going = refl; proves = found (test_proves a_gain_without_end (gain_from (over 1 2))) tt; decides = refl },
+          record {
+            going = refl;
+            proves = found (test_proves a_gain_without_end (gain_from (over 1 2))) tt;
+            decides = refl;
+          },
         ),
         (
           record { count = 1; best = None; endless = Some 1 },
           (
-            record { going = refl; proves = found (test_proves (box_below a_gain_without_end 0 (pos 0)) (gain_from 0ℚ)) tt; decides = refl },
+            record {
+              going = refl;
+              proves = found (test_proves (box_below a_gain_without_end 0 (pos 0)) (gain_from 0ℚ)) tt;
+              decides = refl;
+            },
             ((1, refl), refl),
           ),
         ),

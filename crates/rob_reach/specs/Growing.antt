@@ -80,8 +80,8 @@ outcome names sense s c = outcome_by s c c.status (is_beaten sense s.best c.valu
 
 -- ---- which branches a certificate allows
 
--- a box may be branched on variable j at k: a certificate that proves for it is optimal or unbounded, and the variable is
--- named, and its number in the certificate's plan isn't whole and has k as its floor
+-- a box may be branched on variable j at k: a certificate that proves for it is optimal or unbounded, and the variable
+-- is named, and its number in the certificate's plan isn't whole and has k as its floor
 pub record AllowsBranch (m : RobustModel) (names : List ℕ) (c : Certificate) (j : ℕ) (k : ℤ) : Type 0 where
   pub proves : Proves m c
   pub planned : (c.status ≡ optimal) ⊎ (c.status ≡ unbounded)
@@ -110,8 +110,8 @@ pub record Decides (m : RobustModel) (names : List ℕ) (before : Search) (c : C
   pub proves : Proves m c
   pub decides : outcome names m.sense before c ≡ o
 
--- a box grows into a node, and the search goes from `before` to `after`: once the model is shown to be unbounded, boxes are
--- left open; else a certificate of the box says whether it is a leaf or is branched, and the box below grows first
+-- a box grows into a node, and the search goes from `before` to `after`: once the model is shown to be unbounded, boxes
+-- are left open; else a certificate of the box says whether it is a leaf or is branched, and the box below grows first
 abbrev pub Grows : RobustModel → List ℕ → Search → Node → Search → Type 0
 Grows m names before (leaf c) after = Decides m names before c (ends after)
 Grows m names before (split j k below above) after =

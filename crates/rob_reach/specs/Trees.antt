@@ -10,14 +10,15 @@ use Rattle.rob_meaning.specs.RobustModel.{RobustModel, Sense}
 use Rattle.rob_reach.specs.Boxes.{box_below, box_above}
 use Rattle.rob_reach.specs.WholeStatus.{IsWholeOn}
 
--- a node: a leaf with a certificate of its box; a branch at k on a variable, with the nodes of its two boxes; or a leaf that
--- is left open
+-- a node: a leaf with a certificate of its box; a branch at k on a variable,
+-- with the nodes of its two boxes; or a leaf that is left open
 pub data Node : Type 0 where
   leaf : Certificate → Node
   split : (variable : ℕ) (k : ℤ) (below above : Node) → Node
   left_open : Node
 
--- a tree: the status that it claims, with its value where that is optimal; the number of the leaf that shows it; its root
+-- a tree: the status that it claims, with its value where that is optimal; the
+-- number of the leaf that shows it; its root
 pub record Tree : Type 0 where
   pub status : Status
   pub value : Fraction
@@ -105,7 +106,8 @@ pub record IsEndlessLeaf (names : List ℕ) (l : Leaf) : Type 0 where
 -- what is to be shown for a status
 abbrev pub ShowsStatus : Status → RobustModel → List ℕ → Tree → Type 0
 ShowsStatus optimal m names t =
-    Each (IsNoBetterLeaf m.sense t.value) (leaves m t.root) × HasLeaf (IsBestLeaf names t.value) (leaves m t.root) t.best
+    Each (IsNoBetterLeaf m.sense t.value) (leaves m t.root)
+    × HasLeaf (IsBestLeaf names t.value) (leaves m t.root) t.best
 ShowsStatus infeasible m names t = Each IsInfeasibleLeaf (leaves m t.root)
 ShowsStatus unbounded m names t = HasLeaf (IsEndlessLeaf names) (leaves m t.root) t.best
 

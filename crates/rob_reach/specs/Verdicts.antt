@@ -1,4 +1,5 @@
--- The check of a tree as a list of conditions, in the order in which they are judged: the first that fails is the verdict.
+-- The check of a tree as a list of conditions, in the order in which they are
+-- judged: the first that fails is the verdict.
 use Rattle.std.specs.Prelude.{◌≡◌, ◌<◌, ◌≤◌, ℕ, zero, suc, List, [], ◌∷◌, ◌++◌, Option, Some, None, IfSome, ◌⊎◌}
 use Rattle.rob_algebra.specs.Fraction.{Fraction}
 use Rattle.rob_meaning.specs.Certificates.{Certificate, Status, optimal, infeasible, unbounded}
@@ -37,7 +38,8 @@ pub record IsTree (names : List ℕ) (t : Tree) : Type 0 where
 
 -- ---- the conditions
 
--- what of a leaf can fail: its proof, its status, its value; and of the leaf that shows the status, what it shows, and its plan
+-- what of a leaf can fail: its proof, its status, its value; and of the leaf
+-- that shows the status, what it shows, and its plan
 pub data LeafFault : Type 0 where
   proof status value best whole : LeafFault
 
@@ -96,7 +98,8 @@ Shows optimal v c = (c.status ≡ optimal) × (c.value ≡ v)
 Shows infeasible v c = Unit {0}
 Shows unbounded v c = c.status ≡ unbounded
 
--- what of a leaf holds, for a tree that claims a status and a value; of an open leaf nothing is asked, but it shows nothing
+-- what of a leaf holds, for a tree that claims a status and a value; of an open
+-- leaf nothing is asked, but it shows nothing
 abbrev pub HoldsOf : LeafFault → Sense → List ℕ → Status → Fraction → Leaf → Type 0
 HoldsOf proof sense names claimed v l = IsProved l
 HoldsOf status sense names claimed v l = IfSome l.certificate (λ c. MayBe claimed c.status)

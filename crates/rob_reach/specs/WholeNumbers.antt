@@ -26,6 +26,7 @@ at_least_1 (pos zero) = 1
 at_least_1 (pos (suc n)) = suc n
 at_least_1 (negsuc n) = 1
 
--- how many whole numbers there are from the floor of the lower bound to the ceiling of the upper one, or 1 where that is less
+-- how many whole numbers there are from the floor of the lower bound to the
+-- ceiling of the upper one, or 1 where that is less
 abbrev pub range : Fraction → Fraction → ℕ
 range lower upper = at_least_1 (ceiling upper -ℤ floor lower +ℤ pos 1)
