@@ -175,8 +175,8 @@ impl<const B: u32> Frac<B> {
         }
     }
 
-    /// The whole number as one counted operation, with no search for a common divisor. `Wide` comes exactly where it is over
-    /// the limit in size.
+    /// The whole number as one counted operation, with no search for a common divisor. `Wide` comes exactly where it
+    /// is over the limit in size.
     pub fn from_whole<L: Ledger>(num: i128, ledger: &mut L) -> Result<Self, Wide>
         ensures exact { answer value_of result ≡ kept (limit_of B) (of_int num) }
         ensures counted { CountsOne L.ops L.wides ledger.old ledger.new result }

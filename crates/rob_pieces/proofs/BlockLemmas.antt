@@ -13,7 +13,8 @@ take_left (x ∷ xs) ys = ap (λ l. x ∷ l) (take_left xs ys)
 module _ {A : Type 0} (P : A → Type 0) where
   pub each_tabulate : (n : ℕ) (f : ℕ → A) → ((i : ℕ) → i < n → P (f i)) → Each P (tabulate n f)
   each_tabulate zero f h = tt
-  each_tabulate (suc n) f h = (h zero (omega arith), each_tabulate n (λ i. f (suc i)) (λ i some. h (suc i) (omega arith)))
+  each_tabulate (suc n) f h =
+      (h zero (omega arith), each_tabulate n (λ i. f (suc i)) (λ i some. h (suc i) (omega arith)))
 
   pub tabulate_each : (n : ℕ) (f : ℕ → A) → Each P (tabulate n f) → (i : ℕ) → i < n → P (f i)
   tabulate_each zero f h i some = absurd (omega arith)
@@ -63,16 +64,20 @@ module _ {A : Type 0} where
     as_from labels k [] e h = tt
     as_from [] k (x ∷ xs) e h =
         (subst (λ l. P l x) (sym (first_of all [] k e)) h.0, as_from [] (suc k) xs (none_of all k e) h.1)
-    as_from (l ∷ labels) k (x ∷ xs) e h =
-        (subst (λ l. P l x) (sym (first_of all (l ∷ labels) k e)) h.0, as_from labels (suc k) xs (next_of all labels l k e) h.1)
+    as_from (l ∷ labels) k (x ∷ xs) e h = (
+      subst (λ l. P l x) (sym (first_of all (l ∷ labels) k e)) h.0,
+      as_from labels (suc k) xs (next_of all labels l k e) h.1,
+    )
 
     pub from_as : (labels : List ℕ) (k : ℕ) (xs : List A) → IsFrom all k labels →
         EachFrom k (λ i x. P (get_or all i 0) x) xs → EachAs P labels xs
     from_as labels k [] e h = tt
     from_as [] k (x ∷ xs) e h =
         (subst (λ l. P l x) (first_of all [] k e) h.0, from_as [] (suc k) xs (none_of all k e) h.1)
-    from_as (l ∷ labels) k (x ∷ xs) e h =
-        (subst (λ l. P l x) (first_of all (l ∷ labels) k e) h.0, from_as labels (suc k) xs (next_of all labels l k e) h.1)
+    from_as (l ∷ labels) k (x ∷ xs) e h = (
+      subst (λ l. P l x) (first_of all (l ∷ labels) k e) h.0,
+      from_as labels (suc k) xs (next_of all labels l k e) h.1,
+    )
 
   module _ (P : ℕ → A → Type 0) where
     as_append : (c : ℕ) (labels : List ℕ) (xs ys : List A) → Each (P c) xs → EachAs P labels ys →
@@ -80,11 +85,13 @@ module _ {A : Type 0} where
     as_append c labels [] ys h k = k
     as_append c labels (x ∷ xs) ys h k = (h.0, as_append c labels xs ys h.1 k)
 
-    as_left : (c : ℕ) (labels : List ℕ) (xs ys : List A) → EachAs P (map (λ x. c) xs ++ labels) (xs ++ ys) → Each (P c) xs
+    as_left : (c : ℕ) (labels : List ℕ) (xs ys : List A)
+        → EachAs P (map (λ x. c) xs ++ labels) (xs ++ ys) → Each (P c) xs
     as_left c labels [] ys h = tt
     as_left c labels (x ∷ xs) ys h = (h.0, as_left c labels xs ys h.1)
 
-    as_right : (c : ℕ) (labels : List ℕ) (xs ys : List A) → EachAs P (map (λ x. c) xs ++ labels) (xs ++ ys) → EachAs P labels ys
+    as_right : (c : ℕ) (labels : List ℕ) (xs ys : List A)
+        → EachAs P (map (λ x. c) xs ++ labels) (xs ++ ys) → EachAs P labels ys
     as_right c labels [] ys h = h
     as_right c labels (x ∷ xs) ys h = as_right c labels xs ys h.1
 
@@ -115,12 +122,14 @@ module _ {A : Type 0} where
           Each (λ c. Each (P c) (f c)) cs
       cells_by cs h =
           blocks_as cs
-          (from_as P (flat_map (λ c. map (λ x. c) (f c)) cs) (flat_map (λ c. map (λ x. c) (f c)) cs) zero (flat_map f cs)
+          (from_as P (flat_map (λ c. map (λ x. c) (f c)) cs)
+          (flat_map (λ c. map (λ x. c) (f c)) cs) zero (flat_map f cs)
           (from_zero (flat_map (λ c. map (λ x. c) (f c)) cs)) h)
 
 -- ---- over mapped lists
 module _ {A B : Type 0} (f : A → B) where
-  pub each_mapped : (P : A → Type 0) (Q : B → Type 0) → ((x : A) → P x → Q (f x)) → (xs : List A) → Each P xs → Each Q (map f xs)
+  pub each_mapped : (P : A → Type 0) (Q : B → Type 0) → ((x : A) → P x → Q (f x)) → (xs : List A)
+      → Each P xs → Each Q (map f xs)
   each_mapped P Q h [] e = tt
   each_mapped P Q h (x ∷ xs) e = (h x e.0, each_mapped P Q h xs e.1)
 
@@ -129,7 +138,8 @@ module _ {A B : Type 0} (f : A → B) where
   mapped_each P R Q h [] e d = tt
   mapped_each P R Q h (x ∷ xs) e d = (h x e.0 d.0, mapped_each P R Q h xs e.1 d.1)
 
-  pub each_mapped_both : (P R : A → Type 0) (Q : B → Type 0) → ((x : A) → P x → R x → Q (f x)) → (xs : List A) → Each P xs →
+  pub each_mapped_both : (P R : A → Type 0) (Q : B → Type 0) → ((x : A) → P x → R x → Q (f x))
+      → (xs : List A) → Each P xs →
       Each R xs → Each Q (map f xs)
   each_mapped_both P R Q h [] e d = tt
   each_mapped_both P R Q h (x ∷ xs) e d = (h x e.0 d.0, each_mapped_both P R Q h xs e.1 d.1)

@@ -27,7 +27,8 @@ choose (cut ∷ cuts) u h =
     let side = side_of cut u in
     let rest = choose cuts u (h * 2 + side.0) in
     let p = pow-suc 2 (length cuts) in
-    let split : h * 2 ^ suc (length cuts) + (side.0 * 2 ^ length cuts + rest.0) ≡ (h * 2 + side.0) * 2 ^ length cuts + rest.0 =
+    let split : h * 2 ^ suc (length cuts) + (side.0 * 2 ^ length cuts + rest.0)
+    ≡ (h * 2 + side.0) * 2 ^ length cuts + rest.0 =
     omega (
       arith,
       pow-suc 2 (length cuts),
@@ -58,6 +59,7 @@ some_cell cuts u =
       suc chosen.0,
       (
         (omega arith, (let h = chosen.1.0 in omega arith)),
-        subst (λ n. CellHolds cuts (suc n) u) (let e : 0 * 2 ^ length cuts + chosen.0 ≡ chosen.0 = omega (arith, zero-mul (2 ^ length cuts)) in e) chosen.1.1,
+        subst (λ n. CellHolds cuts (suc n) u) (let e : 0 * 2 ^ length cuts + chosen.0 ≡ chosen.0 =
+            omega (arith, zero-mul (2 ^ length cuts)) in e) chosen.1.1,
       ),
     )

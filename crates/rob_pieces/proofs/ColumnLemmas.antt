@@ -17,14 +17,16 @@ pub column_shift : (b k : ℕ) (ys : List AdaptiveVariable) (y : ℕ) → column
 column_shift b k [] y = refl
 column_shift b k (first ∷ rest) zero = refl
 column_shift b k (first ∷ rest) (suc y) =
-    ap (λ n. column_from n rest y) (let e : suc (b + k) + length first.on ≡ b + (suc k + length first.on) = omega arith in e)
+    ap (λ n. column_from n rest y)
+    (let e : suc (b + k) + length first.on ≡ b + (suc k + length first.on) = omega arith in e)
     ∙ column_shift b (suc k + length first.on) rest y
 
 pub column_base : (b : ℕ) (ys : List AdaptiveVariable) (y : ℕ) → column_from b ys y ≡ b + column_from 0 ys y
 column_base b ys y = ap (λ n. column_from n ys y) (let e : b ≡ b + 0 = omega arith in e) ∙ column_shift b 0 ys y
 
 -- columns before those of what comes behind
-column_left : (b : ℕ) (xs ys : List AdaptiveVariable) (y : ℕ) → y < length xs → column_from b (xs ++ ys) y ≡ column_from b xs y
+column_left : (b : ℕ) (xs ys : List AdaptiveVariable) (y : ℕ) → y < length xs
+    → column_from b (xs ++ ys) y ≡ column_from b xs y
 column_left b [] ys y h = absurd (omega arith)
 column_left b (x ∷ xs) ys zero h = refl
 column_left b (x ∷ xs) ys (suc y) h = column_left (suc b + length x.on) xs ys y (omega arith)
@@ -49,7 +51,8 @@ list_right (x ∷ xs) ys y =
 
 -- ---- copies
 module _ (m : RobustModel) where
-  column_copies : (c b : ℕ) (ys : List AdaptiveVariable) (y : ℕ) → column_from b (map (copy_in m c) ys) y ≡ column_from b ys y
+  column_copies : (c b : ℕ) (ys : List AdaptiveVariable) (y : ℕ)
+      → column_from b (map (copy_in m c) ys) y ≡ column_from b ys y
   column_copies c b [] y = refl
   column_copies c b (first ∷ rest) zero = refl
   column_copies c b (first ∷ rest) (suc y) = column_copies c (suc b + length first.on) rest y
@@ -91,11 +94,14 @@ module _ (m : RobustModel) where
     column_blocks (suc n) g b (suc i) y small some =
         ap (λ j. column_from b (flat_map copies (tabulate (suc n) g)) j)
         (let l = length-map ys (copy_in m (g zero)) in
-        let e : suc i * length ys + y ≡ length (copies (g zero)) + (i * length ys + y) = omega (arith, suc-mul i (length ys)) in e)
+        let e : suc i * length ys + y ≡ length (copies (g zero)) + (i * length ys + y) =
+        omega (arith, suc-mul i (length ys)) in e)
         ∙ column_right b (copies (g zero)) (flat_map copies (tabulate n (λ k. g (suc k)))) (i * length ys + y)
-        ∙ ap (λ k. column_from k (flat_map copies (tabulate n (λ k. g (suc k)))) (i * length ys + y)) (copies_end (g zero) b)
+        ∙ ap (λ k. column_from k (flat_map copies (tabulate n (λ k. g (suc k)))) (i * length ys + y))
+        (copies_end (g zero) b)
         ∙ column_blocks n (λ k. g (suc k)) (b + width) i y (omega arith) some
-        ∙ (let e : (b + width) + i * width + column_from 0 ys y ≡ b + suc i * width + column_from 0 ys y = omega (arith, suc-mul i width) in e)
+        ∙ (let e : (b + width) + i * width + column_from 0 ys y ≡ b + suc i * width + column_from 0 ys y =
+        omega (arith, suc-mul i width) in e)
 
     pub list_blocks : (n : ℕ) (g : ℕ → ℕ) (i y : ℕ) → i < n → y < length ys →
         list_in (flat_map copies (tabulate n g)) (i * length ys + y) ≡ list_in ys y
@@ -109,7 +115,8 @@ module _ (m : RobustModel) where
     list_blocks (suc n) g (suc i) y small some =
         ap (λ j. list_in (flat_map copies (tabulate (suc n) g)) j)
         (let l = length-map ys (copy_in m (g zero)) in
-        let e : suc i * length ys + y ≡ length (copies (g zero)) + (i * length ys + y) = omega (arith, suc-mul i (length ys)) in e)
+        let e : suc i * length ys + y ≡ length (copies (g zero)) + (i * length ys + y) =
+        omega (arith, suc-mul i (length ys)) in e)
         ∙ list_right (copies (g zero)) (flat_map copies (tabulate n (λ k. g (suc k)))) (i * length ys + y)
         ∙ list_blocks n (λ k. g (suc k)) i y (omega arith) some
 
@@ -121,7 +128,8 @@ module _ (m : RobustModel) where
         (length-append (copies (g zero)) (flat_map copies (tabulate n (λ k. g (suc k)))))
         ∙ column_right b (copies (g zero)) (flat_map copies (tabulate n (λ k. g (suc k))))
         (length (flat_map copies (tabulate n (λ k. g (suc k)))))
-        ∙ ap (λ k. column_from k (flat_map copies (tabulate n (λ k. g (suc k)))) (length (flat_map copies (tabulate n (λ k. g (suc k))))))
+        ∙ ap (λ k. column_from k (flat_map copies (tabulate n (λ k. g (suc k))))
+        (length (flat_map copies (tabulate n (λ k. g (suc k))))))
         (copies_end (g zero) b)
         ∙ blocks_end n (λ k. g (suc k)) (b + width)
         ∙ (let e : (b + width) + n * width ≡ b + suc n * width = omega (arith, suc-mul n width) in e)
@@ -140,14 +148,17 @@ module _ (m : RobustModel) (cuts : List Cut) where
   pub parameters_count : length split.parameters ≡ suc (cell_count cuts) * length m.parameters
   parameters_count =
       length-append m.parameters (flat_map (λ set. map (in_set set) m.parameters) (cell_names cuts))
-      ∙ ap (λ n. length m.parameters + n) (length-later m.parameters (cell_names cuts) ∙ ap (λ l. l * length m.parameters) length-names)
-      ∙ (let e : length m.parameters + cell_count cuts * length m.parameters ≡ suc (cell_count cuts) * length m.parameters
+      ∙ ap (λ n. length m.parameters + n)
+      (length-later m.parameters (cell_names cuts) ∙ ap (λ l. l * length m.parameters) length-names)
+      ∙ (let e : length m.parameters + cell_count cuts * length m.parameters
+      ≡ suc (cell_count cuts) * length m.parameters
       = omega (arith, suc-mul (cell_count cuts) (length m.parameters)) in e)
 
   pub written_split : written_count split ≡ length m.parameters
   written_split =
       ap₂ ◌/◌
-      (parameters_count ∙ (let e : suc (cell_count cuts) * length m.parameters ≡ length m.parameters * suc (cell_count cuts) + 0
+      (parameters_count
+      ∙ (let e : suc (cell_count cuts) * length m.parameters ≡ length m.parameters * suc (cell_count cuts) + 0
       = omega (arith, mul_comm (suc (cell_count cuts)) (length m.parameters)) in e))
       sets_count
       ∙ div-mul-add (length m.parameters) (suc (cell_count cuts)) 0 (omega arith)
@@ -158,7 +169,8 @@ module _ (m : RobustModel) (cuts : List Cut) where
       ∙ take_left m.parameters (flat_map (λ set. map (in_set set) m.parameters) (cell_names cuts))
 
   pub variables_count : length split.variables ≡ suc (length m.variables)
-  variables_count = length-append m.variables _ ∙ (let e : length m.variables + 1 ≡ suc (length m.variables) = omega arith in e)
+  variables_count =
+      length-append m.variables _ ∙ (let e : length m.variables + 1 ≡ suc (length m.variables) = omega arith in e)
 
   pub adaptives_count : length split.adaptives ≡ cell_count cuts * length m.adaptives
   adaptives_count = length-blocks m m.adaptives (cell_count cuts) suc
@@ -176,7 +188,8 @@ module _ (m : RobustModel) (cuts : List Cut) where
         by zero p q = absurd (omega arith)
         by (suc c) p q = omega arith
 
-    pub column_in_cell : column_of split (rule_in m c y) ≡ suc (length m.variables) + pred c * policy_columns m + column_from 0 m.adaptives y
+    pub column_in_cell : column_of split (rule_in m c y)
+        ≡ suc (length m.variables) + pred c * policy_columns m + column_from 0 m.adaptives y
     column_in_cell =
         column_blocks m m.adaptives (cell_count cuts) suc (length split.variables) (pred c) y below some
         ∙ ap (λ b. b + pred c * policy_columns m + column_from 0 m.adaptives y) variables_count

@@ -23,7 +23,8 @@ module _ (m : RobustModel) (c : ℕ) (P : Row → Type 0) where
   declared_rows f (Some x) h = (h x, tt)
 
   pub each_bound_row : (k : ℕ) (ys : List AdaptiveVariable) →
-      ((name : Name) (j : ℕ) (relation : Relation) (bound : Fraction) → j < k + length ys → P (bound_row m c name j relation bound)) →
+      ((name : Name) (j : ℕ) (relation : Relation) (bound : Fraction) → j < k + length ys
+      → P (bound_row m c name j relation bound)) →
       Each P (bound_rows m c k ys)
   each_bound_row k [] h = tt
   each_bound_row k (y ∷ ys) h =
@@ -42,12 +43,16 @@ module _ (m : RobustModel) (model : IsModel m) (alone : m.sets ≡ []) (cuts : L
   module _ (c : ℕ) (cell : IsCell cuts c) where
     -- ---- statements
     side_set : (cut : Cut) (b : ℕ) → cut.parameter < length m.parameters → IsSetLine s (side_line m c cut b)
-    side_set cut zero h = (parameter_side m alone cuts c cell cut.parameter h, number_side m alone cuts c cell cut.level)
-    side_set cut (suc b) h = (parameter_side m alone cuts c cell cut.parameter h, number_side m alone cuts c cell cut.level)
+    side_set cut zero h =
+        (parameter_side m alone cuts c cell cut.parameter h, number_side m alone cuts c cell cut.level)
+    side_set cut (suc b) h =
+        (parameter_side m alone cuts c cell cut.parameter h, number_side m alone cuts c cell cut.level)
 
     side_own : (cut : Cut) (b : ℕ) → cut.parameter < length m.parameters → IsLineOf s c (side_line m c cut b)
-    side_own cut zero h = (own_parameter_side m alone cuts c cell cut.parameter h, own_number_side m alone cuts c cell cut.level)
-    side_own cut (suc b) h = (own_parameter_side m alone cuts c cell cut.parameter h, own_number_side m alone cuts c cell cut.level)
+    side_own cut zero h =
+        (own_parameter_side m alone cuts c cell cut.parameter h, own_number_side m alone cuts c cell cut.level)
+    side_own cut (suc b) h =
+        (own_parameter_side m alone cuts c cell cut.parameter h, own_number_side m alone cuts c cell cut.level)
 
     sides_set : (cs : List Cut) → AreCuts m cs → Each (IsSetLine s) (side_lines m c cs)
     sides_set [] h = tt
@@ -60,13 +65,15 @@ module _ (m : RobustModel) (model : IsModel m) (alone : m.sets ≡ []) (cuts : L
     lines_set : Each (IsSetLine s) (cell_lines m c cuts)
     lines_set =
         each_append (IsSetLine s) (map (line_over m c) m.set_lines) (side_lines m c cuts)
-        (each_mapped (line_over m c) (IsSetLine m) (IsSetLine s) (set_line_over m alone cuts c cell) m.set_lines model.set_lines)
+        (each_mapped (line_over m c) (IsSetLine m) (IsSetLine s) (set_line_over m alone cuts c cell)
+        m.set_lines model.set_lines)
         (sides_set cuts are)
 
     lines_own : Each (IsLineOf s c) (cell_lines m c cuts)
     lines_own =
         each_append (IsLineOf s c) (map (line_over m c) m.set_lines) (side_lines m c cuts)
-        (each_mapped (line_over m c) (IsSetLine m) (IsLineOf s c) (own_line_over m alone cuts c cell) m.set_lines model.set_lines)
+        (each_mapped (line_over m c) (IsSetLine m) (IsLineOf s c) (own_line_over m alone cuts c cell)
+        m.set_lines model.set_lines)
         (sides_own cuts are)
 
     -- ---- rows
@@ -84,7 +91,8 @@ module _ (m : RobustModel) (model : IsModel m) (alone : m.sets ≡ []) (cuts : L
       (worst_is, expression_over m alone cuts c cell m.objective model.objective),
       each_append RowFormed (map (row_over m c) m.rows) (bound_rows m c 0 m.adaptives)
           (each_mapped (row_over m c) (λ (r : Row). IsExpression m r.left × IsExpression m r.right) RowFormed
-          (λ r h. (expression_over m alone cuts c cell r.left h.0, expression_over m alone cuts c cell r.right h.1)) m.rows model.rows)
+          (λ r h. (expression_over m alone cuts c cell r.left h.0, expression_over m alone cuts c cell r.right h.1))
+          m.rows model.rows)
           (each_bound_row m c RowFormed 0 m.adaptives
           (λ name j relation bound small. (
             expression_over m alone cuts c cell (adaptive j) (let e : j < length m.adaptives = omega arith in e, tt),
@@ -97,8 +105,10 @@ module _ (m : RobustModel) (model : IsModel m) (alone : m.sets ≡ []) (cuts : L
       (tt, own_over m alone cuts c cell m.objective model.objective.0),
       each_append RowOwn (map (row_over m c) m.rows) (bound_rows m c 0 m.adaptives)
           (each_mapped (row_over m c) (λ (r : Row). IsExpression m r.left × IsExpression m r.right) RowOwn
-          (λ r h. (own_over m alone cuts c cell r.left h.0.0, own_over m alone cuts c cell r.right h.1.0)) m.rows model.rows)
-          (each_bound_row m c RowOwn 0 m.adaptives (λ name j relation bound small. (refl, own_number_side m alone cuts c cell bound))),
+          (λ r h. (own_over m alone cuts c cell r.left h.0.0, own_over m alone cuts c cell r.right h.1.0)) m.rows
+          model.rows)
+          (each_bound_row m c RowOwn 0 m.adaptives
+          (λ name j relation bound small. (refl, own_number_side m alone cuts c cell bound))),
     )
 
   pub split_is_model : IsModel s
@@ -108,8 +118,10 @@ module _ (m : RobustModel) (model : IsModel m) (alone : m.sets ≡ []) (cuts : L
         each_flat (IsSetLine s) (λ c. cell_lines m c cuts) (cell_numbers cuts)
         (each_cell cuts (λ c. Each (IsSetLine s) (cell_lines m c cuts)) lines_set);
     lists =
-        each_flat (λ (y : AdaptiveVariable). Each (λ k. k < written_count s) y.on) (λ c. map (copy_in m c) m.adaptives) (cell_numbers cuts)
-        (each_cell cuts (λ c. Each (λ (y : AdaptiveVariable). Each (λ k. k < written_count s) y.on) (map (copy_in m c) m.adaptives))
+        each_flat (λ (y : AdaptiveVariable). Each (λ k. k < written_count s) y.on)
+        (λ c. map (copy_in m c) m.adaptives) (cell_numbers cuts)
+        (each_cell cuts
+        (λ c. Each (λ (y : AdaptiveVariable). Each (λ k. k < written_count s) y.on) (map (copy_in m c) m.adaptives))
         (λ c cell.
         each_mapped (copy_in m c) (λ (y : AdaptiveVariable). Each (λ k. k < length m.parameters) y.on)
         (λ (y : AdaptiveVariable). Each (λ k. k < written_count s) y.on)
@@ -117,7 +129,8 @@ module _ (m : RobustModel) (model : IsModel m) (alone : m.sets ≡ []) (cuts : L
     objective = (subst (λ n. length m.variables < n) (sym (variables_count m cuts)) (omega arith), tt);
     rows =
         each_flat (λ (r : Row). IsExpression s r.left × IsExpression s r.right) (cell_rows m) (cell_numbers cuts)
-        (each_cell cuts (λ c. Each (λ (r : Row). IsExpression s r.left × IsExpression s r.right) (cell_rows m c)) rows_formed);
+        (each_cell cuts (λ c. Each (λ (r : Row). IsExpression s r.left × IsExpression s r.right) (cell_rows m c))
+        rows_formed);
     own_lines =
         by_cells (λ c (l : SetLine). (c < set_count s) × IsLineOf s c l) (λ c. cell_lines m c cuts) (cell_numbers cuts)
         (each_cell cuts (λ c. Each (λ (l : SetLine). (c < set_count s) × IsLineOf s c l) (cell_lines m c cuts))
@@ -125,8 +138,10 @@ module _ (m : RobustModel) (model : IsModel m) (alone : m.sets ≡ []) (cuts : L
         (λ l h. (is_set m alone cuts c cell, h)) (cell_lines m c cuts) (lines_own c cell)));
     own_objective = (omega arith, tt);
     own_rows =
-        by_cells (λ c (r : Row). (c < set_count s) × (IsOf s c r.left × IsOf s c r.right)) (cell_rows m) (cell_numbers cuts)
-        (each_cell cuts (λ c. Each (λ (r : Row). (c < set_count s) × (IsOf s c r.left × IsOf s c r.right)) (cell_rows m c))
+        by_cells (λ c (r : Row). (c < set_count s) × (IsOf s c r.left × IsOf s c r.right))
+        (cell_rows m) (cell_numbers cuts)
+        (each_cell cuts
+        (λ c. Each (λ (r : Row). (c < set_count s) × (IsOf s c r.left × IsOf s c r.right)) (cell_rows m c))
         (λ c cell. each_map (λ (r : Row). IsOf s c r.left × IsOf s c r.right)
         (λ (r : Row). (c < set_count s) × (IsOf s c r.left × IsOf s c r.right))
         (λ r h. (is_set m alone cuts c cell, h)) (cell_rows m c) (rows_own c cell)));

@@ -1,4 +1,5 @@
--- The declared names of a split model are plain and free where the model's are: what is new ends with the cell's number.
+-- The declared names of a split model are plain and free where the model's are: what is new ends with the cell's
+-- number.
 use Rattle.std.specs.Fmt.{decimal}
 use Rattle.std.specs.Prelude.{◌≡◌, ◌≢◌, ℕ, zero, suc, ◌^◌, ◌<◌, ◌≤◌, eqb, Bool, true, false, ◌&&◌, not, List, [], ◌∷◌, ◌++◌, length, map, refl, codes, Option, Some, None}
 use Rattle.std.proofs.Common.{sym, ◌∙◌, ap, subst, arith, pow_mono}
@@ -65,7 +66,8 @@ module _ (m : RobustModel) (alone : m.sets ≡ []) (cuts : List Cut) where
 
   same_written : written_names s ≡ written_names m
   same_written =
-      ap (λ (ps : List Parameter). map (λ (p : Parameter). p.name) ps) (written_parameters_split m cuts ∙ sym (all_taken m alone))
+      ap (λ (ps : List Parameter). map (λ (p : Parameter). p.name) ps)
+      (written_parameters_split m cuts ∙ sym (all_taken m alone))
 
   -- what the model's names keep and numbered names keep, all names of the split model keep
   module _ (P : Name → Type 0) (own : Each P (declared_names m))
@@ -82,41 +84,52 @@ module _ (m : RobustModel) (alone : m.sets ≡ []) (cuts : List Cut) where
       behind_rows : Each Q (variable_names m ++ adaptive_names m)
       behind_rows = each_right Q (row_names m) _ behind_sets
 
-    bound_names : (c k : ℕ) → IsCell cuts c → (ys : List AdaptiveVariable) → Each (λ (y : AdaptiveVariable). IsPlain y.name) ys →
+    bound_names : (c k : ℕ) → IsCell cuts c → (ys : List AdaptiveVariable)
+        → Each (λ (y : AdaptiveVariable). IsPlain y.name) ys →
         Each (λ (r : Row). P r.name) (bound_rows m c k ys)
     bound_names c k cell [] h = tt
     bound_names c k cell (y ∷ ys) h =
-        each_append (λ (r : Row). P r.name) _ _ (declared (codes "_lower") at_least y.lower (plain_word (codes "_lower") refl))
-        (each_append (λ (r : Row). P r.name) _ _ (declared (codes "_upper") at_most y.upper (plain_word (codes "_upper") refl))
+        each_append (λ (r : Row). P r.name) _ _
+        (declared (codes "_lower") at_least y.lower (plain_word (codes "_lower") refl))
+        (each_append (λ (r : Row). P r.name) _ _
+        (declared (codes "_upper") at_most y.upper (plain_word (codes "_upper") refl))
         (bound_names c (suc k) cell ys h.1))
       where
         declared : (end : Name) (relation : Relation) (o : Option Fraction) → IsPlain end →
             Each (λ (r : Row). P r.name) (if_declared (bound_row m c (y.name ++ end) k relation) o)
         declared end relation None e = tt
-        declared end relation (Some b) e = (made (y.name ++ end) c cell (each_append (λ byte. byte ≢ 46) y.name end h.0 e), tt)
+        declared end relation (Some b) e =
+            (made (y.name ++ end) c cell (each_append (λ byte. byte ≢ 46) y.name end h.0 e), tt)
 
     row_names_kept : (c : ℕ) → IsCell cuts c → Each (λ (r : Row). P r.name) (cell_rows m c)
     row_names_kept c cell = (
       made (codes "cost") c cell (plain_word (codes "cost") refl),
       each_append (λ (r : Row). P r.name) (map (row_over m c) m.rows) (bound_rows m c 0 m.adaptives)
-          (each_mapped (row_over m c) (λ (r : Row). IsPlain r.name) (λ (r : Row). P r.name) (λ r h. made r.name c cell h) m.rows
-          (of_names IsPlain (λ (r : Row). r.name) m.rows (each_left IsPlain (row_names m) _ (behind_sets IsPlain plain))))
+          (each_mapped (row_over m c) (λ (r : Row). IsPlain r.name) (λ (r : Row). P r.name)
+          (λ r h. made r.name c cell h) m.rows
+          (of_names IsPlain (λ (r : Row). r.name) m.rows
+          (each_left IsPlain (row_names m) _ (behind_sets IsPlain plain))))
           (bound_names c 0 cell m.adaptives
-          (of_names IsPlain (λ (y : AdaptiveVariable). y.name) m.adaptives (each_right IsPlain (variable_names m) _ (behind_rows IsPlain plain)))),
+          (of_names IsPlain (λ (y : AdaptiveVariable). y.name) m.adaptives
+          (each_right IsPlain (variable_names m) _ (behind_rows IsPlain plain)))),
     )
 
-    adaptive_names_kept : (c : ℕ) → IsCell cuts c → Each (λ (y : AdaptiveVariable). P y.name) (map (copy_in m c) m.adaptives)
+    adaptive_names_kept : (c : ℕ) → IsCell cuts c
+        → Each (λ (y : AdaptiveVariable). P y.name) (map (copy_in m c) m.adaptives)
     adaptive_names_kept c cell =
         each_mapped (copy_in m c) (λ (y : AdaptiveVariable). IsPlain y.name) (λ (y : AdaptiveVariable). P y.name)
         (λ y h. made y.name c cell h) m.adaptives
-        (of_names IsPlain (λ (y : AdaptiveVariable). y.name) m.adaptives (each_right IsPlain (variable_names m) _ (behind_rows IsPlain plain)))
+        (of_names IsPlain (λ (y : AdaptiveVariable). y.name) m.adaptives
+        (each_right IsPlain (variable_names m) _ (behind_rows IsPlain plain)))
 
     all_names : Each P (declared_names s)
     all_names =
-        each_append P (written_names s) _ (subst (λ (ns : List Name). Each P ns) (sym same_written) (each_left P (written_names m) _ own))
+        each_append P (written_names s) _
+        (subst (λ (ns : List Name). Each P ns) (sym same_written) (each_left P (written_names m) _ own))
         (each_append P (cell_names cuts) _
         (to_names P (numbered (codes "cell")) (cell_numbers cuts)
-        (each_cell cuts (λ c. P (numbered (codes "cell") c)) (λ c cell. made (codes "cell") c cell (plain_word (codes "cell") refl))))
+        (each_cell cuts (λ c. P (numbered (codes "cell") c))
+        (λ c cell. made (codes "cell") c cell (plain_word (codes "cell") refl))))
         (each_append P (row_names s) _
         (to_names P (λ (r : Row). r.name) s.rows
         (each_flat (λ (r : Row). P r.name) (cell_rows m) (cell_numbers cuts)
@@ -124,15 +137,18 @@ module _ (m : RobustModel) (alone : m.sets ≡ []) (cuts : List Cut) where
         (each_append P (variable_names s) (adaptive_names s)
         (to_names P (λ (x : Variable). x.name) s.variables
         (each_append (λ (x : Variable). P x.name) m.variables (cells_worst ∷ [])
-        (of_names P (λ (x : Variable). x.name) m.variables (each_left P (variable_names m) (adaptive_names m) (behind_rows P own)))
+        (of_names P (λ (x : Variable). x.name) m.variables
+        (each_left P (variable_names m) (adaptive_names m) (behind_rows P own)))
         (worst, tt)))
         (to_names P (λ (y : AdaptiveVariable). y.name) s.adaptives
         (each_flat (λ (y : AdaptiveVariable). P y.name) (λ c. map (copy_in m c) m.adaptives) (cell_numbers cuts)
-        (each_cell cuts (λ c. Each (λ (y : AdaptiveVariable). P y.name) (map (copy_in m c) m.adaptives)) adaptive_names_kept))))))
+        (each_cell cuts (λ c. Each (λ (y : AdaptiveVariable). P y.name) (map (copy_in m c) m.adaptives))
+        adaptive_names_kept))))))
 
   -- ---- members
   module _ (c : ℕ) where
-    numbers_apart : (h : Member) (hs : List Member) → Each (λ k. h.parameter ≢ k) (map (λ (b : Member). b.parameter) hs) →
+    numbers_apart : (h : Member) (hs : List Member)
+        → Each (λ k. h.parameter ≢ k) (map (λ (b : Member). b.parameter) hs) →
         Each (λ k. parameter_in m c h.parameter ≢ k) (map (λ (b : Member). b.parameter) (map (member_over m c) hs))
     numbers_apart h [] e = tt
     numbers_apart h (b ∷ hs) e = (λ same. e.0 (omega arith), numbers_apart h hs e.1)
@@ -169,7 +185,8 @@ module _ (m : RobustModel) (alone : m.sets ≡ []) (cuts : List Cut) where
         each_flat (λ (y : AdaptiveVariable). AreDistinct y.on) (λ c. map (copy_in m c) m.adaptives) (cell_numbers cuts)
         (each_cell cuts (λ c. Each (λ (y : AdaptiveVariable). AreDistinct y.on) (map (copy_in m c) m.adaptives))
         (λ c cell.
-        each_mapped (copy_in m c) (λ (y : AdaptiveVariable). AreDistinct y.on) (λ (y : AdaptiveVariable). AreDistinct y.on) (λ y h. h)
+        each_mapped (copy_in m c) (λ (y : AdaptiveVariable). AreDistinct y.on)
+        (λ (y : AdaptiveVariable). AreDistinct y.on) (λ y h. h)
         m.adaptives named.lists));
     members =
         each_flat HasDistinctMembers (λ c. cell_lines m c cuts) (cell_numbers cuts)
@@ -186,4 +203,5 @@ module _ (m : RobustModel) (alone : m.sets ≡ []) (cuts : List Cut) where
         where
           other : (word : Name) → is_unmarked word ≡ true → codes "cells_worst" ≢ word
           other word h e =
-              (each_right (λ b. b ≢ 95) (codes "cells") (codes "_worst") (subst IsUnmarked (sym e) (unmarked word h))).0 refl
+              (each_right (λ b. b ≢ 95) (codes "cells") (codes "_worst") (subst IsUnmarked (sym e) (unmarked word h))).0
+              refl

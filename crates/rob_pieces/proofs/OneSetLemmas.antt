@@ -38,7 +38,8 @@ module _ (m : RobustModel) (alone : m.sets ≡ []) where
 
     -- ---- rows
     pub rows_out : (P : Row → Type 0) (k : ℕ) (rs : List Row) →
-        EachFrom k (λ i r. (row_set m i < set_count m) × (IsOf m (row_set m i) r.left × IsOf m (row_set m i) r.right)) rs →
+        EachFrom k (λ i r. (row_set m i < set_count m)
+        × (IsOf m (row_set m i) r.left × IsOf m (row_set m i) r.right)) rs →
         EachFrom k (λ i r. row_set m i ≡ 0 → P r) rs → Each P rs
     rows_out P k [] own h = tt
     rows_out P k (r ∷ rs) own h = (h.0 (is_default (row_set m k) own.0.0), rows_out P (suc k) rs own.1 h.1)

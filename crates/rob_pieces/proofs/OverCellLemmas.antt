@@ -75,11 +75,13 @@ module _ (m : RobustModel) (alone : m.sets ≡ []) (cuts : List Cut) (c : ℕ) (
           ap (λ j. at all j)
           (ap (λ n. n + i) (column_in_cell m cuts c y cell some)
           ∙ (let a : suc (length m.variables) + pred c * policy_columns m + column_from 0 m.adaptives y + i
-          ≡ suc (length m.variables) + pred c * policy_columns m + (column_from 0 m.adaptives y + i) = omega arith in a))
+          ≡ suc (length m.variables) + pred c * policy_columns m + (column_from 0 m.adaptives y + i) = omega arith in
+          a))
           ∙ same.policies (column_from 0 m.adaptives y + i) (let room = column_room 0 m.adaptives y some in omega arith)
           ∙ ap (λ j. at plan j)
           (let base = column_base (length m.variables) m.adaptives y in
-          let a : length m.variables + (column_from 0 m.adaptives y + i) ≡ column_from (length m.variables) m.adaptives y + i = omega arith in a)
+          let a : length m.variables + (column_from 0 m.adaptives y + i)
+          ≡ column_from (length m.variables) m.adaptives y + i = omega arith in a)
 
       pub rule_over : (y : ℕ) → y < length m.adaptives → rule_value_in s all w c (rule_in m c y) ≡ rule_value m plan u y
       rule_over y some =
@@ -87,11 +89,13 @@ module _ (m : RobustModel) (alone : m.sets ≡ []) (cuts : List Cut) (c : ℕ) (
           (ap (λ j. at all j) (let a : column_of s (rule_in m c y) ≡ column_of s (rule_in m c y) + 0 = omega arith in a)
           ∙ rule_places y some 0 (omega arith)
           ∙ ap (λ j. at plan j) (let a : column_of m y + 0 ≡ column_of m y = omega arith in a))
-          (ap (λ (ks : List ℕ). rule_part s all w (map (joint_number s c) ks) (suc (column_of s (rule_in m c y)))) (list_in_cell m cuts c y cell some)
+          (ap (λ (ks : List ℕ). rule_part s all w (map (joint_number s c) ks) (suc (column_of s (rule_in m c y))))
+          (list_in_cell m cuts c y cell some)
           ∙ part_over (list_of m y) (suc (column_of s (rule_in m c y))) (suc (column_of m y))
           (list_each (λ k. k < length m.parameters) m.adaptives y lists)
           (λ i small.
-          ap (λ j. at all j) (let a : suc (column_of s (rule_in m c y)) + i ≡ column_of s (rule_in m c y) + suc i = omega arith in a)
+          ap (λ j. at all j)
+          (let a : suc (column_of s (rule_in m c y)) + i ≡ column_of s (rule_in m c y) + suc i = omega arith in a)
           ∙ rule_places y some (suc i) (omega arith)
           ∙ ap (λ j. at plan j) (let a : column_of m y + suc i ≡ suc (column_of m y) + i = omega arith in a)))
 
@@ -109,12 +113,14 @@ module _ (m : RobustModel) (alone : m.sets ≡ []) (cuts : List Cut) (c : ℕ) (
         terms_value no_terms h = refl
         terms_value (term negated e ts) h = ap₂ (λ x y. signed negated x +ℚ y) (value_over e h.0) (terms_value ts h.1)
 
-        factors_value : (fs : Factors) → FactorsInside m fs → product_value s all w (factors_over m c fs) ≡ product_value m plan u fs
+        factors_value : (fs : Factors) → FactorsInside m fs
+            → product_value s all w (factors_over m c fs) ≡ product_value m plan u fs
         factors_value no_factors h = refl
         factors_value (factor e fs) h = ap₂ ◌*ℚ◌ (value_over e h.0) (factors_value fs h.1)
 
     -- ---- statements
-    deviations_over : (hs : List Member) → Each (IsMember m) hs → total_deviation s w (map (member_over m c) hs) ≡ total_deviation m u hs
+    deviations_over : (hs : List Member) → Each (IsMember m) hs
+        → total_deviation s w (map (member_over m c) hs) ≡ total_deviation m u hs
     deviations_over [] h = refl
     deviations_over (b ∷ hs) h =
         ap₂ (λ x y. abs_ℚ (x -ℚ b.centre) /ℚ b.deviation +ℚ y) (reads b.parameter h.0.0) (deviations_over hs h.1)
@@ -221,7 +227,8 @@ module _ (m : RobustModel) (alone : m.sets ≡ []) (cuts : List Cut) (c : ℕ) (
     decision_terms no_terms = refl
     decision_terms (term negated e ts) = ap₂ max (decision_over e) (decision_terms ts)
 
-    decision_factors : (fs : Factors) → decision_degree s (product (factors_over m c fs)) ≡ decision_degree m (product fs)
+    decision_factors : (fs : Factors) → decision_degree s (product (factors_over m c fs))
+        ≡ decision_degree m (product fs)
     decision_factors no_factors = refl
     decision_factors (factor e fs) = ap₂ ◌+◌ (decision_over e) (decision_factors fs)
 

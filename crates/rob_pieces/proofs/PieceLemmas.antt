@@ -36,7 +36,8 @@ cost_in : (m : RobustModel) (c : ℕ) (sense : Sense) (worst cost : Fraction) �
 cost_in m c minimise worst cost h = h
 cost_in m c maximise worst cost h = h
 
-cost_out : (m : RobustModel) (c : ℕ) (sense : Sense) (worst cost : Fraction) → Relates (cost_relation m c sense) worst cost →
+cost_out : (m : RobustModel) (c : ℕ) (sense : Sense) (worst cost : Fraction)
+    → Relates (cost_relation m c sense) worst cost →
     IsNoWorse sense cost worst
 cost_out m c minimise worst cost h = h
 cost_out m c maximise worst cost h = h
@@ -71,21 +72,25 @@ module _ (m : RobustModel) (model : IsModel m) (alone : m.sets ≡ []) (cuts : L
     bound_in : (name : Name) (k : ℕ) (relation : Relation) (bound : Fraction) → k < length m.adaptives →
         Relates relation (rule_value m plan u k) bound → Kept (bound_row m c name k relation bound)
     bound_in name k relation bound some h =
-        subst (λ x. Relates relation x (value s all w (bound_row m c name k relation bound).right)) (sym (same_value (adaptive k) some))
+        subst (λ x. Relates relation x (value s all w (bound_row m c name k relation bound).right))
+        (sym (same_value (adaptive k) some))
         (subst (λ x. Relates relation (rule_value m plan u k) x) (sym (value_side s all w bound)) h)
 
     bound_out : (name : Name) (k : ℕ) (relation : Relation) (bound : Fraction) → k < length m.adaptives →
         Kept (bound_row m c name k relation bound) → Relates relation (rule_value m plan u k) bound
     bound_out name k relation bound some h =
         subst (λ x. Relates relation x bound) (same_value (adaptive k) some)
-        (subst (λ x. Relates relation (value s all w (bound_row m c name k relation bound).left) x) (value_side s all w bound) h)
+        (subst (λ x. Relates relation (value s all w (bound_row m c name k relation bound).left) x)
+        (value_side s all w bound) h)
 
-    lower_in : (name : Name) (k : ℕ) (o : Option Fraction) → k < length m.adaptives → KeepsLower o (rule_value m plan u k) →
+    lower_in : (name : Name) (k : ℕ) (o : Option Fraction) → k < length m.adaptives
+        → KeepsLower o (rule_value m plan u k) →
         Each Kept (if_declared (bound_row m c name k at_least) o)
     lower_in name k None some h = tt
     lower_in name k (Some l) some h = (bound_in name k at_least l some h, tt)
 
-    upper_in : (name : Name) (k : ℕ) (o : Option Fraction) → k < length m.adaptives → KeepsUpper o (rule_value m plan u k) →
+    upper_in : (name : Name) (k : ℕ) (o : Option Fraction) → k < length m.adaptives
+        → KeepsUpper o (rule_value m plan u k) →
         Each Kept (if_declared (bound_row m c name k at_most) o)
     upper_in name k None some h = tt
     upper_in name k (Some l) some h = (bound_in name k at_most l some h, tt)
@@ -129,22 +134,27 @@ module _ (m : RobustModel) (model : IsModel m) (alone : m.sets ≡ []) (cuts : L
     pub cell_in : IsNoWorse m.sense (value m plan u m.objective) (at all (length m.variables)) → Each WasKept m.rows →
         EachFrom zero RuleKept m.adaptives → Each Kept (cell_rows m c)
     cell_in cost rows rules = (
-      subst (λ x. Relates (cost_relation m c m.sense) (at all (length m.variables)) x) (sym (same_value m.objective model.objective.0))
+      subst (λ x. Relates (cost_relation m c m.sense) (at all (length m.variables)) x)
+          (sym (same_value m.objective model.objective.0))
           (cost_in m c m.sense (at all (length m.variables)) (value m plan u m.objective) cost),
       each_append Kept (map (row_over m c) m.rows) (bound_rows m c 0 m.adaptives)
-          (each_mapped_both (row_over m c) (λ (r : Row). IsExpression m r.left × IsExpression m r.right) WasKept Kept row_in m.rows
+          (each_mapped_both (row_over m c) (λ (r : Row). IsExpression m r.left × IsExpression m r.right)
+          WasKept Kept row_in m.rows
           model.rows rows)
           (rules_in 0 m.adaptives (λ j small. (omega arith)) rules),
     )
 
-    pub cost_kept : Each Kept (cell_rows m c) → IsNoWorse m.sense (value m plan u m.objective) (at all (length m.variables))
+    pub cost_kept : Each Kept (cell_rows m c)
+        → IsNoWorse m.sense (value m plan u m.objective) (at all (length m.variables))
     cost_kept h =
         cost_out m c m.sense (at all (length m.variables)) (value m plan u m.objective)
-        (subst (λ x. Relates (cost_relation m c m.sense) (at all (length m.variables)) x) (same_value m.objective model.objective.0) h.0)
+        (subst (λ x. Relates (cost_relation m c m.sense) (at all (length m.variables)) x)
+        (same_value m.objective model.objective.0) h.0)
 
     pub rows_kept : Each Kept (cell_rows m c) → Each WasKept m.rows
     rows_kept h =
-        mapped_each (row_over m c) (λ (r : Row). IsExpression m r.left × IsExpression m r.right) WasKept Kept row_out m.rows
+        mapped_each (row_over m c) (λ (r : Row). IsExpression m r.left × IsExpression m r.right)
+        WasKept Kept row_out m.rows
         model.rows (each_left Kept (map (row_over m c) m.rows) (bound_rows m c 0 m.adaptives) h.1)
 
     pub rules_kept : Each Kept (cell_rows m c) → EachFrom zero RuleKept m.adaptives
@@ -173,9 +183,12 @@ module _ (m : RobustModel) (model : IsModel m) (alone : m.sets ≡ []) (cuts : L
     worst_is = worst_of m alone cuts piece tau h.shared h.cells h.columns
 
     copies_kept : (P : ℕ → Fraction) (k : ℕ) (cs : List ℕ) →
-        EachFrom k (λ k (y : AdaptiveVariable). KeepsBounds y.lower y.upper (P k)) (flat_map (λ c. map (copy_in m c) m.adaptives) cs)
+        EachFrom k (λ k (y : AdaptiveVariable). KeepsBounds y.lower y.upper (P k))
+        (flat_map (λ c. map (copy_in m c) m.adaptives) cs)
     copies_kept P k [] = tt
-    copies_kept P k (c ∷ cs) = each_from_append _ k (map (copy_in m c) m.adaptives) _ (own k m.adaptives) (copies_kept P (k + length (map (copy_in m c) m.adaptives)) cs)
+    copies_kept P k (c ∷ cs) =
+        each_from_append _ k (map (copy_in m c) m.adaptives) _ (own k m.adaptives)
+        (copies_kept P (k + length (map (copy_in m c) m.adaptives)) cs)
       where
         own : (k : ℕ) (ys : List AdaptiveVariable) →
             EachFrom k (λ k (y : AdaptiveVariable). KeepsBounds y.lower y.upper (P k)) (map (copy_in m c) ys)
@@ -183,7 +196,8 @@ module _ (m : RobustModel) (model : IsModel m) (alone : m.sets ≡ []) (cuts : L
         own k (y ∷ ys) = ((tt, tt), own (suc k) ys)
 
     rows_at : (u : List Fraction) (c : ℕ) → IsCell cuts c → AdmitsIn s c u →
-        Each (λ (r : Row). Relates r.relation (value s whole (in_each_set s u) r.left) (value s whole (in_each_set s u) r.right)) (cell_rows m c)
+        Each (λ (r : Row). Relates r.relation (value s whole (in_each_set s u) r.left)
+        (value s whole (in_each_set s u) r.right)) (cell_rows m c)
     rows_at u c cell admitted =
         let own = cell_admitted m model alone cuts are u c cell admitted in
         let kept = h.keeps u own.0 c cell own.1 in
@@ -193,7 +207,8 @@ module _ (m : RobustModel) (model : IsModel m) (alone : m.sets ≡ []) (cuts : L
         (subst (λ x. IsNoWorse m.sense (value m (plan_in piece c) (in_each_set m u) m.objective) x) (sym worst_is)
         (kept.objective (objective_default m alone model)))
         (rows_out m alone model
-        (λ (r : Row). Relates r.relation (value m (plan_in piece c) (in_each_set m u) r.left) (value m (plan_in piece c) (in_each_set m u) r.right))
+        (λ (r : Row). Relates r.relation (value m (plan_in piece c) (in_each_set m u) r.left)
+        (value m (plan_in piece c) (in_each_set m u) r.right))
         zero m.rows model.own_rows kept.rows)
         (kept.adaptives refl)
 
@@ -202,17 +217,24 @@ module _ (m : RobustModel) (model : IsModel m) (alone : m.sets ≡ []) (cuts : L
       objective = λ e. subst (λ x. IsNoWorse m.sense x tau) (sym worst_is) (no_worse_same m.sense tau);
       rows =
           by_cells
-          (λ c (r : Row). c ≡ S → Relates r.relation (value s whole (in_each_set s u) r.left) (value s whole (in_each_set s u) r.right))
+          (λ c (r : Row). c ≡ S
+          → Relates r.relation (value s whole (in_each_set s u) r.left) (value s whole (in_each_set s u) r.right))
           (cell_rows m) (cell_numbers cuts)
           (each_cell cuts
-          (λ c. Each (λ (r : Row). c ≡ S → Relates r.relation (value s whole (in_each_set s u) r.left) (value s whole (in_each_set s u) r.right)) (cell_rows m c))
+          (λ c. Each (λ (r : Row). c ≡ S
+          → Relates r.relation (value s whole (in_each_set s u) r.left) (value s whole (in_each_set s u) r.right))
+          (cell_rows m c))
           (λ c cell. lift c (cell_rows m c) (λ e. rows_at u c cell (subst (λ T. AdmitsIn s T u) (sym e) admitted))));
       adaptives = λ e. copies_kept (λ k. rule_value s whole (in_each_set s u) k) zero (cell_numbers cuts);
     }
       where
         lift : (c : ℕ) (rs : List Row) →
-            (c ≡ S → Each (λ (r : Row). Relates r.relation (value s whole (in_each_set s u) r.left) (value s whole (in_each_set s u) r.right)) rs) →
-            Each (λ (r : Row). c ≡ S → Relates r.relation (value s whole (in_each_set s u) r.left) (value s whole (in_each_set s u) r.right)) rs
+            (c ≡ S → Each
+            (λ (r : Row). Relates r.relation (value s whole (in_each_set s u) r.left)
+            (value s whole (in_each_set s u) r.right)) rs) →
+            Each (λ (r : Row). c ≡ S
+            → Relates r.relation (value s whole (in_each_set s u) r.left) (value s whole (in_each_set s u) r.right))
+            rs
         lift c [] f = tt
         lift c (r ∷ rs) f = (λ e. (f e).0, lift c rs (λ e. (f e).1))
 
@@ -228,7 +250,8 @@ module _ (m : RobustModel) (model : IsModel m) (alone : m.sets ≡ []) (cuts : L
     }
 
   -- ---- from the split model to a piece
-  pub bound_piece : (all : List Fraction) (tau : Fraction) → HasBound s all tau → PieceBound m cuts (piece_of m cuts all) tau
+  pub bound_piece : (all : List Fraction) (tau : Fraction) → HasBound s all tau
+      → PieceBound m cuts (piece_of m cuts all) tau
   bound_piece all tau h = record {
     shared = shared_count m alone cuts all;
     cells = cells_count m alone cuts all;
@@ -265,16 +288,23 @@ module _ (m : RobustModel) (model : IsModel m) (alone : m.sets ≡ []) (cuts : L
           at_u : Reads m alone cuts c cell (in_each_set s u) (in_each_set m u)
           at_u = reads m model alone cuts are u c cell inside.numbers
 
-          rows : Each (λ (r : Row). Relates r.relation (value s all (in_each_set s u) r.left) (value s all (in_each_set s u) r.right)) (cell_rows m c)
+          rows : Each
+              (λ (r : Row). Relates r.relation (value s all (in_each_set s u) r.left)
+              (value s all (in_each_set s u) r.right)) (cell_rows m c)
           rows =
               each_map
-              (λ (r : Row). c ≡ c → Relates r.relation (value s all (in_each_set s u) r.left) (value s all (in_each_set s u) r.right))
-              (λ (r : Row). Relates r.relation (value s all (in_each_set s u) r.left) (value s all (in_each_set s u) r.right))
+              (λ (r : Row). c ≡ c
+              → Relates r.relation (value s all (in_each_set s u) r.left) (value s all (in_each_set s u) r.right))
+              (λ (r : Row). Relates r.relation (value s all (in_each_set s u) r.left)
+              (value s all (in_each_set s u) r.right))
               (λ r f. f refl) (cell_rows m c)
               (cell_each cuts
-              (λ d. Each (λ (r : Row). d ≡ c → Relates r.relation (value s all (in_each_set s u) r.left) (value s all (in_each_set s u) r.right)) (cell_rows m d))
+              (λ d. Each (λ (r : Row). d ≡ c
+              → Relates r.relation (value s all (in_each_set s u) r.left) (value s all (in_each_set s u) r.right))
+              (cell_rows m d))
               (cells_by
-              (λ d (r : Row). d ≡ c → Relates r.relation (value s all (in_each_set s u) r.left) (value s all (in_each_set s u) r.right))
+              (λ d (r : Row). d ≡ c
+              → Relates r.relation (value s all (in_each_set s u) r.left) (value s all (in_each_set s u) r.right))
               (cell_rows m) (cell_numbers cuts) (h.keeps c (is_set m alone cuts c cell) u inside).rows)
               c cell)
 
@@ -316,9 +346,11 @@ module _ (m : RobustModel) (cuts : List Cut) where
         (h.keeps 0 (omega arith) u admitted);
     variables =
         each_from_map (λ k (x : Variable). KeepsBounds x.lower x.upper (at plan k))
-        (λ k (x : Variable). KeepsBounds x.lower x.upper (at (same_in_all m cuts plan).variables k)) zero zero m.variables
+        (λ k (x : Variable). KeepsBounds x.lower x.upper (at (same_in_all m cuts plan).variables k)) zero zero
+        m.variables
         (λ i x some kept.
-        subst (λ q. KeepsBounds x.lower x.upper q) (sym (same_shares m cuts plan h.columns (zero + i) (omega arith))) kept)
+        subst (λ q. KeepsBounds x.lower x.upper q)
+        (sym (same_shares m cuts plan h.columns (zero + i) (omega arith))) kept)
         h.variables;
   }
 

@@ -23,7 +23,8 @@ module _ (w : ℕ) where
       length-append xs (joined_lists xss) ∙ ap₂ ◌+◌ h.0 (length-joined_lists xss h.1)
       ∙ (let e : w + length xss * w ≡ suc (length xss) * w = omega (arith, suc-mul (length xss) w) in e)
 
-  at-joined_lists : (xss : List (List Fraction)) → Each (λ (xs : List Fraction). length xs ≡ w) xss → (i j : ℕ) → i < length xss →
+  at-joined_lists : (xss : List (List Fraction)) → Each (λ (xs : List Fraction). length xs ≡ w) xss
+      → (i j : ℕ) → i < length xss →
       j < w → at (joined_lists xss) (i * w + j) ≡ at (get_or xss i []) j
   at-joined_lists [] h i j small some = absurd (omega arith)
   at-joined_lists (xs ∷ xss) h zero j small some =
@@ -54,7 +55,8 @@ module _ (m : RobustModel) (alone : m.sets ≡ []) (cuts : List Cut) where
         length-append piece.variables (tau ∷ joined_lists piece.policies)
         ∙ ap₂ (λ a b. a + suc b) shared
         (length-joined_lists (policy_columns m) piece.policies columns ∙ ap (λ n. n * policy_columns m) cells)
-        ∙ (let e : length m.variables + suc (cell_count cuts * policy_columns m) ≡ suc (length m.variables) + cell_count cuts * policy_columns m
+        ∙ (let e : length m.variables + suc (cell_count cuts * policy_columns m)
+        ≡ suc (length m.variables) + cell_count cuts * policy_columns m
         = omega arith in e)
         ∙ sym (columns_count m cuts)
 
@@ -66,17 +68,22 @@ module _ (m : RobustModel) (alone : m.sets ≡ []) (cuts : List Cut) where
     pub shared_of : (k : ℕ) → k < length m.variables → at (plan_of piece tau) k ≡ at piece.variables k
     shared_of k some = at-left piece.variables (tau ∷ joined_lists piece.policies) k (omega arith)
 
-    pub plan_matches : (c : ℕ) (cell : IsCell cuts c) → Matches m alone cuts c cell (plan_of piece tau) (plan_in piece c)
+    pub plan_matches : (c : ℕ) (cell : IsCell cuts c)
+        → Matches m alone cuts c cell (plan_of piece tau) (plan_in piece c)
     plan_matches c cell = record {
-      shared = λ k some. shared_of k some ∙ sym (at-left piece.variables (get_or piece.policies (pred c) []) k (omega arith));
+      shared = λ k some. shared_of k some
+          ∙ sym (at-left piece.variables (get_or piece.policies (pred c) []) k (omega arith));
       policies = λ j some.
           ap (λ k. at (plan_of piece tau) k)
-          (let e : suc (length m.variables) + pred c * policy_columns m + j ≡ length piece.variables + suc (pred c * policy_columns m + j)
+          (let e : suc (length m.variables) + pred c * policy_columns m + j
+          ≡ length piece.variables + suc (pred c * policy_columns m + j)
           = omega arith in e)
           ∙ at-right piece.variables (tau ∷ joined_lists piece.policies) (suc (pred c * policy_columns m + j))
-          ∙ at-joined_lists (policy_columns m) piece.policies columns (pred c) j (let small = below_count cuts c cell in omega arith) some
+          ∙ at-joined_lists (policy_columns m) piece.policies columns (pred c) j
+          (let small = below_count cuts c cell in omega arith) some
           ∙ sym
-          (ap (λ k. at (plan_in piece c) k) (let e : length m.variables + j ≡ length piece.variables + j = omega arith in e)
+          (ap (λ k. at (plan_in piece c) k)
+          (let e : length m.variables + j ≡ length piece.variables + j = omega arith in e)
           ∙ at-right piece.variables (get_or piece.policies (pred c) []) j);
     }
 
@@ -88,28 +95,34 @@ module _ (m : RobustModel) (alone : m.sets ≡ []) (cuts : List Cut) where
     pub cells_count : length (piece_of m cuts all).policies ≡ cell_count cuts
     cells_count = length-tabulate (cell_count cuts) (policy_at m all)
 
-    pub policies_count : Each (λ (policy : List Fraction). length policy ≡ policy_columns m) (piece_of m cuts all).policies
+    pub policies_count : Each (λ (policy : List Fraction). length policy ≡ policy_columns m)
+        (piece_of m cuts all).policies
     policies_count =
         each_tabulate (λ (policy : List Fraction). length policy ≡ policy_columns m) (cell_count cuts) (policy_at m all)
-        (λ i some. length-tabulate (policy_columns m) (λ j. at all (suc (length m.variables) + i * policy_columns m + j)))
+        (λ i some. length-tabulate (policy_columns m)
+        (λ j. at all (suc (length m.variables) + i * policy_columns m + j)))
 
     pub piece_shares : (k : ℕ) → k < length m.variables → at (piece_of m cuts all).variables k ≡ at all k
     piece_shares k some = at-tabulate (length m.variables) (at all) k some
 
-    pub piece_matches : (c : ℕ) (cell : IsCell cuts c) → Matches m alone cuts c cell all (plan_in (piece_of m cuts all) c)
+    pub piece_matches : (c : ℕ) (cell : IsCell cuts c)
+        → Matches m alone cuts c cell all (plan_in (piece_of m cuts all) c)
     piece_matches c cell = record {
       shared = λ k some.
           sym
-          (at-left (piece_of m cuts all).variables (get_or (piece_of m cuts all).policies (pred c) []) k (let l = shared_count in omega arith)
+          (at-left (piece_of m cuts all).variables (get_or (piece_of m cuts all).policies (pred c) []) k
+          (let l = shared_count in omega arith)
           ∙ piece_shares k some);
       policies = λ j some.
           sym
           (ap (λ k. at (plan_in (piece_of m cuts all) c) k)
-          (let l = shared_count in let e : length m.variables + j ≡ length (piece_of m cuts all).variables + j = omega arith in e)
+          (let l = shared_count in
+          let e : length m.variables + j ≡ length (piece_of m cuts all).variables + j = omega arith in e)
           ∙ at-right (piece_of m cuts all).variables (get_or (piece_of m cuts all).policies (pred c) []) j
           ∙ ap (λ (xs : List Fraction). at xs j)
           (get_or-tabulate (cell_count cuts) (policy_at m all) (pred c) [] (below_count cuts c cell))
-          ∙ at-tabulate (policy_columns m) (λ j. at all (suc (length m.variables) + pred c * policy_columns m + j)) j some);
+          ∙ at-tabulate (policy_columns m)
+          (λ j. at all (suc (length m.variables) + pred c * policy_columns m + j)) j some);
     }
 
 -- ---- one plan in all cells
@@ -124,11 +137,13 @@ module _ (m : RobustModel) (cuts : List Cut) where
     pub same_cells : length (same_in_all m cuts plan).policies ≡ cell_count cuts
     same_cells = length-tabulate (cell_count cuts) (λ i. drop (length m.variables) plan)
 
-    pub same_columns : Each (λ (policy : List Fraction). length policy ≡ policy_columns m) (same_in_all m cuts plan).policies
+    pub same_columns : Each (λ (policy : List Fraction). length policy ≡ policy_columns m)
+        (same_in_all m cuts plan).policies
     same_columns =
         each_tabulate (λ (policy : List Fraction). length policy ≡ policy_columns m) (cell_count cuts)
         (λ i. drop (length m.variables) plan)
-        (λ i some. length-drop (length m.variables) plan ∙ (let w = width in let e : length plan - length m.variables ≡ policy_columns m = omega arith in e))
+        (λ i some. length-drop (length m.variables) plan
+        ∙ (let w = width in let e : length plan - length m.variables ≡ policy_columns m = omega arith in e))
 
     pub same_plan : (c : ℕ) → IsCell cuts c → plan_in (same_in_all m cuts plan) c ≡ plan
     same_plan c cell =
@@ -138,5 +153,6 @@ module _ (m : RobustModel) (cuts : List Cut) where
 
     pub same_shares : (k : ℕ) → k < length m.variables → at (same_in_all m cuts plan).variables k ≡ at plan k
     same_shares k some =
-        sym (at-left (take (length m.variables) plan) (drop (length m.variables) plan) k (let l = same_shared in omega arith))
+        sym (at-left (take (length m.variables) plan) (drop (length m.variables) plan) k
+        (let l = same_shared in omega arith))
         ∙ ap (λ (xs : List Fraction). at xs k) (take-append-drop (length m.variables) plan)

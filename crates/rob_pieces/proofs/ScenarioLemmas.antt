@@ -45,12 +45,14 @@ module _ (m : RobustModel) (model : IsModel m) (alone : m.sets ≡ []) (cuts : L
       numbers = numbers_in h.numbers;
       bounds = bounds_in h.bounds;
       lines =
-          by_cells (λ c (l : SetLine). c ≡ 0 → KeepsLine s (in_each_set s u) l) (λ c. cell_lines m c cuts) (cell_numbers cuts)
+          by_cells (λ c (l : SetLine). c ≡ 0 → KeepsLine s (in_each_set s u) l)
+          (λ c. cell_lines m c cuts) (cell_numbers cuts)
           (each_cell cuts (λ c. Each (λ (l : SetLine). c ≡ 0 → KeepsLine s (in_each_set s u) l) (cell_lines m c cuts))
           (λ c cell. none c cell (cell_lines m c cuts)));
     }
       where
-        none : (c : ℕ) → IsCell cuts c → (ls : List SetLine) → Each (λ (l : SetLine). c ≡ 0 → KeepsLine s (in_each_set s u) l) ls
+        none : (c : ℕ) → IsCell cuts c → (ls : List SetLine)
+            → Each (λ (l : SetLine). c ≡ 0 → KeepsLine s (in_each_set s u) l) ls
         none c cell [] = tt
         none c cell (l ∷ ls) = (λ e. absurd (let p = cell.0 in omega arith), none c cell ls)
 
@@ -83,11 +85,13 @@ module _ (m : RobustModel) (model : IsModel m) (alone : m.sets ≡ []) (cuts : L
           subst (λ x. x ≤ℚ at u cut.parameter) (value_side s [] (in_each_set s u) cut.level)
           (subst (λ x. value s [] (in_each_set s u) (as_side cut.level) ≤ℚ x) (reads_own cut.parameter some) h)
 
-      sides_in : (cs : List Cut) → AreCuts m cs → CellHolds cs c u → Each (KeepsLine s (in_each_set s u)) (side_lines m c cs)
+      sides_in : (cs : List Cut) → AreCuts m cs → CellHolds cs c u
+          → Each (KeepsLine s (in_each_set s u)) (side_lines m c cs)
       sides_in [] a h = tt
       sides_in (cut ∷ cs) a h = (side_in cut (bit (length cs) _) a.0 h.0, sides_in cs a.1 h.1)
 
-      sides_out : (cs : List Cut) → AreCuts m cs → Each (KeepsLine s (in_each_set s u)) (side_lines m c cs) → CellHolds cs c u
+      sides_out : (cs : List Cut) → AreCuts m cs
+          → Each (KeepsLine s (in_each_set s u)) (side_lines m c cs) → CellHolds cs c u
       sides_out [] a h = tt
       sides_out (cut ∷ cs) a h = (side_out cut (bit (length cs) _) a.0 h.0, sides_out cs a.1 h.1)
 
@@ -97,22 +101,29 @@ module _ (m : RobustModel) (model : IsModel m) (alone : m.sets ≡ []) (cuts : L
       numbers = numbers_in h.numbers;
       bounds = bounds_in h.bounds;
       lines =
-          by_cells (λ d (l : SetLine). d ≡ c → KeepsLine s (in_each_set s u) l) (λ c. cell_lines m c cuts) (cell_numbers cuts)
-          (each_cell cuts (λ d. Each (λ (l : SetLine). d ≡ c → KeepsLine s (in_each_set s u) l) (cell_lines m d cuts)) kept);
+          by_cells (λ d (l : SetLine). d ≡ c → KeepsLine s (in_each_set s u) l)
+          (λ c. cell_lines m c cuts) (cell_numbers cuts)
+          (each_cell cuts (λ d. Each (λ (l : SetLine). d ≡ c → KeepsLine s (in_each_set s u) l) (cell_lines m d cuts))
+          kept);
     }
       where
         here : Each (KeepsLine s (in_each_set s u)) (cell_lines m c cuts)
         here =
             each_append (KeepsLine s (in_each_set s u)) (map (line_over m c) m.set_lines) (side_lines m c cuts)
-            (each_mapped_both (line_over m c) (IsSetLine m) (KeepsLine m (in_each_set m u)) (KeepsLine s (in_each_set s u))
-            (λ l own kept. line_kept m alone cuts c cell (lists_within m model alone cuts are) (in_each_set s u) (in_each_set m u)
+            (each_mapped_both (line_over m c) (IsSetLine m) (KeepsLine m (in_each_set m u))
+            (KeepsLine s (in_each_set s u))
+            (λ l own kept. line_kept m alone cuts c cell (lists_within m model alone cuts are)
+            (in_each_set s u) (in_each_set m u)
             (reads c cell (numbers_in h.numbers)) l own kept)
             m.set_lines model.set_lines
             (lines_out m alone model (KeepsLine m (in_each_set m u)) zero m.set_lines model.own_lines h.lines))
             (sides_in c cell (numbers_in h.numbers) cuts are held)
 
-        kept : (d : ℕ) → IsCell cuts d → Each (λ (l : SetLine). d ≡ c → KeepsLine s (in_each_set s u) l) (cell_lines m d cuts)
-        kept d other = lift (cell_lines m d cuts) (λ e. subst (λ d. Each (KeepsLine s (in_each_set s u)) (cell_lines m d cuts)) (sym e) here)
+        kept : (d : ℕ) → IsCell cuts d
+            → Each (λ (l : SetLine). d ≡ c → KeepsLine s (in_each_set s u) l) (cell_lines m d cuts)
+        kept d other =
+            lift (cell_lines m d cuts)
+            (λ e. subst (λ d. Each (KeepsLine s (in_each_set s u)) (cell_lines m d cuts)) (sym e) here)
           where
             lift : (ls : List SetLine) → (d ≡ c → Each (KeepsLine s (in_each_set s u)) ls) →
                 Each (λ (l : SetLine). d ≡ c → KeepsLine s (in_each_set s u) l) ls
@@ -127,9 +138,12 @@ module _ (m : RobustModel) (model : IsModel m) (alone : m.sets ≡ []) (cuts : L
         lines =
             lines_in m alone model (KeepsLine m (in_each_set m u)) zero m.set_lines
             (mapped_each (line_over m c) (IsSetLine m) (KeepsLine m (in_each_set m u)) (KeepsLine s (in_each_set s u))
-            (λ l own kept. line_was_kept m alone cuts c cell (lists_within m model alone cuts are) (in_each_set s u) (in_each_set m u)
+            (λ l own kept. line_was_kept m alone cuts c cell (lists_within m model alone cuts are)
+            (in_each_set s u) (in_each_set m u)
             (reads c cell h.numbers) l own kept)
-            m.set_lines model.set_lines (each_left (KeepsLine s (in_each_set s u)) (map (line_over m c) m.set_lines) (side_lines m c cuts) here));
+            m.set_lines model.set_lines
+            (each_left (KeepsLine s (in_each_set s u)) (map (line_over m c) m.set_lines)
+            (side_lines m c cuts) here));
       },
       sides_out c cell h.numbers cuts are
           (each_right (KeepsLine s (in_each_set s u)) (map (line_over m c) m.set_lines) (side_lines m c cuts) here),
@@ -137,14 +151,17 @@ module _ (m : RobustModel) (model : IsModel m) (alone : m.sets ≡ []) (cuts : L
       where
         here : Each (KeepsLine s (in_each_set s u)) (cell_lines m c cuts)
         here =
-            each_map (λ (l : SetLine). c ≡ c → KeepsLine s (in_each_set s u) l) (KeepsLine s (in_each_set s u)) (λ l f. f refl)
+            each_map (λ (l : SetLine). c ≡ c → KeepsLine s (in_each_set s u) l)
+            (KeepsLine s (in_each_set s u)) (λ l f. f refl)
             (cell_lines m c cuts)
             (cell_each cuts (λ d. Each (λ (l : SetLine). d ≡ c → KeepsLine s (in_each_set s u) l) (cell_lines m d cuts))
-            (cells_by (λ d (l : SetLine). d ≡ c → KeepsLine s (in_each_set s u) l) (λ c. cell_lines m c cuts) (cell_numbers cuts) h.lines)
+            (cells_by (λ d (l : SetLine). d ≡ c → KeepsLine s (in_each_set s u) l) (λ c. cell_lines m c cuts)
+            (cell_numbers cuts) h.lines)
             c cell)
 
   -- ---- empty cells
-  pub empty_cell : (c : ℕ) → IsCell cuts c → ((u : List Fraction) → AdmitsIn m 0 u → CellHolds cuts c u → ⊥) → IsEmptySet s
+  pub empty_cell : (c : ℕ) → IsCell cuts c
+      → ((u : List Fraction) → AdmitsIn m 0 u → CellHolds cuts c u → ⊥) → IsEmptySet s
   empty_cell c cell none u h =
       (let own = cell_admitted (part_of s c u) c cell (h.parts c (is_set m alone cuts c cell)) in
       none (part_of s c u) own.0 own.1)

@@ -25,7 +25,8 @@ as_steep name = record {
       uncertain (codes "d") (Some (of_int (negsuc 1))) (Some (int 2)) ∷ uncertain (codes "e") (Some 0ℚ) None ∷ [];
   sets = [];
   set_lines =
-      line (parameter 0 ⊕ parameter 1) at_most (number (int 2)) ∷ line (parameter 1 ⊖ parameter 0) at_most (number (int 2)) ∷ [];
+      line (parameter 0 ⊕ parameter 1) at_most (number (int 2))
+      ∷ line (parameter 1 ⊖ parameter 0) at_most (number (int 2)) ∷ [];
   line_sets = [];
   variables = var (codes "x") None None ∷ [];
   adaptives = rule (codes "y") (0 ∷ []) None ∷ [];
@@ -73,8 +74,10 @@ unfolding digits
 its_form_names = refl
 
 its_set_row_names : set_row_names split_steep ≡
-    codes "d.lower" ∷ codes "d.upper" ∷ codes "e.lower" ∷ codes "cell_1.d.lower" ∷ codes "cell_1.d.upper" ∷ codes "cell_1.e.lower"
-    ∷ codes "cell_2.d.lower" ∷ codes "cell_2.d.upper" ∷ codes "cell_2.e.lower" ∷ codes "set.1" ∷ codes "set.2" ∷ codes "set.3"
+    codes "d.lower" ∷ codes "d.upper" ∷ codes "e.lower" ∷ codes "cell_1.d.lower" ∷ codes "cell_1.d.upper"
+    ∷ codes "cell_1.e.lower"
+    ∷ codes "cell_2.d.lower" ∷ codes "cell_2.d.upper" ∷ codes "cell_2.e.lower" ∷ codes "set.1"
+    ∷ codes "set.2" ∷ codes "set.3"
     ∷ codes "set.4" ∷ codes "set.5" ∷ codes "set.6" ∷ []
 unfolding digits
 its_set_row_names = refl
@@ -96,7 +99,8 @@ split_steep_costs_2 =
 
 pieces_cost_2 : IsPieceOptimal steep at_zero (int 2)
 unfolding ratio
-pieces_cost_2 = (optimal_agree steep (found (test_model steep) tt) refl at_zero (omega arith, tt) (int 2)).0 split_steep_costs_2
+pieces_cost_2 =
+    (optimal_agree steep (found (test_model steep) tt) refl at_zero (omega arith, tt) (int 2)).0 split_steep_costs_2
 
 differ : (a b : ℕ) → b < a → a ≡ b → ⊥
 differ a b h e = omega arith

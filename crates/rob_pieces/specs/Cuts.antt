@@ -1,7 +1,7 @@
--- Cuts of an uncertainty set, and the cells that they make. A cut is a parameter and a number; q cuts make 2^q cells, numbered
--- from 1. A scenario that lies on a cut is in cells on both sides of it.
--- The general idea of a policy for each part of the set: Bertsimas and Dunning, Multistage Robust Mixed-Integer Optimization
--- with Adaptive Partitions (2016). Cells that are made by cutting single parameters are this project's own choice.
+-- Cuts of an uncertainty set, and the cells that they make. A cut is a parameter and a number; q cuts make 2^q cells,
+-- numbered from 1. A scenario that lies on a cut is in cells on both sides of it. The general idea of a policy for
+-- each part of the set: Bertsimas and Dunning, Multistage Robust Mixed-Integer Optimization with Adaptive Partitions
+-- (2016). Cells that are made by cutting single parameters are this project's own choice.
 use Rattle.std.specs.Prelude.{ℕ, zero, suc, pred, ◌/◌, ◌%◌, ◌^◌, ◌<◌, ◌≤◌, List, [], ◌∷◌, length}
 use Rattle.rob_algebra.specs.Fraction.{Fraction, ◌≤ℚ◌}
 use Rattle.rob_meaning.specs.Places.{Each, at, tabulate}

@@ -1,7 +1,7 @@
 -- Piecewise policies: shared variables, and in each cell a policy of its own for each adaptive variable. What a piece
 -- guarantees, and when a model is optimal, infeasible or unbounded over pieces. The model has one uncertainty set.
--- The general idea of a policy for each part of the set: Bertsimas and Dunning, Multistage Robust Mixed-Integer Optimization
--- with Adaptive Partitions (2016). No condition links the cells' policies.
+-- The general idea of a policy for each part of the set: Bertsimas and Dunning, Multistage Robust Mixed-Integer
+-- Optimization with Adaptive Partitions (2016). No condition links the cells' policies.
 use Rattle.std.specs.Prelude.{◌≡◌, ℕ, zero, suc, pred, ◌+◌, ◌*◌, List, [], ◌∷◌, ◌++◌, length, get_or, flat_map, take, drop}
 use Rattle.rob_algebra.specs.Fraction.{Fraction}
 use Rattle.rob_meaning.specs.Guarantee.{IsNoWorse, KeepsIn}
@@ -10,8 +10,8 @@ use Rattle.rob_meaning.specs.RobustModel.{RobustModel, Variable, column_from}
 use Rattle.rob_meaning.specs.UncertaintySet.{KeepsBounds, AdmitsIn}
 use Rattle.rob_pieces.specs.Cuts.{Cut, cell_count, IsCell, CellHolds}
 
--- a piece: a number for each variable, and for each cell the numbers of its policies: for each adaptive variable its constant
--- and then its coefficients
+-- a piece: a number for each variable, and for each cell the numbers of its policies: for each adaptive variable its
+-- constant and then its coefficients
 pub record Piece : Type 0 where
   pub variables : List Fraction
   pub policies : List (List Fraction)
@@ -24,15 +24,16 @@ policy_columns m = column_from 0 m.adaptives (length m.adaptives)
 abbrev pub plan_in : Piece → ℕ → List Fraction
 plan_in piece c = piece.variables ++ get_or piece.policies (pred c) []
 
--- the piece has bound tau: it has a number for each variable and each cell's policies; in every admitted scenario and every
--- cell that holds it, that cell's plan keeps all rows, the declared bounds and an objective no worse than tau; and it keeps each
--- declared bound of a variable
+-- the piece has bound tau: it has a number for each variable and each cell's policies; in every admitted scenario and
+-- every cell that holds it, that cell's plan keeps all rows, the declared bounds and an objective no worse than tau;
+-- and it keeps each declared bound of a variable
 pub record PieceBound (m : RobustModel) (cuts : List Cut) (piece : Piece) (tau : Fraction) : Type 0 where
   pub shared : length piece.variables ≡ length m.variables
   pub cells : length piece.policies ≡ cell_count cuts
   pub columns : Each (λ (policy : List Fraction). length policy ≡ policy_columns m) piece.policies
   pub keeps :
-      (u : List Fraction) → AdmitsIn m 0 u → (c : ℕ) → IsCell cuts c → CellHolds cuts c u → KeepsIn m (plan_in piece c) tau 0 u
+      (u : List Fraction) → AdmitsIn m 0 u → (c : ℕ) → IsCell cuts c → CellHolds cuts c u
+      → KeepsIn m (plan_in piece c) tau 0 u
   pub variables : EachFrom zero (λ k (x : Variable). KeepsBounds x.lower x.upper (at piece.variables k)) m.variables
 
 -- the model is optimal over pieces at v: some piece has bound v, and no piece has a better one
@@ -54,7 +55,8 @@ IsPieceUnbounded m cuts = (tau : Fraction) → (piece : Piece) × PieceBound m c
 abbrev pub joined_lists : List (List Fraction) → List Fraction
 joined_lists xss = flat_map (λ xs. xs) xss
 
--- the split model's plan for a piece with bound tau: the shared variables, tau for `cells_worst`, and the cells' policies
+-- the split model's plan for a piece with bound tau: the shared variables, tau for `cells_worst`, and the cells'
+-- policies
 abbrev pub plan_of : Piece → Fraction → List Fraction
 plan_of piece tau = piece.variables ++ (tau ∷ joined_lists piece.policies)
 

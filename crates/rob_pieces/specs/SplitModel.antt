@@ -1,6 +1,6 @@
--- The split model: a model whose plans are the pieces of a model of one set. Each cell is a named set, which has the model's set
--- statements and the cell's sides of the cuts, and each row stands there once for each cell, with the cell's own copies of the
--- adaptive variables.
+-- The split model: a model whose plans are the pieces of a model of one set. Each cell is a named set, which has the
+-- model's set statements and the cell's sides of the cuts, and each row stands there once for each cell, with the
+-- cell's own copies of the adaptive variables.
 use Rattle.std.specs.Fmt.{decimal}
 use Rattle.std.specs.Prelude.{ℕ, zero, suc, pred, ◌+◌, ◌*◌, ℤ, pos, negsuc, true, List, [], ◌∷◌, ◌++◌, length, map, flat_map, None, codes}
 use Rattle.rob_algebra.specs.Fraction.{Fraction, neg_ℚ}
@@ -14,7 +14,8 @@ use Rattle.rob_pieces.specs.Cuts.{Cut, bit, cell_numbers}
 abbrev pub numbered : Name → ℕ → Name
 numbered name c = name ++ (codes "_" ++ decimal c)
 
--- a number whose sign is that of a whole number, as a side: a negative one is a sum of one subtracted number, as `-3` is read
+-- a number whose sign is that of a whole number, as a side: a negative one is a sum of one subtracted number, as `-3`
+-- is read
 abbrev pub side_of_sign : ℤ → Fraction → Expression
 side_of_sign (pos n) q = number q
 side_of_sign (negsuc n) q = sum (term true (number (neg_ℚ q)) no_terms)
@@ -33,7 +34,8 @@ module _ (m : RobustModel) (c : ℕ) where
   rule_in y = pred c * length m.adaptives + y
 
   abbrev mutual
-    -- an expression over cell `c`: with the parameters of that cell, and its copies of the adaptive variables, taken there
+    -- an expression over cell `c`: with the parameters of that cell, and its copies of the adaptive variables, taken
+    -- there
     pub over_cell : Expression → Expression
     over_cell (number q) = number q
     over_cell (parameter k) = parameter (parameter_in k)
@@ -96,7 +98,12 @@ module _ (m : RobustModel) (c : ℕ) where
 
   -- a row `NAME_c`
   abbrev pub row_over : Row → Row
-  row_over r = record { name = numbered r.name c; left = over_cell r.left; relation = r.relation; right = over_cell r.right }
+  row_over r = record {
+    name = numbered r.name c;
+    left = over_cell r.left;
+    relation = r.relation;
+    right = over_cell r.right;
+  }
 
   -- the row of a declared bound of adaptive variable `k`
   abbrev pub bound_row : Name → ℕ → Relation → Fraction → Row

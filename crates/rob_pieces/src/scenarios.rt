@@ -1,5 +1,5 @@
-//! The cells of an uncertainty set, and the split model's sets. A cut is at one of the model's parameters (`AreCuts`), and the
-//! model has one set.
+//! The cells of an uncertainty set, and the split model's sets. A cut is at one of the model's parameters
+//! (`AreCuts`), and the model has one set.
 
 ghost use Rattle.rob_algebra.specs.Fraction.{Fraction};
 ghost use Rattle.rob_meaning.specs.Named.{IsNamed};
@@ -21,8 +21,8 @@ pub fn split_laws()
         → IsModel (split_model m cuts) }
     ensures sets { (m : RobustModel) (cuts : List Cut)
         → set_count (split_model m cuts) ≡ suc (cell_count cuts) }
-    // With at most 3 cuts its names are as they must be where the model's are, its declared names differ and are short, and
-    // statements are few.
+    // With at most 3 cuts its names are as they must be where the model's are, its declared names differ and are
+    // short, and statements are few.
     ensures named { (m : RobustModel) (cuts : List Cut) → m.sets ≡ [] → length cuts ≤ 3 → IsNamed m
         → HasGoodNames (split_model m cuts) → length (split_model m cuts).set_lines < 2 ^ 32
         → IsNamed (split_model m cuts) }

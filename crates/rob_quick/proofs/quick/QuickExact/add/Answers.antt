@@ -11,5 +11,6 @@ returns-then-is_whole-2-clause-exact g c =
     let x = quick_value c.args.self in
     let y = quick_value c.args.other in
     c.whole.ensures.exact
-    ∙ kept_whole (limit_of g.row.B) c.sum.result (x.num +ℤ y.num) (x +ℚ y) c.sum.ensures.value (omega (arith, c.sum.ensures.size))
+    ∙ kept_whole (limit_of g.row.B) c.sum.result (x.num +ℤ y.num) (x +ℚ y) c.sum.ensures.value
+    (omega (arith, c.sum.ensures.size))
     (add-wholes x y (c.if-is_whole.ensures.whole.0 refl) (c.if-is_whole-2.ensures.whole.0 refl))

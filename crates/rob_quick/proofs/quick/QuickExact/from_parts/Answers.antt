@@ -9,4 +9,5 @@ use Rattle.rob_quick.proofs.quick.QuickExact.from_parts.Goals as goal
 pub returns-then-den-eq1-clause-exact : goal.returns-then-den-eq1-clause-exact
 returns-then-den-eq1-clause-exact g c =
     c.whole.ensures.exact ∙ ap (λ z. kept (limit_of g.row.B) (of_int z)) (seen_up c.args.num c.ranges.num)
-    ∙ ap (kept (limit_of g.row.B)) (sym (of_int-one c.args.num (nat_abs c.args.den) (one_bits c.args.den c.ranges.den c.if-den-eq1.true)))
+    ∙ ap (kept (limit_of g.row.B))
+    (sym (of_int-one c.args.num (nat_abs c.args.den) (one_bits c.args.den c.ranges.den c.if-den-eq1.true)))

@@ -10,5 +10,6 @@ returns-then-is_whole-2-clause-exact g c =
     let x = quick_value c.args.self in
     let y = quick_value c.args.other in
     c.whole.ensures.exact
-    ∙ kept_whole (limit_of g.row.B) c.difference.result (x.num -ℤ y.num) (x -ℚ y) c.difference.ensures.value (omega (arith, c.difference.ensures.size))
+    ∙ kept_whole (limit_of g.row.B) c.difference.result (x.num -ℤ y.num) (x -ℚ y) c.difference.ensures.value
+    (omega (arith, c.difference.ensures.size))
     (sub-wholes x y (c.if-is_whole.ensures.whole.0 refl) (c.if-is_whole-2.ensures.whole.0 refl))
