@@ -1,19 +1,26 @@
 -- Where an answer has to come.
-use Rattle.std.proofs.Common.{◌≡◌, ℕ, List, refl}
+use Rattle.std.proofs.Common.{◌≡◌, ℕ, List, inl, inr, refl}
 use Rattle.rob_meaning.specs.RobustModel.{RobustModel}
 use Rattle.rob_model.specs.declared.place.Spot.{Spot}
 use Rattle.rob_top.specs.Calls.{Call}
 use Rattle.rob_top.specs.Headline.{Means}
-use Rattle.rob_top.specs.Refused.{IsWideSpot, elaborating, solving, checking}
+use Rattle.rob_top.specs.Refused.{IsWideSpot, elaborating, solving, checking, replaying}
+use Rattle.rob_top.specs.Replayed.{LacksPlan, planless, unread}
 use Rattle.rob_top.specs.declared.ended.Ended.{Ended}
-use Rattle.rob_top.specs.declared.ended.Ended.TheVariants.{Optimal, Infeasible, Unbounded, Printed, Accepted, Rejected, Words, Missing, TooLong, Model, EmptySet, TooWide, Cert, ReadFault, WriteFault, Memory}
+use Rattle.rob_top.specs.declared.ended.Ended.TheVariants.{Optimal, Infeasible, Unbounded, Printed, Accepted, Rejected, Words, Missing, TooLong, Model, EmptySet, TooWide, Cert, Scenarios, ReadFault, WriteFault, Memory}
 use Rattle.rob_words.specs.Commands.{Line, IsCommandLine}
 
 -- a wide number's words are a command line
 wide_line : (call : Call) (line : Line) (m : RobustModel) (spot : Spot) → IsWideSpot call line m spot → IsCommandLine call.words
-wide_line call line m spot (elaborating h first) = (line, h.spelled)
+wide_line call line m spot (elaborating h makes first) = (line, h.spelled)
 wide_line call line m spot (solving h is_solving wide) = (line, h.model.spelled)
 wide_line call line m spot (checking c place h e verdict) = (line, h.file.forms.model.spelled)
+wide_line call line m spot (replaying c bytes number h e gives) = (line, h.certificate.file.model.spelled)
+
+-- and so are those of a certificate without a plan
+lacking_line : (call : Call) (line : Line) (m : RobustModel) (rule number : ℕ) → LacksPlan call line m rule number → IsCommandLine call.words
+lacking_line call line m rule number (unread bytes h breach) = (line, h.model.spelled)
+lacking_line call line m rule number (planless c h is r n) = (line, h.file.model.spelled)
 
 -- words that are no command line have no other answer
 pub no_command : (call : Call) (ended : Ended) (text : List ℕ) → (IsCommandLine call.words → ⊥) → Means call ended text
@@ -24,13 +31,16 @@ no_command call WriteFault text none h = absurd h
 no_command call Optimal text none h = absurd (none ((h.line, h.forms.model.spelled)))
 no_command call Infeasible text none h = absurd (none ((h.line, h.forms.model.spelled)))
 no_command call Unbounded text none h = absurd (none ((h.line, h.forms.model.spelled)))
-no_command call Printed text none h = absurd (none ((h.line, h.forms.model.spelled)))
+no_command call Printed text none (inl h) = absurd (none ((h.line, h.forms.model.spelled)))
+no_command call Printed text none (inr h) = absurd (none ((h.line, h.has.certificate.file.model.spelled)))
 no_command call Accepted text none h = absurd (none ((h.line, h.read.file.forms.model.spelled)))
 no_command call (Rejected place) text none h = absurd (none ((h.line, h.read.file.forms.model.spelled)))
 no_command call (Model rule line) text none h = absurd (none ((h.line, h.spelled)))
 no_command call (EmptySet weights) text none h = absurd (none ((h.line, h.forms.model.spelled)))
 no_command call (TooWide spot) text none h = absurd (none (wide_line call h.line h.m spot h.wide))
-no_command call (Cert rule line) text none h = absurd (none ((h.line, h.file.forms.model.spelled)))
+no_command call (Cert rule line) text none (inl h) = absurd (none ((h.line, h.file.forms.model.spelled)))
+no_command call (Cert rule line) text none (inr h) = absurd (none (lacking_line call h.line h.m rule line h.lacks))
+no_command call (Scenarios rule number) text none h = absurd (none ((h.line, h.has.certificate.file.model.spelled)))
 no_command call Missing text none h = absurd (none ((h.1.line, h.1.spelled)))
 no_command call TooLong text none h = absurd (none ((h.1.line, h.1.spelled)))
 no_command call ReadFault text none h = absurd (none (h.0))

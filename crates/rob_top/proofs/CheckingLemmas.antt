@@ -1,5 +1,5 @@
 -- The answers of `check`, from what the reading of a certificate and its check answer; and the places of conditions.
-use Rattle.std.proofs.Common.{◌≡◌, ℕ, zero, suc, ◌+◌, ◌<◌, ◌≤◌, Bool, true, false, List, [], ◌∷◌, ◌++◌, length, map, Option, Some, None, Result, Ok, Err, IfOk, refl, subst, sym, ap, ◌∙◌, arith}
+use Rattle.std.proofs.Common.{◌≡◌, ℕ, zero, suc, ◌+◌, ◌<◌, ◌≤◌, Bool, true, false, List, [], ◌∷◌, ◌++◌, length, map, Option, Some, None, Result, Ok, Err, IfOk, inl, refl, subst, sym, ap, ◌∙◌, arith}
 use Rattle.std.specs.Prelude.{if◌then◌else◌, ℤ}
 use Rattle.std.specs.List.{filter}
 use Rattle.std.proofs.lemmas.List.{length-map}
@@ -203,14 +203,14 @@ module _ (limit : ℕ) (m : RobustModel) where
   rule_answers wides text rule number (Err want) broken is = tt
   rule_answers wides text rule number (Ok reply) broken is = λ call line at file.
       subst (λ (ended : Ended). Means call ended reply.text) (sym is.0)
-      (record {
+      (inl (record {
         line = line;
         m = m;
         bytes = text;
         file = file;
         breaks = subst (λ (l : ℕ). HasCause (naming_of m) l start text 1 (Rule rule number)) (sym at.limit_is) broken;
         printed = is.1;
-      })
+      }))
 
   pub certificate_answers : (before middle now : ℕ) (text : List ℕ) (c : Certificate) (r : Result Reply Want) → before ≤ middle → IsTextOf m c text → FitsLines limit m c
       → IfOk r (AnswersCertificate limit (count middle now) m c) → IfOk r (AnswersFile limit (count before now) m text)

@@ -17,16 +17,19 @@ use Rattle.rob_meaning.specs.WellFormed.{IsModel}
 use Rattle.rob_model.specs.declared.place.Place.{Place}
 use Rattle.rob_top.proofs.AnswerLemmas.{no_command}
 use Rattle.rob_top.proofs.KnownLemmas.{known_again, means_known}
+use Rattle.rob_replay.specs.Outcome.{outcome}
+use Rattle.rob_top.proofs.ReplayAnswerLemmas.{planless_decides, replay_decides}
 use Rattle.rob_top.proofs.StageLemmas.{broken_answer}
 use Rattle.rob_top.proofs.TrueAnswerLemmas.{empty_decides, missing_decides, rows_decide, rule_decides, solve_decides, status_decides, too_long_decides, verdict_decides, well, wide_decides}
 use Rattle.rob_top.specs.Calls.{Call, IsSolving, Known, Output, known_call, limit_of}
 use Rattle.rob_top.specs.Completeness.{EndsAs, IsComplete, IsEmptyAnswer, IsOutside, IsProvedAnswer, IsSolveAnswer, IsUnput, MustEnd}
 use Rattle.rob_top.specs.Headline.{Ends, Means}
 use Rattle.rob_top.specs.Inputs.{HasCertificate, HasCertificateFile, HasForms}
+use Rattle.rob_top.specs.Replayed.{replay_ended}
 use Rattle.rob_top.specs.Solved.{IsPrinted, IsSolved}
 use Rattle.rob_top.specs.Work.{verdict_ended}
 use Rattle.rob_top.specs.declared.ended.Ended.{Ended}
-use Rattle.rob_top.specs.declared.ended.Ended.TheVariants.{Optimal, Infeasible, Unbounded, Printed, Accepted, Rejected, Words, Missing, TooLong, Model, EmptySet, TooWide, Cert, ReadFault, WriteFault, Memory}
+use Rattle.rob_top.specs.declared.ended.Ended.TheVariants.{Optimal, Infeasible, Unbounded, Printed, Accepted, Rejected, Words, Missing, TooLong, Model, EmptySet, TooWide, Cert, Scenarios, ReadFault, WriteFault, Memory}
 use Rattle.rob_words.specs.Commands.{Line, IsCommandLine}
 use Rattle.rob_words.specs.Values.{bits_of}
 use Rattle.rob_words.specs.declared.verb.Verb.{Verb}
@@ -125,7 +128,8 @@ module _ (call : Call) (known : Known call.source) (ended : Ended) (comes : Come
     model = λ line bytes rule number spelled came file breaks.
         comes_ends call (Model rule number) ended comes
         (λ text. broken_answer call known line spelled ended text bytes rule number came file breaks);
-    wide = λ line m spot has first. comes_ends call (TooWide spot) ended comes (wide_decides call known line m has spot first ended);
+    wide = λ line m spot has makes first.
+        comes_ends call (TooWide spot) ended comes (wide_decides call known line m has makes spot first ended);
     rows = λ line m has is. comes_ends call Printed ended comes (rows_decide call known line m has is ended);
     solving = solving_ends;
     empty = empty_ends;
@@ -139,6 +143,11 @@ module _ (call : Call) (known : Known call.source) (ended : Ended) (comes : Come
     accepted = λ line m c has narrow proves.
         verdict_at line m c has verdicts.Accepted ((decided line m c has narrow).accepted.1 proves);
     rejected = rejected_ends;
+    planless = λ line m rule number lacks.
+        comes_ends call (Cert rule number) ended comes (planless_decides call known line m rule number lacks ended);
+    replayed = λ line m c bytes rows has file.
+        comes_ends call (replay_ended (outcome (limit_of line) m c.plan rows)) ended comes
+        (replay_decides call known line m c bytes rows has file ended);
   }
 
 -- ---- by each part of what is known of the files
@@ -172,6 +181,7 @@ ends_come call output (Model rule line) h = inl (h.text, h.means)
 ends_come call output (EmptySet weights) h = inl (h.text, h.means)
 ends_come call output (TooWide spot) h = inl (h.text, h.means)
 ends_come call output (Cert rule line) h = inl (h.text, h.means)
+ends_come call output (Scenarios rule number) h = inl (h.text, h.means)
 ends_come call output ReadFault h = inl (h.text, h.means)
 
 pub ends_complete : (call : Call) (output : Output) (ended : Ended) → Ends call output ended → IsComplete call ended

@@ -14,21 +14,25 @@ use Rattle.rob_meaning.specs.RobustModel.{RobustModel}
 use Rattle.rob_meaning.specs.UncertaintySet.{Admits}
 use Rattle.rob_model.specs.declared.place.Place.{Place}
 use Rattle.rob_model.specs.declared.place.Spot.{Spot}
+use Rattle.rob_replay.specs.Files.{IsFile}
+use Rattle.rob_replay.specs.Outcome.{outcome}
 use Rattle.rob_sets.specs.FirstWide.{IsFirstWide}
 use Rattle.rob_sets.specs.SetForm.{judged_set}
-use Rattle.rob_top.specs.Calls.{Call, IsSolving, limit_of}
+use Rattle.rob_top.specs.Calls.{Call, IsElaborating, IsSolving, limit_of}
 use Rattle.rob_top.specs.Checked.{IsAccepted, IsRejected}
-use Rattle.rob_top.specs.Inputs.{HasCertificate, HasCertificateFile, HasForms}
-use Rattle.rob_top.specs.Refused.{IsNoCertificate, IsWideSpot, checking, elaborating, solving}
+use Rattle.rob_top.specs.Inputs.{HasCertificate, HasCertificateFile, HasForms, HasScenarios}
+use Rattle.rob_top.specs.Refused.{IsNoCertificate, IsWideSpot, checking, elaborating, replaying, solving}
+use Rattle.rob_top.specs.Replayed.{IsNoPlan, IsNoScenarios, IsReplayed, LacksPlan, replay_ended}
 use Rattle.rob_top.specs.Solved.{IsEmptySet as IsShownEmptySet, IsRows, IsSolved}
 use Rattle.rob_top.specs.Work.{ended_of, verdict_ended}
 use Rattle.rob_top.specs.declared.ended.Ended.{Ended}
-use Rattle.rob_top.specs.declared.ended.Ended.TheVariants.{Printed, Accepted, Rejected, EmptySet, TooWide, Cert}
+use Rattle.rob_top.specs.declared.ended.Ended.TheVariants.{Printed, Accepted, Rejected, EmptySet, TooWide, Cert, Scenarios}
 use Rattle.rob_words.specs.Commands.{Line}
 use Rattle.rob_words.specs.declared.verb.Verb.TheVariants.{Rows}
 
 -- what stands behind the answer: a status of the model, or an empty set; printed rows; a verdict, or a certificate's text that
--- breaks a rule; or a wide number of the set rows and forms, or of a row on the path
+-- breaks a rule; or a wide number of the set rows and forms, or of a row on the path; the outcome of a scenario file's records, or a
+-- certificate without a plan
 pub data Course (call : Call) (line : Line) (m : RobustModel) (ended : Ended) : Type 0 where
   finds : (status : Status) (v : Fraction) (u : List Fraction) → Admits m u → HasForms call line m → IsSolving line.verb → HasStatus m status v → ended ≡ ended_of status → Course call line m ended
   shows_empty : (weights : List ℤ) → HasForms call line m → IsSolving line.verb → IsShownEmpty m (map of_int weights) → ended ≡ EmptySet weights → Course call line m ended
@@ -36,8 +40,11 @@ pub data Course (call : Call) (line : Line) (m : RobustModel) (ended : Ended) : 
   judges : (c : Certificate) → HasCertificate call line m c → ended ≡ verdict_ended (verdict_of (limit_of line) m c) → Course call line m ended
   refuses : (bytes : List ℕ) (rule number : ℕ) → HasCertificateFile call line m bytes → HasCause (naming_of m) (limit_of line) start bytes 1 (Rule rule number) → ended ≡ Cert rule number
       → Course call line m ended
-  wide_number : (spot : Spot) → IsFirstWide (limit_of line) m (judged_set m ++ judged_forms m) spot → ended ≡ TooWide spot → Course call line m ended
+  wide_number : (spot : Spot) → IsElaborating line.verb → IsFirstWide (limit_of line) m (judged_set m ++ judged_forms m) spot → ended ≡ TooWide spot → Course call line m ended
   wide_row : (spot : Spot) → HasForms call line m → IsSolving line.verb → IsWideOnPath (limit_of line) m spot → ended ≡ TooWide spot → Course call line m ended
+  replays : (c : Certificate) (bytes : List ℕ) (rows : List (List (List ℕ))) → HasScenarios call line m c bytes → IsFile bytes rows
+      → ended ≡ replay_ended (outcome (limit_of line) m c.plan rows) → Course call line m ended
+  lacks_plan : (rule number : ℕ) → LacksPlan call line m rule number → ended ≡ Cert rule number → Course call line m ended
 
 -- a certificate that proves has an admitted scenario
 pub inside_admitted : (m : RobustModel) (c : Certificate) (status : Status) → ProvesAs status m c → Admits m c.inside
@@ -65,9 +72,21 @@ module _ (call : Call) where
   cert_course rule number text h = refuses h.bytes rule number h.file h.breaks refl
 
   pub wide_course : (line : Line) (m : RobustModel) (spot : Spot) → IsWideSpot call line m spot → Course call line m (TooWide spot)
-  wide_course line m spot (elaborating has first) = wide_number spot first refl
+  wide_course line m spot (elaborating has makes first) = wide_number spot makes first refl
   wide_course line m spot (solving has solves wide) = wide_row spot has solves wide refl
   wide_course line m spot (checking c place has is verdict) = judges c has (ap (λ (s : Spot). TooWide s) is ∙ ap verdict_ended (sym verdict))
+
+  wide_course line m spot (replaying c bytes number has is gives) =
+      replays c bytes gives.0 has gives.1 (ap (λ (s : Spot). TooWide s) is ∙ ap replay_ended (sym gives.2))
+
+  pub replayed_course : (text : List ℕ) (h : IsReplayed call text) → Course call h.line h.m Printed
+  replayed_course text h = replays h.c h.bytes h.rows h.has h.file (ap replay_ended (sym h.narrow))
+
+  pub scenarios_course : (rule number : ℕ) (text : List ℕ) (h : IsNoScenarios call rule number text) → Course call h.line h.m (Scenarios rule number)
+  scenarios_course rule number text h = replays h.c h.bytes h.refused.0 h.has h.refused.1 (ap replay_ended (sym h.refused.2))
+
+  pub lacking_course : (rule number : ℕ) (text : List ℕ) (h : IsNoPlan call rule number text) → Course call h.line h.m (Cert rule number)
+  lacking_course rule number text h = lacks_plan rule number h.lacks refl
 
 -- the same of equal lines and models
 pub course_at : (call : Call) (l line : Line) (k m : RobustModel) (ended : Ended) → l ≡ line → k ≡ m → Course call l k ended → Course call line m ended

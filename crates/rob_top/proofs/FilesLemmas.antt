@@ -1,5 +1,6 @@
 -- What came of a command's files, from what came of each.
-use Rattle.std.proofs.Common.{◌≡◌, ◌≤◌, ◌==◌, ◌&&◌, ◌⊎◌, inl, inr, Bool, true, false, if◌then◌else◌, ℕ, ◌-◌, List, [], ◌∷◌, ◌++◌, length, map, take, drop, append_assoc, slice_index_or, Option, Some, None, Result, Ok, Err, IfOk, IfSome, refl, sym, ◌∙◌, ap, subst, arith, Vec, Global}
+use Rattle.std.proofs.Common.{◌≡◌, ◌≤◌, ◌==◌, ◌⊎◌, inl, inr, Bool, true, false, if◌then◌else◌, ℕ, ◌-◌, List, [], ◌∷◌, ◌++◌, length, map, take, drop, append_assoc, slice_index_or, Option, Some, None, Result, Ok, Err, IfOk, IfSome, refl, sym, ◌∙◌, ap, subst, arith, Vec, Global}
+use Rattle.std.specs.Prelude.{option_map}
 use Rattle.std.specs.Str.{bytes_eq}
 use Rattle.std.proofs.lemmas.Bool.Decides.{nat_tests}
 use Rattle.std.proofs.Math.Seq.{drop-append_seam, take-length}
@@ -10,19 +11,19 @@ use Rattle.rob_number.specs.Counts.{Rose}
 use Rattle.rob_outside.specs.Fetches.{Fetch, fetch_of, logged}
 use Rattle.rob_outside.specs.Files.{File, Finds, Found, whole, missing, too_long, found_at, found_of}
 use Rattle.rob_outside.specs.declared.shelf.Fetched.{Fetched}
-use Rattle.rob_top.specs.Calls.{Call, Came, Count, IsFoundIn, Request, Source, WasRaised, answer_to, are_apart, behind, count, file_of, files_of, is_apart, most_of, requests, source_of, word_of}
+use Rattle.rob_top.specs.Calls.{Call, Came, Count, IsFoundIn, Request, Source, WasRaised, answer_to, behind, count, file_of, files_of, later, most_of, request_of, requests, source_of}
 use Rattle.rob_top.specs.Headline.{Means}
 use Rattle.rob_top.specs.Replies.{AreFound, Asks, AsksOnce, CameIn, IsAbsence, IsAbsentAmong, IsFetched, IsGot, IsNothing, text_of, with_file, with_text}
 use Rattle.rob_top.specs.Work.{IsShortFetch}
 use Rattle.rob_top.specs.declared.ended.Ended.{Ended}
-use Rattle.rob_top.specs.declared.ended.Ended.TheVariants.{Optimal, Infeasible, Unbounded, Printed, Accepted, Rejected, Words, Missing, TooLong, Model, EmptySet, TooWide, Cert, ReadFault, WriteFault, Memory}
+use Rattle.rob_top.specs.declared.ended.Ended.TheVariants.{Optimal, Infeasible, Unbounded, Printed, Accepted, Rejected, Words, Missing, TooLong, Model, EmptySet, TooWide, Cert, Scenarios, ReadFault, WriteFault, Memory}
 use Rattle.rob_top.specs.declared.files.Files.{Files}
 use Rattle.rob_top.specs.declared.files.Files.TheVariants as files
 use Rattle.rob_top.specs.declared.files.Got.{Got}
 use Rattle.rob_top.specs.declared.files.Got.TheVariants.{Bytes, Answer}
 use Rattle.rob_top.specs.declared.files.Texts.{Texts}
 use Rattle.rob_top.specs.declared.reply.Reply.{Reply}
-use Rattle.rob_top.proofs.OwnLemmas.{apart_files, apart_word, both_true, text_of-other, text_of-same}
+use Rattle.rob_top.proofs.OwnLemmas.{later_request, text_of-other, text_of-same}
 use Rattle.rob_words.specs.Commands.{Line, IsSpelled}
 use Rattle.rob_words.specs.Values.{Word}
 use Rattle.rob_words.specs.contracts.verb.Own.{the_type}
@@ -91,6 +92,7 @@ means_absent call line before request behind faults (Model rule number) text spe
 means_absent call line before request behind faults (EmptySet weights) text spelled order came raised h = absurd h
 means_absent call line before request behind faults (TooWide spot) text spelled order came raised h = absurd h
 means_absent call line before request behind faults (Cert rule number) text spelled order came raised h = absurd h
+means_absent call line before request behind faults (Scenarios rule number) text spelled order came raised h = absurd h
 means_absent call line before request behind faults WriteFault text spelled order came raised h = absurd h
 means_absent call line before request behind faults Memory text spelled order came raised h = absurd h
 
@@ -100,10 +102,14 @@ means_absent call line before request behind faults Memory text spelled order ca
 pub behind_grown : (before now added : List Fetch) → now ≡ before ++ added → behind before now ≡ added
 behind_grown before now added e = ap (λ (list : List Fetch). drop (length before) list) e ∙ drop-append_seam before added
 
+-- the file where it is the first
+abbrev pub first : Request → Request
+first request = record request { place = 0 }
+
 -- what a single fetch of the file found is what is found
-pub answer_here : (request : Request) (found : Option Found)
-    → answer_to request (fetch_of request.name request.most found ∷ []) ≡ found
-answer_here request found =
+pub answer_here : (request : Request) (found : Option Found) (more : List Fetch)
+    → answer_to (first request) (fetch_of request.name request.most found ∷ more) ≡ found
+answer_here request found more =
     let same : bytes_eq request.name request.name ≡ true = (bytes_eq-Decides request.name request.name).1 refl in
     let most_same : (request.most == request.most) ≡ true = grind (arith, nat_tests) in
     rw most_same (rw same refl)
@@ -111,34 +117,19 @@ answer_here request found =
 -- what one fetch answered is what is found
 pub found_by_result : {E : Type 0} (told : Option (List File)) (request : Request) (before now : List Fetch) (result : Result Fetched E)
     → Finds told request.name request.most result → now ≡ before ++ logged request.name request.most result
-    → IfOk result (λ fetched. IsFoundIn (source_of told before now) request (found_of fetched))
+    → IfOk result (λ fetched. IsFoundIn (source_of told before now) (first request) (found_of fetched))
 found_by_result told request before now (Err error) finds e = tt
 found_by_result told request before now (Ok fetched) finds e = (
   by told finds,
-  subst (λ (list : List Fetch). answer_to request list ≡ Some (found_of fetched))
+  subst (λ (list : List Fetch). answer_to (first request) list ≡ Some (found_of fetched))
       (sym (behind_grown before now (fetch_of request.name request.most (Some (found_of fetched)) ∷ []) e))
-      (answer_here request (Some (found_of fetched))),
+      (answer_here request (Some (found_of fetched)) []),
 )
   where
     by : (t : Option (List File)) → Finds {E = Unit {0}} t request.name request.most (Ok fetched)
         → IfSome t (λ files. found_at request.name request.most files ≡ found_of fetched)
     by None h = tt
     by (Some files) h = sym h
-
--- an answer stays the first one when other fetches come behind
-answer_longer : (request : Request) (first : Fetch) (more : List Fetch) (found : Found) → answer_to request (first ∷ []) ≡ Some found
-    → answer_to request (first ∷ more) ≡ Some found
-answer_longer request first more found e = by ((first.most == request.most) && bytes_eq first.name request.name) e
-  where
-    by : (b : Bool) → (if b then first.found else None) ≡ Some found
-        → (if b then first.found else answer_to request more) ≡ Some found
-    by true h = h
-    by false h = absurd (cc h)
-
--- a fetch of another bound is passed over
-answer_other : (request : Request) (first : Fetch) (more : List Fetch) → (first.most == request.most) ≡ false
-    → answer_to request (first ∷ more) ≡ answer_to request more
-answer_other request first more other = rw other refl
 
 -- ---- a fetch, and fetches of other files behind it
 module _ (told : Option (List File)) (request : Request) (files : List Request) (before middle now : List Fetch)
@@ -153,60 +144,60 @@ module _ (told : Option (List File)) (request : Request) (files : List Request) 
   all = behind_grown before now (here ∷ rest.added) grown_all
 
   -- what was found of the first file stays
-  pub found_longer : (found : Found) → IsFoundIn (source_of told before middle) request found → IsFoundIn (source_of told before now) request found
+  pub found_longer : (found : Found) → IsFoundIn (source_of told before middle) (first request) found
+      → IsFoundIn (source_of told before now) (first request) found
   found_longer found h = (
     h.0,
-    subst (λ (list : List Fetch). answer_to request list ≡ Some found) (sym all)
-        (answer_longer request here rest.added found
-        (subst (λ (list : List Fetch). answer_to request list ≡ Some found) (behind_grown before middle (here ∷ []) one.grown) h.1)),
+    subst (λ (list : List Fetch). answer_to (first request) list ≡ Some found) (sym all)
+        (answer_here request one.found rest.added ∙ sym (answer_here request one.found [])
+        ∙ subst (λ (list : List Fetch). answer_to (first request) list ≡ Some found) (behind_grown before middle (here ∷ []) one.grown) h.1),
   )
 
-  -- what is found of a file of another bound is what the later fetches found
-  pub found_behind : (other : Request) (found : Found) → (request.most == other.most) ≡ false
-      → IsFoundIn (source_of told middle now) other found → IsFoundIn (source_of told before now) other found
-  found_behind other found differ h = (
+  -- what the later fetches found of a file is what is found of it behind the first
+  pub found_behind : (other : Request) (found : Found) → IsFoundIn (source_of told middle now) other found
+      → IsFoundIn (source_of told before now) (later other) found
+  found_behind other found h = (
     h.0,
-    subst (λ (list : List Fetch). answer_to other list ≡ Some found) (sym all)
-        (answer_other other here rest.added differ
-        ∙ subst (λ (list : List Fetch). answer_to other list ≡ Some found) (behind_grown middle now rest.added rest.grown) h.1),
+    subst (λ (list : List Fetch). answer_to (later other) list ≡ Some found) (sym all)
+        (subst (λ (list : List Fetch). answer_to other list ≡ Some found) (behind_grown middle now rest.added rest.grown) h.1),
   )
 
-  came_behind : (list : List Request) → Each (λ (r : Request). (request.most == r.most) ≡ false) list
-      → Each (CameIn (source_of told middle now)) list → Each (CameIn (source_of told before now)) list
-  came_behind [] differ h = tt
-  came_behind (r ∷ list) differ h = ((h.0.0, found_behind r (whole h.0.0) differ.0 h.0.1), came_behind list differ.1 h.1)
+  came_behind : (list : List Request) → Each (CameIn (source_of told middle now)) list → Each (CameIn (source_of told before now)) (map later list)
+  came_behind [] h = tt
+  came_behind (r ∷ list) h = ((h.0.0, found_behind r (whole h.0.0) h.0.1), came_behind list h.1)
 
-  absence_behind : (other : Request) (earlier faults : Count) (ended : Ended) (text : List ℕ) → (request.most == other.most) ≡ false
+  absence_behind : (other : Request) (earlier faults : Count) (ended : Ended) (text : List ℕ)
       → (WasRaised faults → WasRaised earlier) → IsAbsence (source_of told middle now) other faults ended text
-      → IsAbsence (source_of told before now) other earlier ended text
-  absence_behind other earlier faults Missing text differ raised h = (found_behind other missing differ h.0, h.1)
-  absence_behind other earlier faults TooLong text differ raised h = (found_behind other too_long differ h.0, h.1)
-  absence_behind other earlier faults ReadFault text differ raised h = (raised h.0, h.1)
-  absence_behind other earlier faults Optimal text differ raised h = absurd h
-  absence_behind other earlier faults Infeasible text differ raised h = absurd h
-  absence_behind other earlier faults Unbounded text differ raised h = absurd h
-  absence_behind other earlier faults Printed text differ raised h = absurd h
-  absence_behind other earlier faults Accepted text differ raised h = absurd h
-  absence_behind other earlier faults (Rejected place) text differ raised h = absurd h
-  absence_behind other earlier faults Words text differ raised h = absurd h
-  absence_behind other earlier faults (Model rule number) text differ raised h = absurd h
-  absence_behind other earlier faults (EmptySet weights) text differ raised h = absurd h
-  absence_behind other earlier faults (TooWide spot) text differ raised h = absurd h
-  absence_behind other earlier faults (Cert rule number) text differ raised h = absurd h
-  absence_behind other earlier faults WriteFault text differ raised h = absurd h
-  absence_behind other earlier faults Memory text differ raised h = absurd h
+      → IsAbsence (source_of told before now) (later other) earlier ended text
+  absence_behind other earlier faults Missing text raised h = (found_behind other missing h.0, h.1)
+  absence_behind other earlier faults TooLong text raised h = (found_behind other too_long h.0, h.1)
+  absence_behind other earlier faults ReadFault text raised h = (raised h.0, h.1)
+  absence_behind other earlier faults Optimal text raised h = absurd h
+  absence_behind other earlier faults Infeasible text raised h = absurd h
+  absence_behind other earlier faults Unbounded text raised h = absurd h
+  absence_behind other earlier faults Printed text raised h = absurd h
+  absence_behind other earlier faults Accepted text raised h = absurd h
+  absence_behind other earlier faults (Rejected place) text raised h = absurd h
+  absence_behind other earlier faults Words text raised h = absurd h
+  absence_behind other earlier faults (Model rule number) text raised h = absurd h
+  absence_behind other earlier faults (EmptySet weights) text raised h = absurd h
+  absence_behind other earlier faults (TooWide spot) text raised h = absurd h
+  absence_behind other earlier faults (Cert rule number) text raised h = absurd h
+  absence_behind other earlier faults (Scenarios rule number) text raised h = absurd h
+  absence_behind other earlier faults WriteFault text raised h = absurd h
+  absence_behind other earlier faults Memory text raised h = absurd h
 
-each_split : {A : Type 0} (P : A → Type 0) (xs ys : List A) → Each P (xs ++ ys) → Each P xs × Each P ys
-each_split P [] ys h = (tt, h)
-each_split P (x ∷ xs) ys h = let rest = each_split P xs ys h.1 in ((h.0, rest.0), rest.1)
+map-append : {A B : Type 0} (f : A → B) (xs ys : List A) → map f (xs ++ ys) ≡ map f xs ++ map f ys
+map-append f [] ys = refl
+map-append f (x ∷ xs) ys = ap (λ list. f x ∷ list) (map-append f xs ys)
 
 -- ---- the files of own words
 
 -- there are none
 none_found : (source : Source) (kinds : List Own) (names : List Word) (texts : Texts) → (length kinds ≡ 0) ⊎ (length names ≡ 0)
     → AreFound source kinds names texts
-none_found source [] names texts e = record { came = tt; found = λ kind name named. absurd (let no : None ≡ Some name = named in cc) }
-none_found source (kind ∷ kinds) [] texts e = record { came = tt; found = λ other name named. absurd (let no : None ≡ Some name = named in cc) }
+none_found source [] names texts e = record { came = tt; found = λ kind r named. absurd (let no : None ≡ Some r = named in cc) }
+none_found source (kind ∷ kinds) [] texts e = record { came = tt; found = λ other r named. absurd (let no : None ≡ Some r = named in cc) }
 none_found source (kind ∷ kinds) (name ∷ names) texts (inl e) = absurd (omega (arith, e))
 none_found source (kind ∷ kinds) (name ∷ names) texts (inr e) = absurd (omega (arith, e))
 
@@ -222,15 +213,15 @@ pub first_absent : (kind : Own) (kinds : List Own) (name : Word) (names : List W
 first_absent kind kinds name names source faults reply h = record {
   before = [];
   request = file_of kind name;
-  behind = files_of kinds names;
+  behind = map later (files_of kinds names);
   order = refl;
   came = tt;
   absent = h;
 }
 
 -- the first came, and then those behind it were asked for
-module _ (told later : Option (List File)) (same : later ≡ told) (kind : Own) (kinds : List Own) (name : Word) (names : List Word)
-    (apart : are_apart (kind ∷ kinds) ≡ true) (before middle now : List Fetch) (one : AsksOnce (file_of kind name) before middle)
+module _ (told later_told : Option (List File)) (same : later_told ≡ told) (kind : Own) (kinds : List Own) (name : Word) (names : List Word)
+    (before middle now : List Fetch) (one : AsksOnce (file_of kind name) before middle)
     (rest : Asks (files_of kinds names) middle now) (bytes : Vec ℕ Global)
     (found : IsFoundIn (source_of told before middle) (file_of kind name) (whole bytes.items)) (start between end : ℕ) (rose : start ≤ between) where
   abbrev request : Request
@@ -242,9 +233,6 @@ module _ (told later : Option (List File)) (same : later ≡ told) (kind : Own) 
   abbrev behind_it : Source
   behind_it = source_of told middle now
 
-  others_apart : Each (λ (r : Request). (request.most == r.most) ≡ false) (files_of kinds names)
-  others_apart = apart_files kind kinds names (both_true (is_apart kind kinds) (are_apart kinds) apart).0
-
   first_came : IsFoundIn earlier request (whole bytes.items)
   first_came = found_longer told request (files_of kinds names) before middle now one rest (whole bytes.items) found
 
@@ -252,43 +240,43 @@ module _ (told later : Option (List File)) (same : later ≡ told) (kind : Own) 
   all_found texts h = record {
     came = (
       (bytes.items, first_came),
-      came_behind told request (files_of kinds names) before middle now one rest (files_of kinds names) others_apart h.came,
+      came_behind told request (files_of kinds names) before middle now one rest (files_of kinds names) h.came,
     );
-    found = λ other word named. by other word (sameb the_type kind other) refl named;
+    found = λ other r named. by other r (sameb the_type kind other) refl named;
   }
     where
-      by : (other : Own) (word : Word) (b : Bool) → sameb the_type kind other ≡ b → (if b then Some name else word_of other kinds names) ≡ Some word
-          → IsFoundIn earlier (file_of other word) (whole (text_of other (with_text kind bytes texts)))
-      by other word true e named =
-          let words : name ≡ word = cc in
-          subst (λ (o : Own). IsFoundIn earlier (file_of o word) (whole (text_of o (with_text kind bytes texts)))) (same_true the_type tt kind other e)
-          (subst (λ (w : Word). IsFoundIn earlier (file_of kind w) (whole (text_of kind (with_text kind bytes texts)))) words
+      by : (other : Own) (r : Request) (b : Bool) → sameb the_type kind other ≡ b
+          → (if b then Some request else option_map later (request_of other kinds names)) ≡ Some r
+          → IsFoundIn earlier r (whole (text_of other (with_text kind bytes texts)))
+      by other r true e named =
+          let alike : request ≡ r = cc in
+          subst (λ (o : Own). IsFoundIn earlier r (whole (text_of o (with_text kind bytes texts)))) (same_true the_type tt kind other e)
+          (subst (λ (q : Request). IsFoundIn earlier q (whole (text_of kind (with_text kind bytes texts)))) alike
           (subst (λ (list : List ℕ). IsFoundIn earlier request (whole list)) (sym (text_of-same kind bytes texts)) first_came))
-      by other word false e named =
-          let differ = apart_word kind other kinds names word (both_true (is_apart kind kinds) (are_apart kinds) apart).0 named in
-          subst (λ (list : List ℕ). IsFoundIn earlier (file_of other word) (whole list)) (sym (text_of-other kind other bytes texts differ))
-          (found_behind told request (files_of kinds names) before middle now one rest (file_of other word) (whole (text_of other texts)) differ
-          (h.found other word named))
+      by other r false e named =
+          let s = later_request (request_of other kinds names) r named in
+          subst (λ (q : Request). IsFoundIn earlier q (whole (text_of other (with_text kind bytes texts)))) (sym s.2)
+          (subst (λ (list : List ℕ). IsFoundIn earlier (later s.0) (whole list)) (sym (text_of-other kind other bytes texts e))
+          (found_behind told request (files_of kinds names) before middle now one rest s.0 (whole (text_of other texts)) (h.found other s.0 s.1)))
 
   one_absent : (reply : Reply) → IsAbsentAmong behind_it (files_of kinds names) (count between end) reply.ended reply.text
-      → IsAbsentAmong earlier (request ∷ files_of kinds names) (count start end) reply.ended reply.text
-  one_absent reply h =
-      let differ = each_split (λ (r : Request). (request.most == r.most) ≡ false) h.before (h.request ∷ h.behind)
-      (subst (λ (list : List Request). Each (λ (r : Request). (request.most == r.most) ≡ false) list) h.order others_apart) in
-      record {
-        before = request ∷ h.before;
-        request = h.request;
-        behind = h.behind;
-        order = ap (λ (list : List Request). request ∷ list) h.order;
-        came = (
-          (bytes.items, first_came),
-          came_behind told request (files_of kinds names) before middle now one rest h.before differ.0 h.came,
-        );
-        absent = absence_behind told request (files_of kinds names) before middle now one rest h.request (count start end) (count between end)
-            reply.ended reply.text differ.1.0 (λ r. rose_earlier start between end rose r) h.absent;
-      }
+      → IsAbsentAmong earlier (request ∷ map later (files_of kinds names)) (count start end) reply.ended reply.text
+  one_absent reply h = record {
+    before = request ∷ map later h.before;
+    request = later h.request;
+    behind = map later h.behind;
+    order =
+        ap (λ (list : List Request). request ∷ map later list) h.order
+        ∙ ap (λ (list : List Request). request ∷ list) (map-append later h.before (h.request ∷ h.behind));
+    came = (
+      (bytes.items, first_came),
+      came_behind told request (files_of kinds names) before middle now one rest h.before h.came,
+    );
+    absent = absence_behind told request (files_of kinds names) before middle now one rest h.request (count start end) (count between end)
+        reply.ended reply.text (λ r. rose_earlier start between end rose r) h.absent;
+  }
 
-  pub more_fetched : (found_files : Files) → IsFetched kinds names (source_of later middle now) (count between end) found_files
+  pub more_fetched : (found_files : Files) → IsFetched kinds names (source_of later_told middle now) (count between end) found_files
       → IsFetched (kind ∷ kinds) (name ∷ names) earlier (count start end) (with_file kind bytes found_files)
   more_fetched (files.Texts texts) h =
       all_found texts (subst (λ (t : Option (List File)). AreFound (source_of t middle now) kinds names texts) same h)
@@ -299,13 +287,18 @@ module _ (told later : Option (List File)) (same : later ≡ told) (kind : Own) 
 -- ---- texts are short
 
 pub none_short : (found_files : Files) → IsNothing found_files → IsShortFetch found_files
-none_short (files.Texts texts) none = record { model = omega (arith, ap length none.0); certificate = omega (arith, ap length none.1) }
+none_short (files.Texts texts) none = record {
+  model = omega (arith, ap length none.0);
+  certificate = omega (arith, ap length none.1);
+  scenarios = omega (arith, ap length none.2);
+}
 none_short (files.Answer reply) none = absurd none
 
 pub more_short : (kind : Own) (bytes : Vec ℕ Global) (found_files : Files) → length bytes.items ≤ most_of kind → IsShortFetch found_files
     → IsShortFetch (with_file kind bytes found_files)
-more_short own.Model bytes (files.Texts texts) few h = record { model = omega (arith, few); certificate = h.certificate }
-more_short own.Certificate bytes (files.Texts texts) few h = record { model = h.model; certificate = omega (arith, few) }
+more_short own.Model bytes (files.Texts texts) few h = record { model = omega (arith, few); certificate = h.certificate; scenarios = h.scenarios }
+more_short own.Certificate bytes (files.Texts texts) few h = record { model = h.model; certificate = omega (arith, few); scenarios = h.scenarios }
+more_short own.Scenarios bytes (files.Texts texts) few h = record { model = h.model; certificate = h.certificate; scenarios = omega (arith, few) }
 more_short kind bytes (files.Answer reply) few h = tt
 
 -- ---- the first of own words, and those behind it
@@ -315,7 +308,7 @@ abbrev pub others : {A : Type 0} → List A → List A
 others xs = take (length xs - 1) (drop 1 xs)
 
 -- a list is its first item and the rest
-split_first : {A : Type 0} (xs : List A) (d : A) → 1 ≤ length xs → xs ≡ slice_index_or xs 0 d ∷ others xs
+pub split_first : {A : Type 0} (xs : List A) (d : A) → 1 ≤ length xs → xs ≡ slice_index_or xs 0 d ∷ others xs
 split_first [] d some = absurd (omega (arith, some))
 split_first (x ∷ xs) d some =
     let behind_it : length (x ∷ xs) - 1 ≡ length xs = omega arith in
@@ -330,7 +323,7 @@ module _ {A : Type 0} (text : A → Word) (kinds : List Own) (names : List A) (d
   words-split = ap (map text) (split_first names e some_name) ∙ ap (λ w. w ∷ map text (others names)) (sym name_is)
 
   abbrev asked : ℕ → Request
-  asked n = record { name = name; most = n }
+  asked n = record { place = 0; name = name; most = n }
 
   file-is : asked most ≡ file_of kind name
   file-is = ap asked most_is
@@ -342,23 +335,22 @@ module _ {A : Type 0} (text : A → Word) (kinds : List Own) (names : List A) (d
       subst (λ ks. IsFetched ks (map text names) source faults found_files) (sym (split_first kinds d some_kind))
       (subst (λ ns. IsFetched (kind ∷ others kinds) ns source faults found_files) (sym words-split) h)
 
-  pub words_absent : (source : Source) (faults : Count) (reply : Reply) → IsAbsence source (record { name = name; most = most }) faults reply.ended reply.text
+  pub words_absent : (source : Source) (faults : Count) (reply : Reply) → IsAbsence source (record { place = 0; name = name; most = most }) faults reply.ended reply.text
       → IsFetched kinds (map text names) source faults (files.Answer reply)
   words_absent source faults reply h =
       whole_lists source faults (files.Answer reply)
       (first_absent kind (others kinds) name (map text (others names)) source faults reply
       (subst (λ r. IsAbsence source r faults reply.ended reply.text) file-is h))
 
-  pub words_fetched : (told later : Option (List File)) → later ≡ told → are_apart kinds ≡ true → (before middle now : List Fetch)
-      → AsksOnce (record { name = name; most = most }) before middle → Asks (files_of (others kinds) (map text (others names))) middle now
-      → (bytes : Vec ℕ Global) → IsFoundIn (source_of told before middle) (record { name = name; most = most }) (whole bytes.items)
+  pub words_fetched : (told later_told : Option (List File)) → later_told ≡ told → (before middle now : List Fetch)
+      → AsksOnce (record { place = 0; name = name; most = most }) before middle → Asks (files_of (others kinds) (map text (others names))) middle now
+      → (bytes : Vec ℕ Global) → IsFoundIn (source_of told before middle) (record { place = 0; name = name; most = most }) (whole bytes.items)
       → (start between end : ℕ) → start ≤ between → (found_files result : Files)
-      → IsFetched (others kinds) (map text (others names)) (source_of later middle now) (count between end) found_files
+      → IsFetched (others kinds) (map text (others names)) (source_of later_told middle now) (count between end) found_files
       → result ≡ with_file kind bytes found_files → IsFetched kinds (map text names) (source_of told before now) (count start end) result
-  words_fetched told later same apart before middle now one rest bytes found start between end rose found_files result h is =
+  words_fetched told later_told same before middle now one rest bytes found start between end rose found_files result h is =
       whole_lists (source_of told before now) (count start end) result
       (subst (λ r. IsFetched (kind ∷ others kinds) (name ∷ map text (others names)) (source_of told before now) (count start end) r) (sym is)
-      (more_fetched told later same kind (others kinds) name (map text (others names))
-      (subst (λ ks. are_apart ks ≡ true) (split_first kinds d some_kind) apart) before middle now
+      (more_fetched told later_told same kind (others kinds) name (map text (others names)) before middle now
       (subst (λ r. AsksOnce r before middle) file-is one) rest bytes
       (subst (λ r. IsFoundIn (source_of told before middle) r (whole bytes.items)) file-is found) start between end rose found_files h))

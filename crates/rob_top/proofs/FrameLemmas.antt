@@ -4,7 +4,7 @@ use Rattle.rob_meaning.specs.Places.{Each}
 use Rattle.rob_number.specs.declared.memory.Memory.{Memory as Want}
 use Rattle.rob_outside.specs.Files.{whole}
 use Rattle.rob_top.specs.Answers.{words_text}
-use Rattle.rob_top.specs.Calls.{Call, Count, IsFoundIn, Source, WasRaised, call_of, file_of, requests}
+use Rattle.rob_top.specs.Calls.{Call, Count, IsFoundIn, Source, WasRaised, call_of, requests}
 use Rattle.rob_top.specs.Headline.{Means}
 use Rattle.rob_top.specs.Replies.{AreFound, CameIn, HasTexts, IsAbsence, IsAbsentAmong, IsFetched, IsLine, Replies, text_of}
 use Rattle.rob_top.specs.declared.ended.Ended.{Ended}
@@ -42,8 +42,8 @@ module _ (line : CommandLine) (source : Source) (faults wides : Count) where
       (record {
         spelled = spelled;
         came = subst (λ (s : Source). Each (CameIn s) (requests (line_of line))) (sym source_is) found.came;
-        found = λ kind name named.
-            subst (λ (s : Source). IsFoundIn s (file_of kind name) (whole (text_of kind texts))) (sym source_is) (found.found kind name named);
+        found = λ kind r named.
+            subst (λ (s : Source). IsFoundIn s r (whole (text_of kind texts))) (sym source_is) (found.found kind r named);
       })
       refl refl wides_is
 

@@ -1,18 +1,19 @@
 -- An answer means the same where less is known of the files. So what follows from a part of what is known follows from all.
-use Rattle.std.proofs.Common.{◌≡◌, ℕ, List, [], ◌∷◌, Option, Some, IfSome, refl, subst}
+use Rattle.std.proofs.Common.{◌≡◌, ℕ, List, [], ◌∷◌, Option, Some, IfSome, inl, inr, refl, subst}
 use Rattle.rob_meaning.specs.Certificates.{Certificate, Status, optimal, infeasible, unbounded}
 use Rattle.rob_meaning.specs.Places.{Each}
 use Rattle.rob_meaning.specs.RobustModel.{RobustModel}
 use Rattle.rob_model.specs.declared.place.Spot.{Spot}
 use Rattle.rob_outside.specs.Fetches.{Fetch}
 use Rattle.rob_outside.specs.Files.{File, Found, whole, missing, too_long, found_at}
-use Rattle.rob_top.specs.Calls.{Call, Came, HasFile, IsFirstAbsent, IsFoundIn, Known, Request, Source, answer_to, by_fetches, by_files, file_of, known_call, known_source, requests}
+use Rattle.rob_top.specs.Calls.{Call, Came, HasFile, IsFirstAbsent, IsFoundIn, Known, Request, Source, answer_to, by_fetches, by_files, known_call, known_source, requests}
 use Rattle.rob_top.specs.Headline.{Means}
-use Rattle.rob_top.specs.Inputs.{HasCertificate, HasCertificateFile, HasForms, HasModel}
-use Rattle.rob_top.specs.Refused.{IsWideSpot, checking, elaborating, solving}
+use Rattle.rob_top.specs.Inputs.{HasCertificate, HasCertificateFile, HasForms, HasModel, HasReplayCertificate, HasReplayFile, HasScenarios}
+use Rattle.rob_top.specs.Refused.{IsWideSpot, checking, elaborating, replaying, solving}
+use Rattle.rob_top.specs.Replayed.{IsReplayed, LacksPlan, planless, unread}
 use Rattle.rob_top.specs.Solved.{IsSolved}
 use Rattle.rob_top.specs.declared.ended.Ended.{Ended}
-use Rattle.rob_top.specs.declared.ended.Ended.TheVariants.{Optimal, Infeasible, Unbounded, Printed, Accepted, Rejected, Words, Missing, TooLong, Model, EmptySet, TooWide, Cert, ReadFault, WriteFault, Memory}
+use Rattle.rob_top.specs.declared.ended.Ended.TheVariants.{Optimal, Infeasible, Unbounded, Printed, Accepted, Rejected, Words, Missing, TooLong, Model, EmptySet, TooWide, Cert, Scenarios, ReadFault, WriteFault, Memory}
 use Rattle.rob_words.specs.Commands.{Line}
 use Rattle.rob_words.specs.declared.verb.Own.{Own}
 use Rattle.rob_words.specs.declared.verb.Own.TheVariants as own
@@ -52,9 +53,9 @@ module _ (call : Call) (known : Known call.source) where
 
   file_held : (line : Line) (kind : Own) (bytes : List ℕ) → HasFile call line kind bytes → HasFile part line kind bytes
   file_held line kind bytes h = record {
-    name = h.name;
+    request = h.request;
     named = h.named;
-    found = found_in_part known (file_of kind h.name) (whole bytes) h.found;
+    found = found_in_part known h.request (whole bytes) h.found;
   }
 
   module _ (line : Line) (m : RobustModel) where
@@ -80,10 +81,32 @@ module _ (call : Call) (known : Known call.source) where
     pub certificate_known : (c : Certificate) → HasCertificate call line m c → HasCertificate part line m c
     certificate_known c h = record { bytes = h.bytes; file = file_known h.bytes h.file; text = h.text; fits = h.fits }
 
+    replay_file_known : (bytes : List ℕ) → HasReplayFile call line m bytes → HasReplayFile part line m bytes
+    replay_file_known bytes h = record {
+      model = model_known h.model;
+      is_replay = h.is_replay;
+      file = file_held line own.Certificate bytes h.file;
+    }
+
+    replay_certificate_known : (c : Certificate) → HasReplayCertificate call line m c → HasReplayCertificate part line m c
+    replay_certificate_known c h = record { bytes = h.bytes; file = replay_file_known h.bytes h.file; text = h.text; fits = h.fits }
+
+    scenarios_known : (c : Certificate) (bytes : List ℕ) → HasScenarios call line m c bytes → HasScenarios part line m c bytes
+    scenarios_known c bytes h = record {
+      certificate = replay_certificate_known c h.certificate;
+      has_plan = h.has_plan;
+      file = file_held line own.Scenarios bytes h.file;
+    }
+
+    lacking_known : (rule number : ℕ) → LacksPlan call line m rule number → LacksPlan part line m rule number
+    lacking_known rule number (unread bytes h breach) = unread bytes (replay_file_known bytes h) breach
+    lacking_known rule number (planless c h is r n) = planless c (replay_certificate_known c h) is r n
+
     spot_known : (spot : Spot) → IsWideSpot call line m spot → IsWideSpot part line m spot
-    spot_known spot (elaborating h first) = elaborating (model_known h) first
+    spot_known spot (elaborating h makes first) = elaborating (model_known h) makes first
     spot_known spot (solving h is_solving wide) = solving (forms_known h) is_solving wide
     spot_known spot (checking c place h e verdict) = checking c place (certificate_known c h) e verdict
+    spot_known spot (replaying c bytes number h e gives) = replaying c bytes number (scenarios_known c bytes h) e gives
 
   solved_known : (status : Status) (text : List ℕ) → IsSolved call status text → IsSolved part status text
   solved_known status text h = record {
@@ -102,17 +125,34 @@ module _ (call : Call) (known : Known call.source) where
     printed = h.printed;
   }
 
+  replayed_known : (text : List ℕ) → IsReplayed call text → IsReplayed part text
+  replayed_known text h = record {
+    line = h.line;
+    m = h.m;
+    c = h.c;
+    bytes = h.bytes;
+    has = scenarios_known h.line h.m h.c h.bytes h.has;
+    rows = h.rows;
+    file = h.file;
+    lines = h.lines;
+    table = h.table;
+    narrow = h.narrow;
+    bounded = h.bounded;
+    printed = h.printed;
+  }
+
   pub means_known : (ended : Ended) (text : List ℕ) → Means call ended text → Means part ended text
   means_known Optimal text h = solved_known optimal text h
   means_known Infeasible text h = solved_known infeasible text h
   means_known Unbounded text h = solved_known unbounded text h
-  means_known Printed text h = record {
+  means_known Printed text (inl h) = inl (record {
     line = h.line;
     m = h.m;
     forms = forms_known h.line h.m h.forms;
     is_rows = h.is_rows;
     printed = h.printed;
-  }
+  })
+  means_known Printed text (inr h) = inr (replayed_known text h)
   means_known Accepted text h = record {
     line = h.line;
     m = h.m;
@@ -164,12 +204,27 @@ module _ (call : Call) (known : Known call.source) where
     raised = h.raised;
     printed = h.printed;
   }
-  means_known (Cert rule number) text h = record {
+  means_known (Cert rule number) text (inl h) = inl (record {
     line = h.line;
     m = h.m;
     bytes = h.bytes;
     file = file_known h.line h.m h.bytes h.file;
     breaks = h.breaks;
+    printed = h.printed;
+  })
+  means_known (Cert rule number) text (inr h) = inr (record {
+    line = h.line;
+    m = h.m;
+    lacks = lacking_known h.line h.m rule number h.lacks;
+    printed = h.printed;
+  })
+  means_known (Scenarios rule number) text h = record {
+    line = h.line;
+    m = h.m;
+    c = h.c;
+    bytes = h.bytes;
+    has = scenarios_known h.line h.m h.c h.bytes h.has;
+    refused = h.refused;
     printed = h.printed;
   }
   means_known ReadFault text h = h

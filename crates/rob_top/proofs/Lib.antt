@@ -13,9 +13,12 @@ pub mod LinesLemmas
 pub mod SolvingLemmas
 pub mod StageLemmas
 pub mod TrueAnswerLemmas
+pub mod ReplayAnswerLemmas
+pub mod ReplayingLemmas
 pub mod WorkLemmas
 pub mod KnownLemmas
 pub mod NarrowForms
 pub mod WorkedCalls
 pub mod WorkedSetCalls
 pub mod WorkedChecks
+pub mod WorkedReplays

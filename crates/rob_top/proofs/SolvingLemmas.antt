@@ -1,5 +1,5 @@
 -- The answers of `solve` and `prove`, from what the route answers.
-use Rattle.std.proofs.Common.{◌≡◌, ℕ, suc, ◌+◌, ◌*◌, ◌^◌, ◌<◌, ◌≤◌, List, length, Result, Ok, Err, IfOk, refl, subst, sym, ap, ◌∙◌, arith}
+use Rattle.std.proofs.Common.{◌≡◌, ◌≢◌, ℕ, suc, ◌+◌, ◌*◌, ◌^◌, ◌<◌, ◌≤◌, List, length, Result, Ok, Err, IfOk, refl, subst, sym, ap, ◌∙◌, arith}
 use Rattle.std.proofs.Math.Nat.{mul-le-mul}
 use Rattle.std.proofs.lemmas.List.{length-map}
 use Rattle.std.specs.Prelude.{MatchResult}
@@ -20,7 +20,7 @@ use Rattle.rob_meaning.specs.Certificates.{Certificate, Status, optimal, infeasi
 use Rattle.rob_meaning.specs.Forms.{forms, matrix_of, plan_vector}
 use Rattle.rob_meaning.specs.Guarantee.{HasBound}
 use Rattle.rob_meaning.specs.Places.{0ℚ, 1ℚ}
-use Rattle.rob_meaning.specs.Proves.{EachCovered, HasStatus, ProvesAs, amounts_of}
+use Rattle.rob_meaning.specs.Proves.{EachCovered, HasStatus, Proves, ProvesAs, amounts_of}
 use Rattle.rob_meaning.specs.RobustModel.{RobustModel, column_count}
 use Rattle.rob_meaning.specs.SetRows.{set_rows}
 use Rattle.rob_meaning.specs.UncertaintySet.{Admits}
@@ -107,6 +107,15 @@ module _ (m : RobustModel) (model : IsModel m) where
   kept_as call c optimal h true_of = optimum_is_worst_case m c.plan c.value true_of (covered_bound c h.inside h.columns h.scale h.covered)
   kept_as call c infeasible h true_of = tt
   kept_as call c unbounded h true_of = covered_bound c h.inside h.columns h.scale h.covered
+
+  -- the plan of one has its bound
+  pub proved_bound : (c : Certificate) → Proves m c → c.status ≢ infeasible → HasBound m c.plan c.value
+  proved_bound c = by c.status
+    where
+      by : (status : Status) → ProvesAs status m c → status ≢ infeasible → HasBound m c.plan c.value
+      by optimal h some = covered_bound c h.inside h.columns h.scale h.covered
+      by infeasible h some = absurd (some refl)
+      by unbounded h some = covered_bound c h.inside h.columns h.scale h.covered
 
 -- the command solves as the known one does
 solves_as : (verb same : Verb) → verb ≡ same → IsSolving same → IsSolving verb

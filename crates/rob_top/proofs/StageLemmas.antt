@@ -14,15 +14,16 @@ use Rattle.rob_parse.specs.Reading.{Breaks}
 use Rattle.rob_parse.proofs.OneModel.{not_both, one_model}
 use Rattle.rob_parse.proofs.OneReading.{one_rule}
 use Rattle.rob_model.specs.declared.place.Spot.{Spot}
-use Rattle.rob_top.proofs.CourseLemmas.{Course, accepted_course, cert_course, empty_course, inside_admitted, rejected_course, rows_course, solved_course, wide_course}
-use Rattle.rob_top.specs.Calls.{Call, Came, HasFile, IsFirstAbsent, IsFound, Known, Request, answer_to, by_fetches, by_files, file_of, limit_of, requests}
+use Rattle.rob_top.proofs.CourseLemmas.{Course, accepted_course, cert_course, empty_course, inside_admitted, rejected_course, lacking_course, replayed_course, rows_course, scenarios_course, solved_course, wide_course}
+use Rattle.rob_top.specs.Calls.{Call, Came, HasFile, IsFirstAbsent, IsFound, Known, Request, answer_to, by_fetches, by_files, limit_of, requests}
 use Rattle.rob_top.specs.Headline.{Means}
 use Rattle.rob_top.specs.Inputs.{HasModel}
-use Rattle.rob_top.specs.Refused.{IsNoModel, IsWideSpot, checking, elaborating, solving}
+use Rattle.rob_top.specs.Refused.{IsNoModel, IsWideSpot, checking, elaborating, replaying, solving}
+use Rattle.rob_top.specs.Replayed.{LacksPlan, planless, unread}
 use Rattle.rob_top.specs.Solved.{IsSolved}
 use Rattle.rob_top.specs.Work.{ended_of}
 use Rattle.rob_top.specs.declared.ended.Ended.{Ended}
-use Rattle.rob_top.specs.declared.ended.Ended.TheVariants.{Optimal, Infeasible, Unbounded, Printed, Accepted, Rejected, Words, Missing, TooLong, Model, EmptySet, TooWide, Cert, ReadFault, WriteFault, Memory}
+use Rattle.rob_top.specs.declared.ended.Ended.TheVariants.{Optimal, Infeasible, Unbounded, Printed, Accepted, Rejected, Words, Missing, TooLong, Model, EmptySet, TooWide, Cert, Scenarios, ReadFault, WriteFault, Memory}
 use Rattle.rob_words.specs.Commands.{Line, IsCommandLine, IsSpelled}
 use Rattle.rob_words.specs.Values.{Word}
 use Rattle.rob_words.specs.declared.verb.Own.{Own}
@@ -40,15 +41,21 @@ pub data Stage (call : Call) (ended : Ended) : Type 0 where
   wanting : ended ≡ Memory → Stage call ended
 
 wide_model : (call : Call) (line : Line) (m : RobustModel) (spot : Spot) → IsWideSpot call line m spot → HasModel call line m
-wide_model call line m spot (elaborating has first) = has
+wide_model call line m spot (elaborating has makes first) = has
 wide_model call line m spot (solving has solves wide) = has.model
 wide_model call line m spot (checking c place has is verdict) = has.file.forms.model
+wide_model call line m spot (replaying c bytes number has is gives) = has.certificate.file.model
+
+lacking_model : (call : Call) (line : Line) (m : RobustModel) (rule number : ℕ) → LacksPlan call line m rule number → HasModel call line m
+lacking_model call line m rule number (unread bytes h breach) = h.model
+lacking_model call line m rule number (planless c h is r n) = h.file.model
 
 pub stage_of : (call : Call) (ended : Ended) (text : List ℕ) → Means call ended text → Stage call ended
 stage_of call Optimal text h = read h.line h.m h.forms.model (solved_course call optimal text h)
 stage_of call Infeasible text h = read h.line h.m h.forms.model (solved_course call infeasible text h)
 stage_of call Unbounded text h = read h.line h.m h.forms.model (solved_course call unbounded text h)
-stage_of call Printed text h = read h.line h.m h.forms.model (rows_course call text h)
+stage_of call Printed text (inl h) = read h.line h.m h.forms.model (rows_course call text h)
+stage_of call Printed text (inr h) = read h.line h.m h.has.certificate.file.model (replayed_course call text h)
 stage_of call Accepted text h = read h.line h.m h.read.file.forms.model (accepted_course call text h)
 stage_of call (Rejected place) text h = read h.line h.m h.read.file.forms.model (rejected_course call place text h)
 stage_of call Words text h = wordless h.0
@@ -57,7 +64,10 @@ stage_of call TooLong text h = over h.0 h.1 refl
 stage_of call (Model rule number) text h = broken rule number text h refl
 stage_of call (EmptySet weights) text h = read h.line h.m h.forms.model (empty_course call weights text h)
 stage_of call (TooWide spot) text h = read h.line h.m (wide_model call h.line h.m spot h.wide) (wide_course call h.line h.m spot h.wide)
-stage_of call (Cert rule number) text h = read h.line h.m h.file.forms.model (cert_course call rule number text h)
+stage_of call (Cert rule number) text (inl h) = read h.line h.m h.file.forms.model (cert_course call rule number text h)
+stage_of call (Cert rule number) text (inr h) =
+    read h.line h.m (lacking_model call h.line h.m rule number h.lacks) (lacking_course call rule number text h)
+stage_of call (Scenarios rule number) text h = read h.line h.m h.has.certificate.file.model (scenarios_course call rule number text h)
 stage_of call ReadFault text h = failed refl
 stage_of call WriteFault text h = absurd h
 stage_of call Memory text h = absurd h
@@ -76,10 +86,10 @@ found_once call request a b (by_fetches fetches e) h k = let same : Some a ≡ S
 -- and so is what a line's file of a kind holds
 pub file_once : (call : Call) (line : Line) (kind : Own) (a b : List ℕ) → Known call.source → HasFile call line kind a → HasFile call line kind b → a ≡ b
 file_once call line kind a b known h k =
-    let names : Some h.name ≡ Some k.name = sym h.named ∙ k.named in
-    let same : h.name ≡ k.name = cc in
-    let found : IsFound call (file_of kind k.name) (whole a) = subst (λ (name : Word). IsFound call (file_of kind name) (whole a)) same h.found in
-    let wholes : whole a ≡ whole b = found_once call (file_of kind k.name) (whole a) (whole b) known found k.found in
+    let both : Some h.request ≡ Some k.request = sym h.named ∙ k.named in
+    let same : h.request ≡ k.request = cc in
+    let found : IsFound call k.request (whole a) = subst (λ (r : Request). IsFound call r (whole a)) same h.found in
+    let wholes : whole a ≡ whole b = found_once call k.request (whole a) (whole b) known found k.found in
     cc
 
 came_at : (call : Call) (before behind : List Request) (request : Request) → Each (Came call) (before ++ request ∷ behind) → Came call request

@@ -1,6 +1,6 @@
 -- Which answer has to come, where what is known of the files decides: the first file that doesn't come decides; then the model's text; then the
 -- first wide number; and then the command.
-use Rattle.std.proofs.Common.{◌≡◌, ℕ, ◌-◌, ◌^◌, ◌≤◌, List, [], ◌∷◌, ◌++◌, refl, sym, ◌∙◌, ap, subst, inl, inr, ◌⊎◌, rules}
+use Rattle.std.proofs.Common.{◌≡◌, ◌≢◌, ℕ, ◌-◌, ◌^◌, ◌≤◌, List, [], ◌∷◌, ◌++◌, refl, sym, ◌∙◌, ap, subst, inl, inr, ◌⊎◌, rules}
 use Rattle.rob_algebra.specs.Fraction.{Fraction}
 use Rattle.rob_cert.specs.Apart.{IsNamedInWords}
 use Rattle.rob_cert.specs.Causes.{HasCause}
@@ -34,12 +34,13 @@ use Rattle.rob_sets.specs.FirstWide.{IsFirstWide, IsWideThere, Judged, NothingWi
 use Rattle.rob_sets.specs.SetForm.{judged_set}
 use Rattle.rob_cert.proofs.OneBreach.{one_cause}
 use Rattle.rob_top.proofs.CertificateNameLemmas.{named_in_words}
-use Rattle.rob_top.proofs.CourseLemmas.{Course, course_at, finds, judges, prints, refuses, shows_empty, wide_number, wide_row}
+use Rattle.rob_top.proofs.CourseLemmas.{Course, course_at, finds, judges, lacks_plan, prints, refuses, replays, shows_empty, wide_number, wide_row}
 use Rattle.rob_top.proofs.StageLemmas.{Stage, absent, broken, broken_here, failed, file_once, found_once, none_absent, one_model_read, over, read, same_status, stage_of, wanting, wordless}
 use Rattle.rob_top.proofs.WorkLemmas.{limit_is}
-use Rattle.rob_top.specs.Calls.{Call, Came, HasFile, IsFirstAbsent, IsFound, IsSolving, Known, Request, limit_of, requests}
+use Rattle.rob_top.specs.Calls.{Call, Came, HasFile, IsElaborating, IsFirstAbsent, IsFound, IsSolving, Known, Request, limit_of, requests}
 use Rattle.rob_top.specs.Headline.{Means}
 use Rattle.rob_top.specs.Inputs.{HasCertificate, HasCertificateFile, HasForms, HasModel}
+use Rattle.rob_top.specs.Replayed.{LacksPlan, planless, unread}
 use Rattle.rob_top.specs.Completeness.{IsEmptyAnswer, IsSolveAnswer}
 use Rattle.rob_top.specs.Work.{ended_of, verdict_ended}
 use Rattle.rob_top.specs.declared.ended.Ended.{Ended}
@@ -48,7 +49,7 @@ use Rattle.rob_words.specs.Commands.{Line}
 use Rattle.rob_words.specs.Values.{Word, bits_of}
 use Rattle.rob_words.specs.declared.verb.Own.TheVariants as own
 use Rattle.rob_words.specs.declared.verb.Verb.{Verb}
-use Rattle.rob_words.specs.declared.verb.Verb.TheVariants.{Rows, Check}
+use Rattle.rob_words.specs.declared.verb.Verb.TheVariants.{Rows, Check, Replay}
 use Rattle.rob_words.proofs.Spellings.{one_line}
 
 -- ---- the first of a list
@@ -76,6 +77,26 @@ module _ (limit : ℕ) (m : RobustModel) (all : List Judged) where
       (each_right (λ j. IsWideThere limit m j → ⊥) h.before (h.here ∷ h.after) (subst (λ (js : List Judged). NothingWide limit m js) h.order none)).0 h.wide
 
 -- ---- commands
+pub two_verbs : (a b verb : Verb) → a ≢ b → verb ≡ a → verb ≡ b → ⊥
+two_verbs a b verb differ e d = differ (sym e ∙ d)
+
+pub replays_alone : (verb : Verb) → verb ≡ Replay → IsElaborating verb → ⊥
+replays_alone verb e h = let no : IsElaborating Replay = subst (λ (v : Verb). IsElaborating v) e h in search (no, rules)
+
+pub solves_no_replay : (verb : Verb) → verb ≡ Replay → IsSolving verb → ⊥
+solves_no_replay verb e h = let no : IsSolving Replay = subst (λ (v : Verb). IsSolving v) e h in search (no, rules)
+
+pub rows_not_replay : (verb : Verb) → verb ≡ Rows → verb ≡ Replay → ⊥
+rows_not_replay verb = two_verbs Rows Replay verb (λ e. cc)
+
+pub check_not_replay : (verb : Verb) → verb ≡ Check → verb ≡ Replay → ⊥
+check_not_replay verb = two_verbs Check Replay verb (λ e. cc)
+
+-- a certificate that gives no plan stands in the words of `replay`
+pub lacking_verb : (call : Call) (line : Line) (m : RobustModel) (rule number : ℕ) → LacksPlan call line m rule number → line.verb ≡ Replay
+lacking_verb call line m rule number (unread bytes h breach) = h.is_replay
+lacking_verb call line m rule number (planless c h is r n) = h.file.is_replay
+
 not_rows : (verb : Verb) → verb ≡ Rows → verb ≡ Check → ⊥
 not_rows verb e d = let same : Rows ≡ Check = sym e ∙ d in cc
 
@@ -86,7 +107,7 @@ solves_no_check : (verb : Verb) → verb ≡ Check → IsSolving verb → ⊥
 solves_no_check verb e h = let no : IsSolving Check = subst (λ (v : Verb). IsSolving v) e h in search (no, rules)
 
 -- ---- answers
-first_of_two : {A B C : Type 0} → (A → B) → A ⊎ C → B ⊎ C
+pub first_of_two : {A B C : Type 0} → (A → B) → A ⊎ C → B ⊎ C
 first_of_two f (inl a) = inl (f a)
 first_of_two f (inr c) = inr c
 
@@ -144,7 +165,7 @@ module _ (call : Call) (known : Known call.source) where
     same_bytes : (has : HasModel call line m) (other : List ℕ) → HasFile call line own.Model other → other ≡ has.bytes
     same_bytes has other file = file_once call line own.Model other has.bytes known file has.file
 
-    course_of : HasModel call line m → (ended : Ended) (text : List ℕ) → Means call ended text → Course call line m ended ⊎ ((ended ≡ ReadFault) ⊎ (ended ≡ Memory))
+    pub course_of : HasModel call line m → (ended : Ended) (text : List ℕ) → Means call ended text → Course call line m ended ⊎ ((ended ≡ ReadFault) ⊎ (ended ≡ Memory))
     course_of has ended text means = by (stage_of call ended text means)
       where
         no_rule : (rule number : ℕ) (bytes : List ℕ) → HasFile call line own.Model bytes → Breaks (limit_of line) bytes rule number → ⊥
@@ -162,9 +183,9 @@ module _ (call : Call) (known : Known call.source) where
         by (wanting e) = inr (inr e)
 
     -- ---- a number of the set rows and forms is wide
-    pub wide_decides : HasModel call line m → (spot : Spot) → IsFirstWide (limit_of line) m (judged_set m ++ judged_forms m) spot → (ended : Ended) (text : List ℕ) → Means call ended text
+    pub wide_decides : HasModel call line m → IsElaborating line.verb → (spot : Spot) → IsFirstWide (limit_of line) m (judged_set m ++ judged_forms m) spot → (ended : Ended) (text : List ℕ) → Means call ended text
         → (ended ≡ TooWide spot) ⊎ ((ended ≡ ReadFault) ⊎ (ended ≡ Memory))
-    wide_decides has spot first ended text means = first_of_two by (course_of has ended text means)
+    wide_decides has makes spot first ended text means = first_of_two by (course_of has ended text means)
       where
         no_forms : HasForms call line m → ⊥
         no_forms forms = none_first (limit_of line) m (judged_set m ++ judged_forms m) spot forms.none_wide first
@@ -175,11 +196,13 @@ module _ (call : Call) (known : Known call.source) where
         by (prints forms is e) = absurd (no_forms forms)
         by (judges c h e) = absurd (no_forms h.file.forms)
         by (refuses bytes rule number h breach e) = absurd (no_forms h.forms)
-        by (wide_number other h e) = e ∙ ap (λ (s : Spot). TooWide s) (first_once (limit_of line) m (judged_set m ++ judged_forms m) other spot h first)
+        by (wide_number other made h e) = e ∙ ap (λ (s : Spot). TooWide s) (first_once (limit_of line) m (judged_set m ++ judged_forms m) other spot h first)
         by (wide_row other forms solves wide e) = absurd (no_forms forms)
+        by (replays c bytes rows h file e) = absurd (replays_alone line.verb h.certificate.file.is_replay makes)
+        by (lacks_plan rule number h e) = absurd (replays_alone line.verb (lacking_verb call line m rule number h) makes)
 
     -- ---- none is
-    no_first : HasForms call line m → (spot : Spot) → IsFirstWide (limit_of line) m (judged_set m ++ judged_forms m) spot → ⊥
+    pub no_first : HasForms call line m → (spot : Spot) → IsFirstWide (limit_of line) m (judged_set m ++ judged_forms m) spot → ⊥
     no_first forms spot first = none_first (limit_of line) m (judged_set m ++ judged_forms m) spot forms.none_wide first
 
     pub rows_decide : HasForms call line m → line.verb ≡ Rows → (ended : Ended) (text : List ℕ) → Means call ended text
@@ -192,8 +215,10 @@ module _ (call : Call) (known : Known call.source) where
         by (prints forms is e) = e
         by (judges c h e) = absurd (not_rows line.verb is_rows h.file.is_check)
         by (refuses bytes rule number h breach e) = absurd (not_rows line.verb is_rows h.is_check)
-        by (wide_number spot h e) = absurd (no_first has spot h)
+        by (wide_number spot makes h e) = absurd (no_first has spot h)
         by (wide_row spot forms solves wide e) = absurd (solves_no_rows line.verb is_rows solves)
+        by (replays c bytes rows h file e) = absurd (rows_not_replay line.verb is_rows h.certificate.file.is_replay)
+        by (lacks_plan rule number h e) = absurd (rows_not_replay line.verb is_rows (lacking_verb call line m rule number h))
 
     -- ---- `solve` and `prove`
     status_answer : (status : Status) (v : Fraction) → HasStatus m status v → IsSolveAnswer (limit_of line) m (ended_of status)
@@ -213,8 +238,10 @@ module _ (call : Call) (known : Known call.source) where
         by (prints forms is e) = absurd (solves_no_rows line.verb is is_solving)
         by (judges c h e) = absurd (solves_no_check line.verb h.file.is_check is_solving)
         by (refuses bytes rule number h breach e) = absurd (solves_no_check line.verb h.is_check is_solving)
-        by (wide_number spot h e) = absurd (no_first has spot h)
+        by (wide_number spot makes h e) = absurd (no_first has spot h)
         by (wide_row spot forms solves wide e) = answer_is ended (TooWide spot) e wide
+        by (replays c bytes rows h file e) = absurd (solves_no_replay line.verb h.certificate.file.is_replay is_solving)
+        by (lacks_plan rule number h e) = absurd (solves_no_replay line.verb (lacking_verb call line m rule number h) is_solving)
 
         all : Course call line m ended ⊎ ((ended ≡ ReadFault) ⊎ (ended ≡ Memory)) → IsSolveAnswer (limit_of line) m ended
         all (inl course) = by course
@@ -247,8 +274,10 @@ module _ (call : Call) (known : Known call.source) where
         by (prints forms is e) = absurd (solves_no_rows line.verb is is_solving)
         by (judges c h e) = absurd (solves_no_check line.verb h.file.is_check is_solving)
         by (refuses bytes rule number h breach e) = absurd (solves_no_check line.verb h.is_check is_solving)
-        by (wide_number spot h e) = absurd (no_first has spot h)
+        by (wide_number spot makes h e) = absurd (no_first has spot h)
         by (wide_row spot forms solves wide e) = empty_is ended (TooWide spot) e (empty_spot none spot wide)
+        by (replays c bytes rows h file e) = absurd (solves_no_replay line.verb h.certificate.file.is_replay is_solving)
+        by (lacks_plan rule number h e) = absurd (solves_no_replay line.verb (lacking_verb call line m rule number h) is_solving)
 
         all : Course call line m ended ⊎ ((ended ≡ ReadFault) ⊎ (ended ≡ Memory)) → IsEmptyAnswer (limit_of line) m ended
         all (inl course) = by course
@@ -266,26 +295,28 @@ module _ (call : Call) (known : Known call.source) where
         by (prints forms is e) = absurd (solves_no_rows line.verb is is_solving)
         by (judges c h e) = absurd (solves_no_check line.verb h.file.is_check is_solving)
         by (refuses bytes rule number h breach e) = absurd (solves_no_check line.verb h.is_check is_solving)
-        by (wide_number spot h e) = absurd (no_first has spot h)
+        by (wide_number spot makes h e) = absurd (no_first has spot h)
         by (wide_row spot forms solves wide e) = absurd (narrow spot wide)
+        by (replays c bytes rows h file e) = absurd (solves_no_replay line.verb h.certificate.file.is_replay is_solving)
+        by (lacks_plan rule number h e) = absurd (solves_no_replay line.verb (lacking_verb call line m rule number h) is_solving)
 
     -- ---- `check`
     same_file : (bytes other : List ℕ) → HasCertificateFile call line m bytes → HasCertificateFile call line m other → bytes ≡ other
     same_file bytes other h k = file_once call line own.Certificate bytes other known h.file k.file
 
-    least : 1 ≤ limit_of line
+    pub least : 1 ≤ limit_of line
     least = subst (λ (l : ℕ). 1 ≤ l) (limit_is line.width) (limit_low (bits_of line.width))
 
-    most : limit_of line ≤ 2 ^ 62 - 1
+    pub most : limit_of line ≤ 2 ^ 62 - 1
     most = subst (λ (l : ℕ). l ≤ 2 ^ 62 - 1) (limit_is line.width) (limit_high (bits_of line.width))
 
     pub well : HasModel call line m → IsModel m
     well has = well_formed (limit_of line) has.bytes m has.reads least
 
-    named : HasModel call line m → IsNamed m
+    pub named : HasModel call line m → IsNamed m
     named has = well_named (limit_of line) has.bytes m has.reads
 
-    in_words : HasModel call line m → IsNamedInWords m
+    pub in_words : HasModel call line m → IsNamedInWords m
     in_words has = named_in_words m (well_spelled (limit_of line) has.bytes m has.reads)
 
     -- a certificate's text breaks no rule
@@ -316,8 +347,10 @@ module _ (call : Call) (known : Known call.source) where
         by (prints forms is e) = absurd (not_rows line.verb is has.file.is_check)
         by (judges d h e) = e ∙ ap (λ (x : Certificate). verdict_ended (verdict_of (limit_of line) m x)) (one_certificate d c h has)
         by (refuses bytes rule number h breach e) = absurd (no_breach c bytes rule number has h breach)
-        by (wide_number spot h e) = absurd (no_first has.file.forms spot h)
+        by (wide_number spot makes h e) = absurd (no_first has.file.forms spot h)
         by (wide_row spot forms solves wide e) = absurd (no_solving solves)
+        by (replays d bytes rows h file e) = absurd (check_not_replay line.verb has.file.is_check h.certificate.file.is_replay)
+        by (lacks_plan rule number h e) = absurd (check_not_replay line.verb has.file.is_check (lacking_verb call line m rule number h))
 
     pub rule_decides : (bytes : List ℕ) (rule number : ℕ) → HasCertificateFile call line m bytes → HasCause (naming_of m) (limit_of line) start bytes 1 (Rule rule number)
         → (ended : Ended) (text : List ℕ) → Means call ended text → (ended ≡ Cert rule number) ⊎ ((ended ≡ ReadFault) ⊎ (ended ≡ Memory))
@@ -340,5 +373,7 @@ module _ (call : Call) (known : Known call.source) where
         by (prints forms is e) = absurd (not_rows line.verb is has.is_check)
         by (judges d h e) = absurd (no_breach d bytes rule number h has breaks)
         by (refuses other r n h breach e) = is_rule other r n h breach e
-        by (wide_number spot h e) = absurd (no_first has.forms spot h)
+        by (wide_number spot makes h e) = absurd (no_first has.forms spot h)
         by (wide_row spot forms solves wide e) = absurd (no_solving solves)
+        by (replays d list rows h file e) = absurd (check_not_replay line.verb has.is_check h.certificate.file.is_replay)
+        by (lacks_plan r n h e) = absurd (check_not_replay line.verb has.is_check (lacking_verb call line m r n h))

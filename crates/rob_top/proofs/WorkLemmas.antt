@@ -1,5 +1,5 @@
 -- The answers for a model's text: of a refusal, of printed rows, and of what the work on a model answers.
-use Rattle.std.proofs.Common.{◌≡◌, ℕ, ◌≤◌, ◌^◌, ◌-◌, List, ◌++◌, Result, Ok, Err, IfOk, refl, subst, sym, ap, ◌∙◌, arith}
+use Rattle.std.proofs.Common.{◌≡◌, ℕ, ◌≤◌, ◌^◌, ◌-◌, List, ◌++◌, Result, Ok, Err, IfOk, inl, refl, subst, sym, ap, ◌∙◌, arith}
 use Rattle.rob_elab.specs.Forms.{judged_forms}
 use Rattle.rob_meaning.specs.RobustModel.{RobustModel}
 use Rattle.rob_number.specs.Counts.{Rose}
@@ -18,7 +18,7 @@ use Rattle.rob_sets.specs.declared.error.ElabErr.TheVariants as refused
 use Rattle.rob_sets.proofs.JudgedLemmas.{first_left, first_right}
 use Rattle.rob_sets.proofs.SubexpressionLemmas.{each_both}
 use Rattle.rob_top.specs.Answers.{model_text}
-use Rattle.rob_top.specs.Calls.{Call, Count, count, WasRaised}
+use Rattle.rob_top.specs.Calls.{Call, Count, IsElaborating, count, WasRaised}
 use Rattle.rob_top.specs.Headline.{Means}
 use Rattle.rob_top.specs.Refused.{elaborating}
 use Rattle.rob_top.specs.Replies.{HasTexts, Replies}
@@ -126,31 +126,32 @@ module _ (limit : ℕ) (m : RobustModel) where
   forms_refused_of refused.Memory h = tt
 
   -- a number is wide, first
-  spot_answers : (wides : Count) (verb : Verb) (texts : Texts) (spot : _) (reply : Reply) → IsFirstWide limit m (judged_set m ++ judged_forms m) spot → WasRaised wides
+  spot_answers : (wides : Count) (verb : Verb) (texts : Texts) (spot : _) (reply : Reply) → IsElaborating verb → IsFirstWide limit m (judged_set m ++ judged_forms m) spot → WasRaised wides
       → RepliesRefused m (refused.Wide spot) reply → AnswersModel limit wides m verb texts reply
-  spot_answers wides verb texts spot reply first rose is = λ call line at came has.
+  spot_answers wides verb texts spot reply makes first rose is = λ call line at came has.
       subst (λ (ended : Ended). Means call ended reply.text) (sym is.0)
       (record {
         line = line;
         m = m;
-        wide = elaborating has (subst (λ (l : ℕ). IsFirstWide l m (judged_set m ++ judged_forms m) spot) (sym at.limit_is) first);
+        wide = elaborating has (subst (λ (v : Verb). IsElaborating v) (sym at.verb_is) makes)
+            (subst (λ (l : ℕ). IsFirstWide l m (judged_set m ++ judged_forms m) spot) (sym at.limit_is) first);
         raised = at.raised rose;
         printed = is.1;
       })
 
-  pub set_answers : (before now : ℕ) (verb : Verb) (texts : Texts) (e : ElabErr) (r : Result Reply Want) → HasCause limit m (judged_set m) e → RoseIfWide before now e
+  pub set_answers : (before now : ℕ) (verb : Verb) (texts : Texts) (e : ElabErr) (r : Result Reply Want) → IsElaborating verb → HasCause limit m (judged_set m) e → RoseIfWide before now e
       → IfOk r (RepliesRefused m e) → IfOk r (AnswersModel limit (count before now) m verb texts)
-  set_answers before now verb texts e (Err want) cause rose is = tt
-  set_answers before now verb texts (refused.Wide spot) (Ok reply) cause rose is =
-      spot_answers (count before now) verb texts spot reply (first_left limit m (judged_set m) (judged_forms m) spot cause) rose is
-  set_answers before now verb texts refused.Memory (Ok reply) cause rose is = absurd is
+  set_answers before now verb texts e (Err want) makes cause rose is = tt
+  set_answers before now verb texts (refused.Wide spot) (Ok reply) makes cause rose is =
+      spot_answers (count before now) verb texts spot reply makes (first_left limit m (judged_set m) (judged_forms m) spot cause) rose is
+  set_answers before now verb texts refused.Memory (Ok reply) makes cause rose is = absurd is
 
-  pub forms_answers : (before middle now : ℕ) (verb : Verb) (texts : Texts) (e : ElabErr) (r : Result Reply Want) → before ≤ middle → NothingWide limit m (judged_set m)
+  pub forms_answers : (before middle now : ℕ) (verb : Verb) (texts : Texts) (e : ElabErr) (r : Result Reply Want) → IsElaborating verb → before ≤ middle → NothingWide limit m (judged_set m)
       → HasCause limit m (judged_forms m) e → RoseIfWide middle now e → IfOk r (RepliesRefused m e) → IfOk r (AnswersModel limit (count before now) m verb texts)
-  forms_answers before middle now verb texts e (Err want) least none cause rose is = tt
-  forms_answers before middle now verb texts (refused.Wide spot) (Ok reply) least none cause rose is =
-      spot_answers (count before now) verb texts spot reply (first_right limit m (judged_set m) (judged_forms m) spot none cause) (rose_earlier before middle now least rose) is
-  forms_answers before middle now verb texts refused.Memory (Ok reply) least none cause rose is = absurd is
+  forms_answers before middle now verb texts e (Err want) makes least none cause rose is = tt
+  forms_answers before middle now verb texts (refused.Wide spot) (Ok reply) makes least none cause rose is =
+      spot_answers (count before now) verb texts spot reply makes (first_right limit m (judged_set m) (judged_forms m) spot none cause) (rose_earlier before middle now least rose) is
+  forms_answers before middle now verb texts refused.Memory (Ok reply) makes least none cause rose is = absurd is
 
   -- none is
   pub whole_answers : (before middle now : ℕ) (verb : Verb) (texts : Texts) (r : Result Reply Want) → before ≤ middle → NothingWide limit m (judged_set m) → NothingWide limit m (judged_forms m)
@@ -170,7 +171,7 @@ module _ (limit : ℕ) (m : RobustModel) where
   rows_answer wides verb texts (Err want) e is = tt
   rows_answer wides verb texts (Ok reply) e is = λ call line at came has.
       subst (λ (ended : Ended). Means call ended reply.text) (sym is.0)
-      (record { line = line; m = m; forms = has; is_rows = at.verb_is ∙ e; printed = is.1 })
+      (inl (record { line = line; m = m; forms = has; is_rows = at.verb_is ∙ e; printed = is.1 }))
 
   -- the same command, whose other texts don't count
   pub at_verb : (wides : Count) (verb same : Verb) (texts : Texts) (r : Result Reply Want) → verb ≡ same → IfOk r (AnswersForms limit wides m same)

@@ -74,7 +74,7 @@ forms_on m comes reads narrow = record {
     spelled = line_spelled;
     came = ((model_text m, (comes, tt)), tt);
     bytes = model_text m;
-    file = record { name = model_name; named = refl; found = (comes, tt) };
+    file = record { request = record { place = 0; name = model_name; most = 65536 }; named = refl; found = (comes, tt) };
     reads = reads;
   };
   none_wide = narrow;

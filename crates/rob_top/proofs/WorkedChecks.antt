@@ -68,13 +68,17 @@ certificate_on c come shape fits = record {
         spelled = line_spelled;
         came = ((model_text one_demand, (come.model, tt)), ((cert_text one_demand c, (come.certificate, tt)), tt));
         bytes = model_text one_demand;
-        file = record { name = model_name; named = refl; found = (come.model, tt) };
+        file = record { request = record { place = 0; name = model_name; most = 65536 }; named = refl; found = (come.model, tt) };
         reads = one_demand_reads;
       };
       none_wide = one_demand_narrow;
     };
     is_check = refl;
-    file = record { name = certificate_name; named = refl; found = (come.certificate, tt) };
+    file = record {
+      request = record { place = 1; name = certificate_name; most = 4194304 };
+      named = refl;
+      found = (come.certificate, tt);
+    };
   };
   text = record { shape = shape; spelled = refl };
   fits = fits;
@@ -95,7 +99,7 @@ test_narrow [] = Some tt
 test_narrow (c ∷ cs) = and_more (test_told c.holds) (test_narrow cs)
 
 -- ---- the optimum 12
-order_12_shape : HasShape one_demand order_12
+pub order_12_shape : HasShape one_demand order_12
 unfolding ratio
 order_12_shape = record {
   inside = refl;
@@ -109,7 +113,7 @@ order_12_shape = record {
   };
 }
 
-order_12_fits : FitsLines greatest one_demand order_12
+pub order_12_fits : FitsLines greatest one_demand order_12
 unfolding ratio
 order_12_fits = (
   tt,

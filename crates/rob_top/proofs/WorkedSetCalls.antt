@@ -37,7 +37,7 @@ use Rattle.rob_top.specs.Completeness.{EndsAs, IsEmptyAnswer, IsSolveAnswer, Mus
 use Rattle.rob_top.specs.Inputs.{HasForms}
 use Rattle.rob_top.specs.WorkedCalls.{greatest, hard_and_soft, never_calm, solve_call}
 use Rattle.rob_top.specs.declared.ended.Ended.{Ended}
-use Rattle.rob_top.specs.declared.ended.Ended.TheVariants.{Optimal, Infeasible, Unbounded, Printed, Accepted, Rejected, Words, Missing, TooLong, Model, EmptySet, TooWide, Cert, ReadFault, WriteFault, Memory}
+use Rattle.rob_top.specs.declared.ended.Ended.TheVariants.{Optimal, Infeasible, Unbounded, Printed, Accepted, Rejected, Words, Missing, TooLong, Model, EmptySet, TooWide, Cert, Scenarios, ReadFault, WriteFault, Memory}
 
 -- ---- coefficients of an expression over 2 joint parameters and 3 decision columns
 -- both facts, where both tests find them
@@ -285,6 +285,7 @@ its_answer Missing h = inl (inr h)
 its_answer TooLong h = inl (inr h)
 its_answer (Model rule place) h = inl (inr h)
 its_answer (Cert rule place) h = inl (inr h)
+its_answer (Scenarios rule place) h = inl (inr h)
 its_answer ReadFault h = inl (inr h)
 its_answer WriteFault h = inl (inr h)
 its_answer Memory h = inl (inr h)

@@ -28,12 +28,15 @@ missing_text name = fault_text (codes "missing " ++ name)
 abbrev pub too_long_text : Word → List ℕ
 too_long_text name = fault_text (codes "too long " ++ name)
 
--- a model's or a certificate's text breaks a rule at a line
+-- a model's or a certificate's text, or a scenario file, breaks a rule at a line or a record
 abbrev pub model_text : ℕ → ℕ → List ℕ
 model_text rule number = fault_text (codes "model " ++ (decimal rule ++ (codes " line " ++ decimal number)))
 
 abbrev pub certificate_text : ℕ → ℕ → List ℕ
 certificate_text rule number = fault_text (codes "certificate " ++ (decimal rule ++ (codes " line " ++ decimal number)))
+
+abbrev pub scenarios_text : ℕ → ℕ → List ℕ
+scenarios_text rule number = fault_text (codes "scenarios " ++ (decimal rule ++ (codes " line " ++ decimal number)))
 
 -- the words are no command line, reading failed, or memory was refused
 abbrev pub words_text : List ℕ

@@ -1,5 +1,5 @@
 -- What a call of the program was given, what it did to the output, and what is found of the files that its words name.
-use Rattle.std.specs.Prelude.{◌≡◌, ◌⊎◌, ℕ, ◌-◌, ◌^◌, ◌==◌, ◌&&◌, Bool, true, List, [], ◌∷◌, ◌++◌, length, drop, not, Option, Some, None, IfSome, if◌then◌else◌}
+use Rattle.std.specs.Prelude.{◌≡◌, ◌⊎◌, ℕ, zero, suc, ◌-◌, ◌^◌, ◌==◌, ◌&&◌, Bool, true, false, List, [], ◌∷◌, ◌++◌, length, map, drop, Option, Some, None, IfSome, option_map, if◌then◌else◌}
 use Rattle.std.specs.Str.{bytes_eq}
 use denote.Enum.Bare.{sameb}
 use Rattle.rob_meaning.specs.Places.{Each}
@@ -12,8 +12,9 @@ use Rattle.rob_words.specs.Values.{Word, bits_of}
 use Rattle.rob_words.specs.Verbs.{own_of, takes_route}
 use Rattle.rob_words.specs.contracts.verb.Own.{the_type}
 use Rattle.rob_words.specs.declared.verb.Own.{Own}
-use Rattle.rob_words.specs.declared.verb.Own.TheVariants.{Model, Certificate}
+use Rattle.rob_words.specs.declared.verb.Own.TheVariants.{Model, Certificate, Scenarios}
 use Rattle.rob_words.specs.declared.verb.Verb.{Verb}
+use Rattle.rob_words.specs.declared.verb.Verb.TheVariants.{Replay}
 
 -- a count before and after the call
 pub record Count : Type 0 where
@@ -86,16 +87,27 @@ output_of before now puts_before puts_now write_faults = record {
 
 -- ---- files
 
--- a file that a command names, and how many bytes it may have at most
+-- a file that a command names: its place among the files of a call, from 0, its name, and how many bytes it may have
 pub record Request : Type 0 where
+  pub place : ℕ
   pub name : Word
   pub most : ℕ
 
--- what the first fetch of the file found; nothing, where there was no fetch of it, or the first answered an error
+-- the same file behind one more
+abbrev pub later : Request → Request
+later request = record request { place = suc request.place }
+
+-- what the fetch of this place found, where it asked for a file of this name and bound; nothing, where there was no such
+-- fetch, or it answered an error
+abbrev pub answer_at : ℕ → Word → ℕ → List Fetch → Option Found
+answer_at place name most [] = None
+answer_at zero name most (fetch ∷ fetches) =
+    if (fetch.most == most) && bytes_eq fetch.name name then fetch.found else None
+answer_at (suc place) name most (fetch ∷ fetches) = answer_at place name most fetches
+
+-- what the fetch of the file found, which has the file's place among the fetches of the call
 abbrev pub answer_to : Request → List Fetch → Option Found
-answer_to request [] = None
-answer_to request (fetch ∷ fetches) =
-    if (fetch.most == request.most) && bytes_eq fetch.name request.name then fetch.found else answer_to request fetches
+answer_to request fetches = answer_at request.place request.name request.most fetches
 
 -- this is found of the file: the fetch of it in the call answered so, and where the files are told, it is what they hold: all
 -- its bytes, no such file, or more bytes than it may have
@@ -108,33 +120,26 @@ IsFoundIn source request found =
 abbrev pub most_of : Own → ℕ
 most_of Model = 65536
 most_of Certificate = 4194304
+most_of Scenarios = 4194304
 
--- the file that an own word of this kind names
+-- the file that an own word of this kind names, where it is the first
 abbrev pub file_of : Own → Word → Request
-file_of kind name = record { name = name; most = most_of kind }
+file_of kind name = record { place = 0; name = name; most = most_of kind }
 
 -- the files that own words of these kinds name, in their order
 abbrev pub files_of : List Own → List Word → List Request
-files_of (kind ∷ kinds) (name ∷ names) = file_of kind name ∷ files_of kinds names
+files_of (kind ∷ kinds) (name ∷ names) = file_of kind name ∷ map later (files_of kinds names)
 files_of _ _ = []
 
 -- the files that a command line names, in the order of its words
 abbrev pub requests : Line → List Request
 requests line = files_of (own_of line.verb) line.own
 
--- the first word of this kind, among own words of these kinds
-abbrev pub word_of : Own → List Own → List Word → Option Word
-word_of kind (other ∷ kinds) (name ∷ names) = if sameb the_type other kind then Some name else word_of kind kinds names
-word_of kind _ _ = None
-
--- files of these kinds differ in how many bytes they may have
-abbrev pub is_apart : Own → List Own → Bool
-is_apart kind [] = true
-is_apart kind (other ∷ kinds) = not (most_of kind == most_of other) && is_apart kind kinds
-
-abbrev pub are_apart : List Own → Bool
-are_apart [] = true
-are_apart (kind ∷ kinds) = is_apart kind kinds && are_apart kinds
+-- the file that the first own word of this kind names, among own words of these kinds
+abbrev pub request_of : Own → List Own → List Word → Option Request
+request_of kind (other ∷ kinds) (name ∷ names) =
+    if sameb the_type other kind then Some (file_of other name) else option_map later (request_of kind kinds names)
+request_of kind _ _ = None
 
 -- the fetch asks for this file
 abbrev pub IsFetchOf : Request → Fetch → Type 0
@@ -161,6 +166,14 @@ pub record Fetches (words : List Word) (before now : List Fetch) : Type 0 where
 abbrev pub IsSolving : Verb → Type 0
 IsSolving verb = takes_route verb ≡ true
 
+-- the command works with the set rows and the forms of its model; `replay` works with the model as it is written
+abbrev pub elaborates : Verb → Bool
+elaborates Replay = false
+elaborates _ = true
+
+abbrev pub IsElaborating : Verb → Type 0
+IsElaborating verb = elaborates verb ≡ true
+
 -- the greatest number of a command line's width: 2^62 - 1 where it names no width
 abbrev pub limit_of : Line → ℕ
 limit_of line = 2 ^ bits_of line.width - 1
@@ -176,9 +189,9 @@ module _ (call : Call) where
 
   -- the file of this kind that the line names came, with these bytes
   pub record HasFile (line : Line) (kind : Own) (bytes : List ℕ) : Type 0 where
-    pub name : Word
-    pub named : word_of kind (own_of line.verb) line.own ≡ Some name
-    pub found : IsFound (file_of kind name) (whole bytes)
+    pub request : Request
+    pub named : request_of kind (own_of line.verb) line.own ≡ Some request
+    pub found : IsFound request (whole bytes)
 
   -- of the files that the command line names this is the first, in the order of the words, that doesn't come whole, and this
   -- is what is found of it

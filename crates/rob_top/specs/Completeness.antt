@@ -22,10 +22,13 @@ use Rattle.rob_model.specs.declared.place.Spot.{Spot}
 use Rattle.rob_model.specs.declared.place.Spot.TheVariants.{Check, Dictionary}
 use Rattle.rob_outside.specs.Files.{missing, too_long}
 use Rattle.rob_parse.specs.Reading.{Breaks}
+use Rattle.rob_replay.specs.Files.{IsFile}
+use Rattle.rob_replay.specs.Outcome.{outcome}
 use Rattle.rob_sets.specs.FirstWide.{IsFirstWide}
 use Rattle.rob_sets.specs.SetForm.{judged_set}
-use Rattle.rob_top.specs.Calls.{Call, Came, HasFile, IsFirstAbsent, IsSolving, Known, known_call, limit_of, requests}
-use Rattle.rob_top.specs.Inputs.{HasCertificate, HasCertificateFile, HasForms, HasModel}
+use Rattle.rob_top.specs.Calls.{Call, Came, HasFile, IsElaborating, IsFirstAbsent, IsSolving, Known, known_call, limit_of, requests}
+use Rattle.rob_top.specs.Inputs.{HasCertificate, HasCertificateFile, HasForms, HasModel, HasScenarios}
+use Rattle.rob_top.specs.Replayed.{LacksPlan, replay_ended}
 use Rattle.rob_top.specs.Work.{ended_of, verdict_ended}
 use Rattle.rob_top.specs.declared.ended.Ended.{Ended}
 use Rattle.rob_top.specs.declared.ended.Ended.TheVariants.{Optimal, Infeasible, Unbounded, Printed, Accepted, Rejected, Words, Missing, TooLong, Model, EmptySet, TooWide, Cert, ReadFault, WriteFault, Memory}
@@ -85,8 +88,8 @@ module _ (call : Call) (result : Ended) where
     pub model : (line : Line) (bytes : List ℕ) (rule number : ℕ) → IsSpelled call.words line
         → Each (Came call) (requests line) → HasFile call line own.Model bytes
         → Breaks (limit_of line) bytes rule number → EndsAs (Model rule number) result
-    -- set rows and forms: a number of them is wide, so the first such number is named, whatever the command
-    pub wide : (line : Line) (m : RobustModel) (spot : Spot) → HasModel call line m
+    -- set rows and forms, where the command makes them: a number of them is wide, so the first such number is named
+    pub wide : (line : Line) (m : RobustModel) (spot : Spot) → HasModel call line m → IsElaborating line.verb
         → IsFirstWide (limit_of line) m (judged_set m ++ judged_forms m) spot → EndsAs (TooWide spot) result
     -- no number of them is wide, and the command is `rows`, so they are printed
     pub rows : (line : Line) (m : RobustModel) → HasForms call line m → line.verb ≡ Rows → EndsAs Printed result
@@ -117,6 +120,14 @@ module _ (call : Call) (result : Ended) where
     pub rejected : (line : Line) (m : RobustModel) (c : Certificate) → HasCertificate call line m c
         → NoneWide (limit_of line) m c → (Proves m c → ⊥)
         → (place : Place) × IsFirstFailing (limit_of line) m c place × EndsAs (Rejected place) result
+    -- `replay`: the certificate gives no plan, so the rule and the line are named
+    pub planless : (line : Line) (m : RobustModel) (rule number : ℕ) → LacksPlan call line m rule number
+        → EndsAs (Cert rule number) result
+    -- it gives one, so the answer is by the file's records: the table, the first broken rule, or the first record with
+    -- a wide number
+    pub replayed : (line : Line) (m : RobustModel) (c : Certificate) (bytes : List ℕ) (rows : List (List (List ℕ)))
+        → HasScenarios call line m c bytes → IsFile bytes rows
+        → EndsAs (replay_ended (outcome (limit_of line) m c.plan rows)) result
 
 -- the call ends so by each part of what is known of its files: the files that the shelf tells, where it tells them, or the
 -- answers of the fetches in the call, which every shelf gives

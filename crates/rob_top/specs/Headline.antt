@@ -21,9 +21,10 @@ use Rattle.rob_top.specs.Calls.{Call, Output, WasRaised, IsFirstAbsent}
 use Rattle.rob_top.specs.Checked.{IsAccepted, IsRejected}
 use Rattle.rob_top.specs.Lines.{text_lines}
 use Rattle.rob_top.specs.Refused.{IsNoCertificate, IsNoModel, IsTooWide}
+use Rattle.rob_top.specs.Replayed.{IsNoPlan, IsNoScenarios, IsReplayed}
 use Rattle.rob_top.specs.Solved.{IsEmptySet, IsRows, IsSolved}
 use Rattle.rob_top.specs.declared.ended.Ended.{Ended}
-use Rattle.rob_top.specs.declared.ended.Ended.TheVariants.{Optimal, Infeasible, Unbounded, Printed, Accepted, Rejected, Words, Missing, TooLong, Model, EmptySet, TooWide, Cert, ReadFault, WriteFault, Memory}
+use Rattle.rob_top.specs.declared.ended.Ended.TheVariants.{Optimal, Infeasible, Unbounded, Printed, Accepted, Rejected, Words, Missing, TooLong, Model, EmptySet, TooWide, Cert, Scenarios, ReadFault, WriteFault, Memory}
 use Rattle.rob_words.specs.Commands.{IsCommandLine}
 use Rattle.rob_words.specs.Values.{Word}
 
@@ -40,7 +41,7 @@ module _ (call : Call) where
   Means Optimal text = IsSolved call optimal text
   Means Infeasible text = IsSolved call infeasible text
   Means Unbounded text = IsSolved call unbounded text
-  Means Printed text = IsRows call text
+  Means Printed text = IsRows call text ⊎ IsReplayed call text
   Means Accepted text = IsAccepted call text
   Means (Rejected place) text = IsRejected call place text
   Means Words text = (IsCommandLine call.words → ⊥) × (text ≡ words_text)
@@ -49,7 +50,8 @@ module _ (call : Call) where
   Means (Model rule line) text = IsNoModel call rule line text
   Means (EmptySet weights) text = IsEmptySet call weights text
   Means (TooWide spot) text = IsTooWide call spot text
-  Means (Cert rule line) text = IsNoCertificate call rule line text
+  Means (Cert rule line) text = IsNoCertificate call rule line text ⊎ IsNoPlan call rule line text
+  Means (Scenarios rule number) text = IsNoScenarios call rule number text
   Means ReadFault text = IsCommandLine call.words × WasRaised call.read_faults × (text ≡ read_text)
   -- of a refused put and of want of memory `Ends` says what was put
   Means WriteFault text = ⊥

@@ -1,9 +1,9 @@
--- What was read: the model, its whole numbers, and the certificate, by the words of a call and its files.
-use Rattle.std.specs.Prelude.{◌≡◌, ◌++◌, ℕ, List}
+-- What was read: the model, its whole numbers, the certificate, the scenario file, by a call's words and its files.
+use Rattle.std.specs.Prelude.{◌≡◌, ◌≢◌, ◌++◌, ℕ, List}
 use Rattle.rob_cert.specs.Apart.{FitsLines}
 use Rattle.rob_cert.specs.Whole.{IsTextOf}
 use Rattle.rob_elab.specs.Forms.{judged_forms}
-use Rattle.rob_meaning.specs.Certificates.{Certificate}
+use Rattle.rob_meaning.specs.Certificates.{Certificate, infeasible}
 use Rattle.rob_meaning.specs.Places.{Each}
 use Rattle.rob_meaning.specs.RobustModel.{RobustModel}
 use Rattle.rob_parse.specs.Modelled.{ReadsModel}
@@ -12,7 +12,7 @@ use Rattle.rob_sets.specs.SetForm.{judged_set}
 use Rattle.rob_top.specs.Calls.{Call, Came, HasFile, limit_of, requests}
 use Rattle.rob_words.specs.Commands.{Line, IsSpelled}
 use Rattle.rob_words.specs.declared.verb.Own.TheVariants as own
-use Rattle.rob_words.specs.declared.verb.Verb.TheVariants.{Check}
+use Rattle.rob_words.specs.declared.verb.Verb.TheVariants.{Check, Replay}
 
 module _ (call : Call) where
   -- the words are this command line, the files that it names came, and that of its model reads, at the line's width, as this
@@ -41,3 +41,25 @@ module _ (call : Call) where
     pub file : HasCertificateFile line m bytes
     pub text : IsTextOf m c bytes
     pub fits : FitsLines (limit_of line) m c
+
+  -- ---- `replay`
+
+  -- the words say `replay`, the model was read, and the file of the certificate came, with these bytes. No set row and
+  -- no form is made of the model
+  pub record HasReplayFile (line : Line) (m : RobustModel) (bytes : List ℕ) : Type 0 where
+    pub model : HasModel line m
+    pub is_replay : line.verb ≡ Replay
+    pub file : HasFile call line own.Certificate bytes
+
+  -- and it is the text of this certificate, whose numbers are within the line's width. It isn't checked
+  pub record HasReplayCertificate (line : Line) (m : RobustModel) (c : Certificate) : Type 0 where
+    pub bytes : List ℕ
+    pub file : HasReplayFile line m bytes
+    pub text : IsTextOf m c bytes
+    pub fits : FitsLines (limit_of line) m c
+
+  -- and it has a plan, as each but that of an infeasible model, and the scenario file came, with these bytes
+  pub record HasScenarios (line : Line) (m : RobustModel) (c : Certificate) (bytes : List ℕ) : Type 0 where
+    pub certificate : HasReplayCertificate line m c
+    pub has_plan : c.status ≢ infeasible
+    pub file : HasFile call line own.Scenarios bytes

@@ -5,6 +5,7 @@ pub mod Answers
 pub mod Inputs
 pub mod Solved
 pub mod Checked
+pub mod Replayed
 pub mod Refused
 pub mod Headline
 pub mod Codes

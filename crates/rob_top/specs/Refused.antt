@@ -1,5 +1,5 @@
 -- Refusals: a number that is wide, and a text that breaks a rule.
-use Rattle.std.specs.Prelude.{◌≡◌, ◌++◌, ℕ, List}
+use Rattle.std.specs.Prelude.{◌≡◌, ◌++◌, ℕ, List, Err}
 use Rattle.rob_cert.specs.Causes.{HasCause}
 use Rattle.rob_cert.specs.Reading.{start}
 use Rattle.rob_cert.specs.Spelling.{naming_of}
@@ -13,27 +13,33 @@ use Rattle.rob_meaning.specs.Places.{Each}
 use Rattle.rob_meaning.specs.RobustModel.{RobustModel}
 use Rattle.rob_model.specs.declared.place.Place.{Place}
 use Rattle.rob_model.specs.declared.place.Spot.{Spot}
-use Rattle.rob_model.specs.declared.place.Spot.TheVariants.{Check}
+use Rattle.rob_model.specs.declared.place.Spot.TheVariants.{Check, Replay}
 use Rattle.rob_parse.specs.Reading.{Breaks}
+use Rattle.rob_replay.specs.Outcome.{is_wide, outcome}
+use Rattle.rob_replay.specs.View.{Gives}
 use Rattle.rob_report.specs.Spots.{too_wide_line}
 use Rattle.rob_sets.specs.FirstWide.{IsFirstWide}
 use Rattle.rob_sets.specs.SetForm.{judged_set}
 use Rattle.rob_top.specs.Answers.{certificate_text, model_text}
-use Rattle.rob_top.specs.Calls.{Call, Came, HasFile, IsSolving, WasRaised, limit_of, requests}
-use Rattle.rob_top.specs.Inputs.{HasCertificate, HasCertificateFile, HasForms, HasModel}
+use Rattle.rob_top.specs.Calls.{Call, Came, HasFile, IsElaborating, IsSolving, WasRaised, limit_of, requests}
+use Rattle.rob_top.specs.Inputs.{HasCertificate, HasCertificateFile, HasForms, HasModel, HasScenarios}
 use Rattle.rob_words.specs.Commands.{Line, IsSpelled}
 use Rattle.rob_words.specs.declared.verb.Own.TheVariants as own
 
 module _ (call : Call) where
-  -- the spot's number is wide: of the numbers of the set rows and forms it is the first; or it is a number of a row of a basis
-  -- on the path of the set's program, or of the model's counterpart; or it is a number of a check, before which no condition
-  -- fails and no number is wide
+  -- the spot's number is wide: of the numbers of the set rows and forms it is the first; or it is a number of a row of
+  -- a basis on the path of the set's program, or of the model's counterpart; or it is a number of a check, before which
+  -- no condition fails and no number is wide; or it is one of that record's values, and no record before it breaks a
+  -- rule or has a wide number
   pub data IsWideSpot (line : Line) (m : RobustModel) (spot : Spot) : Type 0 where
-    elaborating : HasModel call line m → IsFirstWide (limit_of line) m (judged_set m ++ judged_forms m) spot
-        → IsWideSpot line m spot
+    elaborating : HasModel call line m → IsElaborating line.verb
+        → IsFirstWide (limit_of line) m (judged_set m ++ judged_forms m) spot → IsWideSpot line m spot
     solving : HasForms call line m → IsSolving line.verb → IsWideOnPath (limit_of line) m spot → IsWideSpot line m spot
     checking : (c : Certificate) (place : Place) → HasCertificate call line m c → spot ≡ Check place
         → verdict_of (limit_of line) m c ≡ verdict.TooWide place → IsWideSpot line m spot
+    replaying : (c : Certificate) (bytes : List ℕ) (number : ℕ) → HasScenarios call line m c bytes
+        → spot ≡ Replay number → Gives (outcome (limit_of line) m c.plan) bytes (Err (is_wide number))
+        → IsWideSpot line m spot
 
   -- a number is wider than the command line's width, and the ledger has counted it in this call
   pub record IsTooWide (spot : Spot) (text : List ℕ) : Type 0 where

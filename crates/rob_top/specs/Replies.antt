@@ -12,7 +12,7 @@ use Rattle.rob_words.specs.declared.verb.Own.{Own}
 use Rattle.rob_words.specs.declared.verb.Own.TheVariants as own
 use Rattle.rob_words.specs.declared.line.CommandLine.{CommandLine}
 use Rattle.rob_top.specs.Answers.{missing_text, too_long_text, read_text}
-use Rattle.rob_top.specs.Calls.{Call, Came, Count, Request, Source, WasRaised, AsksInOrder, IsFound, IsFoundIn, file_of, files_of, requests, word_of}
+use Rattle.rob_top.specs.Calls.{Call, Came, Count, Request, Source, WasRaised, AsksInOrder, IsFound, IsFoundIn, files_of, requests, request_of}
 use Rattle.rob_top.specs.declared.ended.Ended.{Ended}
 use Rattle.rob_top.specs.declared.ended.Ended.TheVariants.{Missing, TooLong, ReadFault}
 use Rattle.rob_top.specs.declared.files.Files.{Files}
@@ -66,11 +66,13 @@ IsGotWithin most (Answer reply) = Unit {0}
 abbrev pub text_of : Own → Texts → List ℕ
 text_of own.Model texts = texts.model.items
 text_of own.Certificate texts = texts.certificate.items
+text_of own.Scenarios texts = texts.scenarios.items
 
 -- the texts with these bytes for the file of this kind
 abbrev pub with_text : Own → Vec ℕ Global → Texts → Texts
 with_text own.Model bytes texts = record texts { model = bytes }
 with_text own.Certificate bytes texts = record texts { certificate = bytes }
+with_text own.Scenarios bytes texts = record texts { scenarios = bytes }
 
 -- what came of files, with these bytes of one more
 abbrev pub with_file : Own → Vec ℕ Global → Files → Files
@@ -79,15 +81,16 @@ with_file kind bytes (fetch.Answer reply) = fetch.Answer reply
 
 -- no file was asked for
 abbrev pub IsNothing : Files → Type 0
-IsNothing (fetch.Texts texts) = (texts.model.items ≡ []) × (texts.certificate.items ≡ [])
+IsNothing (fetch.Texts texts) =
+    (texts.model.items ≡ []) × (texts.certificate.items ≡ []) × (texts.scenarios.items ≡ [])
 IsNothing (fetch.Answer reply) = ⊥
 
 -- the words are the command line, and the files that it names came with these texts
 pub record HasTexts (call : Call) (line : Line) (texts : Texts) : Type 0 where
   pub spelled : IsSpelled call.words line
   pub came : Each (Came call) (requests line)
-  pub found : (kind : Own) (name : Word) → word_of kind (own_of line.verb) line.own ≡ Some name
-      → IsFound call (file_of kind name) (whole (text_of kind texts))
+  pub found : (kind : Own) (request : Request) → request_of kind (own_of line.verb) line.own ≡ Some request
+      → IsFound call request (whole (text_of kind texts))
 
 -- the file came whole
 abbrev pub CameIn : Source → Request → Type 0
@@ -96,8 +99,8 @@ CameIn source request = (bytes : List ℕ) × IsFoundIn source request (whole by
 -- the files of own words of these kinds came, with these texts
 pub record AreFound (source : Source) (kinds : List Own) (names : List Word) (texts : Texts) : Type 0 where
   pub came : Each (CameIn source) (files_of kinds names)
-  pub found : (kind : Own) (name : Word) → word_of kind kinds names ≡ Some name
-      → IsFoundIn source (file_of kind name) (whole (text_of kind texts))
+  pub found : (kind : Own) (request : Request) → request_of kind kinds names ≡ Some request
+      → IsFoundIn source request (whole (text_of kind texts))
 
 -- of these files one is the first that didn't come whole, with the reply to that
 pub record IsAbsentAmong (source : Source) (files : List Request) (faults : Count) (ended : Ended) (text : List ℕ) : Type 0 where

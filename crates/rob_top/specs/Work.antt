@@ -16,9 +16,9 @@ use Rattle.rob_report.specs.Spots.{too_wide_line, empty_set_lines}
 use Rattle.rob_sets.specs.declared.error.ElabErr.{ElabErr}
 use Rattle.rob_sets.specs.declared.error.ElabErr.TheVariants as refused
 use Rattle.rob_top.specs.Answers.{model_text}
-use Rattle.rob_top.specs.Calls.{Call, Count, WasRaised, limit_of}
+use Rattle.rob_top.specs.Calls.{Call, Count, HasFile, IsElaborating, WasRaised, limit_of}
 use Rattle.rob_top.specs.Headline.{Means}
-use Rattle.rob_top.specs.Inputs.{HasModel, HasForms, HasCertificateFile, HasCertificate}
+use Rattle.rob_top.specs.Inputs.{HasModel, HasForms, HasCertificateFile, HasCertificate, HasReplayCertificate, HasReplayFile, HasScenarios}
 use Rattle.rob_top.specs.Replies.{HasTexts, Replies}
 use Rattle.rob_top.specs.declared.ended.Ended.{Ended}
 use Rattle.rob_top.specs.declared.ended.Ended.TheVariants.{Optimal, Infeasible, Unbounded, Accepted, Rejected, Model, EmptySet, TooWide}
@@ -27,8 +27,9 @@ use Rattle.rob_top.specs.declared.files.Files.TheVariants as fetch
 use Rattle.rob_top.specs.declared.files.Texts.{Texts}
 use Rattle.rob_top.specs.declared.reply.Reply.{Reply}
 use Rattle.rob_words.specs.Commands.{Line}
+use Rattle.rob_words.specs.declared.verb.Own.TheVariants as own
 use Rattle.rob_words.specs.declared.verb.Verb.{Verb}
-use Rattle.rob_words.specs.declared.verb.Verb.TheVariants.{Check}
+use Rattle.rob_words.specs.declared.verb.Verb.TheVariants.{Check, Replay}
 
 -- ---- texts that are short enough to read
 
@@ -36,6 +37,7 @@ use Rattle.rob_words.specs.declared.verb.Verb.TheVariants.{Check}
 pub record IsShort (texts : Texts) : Type 0 where
   pub model : length texts.model.items ≤ 2 ^ 30
   pub certificate : length texts.certificate.items ≤ 2 ^ 30
+  pub scenarios : length texts.scenarios.items ≤ 2 ^ 30
 
 -- those that came
 abbrev pub IsShortFetch : Files → Type 0
@@ -84,6 +86,24 @@ module _ (limit : ℕ) (wides : Count) where
     abbrev pub AnswersCertificate : Certificate → Reply → Type 0
     AnswersCertificate c reply =
         (call : Call) (line : Line) → IsCallAt limit wides Check call line → HasCertificate call line m c
+        → Means call reply.ended reply.text
+
+    -- that of each one for `replay`, whose certificate's file and scenario file came with these bytes
+    abbrev pub AnswersReplay : List ℕ → List ℕ → Reply → Type 0
+    AnswersReplay certificate bytes reply =
+        (call : Call) (line : Line) → IsCallAt limit wides Replay call line → HasReplayFile call line m certificate
+        → HasFile call line own.Scenarios bytes → Means call reply.ended reply.text
+
+    -- the first of which is the text of the certificate
+    abbrev pub AnswersPlan : Certificate → List ℕ → Reply → Type 0
+    AnswersPlan c bytes reply =
+        (call : Call) (line : Line) → IsCallAt limit wides Replay call line → HasReplayCertificate call line m c
+        → HasFile call line own.Scenarios bytes → Means call reply.ended reply.text
+
+    -- and this has a plan
+    abbrev pub AnswersScenarios : Certificate → List ℕ → Reply → Type 0
+    AnswersScenarios c bytes reply =
+        (call : Call) (line : Line) → IsCallAt limit wides Replay call line → HasScenarios call line m c bytes
         → Means call reply.ended reply.text
 
 -- the answer for a status

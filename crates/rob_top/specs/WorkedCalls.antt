@@ -1,6 +1,6 @@
--- Calls worked by hand, of which the laws say how they must end: `solve one.rob` and `check one.rob one.cert`, where the shelf tells
--- files of these names.
-use Rattle.std.specs.Prelude.{ℕ, ◌-◌, ◌^◌, pos, false, List, [], ◌∷◌, Some, None, codes}
+-- Calls worked by hand, of which the laws say how they must end: `solve one.rob`, `check one.rob one.cert` and
+-- `replay one.rob one.cert one.csv`, where the shelf tells files of these names.
+use Rattle.std.specs.Prelude.{ℕ, ◌-◌, ◌^◌, pos, false, List, [], ◌∷◌, ◌++◌, Some, None, codes}
 use Rattle.rob_algebra.specs.Fraction.{of_int}
 use Rattle.rob_cert.specs.Spelling.{cert_text}
 use Rattle.rob_dualize.specs.SmallestModel.{one_demand}
@@ -10,6 +10,7 @@ use Rattle.rob_meaning.specs.Expressions.{number, parameter, variable, sum, no_t
 use Rattle.rob_meaning.specs.RobustModel.{RobustModel, at_least, at_most, line, minimise}
 use Rattle.rob_outside.specs.Files.{File, file_of}
 use Rattle.rob_parse.specs.Canonical.{model_text}
+use Rattle.rob_report.specs.Lines.{line as line_of}
 use Rattle.rob_top.specs.Calls.{Call, call_of, count}
 use Rattle.rob_words.specs.Values.{Word}
 
@@ -22,6 +23,9 @@ model_name = codes "one.rob"
 
 abbrev pub certificate_name : Word
 certificate_name = codes "one.cert"
+
+abbrev pub scenarios_name : Word
+scenarios_name = codes "one.csv"
 
 -- a call with these words, where the shelf tells these files
 abbrev pub call_over : List Word → List File → Call
@@ -36,6 +40,23 @@ abbrev pub check_call : Certificate → Call
 check_call c =
     call_over (codes "check" ∷ model_name ∷ certificate_name ∷ [])
     (file_of model_name (model_text one_demand) ∷ file_of certificate_name (cert_text one_demand c) ∷ [])
+
+-- `replay` on the text of a certificate of that model and a scenario file
+abbrev pub replay_call : Certificate → List ℕ → Call
+replay_call c bytes =
+    call_over (codes "replay" ∷ model_name ∷ certificate_name ∷ scenarios_name ∷ [])
+    (
+      file_of model_name (model_text one_demand)
+      ∷ file_of certificate_name (cert_text one_demand c) ∷ file_of scenarios_name bytes ∷ []
+    )
+
+-- the demands 9, and 13, which is not admitted, each on its line
+abbrev pub two_demands : List ℕ
+two_demands = line_of (codes "d") ++ (line_of (codes "9") ++ line_of (codes "13"))
+
+-- a header that names no parameter
+abbrev pub no_demand : List ℕ
+no_demand = line_of (codes "e")
 
 -- minimise x, where d lies in [12, 8], so no scenario is admitted
 abbrev pub empty_interval : RobustModel

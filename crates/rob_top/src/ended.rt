@@ -6,7 +6,8 @@ ghost use Rattle.rob_top.specs.Codes.{code_of};
 use rob_model::{Place, Spot};
 use rob_number::List;
 
-/// How a run ended. `Model` and `Cert` hold the number of the rule that the text breaks, and its line, from 1.
+/// How a run ended. `Model`, `Cert` and `Scenarios` hold the number of the rule that the text breaks, and its line or
+/// record, from 1.
 #[derive(Debug, Drop)]
 pub enum Ended {
     /// The model is optimal.
@@ -34,8 +35,10 @@ pub enum Ended {
     EmptySet(List<i64>),
     /// A number is wider than the program computes with.
     TooWide(Spot),
-    /// The certificate's text can't be read.
+    /// The certificate's text can't be read, or it is of an infeasible model and a plan is asked for.
     Cert(u8, u32),
+    /// The scenario file can't be read.
+    Scenarios(u8, u32),
     /// The outside failed while a file was read.
     ReadFault,
     /// The outside failed while the output was put.
@@ -63,6 +66,7 @@ impl Ended {
             Ended::EmptySet(_) => 24,
             Ended::TooWide(_) => 25,
             Ended::Cert(_, _) => 26,
+            Ended::Scenarios(_, _) => 27,
             Ended::ReadFault => 30,
             Ended::WriteFault => 31,
             Ended::Memory => 40,

@@ -1,9 +1,9 @@
 // The files that a command names.
 
-ghost use Rattle.std.specs.Prelude.{◌≡◌, ◌≤◌, Err, IfOk, map, string_bytes, true};
+ghost use Rattle.std.specs.Prelude.{◌≡◌, ◌≤◌, Err, IfOk, map, string_bytes};
 ghost use Rattle.rob_number.specs.Counts.{Rose};
 ghost use Rattle.rob_outside.specs.Files.{IsAtMost, found_of};
-ghost use Rattle.rob_top.specs.Calls.{IsFoundIn, are_apart, count, files_of, most_of, requests, source_of};
+ghost use Rattle.rob_top.specs.Calls.{IsFoundIn, count, files_of, most_of, requests, source_of};
 ghost use Rattle.rob_top.specs.Replies.{Asks, AsksOnce, IsFetched, IsGot, IsGotWithin, IsNothing, with_file};
 ghost use Rattle.rob_top.specs.Work.{IsShortFetch};
 ghost use Rattle.rob_words.specs.Answers.{line_of};
@@ -21,6 +21,7 @@ use std::alloc::Global;
 pub struct Texts {
     pub model: Vec<u8>,
     pub certificate: Vec<u8>,
+    pub scenarios: Vec<u8>,
 }
 
 /// What came of a command's files: the texts of all of them, or the answer that ends the call.
@@ -56,7 +57,6 @@ fn fetch_all<S: Shelf>(
     names: &[String],
     shelf: &mut S,
 ) -> Result<Files, Memory>
-    requires apart { are_apart kinds.now ≡ true }
     ensures fetched { IfOk result (IsFetched kinds.now (map string_bytes names.now)
         (source_of (S.files shelf.old) (S.log shelf.old) (S.log shelf.new)) (count (S.faults shelf.old) (S.faults shelf.new))) }
     ensures short { IfOk result IsShortFetch }
@@ -86,6 +86,7 @@ fn no_files(alloc: Global) -> Files
     Files::Texts(Texts {
         model: Vec::new(alloc),
         certificate: Vec::new(alloc),
+        scenarios: Vec::new(alloc),
     })
 }
 
@@ -96,6 +97,7 @@ fn most_bytes(kind: Own) -> usize
     match kind {
         Own::Model => 65_536,
         Own::Certificate => 4_194_304,
+        Own::Scenarios => 4_194_304,
     }
 }
 
@@ -108,10 +110,17 @@ fn with_bytes(kind: Own, bytes: Vec<u8>, files: Files) -> Files
             Own::Model => Texts {
                 model: bytes,
                 certificate: texts.certificate,
+                scenarios: texts.scenarios,
             },
             Own::Certificate => Texts {
                 model: texts.model,
                 certificate: bytes,
+                scenarios: texts.scenarios,
+            },
+            Own::Scenarios => Texts {
+                model: texts.model,
+                certificate: texts.certificate,
+                scenarios: bytes,
             },
         }),
         Files::Answer(reply) => Files::Answer(reply),
@@ -121,11 +130,11 @@ fn with_bytes(kind: Own, bytes: Vec<u8>, files: Files) -> Files
 /// Fetches a file of at most `most` bytes.
 pub fn get<S: Shelf>(alloc: Global, name: &str, most: usize, shelf: &mut S) -> Result<Got, Memory>
     ensures got { IfOk result (IsGot (source_of (S.files shelf.old)
-        (S.log shelf.old) (S.log shelf.new)) (record { name = name.now; most = most })
+        (S.log shelf.old) (S.log shelf.new)) (record { place = 0; name = name.now; most = most })
         (count (S.faults shelf.old) (S.faults shelf.new))) }
     ensures within { IfOk result (IsGotWithin most) }
     ensures unchanged { S.files shelf.new ≡ S.files shelf.old }
-    ensures asked { AsksOnce (record { name = name.now; most = most }) (S.log shelf.old) (S.log shelf.new) }
+    ensures asked { AsksOnce (record { place = 0; name = name.now; most = most }) (S.log shelf.old) (S.log shelf.new) }
     ensures counted { S.faults shelf.old ≤ S.faults shelf.new }
 {
     let answer = match ask(alloc, name, most, shelf) {
@@ -141,10 +150,10 @@ pub fn get<S: Shelf>(alloc: Global, name: &str, most: usize, shelf: &mut S) -> R
 /// Fetches a file of at most `most` bytes. What is answered is what is found of the file.
 fn ask<S: Shelf>(alloc: Global, name: &str, most: usize, shelf: &mut S) -> Result<Fetched, ShelfErr>
     ensures found { IfOk result (λ fetched. IsFoundIn (source_of (S.files shelf.old)
-        (S.log shelf.old) (S.log shelf.new)) (record { name = name.now; most = most }) (found_of fetched)) }
+        (S.log shelf.old) (S.log shelf.new)) (record { place = 0; name = name.now; most = most }) (found_of fetched)) }
     ensures within { IfOk result (IsAtMost most) }
     ensures unchanged { S.files shelf.new ≡ S.files shelf.old }
-    ensures asked { AsksOnce (record { name = name.now; most = most }) (S.log shelf.old) (S.log shelf.new) }
+    ensures asked { AsksOnce (record { place = 0; name = name.now; most = most }) (S.log shelf.old) (S.log shelf.new) }
     ensures counted { S.faults shelf.old ≤ S.faults shelf.new }
     ensures fault { result ≡ Err ShelfErr.Failed → Rose (S.faults shelf.old) (S.faults shelf.new) }
 {

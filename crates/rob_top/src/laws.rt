@@ -1,23 +1,27 @@
-// Which answer has to come, what two answers say of each other, and what `check` says of what `prove` prints. What is known of a
-// call's files (`Known`) are the told files, or the answers that came in the call, which every shelf gives. The functions do nothing;
-// their clauses are the claims.
+// Which answer has to come, what two answers say of each other, what `check` says of what `prove` prints, and what
+// `replay` shows of what `check` accepts. What is known of a call's files (`Known`) are the told files, or the answers
+// that came in the call, which every shelf gives. The functions do nothing; their clauses are the claims.
 
 ghost use Rattle.std.specs.Prelude.{◌≡◌, ◌⊎◌, ℕ, ℤ, List};
 ghost use Rattle.rob_check.specs.Narrow.{IsFirstFailing};
 ghost use Rattle.rob_dualize.specs.SmallestModel.{one_demand};
 ghost use Rattle.rob_dualize.specs.Solving.{IsWideSpot as IsWideOnPath};
 ghost use Rattle.rob_meaning.specs.Certificates.{Status};
+ghost use Rattle.rob_meaning.specs.Places.{Each};
 ghost use Rattle.rob_model.specs.declared.place.Place.{Place};
 ghost use Rattle.rob_model.specs.declared.place.Spot.{Spot};
+ghost use Rattle.rob_replay.specs.Replayed.{ShowsBound};
 ghost use Rattle.rob_top.specs.Calls.{Call, Known, known_call, limit_of};
+ghost use Rattle.rob_top.specs.Checked.{IsAccepted};
 ghost use Rattle.rob_top.specs.Completeness.{EndsAs, IsComplete, IsEmptyAnswer, IsProvedAnswer, MustEnd};
 ghost use Rattle.rob_top.specs.Headline.{Means};
 ghost use Rattle.rob_top.specs.Inputs.{HasCertificateFile};
+ghost use Rattle.rob_top.specs.Replayed.{IsReplayed};
 ghost use Rattle.rob_top.specs.Solved.{IsSolved};
 ghost use Rattle.rob_top.specs.Work.{ended_of};
-ghost use Rattle.rob_top.specs.WorkedCalls.{check_call, empty_interval, greatest, hard_and_soft, never_calm, order_11, order_12, solve_call};
+ghost use Rattle.rob_top.specs.WorkedCalls.{check_call, empty_interval, greatest, hard_and_soft, never_calm, no_demand, order_11, order_12, replay_call, solve_call, two_demands};
 ghost use Rattle.rob_top.specs.declared.ended.Ended.{Ended};
-ghost use Rattle.rob_top.specs.declared.ended.Ended.TheVariants.{Accepted, EmptySet, Optimal, Rejected, TooWide};
+ghost use Rattle.rob_top.specs.declared.ended.Ended.TheVariants.{Accepted, EmptySet, Optimal, Printed, Rejected, Scenarios, TooWide};
 ghost use Rattle.rob_words.specs.Commands.{Line};
 ghost use Rattle.rob_words.specs.declared.verb.Verb.TheVariants.{Prove};
 
@@ -34,6 +38,14 @@ pub fn prove_then_check()
         → solved.line.verb ≡ Prove → (known : Known checking.source) (line : Line)
         → line.width ≡ solved.line.width → HasCertificateFile (known_call checking known) line solved.m text
         → (ended : Ended) → Means checking ended shown → IsProvedAnswer (limit_of line) solved.m solved.c ended }
+{}
+
+/// The plan of a certificate that `check` accepted, as `replay` takes it on the same model.
+pub fn check_then_replay()
+    // It has its bound; so each inside line shows no slack below 0, and an objective no worse than the value.
+    ensures shown { (checking replaying : Call) (text shown : List ℕ) (accepted : IsAccepted checking text)
+        (replayed : IsReplayed replaying shown) → replayed.m ≡ accepted.m → replayed.c ≡ accepted.c
+        → Each (ShowsBound replayed.m replayed.c.value) replayed.lines }
 {}
 
 /// A model has one status.
@@ -65,4 +77,9 @@ pub fn worked_calls()
     // and rejects one that doesn't, at the first place that fails.
     ensures rejected { (result : Ended) → MustEnd (check_call order_11) result
         → (place : Place) × IsFirstFailing greatest one_demand order_11 place × EndsAs (Rejected place) result }
+    // `replay` prints the table of a file with one scenario that is admitted and one that isn't,
+    ensures replayed { (result : Ended) → MustEnd (replay_call order_12 two_demands) result → EndsAs Printed result }
+    // and of a file whose header names no parameter it names the rule.
+    ensures unread { (result : Ended) → MustEnd (replay_call order_12 no_demand) result
+        → EndsAs (Scenarios 41 1) result }
 {}

@@ -8,6 +8,7 @@ mod files;
 pub mod laws;
 pub mod machine;
 mod put;
+mod replaying;
 mod reply;
 mod solving;
 mod top;

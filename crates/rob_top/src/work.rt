@@ -9,7 +9,7 @@ ghost use Rattle.rob_report.specs.Places.{IsSpotOf};
 ghost use Rattle.rob_report.specs.Rows.{rows_of};
 ghost use Rattle.rob_report.specs.Spots.{too_wide_line};
 ghost use Rattle.rob_sets.specs.SetForm.{IsSetForm, SetFits, judged_set};
-ghost use Rattle.rob_top.specs.Calls.{Call, count};
+ghost use Rattle.rob_top.specs.Calls.{Call, IsElaborating, count, elaborates as is_elaborating};
 ghost use Rattle.rob_top.specs.Headline.{Means};
 ghost use Rattle.rob_top.specs.Replies.{HasTexts, Replies};
 ghost use Rattle.rob_top.specs.Work.{AnswersModel, AnswersTexts, AnswersWhole, IsRefusedOf, IsShort, RepliesRefused, RepliesUnread};
@@ -18,6 +18,7 @@ ghost use Rattle.rob_words.specs.Commands.{Line};
 use crate::checking::check_text;
 use crate::ended::Ended;
 use crate::files::Texts;
+use crate::replaying::replay_text;
 use crate::reply::{Reply, broken_rule};
 use crate::solving::{prove, solve};
 use rob_elab::{Forms, elaborate};
@@ -80,7 +81,20 @@ fn not_read(alloc: Global, error: ModelErr) -> Result<Reply, Memory>
     }
 }
 
-/// The answer for a model: its set rows come first, then its forms.
+/// Whether the command works with the set rows and the forms of its model.
+fn elaborates(verb: Verb) -> bool
+    ensures elaborates { result ≡ is_elaborating verb }
+{
+    match verb {
+        Verb::Rows => true,
+        Verb::Solve => true,
+        Verb::Prove => true,
+        Verb::Check => true,
+        Verb::Replay => false,
+    }
+}
+
+/// The answer for a model. `replay` alone works with it as it is written.
 fn on_model<N: Exact + Drop, L: Ledger>(
     alloc: Global,
     model: &Model<N>,
@@ -91,6 +105,31 @@ fn on_model<N: Exact + Drop, L: Ledger>(
     requires valid { IsValid N.value model.now }
     requires named { IsNamed (robust N.value model.now) }
     requires short { IsShort texts.now }
+    ensures answers { IfOk result (AnswersModel N.limit (count (L.wides ledger.old) (L.wides ledger.new))
+        (robust N.value model.now) verb texts.now) }
+    ensures counted { L.wides ledger.old ≤ L.wides ledger.new }
+{
+    if elaborates(verb) {
+        elaborated(alloc, model, verb, texts, ledger)
+    } else {
+        let certificate = texts.certificate.as_slice();
+        let scenarios = texts.scenarios.as_slice();
+        replay_text(alloc, model, certificate, scenarios, ledger)
+    }
+}
+
+/// The answer of a command that elaborates the model: its set rows come first, then its forms.
+fn elaborated<N: Exact + Drop, L: Ledger>(
+    alloc: Global,
+    model: &Model<N>,
+    verb: Verb,
+    texts: &Texts,
+    ledger: &mut L,
+) -> Result<Reply, Memory>
+    requires valid { IsValid N.value model.now }
+    requires named { IsNamed (robust N.value model.now) }
+    requires short { IsShort texts.now }
+    requires elaborates { IsElaborating verb }
     ensures answers { IfOk result (AnswersModel N.limit (count (L.wides ledger.old) (L.wides ledger.new))
         (robust N.value model.now) verb texts.now) }
     ensures counted { L.wides ledger.old ≤ L.wides ledger.new }
@@ -122,6 +161,7 @@ fn on_forms<N: Exact + Drop, L: Ledger>(
     requires forms_fit { FormsFit N.limit forms.now }
     requires set_fits { SetFits N.limit set.now }
     requires short { IsShort texts.now }
+    requires elaborates { IsElaborating verb }
     ensures answers { IfOk result (AnswersWhole N.limit (count (L.wides ledger.old) (L.wides ledger.new))
         (robust N.value model.now) verb texts.now) }
     ensures counted { L.wides ledger.old ≤ L.wides ledger.new }
@@ -134,6 +174,7 @@ fn on_forms<N: Exact + Drop, L: Ledger>(
             let text = texts.certificate.as_slice();
             check_text(alloc, model, forms, set, text, ledger)
         }
+        Verb::Replay => unreachable!(),
     }
 }
 

@@ -18,6 +18,8 @@ pub enum Verb {
     Prove,
     /// Check a certificate against a model.
     Check,
+    /// Print the values of a certificate's plan in each scenario of a file.
+    Replay,
 }
 
 /// What one of a command's own words names.
@@ -27,6 +29,8 @@ pub enum Own {
     Model,
     /// The file of a certificate.
     Certificate,
+    /// The file of scenarios.
+    Scenarios,
 }
 
 impl Verb {
@@ -41,6 +45,7 @@ impl Verb {
             "solve" => Some(Verb::Solve),
             "prove" => Some(Verb::Prove),
             "check" => Some(Verb::Check),
+            "replay" => Some(Verb::Replay),
             _ => None,
         }
     }
@@ -54,6 +59,7 @@ impl Verb {
             Verb::Solve => &[Own::Model],
             Verb::Prove => &[Own::Model],
             Verb::Check => &[Own::Model, Own::Certificate],
+            Verb::Replay => &[Own::Model, Own::Certificate, Own::Scenarios],
         }
     }
 
@@ -66,6 +72,7 @@ impl Verb {
             Verb::Solve => true,
             Verb::Prove => true,
             Verb::Check => false,
+            Verb::Replay => false,
         }
     }
 }

@@ -1,4 +1,5 @@
 use Rattle.std.proofs.Common.{◌∙◌, ap, string_bytes}
+use Rattle.rob_top.proofs.FetchesLemmas.{words_asked}
 use Rattle.rob_top.proofs.FilesLemmas.{got_answer, got_bytes, words_absent, words_fetched}
 use Rattle.rob_top.specs.Calls.{count, source_of}
 use Rattle.rob_top.proofs.files.+fetch_all.Goals as goal
@@ -6,7 +7,7 @@ use Rattle.rob_top.proofs.files.+fetch_all.Goals as goal
 pub returns-in_ok-rest-in-Bytes-clause-fetched : goal.returns-in_ok-rest-in-Bytes-clause-fetched
 returns-in_ok-rest-in-Bytes-clause-fetched g t c =
     words_fetched string_bytes c.args.kinds.now c.args.names.now _ c.name-item.result c.as_str.result.now c.most_bytes.result c.in-len1-up.len_at_least c.in-len1-up-names.len_at_least
-    (c.as_str.ensures.value ∙ ap string_bytes c.name-item.is) c.most_bytes.ensures.most (g.S.Shelf.files c.args.shelf.now) (g.S.Shelf.files c.get.new.shelf) c.get.ensures.unchanged c.requires.apart
+    (c.as_str.ensures.value ∙ ap string_bytes c.name-item.is) c.most_bytes.ensures.most (g.S.Shelf.files c.args.shelf.now) (g.S.Shelf.files c.get.new.shelf) c.get.ensures.unchanged
     (g.S.Shelf.log c.args.shelf.now) (g.S.Shelf.log c.get.new.shelf) (g.S.Shelf.log c.fetch_all.new.shelf) c.get.ensures.asked c.fetch_all.ensures.asked c.in-Bytes.bytes
     (got_bytes (source_of (g.S.Shelf.files c.args.shelf.now) (g.S.Shelf.log c.args.shelf.now) (g.S.Shelf.log c.get.new.shelf)) _
     (count (g.S.Shelf.faults c.args.shelf.now) (g.S.Shelf.faults c.get.new.shelf)) _ c.in-Bytes.bytes c.in-Bytes.is c.in_ok-bytes-in-len1-up-names.ensures.got)
@@ -20,3 +21,19 @@ returns-in-Answer-clause-fetched g t c =
     words_absent string_bytes c.args.kinds.now c.args.names.now _ c.name-item.result c.as_str.result.now c.most_bytes.result c.in-len1-up.len_at_least c.in-len1-up-names.len_at_least
     (c.as_str.ensures.value ∙ ap string_bytes c.name-item.is) c.most_bytes.ensures.most source faults c.in-Answer.reply
     (got_answer source _ faults _ c.in-Answer.reply c.in-Answer.is c.in_ok-bytes-in-len1-up-names.ensures.got)
+
+pub returns-in_ok-rest-in-Bytes-clause-asked : goal.returns-in_ok-rest-in-Bytes-clause-asked
+returns-in_ok-rest-in-Bytes-clause-asked g t c =
+    words_asked string_bytes c.args.kinds.now c.args.names.now _ c.name-item.result c.as_str.result.now c.most_bytes.result c.in-len1-up.len_at_least c.in-len1-up-names.len_at_least
+    (c.as_str.ensures.value ∙ ap string_bytes c.name-item.is) c.most_bytes.ensures.most (g.S.Shelf.files c.args.shelf.now)
+    (g.S.Shelf.log c.args.shelf.now) (g.S.Shelf.log c.get.new.shelf) (g.S.Shelf.log c.fetch_all.new.shelf) c.get.ensures.asked c.in-Bytes.bytes.items
+    (got_bytes (source_of (g.S.Shelf.files c.args.shelf.now) (g.S.Shelf.log c.args.shelf.now) (g.S.Shelf.log c.get.new.shelf)) _
+    (count (g.S.Shelf.faults c.args.shelf.now) (g.S.Shelf.faults c.get.new.shelf)) _ c.in-Bytes.bytes c.in-Bytes.is c.in_ok-bytes-in-len1-up-names.ensures.got) c.fetch_all.ensures.asked
+
+pub returns-in_err-rest-in-Bytes-clause-asked : goal.returns-in_err-rest-in-Bytes-clause-asked
+returns-in_err-rest-in-Bytes-clause-asked g t c =
+    words_asked string_bytes c.args.kinds.now c.args.names.now _ c.name-item.result c.as_str.result.now c.most_bytes.result c.in-len1-up.len_at_least c.in-len1-up-names.len_at_least
+    (c.as_str.ensures.value ∙ ap string_bytes c.name-item.is) c.most_bytes.ensures.most (g.S.Shelf.files c.args.shelf.now)
+    (g.S.Shelf.log c.args.shelf.now) (g.S.Shelf.log c.get.new.shelf) (g.S.Shelf.log c.fetch_all.new.shelf) c.get.ensures.asked c.in-Bytes.bytes.items
+    (got_bytes (source_of (g.S.Shelf.files c.args.shelf.now) (g.S.Shelf.log c.args.shelf.now) (g.S.Shelf.log c.get.new.shelf)) _
+    (count (g.S.Shelf.faults c.args.shelf.now) (g.S.Shelf.faults c.get.new.shelf)) _ c.in-Bytes.bytes c.in-Bytes.is c.in_ok-bytes-in-len1-up-names.ensures.got) c.fetch_all.ensures.asked

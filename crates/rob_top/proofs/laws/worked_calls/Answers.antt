@@ -1,6 +1,7 @@
 use Rattle.rob_top.proofs.WorkedCalls.{empty_interval_is_shown, one_demand_is_solved}
 use Rattle.rob_top.proofs.WorkedSetCalls.{hard_and_soft_is_solved, never_calm_is_shown}
 use Rattle.rob_top.proofs.WorkedChecks.{order_11_is_rejected, order_12_is_accepted}
+use Rattle.rob_top.proofs.WorkedReplays.{no_demand_is_refused, two_demands_are_replayed}
 use Rattle.rob_top.proofs.laws.worked_calls.Goals as goal
 
 pub returns : goal.returns
@@ -11,4 +12,6 @@ returns c = record {
   empty_named_set = never_calm_is_shown;
   accepted = order_12_is_accepted;
   rejected = order_11_is_rejected;
+  replayed = two_demands_are_replayed;
+  unread = no_demand_is_refused;
 }
