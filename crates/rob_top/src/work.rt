@@ -23,8 +23,9 @@ use crate::reply::{Reply, broken_rule};
 use crate::solving::{prove, solve};
 use rob_elab::{Forms, elaborate};
 use rob_model::{Model, Spot};
-use rob_number::{Exact, Frac, Ledger, Memory};
+use rob_number::{Exact, Ledger, Memory};
 use rob_parse::{ModelErr, read_model};
+use rob_quick::Quick;
 use rob_report::{rows_text, spot_text};
 use rob_sets::{ElabErr, SetForm, clear_set};
 use rob_words::{Verb, Width};
@@ -45,10 +46,10 @@ pub fn work_at<L: Ledger>(
     ensures counted { L.wides ledger.old ≤ L.wides ledger.new }
 {
     match width {
-        Width::Eight => work::<Frac<8>, L>(alloc, verb, texts, ledger),
-        Width::Sixteen => work::<Frac<16>, L>(alloc, verb, texts, ledger),
-        Width::ThirtyTwo => work::<Frac<32>, L>(alloc, verb, texts, ledger),
-        Width::SixtyTwo => work::<Frac<62>, L>(alloc, verb, texts, ledger),
+        Width::Eight => work::<Quick<8>, L>(alloc, verb, texts, ledger),
+        Width::Sixteen => work::<Quick<16>, L>(alloc, verb, texts, ledger),
+        Width::ThirtyTwo => work::<Quick<32>, L>(alloc, verb, texts, ledger),
+        Width::SixtyTwo => work::<Quick<62>, L>(alloc, verb, texts, ledger),
     }
 }
 
