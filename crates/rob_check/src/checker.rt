@@ -1,6 +1,6 @@
 // The check of a certificate.
 
-ghost use Rattle.std.specs.Prelude.{◌≡◌, ◌≤◌};
+ghost use Rattle.std.specs.Prelude.{◌≡◌};
 ghost use Rattle.rob_cert.specs.Shape.{HasShape};
 ghost use Rattle.rob_cert.specs.View.{certificate_of};
 ghost use Rattle.rob_check.specs.Conditions.{verdict_of};
@@ -47,8 +47,7 @@ pub fn check<N: Exact, L: Ledger>(
     // At the plan of an accepted optimal certificate each item's form is exactly 0.
     ensures tight { OnAccepted result ((certificate_of N.value cert.now).status ≡ optimal
         → IsTight (robust N.value model.now) (certificate_of N.value cert.now)) }
-    ensures counted { Counted (L.wides ledger.old) (L.wides ledger.new) result }
-    ensures ops { L.ops ledger.old ≤ L.ops ledger.new }
+    ensures counted { Counted L.ops L.wides ledger.old ledger.new result }
 {
     check_all(model, forms, set, cert, ledger)
 }

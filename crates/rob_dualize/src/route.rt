@@ -1,8 +1,9 @@
 // The route: the set's program first, then the counterpart.
 
-ghost use Rattle.std.specs.Prelude.{◌≡◌, ◌≤◌, ℕ, IfOk};
+ghost use Rattle.std.specs.Prelude.{◌≡◌, ℕ, IfOk};
 ghost use Rattle.rob_meaning.specs.RobustModel.{RobustModel};
 ghost use Rattle.rob_meaning.specs.WellFormed.{IsModel};
+ghost use Rattle.rob_number.specs.Counts.{NeverFell};
 ghost use Rattle.rob_sets.specs.SetForm.{IsSetForm};
 ghost use Rattle.rob_elab.specs.Forms.{IsForms};
 ghost use Rattle.rob_dualize.specs.Ending.{IsMadeAs};
@@ -37,7 +38,7 @@ pub fn solve_dual<N: Exact, L: Ledger>(
     requires few { IsFew (counterpart_of forms.now set.now) }
     ensures solves { (m : RobustModel) → IsModel m → IsForms m forms.now → IsSetForm m set.now
         → Solves N.value N.limit m (L.wides ledger.old) (L.wides ledger.new) result }
-    ensures ops { L.ops ledger.old ≤ L.ops ledger.new }
+    ensures counted { NeverFell L.ops L.wides ledger.old ledger.new }
 {
     let inside = match scenario(alloc, forms, set, ledger) {
         Ok(inside) => inside,

@@ -1,9 +1,10 @@
 // A scenario that is admitted, or weights that show that there is none.
 
-ghost use Rattle.std.specs.Prelude.{◌≡◌, ◌<◌, ◌≤◌, ◌^◌, ℕ, length, IfOk};
+ghost use Rattle.std.specs.Prelude.{◌≡◌, ◌<◌, ◌^◌, ℕ, length, IfOk};
 ghost use Rattle.rob_meaning.specs.RobustModel.{RobustModel};
 ghost use Rattle.rob_meaning.specs.WellFormed.{IsModel};
 ghost use Rattle.rob_model.specs.View.{scenario_of};
+ghost use Rattle.rob_number.specs.Counts.{NeverFell};
 ghost use Rattle.rob_sets.specs.SetForm.{IsSetForm};
 ghost use Rattle.rob_elab.specs.Forms.{IsForms};
 ghost use Rattle.rob_dualize.specs.Ending.{HasEnded, HasLastPoint, IsMadeAs, IsTold};
@@ -37,7 +38,7 @@ pub fn scenario<N: Exact, L: Ledger>(
     requires few { IsFew (counterpart_of forms.now set.now) }
     ensures found { (m : RobustModel) → IsModel m → IsForms m forms.now → IsSetForm m set.now
         → Finds N.value N.limit m (L.wides ledger.old) (L.wides ledger.new) result }
-    ensures ops { L.ops ledger.old ≤ L.ops ledger.new }
+    ensures counted { NeverFell L.ops L.wides ledger.old ledger.new }
 {
     let mut work = match set_work::<N>(alloc, forms, set) {
         Ok(work) => work,

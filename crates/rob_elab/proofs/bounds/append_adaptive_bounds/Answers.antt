@@ -15,7 +15,7 @@ use Rattle.rob_elab.proofs.bounds.append_adaptive_bounds.Goals as goal
 pub loop-rule-init : goal.loop-rule-init
 loop-rule-init g c =
     let m = robust g.N.Exact.value c.args.model.now in
-    record { number = refl; progress = begins g.N.Exact.limit m (adaptive_forms zero m.adaptives) c.args.matrices.now; ops = omega arith; wides = omega arith }
+    record { number = refl; progress = begins g.N.Exact.limit m (adaptive_forms zero m.adaptives) c.args.matrices.now; counted = record { ops = omega arith; wides = omega arith } }
 
 pub append_bounds-requires-clause-bounded : goal.append_bounds-requires-clause-bounded
 append_bounds-requires-clause-bounded g c =
@@ -93,7 +93,7 @@ returns-in_err-append_bounds-clause-forms g c =
     let q = err_from_is_err_and c.from_residual.result c.from_residual.ensures.1 in
     stops g.N.Exact.limit m all left c.args.matrices.now c.loop-rule.matrices c.loop-rule.invariant.progress here (other_rules value xs (i + 1)) c.append_bounds.new.matrices
     (g.L.Ledger.wides c.args.ledger.now) (g.L.Ledger.wides c.loop-rule.ledger) (g.L.Ledger.wides c.append_bounds.new.ledger)
-    c.from_residual.result c.in_err-append_bounds.field-0.0 q.0 q.1 q.2 at c.loop-rule.invariant.wides c.in_err-append_bounds.ensures.forms
+    c.from_residual.result c.in_err-append_bounds.field-0.0 q.0 q.1 q.2 at c.loop-rule.invariant.counted.wides c.in_err-append_bounds.ensures.forms
 
 pub loop-rule-preserved : goal.loop-rule-preserved
 loop-rule-preserved g c =
@@ -114,8 +114,7 @@ loop-rule-preserved g c =
       number = omega (arith, c.loop-rule.invariant.number);
       progress = goes_on g.N.Exact.limit m all left c.args.matrices.now c.loop-rule.matrices c.loop-rule.invariant.progress here (other_rules value xs (i + 1))
           c.append_bounds.new.matrices at c.in_ok-append_bounds.ensures.forms;
-      ops = omega (arith, c.loop-rule.invariant.ops, c.append_bounds.ensures.ops);
-      wides = omega (arith, c.loop-rule.invariant.wides, c.append_bounds.ensures.wides);
+      counted = record { ops = omega (arith, c.loop-rule.invariant.counted.ops, c.append_bounds.ensures.counted.ops); wides = omega (arith, c.loop-rule.invariant.counted.wides, c.append_bounds.ensures.counted.wides) };
     }
 
 pub returns-clause-forms : goal.returns-clause-forms

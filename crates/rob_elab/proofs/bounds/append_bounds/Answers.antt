@@ -29,4 +29,4 @@ returns-clause-forms g c =
     (if_declared (λ b. difference e (number b)) (option_map value c.args.upper.now)) c.args.matrices.now c.append_bound.new.matrices c.append_bound-2.new.matrices
     (g.L.Ledger.wides c.args.ledger.now) (g.L.Ledger.wides c.append_bound.new.ledger) (g.L.Ledger.wides c.append_bound-2.new.ledger) c.append_bound-2.result
     (appended_length g.N.Exact.limit m (length c.args.matrices.now) lower c.args.matrices.now c.append_bound.new.matrices c.in_ok-append_bound.ensures.form)
-    c.in_ok-append_bound.ensures.form c.append_bound.ensures.wides c.append_bound-2.ensures.form
+    c.in_ok-append_bound.ensures.form c.append_bound.ensures.counted.wides c.append_bound-2.ensures.form

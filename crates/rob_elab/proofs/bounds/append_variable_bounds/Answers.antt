@@ -16,7 +16,7 @@ use Rattle.rob_elab.proofs.bounds.append_variable_bounds.Goals as goal
 pub loop-variable-init : goal.loop-variable-init
 loop-variable-init g c =
     let m = robust g.N.Exact.value c.args.model.now in
-    record { number = refl; progress = begins g.N.Exact.limit m (variable_forms zero m.variables) c.args.matrices.now; ops = omega arith; wides = omega arith }
+    record { number = refl; progress = begins g.N.Exact.limit m (variable_forms zero m.variables) c.args.matrices.now; counted = record { ops = omega arith; wides = omega arith } }
 
 pub append_bounds-requires-clause-bounded : goal.append_bounds-requires-clause-bounded
 append_bounds-requires-clause-bounded g c =
@@ -94,7 +94,7 @@ returns-in_err-append_bounds-clause-forms g c =
     let q = err_from_is_err_and c.from_residual.result c.from_residual.ensures.1 in
     stops g.N.Exact.limit m all left c.args.matrices.now c.loop-variable.matrices c.loop-variable.invariant.progress here (other_variables value xs (i + 1)) c.append_bounds.new.matrices
     (g.L.Ledger.wides c.args.ledger.now) (g.L.Ledger.wides c.loop-variable.ledger) (g.L.Ledger.wides c.append_bounds.new.ledger)
-    c.from_residual.result c.in_err-append_bounds.field-0.0 q.0 q.1 q.2 at c.loop-variable.invariant.wides c.in_err-append_bounds.ensures.forms
+    c.from_residual.result c.in_err-append_bounds.field-0.0 q.0 q.1 q.2 at c.loop-variable.invariant.counted.wides c.in_err-append_bounds.ensures.forms
 
 pub loop-variable-preserved : goal.loop-variable-preserved
 loop-variable-preserved g c =
@@ -115,8 +115,7 @@ loop-variable-preserved g c =
       number = omega (arith, c.loop-variable.invariant.number);
       progress = goes_on g.N.Exact.limit m all left c.args.matrices.now c.loop-variable.matrices c.loop-variable.invariant.progress here (other_variables value xs (i + 1))
           c.append_bounds.new.matrices at c.in_ok-append_bounds.ensures.forms;
-      ops = omega (arith, c.loop-variable.invariant.ops, c.append_bounds.ensures.ops);
-      wides = omega (arith, c.loop-variable.invariant.wides, c.append_bounds.ensures.wides);
+      counted = record { ops = omega (arith, c.loop-variable.invariant.counted.ops, c.append_bounds.ensures.counted.ops); wides = omega (arith, c.loop-variable.invariant.counted.wides, c.append_bounds.ensures.counted.wides) };
     }
 
 pub returns-clause-forms : goal.returns-clause-forms

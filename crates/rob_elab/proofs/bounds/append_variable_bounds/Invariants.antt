@@ -1,4 +1,5 @@
-use Rattle.std.specs.Prelude.{◌≡◌, ◌≤◌, zero}
+use Rattle.std.specs.Prelude.{◌≡◌, zero}
+use Rattle.rob_number.specs.Counts.{NeverFell}
 use Rattle.rob_meaning.specs.Forms.{variable_forms}
 use Rattle.rob_model.specs.View.{robust}
 use Rattle.rob_elab.proofs.AppendLemmas.{Progress}
@@ -13,6 +14,5 @@ invariant-loop-variable g l =
     record {
       number : l.number ≡ l.variable-index;
       progress : Progress g.N.Exact.limit m (variable_forms zero m.variables) (other_variables value l.model.vars l.variable-index) l.fn.matrices l.matrices;
-      ops : g.L.Ledger.ops l.fn.ledger ≤ g.L.Ledger.ops l.ledger;
-      wides : g.L.Ledger.wides l.fn.ledger ≤ g.L.Ledger.wides l.ledger;
+      counted : NeverFell g.L.Ledger.ops g.L.Ledger.wides l.fn.ledger l.ledger;
     }

@@ -39,7 +39,7 @@ returns-in_err-append_rows-clause-forms g c =
     let q = err_from_is_err_and c.from_residual-in_err-append_rows.result c.from_residual-in_err-append_rows.ensures.1 in
     subst (λ (s : Matrices). Appends limit m (length s) (forms m) s c.append_rows.new.matrices (g.L.Ledger.wides c.args.ledger.now) (g.L.Ledger.wides c.append_rows.new.ledger) c.from_residual-in_err-append_rows.result) c.requires.empty
     (stops limit m (forms m) rest start c.append_objective.new.matrices first (row_forms m.rows) bounds c.append_rows.new.matrices (g.L.Ledger.wides c.args.ledger.now) (g.L.Ledger.wides c.append_objective.new.ledger)
-    (g.L.Ledger.wides c.append_rows.new.ledger) c.from_residual-in_err-append_rows.result c.in_err-append_rows.field-0.0 q.0 q.1 q.2 refl (c.append_objective.ensures.wides) c.in_err-append_rows.ensures.forms)
+    (g.L.Ledger.wides c.append_rows.new.ledger) c.from_residual-in_err-append_rows.result c.in_err-append_rows.field-0.0 q.0 q.1 q.2 refl (c.append_objective.ensures.counted.wides) c.in_err-append_rows.ensures.forms)
 
 pub returns-in_err-append_variable_bounds-clause-forms : goal.returns-in_err-append_variable_bounds-clause-forms
 returns-in_err-append_variable_bounds-clause-forms g c =
@@ -58,7 +58,7 @@ returns-in_err-append_variable_bounds-clause-forms g c =
     let q = err_from_is_err_and c.from_residual-in_err-append_variable_bounds.result c.from_residual-in_err-append_variable_bounds.ensures.1 in
     subst (λ (s : Matrices). Appends limit m (length s) (forms m) s c.append_variable_bounds.new.matrices (g.L.Ledger.wides c.args.ledger.now) (g.L.Ledger.wides c.append_variable_bounds.new.ledger) c.from_residual-in_err-append_variable_bounds.result) c.requires.empty
     (stops limit m (forms m) bounds start c.append_rows.new.matrices second (variable_forms zero m.variables) adaptives c.append_variable_bounds.new.matrices (g.L.Ledger.wides c.args.ledger.now) (g.L.Ledger.wides c.append_rows.new.ledger)
-    (g.L.Ledger.wides c.append_variable_bounds.new.ledger) c.from_residual-in_err-append_variable_bounds.result c.in_err-append_variable_bounds.field-0.0 q.0 q.1 q.2 refl (omega (arith, c.append_objective.ensures.wides, c.append_rows.ensures.wides)) c.in_err-append_variable_bounds.ensures.forms)
+    (g.L.Ledger.wides c.append_variable_bounds.new.ledger) c.from_residual-in_err-append_variable_bounds.result c.in_err-append_variable_bounds.field-0.0 q.0 q.1 q.2 refl (omega (arith, c.append_objective.ensures.counted.wides, c.append_rows.ensures.counted.wides)) c.in_err-append_variable_bounds.ensures.forms)
 
 pub returns-clause-forms : goal.returns-clause-forms
 returns-clause-forms g c =
@@ -79,7 +79,7 @@ returns-clause-forms g c =
     subst (λ (s : Matrices). Appends limit m (length s) (forms m) s c.append_adaptive_bounds.new.matrices (g.L.Ledger.wides c.args.ledger.now) (g.L.Ledger.wides c.append_adaptive_bounds.new.ledger) c.append_adaptive_bounds.result) c.requires.empty
     (ends_with limit m (forms m) adaptives start c.append_variable_bounds.new.matrices third (g.L.Ledger.wides c.args.ledger.now)
     (g.L.Ledger.wides c.append_variable_bounds.new.ledger) (g.L.Ledger.wides c.append_adaptive_bounds.new.ledger) c.append_adaptive_bounds.new.matrices c.append_adaptive_bounds.result
-    (omega (arith, c.append_objective.ensures.wides, c.append_rows.ensures.wides, c.append_variable_bounds.ensures.wides)) c.append_adaptive_bounds.ensures.forms)
+    (omega (arith, c.append_objective.ensures.counted.wides, c.append_rows.ensures.counted.wides, c.append_variable_bounds.ensures.counted.wides)) c.append_adaptive_bounds.ensures.forms)
 
 pub append_variable_bounds-requires-clause-few : goal.append_variable_bounds-requires-clause-few
 append_variable_bounds-requires-clause-few g c =

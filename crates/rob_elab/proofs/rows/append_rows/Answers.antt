@@ -14,7 +14,7 @@ use Rattle.rob_elab.proofs.rows.append_rows.Goals as goal
 pub loop-row-init : goal.loop-row-init
 loop-row-init g c =
     let m = robust g.N.Exact.value c.args.model.now in
-    record { progress = begins g.N.Exact.limit m (row_forms m.rows) c.args.matrices.now; ops = omega arith; wides = omega arith }
+    record { progress = begins g.N.Exact.limit m (row_forms m.rows) c.args.matrices.now; counted = record { ops = omega arith; wides = omega arith } }
 
 pub append_sides-requires : goal.append_sides-requires
 append_sides-requires g c =
@@ -52,7 +52,7 @@ returns-in_err-append_sides-clause-forms g c =
     stops g.N.Exact.limit m (row_forms m.rows) (other_rows value rs i) c.args.matrices.now c.loop-row.matrices c.loop-row.invariant.progress
     (sides (relation_of r.rel) (expression_of value r.left) (expression_of value r.right)) (other_rows value rs (i + 1)) c.append_sides.new.matrices
     (g.L.Ledger.wides c.args.ledger.now) (g.L.Ledger.wides c.loop-row.ledger) (g.L.Ledger.wides c.append_sides.new.ledger)
-    c.from_residual.result c.in_err-append_sides.field-0.0 q.0 q.1 q.2 (rows_at value rs i r inside is) c.loop-row.invariant.wides c.in_err-append_sides.ensures.forms
+    c.from_residual.result c.in_err-append_sides.field-0.0 q.0 q.1 q.2 (rows_at value rs i r inside is) c.loop-row.invariant.counted.wides c.in_err-append_sides.ensures.forms
 
 pub loop-row-preserved : goal.loop-row-preserved
 loop-row-preserved g c =
@@ -67,8 +67,7 @@ loop-row-preserved g c =
       progress = goes_on g.N.Exact.limit m (row_forms m.rows) (other_rows value rs i) c.args.matrices.now c.loop-row.matrices c.loop-row.invariant.progress
           (sides (relation_of r.rel) (expression_of value r.left) (expression_of value r.right)) (other_rows value rs (i + 1)) c.append_sides.new.matrices
           (rows_at value rs i r inside is) c.in_ok-append_sides.ensures.forms;
-      ops = omega (arith, c.loop-row.invariant.ops, c.append_sides.ensures.ops);
-      wides = omega (arith, c.loop-row.invariant.wides, c.append_sides.ensures.wides);
+      counted = record { ops = omega (arith, c.loop-row.invariant.counted.ops, c.append_sides.ensures.counted.ops); wides = omega (arith, c.loop-row.invariant.counted.wides, c.append_sides.ensures.counted.wides) };
     }
 
 pub returns-clause-forms : goal.returns-clause-forms

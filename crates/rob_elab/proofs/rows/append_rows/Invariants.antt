@@ -1,4 +1,5 @@
 use Rattle.std.specs.Prelude.{◌≤◌}
+use Rattle.rob_number.specs.Counts.{NeverFell}
 use Rattle.rob_meaning.specs.Forms.{row_forms}
 use Rattle.rob_model.specs.View.{robust}
 use Rattle.rob_elab.proofs.AppendLemmas.{Progress}
@@ -12,6 +13,5 @@ invariant-loop-row g l =
     let m = robust value l.model in
     record {
       progress : Progress g.N.Exact.limit m (row_forms m.rows) (other_rows value l.model.rows l.row-index) l.fn.matrices l.matrices;
-      ops : g.L.Ledger.ops l.fn.ledger ≤ g.L.Ledger.ops l.ledger;
-      wides : g.L.Ledger.wides l.fn.ledger ≤ g.L.Ledger.wides l.ledger;
+      counted : NeverFell g.L.Ledger.ops g.L.Ledger.wides l.fn.ledger l.ledger;
     }

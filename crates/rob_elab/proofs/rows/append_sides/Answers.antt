@@ -38,4 +38,4 @@ returns-in_ok-append_difference-in-Equal-clause-forms g c =
     (g.L.Ledger.wides c.args.ledger.now) (g.L.Ledger.wides c.append_difference-in-Equal.new.ledger) (g.L.Ledger.wides c.append_difference-in-Equal-2.new.ledger)
     c.append_difference-in-Equal-2.result
     (appended_length g.N.Exact.limit m n (difference l r ∷ []) c.args.matrices.now first c.in_ok-append_difference-in-Equal.ensures.form)
-    c.in_ok-append_difference-in-Equal.ensures.form c.append_difference-in-Equal.ensures.wides c.append_difference-in-Equal-2.ensures.form)
+    c.in_ok-append_difference-in-Equal.ensures.form c.append_difference-in-Equal.ensures.counted.wides c.append_difference-in-Equal-2.ensures.form)

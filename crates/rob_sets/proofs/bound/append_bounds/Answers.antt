@@ -20,8 +20,7 @@ loop-parameter-init g c =
       number = refl;
       progress = subst (λ (rows : List SetRow). Progress g.N.Exact.limit m all all (judged_rows m zero all) (judged_rows m (length rows) all) [] rows)
           (sym c.requires.empty) (begins g.N.Exact.limit m all (judged_rows m zero all) []);
-      ops = omega arith;
-      wides = omega arith;
+      counted = record { ops = omega arith; wides = omega arith };
     }
 
 pub append_bound-requires-clause-few : goal.append_bound-requires-clause-few
@@ -78,7 +77,7 @@ returns-in_err-append_bound-clause-rows g c =
     c.loop-parameter.invariant.progress (judged_rows m r lower) (judged_rows m (r + length lower) (upper ++ other_bounds value ps (i + 1))) c.in_err-append_bound.field-0.0
     (g.L.Ledger.wides c.args.ledger.now) (g.L.Ledger.wides c.loop-parameter.ledger) (g.L.Ledger.wides c.append_bound.new.ledger)
     (judged_left m r (r + length lower) (other_bounds value ps i) lower (upper ++ other_bounds value ps (i + 1)) at refl)
-    c.loop-parameter.invariant.wides c.in_err-append_bound.ensures.row)
+    c.loop-parameter.invariant.counted.wides c.in_err-append_bound.ensures.row)
 
 pub returns-in_err-append_bound-2-clause-rows : goal.returns-in_err-append_bound-2-clause-rows
 returns-in_err-append_bound-2-clause-rows g c =
@@ -108,7 +107,7 @@ returns-in_err-append_bound-2-clause-rows g c =
     half (judged_rows m now upper) (judged_rows m (now + length upper) (other_bounds value ps (i + 1))) c.in_err-append_bound-2.field-0.0
     (g.L.Ledger.wides c.args.ledger.now) (g.L.Ledger.wides c.append_bound.new.ledger) (g.L.Ledger.wides c.append_bound-in-loop-parameter.new.ledger)
     (judged_left m now (now + length upper) (upper ++ other_bounds value ps (i + 1)) upper (other_bounds value ps (i + 1)) refl refl)
-    (omega (arith, c.loop-parameter.invariant.wides, c.append_bound.ensures.wides)) c.in_err-append_bound-2.ensures.row)
+    (omega (arith, c.loop-parameter.invariant.counted.wides, c.append_bound.ensures.counted.wides)) c.in_err-append_bound-2.ensures.row)
 
 pub loop-parameter-preserved : goal.loop-parameter-preserved
 loop-parameter-preserved g c =
@@ -139,8 +138,7 @@ loop-parameter-preserved g c =
           (judged_left m now (length last) (upper ++ other_bounds value ps (i + 1)) upper (other_bounds value ps (i + 1)) refl
           (appended_length g.N.Exact.limit m upper (judged_rows m now upper) rows last c.in_ok-append_bound-2.ensures.row))
           c.in_ok-append_bound-2.ensures.row;
-      ops = omega (arith, c.loop-parameter.invariant.ops, c.append_bound.ensures.ops, c.append_bound-in-loop-parameter.ensures.ops);
-      wides = omega (arith, c.loop-parameter.invariant.wides, c.append_bound.ensures.wides, c.append_bound-in-loop-parameter.ensures.wides);
+      counted = record { ops = omega (arith, c.loop-parameter.invariant.counted.ops, c.append_bound.ensures.counted.ops, c.append_bound-in-loop-parameter.ensures.counted.ops); wides = omega (arith, c.loop-parameter.invariant.counted.wides, c.append_bound.ensures.counted.wides, c.append_bound-in-loop-parameter.ensures.counted.wides) };
     }
 
 pub returns-clause-rows : goal.returns-clause-rows

@@ -1,4 +1,5 @@
-use Rattle.std.specs.Prelude.{◌≡◌, ◌≤◌, zero, [], map, drop, length}
+use Rattle.std.specs.Prelude.{◌≡◌, zero, [], map, drop, length}
+use Rattle.rob_number.specs.Counts.{NeverFell}
 use Rattle.rob_meaning.specs.SetRows.{bound_rows}
 use Rattle.rob_model.specs.View.{parameter_of, robust}
 use Rattle.rob_sets.specs.SetForm.{judged_rows}
@@ -15,6 +16,5 @@ invariant-loop-parameter g l =
       number : l.number ≡ l.parameter-index;
       progress : Progress g.N.Exact.limit m (bound_rows zero m.parameters) left (judged_rows m zero (bound_rows zero m.parameters))
           (judged_rows m (length l.rows) left) [] l.rows;
-      ops : g.L.Ledger.ops l.fn.ledger ≤ g.L.Ledger.ops l.ledger;
-      wides : g.L.Ledger.wides l.fn.ledger ≤ g.L.Ledger.wides l.ledger;
+      counted : NeverFell g.L.Ledger.ops g.L.Ledger.wides l.fn.ledger l.ledger;
     }

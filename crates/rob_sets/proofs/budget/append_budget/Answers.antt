@@ -22,8 +22,7 @@ loop-member-init g c =
     record {
       column = omega arith;
       progress = begins g.N.Exact.limit m all (judged_rows m (length c.args.rows.now) all) c.args.rows.now;
-      ops = omega arith;
-      wides = omega arith;
+      counted = record { ops = omega arith; wides = omega arith };
     }
 
 pub append_member-requires-clause-few : goal.append_member-requires-clause-few
@@ -134,7 +133,7 @@ returns-in_err-append_member-clause-rows g c =
     c.loop-member.invariant.progress (judged_rows m r up) (judged_rows m (r + length up) (down ++ rest)) c.in_err-append_member.field-0.0
     (g.L.Ledger.wides c.args.ledger.now) (g.L.Ledger.wides c.loop-member.ledger) (g.L.Ledger.wides c.append_member.new.ledger)
     (judged_left m r (r + length up) left up (down ++ rest) at refl)
-    c.loop-member.invariant.wides c.in_err-append_member.ensures.row)
+    c.loop-member.invariant.counted.wides c.in_err-append_member.ensures.row)
 
 pub returns-in_err-append_member-2-clause-rows : goal.returns-in_err-append_member-2-clause-rows
 returns-in_err-append_member-2-clause-rows g c =
@@ -167,7 +166,7 @@ returns-in_err-append_member-2-clause-rows g c =
     half (judged_rows m now down) (judged_rows m (now + length down) rest) c.in_err-append_member-2.field-0.0
     (g.L.Ledger.wides c.args.ledger.now) (g.L.Ledger.wides c.append_member.new.ledger) (g.L.Ledger.wides c.append_member-in-loop-member.new.ledger)
     (judged_left m now (now + length down) (down ++ rest) down rest refl refl)
-    (omega (arith, c.loop-member.invariant.wides, c.append_member.ensures.wides)) c.in_err-append_member-2.ensures.row)
+    (omega (arith, c.loop-member.invariant.counted.wides, c.append_member.ensures.counted.wides)) c.in_err-append_member-2.ensures.row)
 
 pub loop-member-preserved : goal.loop-member-preserved
 loop-member-preserved g c =
@@ -201,8 +200,7 @@ loop-member-preserved g c =
           (judged_left m now (length next) (down ++ rest) down rest refl
           (appended_length g.N.Exact.limit m down (judged_rows m now down) rows next c.in_ok-append_member-2.ensures.row))
           c.in_ok-append_member-2.ensures.row;
-      ops = omega (arith, c.loop-member.invariant.ops, c.append_member.ensures.ops, c.append_member-in-loop-member.ensures.ops);
-      wides = omega (arith, c.loop-member.invariant.wides, c.append_member.ensures.wides, c.append_member-in-loop-member.ensures.wides);
+      counted = record { ops = omega (arith, c.loop-member.invariant.counted.ops, c.append_member.ensures.counted.ops, c.append_member-in-loop-member.ensures.counted.ops); wides = omega (arith, c.loop-member.invariant.counted.wides, c.append_member.ensures.counted.wides, c.append_member-in-loop-member.ensures.counted.wides) };
     }
 
 pub append_row-requires-clause-few : goal.append_row-requires-clause-few
@@ -244,7 +242,7 @@ returns-clause-rows g c =
     ends_with g.N.Exact.limit m all left (judged_rows m start all) (judged_rows m r left) c.args.rows.now c.loop-member.rows c.loop-member.invariant.progress
     (last ∷ []) (judged_rows m r (last ∷ [])) over (ap (judged_rows m r) over) (g.L.Ledger.wides c.args.ledger.now) (g.L.Ledger.wides c.budget_table.new.ledger)
     (g.L.Ledger.wides c.append_row.new.ledger) c.append_row.new.rows c.append_row.result
-    (omega (arith, c.loop-member.invariant.wides, c.budget_table.ensures.wides))
+    (omega (arith, c.loop-member.invariant.counted.wides, c.budget_table.ensures.counted.wides))
     (subst (λ (row : lifted.SetRow). Appends g.N.Exact.limit m (row ∷ []) (judged_row m r row ∷ []) c.loop-member.rows c.append_row.new.rows
     (g.L.Ledger.wides c.budget_table.new.ledger) (g.L.Ledger.wides c.append_row.new.ledger) c.append_row.result)
     (c.in_ok-table.ensures.row (map (member_of value) hs) (length-map hs (member_of value))) c.append_row.ensures.row)

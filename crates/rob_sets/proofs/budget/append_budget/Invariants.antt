@@ -1,4 +1,5 @@
-use Rattle.std.specs.Prelude.{◌≡◌, ◌+◌, ◌≤◌, ◌++◌, ◌∷◌, [], map, length}
+use Rattle.std.specs.Prelude.{◌≡◌, ◌+◌, ◌++◌, ◌∷◌, [], map, length}
+use Rattle.rob_number.specs.Counts.{NeverFell}
 use Rattle.rob_meaning.specs.SetRows.{budget_row, member_rows}
 use Rattle.rob_model.specs.View.{member_of, robust}
 use Rattle.rob_sets.specs.SetForm.{judged_rows}
@@ -18,6 +19,5 @@ invariant-loop-member g l =
     record {
       column : l.column ≡ l.lift + l.member-index;
       progress : Progress g.N.Exact.limit m all left (judged_rows m (length l.fn.rows) all) (judged_rows m (length l.rows) left) l.fn.rows l.rows;
-      ops : g.L.Ledger.ops l.fn.ledger ≤ g.L.Ledger.ops l.ledger;
-      wides : g.L.Ledger.wides l.fn.ledger ≤ g.L.Ledger.wides l.ledger;
+      counted : NeverFell g.L.Ledger.ops g.L.Ledger.wides l.fn.ledger l.ledger;
     }

@@ -49,7 +49,7 @@ returns-in_ok-append_side-in-Equal-clause-rows g c =
     (appends_then g.N.Exact.limit m (map (expression_row m) first) (map (expression_row m) second) (judged_sides m c.args.number n first)
     (judged_sides m c.args.number (suc n) second) c.args.rows.now rows c.append_side-in-Equal-2.new.rows
     (g.L.Ledger.wides c.args.ledger.now) (g.L.Ledger.wides c.append_side-in-Equal.new.ledger) (g.L.Ledger.wides c.append_side-in-Equal-2.new.ledger)
-    c.append_side-in-Equal-2.result c.in_ok-append_side-in-Equal.ensures.row c.append_side-in-Equal.ensures.wides
+    c.append_side-in-Equal-2.result c.in_ok-append_side-in-Equal.ensures.row c.append_side-in-Equal.ensures.counted.wides
     (subst (λ k. Appends g.N.Exact.limit m (map (expression_row m) second) (judged_sides m c.args.number k second) rows c.append_side-in-Equal-2.new.rows
     (g.L.Ledger.wides c.append_side-in-Equal.new.ledger) (g.L.Ledger.wides c.append_side-in-Equal-2.new.ledger) c.append_side-in-Equal-2.result)
     more c.append_side-in-Equal-2.ensures.row))

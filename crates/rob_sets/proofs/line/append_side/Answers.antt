@@ -27,7 +27,7 @@ returns-in-Ok-clause-row g c =
     (g.L.Ledger.wides c.args.ledger.now) (g.L.Ledger.wides c.difference_table.new.ledger) (g.L.Ledger.wides c.append_row.new.ledger) c.append_row.result
     (appends_nothing g.N.Exact.limit m (judge.coefficients (SetLine c.args.number) (difference l r) ∷ []) c.args.rows.now
     (each_none (HasWideCoefficient g.N.Exact.limit m) (subexpressions (difference l r)) c.in-Ok.ensures.none_wide, tt))
-    c.difference_table.ensures.wides
+    c.difference_table.ensures.counted.wides
     (subst (λ (row : lifted.SetRow). Appends g.N.Exact.limit m (row ∷ []) (judged_row m (length c.args.rows.now) row ∷ []) c.args.rows.now c.append_row.new.rows
     (g.L.Ledger.wides c.difference_table.new.ledger) (g.L.Ledger.wides c.append_row.new.ledger) c.append_row.result)
     (side_row m l r f c.in-Ok.ensures.table c.requires.left.1 c.requires.right.1) c.append_row.ensures.row)

@@ -19,8 +19,7 @@ loop-line-init g c =
       number = refl;
       lifts = omega arith;
       progress = begins g.N.Exact.limit m (statement_rows m zero m.set_lines) (judged_statements m zero zero (length c.args.rows.now) m.set_lines) c.args.rows.now;
-      ops = omega arith;
-      wides = omega arith;
+      counted = record { ops = omega arith; wides = omega arith };
     }
 
 pub append_statement-requires-clause-line : goal.append_statement-requires-clause-line
@@ -118,7 +117,7 @@ returns-in_err-append_statement-clause-rows g c =
     (stops g.N.Exact.limit m all (statement_rows m t left) all_judged (judged_statements m n t r left) c.args.rows.now c.loop-line.rows
     c.loop-line.invariant.progress judged judged_behind c.in_err-append_statement.field-0.0
     (g.L.Ledger.wides c.args.ledger.now) (g.L.Ledger.wides c.loop-line.ledger) (g.L.Ledger.wides c.append_statement.new.ledger)
-    judged_at c.loop-line.invariant.wides c.in_err-append_statement.ensures.rows)
+    judged_at c.loop-line.invariant.counted.wides c.in_err-append_statement.ensures.rows)
 
 pub loop-line-preserved : goal.loop-line-preserved
 loop-line-preserved g c =
@@ -158,6 +157,5 @@ loop-line-preserved g c =
           (judged_at ∙ ap (λ k. judged ++ judged_statements m (n + 1) k (r + length here) rest) (sym lifts)
           ∙ ap (λ k. judged ++ judged_statements m (n + 1) (t + c.member_count-lift.result) k rest) (sym more))
           c.in_ok-append_statement.ensures.rows;
-      ops = omega (arith, c.loop-line.invariant.ops, c.append_statement.ensures.ops);
-      wides = omega (arith, c.loop-line.invariant.wides, c.append_statement.ensures.wides);
+      counted = record { ops = omega (arith, c.loop-line.invariant.counted.ops, c.append_statement.ensures.counted.ops); wides = omega (arith, c.loop-line.invariant.counted.wides, c.append_statement.ensures.counted.wides) };
     }

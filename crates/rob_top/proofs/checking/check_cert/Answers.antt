@@ -26,4 +26,4 @@ returns-in-Rejected-clause-answers g c =
 pub returns-in-TooWide-clause-answers : goal.returns-in-TooWide-clause-answers
 returns-in-TooWide-clause-answers g c =
     too_wide_answers g.N.Exact.limit (robust g.N.Exact.value c.args.model.now) (certificate_of g.N.Exact.value c.args.cert.now) c.check.result c.check.ensures.exact
-    (g.L.Ledger.wides c.args.ledger.now) (g.L.Ledger.wides c.check.new.ledger) c.in-TooWide.place c.too_wide.result c.in-TooWide.is c.check.ensures.counted c.too_wide.ensures.spot
+    (g.L.Ledger.wides c.args.ledger.now) (g.L.Ledger.wides c.check.new.ledger) c.in-TooWide.place c.too_wide.result c.in-TooWide.is c.check.ensures.counted.rose c.too_wide.ensures.spot
