@@ -55,7 +55,7 @@ fn row(alloc: Global, forms: &Forms, set: &SetForm, i: usize, p: usize) -> Resul
     requires form_in { i < length forms.now.matrices }
     ensures row { IfOk result (λ row. row ≡ tabulate (counterpart_of forms.now set.now).n (row_entry (wholes forms.now set.now) i p)) }
 {
-    let columns = column_count(forms, set);
+    let columns = program_columns(forms, set);
     let mut numbers = Vec::with_capacity(alloc, columns)?;
     for k in 0..columns {
         numbers.push(row_number(forms, set, i, p, k))?;
@@ -69,14 +69,14 @@ fn costs(alloc: Global, forms: &Forms, set: &SetForm) -> Result<List<i64>, Memor
     ensures costs { IfOk result (λ costs. costs ≡ tabulate (counterpart_of forms.now set.now).n (tau_cost (wholes forms.now set.now))) }
 {
     let mut numbers = List::new(alloc);
-    for k in 0..column_count(forms, set) {
+    for k in 0..program_columns(forms, set) {
         numbers.push(cost_number(forms, set, k))?;
     }
     Ok(numbers)
 }
 
 /// The number of columns.
-pub fn column_count(forms: &Forms, set: &SetForm) -> usize
+pub fn program_columns(forms: &Forms, set: &SetForm) -> usize
     requires few { IsFew (counterpart_of forms.now set.now) }
     ensures count { result ≡ (counterpart_of forms.now set.now).n }
 {
@@ -84,7 +84,7 @@ pub fn column_count(forms: &Forms, set: &SetForm) -> usize
 }
 
 /// The number of rows.
-pub fn row_count(forms: &Forms, set: &SetForm) -> usize
+pub fn program_rows(forms: &Forms, set: &SetForm) -> usize
     requires few { IsFew (counterpart_of forms.now set.now) }
     ensures count { result ≡ (counterpart_of forms.now set.now).m }
 {

@@ -11,7 +11,7 @@ ghost use Rattle.rob_dualize.specs.Solving.{Solves};
 ghost use Rattle.rob_dualize.specs.Wholes.{AreOfOneModel, counterpart_of, IsFew, Fit};
 
 use crate::certificate::certificate;
-use crate::counterpart::{reform, row_count};
+use crate::counterpart::{reform, program_rows};
 use crate::scenario::scenario;
 use crate::stop::{or_stop, position, wide};
 use rob_cert::{Cert, Stop};
@@ -51,7 +51,7 @@ pub fn solve_dual<N: Exact, L: Ledger>(
     match work.solve(ledger) {
         Ok(kind) => or_stop(certificate(alloc, forms, set, &work, kind, inside)),
         Err(stop) => {
-            let rows = row_count(forms, set) as u32;
+            let rows = program_rows(forms, set) as u32;
             Err(wide(alloc, &work, Program::Reform, rows, position(stop)))
         }
     }

@@ -12,7 +12,7 @@ use Rattle.rob_cert.specs.View.{certificate_of}
 use Rattle.rob_cert.specs.declared.certificate.Cert.{Cert}
 use Rattle.rob_cert.specs.declared.ending.Stop.{Stop}
 use Rattle.rob_cert.specs.declared.ending.Stop.TheVariants as stop
-use Rattle.rob_dualize.specs.Solving.{CountsStop, HasCause, IsSolution, IsWideSpot, Solves}
+use Rattle.rob_dualize.specs.Solving.{CountsStop, HasCause, IsSolution, IsWideOnPath, Solves}
 use Rattle.rob_dualize.specs.Wholes.{AreOfOneModel, IsFew, counterpart_of}
 use Rattle.rob_elab.specs.Forms.{IsForms}
 use Rattle.rob_elab.specs.declared.forms.Forms.{Forms}
@@ -166,7 +166,7 @@ module _ (limit : ℕ) (m : RobustModel) (model : IsModel m) (c : Certificate) (
 
 -- ---- the route stopped
 module _ (limit : ℕ) (m : RobustModel) where
-  wide_spot : (place : Spot) → IsWideSpot limit m place → IsSpotOf m place
+  wide_spot : (place : Spot) → IsWideOnPath limit m place → IsSpotOf m place
   wide_spot (spot.Dictionary program.Set basis i) h = tt
   wide_spot (spot.Dictionary program.Reform basis i) h = tt
   wide_spot (spot.Dictionary program.Master basis i) h = tt
@@ -206,7 +206,7 @@ module _ (limit : ℕ) (m : RobustModel) where
       (record {
         line = line;
         m = m;
-        wide = solving has (solves_as line.verb verb at.verb_is solves) (subst (λ (l : ℕ). IsWideSpot l m place) (sym at.limit_is) cause.0);
+        wide = solving has (solves_as line.verb verb at.verb_is solves) (subst (λ (l : ℕ). IsWideOnPath l m place) (sym at.limit_is) cause.0);
         raised = at.raised rose;
         printed = is.1;
       })

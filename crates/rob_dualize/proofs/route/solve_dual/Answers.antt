@@ -61,7 +61,7 @@ returns-in-Ok-solve-clause-counted g c = record {
 
 pub wide-requires : goal.wide-requires
 wide-requires g c = record {
-  positions = c.row_count-rows.ensures.count ∙ sym c.in-Ok-counterpart_work.ensures.made.same.height ∙ c.in-Ok-counterpart_work.ensures.made.made.rows ∙ sym c.solve.ensures.positions;
+  positions = c.program_rows-rows.ensures.count ∙ sym c.in-Ok-counterpart_work.ensures.made.same.height ∙ c.in-Ok-counterpart_work.ensures.made.made.rows ∙ sym c.solve.ensures.positions;
 }
 
 pub returns-in-Err-solve-clause-solves : goal.returns-in-Err-solve-clause-solves
