@@ -3,13 +3,14 @@
 ghost use Rattle.std.specs.Prelude.{◌≡◌, ◌<◌, ◌≤◌, ◌-◌, ◌^◌, ℕ, length, IfOk};
 ghost use Rattle.rob_meaning.specs.Places.{tabulate};
 ghost use Rattle.rob_meaning.specs.RobustModel.{RobustModel};
-ghost use Rattle.rob_sets.specs.SetForm.{IsSetForm};
-ghost use Rattle.rob_elab.specs.Forms.{IsForms};
+ghost use Rattle.rob_sets.specs.SetForm.{IsSetForm, SetFits};
+ghost use Rattle.rob_elab.specs.Elaborated.{AreElaborated};
+ghost use Rattle.rob_elab.specs.Forms.{FormsFit, IsForms};
 ghost use Rattle.rob_rows.specs.LinearPrograms.{IsShaped, HasNumbersWithin, program_of};
 ghost use Rattle.rob_counterpart.specs.Counterpart.{counterpart};
 ghost use Rattle.rob_counterpart.specs.Reform.{block, row_entry, tau_cost};
 ghost use Rattle.rob_counterpart.specs.SamePrograms.{AreSame};
-ghost use Rattle.rob_dualize.specs.Wholes.{AreOfOneModel, wholes, counterpart_of, IsFew, AreSound, IsSound, Fit};
+ghost use Rattle.rob_dualize.specs.Wholes.{wholes, counterpart_of, IsFew, AreSound, IsSound};
 
 use crate::entries::{cost_number, right_number, row_number};
 use rob_elab::Forms;
@@ -24,15 +25,15 @@ use std::alloc::Global;
 /// with the positive multipliers first; then one row that bounds the multipliers' sum of the right sides. (Ben-Tal, El Ghaoui,
 /// Nemirovski, Robust Optimization, chapter 1.)
 pub fn reform(alloc: Global, forms: &Forms, set: &SetForm) -> Result<Lp, Memory>
-    requires model { AreOfOneModel forms.now set.now }
-    requires fit { Fit (2 ^ 62 - 1) forms.now set.now }
+    requires model { AreElaborated (2 ^ 62 - 1) forms.now set.now }
     requires few { IsFew (counterpart_of forms.now set.now) }
     // The numbers of the model's counterpart.
     ensures program { IfOk result (λ lp. (m : RobustModel) → IsForms m forms.now → IsSetForm m set.now
         → AreSame (program_of lp) (counterpart m)) }
     ensures shaped { IfOk result (λ lp. IsShaped lp) }
     // None is wider than those of the forms and the set rows.
-    ensures within { IfOk result (λ lp. (limit : ℕ) → 1 ≤ limit → Fit limit forms.now set.now → HasNumbersWithin limit lp) }
+    ensures within { IfOk result (λ lp. (limit : ℕ) → 1 ≤ limit → FormsFit limit forms.now → SetFits limit set.now
+        → HasNumbersWithin limit lp) }
 {
     let rows = 2 * set.columns as usize + 1;
     let mut a = List::new(alloc);

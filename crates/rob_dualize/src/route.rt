@@ -5,10 +5,11 @@ ghost use Rattle.rob_meaning.specs.RobustModel.{RobustModel};
 ghost use Rattle.rob_meaning.specs.WellFormed.{IsModel};
 ghost use Rattle.rob_number.specs.Counts.{NeverFell};
 ghost use Rattle.rob_sets.specs.SetForm.{IsSetForm};
+ghost use Rattle.rob_elab.specs.Elaborated.{AreElaborated};
 ghost use Rattle.rob_elab.specs.Forms.{IsForms};
 ghost use Rattle.rob_dualize.specs.Ending.{IsMadeAs};
 ghost use Rattle.rob_dualize.specs.Solving.{Solves};
-ghost use Rattle.rob_dualize.specs.Wholes.{AreOfOneModel, counterpart_of, IsFew, Fit};
+ghost use Rattle.rob_dualize.specs.Wholes.{counterpart_of, IsFew};
 
 use crate::certificate::certificate;
 use crate::counterpart::{reform, program_rows};
@@ -33,8 +34,7 @@ pub fn solve_dual<N: Exact, L: Ledger>(
     set: &SetForm,
     ledger: &mut L,
 ) -> Result<Cert<N>, Stop>
-    requires model { AreOfOneModel forms.now set.now }
-    requires fit { Fit N.limit forms.now set.now }
+    requires model { AreElaborated N.limit forms.now set.now }
     requires few { IsFew (counterpart_of forms.now set.now) }
     ensures solves { (m : RobustModel) → IsModel m → IsForms m forms.now → IsSetForm m set.now
         → Solves N.value N.limit m (L.wides ledger.old) (L.wides ledger.new) result }
@@ -63,8 +63,7 @@ fn counterpart_work<N: Exact>(
     forms: &Forms,
     set: &SetForm,
 ) -> Result<Work<N>, Memory>
-    requires model { AreOfOneModel forms.now set.now }
-    requires fit { Fit N.limit forms.now set.now }
+    requires model { AreElaborated N.limit forms.now set.now }
     requires few { IsFew (counterpart_of forms.now set.now) }
     ensures made { IfOk result (λ work. IsMadeAs (counterpart_of forms.now set.now) work) }
 {

@@ -6,11 +6,12 @@ ghost use Rattle.rob_meaning.specs.WellFormed.{IsModel};
 ghost use Rattle.rob_model.specs.View.{scenario_of};
 ghost use Rattle.rob_number.specs.Counts.{NeverFell};
 ghost use Rattle.rob_sets.specs.SetForm.{IsSetForm};
+ghost use Rattle.rob_elab.specs.Elaborated.{AreElaborated};
 ghost use Rattle.rob_elab.specs.Forms.{IsForms};
 ghost use Rattle.rob_dualize.specs.Ending.{HasEnded, HasLastPoint, IsMadeAs, IsTold};
 ghost use Rattle.rob_counterpart.specs.ReadNumbers.{differences};
 ghost use Rattle.rob_dualize.specs.Solving.{Finds};
-ghost use Rattle.rob_dualize.specs.Wholes.{AreOfOneModel, counterpart_of, IsFew, Fit, set_of_wholes};
+ghost use Rattle.rob_dualize.specs.Wholes.{counterpart_of, IsFew, set_of_wholes};
 ghost use Rattle.rob_simplex.specs.Solvers.{positions, HasPoint, HasWeights};
 ghost use Rattle.rob_simplex.specs.Solutions.{point_of, weights_of};
 
@@ -33,8 +34,7 @@ pub fn scenario<N: Exact, L: Ledger>(
     set: &SetForm,
     ledger: &mut L,
 ) -> Result<Scenario<N>, Stop>
-    requires model { AreOfOneModel forms.now set.now }
-    requires fit { Fit N.limit forms.now set.now }
+    requires model { AreElaborated N.limit forms.now set.now }
     requires few { IsFew (counterpart_of forms.now set.now) }
     ensures found { (m : RobustModel) → IsModel m → IsForms m forms.now → IsSetForm m set.now
         → Finds N.value N.limit m (L.wides ledger.old) (L.wides ledger.new) result }
@@ -61,7 +61,7 @@ fn read_scenario<N: Exact>(
     work: &Work<N>,
     kind: LpKind,
 ) -> Result<Scenario<N>, Stop>
-    requires model { AreOfOneModel forms.now set.now }
+    requires model { AreElaborated N.limit forms.now set.now }
     requires few { IsFew (counterpart_of forms.now set.now) }
     requires ended { HasEnded (set_of_wholes forms.now set.now) kind work.now }
     ensures found { (m : RobustModel) (n : ℕ) → IsModel m → IsForms m forms.now → IsSetForm m set.now
@@ -90,8 +90,7 @@ fn empty_set<N: Exact>(alloc: Global, set: &SetForm, work: &Work<N>) -> Result<S
 
 /// A solver of the set's program.
 fn set_work<N: Exact>(alloc: Global, forms: &Forms, set: &SetForm) -> Result<Work<N>, Memory>
-    requires model { AreOfOneModel forms.now set.now }
-    requires fit { Fit N.limit forms.now set.now }
+    requires model { AreElaborated N.limit forms.now set.now }
     requires few { IsFew (counterpart_of forms.now set.now) }
     ensures made { IfOk result (λ work. IsMadeAs (set_of_wholes forms.now set.now) work) }
 {
@@ -106,7 +105,7 @@ fn parameters<N: Exact>(
     set: &SetForm,
     work: &Work<N>,
 ) -> Result<Scenario<N>, Memory>
-    requires model { AreOfOneModel forms.now set.now }
+    requires model { AreElaborated N.limit forms.now set.now }
     requires few { IsFew (set_of_wholes forms.now set.now) }
     requires columns { work.now.columns ≡ (set_of_wholes forms.now set.now).n }
     requires point { HasPoint work.now }

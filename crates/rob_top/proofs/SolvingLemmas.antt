@@ -13,7 +13,7 @@ use Rattle.rob_cert.specs.declared.certificate.Cert.{Cert}
 use Rattle.rob_cert.specs.declared.ending.Stop.{Stop}
 use Rattle.rob_cert.specs.declared.ending.Stop.TheVariants as stop
 use Rattle.rob_dualize.specs.Solving.{CountsStop, HasCause, IsSolution, IsWideOnPath, Solves}
-use Rattle.rob_dualize.specs.Wholes.{AreOfOneModel, IsFew, counterpart_of}
+use Rattle.rob_dualize.specs.Wholes.{IsFew, counterpart_of}
 use Rattle.rob_elab.specs.Forms.{IsForms}
 use Rattle.rob_elab.specs.declared.forms.Forms.{Forms}
 use Rattle.rob_meaning.specs.Certificates.{Certificate, Status, optimal, infeasible, unbounded}
@@ -80,9 +80,6 @@ module _ (m : RobustModel) (limits : IsWithinLimits m) where
       (omega (arith, s.columns, limits.parameters, limits.members))
       (omega (arith, f.columns, limits.columns))
       refl
-
-pub of_one_model : (m : RobustModel) (all : Forms) (set : SetForm) → IsForms m all → IsSetForm m set → AreOfOneModel all set
-of_one_model m all set f s = record { model = m; are_forms = f; is_set = s }
 
 -- ---- counts
 
