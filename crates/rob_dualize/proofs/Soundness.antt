@@ -138,10 +138,6 @@ module _ (forms : Forms) (set : SetForm) (one : AreElaborated (2 ^ 62 - 1) forms
         small_right = right_fits (2 ^ 62 - 1) forms set one.forms_fit one.set_fits;
       }
 
-  -- the counterpart is the model's, with numbers as small as those of the forms and the set rows
-  pub wholes_model : wholes forms set ≡ robust_of one.model
-  wholes_model = wholes_are one.model forms set one.are_forms one.is_set
-
 pub sense_small : (limit : ℕ) (forms : Forms) → 1 ≤ limit → nat_abs (sign_of (sense_of forms.sense)) ≤ limit
 sense_small limit forms l = by (sense_of forms.sense)
   where
