@@ -18,6 +18,7 @@ use Rattle.rob_sets.specs.Subexpressions.{subexpressions, HasWideCoefficient}
 use Rattle.rob_sets.specs.declared.error.ElabErr.{ElabErr}
 use Rattle.rob_sets.specs.declared.error.ElabErr.TheVariants as Refused
 use Rattle.rob_sets.proofs.DifferenceLemmas.{each_none}
+use Rattle.rob_sets.proofs.PartedLemmas.{Parted}
 use Rattle.rob_sets.proofs.ProgressLemmas.{Progress, ends, ends_with, numbered_go_on, numbered_stop}
 use Rattle.rob_elab.specs.Appending.{Appends}
 use Rattle.rob_elab.specs.Forms.{MatrixFits, judged_from}
@@ -43,11 +44,11 @@ module _ (limit : ℕ) (m : RobustModel) where
   AppendsForms forms old new = AppendsLines (matrix_of m) (MatrixFits limit) limit m forms (judged_from m (length old) forms) old new
 
 module _ {limit : ℕ} {m : RobustModel} {all left : List Expression} {start now : Matrices} (p : FormProgress limit m all left start now) where
-  pub forms_go_on : {here more : List Expression} {next : Matrices} → left ≡ here ++ more → AppendsForms limit m here now next
+  pub forms_go_on : {here more : List Expression} {next : Matrices} → Parted left here more → AppendsForms limit m here now next
       → FormProgress limit m all more start next
   forms_go_on l f = numbered_go_on (judged_from m) (judged-both m) p l f
 
-  pub forms_stop : {here more : List Expression} {before last : ℕ} {e : ElabErr} (b : Matrices) (first : ℕ) (r : Result (Unit {0}) ElabErr) → left ≡ here ++ more
+  pub forms_stop : {here more : List Expression} {before last : ℕ} {e : ElabErr} (b : Matrices) (first : ℕ) (r : Result (Unit {0}) ElabErr) → Parted left here more
       → first ≤ before → StopsAt limit m (judged_from m (length now) here) before last e → IsErrAnd r (λ d. d ≡ e)
       → Appends limit m (length start) all start b first last r
   forms_stop b first r l least h is = numbered_stop (judged_from m) (judged-both m) p l b first r least h is

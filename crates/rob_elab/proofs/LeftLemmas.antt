@@ -12,6 +12,7 @@ use Rattle.rob_model.specs.declared.model.RowDef.{RowDef}
 use Rattle.rob_model.specs.declared.model.Var.{Var}
 use Rattle.rob_model.specs.declared.expr.Expr.TheVariants as Is
 use Rattle.rob_sets.proofs.BoundRowLemmas.{length-declared}
+use Rattle.rob_sets.proofs.PartedLemmas.{Parted}
 use Rattle.rob_sets.proofs.PrefixLemmas.{adaptive_is, variable_is}
 use Rattle.rob_sets.proofs.ProgressLemmas.{length-both}
 
@@ -59,8 +60,8 @@ module _ {N : Type 0} (value : N → Fraction) where
   other_rows rs i = row_forms (map (row_of value) (drop i rs))
 
   pub rows_at : (rs : List (RowDef N)) (i : ℕ) {r : RowDef N} → drop i rs ≡ r ∷ drop (i + 1) rs
-      → other_rows rs i ≡ sides (relation_of r.rel) (expression_of value r.left) (expression_of value r.right) ++ other_rows rs (i + 1)
-  rows_at rs i at = ap (λ (xs : List (RowDef N)). row_forms (map (row_of value) xs)) at
+      → Parted (other_rows rs i) (sides (relation_of r.rel) (expression_of value r.left) (expression_of value r.right)) (other_rows rs (i + 1))
+  rows_at rs i at = record { is = ap (λ (xs : List (RowDef N)). row_forms (map (row_of value) xs)) at }
 
   pub rows_end : (rs : List (RowDef N)) (i : ℕ) → drop i rs ≡ [] → other_rows rs i ≡ []
   rows_end rs i over = ap (λ (xs : List (RowDef N)). row_forms (map (row_of value) xs)) over
@@ -70,11 +71,12 @@ module _ {N : Type 0} (value : N → Fraction) where
   other_variables xs i = variable_forms i (map (variable_of value) (drop i xs))
 
   pub variables_at : (xs : List (Var N)) (i n : ℕ) {x : Var N} → drop i xs ≡ x ∷ drop (i + 1) xs → n ≡ i
-      → other_variables xs i ≡ bound_forms (expression_of value (Is.Var n)) (option_map value x.lower) (option_map value x.upper) ++ other_variables xs (i + 1)
-  variables_at xs i n {x} at same =
-      ap (λ (ys : List (Var N)). variable_forms i (map (variable_of value) ys)) at
+      → Parted (other_variables xs i) (bound_forms (expression_of value (Is.Var n)) (option_map value x.lower) (option_map value x.upper)) (other_variables xs (i + 1))
+  variables_at xs i n {x} at same = record {
+    is = ap (λ (ys : List (Var N)). variable_forms i (map (variable_of value) ys)) at
       ∙ ap₂ (λ (y : Expression) a. bound_forms y (option_map value x.lower) (option_map value x.upper) ++ variable_forms a (map (variable_of value) (drop (i + 1) xs)))
-      (sym (variable_is value (Is.Var n) n refl ∙ ap variable same)) (sym (add-one i))
+      (sym (variable_is value (Is.Var n) n refl ∙ ap variable same)) (sym (add-one i));
+  }
 
   pub variables_end : (xs : List (Var N)) (i : ℕ) → drop i xs ≡ [] → other_variables xs i ≡ []
   variables_end xs i over = ap (λ (ys : List (Var N)). variable_forms i (map (variable_of value) ys)) over
@@ -84,11 +86,12 @@ module _ {N : Type 0} (value : N → Fraction) where
   other_rules ys i = adaptive_forms i (map (adaptive_of value) (drop i ys))
 
   pub rules_at : (ys : List (Adaptive N)) (i n : ℕ) {y : Adaptive N} → drop i ys ≡ y ∷ drop (i + 1) ys → n ≡ i
-      → other_rules ys i ≡ bound_forms (expression_of value (Is.Adaptive n)) (option_map value y.lower) (option_map value y.upper) ++ other_rules ys (i + 1)
-  rules_at ys i n {y} at same =
-      ap (λ (zs : List (Adaptive N)). adaptive_forms i (map (adaptive_of value) zs)) at
+      → Parted (other_rules ys i) (bound_forms (expression_of value (Is.Adaptive n)) (option_map value y.lower) (option_map value y.upper)) (other_rules ys (i + 1))
+  rules_at ys i n {y} at same = record {
+    is = ap (λ (zs : List (Adaptive N)). adaptive_forms i (map (adaptive_of value) zs)) at
       ∙ ap₂ (λ (z : Expression) a. bound_forms z (option_map value y.lower) (option_map value y.upper) ++ adaptive_forms a (map (adaptive_of value) (drop (i + 1) ys)))
-      (sym (adaptive_is value (Is.Adaptive n) n refl ∙ ap adaptive same)) (sym (add-one i))
+      (sym (adaptive_is value (Is.Adaptive n) n refl ∙ ap adaptive same)) (sym (add-one i));
+  }
 
   pub rules_end : (ys : List (Adaptive N)) (i : ℕ) → drop i ys ≡ [] → other_rules ys i ≡ []
   rules_end ys i over = ap (λ (zs : List (Adaptive N)). adaptive_forms i (map (adaptive_of value) zs)) over
