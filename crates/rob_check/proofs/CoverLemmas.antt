@@ -1,5 +1,5 @@
 -- One multiplier more, one column more, one form more.
-use Rattle.std.proofs.Common.{◌≡◌, ℕ, zero, suc, ◌+◌, ◌-◌, ◌^◌, ◌<◌, ◌≤◌, ℤ, nat_abs, List, [], ◌∷◌, ◌++◌, map, length, get_or, drop, arith, refl, sym, ◌∙◌, ap, ap₂, add-one, subst, Bool, to_z, of_z, w64}
+use Rattle.std.proofs.Common.{◌≡◌, ℕ, zero, suc, ◌+◌, ◌-◌, ◌^◌, ◌<◌, ◌≤◌, ℤ, List, [], ◌∷◌, ◌++◌, map, length, get_or, drop, arith, refl, sym, ◌∙◌, ap, ap₂, add-one, Bool}
 use Rattle.std.specs.Prelude.{Option, Some, None}
 use Rattle.rob_algebra.specs.Fraction.{Fraction, of_int, ◌+ℚ◌, ◌*ℚ◌}
 use Rattle.rob_algebra.specs.FractionOrder.{eq_ℚ}
@@ -8,32 +8,22 @@ use Rattle.rob_cert.specs.View.{cover_of}
 use Rattle.rob_cert.specs.declared.certificate.Cover.{Cover}
 use Rattle.rob_meaning.specs.Certificates as meaning
 use Rattle.rob_meaning.specs.Clearing.{fractions}
-use Rattle.rob_meaning.specs.Places.{0ℚ, at, Each}
+use Rattle.rob_meaning.specs.Places.{0ℚ, at}
 use Rattle.rob_model.proofs.PartLemmas.{drop_at, drop_past}
-use Rattle.rob_model.specs.Within.{◌>>=◌, is_at_most}
+use Rattle.rob_model.specs.Within.{◌>>=◌}
 use Rattle.rob_sets.specs.declared.set_form.SetForm.{SetForm}
 use Rattle.rob_sets.specs.declared.set_form.SetRow.{SetRow}
-use Rattle.rob_check.specs.Conditions.{Covering, column_test, constant_test, cover_tests, covers_of, form_tests, form_within, rows_within}
+use Rattle.rob_check.specs.Conditions.{Covering, column_test, cover_tests, covers_of, form_tests, form_within, rows_within}
 use Rattle.rob_check.specs.LiftedSet.{LiftedSet, lifted_of, numbers_in}
 use Rattle.rob_check.specs.Sums.{added_within, column, dot_within, products, row_at, with_part}
 use Rattle.rob_check.specs.Verdicts.{verdict}
 use Rattle.rob_check.specs.View.{row_entry}
 use Rattle.rob_check.specs.declared.verdict.Verdict.{Verdict}
 use Rattle.rob_check.specs.declared.verdict.Verdict.TheVariants.{Accepted}
-use Rattle.rob_check.proofs.SumLemmas.{part_wide, part_added, seen_within}
+use Rattle.rob_check.proofs.SumLemmas.{part_wide, part_added}
 use Rattle.rob_check.proofs.VerdictLemmas.{goes, stops}
 
--- what each item of a list has, the one at a place has
-pub each_there : {A : Type 0} (P : A → Type 0) (xs : List A) (i : ℕ) (x : A) → i < length xs → x ≡ get_or xs i x → Each P xs → P x
-each_there P [] i x inside is all = absurd (omega arith)
-each_there P (y ∷ xs) zero x inside is all = subst P (sym is) all.0
-each_there P (y ∷ xs) (suc i) x inside is all = each_there P xs i x (omega arith) is all.1
-
 -- ---- set rows
-pub right_side : (limit : ℕ) (so_far amount : Fraction) (h : ℤ) (r : Option Fraction) → limit ≤ 2 ^ 62 - 1 → nat_abs h ≤ limit
-    → r ≡ with_part limit so_far (kept limit (amount *ℚ of_int (to_z w64 (of_z w64 h)))) → r ≡ with_part limit so_far (kept limit (amount *ℚ of_int h))
-right_side limit so_far amount h r high fits e = e ∙ ap (λ z. with_part limit so_far (kept limit (amount *ℚ of_int z))) (seen_within limit h high fits)
-
 column_number : (rows : List SetRow) (k i : ℕ) (row : SetRow) → i < length rows → row ≡ get_or rows i row
     → at (column k (map (λ (row : SetRow). map of_int row.g) rows)) i ≡ at (map of_int row.g) k
 column_number [] k i row inside is = absurd (omega arith)
@@ -74,14 +64,6 @@ module _ {N : Type 0} (value : N → Fraction) (limit : ℕ) where
         → rows_left (numbers_in (lifted_of set) column) mine (k + 1) next ≡ rows_left (numbers_in (lifted_of set) column) mine k so_far
     rows_go_on next some = part_added limit so_far _ _ next some ∙ sym rows_split
 
-  pub rows_begin : (numbers : List Fraction) (mine : List (Cover N)) (nothing : N) → value nothing ≡ 0ℚ
-      → rows_left numbers mine 0 (value nothing) ≡ rows_within limit (map (cover_of value) mine) numbers
-  rows_begin numbers mine nothing e = ap (λ s. rows_left numbers mine 0 s) e
-
-  pub rows_end : (numbers : List Fraction) (mine : List (Cover N)) (k : ℕ) (so_far : Fraction) → length mine ≤ k → Some so_far ≡ rows_left numbers mine k so_far
-  rows_end numbers mine k so_far h =
-      ap (λ (xs : List (Cover N)). added_within limit so_far (map (λ (c : meaning.Cover). kept limit (c.amount *ℚ at numbers c.set_row)) (map (cover_of value) xs))) (sym (drop_past mine k h))
-
 -- ---- a row of a form at a vector
 row_split : (row : List ℤ) (j : ℕ) → j < length row → map of_int (drop j row) ≡ at (map of_int row) j ∷ map of_int (drop (j + 1) row)
 row_split [] j inside = absurd (omega arith)
@@ -92,21 +74,6 @@ row_split (x ∷ row) (suc j) inside =
 module _ {N : Type 0} (value : N → Fraction) (limit : ℕ) (bound : Fraction) where
   abbrev pub row_left : List N → List ℤ → ℕ → Fraction → Option Fraction
   row_left columns row j so_far = added_within limit so_far (products limit (map value (drop j columns) ++ bound ∷ []) (map of_int (drop (j + 1) row)))
-
-  module _ (columns : List N) (row : List ℤ) (first nothing : N) (zero_is : value nothing ≡ 0ℚ) (some : 0 < length row) where
-    first_split : dot_within limit (value first ∷ (map value columns ++ bound ∷ [])) (map of_int row)
-        ≡ added_within limit (value nothing) (kept limit (value first *ℚ at (map of_int row) 0)
-        ∷ products limit (map value columns ++ bound ∷ []) (map of_int (drop 1 row)))
-    first_split =
-        ap₂ (λ (s : Fraction) (xs : List Fraction). added_within limit s (products limit (value first ∷ (map value columns ++ bound ∷ [])) xs)) (sym zero_is) (row_split row 0 some)
-
-    pub first_stops : None ≡ with_part limit (value nothing) (kept limit (value first *ℚ at (map of_int row) 0))
-        → None ≡ dot_within limit (value first ∷ (map value columns ++ bound ∷ [])) (map of_int row)
-    first_stops none = part_wide limit (value nothing) _ _ none ∙ sym first_split
-
-    pub first_goes : (next : Fraction) → Some next ≡ with_part limit (value nothing) (kept limit (value first *ℚ at (map of_int row) 0))
-        → row_left columns row 0 next ≡ dot_within limit (value first ∷ (map value columns ++ bound ∷ [])) (map of_int row)
-    first_goes next h = part_added limit (value nothing) _ _ next h ∙ sym first_split
 
   module _ (columns : List N) (row : List ℤ) (j : ℕ) (number : N) (so_far : Fraction) (inside : j < length columns) (is : number ≡ get_or columns j number) (some : j + 1 < length row) where
     row_step : row_left columns row j so_far
@@ -166,44 +133,14 @@ module _ (limit : ℕ) (g : Covering) (form : List (List ℤ)) (k : ℕ) where
 -- ---- the sums of a form
 module _ (limit : ℕ) (set : LiftedSet) (g : Covering) (i : ℕ) (form : List (List Fraction)) (mine : List meaning.Cover) where
   module _ (k : ℕ) where
-    pub column_rows_wide : None ≡ rows_within limit mine (column k set.rows) → None ≡ (column_test limit set g i form mine k).holds
-    column_rows_wide none = ap (λ o. o >>= (λ rows. form_within limit g form (suc k) >>= (λ x. Some (eq_ℚ rows x)))) none
-
     module _ (rows : Fraction) (some : Some rows ≡ rows_within limit mine (column k set.rows)) where
       rows_go : (form_within limit g form (suc k) >>= (λ x. Some (eq_ℚ rows x))) ≡ (column_test limit set g i form mine k).holds
       rows_go = ap (λ o. o >>= (λ rows. form_within limit g form (suc k) >>= (λ x. Some (eq_ℚ rows x)))) some
-
-      pub column_form_wide : None ≡ form_within limit g form (k + 1) → None ≡ (column_test limit set g i form mine k).holds
-      column_form_wide none =
-          ap (λ o. o >>= (λ x. Some (eq_ℚ rows x))) (none ∙ ap (form_within limit g form) (add-one k)) ∙ rows_go
 
       pub column_is : (number : Fraction) (t : Bool) → Some number ≡ form_within limit g form (k + 1) → t ≡ eq_ℚ rows number
           → Some t ≡ (column_test limit set g i form mine k).holds
       column_is number t h e =
           ap Some e ∙ ap (λ o. o >>= (λ x. Some (eq_ℚ rows x))) (h ∙ ap (form_within limit g form) (add-one k)) ∙ rows_go
-
-  pub constant_rows_wide : None ≡ rows_within limit mine set.limits → None ≡ (constant_test limit set g i form mine).holds
-  constant_rows_wide none =
-      ap (λ o. o >>= (λ rows. form_within limit g form zero >>= (λ x. kept limit (rows +ℚ x) >>= (λ total. Some (is_at_most total 0ℚ))))) none
-
-  module _ (rows : Fraction) (some : Some rows ≡ rows_within limit mine set.limits) where
-    limits_go : (form_within limit g form zero >>= (λ x. kept limit (rows +ℚ x) >>= (λ total. Some (is_at_most total 0ℚ)))) ≡ (constant_test limit set g i form mine).holds
-    limits_go = ap (λ o. o >>= (λ rows. form_within limit g form zero >>= (λ x. kept limit (rows +ℚ x) >>= (λ total. Some (is_at_most total 0ℚ))))) some
-
-    pub constant_form_wide : None ≡ form_within limit g form 0 → None ≡ (constant_test limit set g i form mine).holds
-    constant_form_wide none = ap (λ o. o >>= (λ x. kept limit (rows +ℚ x) >>= (λ total. Some (is_at_most total 0ℚ)))) none ∙ limits_go
-
-    module _ (number : Fraction) (h : Some number ≡ form_within limit g form 0) where
-      pub constant_wide : None ≡ kept limit (rows +ℚ number) → None ≡ (constant_test limit set g i form mine).holds
-      constant_wide none =
-          ap (λ o. o >>= (λ total. Some (is_at_most total 0ℚ))) none
-          ∙ ap (λ o. o >>= (λ x. kept limit (rows +ℚ x) >>= (λ total. Some (is_at_most total 0ℚ)))) h ∙ limits_go
-
-      pub constant_is : (total : Fraction) (t : Bool) (nothing : Fraction) → Some total ≡ kept limit (rows +ℚ number) → nothing ≡ 0ℚ → t ≡ is_at_most total nothing
-          → Some t ≡ (constant_test limit set g i form mine).holds
-      constant_is total t nothing k none e =
-          ap Some (e ∙ ap (is_at_most total) none) ∙ ap (λ o. o >>= (λ total. Some (is_at_most total 0ℚ))) k
-          ∙ ap (λ o. o >>= (λ x. kept limit (rows +ℚ x) >>= (λ total. Some (is_at_most total 0ℚ)))) h ∙ limits_go
 
 -- ---- all forms
 module _ (limit : ℕ) (set : LiftedSet) (g : Covering) (forms : List (List (List ℤ))) (i : ℕ) (form entries : List (List ℤ)) (mine : List meaning.Cover)

@@ -7,16 +7,15 @@ use Rattle.rob_cert.specs.View.{item_of}
 use Rattle.rob_cert.specs.declared.certificate.Item.{Item}
 use Rattle.rob_meaning.specs.Clearing.{fractions}
 use Rattle.rob_meaning.specs.Forms.{matrix_at}
-use Rattle.rob_meaning.specs.Places.{0ℚ}
 use Rattle.rob_meaning.specs.RobustModel.{RobustModel}
-use Rattle.rob_model.proofs.PartLemmas.{drop_at, drop_past}
+use Rattle.rob_model.proofs.PartLemmas.{drop_at}
 use Rattle.rob_model.specs.Within.{◌>>=◌}
-use Rattle.rob_check.specs.Conditions.{column_within, item_tests, item_within, items_tests}
+use Rattle.rob_check.specs.Conditions.{item_tests, item_within, items_tests}
 use Rattle.rob_check.specs.Sums.{added_within, column, dot_within, with_part}
 use Rattle.rob_check.specs.Verdicts.{verdict}
 use Rattle.rob_check.specs.declared.verdict.Verdict.{Verdict}
 use Rattle.rob_check.specs.declared.verdict.Verdict.TheVariants.{Accepted}
-use Rattle.rob_check.proofs.SumLemmas.{part_wide, part_added}
+use Rattle.rob_check.proofs.SumLemmas.{part_wide}
 use Rattle.rob_check.proofs.VerdictLemmas.{goes, stops}
 
 -- the matrix of a form that is there
@@ -60,19 +59,6 @@ module _ {N : Type 0} (value : N → Fraction) (limit : ℕ) (forms : List (List
       part_is : (r : Option Fraction) → r ≡ kept limit (so_far +ℚ part) → r ≡ with_part limit so_far (item_within limit forms j (item_of value item))
       part_is r h = h ∙ ap (λ o. o >>= (λ x. kept limit (so_far +ℚ x))) some
 
-      pub column_wide : None ≡ kept limit (so_far +ℚ part) → None ≡ column_left items k so_far
-      column_wide none = part_wide limit so_far _ _ (part_is None none) ∙ sym column_split
-
-      pub column_goes_on : (next : Fraction) → Some next ≡ kept limit (so_far +ℚ part) → column_left items (k + 1) next ≡ column_left items k so_far
-      column_goes_on next h = part_added limit so_far _ _ next (part_is (Some next) h) ∙ sym column_split
-
-  pub column_begins : (items : List (Item N)) (nothing : N) → value nothing ≡ 0ℚ → column_left items 0 (value nothing) ≡ column_within limit forms (map (item_of value) items) j
-  column_begins items nothing e = ap (λ s. column_left items 0 s) e
-
-  pub column_ends : (items : List (Item N)) (k : ℕ) (so_far : Fraction) → length items ≤ k → Some so_far ≡ column_left items k so_far
-  column_ends items k so_far h =
-      ap (λ (xs : List (Item N)). added_within limit so_far (map (item_within limit forms j) (map (item_of value) xs))) (sym (drop_past items k h))
-
 -- ---- the verdict on items
 module _ {N : Type 0} (value : N → Fraction) (limit : ℕ) (m : RobustModel) (items : List (Item N)) (k : ℕ) (item : Item N)
     (inside : k < length items) (is : item ≡ get_or items k item) where
@@ -89,7 +75,3 @@ module _ {N : Type 0} (value : N → Fraction) (limit : ℕ) (m : RobustModel) (
   pub items_go : Accepted ≡ verdict (item_tests limit m k (item_of value item))
       → verdict (items_tests limit m (k + 1) (map (item_of value) (drop (k + 1) items))) ≡ verdict (items_tests limit m k (map (item_of value) (drop k items)))
   items_go h = goes (item_tests limit m k (item_of value item)) _ h ∙ ap verdict (sym items_split)
-
-pub items_end : {N : Type 0} (value : N → Fraction) (limit : ℕ) (m : RobustModel) (items : List (Item N)) (k : ℕ) → length items ≤ k
-    → Accepted ≡ verdict (items_tests limit m k (map (item_of value) (drop k items)))
-items_end {N} value limit m items k h = ap (λ (xs : List (Item N)). verdict (items_tests limit m k (map (item_of value) xs))) (sym (drop_past items k h))

@@ -133,11 +133,3 @@ module _ {N : Type 0} (value : N → Fraction) (rows index : ℕ) (covers rest :
         };
         from = behind_from index (map (cover_of value) rest) h.ordered.ordered h.from;
       })
-
--- all multipliers, before the first form
-pub all_left : (rows : ℕ) (covers : List Cover) → AreOrdered rows covers → IsRest rows 0 covers covers
-all_left rows covers h = record { same = λ j le. refl; ordered = h; from = any covers }
-  where
-    any : (cs : List Cover) → Each (λ (c : Cover). 0 ≤ c.form) cs
-    any [] = tt
-    any (c ∷ cs) = (omega arith, any cs)

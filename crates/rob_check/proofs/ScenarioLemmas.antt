@@ -4,7 +4,7 @@ use Rattle.std.specs.Prelude.{Option, Some, None, option_map, option_to_list}
 use Rattle.rob_algebra.specs.Fraction.{Fraction}
 use Rattle.rob_meaning.specs.RobustModel.{RobustModel}
 use Rattle.rob_meaning.specs.SetConditions.{SetCondition, all_stated, bounds_from, bounds_of, if_declared, lower_bound, stated, upper_bound}
-use Rattle.rob_model.proofs.PartLemmas.{drop_at, drop_past}
+use Rattle.rob_model.proofs.PartLemmas.{drop_at}
 use Rattle.rob_model.specs.View.{parameter_of, set_line_of}
 use Rattle.rob_model.specs.Within.{declared_within, holds_within}
 use Rattle.rob_model.specs.declared.model.Param.{Param}
@@ -126,11 +126,6 @@ module _ (limit : ℕ) (m : RobustModel) (place : ℕ → Place) (s : Fraction) 
           ∙ goes (bound_tests limit m place s p i k (parameter_of value d)) (set_tests limit m place s p (i + length (bounds_of k (parameter_of value d))) bounds_left) h
           ∙ ap verdict (sym whole_is)
 
-    pub parameters_end : (ps : List (Param N)) (k i : ℕ) (others : List SetCondition) → length ps ≤ k
-        → verdict (set_tests limit m place s p i others) ≡ verdict (set_tests limit m place s p i (bounds_from k (map (parameter_of value) (drop k ps)) ++ others))
-    parameters_end ps k i others h =
-        ap (λ (xs : List (Param N)). verdict (set_tests limit m place s p i (bounds_from k (map (parameter_of value) xs) ++ others))) (sym (drop_past ps k h))
-
     -- ---- statements
     module _ (ls : List (SetLine N)) (k i : ℕ) (l : SetLine N) (inside : k < length ls) (is : l ≡ get_or ls k l) where
       here : Condition
@@ -157,8 +152,3 @@ module _ (limit : ℕ) (m : RobustModel) (place : ℕ → Place) (s : Fraction) 
         statement_goes accepted =
             goes (here ∷ []) (set_tests limit m place s p (i + 1) (all_stated (map (set_line_of value) (drop (k + 1) ls)))) (accepted ∙ judged_is at (place i) test _ v judged at_is same)
             ∙ ap verdict (sym statement_split)
-
-    pub statements_end : (ls : List (SetLine N)) (k i : ℕ) → length ls ≤ k
-        → Accepted ≡ verdict (set_tests limit m place s p i (all_stated (map (set_line_of value) (drop k ls))))
-    statements_end ls k i h =
-        ap (λ (xs : List (SetLine N)). verdict (set_tests limit m place s p i (all_stated (map (set_line_of value) xs)))) (sym (drop_past ls k h))

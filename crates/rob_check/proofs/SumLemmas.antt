@@ -1,5 +1,5 @@
 -- One part of a sum more.
-use Rattle.std.proofs.Common.{◌≡◌, ℕ, zero, suc, ◌+◌, ◌-◌, ◌<◌, ◌≤◌, ℤ, pos, nat_abs, List, [], ◌∷◌, length, map, get_or, drop, arith, refl, sym, ◌∙◌, ap, ap₂, subst, ◌^◌, to_z, of_z, w64, SFits, to_z-of_z}
+use Rattle.std.proofs.Common.{◌≡◌, ℕ, zero, suc, ◌+◌, ◌-◌, ◌<◌, ◌≤◌, ℤ, pos, nat_abs, List, [], ◌∷◌, length, map, get_or, drop, arith, refl, sym, ◌∙◌, ap, subst, ◌^◌, to_z, of_z, w64, SFits, to_z-of_z}
 use Rattle.std.specs.Prelude.{Option, Some, None}
 use Rattle.rob_number.proofs.CastLemmas.{seen}
 use Rattle.rob_algebra.proofs.WidthLaws.{kept-fits, kept-of_int}
@@ -10,8 +10,7 @@ use Rattle.rob_algebra.specs.Width.{Fits, kept}
 use Rattle.rob_meaning.specs.Places.{0ℚ, at, Each}
 use Rattle.rob_model.specs.Within.{◌>>=◌}
 use Rattle.rob_meaning.specs.Clearing.{fractions}
-use Rattle.rob_model.proofs.PartLemmas.{drop_at, drop_past}
-use Rattle.rob_check.specs.Sums.{with_part, added_within, products, dot_within, column as column_of}
+use Rattle.rob_check.specs.Sums.{with_part, added_within, products, column as column_of}
 
 -- ---- a product with an entry
 module _ (limit : ℕ) (so_far number : Fraction) where
@@ -92,41 +91,6 @@ module _ {N : Type 0} (value : N → Fraction) (limit column : ℕ) where
 
   module _ (vector : List N) (k : ℕ) (number : N) (form : List (List ℤ)) (i : ℕ) (entries row : List ℤ) (so_far : Fraction)
       (inside : k < length vector) (is : number ≡ get_or vector k number) (there : i < length form) (same : entries ≡ row) (row_is : row ≡ get_or form i row) where
-    cut_step : cut_left vector k form i so_far
-        ≡ added_within limit so_far (kept limit (value number *ℚ at (map of_int entries) column)
-        ∷ products limit (map value (drop (k + 1) vector)) (column_of column (fractions (drop (i + 1) form))))
-    cut_step =
-        ap₂ (λ (xs : List N) (rows : List (List ℤ)). added_within limit so_far (products limit (map value xs) (column_of column (fractions rows))))
-        (drop_at vector k number inside is)
-        (drop_at form i row there row_is ∙ ap (λ (r : List ℤ). r ∷ drop (i + 1) form) (sym same))
-
-    pub cut_stops : None ≡ with_part limit so_far (kept limit (value number *ℚ at (map of_int entries) column))
-        → None ≡ cut_left vector k form i so_far
-    cut_stops none = part_wide limit so_far _ _ none ∙ sym cut_step
-
-    pub cut_goes_on : (next : Fraction) → Some next ≡ with_part limit so_far (kept limit (value number *ℚ at (map of_int entries) column))
-        → cut_left vector (k + 1) form (i + 1) next ≡ cut_left vector k form i so_far
-    cut_goes_on next some = part_added limit so_far _ _ next some ∙ sym cut_step
-
   -- the base, before the numbers of the vector
   module _ (vector : List N) (form : List (List ℤ)) (entries row : List ℤ) (nothing base : N) (zero_is : value nothing ≡ 0ℚ)
       (there : 0 < length form) (same : entries ≡ row) (row_is : row ≡ get_or form 0 row) where
-    base_step : dot_within limit (value base ∷ map value vector) (column_of column (fractions form))
-        ≡ added_within limit (value nothing) (kept limit (value base *ℚ at (map of_int entries) column)
-        ∷ products limit (map value vector) (column_of column (fractions (drop 1 form))))
-    base_step =
-        ap₂ (λ (s : Fraction) (rows : List (List ℤ)). added_within limit s (products limit (value base ∷ map value vector) (column_of column (fractions rows))))
-        (sym zero_is) (drop_at form 0 row there row_is ∙ ap (λ (r : List ℤ). r ∷ drop 1 form) (sym same))
-
-    pub base_stops : None ≡ with_part limit (value nothing) (kept limit (value base *ℚ at (map of_int entries) column))
-        → None ≡ dot_within limit (value base ∷ map value vector) (column_of column (fractions form))
-    base_stops none = part_wide limit (value nothing) _ _ none ∙ sym base_step
-
-    pub base_goes_on : (next : Fraction) → Some next ≡ with_part limit (value nothing) (kept limit (value base *ℚ at (map of_int entries) column))
-        → cut_left vector 0 form 1 next ≡ dot_within limit (value base ∷ map value vector) (column_of column (fractions form))
-    base_goes_on next some = part_added limit (value nothing) _ _ next some ∙ sym base_step
-
-  pub cut_ends : (vector : List N) (k : ℕ) (form : List (List ℤ)) (i : ℕ) (so_far : Fraction) → length vector ≤ k
-      → Some so_far ≡ cut_left vector k form i so_far
-  cut_ends vector k form i so_far h =
-      ap (λ (xs : List N). added_within limit so_far (products limit (map value xs) (column_of column (fractions (drop i form))))) (sym (drop_past vector k h))

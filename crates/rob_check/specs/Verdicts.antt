@@ -27,10 +27,11 @@ RoseIfWide before now Accepted = Unit {0}
 RoseIfWide before now (Rejected place) = Unit {0}
 RoseIfWide before now (TooWide place) = Rose before now
 
--- the count never fell, and rose where the verdict is too wide
-pub record Counted (before now : ℕ) (v : Verdict) : Type 0 where
-  pub never_fell : before ≤ now
-  pub refused : RoseIfWide before now v
+-- of a ledger's two counts, neither fell, and the wide results rose where the verdict is too wide
+pub record Counted {S : Type 0} (ops_of wides_of : S → ℕ) (before now : S) (v : Verdict) : Type 0 where
+  pub ops : ops_of before ≤ ops_of now
+  pub wides : wides_of before ≤ wides_of now
+  pub rose : RoseIfWide (wides_of before) (wides_of now) v
 
 -- what a verdict says of a claim: accepted, it holds; rejected, it does not; too wide says neither
 abbrev pub Judges : Type 0 → Verdict → Type 0

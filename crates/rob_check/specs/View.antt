@@ -4,7 +4,7 @@ use Rattle.rob_algebra.specs.Fraction.{Fraction, of_int}
 use Rattle.rob_cert.specs.Shape.{HasShape, InOrder, IsBefore}
 use Rattle.rob_cert.specs.View.{certificate_of, cover_of}
 use Rattle.rob_cert.specs.declared.certificate.Cert.{Cert}
-use Rattle.rob_elab.specs.Forms.{FormsFit, IsForms}
+use Rattle.rob_elab.specs.Elaborated.{IsElaborated}
 use Rattle.rob_elab.specs.declared.forms.Forms.{Forms}
 use Rattle.rob_meaning.specs.Certificates as meaning
 use Rattle.rob_meaning.specs.Forms.{matrix_at, plan_vector}
@@ -12,7 +12,6 @@ use Rattle.rob_meaning.specs.Places.{Each, at}
 use Rattle.rob_model.specs.Valid.{IsValid}
 use Rattle.rob_model.specs.View.{robust}
 use Rattle.rob_model.specs.declared.model.Model.{Model}
-use Rattle.rob_sets.specs.SetForm.{IsSetForm, SetFits}
 use Rattle.rob_sets.specs.declared.set_form.SetForm.{SetForm}
 use Rattle.rob_sets.specs.declared.set_form.SetRow.{SetRow}
 use Rattle.rob_check.specs.Conditions as conditions
@@ -55,12 +54,9 @@ abbrev pub row_entry : SetRow → Option ℕ → Fraction
 row_entry row (Some k) = at (map of_int row.g) k
 row_entry row None = of_int row.h
 
--- what the check is given: a model, its forms and its lifted set, whose numbers are within the limit, and a certificate of its
--- shape
+-- what the check is given: a model, its forms and its set rows, and a certificate of its shape
 pub record IsGiven {N : Type 0} (value : N → Fraction) (limit : ℕ) (model : Model N) (forms : Forms) (set : SetForm) (cert : Cert N) : Type 0 where
   pub valid : IsValid value model
-  pub are_forms : IsForms (robust value model) forms
-  pub is_set : IsSetForm (robust value model) set
-  pub forms_fit : FormsFit limit forms
-  pub set_fits : SetFits limit set
+  pub elaborated : IsElaborated limit (robust value model) forms set
+  pub open elaborated use *
   pub shape : HasShape (robust value model) (certificate_of value cert)

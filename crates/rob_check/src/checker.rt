@@ -1,16 +1,15 @@
 // The check of a certificate.
 
-ghost use Rattle.std.specs.Prelude.{◌≡◌, ◌≤◌};
+ghost use Rattle.std.specs.Prelude.{◌≡◌};
 ghost use Rattle.rob_cert.specs.Shape.{HasShape};
 ghost use Rattle.rob_cert.specs.View.{certificate_of};
 ghost use Rattle.rob_check.specs.Conditions.{verdict_of};
 ghost use Rattle.rob_check.specs.Verdicts.{Counted, Judges, OnAccepted};
-ghost use Rattle.rob_elab.specs.Forms.{FormsFit, IsForms};
+ghost use Rattle.rob_elab.specs.Elaborated.{IsElaborated};
 ghost use Rattle.rob_meaning.specs.Certificates.{optimal};
 ghost use Rattle.rob_meaning.specs.Proves.{HasStatus, IsTight, Proves};
 ghost use Rattle.rob_model.specs.Valid.{IsValid};
 ghost use Rattle.rob_model.specs.View.{robust};
-ghost use Rattle.rob_sets.specs.SetForm.{IsSetForm, SetFits};
 
 use crate::order::check_all;
 use crate::verdict::Verdict;
@@ -20,7 +19,7 @@ use rob_model::Model;
 use rob_number::{Exact, Ledger};
 use rob_sets::SetForm;
 
-/// Whether a certificate proves what it claims of a model, whose forms and lifted set are given in whole numbers. The
+/// Whether a certificate proves what it claims of a model, whose forms and set rows are given in whole numbers. The
 /// conditions are tried in order: the scale, the scenario `inside`, the items, their sums, the covers of the plan, the
 /// direction with its covers. The first that fails, or that needs a wide number, is named. The call takes no memory.
 /// (Schrijver, Theory of Linear and Integer Programming, chapter 7.)
@@ -32,10 +31,7 @@ pub fn check<N: Exact, L: Ledger>(
     ledger: &mut L,
 ) -> Verdict
     requires valid { IsValid N.value model.now }
-    requires forms { IsForms (robust N.value model.now) forms.now }
-    requires set { IsSetForm (robust N.value model.now) set.now }
-    requires forms_fit { FormsFit N.limit forms.now }
-    requires set_fits { SetFits N.limit set.now }
+    requires elaborated { IsElaborated N.limit (robust N.value model.now) forms.now set.now }
     requires shape { HasShape (robust N.value model.now) (certificate_of N.value cert.now) }
     // The first condition that fails or is wide decides.
     ensures exact { result ≡ verdict_of N.limit (robust N.value model.now) (certificate_of N.value cert.now) }
@@ -47,8 +43,7 @@ pub fn check<N: Exact, L: Ledger>(
     // At the plan of an accepted optimal certificate each item's form is exactly 0.
     ensures tight { OnAccepted result ((certificate_of N.value cert.now).status ≡ optimal
         → IsTight (robust N.value model.now) (certificate_of N.value cert.now)) }
-    ensures counted { Counted (L.wides ledger.old) (L.wides ledger.new) result }
-    ensures ops { L.ops ledger.old ≤ L.ops ledger.new }
+    ensures counted { Counted L.ops L.wides ledger.old ledger.new result }
 {
     check_all(model, forms, set, cert, ledger)
 }

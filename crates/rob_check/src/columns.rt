@@ -11,7 +11,7 @@ ghost use Rattle.rob_meaning.specs.Places.{at, Each};
 ghost use Rattle.rob_meaning.specs.Proves.{target};
 ghost use Rattle.rob_model.specs.Limits.{most_columns};
 ghost use Rattle.rob_model.specs.View.{sense_of};
-ghost use Rattle.rob_number.specs.Counts.{Told};
+ghost use Rattle.rob_number.specs.Counts.{Told, NeverFell};
 
 use crate::items::column_sum;
 use crate::sums::{is_positive, is_same};
@@ -33,8 +33,7 @@ fn target_at<N: Exact, L: Ledger>(
 ) -> N
     requires few { columns ≤ most_columns }
     ensures number { N.value result ≡ at (target (sense_of sense) columns (N.value value)) column }
-    ensures wides { L.wides ledger.old ≤ L.wides ledger.new }
-    ensures ops { L.ops ledger.old ≤ L.ops ledger.new }
+    ensures counted { NeverFell L.ops L.wides ledger.old ledger.new }
 {
     if column == 0 {
         match sense {
@@ -63,8 +62,7 @@ fn is_asked_sum<N: Exact, L: Ledger>(
     requires few { forms.now.columns ≤ most_columns }
     ensures test { result
         ≡ is_asked (sense_of forms.now.sense) forms.now.columns (option_map N.value value) column (N.value sum) }
-    ensures wides { L.wides ledger.old ≤ L.wides ledger.new }
-    ensures ops { L.ops ledger.old ≤ L.ops ledger.new }
+    ensures counted { NeverFell L.ops L.wides ledger.old ledger.new }
 {
     match value {
         Some(value) => {
@@ -95,7 +93,7 @@ fn sum_holds<N: Exact, L: Ledger>(
     ensures exact { result_ok result ≡ (sum_test N.limit forms.now.matrices (sense_of forms.now.sense) forms.now.columns
         (option_map N.value value) (map (item_of N.value) items.now) column).holds }
     ensures told { Told (L.wides ledger.old) (L.wides ledger.new) result }
-    ensures ops { L.ops ledger.old ≤ L.ops ledger.new }
+    ensures counted { NeverFell L.ops L.wides ledger.old ledger.new }
 {
     let sum = column_sum(forms, items, column as usize, ledger)?;
     Ok(is_asked_sum(forms, value, column, sum, ledger))
@@ -113,8 +111,7 @@ pub fn check_sums<N: Exact, L: Ledger>(
     requires items { Each (TakesForm forms.now.matrices) (map (item_of N.value) items.now) }
     ensures exact { result ≡ verdict (sum_tests N.limit forms.now.matrices (sense_of forms.now.sense) forms.now.columns
         (option_map N.value value) (map (item_of N.value) items.now)) }
-    ensures counted { Counted (L.wides ledger.old) (L.wides ledger.new) result }
-    ensures ops { L.ops ledger.old ≤ L.ops ledger.new }
+    ensures counted { Counted L.ops L.wides ledger.old ledger.new result }
 {
     for column in 1..forms.columns + 2 {
         let test = sum_holds(forms, items, value, column, ledger);

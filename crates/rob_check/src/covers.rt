@@ -8,13 +8,13 @@ ghost use Rattle.rob_cert.specs.View.{cover_of};
 ghost use Rattle.rob_check.specs.Conditions.{column_test, column_tests, constant_test, cover_place, cover_tests, form_tests, form_within, rows_within, sign_place, sign_test};
 ghost use Rattle.rob_check.specs.LiftedSet.{lifted_of, numbers_in};
 ghost use Rattle.rob_check.specs.Sums.{dot_within, with_part};
-ghost use Rattle.rob_check.specs.Verdicts.{Counted, verdict};
+ghost use Rattle.rob_check.specs.Verdicts.{Counted, RoseIfWide, verdict};
 ghost use Rattle.rob_check.specs.View.{AreOrdered, HasColumns, NameRows, covering_of, row_entry, run};
 ghost use Rattle.rob_elab.specs.Forms.{FormsFit, MatrixFits};
 ghost use Rattle.rob_meaning.specs.Clearing.{fractions};
 ghost use Rattle.rob_meaning.specs.Places.{Each};
 ghost use Rattle.rob_number.specs.Answer.{answer};
-ghost use Rattle.rob_number.specs.Counts.{Told};
+ghost use Rattle.rob_number.specs.Counts.{Told, NeverFell};
 ghost use Rattle.rob_sets.specs.SetForm.{RowFits, SetFits};
 
 use crate::covering::{Covered, Covering};
@@ -59,7 +59,7 @@ fn add_row<N: Exact, L: Ledger>(
     ensures exact { answer N.value result
         ≡ with_part N.limit (N.value so_far) (kept N.limit (N.value amount *ℚ row_entry row.now column)) }
     ensures told { Told (L.wides ledger.old) (L.wides ledger.new) result }
-    ensures ops { L.ops ledger.old ≤ L.ops ledger.new }
+    ensures counted { NeverFell L.ops L.wides ledger.old ledger.new }
 {
     match column {
         Some(column) => add_entry(so_far, amount, row.g.items(), column, ledger),
@@ -79,7 +79,7 @@ fn rows_sum<N: Exact, L: Ledger>(
     ensures exact { answer N.value result
         ≡ rows_within N.limit (map (cover_of N.value) mine.now) (numbers_in (lifted_of set.now) column) }
     ensures told { Told (L.wides ledger.old) (L.wides ledger.new) result }
-    ensures ops { L.ops ledger.old ≤ L.ops ledger.new }
+    ensures counted { NeverFell L.ops L.wides ledger.old ledger.new }
 {
     let mut sum: N = zero(ledger);
     for cover in mine {
@@ -100,7 +100,7 @@ fn row_number<N: Exact, L: Ledger>(
     ensures exact { answer N.value result
         ≡ dot_within N.limit (covering_of N.value covering.now).vector (map of_int row.now) }
     ensures told { Told (L.wides ledger.old) (L.wides ledger.new) result }
-    ensures ops { L.ops ledger.old ≤ L.ops ledger.new }
+    ensures counted { NeverFell L.ops L.wides ledger.old ledger.new }
 {
     let nothing: N = zero(ledger);
     let mut sum = add_entry(nothing, covering.first, row, 0, ledger)?;
@@ -123,7 +123,7 @@ fn form_number<N: Exact, L: Ledger>(
     requires columns { HasColumns (length covering.now.columns.now) form.now }
     ensures exact { answer N.value result ≡ form_within N.limit (covering_of N.value covering.now) (fractions form.now) row }
     ensures told { Told (L.wides ledger.old) (L.wides ledger.new) result }
-    ensures ops { L.ops ledger.old ≤ L.ops ledger.new }
+    ensures counted { NeverFell L.ops L.wides ledger.old ledger.new }
 {
     if row < form.len() {
         let number = row_number(form[row].items(), covering, ledger)?;
@@ -151,7 +151,7 @@ fn column_holds<N: Exact, L: Ledger>(
     ensures exact { (i : ℕ) → result_ok result ≡ (column_test N.limit (lifted_of set.now) (covering_of N.value covering.now) i
         (fractions form.now) (map (cover_of N.value) mine.now) column).holds }
     ensures told { Told (L.wides ledger.old) (L.wides ledger.new) result }
-    ensures ops { L.ops ledger.old ≤ L.ops ledger.new }
+    ensures counted { NeverFell L.ops L.wides ledger.old ledger.new }
 {
     let rows = rows_sum(set, mine, Some(column), ledger)?;
     let number = form_number(form, column + 1, covering, ledger)?;
@@ -173,7 +173,7 @@ fn constant_holds<N: Exact, L: Ledger>(
     ensures exact { (i : ℕ) → result_ok result ≡ (constant_test N.limit (lifted_of set.now) (covering_of N.value covering.now) i
         (fractions form.now) (map (cover_of N.value) mine.now)).holds }
     ensures told { Told (L.wides ledger.old) (L.wides ledger.new) result }
-    ensures ops { L.ops ledger.old ≤ L.ops ledger.new }
+    ensures counted { NeverFell L.ops L.wides ledger.old ledger.new }
 {
     let rows = rows_sum(set, mine, None, ledger)?;
     let number = form_number(form, 0, covering, ledger)?;
@@ -186,7 +186,7 @@ fn constant_holds<N: Exact, L: Ledger>(
 fn check_signs<N: Exact>(index: u32, covering: &Covering<'_, N>, mine: &[Cover<N>]) -> Verdict
     ensures exact { result
         ≡ verdict (map (sign_test (covering_of N.value covering.now) index) (map (cover_of N.value) mine.now)) }
-    ensures counted { (count : ℕ) → Counted count count result }
+    ensures rose { (count : ℕ) → RoseIfWide count count result }
 {
     for cover in mine {
         if !is_nonnegative(cover.amount) {
@@ -212,8 +212,7 @@ fn check_columns<N: Exact, L: Ledger>(
     requires few { set.now.columns ≤ 1000 }
     ensures exact { result ≡ verdict (column_tests N.limit (lifted_of set.now) (covering_of N.value covering.now) index
         (fractions form.now) (map (cover_of N.value) mine.now)) }
-    ensures counted { Counted (L.wides ledger.old) (L.wides ledger.new) result }
-    ensures ops { L.ops ledger.old ≤ L.ops ledger.new }
+    ensures counted { Counted L.ops L.wides ledger.old ledger.new result }
 {
     for column in 0..set.columns {
         let test = column_holds(form, set, covering, mine, column as usize, ledger);
@@ -242,8 +241,7 @@ fn check_form<N: Exact, L: Ledger>(
     requires few { set.now.columns ≤ 1000 }
     ensures exact { result ≡ verdict (form_tests N.limit (lifted_of set.now) (covering_of N.value covering.now) index
         (fractions form.now) (map (cover_of N.value) mine.now)) }
-    ensures counted { Counted (L.wides ledger.old) (L.wides ledger.new) result }
-    ensures ops { L.ops ledger.old ≤ L.ops ledger.new }
+    ensures counted { Counted L.ops L.wides ledger.old ledger.new result }
 {
     match check_signs(index, covering, mine) {
         Verdict::Accepted => check_columns(index, form, set, covering, mine, ledger),
@@ -281,8 +279,7 @@ pub fn check_covers<N: Exact, L: Ledger>(
     requires few_forms { length forms.now.matrices < 2 ^ 32 }
     ensures exact { result ≡ verdict (cover_tests N.limit (lifted_of set.now) (covering_of N.value covering.now) 0
         forms.now.matrices) }
-    ensures counted { Counted (L.wides ledger.old) (L.wides ledger.new) result }
-    ensures ops { L.ops ledger.old ≤ L.ops ledger.new }
+    ensures counted { Counted L.ops L.wides ledger.old ledger.new result }
 {
     let mut rest = covering.covers;
     for (index, form) in forms.matrices.items().iter().enumerate() {

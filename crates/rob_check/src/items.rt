@@ -1,6 +1,6 @@
 // The items of a certificate: multiples of forms, each taken at a multiple of a scenario or at a ray.
 
-ghost use Rattle.std.specs.Prelude.{◌≡◌, ◌<◌, ◌≤◌, ◌^◌, suc, ◌∷◌, length, map};
+ghost use Rattle.std.specs.Prelude.{◌≡◌, ◌<◌, ◌^◌, suc, ◌∷◌, length, map};
 ghost use Rattle.rob_algebra.specs.Fraction.{of_int};
 ghost use Rattle.rob_cert.specs.View.{item_of};
 ghost use Rattle.rob_check.specs.Conditions.{column_within, item_tests, item_within, items_tests};
@@ -13,7 +13,7 @@ ghost use Rattle.rob_meaning.specs.Places.{Each};
 ghost use Rattle.rob_model.specs.Valid.{IsValid};
 ghost use Rattle.rob_model.specs.View.{robust};
 ghost use Rattle.rob_number.specs.Answer.{answer};
-ghost use Rattle.rob_number.specs.Counts.{Told};
+ghost use Rattle.rob_number.specs.Counts.{Told, NeverFell};
 
 use crate::scenario::{Taken, check_vector};
 use crate::sums::{add_entry, is_nonnegative, is_positive};
@@ -38,7 +38,7 @@ fn cut_at<N: Exact, L: Ledger>(
     ensures exact { answer N.value result ≡ dot_within N.limit (N.value base ∷ map N.value vector.now)
         (column_of column (fractions form.now)) }
     ensures told { Told (L.wides ledger.old) (L.wides ledger.new) result }
-    ensures ops { L.ops ledger.old ≤ L.ops ledger.new }
+    ensures counted { NeverFell L.ops L.wides ledger.old ledger.new }
 {
     let nothing: N = zero(ledger);
     let mut sum = add_entry(nothing, base, form[0].items(), column, ledger)?;
@@ -59,7 +59,7 @@ fn item_at<N: Exact, L: Ledger>(
     requires form { TakesForm forms.now.matrices (item_of N.value item.now) }
     ensures exact { answer N.value result ≡ item_within N.limit forms.now.matrices column (item_of N.value item.now) }
     ensures told { Told (L.wides ledger.old) (L.wides ledger.new) result }
-    ensures ops { L.ops ledger.old ≤ L.ops ledger.new }
+    ensures counted { NeverFell L.ops L.wides ledger.old ledger.new }
 {
     let form = &forms.matrices.items()[item.form as usize];
     let cut = cut_at(form.items(), column, item.base, item.vector.items(), ledger)?;
@@ -78,7 +78,7 @@ pub fn column_sum<N: Exact, L: Ledger>(
     ensures exact { answer N.value result
         ≡ column_within N.limit forms.now.matrices (map (item_of N.value) items.now) column }
     ensures told { Told (L.wides ledger.old) (L.wides ledger.new) result }
-    ensures ops { L.ops ledger.old ≤ L.ops ledger.new }
+    ensures counted { NeverFell L.ops L.wides ledger.old ledger.new }
 {
     let mut sum: N = zero(ledger);
     for item in items {
@@ -97,8 +97,7 @@ fn check_item<N: Exact, L: Ledger>(
 ) -> Verdict
     requires valid { IsValid N.value model.now }
     ensures exact { result ≡ verdict (item_tests N.limit (robust N.value model.now) index (item_of N.value item.now)) }
-    ensures counted { Counted (L.wides ledger.old) (L.wides ledger.new) result }
-    ensures ops { L.ops ledger.old ≤ L.ops ledger.new }
+    ensures counted { Counted L.ops L.wides ledger.old ledger.new result }
 {
     if !is_positive(item.weight) {
         return Verdict::Rejected(Place::Weight(index));
@@ -124,8 +123,7 @@ pub fn check_items<N: Exact, L: Ledger>(
     requires valid { IsValid N.value model.now }
     requires few { length items.now < 2 ^ 32 }
     ensures exact { result ≡ verdict (items_tests N.limit (robust N.value model.now) 0 (map (item_of N.value) items.now)) }
-    ensures counted { Counted (L.wides ledger.old) (L.wides ledger.new) result }
-    ensures ops { L.ops ledger.old ≤ L.ops ledger.new }
+    ensures counted { Counted L.ops L.wides ledger.old ledger.new result }
 {
     for (index, item) in items.iter().enumerate() {
         match check_item(index as u32, model, item, ledger) {

@@ -1,6 +1,6 @@
 // The conditions of a certificate, in order, by what it claims.
 
-ghost use Rattle.std.specs.Prelude.{◌≡◌, ◌≤◌, length};
+ghost use Rattle.std.specs.Prelude.{◌≡◌, length};
 ghost use Rattle.rob_cert.specs.View.{certificate_of};
 ghost use Rattle.rob_check.specs.Conditions.{base_tests, conditions_as, covering_tests, improves, move_tests, optimum_tests, plan_covering, ray_tests, step_covering, verdict_of};
 ghost use Rattle.rob_check.specs.Verdicts.{Counted, verdict};
@@ -32,8 +32,7 @@ fn check_base<N: Exact, L: Ledger>(
 ) -> Verdict
     requires given { IsGiven N.value N.limit model.now forms.now set.now cert.now }
     ensures exact { result ≡ verdict (base_tests N.limit (robust N.value model.now) (certificate_of N.value cert.now)) }
-    ensures counted { Counted (L.wides ledger.old) (L.wides ledger.new) result }
-    ensures ops { L.ops ledger.old ≤ L.ops ledger.new }
+    ensures counted { Counted L.ops L.wides ledger.old ledger.new result }
 {
     let once: N = one(ledger);
     match check_vector(
@@ -60,8 +59,7 @@ fn check_plan<N: Exact, L: Ledger>(
     requires columns { length cert.now.plan ≡ forms.now.columns }
     ensures exact { result ≡ verdict (covering_tests N.limit (robust N.value model.now)
         (plan_covering (certificate_of N.value cert.now))) }
-    ensures counted { Counted (L.wides ledger.old) (L.wides ledger.new) result }
-    ensures ops { L.ops ledger.old ≤ L.ops ledger.new }
+    ensures counted { Counted L.ops L.wides ledger.old ledger.new result }
 {
     let first: N = one(ledger);
     let covering = Covering {
@@ -87,8 +85,7 @@ fn check_step<N: Exact, L: Ledger>(
     requires columns { length cert.now.step ≡ forms.now.columns }
     ensures exact { result ≡ verdict (covering_tests N.limit (robust N.value model.now)
         (step_covering (certificate_of N.value cert.now))) }
-    ensures counted { Counted (L.wides ledger.old) (L.wides ledger.new) result }
-    ensures ops { L.ops ledger.old ≤ L.ops ledger.new }
+    ensures counted { Counted L.ops L.wides ledger.old ledger.new result }
 {
     let scale: N = one(ledger);
     let first: N = zero(ledger);
@@ -115,8 +112,7 @@ fn check_optimum<N: Exact, L: Ledger>(
     requires columns { length cert.now.plan ≡ forms.now.columns }
     ensures exact { result ≡ verdict (optimum_tests N.limit (robust N.value model.now)
         (certificate_of N.value cert.now)) }
-    ensures counted { Counted (L.wides ledger.old) (L.wides ledger.new) result }
-    ensures ops { L.ops ledger.old ≤ L.ops ledger.new }
+    ensures counted { Counted L.ops L.wides ledger.old ledger.new result }
 {
     match check_sums(forms, cert.items.items(), Some(cert.value), ledger) {
         Verdict::Accepted => check_plan(model, forms, set, cert, ledger),
@@ -136,8 +132,7 @@ fn check_optimal<N: Exact, L: Ledger>(
     requires columns { length cert.now.plan ≡ forms.now.columns }
     ensures exact { result ≡ verdict (conditions_as N.limit (robust N.value model.now) optimal
         (certificate_of N.value cert.now)) }
-    ensures counted { Counted (L.wides ledger.old) (L.wides ledger.new) result }
-    ensures ops { L.ops ledger.old ≤ L.ops ledger.new }
+    ensures counted { Counted L.ops L.wides ledger.old ledger.new result }
 {
     if !is_positive(cert.scale) {
         return Verdict::Rejected(Place::Scale);
@@ -159,8 +154,7 @@ fn check_infeasible<N: Exact, L: Ledger>(
     requires given { IsGiven N.value N.limit model.now forms.now set.now cert.now }
     ensures exact { result ≡ verdict (conditions_as N.limit (robust N.value model.now) infeasible
         (certificate_of N.value cert.now)) }
-    ensures counted { Counted (L.wides ledger.old) (L.wides ledger.new) result }
-    ensures ops { L.ops ledger.old ≤ L.ops ledger.new }
+    ensures counted { Counted L.ops L.wides ledger.old ledger.new result }
 {
     match check_base(model, forms, set, cert, ledger) {
         Verdict::Accepted => check_sums(forms, cert.items.items(), None, ledger),
@@ -190,8 +184,7 @@ fn check_move<N: Exact, L: Ledger>(
     requires step_columns { length cert.now.step ≡ forms.now.columns }
     ensures exact { result ≡ verdict (move_tests N.limit (robust N.value model.now)
         (certificate_of N.value cert.now)) }
-    ensures counted { Counted (L.wides ledger.old) (L.wides ledger.new) result }
-    ensures ops { L.ops ledger.old ≤ L.ops ledger.new }
+    ensures counted { Counted L.ops L.wides ledger.old ledger.new result }
 {
     if !bound_improves(forms.sense, cert.step_bound) {
         return Verdict::Rejected(Place::MoveBound);
@@ -212,8 +205,7 @@ fn check_ray<N: Exact, L: Ledger>(
     requires step_columns { length cert.now.step ≡ forms.now.columns }
     ensures exact { result ≡ verdict (ray_tests N.limit (robust N.value model.now)
         (certificate_of N.value cert.now)) }
-    ensures counted { Counted (L.wides ledger.old) (L.wides ledger.new) result }
-    ensures ops { L.ops ledger.old ≤ L.ops ledger.new }
+    ensures counted { Counted L.ops L.wides ledger.old ledger.new result }
 {
     match check_plan(model, forms, set, cert, ledger) {
         Verdict::Accepted => check_move(model, forms, set, cert, ledger),
@@ -234,8 +226,7 @@ fn check_unbounded<N: Exact, L: Ledger>(
     requires step_columns { length cert.now.step ≡ forms.now.columns }
     ensures exact { result ≡ verdict (conditions_as N.limit (robust N.value model.now) unbounded
         (certificate_of N.value cert.now)) }
-    ensures counted { Counted (L.wides ledger.old) (L.wides ledger.new) result }
-    ensures ops { L.ops ledger.old ≤ L.ops ledger.new }
+    ensures counted { Counted L.ops L.wides ledger.old ledger.new result }
 {
     if !is_positive(cert.scale) {
         return Verdict::Rejected(Place::Scale);
@@ -256,8 +247,7 @@ pub fn check_all<N: Exact, L: Ledger>(
 ) -> Verdict
     requires given { IsGiven N.value N.limit model.now forms.now set.now cert.now }
     ensures exact { result ≡ verdict_of N.limit (robust N.value model.now) (certificate_of N.value cert.now) }
-    ensures counted { Counted (L.wides ledger.old) (L.wides ledger.new) result }
-    ensures ops { L.ops ledger.old ≤ L.ops ledger.new }
+    ensures counted { Counted L.ops L.wides ledger.old ledger.new result }
 {
     match cert.status {
         Status::Optimal => check_optimal(model, forms, set, cert, ledger),

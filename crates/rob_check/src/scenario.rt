@@ -47,8 +47,7 @@ fn check_bounds<N: Exact, L: Ledger>(
     requires small { index ≤ 1000 }
     ensures exact { (m : RobustModel) → result ≡ verdict (bound_tests N.limit m (taken_place taken)
         (N.value base) (map N.value vector.now) index k (parameter_of N.value param.now)) }
-    ensures counted { Counted (L.wides ledger.old) (L.wides ledger.new) result }
-    ensures ops { L.ops ledger.old ≤ L.ops ledger.new }
+    ensures counted { Counted L.ops L.wides ledger.old ledger.new result }
 {
     let lower = keeps_lower(k, &param.lower, base, vector, ledger);
     match judge(place_of(taken, index), lower) {
@@ -73,8 +72,7 @@ fn check_statements<N: Exact, L: Ledger>(
     requires small { first ≤ 1000 }
     ensures exact { result ≡ verdict (set_tests N.limit (robust N.value model.now) (taken_place taken)
         (N.value base) (map N.value vector.now) first (all_stated (map (set_line_of N.value) model.now.set_lines))) }
-    ensures counted { Counted (L.wides ledger.old) (L.wides ledger.new) result }
-    ensures ops { L.ops ledger.old ≤ L.ops ledger.new }
+    ensures counted { Counted L.ops L.wides ledger.old ledger.new result }
 {
     let mut index = first;
     for line in model.set_lines.items() {
@@ -99,8 +97,7 @@ pub fn check_vector<N: Exact, L: Ledger>(
     requires valid { IsValid N.value model.now }
     ensures exact { result ≡ verdict (set_tests N.limit (robust N.value model.now) (taken_place taken)
         (N.value base) (map N.value vector.now) 0 (set_conditions (robust N.value model.now))) }
-    ensures counted { Counted (L.wides ledger.old) (L.wides ledger.new) result }
-    ensures ops { L.ops ledger.old ≤ L.ops ledger.new }
+    ensures counted { Counted L.ops L.wides ledger.old ledger.new result }
 {
     let mut index = 0u32;
     for (k, param) in model.params.items().iter().enumerate() {

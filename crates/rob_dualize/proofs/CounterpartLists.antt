@@ -1,5 +1,5 @@
 -- The counterpart as lists of rows.
-use Rattle.std.proofs.Common.{◌≡◌, ◌≢◌, ◌⊎◌, inl, inr, Bool, true, false, ℕ, suc, ◌+◌, ◌-◌, ◌*◌, ◌/◌, ◌%◌, ◌<◌, ◌≤◌, List, [], ◌∷◌, ◌++◌, length, refl, sym, ap, ap₂, ◌∙◌, subst, arith, cond, ltb, eqb}
+use Rattle.std.proofs.Common.{◌≡◌, ◌≢◌, ◌⊎◌, inl, inr, Bool, true, false, ℕ, suc, ◌+◌, ◌-◌, ◌*◌, ◌/◌, ◌%◌, ◌<◌, ◌≤◌, List, [], ◌∷◌, ◌++◌, length, sym, ap, ap₂, ◌∙◌, subst, arith, cond, ltb, eqb}
 use Rattle.std.proofs.lemmas.Int.{ints}
 use Rattle.std.proofs.lemmas.Nat.{div-mul-add, mod-mul-add}
 use Rattle.std.specs.Prelude.{slice_index_or}
@@ -14,7 +14,7 @@ use Rattle.rob_counterpart.specs.Splitting.{turned}
 use Rattle.rob_counterpart.specs.Reform.{pairs, block, plan_entry, multiplier_entry, right_entry, row_entry, tau_cost, reform}
 use Rattle.rob_counterpart.specs.SamePrograms.{AreSame}
 use Rattle.rob_counterpart.proofs.Blocks.{at_block}
-use Rattle.rob_counterpart.proofs.ReformPlaces.{where_less, where_not_less, where_same, where_other}
+use Rattle.rob_counterpart.proofs.ReformPlaces.{where_not_less, where_same, where_other}
 use Rattle.rob_counterpart.proofs.TabulateLemmas.{length-tabulate}
 use Rattle.rob_sets.proofs.RowLemmas.{tabulate-more}
 use Rattle.rob_dualize.proofs.TabulateLemmas.{item-tabulate}
@@ -125,9 +125,6 @@ module _ (d : RobustProgram) (limit : ℕ) (forms : (i k j : ℕ) → nat_abs (d
   reform_within lp h = listed_within (reform d) lp h limit (λ t k. row_small (t / block d) (t % block d) k) (λ t. right_small (t / block d) (t % block d)) cost_small
 
 -- ---- a row by its columns
-pub in_plan : (d : RobustProgram) (i p k : ℕ) → k < pairs d → row_entry d i p k ≡ turned k (plan_entry d i p (k / 2))
-in_plan d i p k l = where_less k (pairs d) (turned k (plan_entry d i p (k / 2))) (cond (eqb ((k - pairs d) / d.set_rows) i) (multiplier_entry d p ((k - pairs d) % d.set_rows)) (pos 0)) l
-
 behind_plan : (d : RobustProgram) (i p k : ℕ) → pairs d ≤ k
     → row_entry d i p k ≡ cond (eqb ((k - pairs d) / d.set_rows) i) (multiplier_entry d p ((k - pairs d) % d.set_rows)) (pos 0)
 behind_plan d i p k l = where_not_less k (pairs d) (turned k (plan_entry d i p (k / 2))) (cond (eqb ((k - pairs d) / d.set_rows) i) (multiplier_entry d p ((k - pairs d) % d.set_rows)) (pos 0)) l
@@ -164,6 +161,3 @@ pub all_written : (d : RobustProgram) (n : ℕ) (a : List (List ℤ)) (b c : Lis
 all_written d n a b c e w ce =
     let h : AreWritten d (d.forms * block d) a b = subst (λ k. AreWritten d (k * block d) a b) e w in
     record { a = h.rows; b = h.rights; c = ce }
-
-pub no_rows : (d : RobustProgram) → AreWritten d (0 * block d) [] []
-no_rows d = let e : 0 * block d ≡ 0 = grind arith in subst (λ k. AreWritten d k [] []) (sym e) (record { rows = refl; rights = refl })

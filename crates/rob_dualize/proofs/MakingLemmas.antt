@@ -36,7 +36,8 @@ use Rattle.rob_counterpart.proofs.SetLemmas.{over_set_is, cost_is}
 use Rattle.rob_counterpart.proofs.SplitLemmas.{point_opposite, set_pair}
 use Rattle.rob_dualize.specs.Ending.{HasLastPoint, HasEnded, IsMadeAs, read_from, position_of}
 use Rattle.rob_dualize.specs.Solving.{TellsWideRow}
-use Rattle.rob_dualize.specs.Wholes.{AreOfOneModel, wholes, counterpart_of, set_of_wholes, IsFew}
+use Rattle.rob_elab.specs.Elaborated.{AreElaborated}
+use Rattle.rob_dualize.specs.Wholes.{wholes, counterpart_of, set_of_wholes, IsFew}
 use Rattle.rob_dualize.proofs.Soundness.{wholes_are}
 use Rattle.rob_dualize.proofs.SolvingLemmas.{last_basis, last_point}
 
@@ -49,7 +50,7 @@ one_block : (n b : ℕ) → 0 < n → b ≤ n * b
 one_block zero b l = absurd (omega arith)
 one_block (suc n) b l = let e : suc n * b ≡ (n * b) + b = grind arith in omega arith
 
-module _ (forms : Forms) (set : SetForm) (one : AreOfOneModel forms set) where
+module _ {limit : ℕ} (forms : Forms) (set : SetForm) (one : AreElaborated limit forms set) where
   some_form : 0 < length forms.matrices
   some_form = subst (λ (n : ℕ). 0 < n) (sym (ap length one.are_forms.matrices)) (omega arith)
 

@@ -17,7 +17,7 @@ use Rattle.rob_meaning.proofs.WorkedTests.{found, test_model, test_admits, test_
 use Rattle.rob_counterpart.specs.Counterpart.{set_program, counterpart}
 use Rattle.rob_model.specs.declared.place.Spot.{Spot}
 use Rattle.rob_dualize.specs.SmallestModel.{one_demand}
-use Rattle.rob_dualize.specs.Solving.{IsNarrowModel, IsWideSpot}
+use Rattle.rob_dualize.specs.Solving.{IsNarrowModel, IsWideOnPath}
 use Rattle.rob_dualize.proofs.SolvingLemmas.{narrow_spot}
 
 -- ---- a test of each number below n
@@ -106,5 +106,5 @@ counterpart_narrow = record {
 pub one_demand_narrow : IsNarrowModel (2 ^ 62 - 1) one_demand
 one_demand_narrow = record { set = set_narrow; counterpart = counterpart_narrow }
 
-pub one_demand_not_wide : (spot : Spot) → ¬ (IsWideSpot (2 ^ 62 - 1) one_demand spot)
+pub one_demand_not_wide : (spot : Spot) → ¬ (IsWideOnPath (2 ^ 62 - 1) one_demand spot)
 one_demand_not_wide spot = narrow_spot (2 ^ 62 - 1) one_demand spot one_demand_narrow

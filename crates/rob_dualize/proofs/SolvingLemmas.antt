@@ -47,7 +47,7 @@ use Rattle.rob_counterpart.proofs.ScenarioLemmas.{set_weights, basis_admitted}
 use Rattle.rob_counterpart.proofs.TabulateLemmas.{tabulate-same}
 use Rattle.rob_dualize.specs.Ending.{HasEnded, HasLastPoint, StopsAt, IsTold}
 use Rattle.rob_counterpart.specs.ReadNumbers.{differences}
-use Rattle.rob_dualize.specs.Solving.{IsLastScenario, IsSolution, IsShownEmpty, TellsWideRow, IsWideSpot, HasCause, CountsStop, Finds, IsNarrowModel, IsNotWide, Solves}
+use Rattle.rob_dualize.specs.Solving.{IsLastScenario, IsSolution, IsShownEmpty, TellsWideRow, IsWideOnPath, HasCause, CountsStop, Finds, IsNarrowModel, IsNotWide, Solves}
 use Rattle.rob_dualize.proofs.EndingLemmas.{infeasible_end}
 use Rattle.rob_dualize.proofs.TabulateLemmas.{map-tabulate}
 
@@ -58,13 +58,13 @@ rises n = omega arith
 module _ (limit : ℕ) (m : RobustModel) where
   pub wide_in_set : (basis : List ℕ) (i : ℕ) (stop : Stop) → TellsWideRow limit (set_program m) basis i → StopsAt basis named.Set i stop → HasCause limit m stop
   wide_in_set basis i (EmptySet weights) w h = absurd h
-  wide_in_set basis i (Wide place trace) w h = (subst (λ (p : Spot). IsWideSpot limit m p) (sym h.0) w, h.1)
+  wide_in_set basis i (Wide place trace) w h = (subst (λ (p : Spot). IsWideOnPath limit m p) (sym h.0) w, h.1)
   wide_in_set basis i Memory w h = tt
 
   pub wide_in_counterpart : (basis : List ℕ) (i : ℕ) (stop : Stop) (scenario : List Fraction) → Admits m scenario → TellsWideRow limit (counterpart m) basis i
       → StopsAt basis named.Reform i stop → HasCause limit m stop
   wide_in_counterpart basis i (EmptySet weights) u a w h = absurd h
-  wide_in_counterpart basis i (Wide place trace) u a w h = (subst (λ (p : Spot). IsWideSpot limit m p) (sym h.0) ((u, a), w), h.1)
+  wide_in_counterpart basis i (Wide place trace) u a w h = (subst (λ (p : Spot). IsWideOnPath limit m p) (sym h.0) ((u, a), w), h.1)
   wide_in_counterpart basis i Memory u a w h = tt
 
 pub wide_counted : (before now : ℕ) (basis : List ℕ) (program : Named) (i : ℕ) (stop : Stop) → now ≡ raised before → StopsAt basis program i stop → CountsStop before now stop
@@ -82,7 +82,7 @@ pub refused_cause : (limit : ℕ) (m : RobustModel) (stop : Stop) → stop ≡ M
 refused_cause limit m stop e = subst (HasCause limit m) (sym e) tt
 
 -- ---- narrow models
-pub narrow_spot : (limit : ℕ) (m : RobustModel) (place : Spot) → IsNarrowModel limit m → ¬ (IsWideSpot limit m place)
+pub narrow_spot : (limit : ℕ) (m : RobustModel) (place : Spot) → IsNarrowModel limit m → ¬ (IsWideOnPath limit m place)
 narrow_spot limit m (spot.Dictionary named.Set basis i) n w = narrow_path limit (set_program m) n.set (columns_of basis) i w.row
 narrow_spot limit m (spot.Dictionary named.Reform basis i) n w = narrow_path limit (counterpart m) n.counterpart (columns_of basis) i w.1.row
 narrow_spot limit m other n w = absurd w

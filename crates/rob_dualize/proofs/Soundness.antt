@@ -14,17 +14,18 @@ use Rattle.rob_meaning.specs.RobustModel.{RobustModel, Sense, minimise, maximise
 use Rattle.rob_meaning.specs.SetRows as meaning
 use Rattle.rob_meaning.specs.SetRows.{set_rows, set_column_count, whole_row, whole_limit}
 use Rattle.rob_meaning.proofs.MatrixLemmas.{matrix_height, matrix_rows}
-use Rattle.rob_sets.specs.SetForm.{cleared_row, IsSetForm, RowFits}
+use Rattle.rob_sets.specs.SetForm.{cleared_row, IsSetForm, RowFits, SetFits}
 use Rattle.rob_sets.specs.SetProgram.{left_sides, right_sides}
 use Rattle.rob_sets.specs.declared.set_form.SetForm.{SetForm}
 use Rattle.rob_sets.specs.declared.set_form.SetRow.{SetRow}
 use Rattle.rob_model.specs.View.{sense_of}
-use Rattle.rob_elab.specs.Forms.{IsForms, MatrixFits}
+use Rattle.rob_elab.specs.Elaborated.{AreElaborated}
+use Rattle.rob_elab.specs.Forms.{FormsFit, IsForms, MatrixFits}
 use Rattle.rob_elab.specs.declared.forms.Forms.{Forms}
 use Rattle.rob_counterpart.specs.RobustProgram.{RobustProgram}
 use Rattle.rob_counterpart.specs.Counterpart.{cell, sign_of, robust_of}
 use Rattle.rob_counterpart.proofs.ModelLemmas.{set_shape}
-use Rattle.rob_dualize.specs.Wholes.{AreOfOneModel, wholes, AreSound, IsSound, Fit}
+use Rattle.rob_dualize.specs.Wholes.{wholes, AreSound, IsSound}
 
 -- ---- the model's numbers
 lefts_are : (m : RobustModel) (rows : List meaning.SetRow) → left_sides (map (cleared_row m) rows) ≡ map (whole_row m) rows
@@ -97,18 +98,18 @@ rights_fit : (limit : ℕ) (rows : List SetRow) → Each (RowFits limit) rows �
 rights_fit limit [] h = tt
 rights_fit limit (r ∷ rows) h = (h.0.right_side, rights_fit limit rows h.1)
 
-module _ (limit : ℕ) (forms : Forms) (set : SetForm) (h : Fit limit forms set) where
+module _ (limit : ℕ) (forms : Forms) (set : SetForm) (h : FormsFit limit forms) (k : SetFits limit set) where
   pub form_fits : (i k j : ℕ) → nat_abs (cell (matrix_at forms.matrices i) k j) ≤ limit
-  form_fits = form_small limit forms.matrices h.0
+  form_fits = form_small limit forms.matrices h
 
   pub left_fits : (r c : ℕ) → nat_abs (cell (left_sides set.rows) r c) ≤ limit
-  left_fits = cell_small limit (left_sides set.rows) (lefts_fit limit set.rows h.1)
+  left_fits = cell_small limit (left_sides set.rows) (lefts_fit limit set.rows k)
 
   pub right_fits : (r : ℕ) → nat_abs (at (right_sides set.rows) r) ≤ limit
-  right_fits = at_small limit (right_sides set.rows) (rights_fit limit set.rows h.1)
+  right_fits = at_small limit (right_sides set.rows) (rights_fit limit set.rows k)
 
 -- ---- both
-module _ (forms : Forms) (set : SetForm) (one : AreOfOneModel forms set) (fit : Fit (2 ^ 62 - 1) forms set) where
+module _ (forms : Forms) (set : SetForm) (one : AreElaborated (2 ^ 62 - 1) forms set) where
   pub forms_sound : AreSound forms
   forms_sound =
       let m : RobustModel = one.model in
@@ -123,7 +124,7 @@ module _ (forms : Forms) (set : SetForm) (one : AreOfOneModel forms set) (fit : 
             ∙ row_length (form_columns one.model) (matrix_at (matrices one.model) i) k (matrix_rows one.model i)
             (let g : length (matrix_at forms.matrices i) ≡ suc forms.params = height i l in subst (λ (all : List (List (List ℤ))). k < length (matrix_at all i)) e (omega arith))
             ∙ ap (λ n. suc (suc n)) (sym one.are_forms.columns);
-        small = form_fits (2 ^ 62 - 1) forms set fit;
+        small = form_fits (2 ^ 62 - 1) forms set one.forms_fit one.set_fits;
       }
 
   pub set_sound : IsSound set
@@ -133,13 +134,9 @@ module _ (forms : Forms) (set : SetForm) (one : AreOfOneModel forms set) (fit : 
         columns = λ r rl. ap (λ rows. length (slice_index_or rows r [])) l
             ∙ row_width one.model (set_column_count one.model) (set_rows one.model) r (set_shape one.model) (let e : length set.rows ≡ length (set_rows one.model) = ap length one.is_set.rows ∙ length-map (set_rows one.model) (cleared_row one.model) in omega arith)
             ∙ sym one.is_set.columns;
-        small_left = left_fits (2 ^ 62 - 1) forms set fit;
-        small_right = right_fits (2 ^ 62 - 1) forms set fit;
+        small_left = left_fits (2 ^ 62 - 1) forms set one.forms_fit one.set_fits;
+        small_right = right_fits (2 ^ 62 - 1) forms set one.forms_fit one.set_fits;
       }
-
-  -- the counterpart is the model's, with numbers as small as those of the forms and the set rows
-  pub wholes_model : wholes forms set ≡ robust_of one.model
-  wholes_model = wholes_are one.model forms set one.are_forms one.is_set
 
 pub sense_small : (limit : ℕ) (forms : Forms) → 1 ≤ limit → nat_abs (sign_of (sense_of forms.sense)) ≤ limit
 sense_small limit forms l = by (sense_of forms.sense)
@@ -148,8 +145,17 @@ sense_small limit forms l = by (sense_of forms.sense)
     by minimise = l
     by maximise = l
 
-pub fit_weaker : (limit bigger : ℕ) (forms : Forms) (set : SetForm) → limit ≤ bigger → Fit limit forms set → Fit bigger forms set
-fit_weaker limit bigger forms set l h = (matrices_weaker forms.matrices h.0, rows_weaker set.rows h.1)
+-- numbers within a limit are within a greater one
+pub elaborated_weaker : {limit : ℕ} (bigger : ℕ) (forms : Forms) (set : SetForm) → limit ≤ bigger → AreElaborated limit forms set → AreElaborated bigger forms set
+elaborated_weaker {limit} bigger forms set l h = record {
+  model = h.model;
+  elaborated = record {
+    are_forms = h.are_forms;
+    is_set = h.is_set;
+    forms_fit = matrices_weaker forms.matrices h.forms_fit;
+    set_fits = rows_weaker set.rows h.set_fits;
+  };
+}
   where
     numbers_weaker : (xs : List ℤ) → Each (λ a. nat_abs a ≤ limit) xs → Each (λ a. nat_abs a ≤ bigger) xs
     numbers_weaker [] h = tt

@@ -87,16 +87,16 @@ pub record TellsWideRow (limit : ℕ) (P : Program) (basis : List ℕ) (i : ℕ)
 
 -- the row of that position is wide at the told basis, which is on the path of the set's program, or, where some scenario
 -- is admitted, of the counterpart
-abbrev pub IsWideSpot : ℕ → RobustModel → Spot → Type 0
-IsWideSpot limit m (spot.Dictionary program.Set basis i) = TellsWideRow limit (set_program m) basis i
-IsWideSpot limit m (spot.Dictionary program.Reform basis i) =
+abbrev pub IsWideOnPath : ℕ → RobustModel → Spot → Type 0
+IsWideOnPath limit m (spot.Dictionary program.Set basis i) = TellsWideRow limit (set_program m) basis i
+IsWideOnPath limit m (spot.Dictionary program.Reform basis i) =
     ((scenario : List Fraction) × Admits m scenario) × TellsWideRow limit (counterpart m) basis i
-IsWideSpot limit m other = ⊥
+IsWideOnPath limit m other = ⊥
 
 -- each refusal with what stands behind it; memory is free
 abbrev pub HasCause : ℕ → RobustModel → Stop → Type 0
 HasCause limit m (EmptySet weights) = IsShownEmpty m (map of_int weights)
-HasCause limit m (Wide place trace) = IsWideSpot limit m place × (trace.rounds ≡ [])
+HasCause limit m (Wide place trace) = IsWideOnPath limit m place × (trace.rounds ≡ [])
 HasCause limit m Memory = ⊤
 
 -- what a refusal has counted of wide results

@@ -3,23 +3,14 @@ use Rattle.std.specs.Prelude.{◌≡◌, ℕ, suc, ◌+◌, ◌-◌, ◌^◌, �
 use Rattle.rob_linear.specs.Vectors.{at}
 use Rattle.rob_linear.specs.Programs.{Program}
 use Rattle.rob_meaning.specs.Forms.{matrix_at}
-use Rattle.rob_meaning.specs.RobustModel.{RobustModel}
 use Rattle.rob_model.specs.View.{sense_of}
-use Rattle.rob_sets.specs.SetForm.{IsSetForm, SetFits}
 use Rattle.rob_sets.specs.SetProgram.{left_sides, right_sides}
 use Rattle.rob_sets.specs.declared.set_form.SetForm.{SetForm}
-use Rattle.rob_elab.specs.Forms.{IsForms, FormsFit}
 use Rattle.rob_elab.specs.declared.forms.Forms.{Forms}
 use Rattle.rob_counterpart.specs.RobustProgram.{RobustProgram}
 use Rattle.rob_counterpart.specs.Counterpart.{cell, sign_of}
 use Rattle.rob_counterpart.specs.Reform.{reform}
 use Rattle.rob_counterpart.specs.SetPrograms.{set_of}
-
--- the forms and the set rows are those of one model
-pub record AreOfOneModel (forms : Forms) (set : SetForm) : Type 0 where
-  pub model : RobustModel
-  pub are_forms : IsForms model forms
-  pub is_set : IsSetForm model set
 
 -- the whole numbers of the forms and the set rows
 abbrev pub wholes : Forms → SetForm → RobustProgram
@@ -60,7 +51,3 @@ pub record IsSound (set : SetForm) : Type 0 where
   pub columns : (r : ℕ) → r < length set.rows → length (slice_index_or (left_sides set.rows) r []) ≡ set.columns
   pub small_left : (r c : ℕ) → nat_abs (cell (left_sides set.rows) r c) ≤ 2 ^ 62 - 1
   pub small_right : (r : ℕ) → nat_abs (at (right_sides set.rows) r) ≤ 2 ^ 62 - 1
-
--- no number of the forms and the set rows is over the limit in size
-abbrev pub Fit : ℕ → Forms → SetForm → Type 0
-Fit limit forms set = FormsFit limit forms × SetFits limit set

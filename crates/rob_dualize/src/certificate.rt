@@ -7,7 +7,7 @@ ghost use Rattle.rob_cert.specs.View.{certificate_of};
 ghost use Rattle.rob_dualize.specs.Ending.{HasEnded, read_from};
 ghost use Rattle.rob_dualize.specs.Wholes.{wholes, counterpart_of, IsFew};
 
-use crate::counterpart::{column_count, row_count};
+use crate::counterpart::{program_columns, program_rows};
 use crate::reading::{covers, items, pair_difference, pair_differences};
 use crate::told::{dual_values, exact_weights, point, ray, whole};
 use rob_cert::{Cert, Status};
@@ -55,8 +55,8 @@ fn optimal<N: Exact>(
         ≡ read_from (wholes forms.now set.now) (scenario_of N.value inside) kind.Optimal work.now) }
 {
     let decisions = forms.columns as usize;
-    let x = point(alloc, work, column_count(forms, set) as u32)?;
-    let y = dual_values(alloc, work, row_count(forms, set) as u32)?;
+    let x = point(alloc, work, program_columns(forms, set) as u32)?;
+    let y = dual_values(alloc, work, program_rows(forms, set) as u32)?;
     let plan = pair_differences(alloc, x.items(), decisions)?;
     let covers = covers(alloc, forms, set, x.items())?;
     let items = items(alloc, forms, set, y.items())?;
@@ -88,7 +88,7 @@ fn infeasible<N: Exact>(
     ensures certificate { IfOk result (λ cert. certificate_of N.value cert
         ≡ read_from (wholes forms.now set.now) (scenario_of N.value inside) kind.Infeasible work.now) }
 {
-    let weights = exact_weights(alloc, work, row_count(forms, set) as u32)?;
+    let weights = exact_weights(alloc, work, program_rows(forms, set) as u32)?;
     let items = items(alloc, forms, set, weights.items())?;
     Ok(Cert {
         status: Status::Infeasible,
@@ -118,7 +118,7 @@ fn unbounded<N: Exact>(
         ≡ read_from (wholes forms.now set.now) (scenario_of N.value inside) kind.Unbounded work.now) }
 {
     let decisions = forms.columns as usize;
-    let count = column_count(forms, set) as u32;
+    let count = program_columns(forms, set) as u32;
     let x = point(alloc, work, count)?;
     let r = ray(alloc, work, count)?;
     let plan = pair_differences(alloc, x.items(), decisions)?;

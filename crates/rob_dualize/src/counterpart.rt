@@ -3,13 +3,14 @@
 ghost use Rattle.std.specs.Prelude.{◌≡◌, ◌<◌, ◌≤◌, ◌-◌, ◌^◌, ℕ, length, IfOk};
 ghost use Rattle.rob_meaning.specs.Places.{tabulate};
 ghost use Rattle.rob_meaning.specs.RobustModel.{RobustModel};
-ghost use Rattle.rob_sets.specs.SetForm.{IsSetForm};
-ghost use Rattle.rob_elab.specs.Forms.{IsForms};
+ghost use Rattle.rob_sets.specs.SetForm.{IsSetForm, SetFits};
+ghost use Rattle.rob_elab.specs.Elaborated.{AreElaborated};
+ghost use Rattle.rob_elab.specs.Forms.{FormsFit, IsForms};
 ghost use Rattle.rob_rows.specs.LinearPrograms.{IsShaped, HasNumbersWithin, program_of};
 ghost use Rattle.rob_counterpart.specs.Counterpart.{counterpart};
 ghost use Rattle.rob_counterpart.specs.Reform.{block, row_entry, tau_cost};
 ghost use Rattle.rob_counterpart.specs.SamePrograms.{AreSame};
-ghost use Rattle.rob_dualize.specs.Wholes.{AreOfOneModel, wholes, counterpart_of, IsFew, AreSound, IsSound, Fit};
+ghost use Rattle.rob_dualize.specs.Wholes.{wholes, counterpart_of, IsFew, AreSound, IsSound};
 
 use crate::entries::{cost_number, right_number, row_number};
 use rob_elab::Forms;
@@ -24,15 +25,15 @@ use std::alloc::Global;
 /// with the positive multipliers first; then one row that bounds the multipliers' sum of the right sides. (Ben-Tal, El Ghaoui,
 /// Nemirovski, Robust Optimization, chapter 1.)
 pub fn reform(alloc: Global, forms: &Forms, set: &SetForm) -> Result<Lp, Memory>
-    requires model { AreOfOneModel forms.now set.now }
-    requires fit { Fit (2 ^ 62 - 1) forms.now set.now }
+    requires model { AreElaborated (2 ^ 62 - 1) forms.now set.now }
     requires few { IsFew (counterpart_of forms.now set.now) }
     // The numbers of the model's counterpart.
     ensures program { IfOk result (λ lp. (m : RobustModel) → IsForms m forms.now → IsSetForm m set.now
         → AreSame (program_of lp) (counterpart m)) }
     ensures shaped { IfOk result (λ lp. IsShaped lp) }
     // None is wider than those of the forms and the set rows.
-    ensures within { IfOk result (λ lp. (limit : ℕ) → 1 ≤ limit → Fit limit forms.now set.now → HasNumbersWithin limit lp) }
+    ensures within { IfOk result (λ lp. (limit : ℕ) → 1 ≤ limit → FormsFit limit forms.now → SetFits limit set.now
+        → HasNumbersWithin limit lp) }
 {
     let rows = 2 * set.columns as usize + 1;
     let mut a = List::new(alloc);
@@ -55,7 +56,7 @@ fn row(alloc: Global, forms: &Forms, set: &SetForm, i: usize, p: usize) -> Resul
     requires form_in { i < length forms.now.matrices }
     ensures row { IfOk result (λ row. row ≡ tabulate (counterpart_of forms.now set.now).n (row_entry (wholes forms.now set.now) i p)) }
 {
-    let columns = column_count(forms, set);
+    let columns = program_columns(forms, set);
     let mut numbers = Vec::with_capacity(alloc, columns)?;
     for k in 0..columns {
         numbers.push(row_number(forms, set, i, p, k))?;
@@ -69,14 +70,14 @@ fn costs(alloc: Global, forms: &Forms, set: &SetForm) -> Result<List<i64>, Memor
     ensures costs { IfOk result (λ costs. costs ≡ tabulate (counterpart_of forms.now set.now).n (tau_cost (wholes forms.now set.now))) }
 {
     let mut numbers = List::new(alloc);
-    for k in 0..column_count(forms, set) {
+    for k in 0..program_columns(forms, set) {
         numbers.push(cost_number(forms, set, k))?;
     }
     Ok(numbers)
 }
 
 /// The number of columns.
-pub fn column_count(forms: &Forms, set: &SetForm) -> usize
+pub fn program_columns(forms: &Forms, set: &SetForm) -> usize
     requires few { IsFew (counterpart_of forms.now set.now) }
     ensures count { result ≡ (counterpart_of forms.now set.now).n }
 {
@@ -84,7 +85,7 @@ pub fn column_count(forms: &Forms, set: &SetForm) -> usize
 }
 
 /// The number of rows.
-pub fn row_count(forms: &Forms, set: &SetForm) -> usize
+pub fn program_rows(forms: &Forms, set: &SetForm) -> usize
     requires few { IsFew (counterpart_of forms.now set.now) }
     ensures count { result ≡ (counterpart_of forms.now set.now).m }
 {

@@ -17,7 +17,7 @@ ghost use Rattle.rob_sets.specs.declared.set_form.SetForm.{SetForm};
 ghost use Rattle.rob_elab.specs.Forms.{IsForms};
 ghost use Rattle.rob_elab.specs.declared.forms.Forms.{Forms};
 ghost use Rattle.rob_dualize.specs.SmallestModel.{one_demand};
-ghost use Rattle.rob_dualize.specs.Solving.{IsNarrowModel, IsWideSpot};
+ghost use Rattle.rob_dualize.specs.Solving.{IsNarrowModel, IsWideOnPath};
 ghost use Rattle.rob_dualize.specs.Wholes.{counterpart_of, IsFew};
 
 /// Models within the limits can be solved. It does nothing, and its clause is the claim.
@@ -42,5 +42,5 @@ pub fn smallest_model()
     // Its numbers are so small that no row of either program is wide with 62 bits,
     ensures narrow { IsNarrowModel (2 ^ 62 - 1) one_demand }
     // so none is named.
-    ensures not_wide { (spot : Spot) → ¬ (IsWideSpot (2 ^ 62 - 1) one_demand spot) }
+    ensures not_wide { (spot : Spot) → ¬ (IsWideOnPath (2 ^ 62 - 1) one_demand spot) }
 {}

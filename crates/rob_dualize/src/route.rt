@@ -1,16 +1,18 @@
 // The route: the set's program first, then the counterpart.
 
-ghost use Rattle.std.specs.Prelude.{◌≡◌, ◌≤◌, ℕ, IfOk};
+ghost use Rattle.std.specs.Prelude.{◌≡◌, ℕ, IfOk};
 ghost use Rattle.rob_meaning.specs.RobustModel.{RobustModel};
 ghost use Rattle.rob_meaning.specs.WellFormed.{IsModel};
+ghost use Rattle.rob_number.specs.Counts.{NeverFell};
 ghost use Rattle.rob_sets.specs.SetForm.{IsSetForm};
+ghost use Rattle.rob_elab.specs.Elaborated.{AreElaborated};
 ghost use Rattle.rob_elab.specs.Forms.{IsForms};
 ghost use Rattle.rob_dualize.specs.Ending.{IsMadeAs};
 ghost use Rattle.rob_dualize.specs.Solving.{Solves};
-ghost use Rattle.rob_dualize.specs.Wholes.{AreOfOneModel, counterpart_of, IsFew, Fit};
+ghost use Rattle.rob_dualize.specs.Wholes.{counterpart_of, IsFew};
 
 use crate::certificate::certificate;
-use crate::counterpart::{reform, row_count};
+use crate::counterpart::{reform, program_rows};
 use crate::scenario::scenario;
 use crate::stop::{or_stop, position, wide};
 use rob_cert::{Cert, Stop};
@@ -32,12 +34,11 @@ pub fn solve_dual<N: Exact, L: Ledger>(
     set: &SetForm,
     ledger: &mut L,
 ) -> Result<Cert<N>, Stop>
-    requires model { AreOfOneModel forms.now set.now }
-    requires fit { Fit N.limit forms.now set.now }
+    requires model { AreElaborated N.limit forms.now set.now }
     requires few { IsFew (counterpart_of forms.now set.now) }
     ensures solves { (m : RobustModel) → IsModel m → IsForms m forms.now → IsSetForm m set.now
         → Solves N.value N.limit m (L.wides ledger.old) (L.wides ledger.new) result }
-    ensures ops { L.ops ledger.old ≤ L.ops ledger.new }
+    ensures counted { NeverFell L.ops L.wides ledger.old ledger.new }
 {
     let inside = match scenario(alloc, forms, set, ledger) {
         Ok(inside) => inside,
@@ -50,7 +51,7 @@ pub fn solve_dual<N: Exact, L: Ledger>(
     match work.solve(ledger) {
         Ok(kind) => or_stop(certificate(alloc, forms, set, &work, kind, inside)),
         Err(stop) => {
-            let rows = row_count(forms, set) as u32;
+            let rows = program_rows(forms, set) as u32;
             Err(wide(alloc, &work, Program::Reform, rows, position(stop)))
         }
     }
@@ -62,8 +63,7 @@ fn counterpart_work<N: Exact>(
     forms: &Forms,
     set: &SetForm,
 ) -> Result<Work<N>, Memory>
-    requires model { AreOfOneModel forms.now set.now }
-    requires fit { Fit N.limit forms.now set.now }
+    requires model { AreElaborated N.limit forms.now set.now }
     requires few { IsFew (counterpart_of forms.now set.now) }
     ensures made { IfOk result (λ work. IsMadeAs (counterpart_of forms.now set.now) work) }
 {

@@ -1,15 +1,17 @@
 // A scenario that is admitted, or weights that show that there is none.
 
-ghost use Rattle.std.specs.Prelude.{◌≡◌, ◌<◌, ◌≤◌, ◌^◌, ℕ, length, IfOk};
+ghost use Rattle.std.specs.Prelude.{◌≡◌, ◌<◌, ◌^◌, ℕ, length, IfOk};
 ghost use Rattle.rob_meaning.specs.RobustModel.{RobustModel};
 ghost use Rattle.rob_meaning.specs.WellFormed.{IsModel};
 ghost use Rattle.rob_model.specs.View.{scenario_of};
+ghost use Rattle.rob_number.specs.Counts.{NeverFell};
 ghost use Rattle.rob_sets.specs.SetForm.{IsSetForm};
+ghost use Rattle.rob_elab.specs.Elaborated.{AreElaborated};
 ghost use Rattle.rob_elab.specs.Forms.{IsForms};
 ghost use Rattle.rob_dualize.specs.Ending.{HasEnded, HasLastPoint, IsMadeAs, IsTold};
 ghost use Rattle.rob_counterpart.specs.ReadNumbers.{differences};
 ghost use Rattle.rob_dualize.specs.Solving.{Finds};
-ghost use Rattle.rob_dualize.specs.Wholes.{AreOfOneModel, counterpart_of, IsFew, Fit, set_of_wholes};
+ghost use Rattle.rob_dualize.specs.Wholes.{counterpart_of, IsFew, set_of_wholes};
 ghost use Rattle.rob_simplex.specs.Solvers.{positions, HasPoint, HasWeights};
 ghost use Rattle.rob_simplex.specs.Solutions.{point_of, weights_of};
 
@@ -32,12 +34,11 @@ pub fn scenario<N: Exact, L: Ledger>(
     set: &SetForm,
     ledger: &mut L,
 ) -> Result<Scenario<N>, Stop>
-    requires model { AreOfOneModel forms.now set.now }
-    requires fit { Fit N.limit forms.now set.now }
+    requires model { AreElaborated N.limit forms.now set.now }
     requires few { IsFew (counterpart_of forms.now set.now) }
     ensures found { (m : RobustModel) → IsModel m → IsForms m forms.now → IsSetForm m set.now
         → Finds N.value N.limit m (L.wides ledger.old) (L.wides ledger.new) result }
-    ensures ops { L.ops ledger.old ≤ L.ops ledger.new }
+    ensures counted { NeverFell L.ops L.wides ledger.old ledger.new }
 {
     let mut work = match set_work::<N>(alloc, forms, set) {
         Ok(work) => work,
@@ -60,7 +61,7 @@ fn read_scenario<N: Exact>(
     work: &Work<N>,
     kind: LpKind,
 ) -> Result<Scenario<N>, Stop>
-    requires model { AreOfOneModel forms.now set.now }
+    requires model { AreElaborated N.limit forms.now set.now }
     requires few { IsFew (counterpart_of forms.now set.now) }
     requires ended { HasEnded (set_of_wholes forms.now set.now) kind work.now }
     ensures found { (m : RobustModel) (n : ℕ) → IsModel m → IsForms m forms.now → IsSetForm m set.now
@@ -89,8 +90,7 @@ fn empty_set<N: Exact>(alloc: Global, set: &SetForm, work: &Work<N>) -> Result<S
 
 /// A solver of the set's program.
 fn set_work<N: Exact>(alloc: Global, forms: &Forms, set: &SetForm) -> Result<Work<N>, Memory>
-    requires model { AreOfOneModel forms.now set.now }
-    requires fit { Fit N.limit forms.now set.now }
+    requires model { AreElaborated N.limit forms.now set.now }
     requires few { IsFew (counterpart_of forms.now set.now) }
     ensures made { IfOk result (λ work. IsMadeAs (set_of_wholes forms.now set.now) work) }
 {
@@ -105,7 +105,7 @@ fn parameters<N: Exact>(
     set: &SetForm,
     work: &Work<N>,
 ) -> Result<Scenario<N>, Memory>
-    requires model { AreOfOneModel forms.now set.now }
+    requires model { AreElaborated N.limit forms.now set.now }
     requires few { IsFew (set_of_wholes forms.now set.now) }
     requires columns { work.now.columns ≡ (set_of_wholes forms.now set.now).n }
     requires point { HasPoint work.now }

@@ -1,6 +1,6 @@
 -- The forms that a loop has left, and how many forms a model has.
-use Rattle.std.specs.Prelude.{◌≡◌, ℕ, suc, ◌+◌, ◌*◌, ◌≤◌, ◌<◌, List, [], ◌∷◌, ◌++◌, length, map, drop, Option, option_map}
-use Rattle.std.proofs.Common.{sym, ◌∙◌, ap, ap₂, arith, get_or, add-one}
+use Rattle.std.specs.Prelude.{◌≡◌, ℕ, suc, ◌+◌, ◌*◌, ◌≤◌, List, [], ◌∷◌, ◌++◌, length, map, drop, Option, option_map, refl}
+use Rattle.std.proofs.Common.{sym, ◌∙◌, ap, ap₂, arith, add-one}
 use Rattle.rob_algebra.specs.Fraction.{Fraction}
 use Rattle.rob_meaning.specs.Expressions.{Expression, number, variable, adaptive}
 use Rattle.rob_meaning.specs.Forms.{adaptive_forms, bound_forms, difference, row_forms, sides, variable_forms}
@@ -10,8 +10,10 @@ use Rattle.rob_model.specs.View.{adaptive_of, expression_of, relation_of, row_of
 use Rattle.rob_model.specs.declared.model.Adaptive.{Adaptive}
 use Rattle.rob_model.specs.declared.model.RowDef.{RowDef}
 use Rattle.rob_model.specs.declared.model.Var.{Var}
-use Rattle.rob_model.proofs.PartLemmas.{drop_at, drop_past}
+use Rattle.rob_model.specs.declared.expr.Expr.TheVariants as Is
 use Rattle.rob_sets.proofs.BoundRowLemmas.{length-declared}
+use Rattle.rob_sets.proofs.PartedLemmas.{Parted}
+use Rattle.rob_sets.proofs.PrefixLemmas.{adaptive_is, variable_is}
 use Rattle.rob_sets.proofs.ProgressLemmas.{length-both}
 
 -- ---- how many
@@ -57,37 +59,39 @@ module _ {N : Type 0} (value : N → Fraction) where
   abbrev pub other_rows : List (RowDef N) → ℕ → List Expression
   other_rows rs i = row_forms (map (row_of value) (drop i rs))
 
-  pub rows_at : (rs : List (RowDef N)) (i : ℕ) (r : RowDef N) → i < length rs → r ≡ get_or rs i r
-      → other_rows rs i ≡ sides (relation_of r.rel) (expression_of value r.left) (expression_of value r.right) ++ other_rows rs (i + 1)
-  rows_at rs i r h e = ap (λ (xs : List (RowDef N)). row_forms (map (row_of value) xs)) (drop_at rs i r h e)
+  pub rows_at : (rs : List (RowDef N)) (i : ℕ) {r : RowDef N} → drop i rs ≡ r ∷ drop (i + 1) rs
+      → Parted (other_rows rs i) (sides (relation_of r.rel) (expression_of value r.left) (expression_of value r.right)) (other_rows rs (i + 1))
+  rows_at rs i at = record { is = ap (λ (xs : List (RowDef N)). row_forms (map (row_of value) xs)) at }
 
-  pub rows_end : (rs : List (RowDef N)) (i : ℕ) → length rs ≤ i → other_rows rs i ≡ []
-  rows_end rs i h = ap (λ (xs : List (RowDef N)). row_forms (map (row_of value) xs)) (drop_past rs i h)
+  pub rows_end : (rs : List (RowDef N)) (i : ℕ) → drop i rs ≡ [] → other_rows rs i ≡ []
+  rows_end rs i over = ap (λ (xs : List (RowDef N)). row_forms (map (row_of value) xs)) over
 
   -- the forms of the bounds of the variables from a place on
   abbrev pub other_variables : List (Var N) → ℕ → List Expression
   other_variables xs i = variable_forms i (map (variable_of value) (drop i xs))
 
-  pub variables_at : (xs : List (Var N)) (i n : ℕ) (x : Var N) (e : Expression) → i < length xs → x ≡ get_or xs i x → n ≡ i → e ≡ variable n
-      → other_variables xs i ≡ bound_forms e (option_map value x.lower) (option_map value x.upper) ++ other_variables xs (i + 1)
-  variables_at xs i n x e h is same named =
-      ap (λ (ys : List (Var N)). variable_forms i (map (variable_of value) ys)) (drop_at xs i x h is)
+  pub variables_at : (xs : List (Var N)) (i n : ℕ) {x : Var N} → drop i xs ≡ x ∷ drop (i + 1) xs → n ≡ i
+      → Parted (other_variables xs i) (bound_forms (expression_of value (Is.Var n)) (option_map value x.lower) (option_map value x.upper)) (other_variables xs (i + 1))
+  variables_at xs i n {x} at same = record {
+    is = ap (λ (ys : List (Var N)). variable_forms i (map (variable_of value) ys)) at
       ∙ ap₂ (λ (y : Expression) a. bound_forms y (option_map value x.lower) (option_map value x.upper) ++ variable_forms a (map (variable_of value) (drop (i + 1) xs)))
-      (sym (named ∙ ap variable same)) (sym (add-one i))
+      (sym (variable_is value (Is.Var n) n refl ∙ ap variable same)) (sym (add-one i));
+  }
 
-  pub variables_end : (xs : List (Var N)) (i : ℕ) → length xs ≤ i → other_variables xs i ≡ []
-  variables_end xs i h = ap (λ (ys : List (Var N)). variable_forms i (map (variable_of value) ys)) (drop_past xs i h)
+  pub variables_end : (xs : List (Var N)) (i : ℕ) → drop i xs ≡ [] → other_variables xs i ≡ []
+  variables_end xs i over = ap (λ (ys : List (Var N)). variable_forms i (map (variable_of value) ys)) over
 
   -- the forms of the bounds of the adaptive variables from a place on
   abbrev pub other_rules : List (Adaptive N) → ℕ → List Expression
   other_rules ys i = adaptive_forms i (map (adaptive_of value) (drop i ys))
 
-  pub rules_at : (ys : List (Adaptive N)) (i n : ℕ) (y : Adaptive N) (e : Expression) → i < length ys → y ≡ get_or ys i y → n ≡ i → e ≡ adaptive n
-      → other_rules ys i ≡ bound_forms e (option_map value y.lower) (option_map value y.upper) ++ other_rules ys (i + 1)
-  rules_at ys i n y e h is same named =
-      ap (λ (zs : List (Adaptive N)). adaptive_forms i (map (adaptive_of value) zs)) (drop_at ys i y h is)
+  pub rules_at : (ys : List (Adaptive N)) (i n : ℕ) {y : Adaptive N} → drop i ys ≡ y ∷ drop (i + 1) ys → n ≡ i
+      → Parted (other_rules ys i) (bound_forms (expression_of value (Is.Adaptive n)) (option_map value y.lower) (option_map value y.upper)) (other_rules ys (i + 1))
+  rules_at ys i n {y} at same = record {
+    is = ap (λ (zs : List (Adaptive N)). adaptive_forms i (map (adaptive_of value) zs)) at
       ∙ ap₂ (λ (z : Expression) a. bound_forms z (option_map value y.lower) (option_map value y.upper) ++ adaptive_forms a (map (adaptive_of value) (drop (i + 1) ys)))
-      (sym (named ∙ ap adaptive same)) (sym (add-one i))
+      (sym (adaptive_is value (Is.Adaptive n) n refl ∙ ap adaptive same)) (sym (add-one i));
+  }
 
-  pub rules_end : (ys : List (Adaptive N)) (i : ℕ) → length ys ≤ i → other_rules ys i ≡ []
-  rules_end ys i h = ap (λ (zs : List (Adaptive N)). adaptive_forms i (map (adaptive_of value) zs)) (drop_past ys i h)
+  pub rules_end : (ys : List (Adaptive N)) (i : ℕ) → drop i ys ≡ [] → other_rules ys i ≡ []
+  rules_end ys i over = ap (λ (zs : List (Adaptive N)). adaptive_forms i (map (adaptive_of value) zs)) over

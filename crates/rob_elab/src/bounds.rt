@@ -1,6 +1,7 @@
 // The forms of the declared bounds of variables and of adaptive variables.
 
-ghost use Rattle.std.specs.Prelude.{◌≡◌, ◌≤◌, ◌<◌, ◌+◌, ◌∷◌, [], zero, length, option_map, if◌then◌else◌};
+ghost use Rattle.std.specs.Prelude.{◌≡◌, ◌<◌, ◌+◌, ◌∷◌, [], zero, length, option_map, if◌then◌else◌};
+ghost use Rattle.rob_number.specs.Counts.{NeverFell};
 ghost use Rattle.rob_meaning.specs.Expressions.{number as constant};
 ghost use Rattle.rob_meaning.specs.SetConditions.{if_declared};
 ghost use Rattle.rob_meaning.specs.Forms.{adaptive_forms, bound_forms, difference, variable_forms};
@@ -27,8 +28,7 @@ pub fn append_variable_bounds<N: Exact, L: Ledger>(
     ensures forms { Appends N.limit (robust N.value model.now) (length matrices.old)
         (variable_forms zero (robust N.value model.now).variables)
         matrices.old matrices.new (L.wides ledger.old) (L.wides ledger.new) result }
-    ensures ops { L.ops ledger.old ≤ L.ops ledger.new }
-    ensures wides { L.wides ledger.old ≤ L.wides ledger.new }
+    ensures counted { NeverFell L.ops L.wides ledger.old ledger.new }
 {
     let mut number: u32 = 0;
     for variable in model.vars.items() {
@@ -59,8 +59,7 @@ pub fn append_adaptive_bounds<N: Exact, L: Ledger>(
     ensures forms { Appends N.limit (robust N.value model.now) (length matrices.old)
         (adaptive_forms zero (robust N.value model.now).adaptives)
         matrices.old matrices.new (L.wides ledger.old) (L.wides ledger.new) result }
-    ensures ops { L.ops ledger.old ≤ L.ops ledger.new }
-    ensures wides { L.wides ledger.old ≤ L.wides ledger.new }
+    ensures counted { NeverFell L.ops L.wides ledger.old ledger.new }
 {
     let mut number: u32 = 0;
     for rule in model.adaptives.items() {
@@ -95,8 +94,7 @@ fn append_bounds<N: Exact, L: Ledger>(
     ensures forms { Appends N.limit (robust N.value model.now) (length matrices.old)
         (bound_forms (expression_of N.value bounded.now) (option_map N.value lower.now) (option_map N.value upper.now))
         matrices.old matrices.new (L.wides ledger.old) (L.wides ledger.new) result }
-    ensures ops { L.ops ledger.old ≤ L.ops ledger.new }
-    ensures wides { L.wides ledger.old ≤ L.wides ledger.new }
+    ensures counted { NeverFell L.ops L.wides ledger.old ledger.new }
 {
     append_bound(alloc, model, bounded, lower, true, matrices, ledger)?;
     append_bound(alloc, model, bounded, upper, false, matrices, ledger)
@@ -119,8 +117,7 @@ fn append_bound<N: Exact, L: Ledger>(
         (if_declared (λ b. if lower then difference (constant b) (expression_of N.value bounded.now)
         else difference (expression_of N.value bounded.now) (constant b)) (option_map N.value bound.now))
         matrices.old matrices.new (L.wides ledger.old) (L.wides ledger.new) result }
-    ensures ops { L.ops ledger.old ≤ L.ops ledger.new }
-    ensures wides { L.wides ledger.old ≤ L.wides ledger.new }
+    ensures counted { NeverFell L.ops L.wides ledger.old ledger.new }
 {
     let Some(value) = bound else {
         return Ok(());

@@ -1,6 +1,7 @@
 // The forms of a model, in order.
 
-ghost use Rattle.std.specs.Prelude.{◌≡◌, ◌≤◌, zero, [], OnOk, IfOk, IfErr};
+ghost use Rattle.std.specs.Prelude.{◌≡◌, zero, [], OnOk, IfOk, IfErr};
+ghost use Rattle.rob_number.specs.Counts.{NeverFell};
 ghost use Rattle.rob_meaning.specs.Forms.{forms as forms_of};
 ghost use Rattle.rob_model.specs.Valid.{IsValid};
 ghost use Rattle.rob_model.specs.View.{robust};
@@ -35,8 +36,7 @@ pub fn elaborate<N: Exact, L: Ledger>(
     ensures none_wide { OnOk result (NothingWide N.limit (robust N.value model.now) (judged_forms (robust N.value model.now))) }
     ensures cause { IfErr result (HasCause N.limit (robust N.value model.now) (judged_forms (robust N.value model.now))) }
     ensures rose { IfErr result (RoseIfWide (L.wides ledger.old) (L.wides ledger.new)) }
-    ensures ops { L.ops ledger.old ≤ L.ops ledger.new }
-    ensures wides { L.wides ledger.old ≤ L.wides ledger.new }
+    ensures counted { NeverFell L.ops L.wides ledger.old ledger.new }
 {
     let mut matrices = List::new(alloc);
     append_forms(alloc, model, &mut matrices, ledger)?;
@@ -59,8 +59,7 @@ fn append_forms<N: Exact, L: Ledger>(
     requires empty { matrices.old ≡ [] }
     ensures forms { Appends N.limit (robust N.value model.now) zero (forms_of (robust N.value model.now))
         [] matrices.new (L.wides ledger.old) (L.wides ledger.new) result }
-    ensures ops { L.ops ledger.old ≤ L.ops ledger.new }
-    ensures wides { L.wides ledger.old ≤ L.wides ledger.new }
+    ensures counted { NeverFell L.ops L.wides ledger.old ledger.new }
 {
     append_objective(alloc, model, matrices, ledger)?;
     append_rows(alloc, model, matrices, ledger)?;

@@ -2,7 +2,7 @@
 
 ghost use Rattle.std.specs.Prelude.{◌≡◌, ◌≤◌, ◌<◌, ◌+◌, ◌++◌, ◌∷◌, [], ℕ, map, length, OnOk, IfOk, IfErr, MatchOption};
 ghost use Rattle.rob_algebra.specs.Width.{IsWideWhole};
-ghost use Rattle.rob_number.specs.Counts.{Rose};
+ghost use Rattle.rob_number.specs.Counts.{Rose, NeverFell};
 ghost use Rattle.rob_meaning.specs.Clearing.{cleared as cleared_matrix, denominator, entries, whole_at};
 ghost use Rattle.rob_meaning.specs.Forms.{entries_of};
 ghost use Rattle.rob_meaning.specs.Places.{tabulate};
@@ -32,8 +32,7 @@ fn table_row<N: Exact, L: Ledger>(
     ledger: &mut L,
 ) -> Result<List<N>, Memory>
     ensures numbers { IfOk result (λ list. map N.value list ≡ tabulate columns (numbers_of N.value table.now row)) }
-    ensures ops { L.ops ledger.old ≤ L.ops ledger.new }
-    ensures wides { L.wides ledger.old ≤ L.wides ledger.new }
+    ensures counted { NeverFell L.ops L.wides ledger.old ledger.new }
 {
     let mut numbers = List::new(alloc);
     for column in 0..columns {
@@ -53,8 +52,7 @@ fn table_rows<N: Exact, L: Ledger>(
 ) -> Result<List<List<N>>, Memory>
     ensures numbers { IfOk result (λ list. map (map N.value) list
         ≡ tabulate rows (λ k. tabulate columns (numbers_of N.value table.now k))) }
-    ensures ops { L.ops ledger.old ≤ L.ops ledger.new }
-    ensures wides { L.wides ledger.old ≤ L.wides ledger.new }
+    ensures counted { NeverFell L.ops L.wides ledger.old ledger.new }
 {
     let mut all = List::new(alloc);
     for row in 0..rows {
@@ -91,8 +89,7 @@ fn cleared_rows<N: Exact, L: Ledger>(
     ensures fits { IfOk result (λ list. MatrixFits N.limit list) }
     ensures wide { IfErr result (StopsFor (Rose (L.wides ledger.old) (L.wides ledger.new)
         × Some_of (λ q. IsWideWhole N.limit (whole_at common q)) (entries (map (map N.value) rows.now)))) }
-    ensures ops { L.ops ledger.old ≤ L.ops ledger.new }
-    ensures wides { L.wides ledger.old ≤ L.wides ledger.new }
+    ensures counted { NeverFell L.ops L.wides ledger.old ledger.new }
 {
     let mut matrix = List::new(alloc);
     for row in rows {
@@ -113,8 +110,7 @@ fn clear_rows<N: Exact, L: Ledger>(
     ensures not_wide { OnOk result (IsWideCleared N.limit (entries (map (map N.value) rows.now)) → ⊥) }
     ensures wide { IfErr result (StopsFor (Rose (L.wides ledger.old) (L.wides ledger.new)
         × IsWideCleared N.limit (entries (map (map N.value) rows.now)))) }
-    ensures ops { L.ops ledger.old ≤ L.ops ledger.new }
-    ensures wides { L.wides ledger.old ≤ L.wides ledger.new }
+    ensures counted { NeverFell L.ops L.wides ledger.old ledger.new }
 {
     match common_denominator(rows) {
         Some(common) => cleared_rows(alloc, rows, common, ledger),
@@ -144,8 +140,7 @@ pub fn append_form<N: Exact, L: Ledger>(
     ensures cause { IfErr result (StopsWith (Clearing (Form (length matrices.old)))
         (Rose (L.wides ledger.old) (L.wides ledger.new) × IsWideCleared N.limit
         (entries (entries_of (robust N.value model.now) (numbers_of N.value table.now))))) }
-    ensures ops { L.ops ledger.old ≤ L.ops ledger.new }
-    ensures wides { L.wides ledger.old ≤ L.wides ledger.new }
+    ensures counted { NeverFell L.ops L.wides ledger.old ledger.new }
 {
     let place = Where::Form(matrices.items().len() as u32);
     let columns = column_count(model) + 2;

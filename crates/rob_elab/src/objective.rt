@@ -1,9 +1,9 @@
 // The objective's form: the epigraph of the objective, with `tau` for its bound.
 
-ghost use Rattle.std.specs.Prelude.{◌≡◌, ◌≤◌, ◌<◌, ◌∷◌, [], ℕ, true, length, OnOk, IfOk, IfErr};
+ghost use Rattle.std.specs.Prelude.{◌≡◌, ◌<◌, ◌∷◌, [], ℕ, true, length, OnOk, IfOk, IfErr};
 ghost use Rattle.rob_algebra.specs.Fraction.{◌+ℚ◌};
 ghost use Rattle.rob_algebra.specs.Width.{IsWide};
-ghost use Rattle.rob_number.specs.Counts.{Rose};
+ghost use Rattle.rob_number.specs.Counts.{Rose, NeverFell};
 ghost use Rattle.rob_meaning.specs.Coefficients.{table as table_of};
 ghost use Rattle.rob_meaning.specs.Forms.{objective_form, tau_column};
 ghost use Rattle.rob_meaning.specs.Places.{Each};
@@ -34,8 +34,7 @@ fn less<N: Exact, L: Ledger>(
         ≡ numbers_of N.value left k j +ℚ signed true (numbers_of N.value right.now k j)) }
     ensures wide { IfErr result (StopsFor (Rose (L.wides ledger.old) (L.wides ledger.new) × ((k : ℕ) × (j : ℕ)
         × IsWide N.limit (numbers_of N.value left k j +ℚ signed true (numbers_of N.value right.now k j))))) }
-    ensures ops { L.ops ledger.old ≤ L.ops ledger.new }
-    ensures wides { L.wides ledger.old ≤ L.wides ledger.new }
+    ensures counted { NeverFell L.ops L.wides ledger.old ledger.new }
 {
     let mut table = left;
     table.join(true, right, ledger)?;
@@ -56,8 +55,7 @@ fn objective_table<N: Exact, L: Ledger>(
     ensures wide { IfErr result (StopsFor (Rose (L.wides ledger.old) (L.wides ledger.new)
         × Some_of (HasWideCoefficient N.limit (robust N.value model.now)) (subexpressions
         (objective_form (robust N.value model.now).sense (robust N.value model.now).objective (tau_column (robust N.value model.now)))))) }
-    ensures ops { L.ops ledger.old ≤ L.ops ledger.new }
-    ensures wides { L.wides ledger.old ≤ L.wides ledger.new }
+    ensures counted { NeverFell L.ops L.wides ledger.old ledger.new }
 {
     let goal = coefficients(alloc, &model.objective, model, ledger)?;
     let column = column_count(model) + 1;
@@ -80,8 +78,7 @@ pub fn append_objective<N: Exact, L: Ledger>(
     ensures form { Appends N.limit (robust N.value model.now) (length matrices.old)
         (objective_form (robust N.value model.now).sense (robust N.value model.now).objective (tau_column (robust N.value model.now)) ∷ [])
         matrices.old matrices.new (L.wides ledger.old) (L.wides ledger.new) result }
-    ensures ops { L.ops ledger.old ≤ L.ops ledger.new }
-    ensures wides { L.wides ledger.old ≤ L.wides ledger.new }
+    ensures counted { NeverFell L.ops L.wides ledger.old ledger.new }
 {
     let place = Where::Form(matrices.items().len() as u32);
     match objective_table(alloc, model, ledger) {

@@ -1,6 +1,7 @@
 // The forms of rows: differences of two sides.
 
-ghost use Rattle.std.specs.Prelude.{◌≡◌, ◌≤◌, ◌<◌, ◌+◌, ◌∷◌, [], length};
+ghost use Rattle.std.specs.Prelude.{◌≡◌, ◌<◌, ◌+◌, ◌∷◌, [], length};
+ghost use Rattle.rob_number.specs.Counts.{NeverFell};
 ghost use Rattle.rob_meaning.specs.Forms.{difference, row_forms, sides};
 ghost use Rattle.rob_meaning.specs.WellFormed.{IsExpression};
 ghost use Rattle.rob_model.specs.Valid.{IsValid};
@@ -31,8 +32,7 @@ pub fn append_difference<N: Exact, L: Ledger>(
     ensures form { Appends N.limit (robust N.value model.now) (length matrices.old)
         (difference (expression_of N.value left.now) (expression_of N.value right.now) ∷ [])
         matrices.old matrices.new (L.wides ledger.old) (L.wides ledger.new) result }
-    ensures ops { L.ops ledger.old ≤ L.ops ledger.new }
-    ensures wides { L.wides ledger.old ≤ L.wides ledger.new }
+    ensures counted { NeverFell L.ops L.wides ledger.old ledger.new }
 {
     let place = Where::Form(matrices.items().len() as u32);
     match difference_table(alloc, model, left, right, ledger) {
@@ -58,8 +58,7 @@ pub fn append_sides<N: Exact, L: Ledger>(
     ensures forms { Appends N.limit (robust N.value model.now) (length matrices.old)
         (sides (relation_of rel) (expression_of N.value left.now) (expression_of N.value right.now))
         matrices.old matrices.new (L.wides ledger.old) (L.wides ledger.new) result }
-    ensures ops { L.ops ledger.old ≤ L.ops ledger.new }
-    ensures wides { L.wides ledger.old ≤ L.wides ledger.new }
+    ensures counted { NeverFell L.ops L.wides ledger.old ledger.new }
 {
     match rel {
         Rel::AtMost => append_difference(alloc, model, left, right, matrices, ledger),
@@ -83,8 +82,7 @@ pub fn append_rows<N: Exact, L: Ledger>(
     ensures forms { Appends N.limit (robust N.value model.now) (length matrices.old)
         (row_forms (robust N.value model.now).rows)
         matrices.old matrices.new (L.wides ledger.old) (L.wides ledger.new) result }
-    ensures ops { L.ops ledger.old ≤ L.ops ledger.new }
-    ensures wides { L.wides ledger.old ≤ L.wides ledger.new }
+    ensures counted { NeverFell L.ops L.wides ledger.old ledger.new }
 {
     for row in model.rows.items() {
         append_sides(

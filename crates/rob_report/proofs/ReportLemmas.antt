@@ -7,7 +7,6 @@ use Rattle.rob_cert.specs.Spelling.{number_text, spaced}
 use Rattle.rob_meaning.specs.Names.{Name, parameter_name}
 use Rattle.rob_meaning.specs.Places.{at}
 use Rattle.rob_meaning.specs.RobustModel.{Parameter, AdaptiveVariable}
-use Rattle.rob_model.proofs.PartLemmas.{drop_past}
 use Rattle.rob_model.specs.View.{adaptive_of, variable_of}
 use Rattle.rob_model.specs.declared.model.Adaptive.{Adaptive}
 use Rattle.rob_model.specs.declared.model.Var.{Var}
@@ -73,8 +72,3 @@ module _ {N : Type 0} (value : N → Fraction) (plan : List Fraction) where
         (ap (λ c. policies_from c (drop (i + 1) ys)) (let e : column + (1 + count) ≡ suc column + length y.on = omega (arith, n) in e))
         ∙ ap (λ t. old ++ t) (sym (ap (policies_from column) (drop_here ys i y d h is)))
         ∙ before
-
-    pub policies_done : (ys : List (Adaptive N)) (i column : ℕ) (old total : List ℕ) → length ys ≤ i
-        → old ++ policies_from column (drop i ys) ≡ total → old ≡ total
-    policies_done ys i column old total h before =
-        sym (append-nil old) ∙ ap (λ t. old ++ t) (sym (ap (policies_from column) (drop_past ys i h))) ∙ before

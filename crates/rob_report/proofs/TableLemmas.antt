@@ -1,9 +1,8 @@
 -- Tables line by line, and the names of their values.
-use Rattle.std.proofs.Common.{◌≡◌, ℕ, ◌+◌, ◌<◌, ◌≤◌, List, [], ◌∷◌, ◌++◌, map, length, get_or, drop, refl, ap, sym, ◌∙◌, append_assoc, append-nil}
+use Rattle.std.proofs.Common.{◌≡◌, ℕ, ◌+◌, ◌<◌, ◌≤◌, List, [], ◌∷◌, ◌++◌, map, length, get_or, drop, refl, ap, sym, ◌∙◌, append_assoc}
 use Rattle.std.specs.Prelude.{flat_map}
 use Rattle.rob_algebra.specs.Fraction.{Fraction}
 use Rattle.rob_meaning.specs.Names.{Name}
-use Rattle.rob_model.proofs.PartLemmas.{drop_past}
 use Rattle.rob_report.proofs.PairLemmas.{drop_here}
 use Rattle.rob_report.specs.Lines.{for_pairs}
 use Rattle.rob_report.specs.Tables.{named_text, named_texts}
@@ -19,12 +18,6 @@ module _ {A B C : Type 0} (g : A → B) (f : B → List C) where
       ∙ ap (λ t. old ++ t) (sym (ap (λ l. flat_map f (map g l)) (drop_here xs i x d h is)))
       ∙ before
 
-  -- no item is left
-  pub pieces_done : (xs : List A) (i : ℕ) (old total : List C) → length xs ≤ i
-      → old ++ flat_map f (map g (drop i xs)) ≡ total → old ≡ total
-  pieces_done xs i old total h before =
-      sym (append-nil old) ∙ ap (λ t. old ++ t) (sym (ap (λ l. flat_map f (map g l)) (drop_past xs i h))) ∙ before
-
 module _ {A B C : Type 0} (g : A → B) (f : B → C) where
   -- one item more
   pub items_more : (xs : List A) (i : ℕ) (x d : A) (old new total : List C) → i < length xs → x ≡ get_or xs i d
@@ -35,12 +28,6 @@ module _ {A B C : Type 0} (g : A → B) (f : B → C) where
       ∙ append_assoc old (f (g x) ∷ []) (map f (map g (drop (i + 1) xs)))
       ∙ ap (λ t. old ++ t) (sym (ap (λ l. map f (map g l)) (drop_here xs i x d h is)))
       ∙ before
-
-  -- no item is left
-  pub items_done : (xs : List A) (i : ℕ) (old total : List C) → length xs ≤ i
-      → old ++ map f (map g (drop i xs)) ≡ total → old ≡ total
-  items_done xs i old total h before =
-      sym (append-nil old) ∙ ap (λ t. old ++ t) (sym (ap (λ l. map f (map g l)) (drop_past xs i h))) ∙ before
 
 -- names with the numbers that stand for these
 module _ {N : Type 0} (value : N → Fraction) where

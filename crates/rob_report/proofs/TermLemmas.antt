@@ -1,28 +1,15 @@
 -- Terms that are left out, and sums of no term.
-use Rattle.std.proofs.Common.{◌≡◌, ℕ, zero, suc, ◌+◌, List, [], ◌∷◌, ◌++◌, length, arith, refl, ap, ap₂, ◌∙◌, length-append, append-nil, append_assoc}
+use Rattle.std.proofs.Common.{◌≡◌, ℕ, zero, suc, ◌+◌, List, [], ◌∷◌, ◌++◌, refl, ap, ap₂, ◌∙◌, append_assoc}
 use Rattle.std.specs.Prelude.{ℤ, pos, negsuc, codes}
 use Rattle.rob_cert.proofs.WriterLemmas.{behind}
 use Rattle.rob_meaning.specs.Names.{Name}
 use Rattle.rob_report.specs.Lines.{line, unless_zero}
-use Rattle.rob_report.specs.Rows.{form_line, or_zero}
-
-pub unless_zero-zero : (a : ℤ) (text : List ℕ) → a ≡ pos 0 → unless_zero a text ≡ []
-unless_zero-zero a text e = ap (λ z. unless_zero z text) e
+use Rattle.rob_report.specs.Rows.{form_line}
 
 pub unless_zero-other : (a : ℤ) (text : List ℕ) → (a ≡ pos 0 → ⊥) → unless_zero a text ≡ text
 unless_zero-other (pos zero) text h = absurd (h refl)
 unless_zero-other (pos (suc n)) text h = refl
 unless_zero-other (negsuc n) text h = refl
-
--- a text that is as long as its front has nothing behind it
-pub zero_written : (old terms now new : List ℕ) → now ≡ old ++ terms → length now ≡ length old → new ≡ now ++ codes " 0" → new ≡ old ++ or_zero terms
-zero_written old [] now new is same grown = grown ∙ ap (λ t. t ++ codes " 0") (is ∙ append-nil old)
-zero_written old (byte ∷ bytes) now new is same grown =
-    let longer : length now ≡ length old + suc (length bytes) = ap length is ∙ length-append old (byte ∷ bytes) in absurd (omega (arith, longer, same))
-
-pub terms_written : (old terms now : List ℕ) → now ≡ old ++ terms → (length now ≡ length old → ⊥) → now ≡ old ++ or_zero terms
-terms_written old [] now is other = absurd (other (ap length (is ∙ append-nil old)))
-terms_written old (byte ∷ bytes) now is other = is
 
 -- a line of a name, a sum and its limit, piece by piece
 pub row_written : (word name sum limit old o1 o2 o3 o4 new : List ℕ) → o1 ≡ old ++ word → o2 ≡ o1 ++ name → o3 ≡ o2 ++ codes ":"

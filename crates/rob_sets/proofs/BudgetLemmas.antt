@@ -1,6 +1,7 @@
 -- The row of a budget's sum, and the rows of its members.
-use Rattle.std.specs.Prelude.{◌≡◌, ℕ, zero, suc, ◌+◌, ◌*◌, ◌≤◌, ◌<◌, List, [], ◌∷◌, length, map, drop, pos, refl}
+use Rattle.std.specs.Prelude.{◌≡◌, ℕ, zero, suc, ◌+◌, ◌*◌, ◌≤◌, ◌<◌, List, [], ◌∷◌, ◌++◌, length, map, drop, pos, refl}
 use Rattle.std.proofs.Common.{sym, ◌∙◌, ap, ap₂, arith, subst, get_or, add-one}
+use Rattle.std.proofs.lemmas.List.{length-map}
 use Rattle.rob_algebra.specs.Fraction.{Fraction, ◌+ℚ◌, ◌*ℚ◌, neg_ℚ}
 use Rattle.rob_algebra.specs.FractionLaws as Q
 use Rattle.rob_algebra.specs.Ring.{lit, ◌:+◌, ◌:*◌, v0, v1}
@@ -14,6 +15,8 @@ use Rattle.rob_model.specs.declared.model.Member.{Member as MemberData}
 use Rattle.rob_model.proofs.PartLemmas.{drop_at, drop_past}
 use Rattle.rob_sets.specs.Appending.{row_of}
 use Rattle.rob_sets.proofs.BoundLemmas.{row_same, minus_minus}
+use Rattle.rob_sets.proofs.PartedLemmas.{Parted}
+use Rattle.rob_sets.proofs.ProgressLemmas.{length-both}
 use Rattle.rob_sets.proofs.CellLemmas.{times_zero, unit-other}
 
 -- 1 in row 0 and the columns of n lifts, the first having number t
@@ -63,18 +66,36 @@ pub members_many : (t : ℕ) (hs : List Member) → length (member_rows t hs) �
 members_many t [] = refl
 members_many t (h ∷ hs) = omega (arith, members_many (suc t) hs)
 
+pub budget_many : {N : Type 0} (value : N → Fraction) (t : ℕ) (hs : List (MemberData N)) (last : lifted.SetRow)
+    → length (member_rows t (map (member_of value) hs) ++ last ∷ []) ≡ 2 * length hs + 1
+budget_many value t hs last =
+    omega (
+      arith,
+      length-both (member_rows t (map (member_of value) hs)) (last ∷ []),
+      members_many t (map (member_of value) hs),
+      length-map hs (member_of value),
+    )
+
 module _ {N : Type 0} (value : N → Fraction) where
   abbrev pub other_members : List (MemberData N) → ℕ → ℕ → List lifted.SetRow
   other_members hs t i = member_rows t (map (member_of value) (drop i hs))
 
-  pub members_at : (hs : List (MemberData N)) (t i : ℕ) (h : MemberData N) → i < length hs → h ≡ get_or hs i h
-      → other_members hs t i ≡ up_row t (member_of value h) ∷ (down_row t (member_of value h) ∷ other_members hs (t + 1) (i + 1))
-  members_at hs t i h inside e =
-      ap (λ (xs : List (MemberData N)). member_rows t (map (member_of value) xs)) (drop_at hs i h inside e)
-      ∙ ap (λ n. up_row t (member_of value h) ∷ (down_row t (member_of value h) ∷ member_rows n (map (member_of value) (drop (i + 1) hs)))) (sym (add-one t))
+  -- of the rows that are left, those of the next member come first
+  pub members_at : (hs : List (MemberData N)) (t i : ℕ) (h : MemberData N) (last : lifted.SetRow) → i < length hs → h ≡ get_or hs i h
+      → Parted (other_members hs t i ++ last ∷ []) (up_row t (member_of value h) ∷ [])
+      (down_row t (member_of value h) ∷ (other_members hs (t + 1) (i + 1) ++ last ∷ []))
+  members_at hs t i h last inside e = record {
+    is = ap (λ (xs : List (MemberData N)). member_rows t (map (member_of value) xs) ++ last ∷ []) (drop_at hs i h inside e)
+        ∙ ap (λ n. up_row t (member_of value h) ∷ (down_row t (member_of value h) ∷ (member_rows n (map (member_of value) (drop (i + 1) hs)) ++ last ∷ []))) (sym (add-one t));
+  }
 
-  pub members_end : (hs : List (MemberData N)) (t i : ℕ) → length hs ≤ i → other_members hs t i ≡ []
-  members_end hs t i h = ap (λ (xs : List (MemberData N)). member_rows t (map (member_of value) xs)) (drop_past hs i h)
+  pub down_at : (hs : List (MemberData N)) (t i : ℕ) (h : MemberData N) (last : lifted.SetRow)
+      → Parted (down_row t (member_of value h) ∷ (other_members hs (t + 1) (i + 1) ++ last ∷ [])) (down_row t (member_of value h) ∷ [])
+      (other_members hs (t + 1) (i + 1) ++ last ∷ [])
+  down_at hs t i h last = record { is = refl }
+
+  pub members_end : (hs : List (MemberData N)) (t i : ℕ) (last : lifted.SetRow) → length hs ≤ i → other_members hs t i ++ last ∷ [] ≡ last ∷ []
+  members_end hs t i last h = ap (λ (xs : List (MemberData N)). member_rows t (map (member_of value) xs) ++ last ∷ []) (drop_past hs i h)
 
 -- what is true of each is true of the one at a place
 pub each_get : {A B : Type 0} (P : B → Type 0) (f : A → B) (xs : List A) (i : ℕ) (x : A) → i < length xs → x ≡ get_or xs i x → Each P (map f xs) → P (f x)

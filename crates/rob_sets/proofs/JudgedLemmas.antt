@@ -1,21 +1,16 @@
--- What is judged in order: the first wide spot, and rows that are appended one after another.
-use Rattle.std.specs.Prelude.{◌≡◌, ℕ, ◌≤◌, List, [], ◌∷◌, ◌++◌, map, Result, Ok, Err, IfErr, refl}
+-- What is judged in order: the first wide spot, and why a call stops there.
+use Rattle.std.specs.Prelude.{◌≡◌, ℕ, ◌≤◌, List, [], ◌∷◌, ◌++◌, Result, Err, IfErr, refl}
 use Rattle.std.proofs.Common.{sym, ◌∙◌, ap, arith, subst, append_assoc}
 use Rattle.rob_number.specs.Counts.{Rose}
-use Rattle.rob_meaning.specs.Places.{Each}
 use Rattle.rob_meaning.specs.RobustModel.{RobustModel}
-use Rattle.rob_meaning.specs.SetRows as lifted
 use Rattle.rob_model.specs.declared.place.Spot.{Spot}
-use Rattle.rob_sets.specs.Appending.{Appends, AppendsRows, StopsAt}
+use Rattle.rob_sets.specs.Appending.{StopsAt}
 use Rattle.rob_sets.specs.FirstWide.{Judged, HasCause, IsFirstWide, IsWideThere, NothingWide, spot_of}
-use Rattle.rob_sets.specs.SetForm.{RowFits, cleared_row}
 use Rattle.rob_sets.specs.Stops.{StopsFor, error_of}
 use Rattle.rob_sets.specs.declared.error.ElabErr.{ElabErr}
 use Rattle.rob_sets.specs.declared.error.ElabErr.TheVariants as Refused
 use Rattle.rob_sets.specs.declared.error.Stop.{Stop}
 use Rattle.rob_sets.specs.declared.error.Stop.TheVariants as Stopped
-use Rattle.rob_sets.specs.declared.set_form.SetRow.{SetRow}
-use Rattle.rob_sets.proofs.RowLemmas.{map-append}
 use Rattle.rob_sets.proofs.SubexpressionLemmas.{each_both}
 
 module _ (limit : ℕ) (m : RobustModel) where
@@ -71,42 +66,6 @@ module _ (limit : ℕ) (m : RobustModel) where
 
   pub stops_memory : (js : List Judged) (e : ElabErr) (start now : ℕ) → e ≡ Refused.Memory → StopsAt limit m js start now e
   stops_memory js e start now is = subst (λ (x : ElabErr). StopsAt limit m js start now x) (sym is) (record { cause = tt; rose = tt })
-
-  -- ---- rows that are appended
-  pub appends_none : (rows : List SetRow) → AppendsRows limit m [] [] rows rows
-  appends_none rows = record { appended = sym (append-nil rows); fit = tt; none_wide = tt }
-    where
-      append-nil : (xs : List SetRow) → xs ++ [] ≡ xs
-      append-nil [] = refl
-      append-nil (x ∷ xs) = ap (λ ys. x ∷ ys) (append-nil xs)
-
-  pub appends_both : (xs ys : List lifted.SetRow) (js ks : List Judged) (a b c : List SetRow) → AppendsRows limit m xs js a b → AppendsRows limit m ys ks b c
-      → AppendsRows limit m (xs ++ ys) (js ++ ks) a c
-  appends_both xs ys js ks a b c f g = record {
-    appended = g.appended ∙ ap (λ (zs : List SetRow). zs ++ map (cleared_row m) ys) f.appended
-        ∙ append_assoc a (map (cleared_row m) xs) (map (cleared_row m) ys)
-        ∙ ap (λ (zs : List SetRow). a ++ zs) (sym (map-append (cleared_row m) xs ys));
-    fit = subst (λ (zs : List SetRow). Each (RowFits limit) zs) (sym (map-append (cleared_row m) xs ys))
-        (each_both (RowFits limit) (map (cleared_row m) xs) (map (cleared_row m) ys) f.fit g.fit);
-    none_wide = each_both (λ j. IsWideThere limit m j → ⊥) js ks f.none_wide g.none_wide;
-  }
-
-  -- rows are appended, and then further ones, or the call says why not
-  pub appends_then : (xs ys : List lifted.SetRow) (js ks : List Judged) (a b c : List SetRow) (start before now : ℕ) (r : Result (Unit {0}) ElabErr)
-      → AppendsRows limit m xs js a b → start ≤ before → Appends limit m ys ks b c before now r → Appends limit m (xs ++ ys) (js ++ ks) a c start now r
-  appends_then xs ys js ks a b c start before now (Ok _) f least g = appends_both xs ys js ks a b c f g
-  appends_then xs ys js ks a b c start before now (Err e) f least g = stops_right js ks e start before now least f.none_wide g
-
-  -- the answer of a call that stops
-  pub appends_err : (rows : List lifted.SetRow) (js : List Judged) (a b : List SetRow) (start now : ℕ) (r : Result (Unit {0}) ElabErr) (e d : ElabErr) → r ≡ Err d → d ≡ e
-      → StopsAt limit m js start now e → Appends limit m rows js a b start now r
-  appends_err rows js a b start now r e d is same h =
-      subst (λ (x : Result (Unit {0}) ElabErr). Appends limit m rows js a b start now x) (sym is)
-      (subst (λ (x : ElabErr). StopsAt limit m js start now x) (sym same) h)
-
-  -- nothing is appended for what is judged and not wide
-  pub appends_nothing : (js : List Judged) (rows : List SetRow) → NothingWide limit m js → AppendsRows limit m [] js rows rows
-  appends_nothing js rows none = record { appended = (appends_none rows).appended; fit = tt; none_wide = none }
 
   -- the cause of an answer
   pub cause_err : {T : Type 0} (js : List Judged) (r : Result T ElabErr) (e d : ElabErr) → r ≡ Err d → d ≡ e → HasCause limit m js e → IfErr r (HasCause limit m js)

@@ -3,11 +3,14 @@ pub mod BoundRowLemmas
 pub mod BudgetLemmas
 pub mod CellLemmas
 pub mod ClearingSteps
+pub mod CountLemmas
 pub mod DifferenceLemmas
 pub mod EntryLemmas
+pub mod ItemLemmas
 pub mod JudgedLemmas
 pub mod LiftedLemmas
 pub mod NumberLemmas
+pub mod PartedLemmas
 pub mod PrefixLemmas
 pub mod ProductLemmas
 pub mod ProgressLemmas

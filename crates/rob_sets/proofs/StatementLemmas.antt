@@ -1,6 +1,6 @@
 -- The rows of statements, one statement after another.
-use Rattle.std.specs.Prelude.{◌≡◌, ℕ, ◌+◌, ◌*◌, ◌≤◌, ◌<◌, List, [], ◌∷◌, ◌++◌, length, map, drop, Result}
-use Rattle.std.proofs.Common.{sym, ◌∙◌, ap, ap₂, arith, subst, get_or, append_assoc, add-one}
+use Rattle.std.specs.Prelude.{◌≡◌, ℕ, ◌+◌, ◌*◌, ◌≤◌, List, [], ◌∷◌, ◌++◌, length, map, drop, Result}
+use Rattle.std.proofs.Common.{sym, ◌∙◌, ap, ap₂, arith, subst, append_assoc, add-one}
 use Rattle.std.proofs.lemmas.List.{length-map}
 use Rattle.rob_meaning.specs.Expressions.{Expression}
 use Rattle.rob_meaning.specs.Forms.{sides}
@@ -8,13 +8,13 @@ use Rattle.rob_meaning.specs.RobustModel.{Relation, at_most, at_least, equal, Se
 use Rattle.rob_meaning.specs.SetRows as lifted
 use Rattle.rob_meaning.specs.SetRows.{budget_row, expression_row, lift_count, member_rows, statement_rows}
 use Rattle.rob_model.specs.declared.model.SetLine.{SetLine as SetLineData}
-use Rattle.rob_model.proofs.PartLemmas.{drop_at, drop_past}
 use Rattle.rob_sets.specs.Appending.{Appends}
 use Rattle.rob_sets.specs.FirstWide.{Judged}
 use Rattle.rob_sets.specs.SetForm.{judged_rows, judged_sides, judged_statements}
 use Rattle.rob_sets.specs.declared.error.ElabErr.{ElabErr}
 use Rattle.rob_sets.specs.declared.set_form.SetRow.{SetRow}
 use Rattle.rob_sets.proofs.BudgetLemmas.{members_many}
+use Rattle.rob_sets.proofs.PartedLemmas.{Parted}
 use Rattle.rob_sets.proofs.ProgressLemmas.{append-nil, length-both}
 
 pub appends_along : (limit : ℕ) (m : RobustModel) (xs ys : List lifted.SetRow) (js ks : List Judged) (a b : List SetRow) (start now : ℕ) (r : Result (Unit {0}) ElabErr)
@@ -76,10 +76,19 @@ module _ (m : RobustModel) where
       omega (arith, length-both (member_rows t hs) (budget_row t limit hs ∷ statement_rows m (length hs + t) xs), members_many t hs, statements_many (length hs + t) xs)
 
 -- ---- those that are left
-module _ {N : Type 0} where
-  pub lines_at : (f : SetLineData N → SetLine) (xs : List (SetLineData N)) (i : ℕ) (x : SetLineData N) → i < length xs → x ≡ get_or xs i x
-      → map f (drop i xs) ≡ f x ∷ map f (drop (i + 1) xs)
-  lines_at f xs i x h e = ap (map f) (drop_at xs i x h e)
+module _ (m : RobustModel) {N : Type 0} (f : SetLineData N → SetLine) (xs : List (SetLineData N)) (i t k : ℕ) {x : SetLineData N}
+    (at : drop i xs ≡ x ∷ drop (i + 1) xs) (more : k ≡ t + lift_count (f x ∷ [])) where
+  pub statements_at : statement_rows m t (map f (drop i xs)) ≡ statement_rows m t (f x ∷ []) ++ statement_rows m k (map f (drop (i + 1) xs))
+  statements_at =
+      ap (λ (ys : List (SetLineData N)). statement_rows m t (map f ys)) at ∙ rows-cons m t (f x) (map f (drop (i + 1) xs))
+      ∙ ap (λ n. statement_rows m t (f x ∷ []) ++ statement_rows m n (map f (drop (i + 1) xs))) (sym more)
 
-  pub lines_end : (f : SetLineData N → SetLine) (xs : List (SetLineData N)) (i : ℕ) → length xs ≤ i → map f (drop i xs) ≡ []
-  lines_end f xs i h = ap (map f) (drop_past xs i h)
+  pub judged_at : (n r s : ℕ) → s ≡ r + length (statement_rows m t (f x ∷ [])) → Parted (judged_statements m n t r (map f (drop i xs)))
+      (judged_statements m n t r (f x ∷ [])) (judged_statements m (n + 1) k s (map f (drop (i + 1) xs)))
+  judged_at n r s rows = record {
+    is = ap (λ (ys : List (SetLineData N)). judged_statements m n t r (map f ys)) at ∙ judged-cons m n t r (f x) (map f (drop (i + 1) xs))
+        ∙ ap₂ (λ a b. judged_statements m n t r (f x ∷ []) ++ judged_statements m (n + 1) a b (map f (drop (i + 1) xs))) (sym more) (sym rows);
+  }
+
+  pub lifts_at : lift_count (map f (drop i xs)) ≡ lift_count (f x ∷ []) + lift_count (map f (drop (i + 1) xs))
+  lifts_at = ap (λ (ys : List (SetLineData N)). lift_count (map f ys)) at ∙ lifts-cons m (f x) (map f (drop (i + 1) xs))

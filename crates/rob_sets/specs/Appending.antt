@@ -1,4 +1,4 @@
--- Set rows that are cleared and appended, one after another.
+-- Lines in whole numbers, set rows or forms, that are cleared and appended one after another.
 use Rattle.std.specs.Prelude.{◌≡◌, ℕ, suc, List, ◌++◌, map, Result, Ok, Err}
 use Rattle.rob_algebra.specs.Fraction.{neg_ℚ}
 use Rattle.rob_meaning.specs.Coefficients as meaning
@@ -14,10 +14,11 @@ use Rattle.rob_sets.specs.declared.set_form.SetRow.{SetRow}
 abbrev pub row_of : meaning.Table → lifted.SetRow
 row_of f = record { on_parameters = λ k. f (suc k) 0; on_lifts = λ j. f 0 (suc j); limit = neg_ℚ (f 0 0) }
 
--- rows are appended in whole numbers: each fits, and nothing that is judged for them is wide
-pub record AppendsRows (limit : ℕ) (m : RobustModel) (rows : List lifted.SetRow) (judged : List Judged) (old new : List SetRow) : Type 0 where
-  pub appended : new ≡ old ++ map (cleared_row m) rows
-  pub fit : Each (RowFits limit) (map (cleared_row m) rows)
+-- lines are appended, each as what is made of it: that fits, and nothing that is judged for them is wide
+pub record AppendsLines {A B : Type 0} (made : B → A) (Fits : A → Type 0) (limit : ℕ) (m : RobustModel) (lines : List B) (judged : List Judged)
+    (old new : List A) : Type 0 where
+  pub appended : new ≡ old ++ map made lines
+  pub fit : Each Fits (map made lines)
   pub none_wide : NothingWide limit m judged
 
 -- why they are not: the first spot of what is judged at which a number is wide, which the ledger counted; or memory
@@ -25,7 +26,13 @@ pub record StopsAt (limit : ℕ) (m : RobustModel) (judged : List Judged) (befor
   pub cause : HasCause limit m judged e
   pub rose : RoseIfWide before now e
 
--- the rows are appended, or the call says why not
+-- the lines are appended, or the call says why not
+abbrev pub AppendsOr : {A B : Type 0} → (B → A) → (A → Type 0) → ℕ → RobustModel → List B → List Judged → List A → List A → ℕ → ℕ
+    → Result (Unit {0}) ElabErr → Type 0
+AppendsOr made Fits limit m lines judged old new before now (Ok _) = AppendsLines made Fits limit m lines judged old new
+AppendsOr made Fits limit m lines judged old new before now (Err e) = StopsAt limit m judged before now e
+
+-- set rows are appended in whole numbers, or the call says why not
 abbrev pub Appends : ℕ → RobustModel → List lifted.SetRow → List Judged → List SetRow → List SetRow → ℕ → ℕ → Result (Unit {0}) ElabErr → Type 0
-Appends limit m rows judged old new before now (Ok _) = AppendsRows limit m rows judged old new
-Appends limit m rows judged old new before now (Err e) = StopsAt limit m judged before now e
+Appends limit m rows judged old new before now result =
+    AppendsOr (cleared_row m) (RowFits limit) limit m rows judged old new before now result

@@ -1,6 +1,7 @@
 // The set rows of the declared bounds of the parameters.
 
-ghost use Rattle.std.specs.Prelude.{◌≡◌, ◌≤◌, ◌<◌, ◌+◌, [], zero, ℕ, map, length, Option, option_map, if◌then◌else◌, OnOk, IfOk, IfErr};
+ghost use Rattle.std.specs.Prelude.{◌≡◌, ◌<◌, ◌+◌, [], zero, ℕ, map, length, Option, option_map, if◌then◌else◌, OnOk, IfOk, IfErr};
+ghost use Rattle.rob_number.specs.Counts.{NeverFell};
 ghost use Rattle.rob_meaning.specs.SetConditions.{if_declared};
 ghost use Rattle.rob_meaning.specs.SetRows.{bound_rows, lower_row, upper_row};
 ghost use Rattle.rob_model.specs.Valid.{IsValid};
@@ -29,8 +30,7 @@ fn bound_table<N: Exact, L: Ledger>(
     requires few { parameter < 1000 }
     ensures row { IfOk result (λ t. row_of (numbers_of N.value t)
         ≡ (if lower then lower_row parameter (N.value bound) else upper_row parameter (N.value bound))) }
-    ensures ops { L.ops ledger.old ≤ L.ops ledger.new }
-    ensures wides { L.wides ledger.old ≤ L.wides ledger.new }
+    ensures counted { NeverFell L.ops L.wides ledger.old ledger.new }
 {
     let mut table = Table::new(alloc);
     let unit: N = one(ledger);
@@ -63,8 +63,7 @@ fn append_bound<N: Exact, L: Ledger>(
         (judged_rows (robust N.value model.now) (length rows.old)
         (if_declared (if lower then lower_row parameter else upper_row parameter) (option_map N.value bound.now)))
         rows.old rows.new (L.wides ledger.old) (L.wides ledger.new) result }
-    ensures ops { L.ops ledger.old ≤ L.ops ledger.new }
-    ensures wides { L.wides ledger.old ≤ L.wides ledger.new }
+    ensures counted { NeverFell L.ops L.wides ledger.old ledger.new }
 {
     if let Some(number) = bound {
         let table = bound_table(alloc, parameter, lower, *number, ledger)?;
@@ -86,8 +85,7 @@ pub fn append_bounds<N: Exact, L: Ledger>(
         (bound_rows zero (robust N.value model.now).parameters)
         (judged_rows (robust N.value model.now) zero (bound_rows zero (robust N.value model.now).parameters))
         [] rows.new (L.wides ledger.old) (L.wides ledger.new) result }
-    ensures ops { L.ops ledger.old ≤ L.ops ledger.new }
-    ensures wides { L.wides ledger.old ≤ L.wides ledger.new }
+    ensures counted { NeverFell L.ops L.wides ledger.old ledger.new }
 {
     let mut number: u32 = 0;
     for parameter in model.params.items() {

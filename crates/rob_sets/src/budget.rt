@@ -1,6 +1,7 @@
 // The set rows of budgets of uncertainty: two for each member, and one for the sum.
 
-ghost use Rattle.std.specs.Prelude.{◌≡◌, ◌≤◌, ◌<◌, ◌+◌, ◌*◌, ◌++◌, ◌∷◌, [], ℕ, List, map, length, if◌then◌else◌, IfOk};
+ghost use Rattle.std.specs.Prelude.{◌≡◌, ◌<◌, ◌+◌, ◌*◌, ◌++◌, ◌∷◌, [], ℕ, List, map, length, if◌then◌else◌, IfOk};
+ghost use Rattle.rob_number.specs.Counts.{NeverFell};
 ghost use Rattle.rob_meaning.specs.RobustModel.{Member as MemberOf};
 ghost use Rattle.rob_meaning.specs.SetRows.{budget_row, down_row, member_rows, up_row};
 ghost use Rattle.rob_meaning.specs.Places.{Each};
@@ -33,8 +34,7 @@ fn member_table<N: Exact, L: Ledger>(
     requires few_lifts { lift < 1000 }
     ensures row { IfOk result (λ t. row_of (numbers_of N.value t)
         ≡ (if up then up_row lift (member_of N.value member.now) else down_row lift (member_of N.value member.now))) }
-    ensures ops { L.ops ledger.old ≤ L.ops ledger.new }
-    ensures wides { L.wides ledger.old ≤ L.wides ledger.new }
+    ensures counted { NeverFell L.ops L.wides ledger.old ledger.new }
 {
     let mut table = Table::new(alloc);
     let unit: N = one(ledger);
@@ -68,8 +68,7 @@ fn budget_table<N: Exact, L: Ledger>(
     requires few { lift + members < 1000 }
     ensures row { IfOk result (λ t. (hs : List MemberOf) → length hs ≡ members
         → row_of (numbers_of N.value t) ≡ budget_row lift (N.value limit) hs) }
-    ensures ops { L.ops ledger.old ≤ L.ops ledger.new }
-    ensures wides { L.wides ledger.old ≤ L.wides ledger.new }
+    ensures counted { NeverFell L.ops L.wides ledger.old ledger.new }
 {
     let mut table = Table::new(alloc);
     let unit: N = one(ledger);
@@ -105,8 +104,7 @@ fn append_member<N: Exact, L: Ledger>(
         (judged_rows (robust N.value model.now) (length rows.old)
         ((if up then up_row lift (member_of N.value member.now) else down_row lift (member_of N.value member.now)) ∷ []))
         rows.old rows.new (L.wides ledger.old) (L.wides ledger.new) result }
-    ensures ops { L.ops ledger.old ≤ L.ops ledger.new }
-    ensures wides { L.wides ledger.old ≤ L.wides ledger.new }
+    ensures counted { NeverFell L.ops L.wides ledger.old ledger.new }
 {
     let table = member_table(alloc, lift, member, up, ledger)?;
     append_row(alloc, model, &table, rows, ledger)
@@ -132,8 +130,7 @@ pub fn append_budget<N: Exact, L: Ledger>(
         (judged_rows (robust N.value model.now) (length rows.old) (member_rows lift (map (member_of N.value) members.now)
         ++ budget_row lift (N.value limit) (map (member_of N.value) members.now) ∷ []))
         rows.old rows.new (L.wides ledger.old) (L.wides ledger.new) result }
-    ensures ops { L.ops ledger.old ≤ L.ops ledger.new }
-    ensures wides { L.wides ledger.old ≤ L.wides ledger.new }
+    ensures counted { NeverFell L.ops L.wides ledger.old ledger.new }
 {
     let mut column = lift;
     for member in members {

@@ -3,7 +3,7 @@
 ghost use Rattle.std.specs.Prelude.{◌≡◌, ◌≤◌, ◌<◌, ◌/◌, ◌^◌, ◌++◌, ℕ, ℤ, List, pos, ◌*ℤ◌, ◌<ℤ◌, nat_abs, map, OnOk, IfOk, IfErr, MatchOption};
 ghost use Rattle.rob_algebra.specs.Fraction.{Fraction};
 ghost use Rattle.rob_algebra.specs.Width.{IsWideWhole};
-ghost use Rattle.rob_number.specs.Counts.{Rose};
+ghost use Rattle.rob_number.specs.Counts.{Rose, NeverFell};
 ghost use Rattle.rob_meaning.specs.Clearing.{lcm, denominator as common_denominator, whole_at};
 ghost use Rattle.rob_meaning.specs.Places.{Each};
 ghost use Rattle.rob_sets.specs.FirstWide.{Some_of, IsWideCleared};
@@ -101,8 +101,7 @@ pub fn cleared<N: Exact, L: Ledger>(
     ensures fits { IfOk result (λ list. Each (λ a. nat_abs a ≤ N.limit) list) }
     ensures wide { IfErr result (StopsFor (Rose (L.wides ledger.old) (L.wides ledger.new)
         × Some_of (λ q. IsWideWhole N.limit (whole_at common q)) (map N.value numbers.now))) }
-    ensures ops { L.ops ledger.old ≤ L.ops ledger.new }
-    ensures wides { L.wides ledger.old ≤ L.wides ledger.new }
+    ensures counted { NeverFell L.ops L.wides ledger.old ledger.new }
 {
     let mut list = List::new(alloc);
     for q in numbers {
@@ -129,8 +128,7 @@ pub fn clear<N: Exact, L: Ledger>(
     ensures not_wide { OnOk result (IsWideCleared N.limit (map N.value numbers.now) → ⊥) }
     ensures wide { IfErr result (StopsFor (Rose (L.wides ledger.old) (L.wides ledger.new)
         × IsWideCleared N.limit (map N.value numbers.now))) }
-    ensures ops { L.ops ledger.old ≤ L.ops ledger.new }
-    ensures wides { L.wides ledger.old ≤ L.wides ledger.new }
+    ensures counted { NeverFell L.ops L.wides ledger.old ledger.new }
 {
     match denominator(numbers) {
         Some(common) => cleared(alloc, numbers, common, ledger),

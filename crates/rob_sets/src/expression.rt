@@ -1,7 +1,7 @@
 // The coefficients of expressions.
 
 ghost use Rattle.std.specs.Prelude.{◌≡◌, ◌≤◌, ◌<◌, ℕ, map, length, OnOk, IfOk, IfErr};
-ghost use Rattle.rob_number.specs.Counts.{Rose};
+ghost use Rattle.rob_number.specs.Counts.{Rose, NeverFell};
 ghost use Rattle.rob_meaning.specs.Coefficients.{single, table as table_of, sum_table, product_table};
 ghost use Rattle.rob_meaning.specs.Degrees.{IsLinear, AreLinear, FactorsLinear, uncertain_degree, decision_degree};
 ghost use Rattle.rob_meaning.specs.Expressions.{adaptive_in as rule_in, sum as sum_of, product as product_of, no_terms, no_factors};
@@ -40,8 +40,7 @@ pub fn coefficients<N: Exact, L: Ledger>(
         (subexpressions (expression_of N.value e.now))) }
     ensures wide { IfErr result (StopsFor (Rose (L.wides ledger.old) (L.wides ledger.new)
         × Some_of (HasWideCoefficient N.limit (robust N.value model.now)) (subexpressions (expression_of N.value e.now)))) }
-    ensures ops { L.ops ledger.old ≤ L.ops ledger.new }
-    ensures wides { L.wides ledger.old ≤ L.wides ledger.new }
+    ensures counted { NeverFell L.ops L.wides ledger.old ledger.new }
 {
     match e {
         Expr::Number(x) => Table::single(alloc, Cell { row: 0, column: 0 }, *x, ledger),
@@ -86,8 +85,7 @@ fn sum<N: Exact, L: Ledger>(
     ensures wide { IfErr result (StopsFor (Rose (L.wides ledger.old) (L.wides ledger.new)
         × Some_of (HasWideCoefficient N.limit (robust N.value model.now))
         (sums_from no_terms (terms_of (map (signed_of N.value) terms.now))))) }
-    ensures ops { L.ops ledger.old ≤ L.ops ledger.new }
-    ensures wides { L.wides ledger.old ≤ L.wides ledger.new }
+    ensures counted { NeverFell L.ops L.wides ledger.old ledger.new }
 {
     let mut so_far = Table::new(alloc);
     for term in terms {
@@ -119,8 +117,7 @@ fn product<N: Exact, L: Ledger>(
     ensures wide { IfErr result (StopsFor (Rose (L.wides ledger.old) (L.wides ledger.new)
         × Some_of (HasWideCoefficient N.limit (robust N.value model.now))
         (products_from no_factors (factors_of (map (expression_of N.value) factors.now))))) }
-    ensures ops { L.ops ledger.old ≤ L.ops ledger.new }
-    ensures wides { L.wides ledger.old ≤ L.wides ledger.new }
+    ensures counted { NeverFell L.ops L.wides ledger.old ledger.new }
 {
     let mut so_far: Table<N> = unit(alloc, Cell { row: 0, column: 0 }, ledger)?;
     for factor in factors {
@@ -139,8 +136,7 @@ pub fn unit<N: Exact, L: Ledger>(
     ensures number { IfOk result (λ t. (k j : ℕ) → numbers_of N.value t k j
         ≡ single cell.row cell.column k j) }
     ensures memory { IfErr result (λ stop. stop ≡ Stop.Memory) }
-    ensures ops { L.ops ledger.old ≤ L.ops ledger.new }
-    ensures wides { L.wides ledger.old ≤ L.wides ledger.new }
+    ensures counted { NeverFell L.ops L.wides ledger.old ledger.new }
 {
     let number = one(ledger);
     Table::single(alloc, cell, number, ledger)
@@ -162,8 +158,7 @@ fn rule_table<N: Exact, L: Ledger>(
         ≡ table_of (robust N.value model.now) (rule_in adaptive set) k j) }
     ensures wide { IfErr result (StopsFor (Rose (L.wides ledger.old) (L.wides ledger.new)
         × HasWideCoefficient N.limit (robust N.value model.now) (rule_in adaptive set))) }
-    ensures ops { L.ops ledger.old ≤ L.ops ledger.new }
-    ensures wides { L.wides ledger.old ≤ L.wides ledger.new }
+    ensures counted { NeverFell L.ops L.wides ledger.old ledger.new }
 {
     let mut column = column_of(model, adaptive) as u32 + 1;
     let first = (set as usize * written_count(model)) as u32;

@@ -1,7 +1,7 @@
 // Differences of two sides, and the set rows of linear conditions.
 
-ghost use Rattle.std.specs.Prelude.{◌≡◌, ◌≤◌, ◌<◌, ◌+◌, ◌∷◌, [], ℕ, map, length, OnOk, IfOk, IfErr};
-ghost use Rattle.rob_number.specs.Counts.{Rose};
+ghost use Rattle.std.specs.Prelude.{◌≡◌, ◌<◌, ◌+◌, ◌∷◌, [], ℕ, map, length, OnOk, IfOk, IfErr};
+ghost use Rattle.rob_number.specs.Counts.{Rose, NeverFell};
 ghost use Rattle.rob_meaning.specs.Coefficients.{table as table_of};
 ghost use Rattle.rob_meaning.specs.Forms.{difference, sides};
 ghost use Rattle.rob_meaning.specs.Places.{Each};
@@ -43,8 +43,7 @@ pub fn difference_table<N: Exact, L: Ledger>(
     ensures wide { IfErr result (StopsFor (Rose (L.wides ledger.old) (L.wides ledger.new)
         × Some_of (HasWideCoefficient N.limit (robust N.value model.now))
         (subexpressions (difference (expression_of N.value left.now) (expression_of N.value right.now))))) }
-    ensures ops { L.ops ledger.old ≤ L.ops ledger.new }
-    ensures wides { L.wides ledger.old ≤ L.wides ledger.new }
+    ensures counted { NeverFell L.ops L.wides ledger.old ledger.new }
 {
     let mut table = coefficients(alloc, left, model, ledger)?;
     let subtracted = coefficients(alloc, right, model, ledger)?;
@@ -72,8 +71,7 @@ fn append_side<N: Exact, L: Ledger>(
         (judged_sides (robust N.value model.now) number (length rows.old)
         (difference (expression_of N.value left.now) (expression_of N.value right.now) ∷ []))
         rows.old rows.new (L.wides ledger.old) (L.wides ledger.new) result }
-    ensures ops { L.ops ledger.old ≤ L.ops ledger.new }
-    ensures wides { L.wides ledger.old ≤ L.wides ledger.new }
+    ensures counted { NeverFell L.ops L.wides ledger.old ledger.new }
 {
     match difference_table(alloc, model, left, right, ledger) {
         Ok(table) => append_row(alloc, model, &table, rows, ledger),
@@ -102,8 +100,7 @@ pub fn append_line<N: Exact, L: Ledger>(
         (judged_sides (robust N.value model.now) number (length rows.old)
         (sides (relation_of rel) (expression_of N.value left.now) (expression_of N.value right.now)))
         rows.old rows.new (L.wides ledger.old) (L.wides ledger.new) result }
-    ensures ops { L.ops ledger.old ≤ L.ops ledger.new }
-    ensures wides { L.wides ledger.old ≤ L.wides ledger.new }
+    ensures counted { NeverFell L.ops L.wides ledger.old ledger.new }
 {
     match rel {
         Rel::AtMost => append_side(alloc, model, number, left, right, rows, ledger),

@@ -1,6 +1,7 @@
 // One set row: its numbers in order, and in whole numbers.
 
 ghost use Rattle.std.specs.Prelude.{◌≡◌, ◌≤◌, ◌<◌, ◌+◌, ◌∷◌, ◌++◌, [], ℕ, map, length, OnOk, IfOk, IfErr};
+ghost use Rattle.rob_number.specs.Counts.{NeverFell};
 ghost use Rattle.rob_meaning.specs.Places.{tabulate};
 ghost use Rattle.rob_meaning.specs.SetRows.{lift_count as lift_count_of};
 ghost use Rattle.rob_model.specs.Valid.{IsValid};
@@ -31,8 +32,7 @@ fn row_numbers<N: Exact, L: Ledger>(
     ensures numbers { IfOk result (λ v. map N.value v.items ≡ (row_of (numbers_of N.value table.now)).limit
         ∷ (tabulate parameters (row_of (numbers_of N.value table.now)).on_parameters
         ++ tabulate lifts (row_of (numbers_of N.value table.now)).on_lifts)) }
-    ensures ops { L.ops ledger.old ≤ L.ops ledger.new }
-    ensures wides { L.wides ledger.old ≤ L.wides ledger.new }
+    ensures counted { NeverFell L.ops L.wides ledger.old ledger.new }
 {
     let mut numbers = Vec::new(alloc);
     let constant = table.number(Cell { row: 0, column: 0 }, ledger);
@@ -73,8 +73,7 @@ pub fn append_row<N: Exact, L: Ledger>(
     ensures row { Appends N.limit (robust N.value model.now) (row_of (numbers_of N.value table.now) ∷ [])
         (judged_row (robust N.value model.now) (length rows.old) (row_of (numbers_of N.value table.now)) ∷ [])
         rows.old rows.new (L.wides ledger.old) (L.wides ledger.new) result }
-    ensures ops { L.ops ledger.old ≤ L.ops ledger.new }
-    ensures wides { L.wides ledger.old ≤ L.wides ledger.new }
+    ensures counted { NeverFell L.ops L.wides ledger.old ledger.new }
 {
     let place = Where::SetRow(rows.items().len() as u32);
     let parameters = model.params.items().len() as u32;

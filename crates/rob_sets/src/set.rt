@@ -1,6 +1,7 @@
 // The lifted set, statement by statement.
 
-ghost use Rattle.std.specs.Prelude.{◌≡◌, ◌≤◌, ◌<◌, ◌+◌, ◌*◌, ◌∷◌, [], zero, ℕ, length, IfOk, IfErr, OnOk};
+ghost use Rattle.std.specs.Prelude.{◌≡◌, ◌<◌, ◌+◌, ◌*◌, ◌∷◌, [], zero, ℕ, length, IfOk, IfErr, OnOk};
+ghost use Rattle.rob_number.specs.Counts.{NeverFell};
 ghost use Rattle.rob_meaning.specs.SetRows.{lift_count as lift_count_of, statement_rows};
 ghost use Rattle.rob_meaning.specs.WellFormed.{IsSetLine};
 ghost use Rattle.rob_model.specs.Valid.{IsValid};
@@ -34,8 +35,7 @@ pub fn clear_set<N: Exact, L: Ledger>(
     ensures none_wide { OnOk result (NothingWide N.limit (robust N.value model.now) (judged_set (robust N.value model.now))) }
     ensures cause { IfErr result (HasCause N.limit (robust N.value model.now) (judged_set (robust N.value model.now))) }
     ensures rose { IfErr result (RoseIfWide (L.wides ledger.old) (L.wides ledger.new)) }
-    ensures ops { L.ops ledger.old ≤ L.ops ledger.new }
-    ensures wides { L.wides ledger.old ≤ L.wides ledger.new }
+    ensures counted { NeverFell L.ops L.wides ledger.old ledger.new }
 {
     let mut rows = List::new(alloc);
     append_bounds(alloc, model, &mut rows, ledger)?;
@@ -59,8 +59,7 @@ fn append_statements<N: Exact, L: Ledger>(
         (statement_rows (robust N.value model.now) zero (robust N.value model.now).set_lines)
         (judged_statements (robust N.value model.now) zero zero (length rows.old) (robust N.value model.now).set_lines)
         rows.old rows.new (L.wides ledger.old) (L.wides ledger.new) result }
-    ensures ops { L.ops ledger.old ≤ L.ops ledger.new }
-    ensures wides { L.wides ledger.old ≤ L.wides ledger.new }
+    ensures counted { NeverFell L.ops L.wides ledger.old ledger.new }
 {
     let mut number: u32 = 0;
     let mut lift: u32 = 0;
@@ -90,8 +89,7 @@ fn append_statement<N: Exact, L: Ledger>(
         (statement_rows (robust N.value model.now) lift (set_line_of N.value line.now ∷ []))
         (judged_statements (robust N.value model.now) number lift (length rows.old) (set_line_of N.value line.now ∷ []))
         rows.old rows.new (L.wides ledger.old) (L.wides ledger.new) result }
-    ensures ops { L.ops ledger.old ≤ L.ops ledger.new }
-    ensures wides { L.wides ledger.old ≤ L.wides ledger.new }
+    ensures counted { NeverFell L.ops L.wides ledger.old ledger.new }
 {
     match line {
         SetLine::Line { left, rel, right } => append_line(

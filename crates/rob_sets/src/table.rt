@@ -3,7 +3,7 @@
 ghost use Rattle.std.specs.Prelude.{◌≡◌, ◌≤◌, ℕ, max, OnOk, IfOk, IfErr};
 ghost use Rattle.rob_algebra.specs.Fraction.{◌+ℚ◌, ◌*ℚ◌};
 ghost use Rattle.rob_number.specs.Answer.{answer};
-ghost use Rattle.rob_number.specs.Counts.{Told, Rose};
+ghost use Rattle.rob_number.specs.Counts.{Told, Rose, NeverFell};
 ghost use Rattle.rob_algebra.specs.Width.{IsWide, kept};
 ghost use Rattle.rob_meaning.specs.Coefficients.{single, table_times};
 ghost use Rattle.rob_meaning.specs.Values.{signed as with_sign};
@@ -52,8 +52,7 @@ impl<N: Exact> Table<N> {
         ensures number { IfOk result (λ t. (k j : ℕ) → numbers_of N.value t k j
             ≡ N.value x *ℚ single cell.row cell.column k j) }
         ensures memory { IfErr result (λ stop. stop ≡ Stop.Memory) }
-        ensures ops { L.ops ledger.old ≤ L.ops ledger.new }
-        ensures wides { L.wides ledger.old ≤ L.wides ledger.new }
+        ensures counted { NeverFell L.ops L.wides ledger.old ledger.new }
     {
         let mut table = Table::new(alloc);
         table.add(cell, x, ledger)?;
@@ -63,8 +62,7 @@ impl<N: Exact> Table<N> {
     /// The number at a cell.
     pub fn number<L: Ledger>(&self, cell: Cell, ledger: &mut L) -> N
         ensures value { N.value result ≡ numbers_of N.value self.now cell.row cell.column }
-        ensures ops { L.ops ledger.old ≤ L.ops ledger.new }
-        ensures wides { L.wides ledger.old ≤ L.wides ledger.new }
+        ensures counted { NeverFell L.ops L.wides ledger.old ledger.new }
     {
         match self.numbers.get(&cell) {
             Some(x) => *x,
@@ -77,7 +75,7 @@ impl<N: Exact> Table<N> {
         ensures exact { answer N.value result
             ≡ kept N.limit (numbers_of N.value self.now cell.row cell.column +ℚ N.value x) }
         ensures told { Told (L.wides ledger.old) (L.wides ledger.new) result }
-        ensures ops { L.ops ledger.old ≤ L.ops ledger.new }
+        ensures counted { NeverFell L.ops L.wides ledger.old ledger.new }
     {
         match self.numbers.get(&cell) {
             Some(y) => y.add(x, ledger),
@@ -91,8 +89,7 @@ impl<N: Exact> Table<N> {
             ≡ numbers_of N.value self.old k j +ℚ N.value x *ℚ single cell.row cell.column k j) }
         ensures wide { IfErr result (StopsFor (Rose (L.wides ledger.old) (L.wides ledger.new)
             × IsWide N.limit (numbers_of N.value self.old cell.row cell.column +ℚ N.value x))) }
-        ensures ops { L.ops ledger.old ≤ L.ops ledger.new }
-        ensures wides { L.wides ledger.old ≤ L.wides ledger.new }
+        ensures counted { NeverFell L.ops L.wides ledger.old ledger.new }
     {
         let sum = self.raised(cell, x, ledger)?;
         self.numbers.insert(cell, sum)?;
@@ -121,8 +118,7 @@ impl<N: Exact> Table<N> {
         ensures wide { IfErr result (StopsFor (Rose (L.wides ledger.old) (L.wides ledger.new)
             × ((k : ℕ) × (j : ℕ) × IsWide N.limit
             (numbers_of N.value self.old k j +ℚ with_sign minus (numbers_of N.value other.now k j))))) }
-        ensures ops { L.ops ledger.old ≤ L.ops ledger.new }
-        ensures wides { L.wides ledger.old ≤ L.wides ledger.new }
+        ensures counted { NeverFell L.ops L.wides ledger.old ledger.new }
     {
         for (cell, x) in &other.numbers {
             self.add(*cell, signed(minus, *x), ledger)?;
@@ -143,8 +139,7 @@ impl<N: Exact> Table<N> {
         ensures wide { IfErr result (StopsFor (Rose (L.wides ledger.old) (L.wides ledger.new)
             × ((k : ℕ) × (j : ℕ) × IsWide N.limit
             (table_times (numbers_of N.value self.now) (numbers_of N.value other.now) k j)))) }
-        ensures ops { L.ops ledger.old ≤ L.ops ledger.new }
-        ensures wides { L.wides ledger.old ≤ L.wides ledger.new }
+        ensures counted { NeverFell L.ops L.wides ledger.old ledger.new }
     {
         let mut product = Table::new(alloc);
         for (a, x) in &self.numbers {

@@ -14,7 +14,7 @@ use Rattle.rob_cert.specs.declared.error.CertErr.TheVariants.{Rule}
 use Rattle.rob_check.specs.Conditions.{Covering, base_tests, conditions_as, cover_tests, covering_tests, inside_tests, items_sum_tests, items_tests, item_tests, move_test, plan_covering, set_tests, step_covering, sum_test, verdict_of, column_test, constant_test, column_tests, cover_place, covers_of, form_tests, sign_place, sign_test}
 use Rattle.rob_check.specs.LiftedSet.{lifted}
 use Rattle.rob_check.specs.Sums.{numbers_from}
-use Rattle.rob_check.specs.Verdicts.{Condition, Counted, Judges, OnAccepted, decided, verdict}
+use Rattle.rob_check.specs.Verdicts.{Condition, Judges, OnAccepted, RoseIfWide, decided, verdict}
 use Rattle.rob_check.specs.declared.covering.Covered.{Covered}
 use Rattle.rob_check.specs.declared.covering.Covered.TheVariants.{Plan, Step}
 use Rattle.rob_check.specs.declared.verdict.Verdict.{Verdict}
@@ -254,16 +254,16 @@ module _ (limit : ℕ) (m : RobustModel) where
           printed = said.1;
         })
 
-    pub too_wide_answers : (before now : ℕ) (place : Place) (r : Result Reply Want) → v ≡ verdicts.TooWide place → Counted before now v
+    pub too_wide_answers : (before now : ℕ) (place : Place) (r : Result Reply Want) → v ≡ verdicts.TooWide place → RoseIfWide before now v
         → IfOk r (Replies (TooWide (spot.Check place)) (too_wide_line m (spot.Check place))) → IfOk r (AnswersCertificate limit (count before now) m c)
     too_wide_answers before now place (Err want) e counted said = tt
     too_wide_answers before now place (Ok reply) e counted said = λ call line at read.
-        let rose : Counted before now (verdicts.TooWide place) = subst (λ (w : Verdict). Counted before now w) e counted in
+        let rose : RoseIfWide before now (verdicts.TooWide place) = subst (λ (w : Verdict). RoseIfWide before now w) e counted in
         subst (λ (ended : Ended). Means call ended reply.text) (sym said.0)
         (record {
           line = line;
           m = m;
           wide = checking c place read refl (verdict_is call line (verdicts.TooWide place) at.limit_is e);
-          raised = at.raised rose.refused;
+          raised = at.raised rose;
           printed = said.1;
         })

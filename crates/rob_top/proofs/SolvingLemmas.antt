@@ -12,8 +12,8 @@ use Rattle.rob_cert.specs.View.{certificate_of}
 use Rattle.rob_cert.specs.declared.certificate.Cert.{Cert}
 use Rattle.rob_cert.specs.declared.ending.Stop.{Stop}
 use Rattle.rob_cert.specs.declared.ending.Stop.TheVariants as stop
-use Rattle.rob_dualize.specs.Solving.{CountsStop, HasCause, IsSolution, IsWideSpot, Solves}
-use Rattle.rob_dualize.specs.Wholes.{AreOfOneModel, IsFew, counterpart_of}
+use Rattle.rob_dualize.specs.Solving.{CountsStop, HasCause, IsSolution, IsWideOnPath, Solves}
+use Rattle.rob_dualize.specs.Wholes.{IsFew, counterpart_of}
 use Rattle.rob_elab.specs.Forms.{IsForms}
 use Rattle.rob_elab.specs.declared.forms.Forms.{Forms}
 use Rattle.rob_meaning.specs.Certificates.{Certificate, Status, optimal, infeasible, unbounded}
@@ -80,9 +80,6 @@ module _ (m : RobustModel) (limits : IsWithinLimits m) where
       (omega (arith, s.columns, limits.parameters, limits.members))
       (omega (arith, f.columns, limits.columns))
       refl
-
-pub of_one_model : (m : RobustModel) (all : Forms) (set : SetForm) → IsForms m all → IsSetForm m set → AreOfOneModel all set
-of_one_model m all set f s = record { model = m; are_forms = f; is_set = s }
 
 -- ---- counts
 
@@ -175,7 +172,7 @@ module _ (limit : ℕ) (m : RobustModel) (model : IsModel m) (c : Certificate) (
 
 -- ---- the route stopped
 module _ (limit : ℕ) (m : RobustModel) where
-  wide_spot : (place : Spot) → IsWideSpot limit m place → IsSpotOf m place
+  wide_spot : (place : Spot) → IsWideOnPath limit m place → IsSpotOf m place
   wide_spot (spot.Dictionary program.Set basis i) h = tt
   wide_spot (spot.Dictionary program.Reform basis i) h = tt
   wide_spot (spot.Dictionary program.Master basis i) h = tt
@@ -215,7 +212,7 @@ module _ (limit : ℕ) (m : RobustModel) where
       (record {
         line = line;
         m = m;
-        wide = solving has (solves_as line.verb verb at.verb_is solves) (subst (λ (l : ℕ). IsWideSpot l m place) (sym at.limit_is) cause.0);
+        wide = solving has (solves_as line.verb verb at.verb_is solves) (subst (λ (l : ℕ). IsWideOnPath l m place) (sym at.limit_is) cause.0);
         raised = at.raised rose;
         printed = is.1;
       })

@@ -11,7 +11,7 @@ use Rattle.rob_cert.specs.declared.error.CertErr.TheVariants.{Rule}
 use Rattle.rob_cert.proofs.OneCertificate.{read_once}
 use Rattle.rob_cert.proofs.SpellingLaws.{breaks_none}
 use Rattle.rob_check.specs.Conditions.{verdict_of}
-use Rattle.rob_dualize.specs.Solving.{IsWideSpot as IsWideOnPath}
+use Rattle.rob_dualize.specs.Solving.{IsWideOnPath}
 use Rattle.rob_elab.specs.Forms.{judged_forms}
 use Rattle.rob_meaning.specs.Certificates.{Certificate, Status, optimal, infeasible, unbounded}
 use Rattle.rob_meaning.specs.Named.{IsNamed}

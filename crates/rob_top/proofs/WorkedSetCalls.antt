@@ -6,7 +6,7 @@ use Rattle.std.specs.Prelude.{◌≡◌, ℕ, zero, suc, true, List, [], ◌∷�
 use Rattle.rob_algebra.specs.Fraction.{ratio}
 use Rattle.rob_algebra.specs.Width.{IsWide}
 use Rattle.rob_elab.specs.Forms.{judged_forms}
-use Rattle.rob_dualize.specs.Solving.{IsWideSpot as IsWideOnPath}
+use Rattle.rob_dualize.specs.Solving.{IsWideOnPath}
 use Rattle.rob_meaning.proofs.EmptyLemmas.{shows_empty}
 use Rattle.rob_meaning.proofs.StatusLemmas.{optimal_not_infeasible, optimal_not_unbounded}
 use Rattle.rob_meaning.proofs.WorkedNotation.{◌⊕◌, ◌⊖◌, int, cover, item, best}

@@ -9,7 +9,7 @@ use Rattle.rob_cert.specs.declared.error.CertErr.TheVariants.{Rule}
 use Rattle.rob_check.specs.Conditions.{verdict_of}
 use Rattle.rob_check.specs.Narrow.{IsFirstFailing, NoneWide}
 use Rattle.rob_check.specs.declared.verdict.Verdict.TheVariants as verdict
-use Rattle.rob_dualize.specs.Solving.{IsShownEmpty, IsWideSpot as IsWideOnPath}
+use Rattle.rob_dualize.specs.Solving.{IsShownEmpty, IsWideOnPath}
 use Rattle.rob_elab.specs.Forms.{judged_forms}
 use Rattle.rob_meaning.specs.Certificates.{Certificate, Status, optimal, infeasible, unbounded}
 use Rattle.rob_meaning.specs.Places.{Each}

@@ -5,7 +5,7 @@
 ghost use Rattle.std.specs.Prelude.{◌≡◌, ◌⊎◌, ℕ, ℤ, List};
 ghost use Rattle.rob_check.specs.Narrow.{IsFirstFailing};
 ghost use Rattle.rob_dualize.specs.SmallestModel.{one_demand};
-ghost use Rattle.rob_dualize.specs.Solving.{IsWideSpot as IsWideOnPath};
+ghost use Rattle.rob_dualize.specs.Solving.{IsWideOnPath};
 ghost use Rattle.rob_meaning.specs.Certificates.{Status};
 ghost use Rattle.rob_meaning.specs.Places.{Each};
 ghost use Rattle.rob_model.specs.declared.place.Place.{Place};

@@ -10,14 +10,7 @@ use Rattle.rob_check.proofs.checker.check.Goals as goal
 
 pub check_all-requires : goal.check_all-requires
 check_all-requires g c = record {
-  given = record {
-    valid = c.requires.valid;
-    are_forms = c.requires.forms;
-    is_set = c.requires.set;
-    forms_fit = c.requires.forms_fit;
-    set_fits = c.requires.set_fits;
-    shape = c.requires.shape;
-  };
+  given = record { valid = c.requires.valid; elaborated = c.requires.elaborated; shape = c.requires.shape };
 }
 
 pub returns-clause-proves : goal.returns-clause-proves

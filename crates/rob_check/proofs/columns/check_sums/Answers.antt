@@ -16,8 +16,7 @@ loop-column-init g c =
     let test = sum_test g.N.Exact.limit c.args.forms.now.matrices (sense_of c.args.forms.now.sense) c.args.forms.now.columns (option_map value c.args.value) (map (item_of value) c.args.items.now) in
     record {
       rest = ap (λ n. verdict (map test (numbers_from 1 n) ++ test 0 ∷ [])) (let e : (c.args.forms.now.columns + 2) - 1 ≡ suc c.args.forms.now.columns = omega arith in e);
-      ops = omega arith;
-      wides = omega arith;
+      counted = record { ops = omega arith; wides = omega arith };
     }
 
 pub returns-in_default-clause-exact : goal.returns-in_default-clause-exact
@@ -38,6 +37,5 @@ loop-column-preserved g c =
           (judged_is (At.Sum c.loop-column.column) (At.Sum c.loop-column.column) (result_ok c.sum_holds-test.result) (test c.loop-column.column).holds
           _ c.in-Accepted.ensures.exact refl c.sum_holds-test.ensures.exact)
           ∙ c.loop-column.invariant.rest;
-      ops = omega (arith, c.loop-column.invariant.ops, c.sum_holds-test.ensures.ops);
-      wides = omega (arith, c.loop-column.invariant.wides, c.sum_holds-test.ensures.told.never_fell);
+      counted = record { ops = omega (arith, c.loop-column.invariant.counted.ops, c.sum_holds-test.ensures.counted.ops); wides = omega (arith, c.loop-column.invariant.counted.wides, c.sum_holds-test.ensures.counted.wides) };
     }

@@ -1,4 +1,5 @@
-use Rattle.std.proofs.Common.{◌≡◌, ◌≤◌, ◌-◌, ◌+◌, [], ◌∷◌, ◌++◌, map}
+use Rattle.std.proofs.Common.{◌≡◌, ◌-◌, ◌+◌, [], ◌∷◌, ◌++◌, map}
+use Rattle.rob_number.specs.Counts.{NeverFell}
 use Rattle.std.specs.Prelude.{option_map}
 use Rattle.rob_cert.specs.View.{item_of}
 use Rattle.rob_check.specs.Conditions.{sum_test, sum_tests}
@@ -15,6 +16,5 @@ invariant-loop-column g l =
     record {
       rest : verdict (map test (numbers_from l.column ((l.forms.columns + 2) - l.column)) ++ test 0 ∷ [])
           ≡ verdict (sum_tests g.N.Exact.limit l.forms.matrices (sense_of l.forms.sense) l.forms.columns (option_map value l.value) (map (item_of value) l.items));
-      ops : g.L.Ledger.ops l.fn.ledger ≤ g.L.Ledger.ops l.ledger;
-      wides : g.L.Ledger.wides l.fn.ledger ≤ g.L.Ledger.wides l.ledger;
+      counted : NeverFell g.L.Ledger.ops g.L.Ledger.wides l.fn.ledger l.ledger;
     }

@@ -32,8 +32,7 @@ loop-column-preserved g c =
           (judged_is c.sum_at.result (cover_place c.args.covering.now.covered c.args.index (suc c.loop-column.column)) (result_ok c.column_holds-test.result) (test c.loop-column.column).holds
           _ c.in-Accepted.ensures.exact (c.sum_at.ensures.place ∙ ap (cover_place c.args.covering.now.covered c.args.index) (add-one c.loop-column.column)) (c.column_holds-test.ensures.exact c.args.index))
           ∙ c.loop-column.invariant.rest;
-      ops = omega (arith, c.loop-column.invariant.ops, c.column_holds-test.ensures.ops);
-      wides = omega (arith, c.loop-column.invariant.wides, c.column_holds-test.ensures.told.never_fell);
+      counted = record { ops = omega (arith, c.loop-column.invariant.counted.ops, c.column_holds-test.ensures.counted.ops); wides = omega (arith, c.loop-column.invariant.counted.wides, c.column_holds-test.ensures.counted.wides) };
     }
 
 pub returns-clause-exact : goal.returns-clause-exact

@@ -1,4 +1,5 @@
-use Rattle.std.proofs.Common.{◌≡◌, ◌≤◌, ◌-◌, [], ◌∷◌, ◌++◌, map}
+use Rattle.std.proofs.Common.{◌≡◌, ◌-◌, [], ◌∷◌, ◌++◌, map}
+use Rattle.rob_number.specs.Counts.{NeverFell}
 use Rattle.rob_cert.specs.View.{cover_of}
 use Rattle.rob_check.specs.Conditions.{column_test, column_tests, constant_test}
 use Rattle.rob_check.specs.LiftedSet.{lifted_of}
@@ -20,6 +21,5 @@ invariant-loop-column g l =
       rest : verdict (map (column_test limit set (covering_of value l.covering) l.index form mine) (numbers_from l.column (l.set.columns - l.column))
           ++ constant_test limit set (covering_of value l.covering) l.index form mine ∷ [])
           ≡ verdict (column_tests limit set (covering_of value l.covering) l.index form mine);
-      ops : g.L.Ledger.ops l.fn.ledger ≤ g.L.Ledger.ops l.ledger;
-      wides : g.L.Ledger.wides l.fn.ledger ≤ g.L.Ledger.wides l.ledger;
+      counted : NeverFell g.L.Ledger.ops g.L.Ledger.wides l.fn.ledger l.ledger;
     }

@@ -43,6 +43,5 @@ loop-index-preserved g c =
           c.run_of.ensures.count c.split_at.ensures.back;
       fits = (each_at (MatrixFits g.N.Exact.limit) c.args.forms.now.matrices c.loop-index.index form (omega (arith, c.loop-index-test.true, ap length c.items-form-items.ensures.list)) is c.loop-index.invariant.fits).1;
       columns = (each_at (HasColumns (length c.args.covering.now.columns.now)) c.args.forms.now.matrices c.loop-index.index form (omega (arith, c.loop-index-test.true, ap length c.items-form-items.ensures.list)) is c.loop-index.invariant.columns).1;
-      ops = omega (arith, c.loop-index.invariant.ops, c.in-Accepted.ensures.ops);
-      wides = omega (arith, c.loop-index.invariant.wides, c.in-Accepted.ensures.counted.never_fell);
+      counted = record { ops = omega (arith, c.loop-index.invariant.counted.ops, c.in-Accepted.ensures.counted.ops); wides = omega (arith, c.loop-index.invariant.counted.wides, c.in-Accepted.ensures.counted.wides) };
     }

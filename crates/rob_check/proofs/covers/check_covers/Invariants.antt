@@ -1,4 +1,5 @@
-use Rattle.std.proofs.Common.{◌≡◌, ◌≤◌, length, map, drop}
+use Rattle.std.proofs.Common.{◌≡◌, length, map, drop}
+use Rattle.rob_number.specs.Counts.{NeverFell}
 use Rattle.rob_cert.specs.View.{cover_of}
 use Rattle.rob_check.specs.Conditions.{cover_tests}
 use Rattle.rob_check.specs.LiftedSet.{lifted_of}
@@ -19,6 +20,5 @@ invariant-loop-index g l =
       left : IsRest (length l.set.rows) l.index (map (cover_of value) l.covering.covers.now) (map (cover_of value) l.rest);
       fits : Each (MatrixFits g.N.Exact.limit) (drop l.index l.forms.matrices);
       columns : Each (HasColumns (length l.covering.columns.now)) (drop l.index l.forms.matrices);
-      ops : g.L.Ledger.ops l.fn.ledger ≤ g.L.Ledger.ops l.ledger;
-      wides : g.L.Ledger.wides l.fn.ledger ≤ g.L.Ledger.wides l.ledger;
+      counted : NeverFell g.L.Ledger.ops g.L.Ledger.wides l.fn.ledger l.ledger;
     }

@@ -1,4 +1,4 @@
-use Rattle.std.proofs.Common.{map, ◌∙◌}
+use Rattle.std.proofs.Common.{arith, map, ◌∙◌}
 use Rattle.rob_cert.specs.View.{cover_of}
 use Rattle.rob_check.specs.Conditions.{column_tests, sign_test}
 use Rattle.rob_check.specs.LiftedSet.{lifted_of}
@@ -24,4 +24,5 @@ returns-in_default-clause-exact g c =
     c.check_signs.result c.in_default.not-Accepted c.check_signs.ensures.exact
 
 pub returns-in_default-clause-counted : goal.returns-in_default-clause-counted
-returns-in_default-clause-counted g c = c.check_signs.ensures.counted (g.L.Ledger.wides c.args.ledger.now)
+returns-in_default-clause-counted g c =
+    record { ops = omega arith; wides = omega arith; rose = c.check_signs.ensures.rose (g.L.Ledger.wides c.args.ledger.now) }

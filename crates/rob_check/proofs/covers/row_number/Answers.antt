@@ -19,8 +19,7 @@ loop-j-preserved g c =
           c.index-columns-j.result (value c.loop-j.sum) c.loop-j-test.true c.index-columns-j.is (omega (arith, c.requires.entries, c.loop-j-test.true))
           (value c.in_ok-sum-2.sum) c.in_ok-sum-2.ensures.exact
           ∙ c.loop-j.invariant.rest;
-      ops = omega (arith, c.loop-j.invariant.ops, c.in_ok-sum-2.ensures.ops);
-      wides = omega (arith, c.loop-j.invariant.wides, c.in_ok-sum-2.ensures.told.never_fell);
+      counted = record { ops = omega (arith, c.loop-j.invariant.counted.ops, c.in_ok-sum-2.ensures.counted.ops); wides = omega (arith, c.loop-j.invariant.counted.wides, c.in_ok-sum-2.ensures.counted.wides) };
     }
 
 pub returns-clause-exact : goal.returns-clause-exact

@@ -1,4 +1,5 @@
-use Rattle.std.proofs.Common.{◌≡◌, ◌≤◌, map}
+use Rattle.std.proofs.Common.{◌≡◌, map}
+use Rattle.rob_number.specs.Counts.{NeverFell}
 use Rattle.rob_algebra.specs.Fraction.{of_int}
 use Rattle.rob_check.specs.Sums.{dot_within}
 use Rattle.rob_check.specs.View.{covering_of}
@@ -12,6 +13,5 @@ invariant-loop-j g l =
     record {
       rest : row_left value g.N.Exact.limit (value l.covering.bound) l.covering.columns.now l.row l.j (value l.sum)
           ≡ dot_within g.N.Exact.limit (covering_of value l.covering).vector (map of_int l.row);
-      ops : g.L.Ledger.ops l.fn.ledger ≤ g.L.Ledger.ops l.ledger;
-      wides : g.L.Ledger.wides l.fn.ledger ≤ g.L.Ledger.wides l.ledger;
+      counted : NeverFell g.L.Ledger.ops g.L.Ledger.wides l.fn.ledger l.ledger;
     }

@@ -30,6 +30,5 @@ loop-cover-preserved g c =
           (value c.in_ok-sum.sum) c.in_ok-sum.ensures.exact
           ∙ c.loop-cover.invariant.rest;
       names = names.1;
-      ops = omega (arith, c.loop-cover.invariant.ops, c.in_ok-sum.ensures.ops);
-      wides = omega (arith, c.loop-cover.invariant.wides, c.in_ok-sum.ensures.told.never_fell);
+      counted = record { ops = omega (arith, c.loop-cover.invariant.counted.ops, c.in_ok-sum.ensures.counted.ops); wides = omega (arith, c.loop-cover.invariant.counted.wides, c.in_ok-sum.ensures.counted.wides) };
     }

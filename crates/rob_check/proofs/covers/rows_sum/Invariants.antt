@@ -1,4 +1,5 @@
-use Rattle.std.proofs.Common.{◌≡◌, ◌≤◌, length, map, drop}
+use Rattle.std.proofs.Common.{◌≡◌, length, map, drop}
+use Rattle.rob_number.specs.Counts.{NeverFell}
 use Rattle.rob_cert.specs.View.{cover_of}
 use Rattle.rob_check.specs.Conditions.{rows_within}
 use Rattle.rob_check.specs.LiftedSet.{lifted_of, numbers_in}
@@ -14,6 +15,5 @@ invariant-loop-cover g l =
       rest : rows_left value g.N.Exact.limit (numbers_in (lifted_of l.set) l.column) l.mine l.cover-index (value l.sum)
           ≡ rows_within g.N.Exact.limit (map (cover_of value) l.mine) (numbers_in (lifted_of l.set) l.column);
       names : NameRows (length l.set.rows) (map (cover_of value) (drop l.cover-index l.mine));
-      ops : g.L.Ledger.ops l.fn.ledger ≤ g.L.Ledger.ops l.ledger;
-      wides : g.L.Ledger.wides l.fn.ledger ≤ g.L.Ledger.wides l.ledger;
+      counted : NeverFell g.L.Ledger.ops g.L.Ledger.wides l.fn.ledger l.ledger;
     }

@@ -17,6 +17,5 @@ loop-index-preserved g c =
       rest = items_go value g.N.Exact.limit (robust value c.args.model.now) c.args.items.now c.loop-index.index c.index-items-index.result c.loop-index-test.true c.index-items-index.is
           c.in-Accepted.ensures.exact
           ∙ c.loop-index.invariant.rest;
-      ops = omega (arith, c.loop-index.invariant.ops, c.in-Accepted.ensures.ops);
-      wides = omega (arith, c.loop-index.invariant.wides, c.in-Accepted.ensures.counted.never_fell);
+      counted = record { ops = omega (arith, c.loop-index.invariant.counted.ops, c.in-Accepted.ensures.counted.ops); wides = omega (arith, c.loop-index.invariant.counted.wides, c.in-Accepted.ensures.counted.wides) };
     }

@@ -1,4 +1,5 @@
-use Rattle.std.proofs.Common.{◌≡◌, ◌≤◌, map, drop}
+use Rattle.std.proofs.Common.{◌≡◌, map, drop}
+use Rattle.rob_number.specs.Counts.{NeverFell}
 use Rattle.rob_cert.specs.View.{item_of}
 use Rattle.rob_check.specs.Conditions.{items_tests}
 use Rattle.rob_check.specs.Verdicts.{verdict}
@@ -12,6 +13,5 @@ invariant-loop-index g l =
     record {
       rest : verdict (items_tests g.N.Exact.limit (robust value l.model) l.index (map (item_of value) (drop l.index l.items)))
           ≡ verdict (items_tests g.N.Exact.limit (robust value l.model) 0 (map (item_of value) l.items));
-      ops : g.L.Ledger.ops l.fn.ledger ≤ g.L.Ledger.ops l.ledger;
-      wides : g.L.Ledger.wides l.fn.ledger ≤ g.L.Ledger.wides l.ledger;
+      counted : NeverFell g.L.Ledger.ops g.L.Ledger.wides l.fn.ledger l.ledger;
     }

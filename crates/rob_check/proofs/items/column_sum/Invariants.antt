@@ -1,4 +1,5 @@
-use Rattle.std.proofs.Common.{◌≡◌, ◌≤◌, map, drop}
+use Rattle.std.proofs.Common.{◌≡◌, map, drop}
+use Rattle.rob_number.specs.Counts.{NeverFell}
 use Rattle.rob_cert.specs.View.{item_of}
 use Rattle.rob_check.specs.Conditions.{column_within}
 use Rattle.rob_check.specs.View.{TakesForm}
@@ -14,6 +15,5 @@ invariant-loop-item g l =
       rest : column_left value g.N.Exact.limit l.forms.matrices l.column l.items l.item-index (value l.sum)
           ≡ column_within g.N.Exact.limit l.forms.matrices (map (item_of value) l.items) l.column;
       items : Each (TakesForm l.forms.matrices) (map (item_of value) (drop l.item-index l.items));
-      ops : g.L.Ledger.ops l.fn.ledger ≤ g.L.Ledger.ops l.ledger;
-      wides : g.L.Ledger.wides l.fn.ledger ≤ g.L.Ledger.wides l.ledger;
+      counted : NeverFell g.L.Ledger.ops g.L.Ledger.wides l.fn.ledger l.ledger;
     }

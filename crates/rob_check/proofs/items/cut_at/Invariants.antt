@@ -1,4 +1,5 @@
-use Rattle.std.proofs.Common.{◌≡◌, ◌≤◌, ◌+◌, ◌∷◌, map}
+use Rattle.std.proofs.Common.{◌≡◌, ◌+◌, ◌∷◌, map}
+use Rattle.rob_number.specs.Counts.{NeverFell}
 use Rattle.rob_check.specs.Sums.{dot_within, column as column_of}
 use Rattle.rob_meaning.specs.Clearing.{fractions}
 use Rattle.rob_check.proofs.SumLemmas.{cut_left}
@@ -11,6 +12,5 @@ invariant-loop-k g l =
     record {
       rest : cut_left value g.N.Exact.limit l.column l.vector l.k l.form (l.k + 1) (value l.sum)
           ≡ dot_within g.N.Exact.limit (value l.fn.base ∷ map value l.vector) (column_of l.column (fractions l.form));
-      ops : g.L.Ledger.ops l.fn.ledger ≤ g.L.Ledger.ops l.ledger;
-      wides : g.L.Ledger.wides l.fn.ledger ≤ g.L.Ledger.wides l.ledger;
+      counted : NeverFell g.L.Ledger.ops g.L.Ledger.wides l.fn.ledger l.ledger;
     }

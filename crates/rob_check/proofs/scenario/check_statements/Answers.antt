@@ -37,6 +37,5 @@ loop-line-preserved g c =
       lines = (each_at_map (IsSetLine m) (set_line_of value) c.args.model.now.set_lines c.loop-line.line-index c.line-item.result
           (omega (arith, some, same)) here c.loop-line.invariant.lines).1;
       number = omega (arith, c.loop-line.invariant.number);
-      ops = omega (arith, c.loop-line.invariant.ops, c.holds-test.ensures.ops);
-      wides = omega (arith, c.loop-line.invariant.wides, c.holds-test.ensures.told.never_fell);
+      counted = record { ops = omega (arith, c.loop-line.invariant.counted.ops, c.holds-test.ensures.ops); wides = omega (arith, c.loop-line.invariant.counted.wides, c.holds-test.ensures.told.never_fell) };
     }

@@ -1,4 +1,5 @@
-use Rattle.std.proofs.Common.{◌≡◌, ◌≤◌, ◌+◌, map, drop}
+use Rattle.std.proofs.Common.{◌≡◌, ◌+◌, map, drop}
+use Rattle.rob_number.specs.Counts.{NeverFell}
 use Rattle.rob_check.specs.Conditions.{set_tests}
 use Rattle.rob_check.specs.Scenario.{taken_place}
 use Rattle.rob_check.specs.Verdicts.{verdict}
@@ -19,6 +20,5 @@ invariant-loop-line g l =
           ≡ verdict (tests l.first (all_stated (map (set_line_of value) l.model.set_lines)));
       lines : Each (IsSetLine m) (map (set_line_of value) (drop l.line-index l.model.set_lines));
       number : l.index ≡ l.first + l.line-index;
-      ops : g.L.Ledger.ops l.fn.ledger ≤ g.L.Ledger.ops l.ledger;
-      wides : g.L.Ledger.wides l.fn.ledger ≤ g.L.Ledger.wides l.ledger;
+      counted : NeverFell g.L.Ledger.ops g.L.Ledger.wides l.fn.ledger l.ledger;
     }

@@ -29,6 +29,5 @@ loop-k-preserved g c =
           (c.in-Accepted.ensures.exact m) c.declared.result c.declared-in-loop-k.result c.declared.ensures.count c.declared-in-loop-k.ensures.count
           ∙ c.loop-k.invariant.rest;
       small = omega (arith, c.loop-k.invariant.small, c.declared.ensures.count, c.declared-in-loop-k.ensures.count, few_declared d.lower, few_declared d.upper);
-      ops = omega (arith, c.loop-k.invariant.ops, c.in-Accepted.ensures.ops);
-      wides = omega (arith, c.loop-k.invariant.wides, c.in-Accepted.ensures.counted.never_fell);
+      counted = record { ops = omega (arith, c.loop-k.invariant.counted.ops, c.in-Accepted.ensures.counted.ops); wides = omega (arith, c.loop-k.invariant.counted.wides, c.in-Accepted.ensures.counted.wides) };
     }

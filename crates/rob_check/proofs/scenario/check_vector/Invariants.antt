@@ -1,4 +1,5 @@
 use Rattle.std.proofs.Common.{◌≡◌, ◌≤◌, ◌*◌, ◌++◌, map, drop}
+use Rattle.rob_number.specs.Counts.{NeverFell}
 use Rattle.rob_check.specs.Conditions.{set_tests}
 use Rattle.rob_check.specs.Scenario.{taken_place}
 use Rattle.rob_check.specs.Verdicts.{verdict}
@@ -16,6 +17,5 @@ invariant-loop-k g l =
       rest : verdict (tests l.index (bounds_from l.k (map (parameter_of value) (drop l.k l.model.params)) ++ all_stated (map (set_line_of value) l.model.set_lines)))
           ≡ verdict (tests 0 (set_conditions m));
       small : l.index ≤ 2 * l.k;
-      ops : g.L.Ledger.ops l.fn.ledger ≤ g.L.Ledger.ops l.ledger;
-      wides : g.L.Ledger.wides l.fn.ledger ≤ g.L.Ledger.wides l.ledger;
+      counted : NeverFell g.L.Ledger.ops g.L.Ledger.wides l.fn.ledger l.ledger;
     }

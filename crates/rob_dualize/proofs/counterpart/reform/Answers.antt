@@ -11,13 +11,13 @@ use Rattle.rob_dualize.proofs.Soundness.{forms_sound, set_sound, wholes_are, for
 use Rattle.rob_dualize.proofs.counterpart.reform.Goals as goal
 
 pub row-requires-clause-forms : goal.row-requires-clause-forms
-row-requires-clause-forms c = forms_sound c.args.forms.now c.args.set.now c.requires.model c.requires.fit
+row-requires-clause-forms c = forms_sound c.args.forms.now c.args.set.now c.requires.model
 
 pub row-requires-clause-set : goal.row-requires-clause-set
-row-requires-clause-set c = set_sound c.args.forms.now c.args.set.now c.requires.model c.requires.fit
+row-requires-clause-set c = set_sound c.args.forms.now c.args.set.now c.requires.model
 
 pub right_number-requires-clause-sound : goal.right_number-requires-clause-sound
-right_number-requires-clause-sound c = forms_sound c.args.forms.now c.args.set.now c.requires.model c.requires.fit
+right_number-requires-clause-sound c = forms_sound c.args.forms.now c.args.set.now c.requires.model
 
 pub loop-p-preserved : goal.loop-p-preserved
 loop-p-preserved c =
@@ -44,10 +44,10 @@ returns-clause-shaped c =
     listed_shaped (reform d) lp (all_written d c.loop-i.i c.loop-i.a c.loop-i.b c.in_ok-c.c n c.loop-i.invariant c.in_ok-c.ensures.costs)
 
 pub returns-clause-within : goal.returns-clause-within
-returns-clause-within c = λ limit one fit.
+returns-clause-within c = λ limit one h k.
     let d : RobustProgram = wholes c.args.forms.now c.args.set.now in
     let lp : Lp = record { a = c.loop-i.a; b = c.loop-i.b; c = c.in_ok-c.c } in
     let n : c.loop-i.i ≡ length c.args.forms.now.matrices = omega (arith, c.loop-i-test.false, c.loop-i.auto.i-end, ap length c.items-i-end.ensures.list) in
-    reform_within d limit (form_fits limit c.args.forms.now c.args.set.now fit) (left_fits limit c.args.forms.now c.args.set.now fit) (right_fits limit c.args.forms.now c.args.set.now fit)
+    reform_within d limit (form_fits limit c.args.forms.now c.args.set.now h k) (left_fits limit c.args.forms.now c.args.set.now h k) (right_fits limit c.args.forms.now c.args.set.now h k)
     (sense_small limit c.args.forms.now one) lp
     (all_written d c.loop-i.i c.loop-i.a c.loop-i.b c.in_ok-c.c n c.loop-i.invariant c.in_ok-c.ensures.costs)

@@ -5,11 +5,11 @@ use Rattle.rob_counterpart.specs.SamePrograms.{AreSame}
 use Rattle.rob_dualize.specs.Ending.{IsMadeAs}
 use Rattle.rob_dualize.specs.Wholes.{counterpart_of}
 use Rattle.rob_dualize.proofs.MakingLemmas.{ok_weaker, counterpart_same}
-use Rattle.rob_dualize.proofs.Soundness.{fit_weaker}
+use Rattle.rob_dualize.proofs.Soundness.{elaborated_weaker}
 use Rattle.rob_dualize.proofs.route.counterpart_work.Goals as goal
 
-pub reform-requires-clause-fit : goal.reform-requires-clause-fit
-reform-requires-clause-fit g c = fit_weaker g.N.Exact.limit 4611686018427387903 c.args.forms.now c.args.set.now g.met.N.Exact.limit_high c.requires.fit
+pub reform-requires-clause-model : goal.reform-requires-clause-model
+reform-requires-clause-model g c = elaborated_weaker 4611686018427387903 c.args.forms.now c.args.set.now g.met.N.Exact.limit_high c.requires.model
 
 pub new-requires-clause-few : goal.new-requires-clause-few
 new-requires-clause-few g c =
@@ -18,7 +18,7 @@ new-requires-clause-few g c =
     omega (arith, s.height, s.width, c.requires.few)
 
 pub new-requires-clause-numbers : goal.new-requires-clause-numbers
-new-requires-clause-numbers g c = c.in_ok-lp.ensures.within g.N.Exact.limit g.met.N.Exact.limit_low c.requires.fit
+new-requires-clause-numbers g c = c.in_ok-lp.ensures.within g.N.Exact.limit g.met.N.Exact.limit_low c.requires.model.forms_fit c.requires.model.set_fits
 
 pub returns : goal.returns
 returns g c = record {

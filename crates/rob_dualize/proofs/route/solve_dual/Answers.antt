@@ -53,12 +53,15 @@ returns-in-Ok-solve-clause-solves g c = λ m model f st.
     (subst (λ (q : Certificate). IfOk c.certificate.result (λ cert. certificate_of value cert ≡ q)) (read_same c.args.forms.now c.args.set.now m f st inside c.in-Ok-solve.kind c.solve.new.self) c.certificate.ensures.certificate)
     c.or_stop.result c.or_stop.ensures.answer
 
-pub returns-in-Ok-solve-clause-ops : goal.returns-in-Ok-solve-clause-ops
-returns-in-Ok-solve-clause-ops g c = omega (arith, c.in-Ok.ensures.ops, c.solve.ensures.counted.ops)
+pub returns-in-Ok-solve-clause-counted : goal.returns-in-Ok-solve-clause-counted
+returns-in-Ok-solve-clause-counted g c = record {
+  ops = omega (arith, c.in-Ok.ensures.counted.ops, c.solve.ensures.counted.ops);
+  wides = omega (arith, c.in-Ok.ensures.counted.wides, c.in-Ok-solve.ensures.counted.wides);
+}
 
 pub wide-requires : goal.wide-requires
 wide-requires g c = record {
-  positions = c.row_count-rows.ensures.count ∙ sym c.in-Ok-counterpart_work.ensures.made.same.height ∙ c.in-Ok-counterpart_work.ensures.made.made.rows ∙ sym c.solve.ensures.positions;
+  positions = c.program_rows-rows.ensures.count ∙ sym c.in-Ok-counterpart_work.ensures.made.same.height ∙ c.in-Ok-counterpart_work.ensures.made.made.rows ∙ sym c.solve.ensures.positions;
 }
 
 pub returns-in-Err-solve-clause-solves : goal.returns-in-Err-solve-clause-solves
@@ -72,5 +75,8 @@ returns-in-Err-solve-clause-solves g c = λ m model f st.
     (wide_counted (g.L.Ledger.wides c.args.ledger.now) (g.L.Ledger.wides c.solve.new.ledger) c.solve.new.self.basis named.Reform c.position.result c.wide.result
     (c.in-Err-solve.ensures.counted.wides ∙ ap raised found.counted) c.wide.ensures.stop)
 
-pub returns-in-Err-solve-clause-ops : goal.returns-in-Err-solve-clause-ops
-returns-in-Err-solve-clause-ops g c = omega (arith, c.in-Ok.ensures.ops, c.solve.ensures.counted.ops)
+pub returns-in-Err-solve-clause-counted : goal.returns-in-Err-solve-clause-counted
+returns-in-Err-solve-clause-counted g c = record {
+  ops = omega (arith, c.in-Ok.ensures.counted.ops, c.solve.ensures.counted.ops);
+  wides = omega (arith, c.in-Ok.ensures.counted.wides, c.in-Err-solve.ensures.counted.wides);
+}

@@ -23,7 +23,7 @@ returns-in-Ok-solve g c = record {
   found = λ m model f st.
       counted_found g.N.Exact.value g.N.Exact.limit m (g.L.Ledger.wides c.args.ledger.now) (g.L.Ledger.wides c.solve.new.ledger) c.read_scenario.result c.in-Ok-solve.ensures.counted.wides
       (c.read_scenario.ensures.found m (g.L.Ledger.wides c.args.ledger.now) model f st);
-  ops = c.solve.ensures.counted.ops;
+  counted = record { ops = c.solve.ensures.counted.ops; wides = omega (arith, c.in-Ok-solve.ensures.counted.wides) };
 }
 
 pub wide-requires : goal.wide-requires
@@ -39,5 +39,5 @@ returns-clause-found g c = λ m model f st.
     c.wide.ensures.stop)
     (wide_counted (g.L.Ledger.wides c.args.ledger.now) (g.L.Ledger.wides c.solve.new.ledger) c.solve.new.self.basis named.Set c.position.result c.wide.result c.in-Err-solve.ensures.counted.wides c.wide.ensures.stop)
 
-pub returns-clause-ops : goal.returns-clause-ops
-returns-clause-ops g c = c.solve.ensures.counted.ops
+pub returns-clause-counted : goal.returns-clause-counted
+returns-clause-counted g c = record { ops = c.solve.ensures.counted.ops; wides = omega (arith, c.in-Err-solve.ensures.counted.wides) }

@@ -61,5 +61,5 @@ returns-clause-cause g c =
     (ap (λ (xs : List (List (List ℤ))). Clearing (Form (length xs))) c.items.ensures.list)
     (λ (h : Rose (g.L.Ledger.wides c.table_rows.new.ledger) (g.L.Ledger.wides c.clear_rows.new.ledger)
     × IsWideCleared g.N.Exact.limit (entries (map (map value) c.items-3.result.now))).
-    (omega (arith, h.0, c.table_rows.ensures.wides), subst (λ (x : List (List Fraction)). IsWideCleared g.N.Exact.limit (entries x)) e h.1))
+    (omega (arith, h.0, c.table_rows.ensures.counted.wides), subst (λ (x : List (List Fraction)). IsWideCleared g.N.Exact.limit (entries x)) e h.1))
     c.in-Err.ensures.wide

@@ -20,7 +20,7 @@ returns-in_err-numbers-clause-wide g c =
     let p = err_from_is_err_and c.from_residual.result c.from_residual.ensures.1 in
     stops_more c.from_residual.result c.in_err-numbers.field-0.0 p.0 p.1 p.2
     (λ (h : Rose (g.L.Ledger.wides c.loop-row.ledger) (g.L.Ledger.wides c.cleared.new.ledger) × Some_of Q (map value c.items.result.now)). (
-      omega (arith, c.loop-row.invariant.wides, h.0),
+      omega (arith, c.loop-row.invariant.counted.wides, h.0),
       wide_in_row value Q c.args.rows.now c.loop-row.row-index c.row-item.result c.items.result.now c.loop-row-test.true c.row-item.is c.items.ensures.list h.1,
     ))
     c.in_err-numbers.ensures.wide
@@ -31,8 +31,7 @@ loop-row-preserved g c = record {
       c.loop-row-test.true c.row-item.is c.items.ensures.list c.loop-row.invariant.cleared c.in_ok-push.ensures.appended c.in_ok-numbers.ensures.cleared;
   fits = subst (MatrixFits g.N.Exact.limit) (sym c.in_ok-push.ensures.appended)
       (each_both (λ (row : List ℤ). Each (λ a. nat_abs a ≤ g.N.Exact.limit) row) c.loop-row.matrix (c.in_ok-numbers.numbers ∷ []) c.loop-row.invariant.fits (c.in_ok-numbers.ensures.fits, tt));
-  ops = omega (arith, c.loop-row.invariant.ops, c.cleared.ensures.ops);
-  wides = omega (arith, c.loop-row.invariant.wides, c.cleared.ensures.wides);
+  counted = record { ops = omega (arith, c.loop-row.invariant.counted.ops, c.cleared.ensures.counted.ops); wides = omega (arith, c.loop-row.invariant.counted.wides, c.cleared.ensures.counted.wides) };
 }
 
 pub returns-clause-cleared : goal.returns-clause-cleared

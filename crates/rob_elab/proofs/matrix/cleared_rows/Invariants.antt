@@ -1,4 +1,5 @@
-use Rattle.std.specs.Prelude.{◌≡◌, ◌≤◌, map, take}
+use Rattle.std.specs.Prelude.{◌≡◌, map, take}
+use Rattle.rob_number.specs.Counts.{NeverFell}
 use Rattle.rob_meaning.specs.Clearing.{whole_at}
 use Rattle.rob_elab.specs.Forms.{MatrixFits}
 use Rattle.rob_elab.proofs.matrix.cleared_rows.Given as goal
@@ -8,6 +9,5 @@ abbrev pub invariant-loop-row : goal.invariant-loop-row
 invariant-loop-row g l = record {
   cleared : l.matrix ≡ map (map (whole_at l.common)) (map (map g.N.Exact.value) (take l.row-index l.rows));
   fits : MatrixFits g.N.Exact.limit l.matrix;
-  ops : g.L.Ledger.ops l.fn.ledger ≤ g.L.Ledger.ops l.ledger;
-  wides : g.L.Ledger.wides l.fn.ledger ≤ g.L.Ledger.wides l.ledger;
+  counted : NeverFell g.L.Ledger.ops g.L.Ledger.wides l.fn.ledger l.ledger;
 }

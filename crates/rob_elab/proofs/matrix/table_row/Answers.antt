@@ -7,6 +7,5 @@ pub loop-column-preserved : goal.loop-column-preserved
 loop-column-preserved g c = record {
   numbers = row_more g.N.Exact.value c.loop-column.numbers c.push.new.self c.number-number.result c.loop-column.column
       (numbers_of g.N.Exact.value c.args.table.now c.args.row) c.loop-column.invariant.numbers c.in_ok-push.ensures.appended c.number-number.ensures.value;
-  ops = omega (arith, c.loop-column.invariant.ops, c.number-number.ensures.ops);
-  wides = omega (arith, c.loop-column.invariant.wides, c.number-number.ensures.wides);
+  counted = record { ops = omega (arith, c.loop-column.invariant.counted.ops, c.number-number.ensures.counted.ops); wides = omega (arith, c.loop-column.invariant.counted.wides, c.number-number.ensures.counted.wides) };
 }

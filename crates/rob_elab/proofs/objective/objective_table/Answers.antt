@@ -58,7 +58,7 @@ returns-in-Minimise-clause-wide g c =
     let is = ap (λ x. objective_form (sense_of x) m.objective tau) c.in-Minimise.is in
     let here = tau_holds value limit fits one m c.in_ok-tau.tau c.column_count-column.result (column_count m) c.column_count-column.ensures.count c.in_ok-tau.ensures.number in
     less_wide value limit fits one m m.objective tau form is c.in_ok-goal.goal c.in_ok-tau.tau c.in_ok-goal.ensures.table here c.less.result (g.L.Ledger.wides c.args.ledger.now) (g.L.Ledger.wides c.unit.new.ledger) (g.L.Ledger.wides c.less.new.ledger)
-    (omega (arith, c.coefficients.ensures.wides, c.unit.ensures.wides)) c.less.ensures.wide
+    (omega (arith, c.coefficients.ensures.counted.wides, c.unit.ensures.counted.wides)) c.less.ensures.wide
 
 pub returns-in-Maximise-clause-table : goal.returns-in-Maximise-clause-table
 returns-in-Maximise-clause-table g c =
@@ -98,4 +98,4 @@ returns-in-Maximise-clause-wide g c =
     let is = ap (λ x. objective_form (sense_of x) m.objective tau) c.in-Maximise.is in
     let here = tau_holds value limit fits one m c.in_ok-tau.tau c.column_count-column.result (column_count m) c.column_count-column.ensures.count c.in_ok-tau.ensures.number in
     less_wide value limit fits one m tau m.objective form is c.in_ok-tau.tau c.in_ok-goal.goal here c.in_ok-goal.ensures.table c.less-in-Maximise.result (g.L.Ledger.wides c.args.ledger.now) (g.L.Ledger.wides c.unit.new.ledger) (g.L.Ledger.wides c.less-in-Maximise.new.ledger)
-    (omega (arith, c.coefficients.ensures.wides, c.unit.ensures.wides)) c.less-in-Maximise.ensures.wide
+    (omega (arith, c.coefficients.ensures.counted.wides, c.unit.ensures.counted.wides)) c.less-in-Maximise.ensures.wide

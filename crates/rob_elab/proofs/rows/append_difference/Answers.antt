@@ -19,7 +19,7 @@ returns-in-Ok-clause-form g c =
     let e = difference (expression_of value c.args.left.now) (expression_of value c.args.right.now) in
     form_appends g.N.Exact.limit m (length c.args.matrices.now) e (numbers_of value c.in-Ok.table) c.args.matrices.now c.append_form.new.matrices
     (g.L.Ledger.wides c.args.ledger.now) (g.L.Ledger.wides c.difference_table.new.ledger) (g.L.Ledger.wides c.append_form.new.ledger) c.append_form.result
-    (λ i k j. c.in-Ok.ensures.table k j i) c.in-Ok.ensures.none_wide c.difference_table.ensures.wides
+    (λ i k j. c.in-Ok.ensures.table k j i) c.in-Ok.ensures.none_wide c.difference_table.ensures.counted.wides
     c.append_form.ensures.matrix c.append_form.ensures.fits c.append_form.ensures.not_wide c.append_form.ensures.cause
 
 pub returns-in-Err-clause-form : goal.returns-in-Err-clause-form

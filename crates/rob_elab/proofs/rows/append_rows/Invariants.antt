@@ -1,7 +1,7 @@
-use Rattle.std.specs.Prelude.{◌≤◌}
+use Rattle.rob_number.specs.Counts.{NeverFell}
 use Rattle.rob_meaning.specs.Forms.{row_forms}
 use Rattle.rob_model.specs.View.{robust}
-use Rattle.rob_elab.proofs.AppendLemmas.{Progress}
+use Rattle.rob_elab.proofs.AppendLemmas.{FormProgress}
 use Rattle.rob_elab.proofs.LeftLemmas.{other_rows}
 use Rattle.rob_elab.proofs.rows.append_rows.Given as goal
 
@@ -11,7 +11,6 @@ invariant-loop-row g l =
     let value = g.N.Exact.value in
     let m = robust value l.model in
     record {
-      progress : Progress g.N.Exact.limit m (row_forms m.rows) (other_rows value l.model.rows l.row-index) l.fn.matrices l.matrices;
-      ops : g.L.Ledger.ops l.fn.ledger ≤ g.L.Ledger.ops l.ledger;
-      wides : g.L.Ledger.wides l.fn.ledger ≤ g.L.Ledger.wides l.ledger;
+      progress : FormProgress g.N.Exact.limit m (row_forms m.rows) (other_rows value l.model.rows l.row-index) l.fn.matrices l.matrices;
+      counted : NeverFell g.L.Ledger.ops g.L.Ledger.wides l.fn.ledger l.ledger;
     }

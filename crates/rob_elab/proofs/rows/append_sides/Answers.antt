@@ -1,11 +1,12 @@
 use Rattle.std.proofs.Common.{arith, ap, sym, subst}
-use Rattle.std.proofs.lemmas.Result.{err_from_is_err_and}
 use Rattle.std.specs.Prelude.{length, ◌∷◌, []}
 use Rattle.rob_meaning.specs.Forms.{difference, sides}
 use Rattle.rob_meaning.specs.RobustModel.{Relation}
 use Rattle.rob_model.specs.View.{robust, expression_of, relation_of}
+use Rattle.rob_sets.proofs.PartedLemmas.{parted}
+use Rattle.rob_sets.proofs.ProgressLemmas.{begins}
 use Rattle.rob_elab.specs.Appending.{Appends}
-use Rattle.rob_elab.proofs.AppendLemmas.{appended_length, appends_err, appends_then}
+use Rattle.rob_elab.proofs.AppendLemmas.{FormProgress, forms_end_with, forms_go_on, forms_stop}
 use Rattle.rob_elab.proofs.rows.append_sides.Goals as goal
 
 pub returns-in_err-append_difference-in-Equal-clause-forms : goal.returns-in_err-append_difference-in-Equal-clause-forms
@@ -14,14 +15,14 @@ returns-in_err-append_difference-in-Equal-clause-forms g c =
     let m = robust value c.args.model.now in
     let l = expression_of value c.args.left.now in
     let r = expression_of value c.args.right.now in
-    let n = length c.args.matrices.now in
-    let q = err_from_is_err_and c.from_residual.result c.from_residual.ensures.1 in
-    subst (λ (x : Relation). Appends g.N.Exact.limit m n (sides x l r) c.args.matrices.now c.append_difference-in-Equal.new.matrices
+    let old = c.args.matrices.now in
+    let all = difference l r ∷ (difference r l ∷ []) in
+    let start : FormProgress g.N.Exact.limit m all all old old = begins old in
+    subst (λ (x : Relation). Appends g.N.Exact.limit m (length old) (sides x l r) old c.append_difference-in-Equal.new.matrices
     (g.L.Ledger.wides c.args.ledger.now) (g.L.Ledger.wides c.append_difference-in-Equal.new.ledger) c.from_residual.result)
     (sym (ap relation_of c.in-Equal.is))
-    (appends_err g.N.Exact.limit m n (difference l r ∷ []) (difference r l ∷ []) c.args.matrices.now c.append_difference-in-Equal.new.matrices
-    (g.L.Ledger.wides c.args.ledger.now) (g.L.Ledger.wides c.args.ledger.now) (g.L.Ledger.wides c.append_difference-in-Equal.new.ledger) c.from_residual.result
-    c.in_err-append_difference-in-Equal.field-0.0 q.0 q.1 q.2 (omega arith) c.in_err-append_difference-in-Equal.ensures.form)
+    (forms_stop start c.append_difference-in-Equal.new.matrices (g.L.Ledger.wides c.args.ledger.now)
+    c.from_residual.result (parted (difference l r ∷ []) (difference r l ∷ [])) (omega arith) c.in_err-append_difference-in-Equal.ensures.form c.from_residual.ensures.1)
 
 pub returns-in_ok-append_difference-in-Equal-clause-forms : goal.returns-in_ok-append_difference-in-Equal-clause-forms
 returns-in_ok-append_difference-in-Equal-clause-forms g c =
@@ -29,13 +30,13 @@ returns-in_ok-append_difference-in-Equal-clause-forms g c =
     let m = robust value c.args.model.now in
     let l = expression_of value c.args.left.now in
     let r = expression_of value c.args.right.now in
-    let n = length c.args.matrices.now in
-    let first = c.append_difference-in-Equal.new.matrices in
-    subst (λ (x : Relation). Appends g.N.Exact.limit m n (sides x l r) c.args.matrices.now c.append_difference-in-Equal-2.new.matrices
+    let old = c.args.matrices.now in
+    let all = difference l r ∷ (difference r l ∷ []) in
+    let start : FormProgress g.N.Exact.limit m all all old old = begins old in
+    subst (λ (x : Relation). Appends g.N.Exact.limit m (length old) (sides x l r) old c.append_difference-in-Equal-2.new.matrices
     (g.L.Ledger.wides c.args.ledger.now) (g.L.Ledger.wides c.append_difference-in-Equal-2.new.ledger) c.append_difference-in-Equal-2.result)
     (sym (ap relation_of c.in-Equal.is))
-    (appends_then g.N.Exact.limit m n (length first) (difference l r ∷ []) (difference r l ∷ []) c.args.matrices.now first c.append_difference-in-Equal-2.new.matrices
-    (g.L.Ledger.wides c.args.ledger.now) (g.L.Ledger.wides c.append_difference-in-Equal.new.ledger) (g.L.Ledger.wides c.append_difference-in-Equal-2.new.ledger)
-    c.append_difference-in-Equal-2.result
-    (appended_length g.N.Exact.limit m n (difference l r ∷ []) c.args.matrices.now first c.in_ok-append_difference-in-Equal.ensures.form)
-    c.in_ok-append_difference-in-Equal.ensures.form c.append_difference-in-Equal.ensures.wides c.append_difference-in-Equal-2.ensures.form)
+    (forms_end_with (forms_go_on start (parted (difference l r ∷ []) (difference r l ∷ [])) c.in_ok-append_difference-in-Equal.ensures.form)
+    c.append_difference-in-Equal-2.new.matrices (g.L.Ledger.wides c.args.ledger.now) (g.L.Ledger.wides c.append_difference-in-Equal.new.ledger)
+    (g.L.Ledger.wides c.append_difference-in-Equal-2.new.ledger) c.append_difference-in-Equal-2.result
+    c.append_difference-in-Equal.ensures.counted.wides c.append_difference-in-Equal-2.ensures.form)

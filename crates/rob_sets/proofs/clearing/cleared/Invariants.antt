@@ -1,4 +1,5 @@
 use Rattle.std.specs.Prelude.{◌≡◌, ◌≤◌, nat_abs, map, take}
+use Rattle.rob_number.specs.Counts.{NeverFell}
 use Rattle.rob_meaning.specs.Clearing.{whole_at}
 use Rattle.rob_meaning.specs.Places.{Each}
 use Rattle.rob_sets.proofs.clearing.cleared.Given as goal
@@ -8,6 +9,5 @@ abbrev pub invariant-loop-q : goal.invariant-loop-q
 invariant-loop-q g l = record {
   cleared : l.list ≡ map (whole_at l.common) (map g.N.Exact.value (take l.q-index l.numbers));
   fits : Each (λ a. nat_abs a ≤ g.N.Exact.limit) l.list;
-  ops : g.L.Ledger.ops l.fn.ledger ≤ g.L.Ledger.ops l.ledger;
-  wides : g.L.Ledger.wides l.fn.ledger ≤ g.L.Ledger.wides l.ledger;
+  counted : NeverFell g.L.Ledger.ops g.L.Ledger.wides l.fn.ledger l.ledger;
 }

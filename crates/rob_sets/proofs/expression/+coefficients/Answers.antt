@@ -141,7 +141,7 @@ product-returns-in_err-part-clause-wide g t c =
     let p = err_from_is_err_and c.from_residual-in_err-part.result c.from_residual-in_err-part.ensures.1 in
     stops_more c.from_residual-in_err-part.result c.in_err-part.field-0.0 p.0 p.1 p.2
     (λ (h : Rose (g.L.Ledger.wides c.loop-factor.ledger) (g.L.Ledger.wides c.coefficients.new.ledger) × Some_of Q (subexpressions (expression_of value c.factor-item.result))). (
-      omega (arith, c.loop-factor.invariant.wides, h.0),
+      omega (arith, c.loop-factor.invariant.counted.wides, h.0),
       c.loop-factor.invariant.wide (some_first _ _ _ _ (products_at value c.args.factors.now c.loop-factor.factor-index c.factor-item.result c.loop-factor-test.true c.factor-item.is) Q h.1),
     ))
     c.in_err-part.ensures.wide
@@ -166,7 +166,7 @@ product-returns-in_err-so_far-2-clause-wide g t c =
     stops_more c.from_residual-in_err-so_far-2.result c.in_err-so_far-2.field-0.0 p.0 p.1 p.2
     (λ (h : Rose (g.L.Ledger.wides c.coefficients.new.ledger) (g.L.Ledger.wides c.times.new.ledger)
     × ((k : ℕ) × (j : ℕ) × IsWide g.N.Exact.limit (table_times (numbers_of value c.loop-factor.so_far) (numbers_of value c.in_ok-part.part) k j))). (
-      omega (arith, c.loop-factor.invariant.wides, c.coefficients.ensures.wides, h.0),
+      omega (arith, c.loop-factor.invariant.counted.wides, c.coefficients.ensures.counted.wides, h.0),
       c.loop-factor.invariant.wide (some_here _ _ _ _ (products_at value c.args.factors.now c.loop-factor.factor-index c.factor-item.result c.loop-factor-test.true c.factor-item.is) Q (
         h.1.0,
         h.1.1,
@@ -201,8 +201,7 @@ product-loop-factor-preserved g t c =
       none_wide = λ rest. c.loop-factor.invariant.none_wide (each_from _ _ _ _ (products_at value fs i f c.loop-factor-test.true c.factor-item.is) P c.in_ok-part.ensures.none_wide
           (none_wide value g.N.Exact.limit g.met.N.Exact.fits g.met.N.Exact.limit_low m c.in_ok-so_far-2.so_far (product (first_factors value fs (i + 1))) table) rest);
       wide = λ rest. c.loop-factor.invariant.wide (some_rest _ _ _ _ (products_at value fs i f c.loop-factor-test.true c.factor-item.is) Q rest);
-      ops = omega (arith, c.loop-factor.invariant.ops, c.coefficients.ensures.ops, c.times.ensures.ops);
-      wides = omega (arith, c.loop-factor.invariant.wides, c.coefficients.ensures.wides, c.times.ensures.wides);
+      counted = record { ops = omega (arith, c.loop-factor.invariant.counted.ops, c.coefficients.ensures.counted.ops, c.times.ensures.counted.ops); wides = omega (arith, c.loop-factor.invariant.counted.wides, c.coefficients.ensures.counted.wides, c.times.ensures.counted.wides) };
     }
 
 -- ---- term by term
@@ -214,7 +213,7 @@ sum-returns-in_err-part-clause-wide g t c =
     let p = err_from_is_err_and c.from_residual.result c.from_residual.ensures.1 in
     stops_more c.from_residual.result c.in_err-part.field-0.0 p.0 p.1 p.2
     (λ (h : Rose (g.L.Ledger.wides c.loop-term.ledger) (g.L.Ledger.wides c.coefficients.new.ledger) × Some_of Q (subexpressions (expression_of value c.term-item.result.inner))). (
-      omega (arith, c.loop-term.invariant.wides, h.0),
+      omega (arith, c.loop-term.invariant.counted.wides, h.0),
       c.loop-term.invariant.wide (some_first _ _ _ _ (sums_at value c.args.terms.now c.loop-term.term-index c.term-item.result c.loop-term-test.true c.term-item.is) Q h.1),
     ))
     c.in_err-part.ensures.wide
@@ -228,7 +227,7 @@ sum-returns-in_err-join-clause-wide g t c =
     stops_more c.from_residual-in_err-join.result c.in_err-join.field-0.0 p.0 p.1 p.2
     (λ (h : Rose (g.L.Ledger.wides c.coefficients.new.ledger) (g.L.Ledger.wides c.join.new.ledger)
     × ((k : ℕ) × (j : ℕ) × IsWide g.N.Exact.limit (numbers_of value c.loop-term.so_far k j +ℚ signed c.term-item.result.minus (numbers_of value c.in_ok-part.part k j)))). (
-      omega (arith, c.loop-term.invariant.wides, c.coefficients.ensures.wides, h.0),
+      omega (arith, c.loop-term.invariant.counted.wides, c.coefficients.ensures.counted.wides, h.0),
       c.loop-term.invariant.wide (some_here _ _ _ _ (sums_at value c.args.terms.now c.loop-term.term-index c.term-item.result c.loop-term-test.true c.term-item.is) Q (
         h.1.0,
         h.1.1,
@@ -260,6 +259,5 @@ sum-loop-term-preserved g t c =
       none_wide = λ rest. c.loop-term.invariant.none_wide (each_from _ _ _ _ (sums_at value ts i term c.loop-term-test.true c.term-item.is) P c.in_ok-part.ensures.none_wide
           (none_wide value g.N.Exact.limit g.met.N.Exact.fits g.met.N.Exact.limit_low m c.join.new.self (sum (first_terms value ts (i + 1))) table) rest);
       wide = λ rest. c.loop-term.invariant.wide (some_rest _ _ _ _ (sums_at value ts i term c.loop-term-test.true c.term-item.is) Q rest);
-      ops = omega (arith, c.loop-term.invariant.ops, c.coefficients.ensures.ops, c.join.ensures.ops);
-      wides = omega (arith, c.loop-term.invariant.wides, c.coefficients.ensures.wides, c.join.ensures.wides);
+      counted = record { ops = omega (arith, c.loop-term.invariant.counted.ops, c.coefficients.ensures.counted.ops, c.join.ensures.counted.ops); wides = omega (arith, c.loop-term.invariant.counted.wides, c.coefficients.ensures.counted.wides, c.join.ensures.counted.wides) };
     }

@@ -1,4 +1,5 @@
 use Rattle.std.specs.Prelude.{◌≡◌, ℕ, ◌+◌, ◌≤◌, map}
+use Rattle.rob_number.specs.Counts.{NeverFell}
 use Rattle.rob_meaning.specs.Coefficients.{sum_table, product_table}
 use Rattle.rob_meaning.specs.Degrees.{AreLinear, FactorsLinear, decision_degree, uncertain_degree}
 use Rattle.rob_meaning.specs.Expressions.{product, no_terms, no_factors}
@@ -26,8 +27,7 @@ invariant-sum-loop-term g l =
       none_wide : Each (λ s. HasWideCoefficient g.N.Exact.limit m s → ⊥) (sums_from first left)
           → Each (λ s. HasWideCoefficient g.N.Exact.limit m s → ⊥) (sums_from no_terms all);
       wide : Some_of (HasWideCoefficient g.N.Exact.limit m) (sums_from first left) → Some_of (HasWideCoefficient g.N.Exact.limit m) (sums_from no_terms all);
-      ops : g.L.Ledger.ops l.fn.ledger ≤ g.L.Ledger.ops l.ledger;
-      wides : g.L.Ledger.wides l.fn.ledger ≤ g.L.Ledger.wides l.ledger;
+      counted : NeverFell g.L.Ledger.ops g.L.Ledger.wides l.fn.ledger l.ledger;
     }
 
 -- the table so far is that of the first factors
@@ -48,6 +48,5 @@ invariant-product-loop-factor g l =
           → Each (λ s. HasWideCoefficient g.N.Exact.limit m s → ⊥) (products_from no_factors all);
       wide : Some_of (HasWideCoefficient g.N.Exact.limit m) (products_from first left)
           → Some_of (HasWideCoefficient g.N.Exact.limit m) (products_from no_factors all);
-      ops : g.L.Ledger.ops l.fn.ledger ≤ g.L.Ledger.ops l.ledger;
-      wides : g.L.Ledger.wides l.fn.ledger ≤ g.L.Ledger.wides l.ledger;
+      counted : NeverFell g.L.Ledger.ops g.L.Ledger.wides l.fn.ledger l.ledger;
     }

@@ -35,8 +35,7 @@ loop-parameter-init g c =
       rest = λ k j. ap₂ ◌+ℚ◌
           (c.in_ok-table.ensures.number k j ∙ ap (λ n. single 0 n k j) (ap (λ n. n + 1) c.column_of.ensures.column ∙ add-one (column_of m c.args.adaptive)))
           (ap₂ (λ (ds : List ℕ) n. rule_table (map (joint_number m c.args.set) ds) n k j) list (ap (λ n. n + 1) c.column_of.ensures.column ∙ add-one (column_of m c.args.adaptive)));
-      ops = search rules;
-      wides = search rules;
+      counted = record { ops = search rules; wides = search rules };
     }
 
 pub overflow_add-column-in-loop-parameter : goal.overflow_add-column-in-loop-parameter
@@ -88,8 +87,7 @@ loop-parameter-preserved g c =
           (c.in_ok-add.ensures.added k j
           ∙ ap (λ r. numbers_of value c.loop-parameter.table k j +ℚ value c.one-number.result *ℚ single r (c.loop-parameter.column + 1) k j)
           (sym (joint_row m c.args.set c.written_count.result c.items-parameter-items.result.now c.loop-parameter.parameter-index c.written_count.ensures.count c.loop-parameter-test.true)));
-      ops = omega (arith, c.loop-parameter.invariant.ops, c.one-number.ensures.ops, c.add.ensures.ops);
-      wides = omega (arith, c.loop-parameter.invariant.wides, c.one-number.ensures.wides, c.add.ensures.wides);
+      counted = record { ops = omega (arith, c.loop-parameter.invariant.counted.ops, c.one-number.ensures.ops, c.add.ensures.counted.ops); wides = omega (arith, c.loop-parameter.invariant.counted.wides, c.one-number.ensures.wides, c.add.ensures.counted.wides) };
     }
 
 pub returns-clause-table : goal.returns-clause-table
@@ -109,7 +107,7 @@ returns-in_err-add-clause-wide g c =
     stops_more c.from_residual-in_err-add.result c.in_err-add.field-0.0 p.0 p.1 p.2
     (λ (h : Rose (g.L.Ledger.wides c.one-number.new.ledger) (g.L.Ledger.wides c.add.new.ledger)
     × IsWide g.N.Exact.limit (numbers_of value c.loop-parameter.table row (c.loop-parameter.column + 1) +ℚ value c.one-number.result)). (
-      omega (arith, c.loop-parameter.invariant.wides, c.one-number.ensures.wides, h.0),
+      omega (arith, c.loop-parameter.invariant.counted.wides, c.one-number.ensures.wides, h.0),
       (
         row,
         c.loop-parameter.column + 1,

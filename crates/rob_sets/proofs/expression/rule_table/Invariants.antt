@@ -1,4 +1,5 @@
-use Rattle.std.specs.Prelude.{◌≡◌, ℕ, ◌+◌, ◌≤◌, map, drop}
+use Rattle.std.specs.Prelude.{◌≡◌, ℕ, ◌+◌, map, drop}
+use Rattle.rob_number.specs.Counts.{NeverFell}
 use Rattle.rob_algebra.specs.Fraction.{◌+ℚ◌}
 use Rattle.rob_meaning.specs.Coefficients.{rule_table, table}
 use Rattle.rob_meaning.specs.Expressions.{adaptive_in}
@@ -17,6 +18,5 @@ invariant-loop-parameter g l =
       column : l.column ≡ column_of m l.adaptive + 1 + l.parameter-index;
       rest : (k j : ℕ) → numbers_of value l.table k j +ℚ rule_table (drop l.parameter-index (map (joint_number m l.set) l.parameter-items)) l.column k j
           ≡ table m (adaptive_in l.adaptive l.set) k j;
-      ops : g.L.Ledger.ops l.fn.ledger ≤ g.L.Ledger.ops l.ledger;
-      wides : g.L.Ledger.wides l.fn.ledger ≤ g.L.Ledger.wides l.ledger;
+      counted : NeverFell g.L.Ledger.ops g.L.Ledger.wides l.fn.ledger l.ledger;
     }

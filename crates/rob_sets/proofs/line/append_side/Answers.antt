@@ -12,7 +12,8 @@ use Rattle.rob_sets.specs.SetForm.{judged_row}
 use Rattle.rob_sets.specs.Subexpressions.{subexpressions, HasWideCoefficient}
 use Rattle.rob_sets.specs.Tables.{numbers_of}
 use Rattle.rob_sets.proofs.DifferenceLemmas.{each_none, side_row}
-use Rattle.rob_sets.proofs.JudgedLemmas.{appends_nothing, appends_then, stops_here}
+use Rattle.rob_sets.proofs.JudgedLemmas.{stops_here}
+use Rattle.rob_sets.proofs.ProgressLemmas.{appends_nothing, appends_then}
 use Rattle.rob_sets.proofs.line.append_side.Goals as goal
 
 pub returns-in-Ok-clause-row : goal.returns-in-Ok-clause-row
@@ -22,12 +23,11 @@ returns-in-Ok-clause-row g c =
     let l = expression_of value c.args.left.now in
     let r = expression_of value c.args.right.now in
     let f = numbers_of value c.in-Ok.table in
-    appends_then g.N.Exact.limit m [] (expression_row m (difference l r) ∷ []) (judge.coefficients (SetLine c.args.number) (difference l r) ∷ [])
-    (judged_row m (length c.args.rows.now) (expression_row m (difference l r)) ∷ []) c.args.rows.now c.args.rows.now c.append_row.new.rows
+    appends_then (expression_row m (difference l r) ∷ []) (judged_row m (length c.args.rows.now) (expression_row m (difference l r)) ∷ []) c.append_row.new.rows
     (g.L.Ledger.wides c.args.ledger.now) (g.L.Ledger.wides c.difference_table.new.ledger) (g.L.Ledger.wides c.append_row.new.ledger) c.append_row.result
-    (appends_nothing g.N.Exact.limit m (judge.coefficients (SetLine c.args.number) (difference l r) ∷ []) c.args.rows.now
+    (appends_nothing {judged = judge.coefficients (SetLine c.args.number) (difference l r) ∷ []} c.args.rows.now
     (each_none (HasWideCoefficient g.N.Exact.limit m) (subexpressions (difference l r)) c.in-Ok.ensures.none_wide, tt))
-    c.difference_table.ensures.wides
+    c.difference_table.ensures.counted.wides
     (subst (λ (row : lifted.SetRow). Appends g.N.Exact.limit m (row ∷ []) (judged_row m (length c.args.rows.now) row ∷ []) c.args.rows.now c.append_row.new.rows
     (g.L.Ledger.wides c.difference_table.new.ledger) (g.L.Ledger.wides c.append_row.new.ledger) c.append_row.result)
     (side_row m l r f c.in-Ok.ensures.table c.requires.left.1 c.requires.right.1) c.append_row.ensures.row)

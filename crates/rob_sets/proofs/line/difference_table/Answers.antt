@@ -37,7 +37,7 @@ returns-in_err-subtracted-clause-wide g c =
     let p = err_from_is_err_and c.from_residual-in_err-subtracted.result c.from_residual-in_err-subtracted.ensures.1 in
     stops_more c.from_residual-in_err-subtracted.result c.in_err-subtracted.field-0.0 p.0 p.1 p.2
     (λ (h : Rose (g.L.Ledger.wides c.coefficients.new.ledger) (g.L.Ledger.wides c.coefficients-2.new.ledger) × Some_of Q (subexpressions r)).
-    (omega (arith, h.0, c.coefficients.ensures.wides), some_of_right Q (expression_of value c.args.left.now) r h.1))
+    (omega (arith, h.0, c.coefficients.ensures.counted.wides), some_of_right Q (expression_of value c.args.left.now) r h.1))
     c.in_err-subtracted.ensures.wide
 
 pub returns-in_err-join-clause-wide : goal.returns-in_err-join-clause-wide
@@ -51,7 +51,7 @@ returns-in_err-join-clause-wide g c =
     stops_more c.from_residual-in_err-join.result c.in_err-join.field-0.0 p.0 p.1 p.2
     (λ (h : Rose (g.L.Ledger.wides c.coefficients-2.new.ledger) (g.L.Ledger.wides c.join.new.ledger)
     × ((k : ℕ) × (j : ℕ) × IsWide g.N.Exact.limit (numbers_of value c.in_ok-table.table k j +ℚ signed true (numbers_of value c.in_ok-subtracted.subtracted k j)))). (
-      omega (arith, h.0, c.coefficients.ensures.wides, c.coefficients-2.ensures.wides),
+      omega (arith, h.0, c.coefficients.ensures.counted.wides, c.coefficients-2.ensures.counted.wides),
       some_of_whole Q l r (
         h.1.0,
         h.1.1,

@@ -13,8 +13,7 @@ loop-k-preserved g c =
       numbers = parameter_more value c.loop-k.numbers.items c.push-in-loop-k.new.self.items c.number-number.result c.loop-k.k row.limit row.on_parameters
           c.loop-k.invariant.numbers c.in_ok-push-2.ensures.items
           (c.number-number.ensures.value ∙ ap (λ n. numbers_of value c.args.table.now n 0) (add-one c.loop-k.k));
-      ops = omega (arith, c.loop-k.invariant.ops, c.number-number.ensures.ops);
-      wides = omega (arith, c.loop-k.invariant.wides, c.number-number.ensures.wides);
+      counted = record { ops = omega (arith, c.loop-k.invariant.counted.ops, c.number-number.ensures.counted.ops); wides = omega (arith, c.loop-k.invariant.counted.wides, c.number-number.ensures.counted.wides) };
     }
 
 pub loop-t-preserved : goal.loop-t-preserved
@@ -26,6 +25,5 @@ loop-t-preserved g c =
           (tabulate c.args.parameters row.on_parameters) row.limit row.on_lifts
           c.loop-t.invariant.numbers c.in_ok-push-3.ensures.items
           (c.number-number-in-loop-t.ensures.value ∙ ap (λ n. numbers_of value c.args.table.now 0 n) (add-one c.loop-t.t));
-      ops = omega (arith, c.loop-t.invariant.ops, c.number-number-in-loop-t.ensures.ops);
-      wides = omega (arith, c.loop-t.invariant.wides, c.number-number-in-loop-t.ensures.wides);
+      counted = record { ops = omega (arith, c.loop-t.invariant.counted.ops, c.number-number-in-loop-t.ensures.counted.ops); wides = omega (arith, c.loop-t.invariant.counted.wides, c.number-number-in-loop-t.ensures.counted.wides) };
     }

@@ -1,4 +1,5 @@
-use Rattle.std.specs.Prelude.{◌≡◌, ◌≤◌, ◌∷◌, ◌++◌, map}
+use Rattle.std.specs.Prelude.{◌≡◌, ◌∷◌, ◌++◌, map}
+use Rattle.rob_number.specs.Counts.{NeverFell}
 use Rattle.rob_meaning.specs.Places.{tabulate}
 use Rattle.rob_sets.specs.Appending.{row_of}
 use Rattle.rob_sets.specs.Tables.{numbers_of}
@@ -10,8 +11,7 @@ invariant-loop-k g l =
     let row = row_of (numbers_of g.N.Exact.value l.table) in
     record {
       numbers : map g.N.Exact.value l.numbers.items ≡ row.limit ∷ tabulate l.k row.on_parameters;
-      ops : g.L.Ledger.ops l.fn.ledger ≤ g.L.Ledger.ops l.ledger;
-      wides : g.L.Ledger.wides l.fn.ledger ≤ g.L.Ledger.wides l.ledger;
+      counted : NeverFell g.L.Ledger.ops g.L.Ledger.wides l.fn.ledger l.ledger;
     }
 
 -- the same, all parameters, and the numbers of the columns t so far
@@ -20,6 +20,5 @@ invariant-loop-t g l =
     let row = row_of (numbers_of g.N.Exact.value l.table) in
     record {
       numbers : map g.N.Exact.value l.numbers.items ≡ row.limit ∷ (tabulate l.parameters row.on_parameters ++ tabulate l.t row.on_lifts);
-      ops : g.L.Ledger.ops l.fn.ledger ≤ g.L.Ledger.ops l.ledger;
-      wides : g.L.Ledger.wides l.fn.ledger ≤ g.L.Ledger.wides l.ledger;
+      counted : NeverFell g.L.Ledger.ops g.L.Ledger.wides l.fn.ledger l.ledger;
     }

@@ -16,7 +16,7 @@ append_statements-requires-clause-few g c =
     let bounds = bound_rows zero m.parameters in
     omega (
       arith,
-      appended_length g.N.Exact.limit m bounds (judged_rows m zero bounds) [] c.append_bounds.new.rows c.in_ok-append_bounds.ensures.rows,
+      appended_length c.in_ok-append_bounds.ensures.rows,
       bounds_many zero m.parameters,
       c.requires.valid.limits.parameters,
     )
@@ -26,7 +26,7 @@ returns-in_err-append_statements-clause-cause g c =
     let m = robust g.N.Exact.value c.args.model.now in
     let bounds = bound_rows zero m.parameters in
     let many : length c.append_bounds.new.rows ≡ length bounds =
-    omega (arith, appended_length g.N.Exact.limit m bounds (judged_rows m zero bounds) [] c.append_bounds.new.rows c.in_ok-append_bounds.ensures.rows) in
+    omega (arith, appended_length c.in_ok-append_bounds.ensures.rows) in
     let q = err_from_is_err_and c.from_residual-in_err-append_statements.result c.from_residual-in_err-append_statements.ensures.1 in
     cause_err g.N.Exact.limit m (judged_set m) c.from_residual-in_err-append_statements.result c.in_err-append_statements.field-0.0 q.0 q.1 q.2
     (stops_right g.N.Exact.limit m (judged_rows m zero bounds) (judged_statements m zero zero (length bounds) m.set_lines) c.in_err-append_statements.field-0.0

@@ -3,6 +3,14 @@ use Rattle.rob_model.specs.View.{robust}
 use Rattle.rob_top.proofs.CheckingLemmas.{accepted_answers, rejected_answers, rejected_place, too_wide_answers, too_wide_place}
 use Rattle.rob_top.proofs.checking.check_cert.Goals as goal
 
+pub check-requires-clause-elaborated : goal.check-requires-clause-elaborated
+check-requires-clause-elaborated g c = record {
+  are_forms = c.requires.forms;
+  is_set = c.requires.set;
+  forms_fit = c.requires.forms_fit;
+  set_fits = c.requires.set_fits;
+}
+
 pub rejected-requires-clause-named : goal.rejected-requires-clause-named
 rejected-requires-clause-named g c =
     rejected_place g.N.Exact.limit (robust g.N.Exact.value c.args.model.now) (certificate_of g.N.Exact.value c.args.cert.now) c.check.result c.in-Rejected.place c.requires.shape
@@ -26,4 +34,4 @@ returns-in-Rejected-clause-answers g c =
 pub returns-in-TooWide-clause-answers : goal.returns-in-TooWide-clause-answers
 returns-in-TooWide-clause-answers g c =
     too_wide_answers g.N.Exact.limit (robust g.N.Exact.value c.args.model.now) (certificate_of g.N.Exact.value c.args.cert.now) c.check.result c.check.ensures.exact
-    (g.L.Ledger.wides c.args.ledger.now) (g.L.Ledger.wides c.check.new.ledger) c.in-TooWide.place c.too_wide.result c.in-TooWide.is c.check.ensures.counted c.too_wide.ensures.spot
+    (g.L.Ledger.wides c.args.ledger.now) (g.L.Ledger.wides c.check.new.ledger) c.in-TooWide.place c.too_wide.result c.in-TooWide.is c.check.ensures.counted.rose c.too_wide.ensures.spot

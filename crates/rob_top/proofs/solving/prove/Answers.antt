@@ -2,11 +2,19 @@ use Rattle.rob_cert.specs.View.{certificate_of}
 use Rattle.rob_model.specs.View.{robust}
 use Rattle.std.proofs.Common.{refl}
 use Rattle.rob_words.specs.declared.verb.Verb.TheVariants.{Prove}
-use Rattle.rob_top.proofs.SolvingLemmas.{counterpart_few, of_one_model, certificate_answers, solution_fits, solve_counted, stop_of, stopped_answers}
+use Rattle.rob_top.proofs.SolvingLemmas.{counterpart_few, certificate_answers, solution_fits, solve_counted, stop_of, stopped_answers}
 use Rattle.rob_top.proofs.solving.prove.Goals as goal
 
 pub solve_dual-requires-clause-model : goal.solve_dual-requires-clause-model
-solve_dual-requires-clause-model g c = of_one_model (robust g.N.Exact.value c.args.model.now) c.args.forms.now c.args.set.now c.requires.forms c.requires.set
+solve_dual-requires-clause-model g c = record {
+  model = robust g.N.Exact.value c.args.model.now;
+  elaborated = record {
+    are_forms = c.requires.forms;
+    is_set = c.requires.set;
+    forms_fit = c.requires.forms_fit;
+    set_fits = c.requires.set_fits;
+  };
+}
 
 pub solve_dual-requires-clause-few : goal.solve_dual-requires-clause-few
 solve_dual-requires-clause-few g c =

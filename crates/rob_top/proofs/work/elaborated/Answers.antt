@@ -18,10 +18,10 @@ returns-in-Err-clause-answers g c =
 pub returns-in-Ok-elaborate-clause-answers : goal.returns-in-Ok-elaborate-clause-answers
 returns-in-Ok-elaborate-clause-answers g c =
     whole_answers g.N.Exact.limit (robust g.N.Exact.value c.args.model.now) (g.L.Ledger.wides c.args.ledger.now) (g.L.Ledger.wides c.elaborate.new.ledger)
-    (g.L.Ledger.wides c.on_forms.new.ledger) c.args.verb c.args.texts.now c.on_forms.result (omega (arith, c.clear_set.ensures.wides, c.elaborate.ensures.wides)) c.in-Ok.ensures.none_wide c.in-Ok-elaborate.ensures.none_wide c.on_forms.ensures.answers
+    (g.L.Ledger.wides c.on_forms.new.ledger) c.args.verb c.args.texts.now c.on_forms.result (omega (arith, c.clear_set.ensures.counted.wides, c.elaborate.ensures.counted.wides)) c.in-Ok.ensures.none_wide c.in-Ok-elaborate.ensures.none_wide c.on_forms.ensures.answers
 
 pub returns-clause-answers : goal.returns-clause-answers
 returns-clause-answers g c =
     forms_answers g.N.Exact.limit (robust g.N.Exact.value c.args.model.now) (g.L.Ledger.wides c.args.ledger.now) (g.L.Ledger.wides c.clear_set.new.ledger)
-    (g.L.Ledger.wides c.elaborate.new.ledger) c.args.verb c.args.texts.now c.in-Err-elaborate.error c.not_elaborated-in-Err-elaborate.result c.requires.elaborates c.clear_set.ensures.wides c.in-Ok.ensures.none_wide
+    (g.L.Ledger.wides c.elaborate.new.ledger) c.args.verb c.args.texts.now c.in-Err-elaborate.error c.not_elaborated-in-Err-elaborate.result c.requires.elaborates c.clear_set.ensures.counted.wides c.in-Ok.ensures.none_wide
     c.in-Err-elaborate.ensures.cause c.in-Err-elaborate.ensures.rose c.not_elaborated-in-Err-elaborate.ensures.refused

@@ -17,8 +17,7 @@ loop-cell-preserved g c =
           c.loop-cell.invariant.ordered c.signed.ensures.value k j (numbers_of value c.loop-cell.self k j) (numbers_of value c.add.new.self k j)
           (numbers_of value c.args.self.now k j +ℚ signed c.args.minus (numbers_of value c.args.other.now k j))
           (c.loop-cell.invariant.rest k j) (c.in_ok-add.ensures.added k j);
-      ops = omega (arith, c.loop-cell.invariant.ops, c.add.ensures.ops);
-      wides = omega (arith, c.loop-cell.invariant.wides, c.add.ensures.wides);
+      counted = record { ops = omega (arith, c.loop-cell.invariant.counted.ops, c.add.ensures.counted.ops); wides = omega (arith, c.loop-cell.invariant.counted.wides, c.add.ensures.counted.wides) };
     }
 
 pub returns-clause-joined : goal.returns-clause-joined

@@ -1,4 +1,5 @@
-use Rattle.std.specs.Prelude.{◌≡◌, ℕ, ◌≤◌}
+use Rattle.std.specs.Prelude.{◌≡◌, ℕ}
+use Rattle.rob_number.specs.Counts.{NeverFell}
 use Rattle.rob_algebra.specs.Fraction.{◌+ℚ◌}
 use Rattle.rob_meaning.specs.Values.{signed}
 use Rattle.rob_sets.proofs.EntryLemmas.{AreOrdered, number_in}
@@ -13,6 +14,5 @@ invariant-loop-cell g l =
       ordered : AreOrdered l.cell-iterator;
       rest : (k j : ℕ) → numbers_of value l.self k j +ℚ signed l.minus (number_in value l.cell-iterator k j)
           ≡ numbers_of value l.fn.self k j +ℚ signed l.minus (numbers_of value l.other k j);
-      ops : g.L.Ledger.ops l.fn.ledger ≤ g.L.Ledger.ops l.ledger;
-      wides : g.L.Ledger.wides l.fn.ledger ≤ g.L.Ledger.wides l.ledger;
+      counted : NeverFell g.L.Ledger.ops g.L.Ledger.wides l.fn.ledger l.ledger;
     }

@@ -27,8 +27,7 @@ loop-a-init g c =
       rest = λ o k j. from_start first second o k j (numbers_of value c.new-product.result k j)
           (number_in value c.into_iter-a-iterator.result (sel o.p k) (sel o.c j)) (c.new-product.ensures.zero k j)
           (ap (λ (es : List (Cell × g.row.N.Denot)). number_in value es (sel o.p k) (sel o.c j)) c.into_iter-a-iterator.ensures.into_iter_gives.0);
-      ops = search rules;
-      wides = search rules;
+      counted = record { ops = search rules; wides = search rules };
     }
 
 pub loop-b-init : goal.loop-b-init
@@ -51,8 +50,7 @@ loop-b-init g c =
           (ap (λ u. numbers_of value c.loop-a.product k j +ℚ u *ℚ second (sel (not o.p) k) (sel (not o.c) j))
           (sym (first_is value (c.in-Some.a.now, c.in-Some.x.now) c.loop-a.a-iterator c.next.new.self left c.loop-a.invariant.ordered (sel o.p k) (sel o.c j)))
           ∙ c.loop-a.invariant.rest o k j);
-      ops = search rules;
-      wides = search rules;
+      counted = record { ops = search rules; wides = search rules };
     }
 
 pub loop-a-preserved : goal.loop-a-preserved
@@ -71,8 +69,7 @@ loop-a-preserved g c =
           (number_in value c.next.new.self (sel o.p k) (sel o.c j) *ℚ second (sel (not o.p) k) (sel (not o.c) j)) (table_times first second k j)
           (ap (λ (es : List (Cell × g.row.N.Denot)). number_in value es (sel (not o.p) k) (sel (not o.c) j)) over)
           (c.loop-b.invariant.rest o k j);
-      ops = omega (arith, c.loop-b.invariant.ops);
-      wides = omega (arith, c.loop-b.invariant.wides);
+      counted = record { ops = omega (arith, c.loop-b.invariant.counted.ops); wides = omega (arith, c.loop-b.invariant.counted.wides) };
     }
 
 pub returns-clause-product : goal.returns-clause-product
@@ -120,8 +117,7 @@ loop-b-preserved g c =
           (value c.in-Some.x.now) (value c.in-Some-2.y.now)
           (head_of value first (c.in-Some.a.now, c.in-Some.x.now) c.loop-a.a-iterator c.next.new.self left_a c.loop-a.invariant.parts)
           (head_of value second (c.in-Some-2.b.now, c.in-Some-2.y.now) c.loop-b.b-iterator c.next-in-loop-b.new.self left c.loop-b.invariant.parts) k j));
-      ops = omega (arith, c.loop-b.invariant.ops, c.mul.ensures.counted.ops, c.add.ensures.ops);
-      wides = omega (arith, c.loop-b.invariant.wides, c.in_ok-number.ensures.counted.wides, c.add.ensures.wides);
+      counted = record { ops = omega (arith, c.loop-b.invariant.counted.ops, c.mul.ensures.counted.ops, c.add.ensures.counted.ops); wides = omega (arith, c.loop-b.invariant.counted.wides, c.in_ok-number.ensures.counted.wides, c.add.ensures.counted.wides) };
     }
 
 pub returns-in_err-number-clause-wide : goal.returns-in_err-number-clause-wide
@@ -132,7 +128,7 @@ returns-in_err-number-clause-wide g c =
     let left_a = rest_more deref_pair c.loop-a.a-iterator c.next.new.self c.next.result (c.in-Some.a, c.in-Some.x) c.in-Some.is c.next.ensures.steps in
     let left = rest_more deref_pair c.loop-b.b-iterator c.next-in-loop-b.new.self c.next-in-loop-b.result (c.in-Some-2.b, c.in-Some-2.y) c.in-Some-2.is c.next-in-loop-b.ensures.steps in
     stops c.from_residual.result (
-      omega (arith, c.loop-b.invariant.wides, c.in_err-number.ensures.counted.wides),
+      omega (arith, c.loop-b.invariant.counted.wides, c.in_err-number.ensures.counted.wides),
       (
         max c.in-Some.a.now.row c.in-Some-2.b.now.row,
         max c.in-Some.a.now.column c.in-Some-2.b.now.column,
@@ -159,7 +155,7 @@ returns-in_err-add-clause-wide g c =
     stops_more c.from_residual-in_err-add.result c.in_err-add.field-0.0 p.0 p.1 p.2
     (λ (h : Rose (g.L.Ledger.wides c.mul.new.ledger) (g.L.Ledger.wides c.add.new.ledger)
     × IsWide g.N.Exact.limit (numbers_of value c.loop-b.product c.both.result.row c.both.result.column +ℚ value c.in_ok-number.number)). (
-      omega (arith, c.loop-b.invariant.wides, c.in_ok-number.ensures.counted.wides, h.0),
+      omega (arith, c.loop-b.invariant.counted.wides, c.in_ok-number.ensures.counted.wides, h.0),
       (
         row,
         column,

@@ -1,4 +1,5 @@
-use Rattle.std.specs.Prelude.{◌≡◌, ℕ, ◌≤◌, not}
+use Rattle.std.specs.Prelude.{◌≡◌, ℕ, not}
+use Rattle.rob_number.specs.Counts.{NeverFell}
 use Rattle.rob_algebra.specs.Fraction.{◌+ℚ◌, ◌*ℚ◌}
 use Rattle.rob_meaning.specs.Coefficients.{single, table_times}
 use Rattle.rob_sets.proofs.EntryLemmas.{AreOrdered, AreOf, number_in}
@@ -18,8 +19,7 @@ invariant-loop-a g l =
       rest : (o : Owners first second) (k j : ℕ) → numbers_of value l.product k j
           +ℚ number_in value l.a-iterator (sel o.p k) (sel o.c j) *ℚ second (sel (not o.p) k) (sel (not o.c) j)
           ≡ table_times first second k j;
-      ops : g.L.Ledger.ops l.fn.ledger ≤ g.L.Ledger.ops l.ledger;
-      wides : g.L.Ledger.wides l.fn.ledger ≤ g.L.Ledger.wides l.ledger;
+      counted : NeverFell g.L.Ledger.ops g.L.Ledger.wides l.fn.ledger l.ledger;
     }
 
 -- the same, with one number of the first table and what is left of the second
@@ -36,6 +36,5 @@ invariant-loop-b g l =
           *ℚ number_in value l.b-iterator (sel (not o.p) k) (sel (not o.c) j)
           +ℚ number_in value l.a-iterator (sel o.p k) (sel o.c j) *ℚ second (sel (not o.p) k) (sel (not o.c) j)
           ≡ table_times first second k j;
-      ops : g.L.Ledger.ops l.fn.ledger ≤ g.L.Ledger.ops l.ledger;
-      wides : g.L.Ledger.wides l.fn.ledger ≤ g.L.Ledger.wides l.ledger;
+      counted : NeverFell g.L.Ledger.ops g.L.Ledger.wides l.fn.ledger l.ledger;
     }

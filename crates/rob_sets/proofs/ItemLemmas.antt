@@ -1,0 +1,17 @@
+-- The item that a loop over `items()` of a list has come to, and those that are left of the list itself.
+use Rattle.std.specs.Prelude.{◌≡◌, ℕ, ◌+◌, ◌≤◌, ◌<◌, List, [], ◌∷◌, length, drop}
+use Rattle.std.proofs.Common.{arith, subst, sym, get_or}
+use Rattle.rob_model.proofs.PartLemmas.{drop_at, drop_past}
+
+module _ {A : Type 0} (i : ℕ) {items xs : List A} (same : items ≡ xs) where
+  pub drop_item : {x : A} → i < length items → x ≡ get_or items i x → drop i xs ≡ x ∷ drop (i + 1) xs
+  drop_item {x} inside is = subst (λ (ys : List A). drop i ys ≡ x ∷ drop (i + 1) ys) same (drop_at items i x inside is)
+
+  pub drop_over : length items ≤ i → drop i xs ≡ []
+  drop_over over = subst (λ (ys : List A). drop i ys ≡ []) same (drop_past items i over)
+
+  pub item_inside : i < length items → i < length xs
+  item_inside inside = subst (λ (ys : List A). i < length ys) same inside
+
+  pub item_is : {x : A} → x ≡ get_or items i x → x ≡ get_or xs i x
+  item_is {x} is = subst (λ (ys : List A). x ≡ get_or ys i x) same is
