@@ -27,12 +27,12 @@ use Rattle.rob_round_trip.proofs.Faultless.FitSymbols.{AreFit, fit_passes, join,
 
 -- ---- the first symbol of a line tells of its statement
 -- the first symbol; a line without symbols is no statement
-abbrev first_of : List Symbol → Symbol
+abbrev pub first_of : List Symbol → Symbol
 first_of [] = Sign mark.Comma
 first_of (x ∷ xs) = x
 
 -- how many symbols stand in front of the names that a statement uses
-abbrev head_of : Symbol → ℕ
+abbrev pub head_of : Symbol → ℕ
 head_of (Reserved word.Uncertain) = 2
 head_of (Reserved word.Var) = 2
 head_of (Reserved word.Adaptive) = 2
@@ -41,20 +41,20 @@ head_of (Reserved word.Over) = 2
 head_of _ = 1
 
 -- a list stands behind the keyword
-abbrev lists : Symbol → Bool
+abbrev pub lists : Symbol → Bool
 lists (Reserved word.Adaptive) = true
 lists (Reserved word.Budget) = true
 lists _ = false
 
 -- parameters alone stand behind the keyword
-abbrev is_for_set : Symbol → Bool
+abbrev pub is_for_set : Symbol → Bool
 is_for_set (Reserved word.Set) = true
 is_for_set (Reserved word.Budget) = true
 is_for_set (Reserved word.Adaptive) = true
 is_for_set _ = false
 
 -- no set stands behind a line that begins so
-abbrev ends_plain : Symbol → Bool
+abbrev pub ends_plain : Symbol → Bool
 ends_plain (Reserved word.Set) = false
 ends_plain (Reserved word.Budget) = false
 ends_plain (Reserved word.Minimise) = false
@@ -63,12 +63,12 @@ ends_plain (Reserved word.Row) = false
 ends_plain _ = true
 
 -- the statement begins as its first symbol says
-record IsTold (symbols : List Symbol) (s : Statement) : Type 0 where
-  head_is : head_length s ≡ head_of (first_of symbols)
-  listing_is : is_listing s ≡ lists (first_of symbols)
-  set_is : is_of_set s ≡ is_for_set (first_of symbols)
-  over_is : ends_plain (first_of symbols) ≡ true → over_of s ≡ None
-  ending_is : ends_plain (first_of symbols) ≡ false → over_of s ≡ over_in symbols
+pub record IsTold (symbols : List Symbol) (s : Statement) : Type 0 where
+  pub head_is : head_length s ≡ head_of (first_of symbols)
+  pub listing_is : is_listing s ≡ lists (first_of symbols)
+  pub set_is : is_of_set s ≡ is_for_set (first_of symbols)
+  pub over_is : ends_plain (first_of symbols) ≡ true → over_of s ≡ None
+  pub ending_is : ends_plain (first_of symbols) ≡ false → over_of s ≡ over_in symbols
 
 told_line : (l : Line) → IsTold (spell_line l) (statement_of l)
 told_line (line.uncertain d) = record { head_is = refl; listing_is = refl; set_is = refl; over_is = λ h. refl; ending_is = λ h. cc }

@@ -45,11 +45,11 @@ IsThing s list k RowName = (j : ℕ) × IsFound (flat_map row_numbers list) 0 k 
 IsThing s list k (sort.Set S) = (j : ℕ) × (S ≡ suc j) × IsFound (flat_map set_numbers list) s.sets k j
 
 -- a name and what it is declared to stand for
-abbrev declares : ℕ → Sort → Option (ℕ × Sort)
+abbrev pub declares : ℕ → Sort → Option (ℕ × Sort)
 declares k x = Some (k, x)
 
 -- the same of what a statement declares
-abbrev IsThingOf : Sizes → List Statement → Option (ℕ × Sort) → Type 0
+abbrev pub IsThingOf : Sizes → List Statement → Option (ℕ × Sort) → Type 0
 IsThingOf s list None = ⊥
 IsThingOf s list (Some d) = IsThing s list d.0 d.1
 

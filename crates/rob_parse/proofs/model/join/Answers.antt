@@ -16,7 +16,7 @@ pub join_set-requires : goal.join_set-requires
 join_set-requires g c =
     record {
       count =
-        omega (arith, c.loop-set.invariant.count, c.loop-set.invariant.long);
+          omega (arith, c.loop-set.invariant.count, c.loop-set.invariant.long);
     }
 
 pub loop-set-preserved : goal.loop-set-preserved
@@ -36,6 +36,6 @@ pub returns : goal.returns
 returns g c =
     record {
       joint =
-        let view = parameter_of g.N.Exact.value in
-        sets_end in_set (map view c.args.params.now) c.args.sets.now _ (map view c.loop-set.params) c.loop-set.set-index c.loop-set-test.false c.loop-set.invariant.so_far;
+          let view = parameter_of g.N.Exact.value in
+          sets_end in_set (map view c.args.params.now) c.args.sets.now _ (map view c.loop-set.params) c.loop-set.set-index c.loop-set-test.false c.loop-set.invariant.so_far;
     }

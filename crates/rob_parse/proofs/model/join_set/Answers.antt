@@ -28,7 +28,7 @@ pub returns : goal.returns
 returns g c =
     record {
       joint =
-        c.loop-k.invariant
-        ∙ ap (λ n. map (parameter_of g.N.Exact.value) c.args.params.now ++ map (in_set c.args.set.now) (take n (map (parameter_of g.N.Exact.value) c.args.params.now)))
-        (same_end c.loop-k.k c.args.count c.loop-k.auto.k-end c.loop-k-test.false);
+          c.loop-k.invariant
+          ∙ ap (λ n. map (parameter_of g.N.Exact.value) c.args.params.now ++ map (in_set c.args.set.now) (take n (map (parameter_of g.N.Exact.value) c.args.params.now)))
+          (same_end c.loop-k.k c.args.count c.loop-k.auto.k-end c.loop-k-test.false);
     }

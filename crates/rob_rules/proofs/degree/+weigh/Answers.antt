@@ -18,7 +18,7 @@ pub weigh_sum-returns : goal.weigh_sum-returns
 weigh_sum-returns t c =
     record {
       weight =
-        sum_end c.args.sorts.now c.args.parts.now c.loop-part.part-index c.loop-part-test.false c.loop-part.invariant;
+          sum_end c.args.sorts.now c.args.parts.now c.loop-part.part-index c.loop-part-test.false c.loop-part.invariant;
     }
 
 pub weigh_product-loop-factor-init : goal.weigh_product-loop-factor-init
@@ -32,5 +32,5 @@ pub weigh_product-returns : goal.weigh_product-returns
 weigh_product-returns t c =
     record {
       weight =
-        c.unwrap_or.ensures ∙ product_end c.args.sorts.now c.args.factors.now c.loop-factor.factor-index c.loop-factor.so_far c.loop-factor-test.false c.nothing.ensures.weight c.loop-factor.invariant;
+          c.unwrap_or.ensures ∙ product_end c.args.sorts.now c.args.factors.now c.loop-factor.factor-index c.loop-factor.so_far c.loop-factor-test.false c.nothing.ensures.weight c.loop-factor.invariant;
     }

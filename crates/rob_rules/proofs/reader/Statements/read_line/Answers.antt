@@ -9,7 +9,7 @@ pub note-requires : goal.note-requires
 note-requires c =
     record {
       small =
-        kept_small c.args.self.now.scope.sizes c.requires.kept;
+          kept_small c.args.self.now.scope.sizes c.requires.kept;
     }
 
 pub returns-clause-line : goal.returns-clause-line
