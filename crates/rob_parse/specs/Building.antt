@@ -2,19 +2,19 @@
 use Rattle.std.specs.Prelude.{◌≡◌, ℕ, ◌+◌, ◌*◌, ◌^◌, ◌≤◌, ◌<◌, ◌++◌, Option, Some, None, unwrap_or}
 use Rattle.rob_meaning.specs.Places.{Each}
 use Rattle.rob_meaning.specs.RobustModel.{RobustModel}
-use Rattle.rob_parse.specs.declared.sort.Sort.{Sort}
+use Rattle.rob_rules.specs.declared.sort.Sort.{Sort}
 use Rattle.std.specs.Prelude.{List}
-use Rattle.rob_parse.specs.declared.syntax.Numeral.{Numeral}
-use Rattle.rob_parse.specs.declared.syntax.Bounds.{Bounds}
-use Rattle.rob_parse.specs.declared.syntax.Bounds.TheVariants.{Between, AtLeast, AtMost}
-use Rattle.rob_parse.specs.declared.syntax.Member.{Member}
-use Rattle.rob_parse.specs.declared.syntax.Relation.{Relation}
-use Rattle.rob_parse.specs.declared.syntax.Statement.{Statement}
-use Rattle.rob_parse.specs.declared.syntax.Statement.TheVariants.{Uncertain, Over, Set, Budget, Var, Adaptive, Goal, Row}
+use Rattle.rob_syntax.specs.declared.syntax.Numeral.{Numeral}
+use Rattle.rob_syntax.specs.declared.syntax.Bounds.{Bounds}
+use Rattle.rob_syntax.specs.declared.syntax.Bounds.TheVariants.{Between, AtLeast, AtMost}
+use Rattle.rob_syntax.specs.declared.syntax.Member.{Member}
+use Rattle.rob_syntax.specs.declared.syntax.Relation.{Relation}
+use Rattle.rob_syntax.specs.declared.syntax.Statement.{Statement}
+use Rattle.rob_syntax.specs.declared.syntax.Statement.TheVariants.{Uncertain, Over, Set, Budget, Var, Adaptive, Goal, Row}
 use Rattle.rob_parse.specs.declared.place.Place.{Place}
-use Rattle.rob_parse.specs.declared.scope.Scope.{Scope}
+use Rattle.rob_rules.specs.declared.scope.Scope.{Scope}
 use Rattle.rob_parse.specs.Models.{each_taken, parameters, sets, variables, adaptives, set_lines, line_sets, line_taken, rows, row_sets, row_taken, set_at, parameter_at}
-use Rattle.rob_parse.specs.Trees.{Tree, number, name, sum, product, Summands, no_summands, summand, Operands, no_operands, operand, tree_of}
+use Rattle.rob_syntax.specs.Trees.{Tree, number, name, sum, product, Summands, no_summands, summand, Operands, no_operands, operand, tree_of}
 
 module _ (limit : ℕ) where
   -- digits within the limit, and no divisor 0

@@ -3,17 +3,17 @@ use Rattle.std.specs.Prelude.{◌≡◌, ◌≢◌, ℕ, List, map, Option, Some
 use Rattle.std.specs.List.{flat_map}
 use Rattle.rob_meaning.specs.Places.{Each}
 use Rattle.rob_meaning.specs.RobustModel.{RobustModel}
-use Rattle.rob_parse.specs.declared.sort.Sort.{Sort}
-use Rattle.rob_parse.specs.declared.sort.Sort.TheVariants as sort
-use Rattle.rob_parse.specs.declared.symbol.Keyword.TheVariants as word
-use Rattle.rob_parse.specs.declared.symbol.Symbol.{Symbol}
-use Rattle.rob_parse.specs.declared.symbol.Symbol.TheVariants.{Reserved}
-use Rattle.rob_parse.specs.declared.syntax.Statement.{Statement}
-use Rattle.rob_parse.specs.declared.syntax.Statement.TheVariants as parsed
-use Rattle.rob_parse.specs.Degrees.{sort_at}
-use Rattle.rob_parse.specs.Faults.{over_of}
-use Rattle.rob_parse.specs.Scopes.{Earlier}
-use Rattle.rob_parse.specs.Reading.{Reads}
+use Rattle.rob_rules.specs.declared.sort.Sort.{Sort}
+use Rattle.rob_rules.specs.declared.sort.Sort.TheVariants as sort
+use Rattle.rob_syntax.specs.declared.symbol.Keyword.TheVariants as word
+use Rattle.rob_syntax.specs.declared.symbol.Symbol.{Symbol}
+use Rattle.rob_syntax.specs.declared.symbol.Symbol.TheVariants.{Reserved}
+use Rattle.rob_syntax.specs.declared.syntax.Statement.{Statement}
+use Rattle.rob_syntax.specs.declared.syntax.Statement.TheVariants as parsed
+use Rattle.rob_rules.specs.Degrees.{sort_at}
+use Rattle.rob_rules.specs.Faults.{over_of}
+use Rattle.rob_rules.specs.Scopes.{Earlier}
+use Rattle.rob_rules.specs.Reading.{Reads}
 use Rattle.rob_parse.specs.Models.{model_of, rows, set_lines, written_of}
 
 -- the text reads as statements whose model this is

@@ -7,23 +7,23 @@ use Rattle.rob_meaning.specs.Expressions as meaning
 use Rattle.rob_meaning.specs.Values.{signed}
 use Rattle.rob_meaning.specs.RobustModel as model
 use Rattle.rob_meaning.specs.RobustModel.{joint_parameters}
-use Rattle.rob_parse.specs.declared.sort.Sort.{Sort}
-use Rattle.rob_parse.specs.declared.sort.Sort.TheVariants as sort
-use Rattle.rob_parse.specs.declared.sort.Sort.TheVariants.{Parameter, Decision, Policy, RowName}
-use Rattle.rob_parse.specs.declared.syntax.Numeral.{Numeral}
-use Rattle.rob_parse.specs.declared.syntax.Signed.{Signed}
-use Rattle.rob_parse.specs.declared.syntax.Bounds.{Bounds}
-use Rattle.rob_parse.specs.declared.syntax.Bounds.TheVariants.{Between, AtLeast, AtMost}
-use Rattle.rob_parse.specs.declared.syntax.Rel.{Rel}
-use Rattle.rob_parse.specs.declared.syntax.Rel.TheVariants as rel
-use Rattle.rob_parse.specs.declared.syntax.Sense.{Sense}
-use Rattle.rob_parse.specs.declared.syntax.Sense.TheVariants as sense
-use Rattle.rob_parse.specs.declared.syntax.Member.{Member}
-use Rattle.rob_parse.specs.declared.syntax.Goal.{Goal}
-use Rattle.rob_parse.specs.declared.syntax.Statement.{Statement}
-use Rattle.rob_parse.specs.declared.syntax.Statement.TheVariants as parsed
-use Rattle.rob_parse.specs.Degrees.{sort_at}
-use Rattle.rob_parse.specs.Trees.{Tree, number, name, sum, product, Summands, no_summands, summand, Operands, no_operands, operand, tree_of}
+use Rattle.rob_rules.specs.declared.sort.Sort.{Sort}
+use Rattle.rob_rules.specs.declared.sort.Sort.TheVariants as sort
+use Rattle.rob_rules.specs.declared.sort.Sort.TheVariants.{Parameter, Decision, Policy, RowName}
+use Rattle.rob_syntax.specs.declared.syntax.Numeral.{Numeral}
+use Rattle.rob_syntax.specs.declared.syntax.Signed.{Signed}
+use Rattle.rob_syntax.specs.declared.syntax.Bounds.{Bounds}
+use Rattle.rob_syntax.specs.declared.syntax.Bounds.TheVariants.{Between, AtLeast, AtMost}
+use Rattle.rob_syntax.specs.declared.syntax.Rel.{Rel}
+use Rattle.rob_syntax.specs.declared.syntax.Rel.TheVariants as rel
+use Rattle.rob_syntax.specs.declared.syntax.Sense.{Sense}
+use Rattle.rob_syntax.specs.declared.syntax.Sense.TheVariants as sense
+use Rattle.rob_syntax.specs.declared.syntax.Member.{Member}
+use Rattle.rob_syntax.specs.declared.syntax.Goal.{Goal}
+use Rattle.rob_syntax.specs.declared.syntax.Statement.{Statement}
+use Rattle.rob_syntax.specs.declared.syntax.Statement.TheVariants as parsed
+use Rattle.rob_rules.specs.Degrees.{sort_at}
+use Rattle.rob_syntax.specs.Trees.{Tree, number, name, sum, product, Summands, no_summands, summand, Operands, no_operands, operand, tree_of}
 
 -- a number as it is written
 abbrev pub fraction : Numeral → Fraction

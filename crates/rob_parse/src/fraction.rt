@@ -2,15 +2,16 @@
 
 ghost use Rattle.std.specs.Prelude.{◌≡◌, ◌≤◌, option_map};
 ghost use Rattle.rob_parse.specs.Building.{FitsNumber, FitsBounds};
-ghost use Rattle.rob_parse.specs.Models.{fraction as fraction_lem, signed_fraction, lower_bound, upper_bound};
+ghost use Rattle.rob_parse.specs.Models.{signed_fraction, lower_bound, upper_bound};
+ghost use Rattle.rob_parse.specs.Models as spec;
 
-use crate::syntax::{Bounds, Numeral, Signed};
 use rob_number::{Exact, Ledger};
+use rob_syntax::syntax::{Bounds, Numeral, Signed};
 
 /// The number that digits are. It fits, since its digits do.
 pub fn fraction<N: Exact, L: Ledger>(numeral: Numeral, ledger: &mut L) -> N
     requires fits { FitsNumber N.limit numeral }
-    ensures value { N.value result ≡ fraction_lem numeral }
+    ensures value { N.value result ≡ spec.fraction numeral }
     ensures ops { L.ops ledger.old ≤ L.ops ledger.new }
     ensures wides { L.wides ledger.old ≡ L.wides ledger.new }
 {

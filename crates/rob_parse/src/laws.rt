@@ -1,43 +1,20 @@
-//! Laws of the definitions: each text has one reading.
+//! Laws of the definitions: each text has one model, which is well formed, well named and within the limits.
 
-ghost use Rattle.std.specs.Prelude.{◌≡◌, ℕ, ◌≤◌, ◌<◌, ◌^◌, ◌⊎◌, ◌++◌, ◌∷◌, [], List, Option, Some, length, map};
-ghost use Rattle.rob_lex.specs.Offences.{AreTokens, most_tokens};
-ghost use Rattle.rob_lex.specs.declared.token.Token.{Token};
-ghost use Rattle.rob_meaning.specs.Expressions.{Expression};
-ghost use Rattle.rob_meaning.specs.JointMeaning.{HasOneSet};
+ghost use Rattle.std.specs.Prelude.{◌≡◌, ℕ, ◌≤◌, ◌⊎◌, ◌++◌, ◌∷◌, [], List, Option};
 ghost use Rattle.rob_meaning.specs.Places.{Each};
 ghost use Rattle.rob_meaning.specs.WellFormed.{IsModel};
-ghost use Rattle.rob_meaning.specs.Named.{HasDistinctMembers, IsNamed, declared_names};
+ghost use Rattle.rob_meaning.specs.Named.{IsNamed, declared_names};
 ghost use Rattle.rob_meaning.specs.RobustModel.{RobustModel};
 ghost use Rattle.rob_model.specs.Limits.{IsWithinLimits};
-ghost use Rattle.rob_parse.specs.Canonical.{IsNotOver, Written, Naming, lines_alone, lines_of as canonical_lines_of, model_text, naming_of, written_model};
-ghost use Rattle.rob_parse.specs.Symbols.{lines_of, words_of};
-ghost use Rattle.rob_parse.specs.Modelled.{EndsInSet, HasNoOver, NamesNoSet, ReadsModel, written_alone};
-ghost use Rattle.rob_parse.specs.Pages.{IsLine, IsReadAs, IsShallow, IsWritable, ended, page_text, symbols_on, words_on};
-ghost use Rattle.rob_parse.specs.Readable.{AreKnown, AreDeclarable, AreReadBack, HasByName, IsPlaced, IsReadable, IsReadableModel, IsReadBack, IsSpelled};
-ghost use Rattle.rob_parse.specs.declared.sort.Sort.{Sort};
-ghost use Rattle.rob_parse.specs.declared.syntax.Statement.{Statement};
-ghost use Rattle.rob_parse.specs.declared.symbol.Symbol.{Symbol};
-ghost use Rattle.rob_parse.specs.Degrees.{sort_at};
-ghost use Rattle.rob_parse.specs.Models.{model_of, word_of};
-ghost use Rattle.rob_parse.specs.Scopes.{Earlier, start};
-ghost use Rattle.rob_parse.specs.Sizes.{AreSizesOf, counted};
-ghost use Rattle.rob_parse.specs.Reading.{Reads, Breaks, Follows, HasReading};
-
-/// Each text reads as exactly one list of statements, or breaks exactly one rule at one line.
-pub fn one_reading()
-    ensures some { (limit : ℕ) (text : List ℕ) → HasReading limit text }
-    ensures statements { (limit : ℕ) (text : List ℕ)
-        (words : List (List ℕ)) (list : List Statement) (known : Earlier)
-        (words' : List (List ℕ)) (list' : List Statement) (known' : Earlier)
-        → Reads limit text words list known → Reads limit text words' list' known'
-        → (words ≡ words') × (list ≡ list') × (known ≡ known') }
-    ensures rule { (limit : ℕ) (text : List ℕ) (rule line rule' line' : ℕ)
-        → Breaks limit text rule line → Breaks limit text rule' line' → (rule ≡ rule') × (line ≡ line') }
-    ensures not_both { (limit : ℕ) (text : List ℕ)
-        (words : List (List ℕ)) (list : List Statement) (known : Earlier) (rule line : ℕ)
-        → Reads limit text words list known → Breaks limit text rule line → ⊥ }
-{}
+ghost use Rattle.rob_parse.specs.Modelled.{ReadsModel};
+ghost use Rattle.rob_syntax.specs.Names.{IsSpelled};
+ghost use Rattle.rob_rules.specs.declared.sort.Sort.{Sort};
+ghost use Rattle.rob_syntax.specs.declared.syntax.Statement.{Statement};
+ghost use Rattle.rob_syntax.specs.declared.symbol.Symbol.{Symbol};
+ghost use Rattle.rob_parse.specs.Models.{model_of};
+ghost use Rattle.rob_rules.specs.Scopes.{Earlier, start};
+ghost use Rattle.rob_rules.specs.Sizes.{AreSizesOf, counted};
+ghost use Rattle.rob_rules.specs.Reading.{Breaks, Follows};
 
 /// Each text reads as exactly one model, or breaks exactly one rule at one line.
 pub fn one_model()
@@ -47,32 +24,6 @@ pub fn one_model()
         → ReadsModel limit text m → ReadsModel limit text m' → m ≡ m' }
     ensures not_both { (limit : ℕ) (text : List ℕ) (m : RobustModel) (rule line : ℕ)
         → ReadsModel limit text m → Breaks limit text rule line → ⊥ }
-{}
-
-/// Each name of a written parameter, a named set, a variable or an adaptive variable of a text's model stands for that thing. A
-/// name that stands for something, a row's among them, is that thing's name in the model. And a name behind `over` at the end of
-/// a line stands for a set.
-pub fn known()
-    ensures names { (limit : ℕ) (text : List ℕ) (words : List (List ℕ)) (list : List Statement) (known : Earlier)
-        → Reads limit text words list known → AreKnown words known.sorts (naming_of (model_of words known.sorts list)) }
-    ensures things { (limit : ℕ) (text : List ℕ) (words : List (List ℕ)) (list : List Statement) (known : Earlier)
-        → Reads limit text words list known → (k : ℕ) (sort : Sort) → sort_at known.sorts k ≡ Some sort
-        → HasByName (model_of words known.sorts list) (word_of words k) sort }
-    ensures over { (limit : ℕ) (text : List ℕ) (words : List (List ℕ)) (list : List Statement) (known : Earlier)
-        → Reads limit text words list known → Each (EndsInSet known.sorts) list }
-{}
-
-/// A text without the word `over` names no set; the model of such statements is what they write, each part as it stands, so
-/// that the model of such a text has one set; and the canonical lines of a model without named sets are those of the model itself.
-pub fn without_sets()
-    ensures statements { (limit : ℕ) (text : List ℕ) (words : List (List ℕ)) (list : List Statement) (known : Earlier)
-        (read : Reads limit text words list known) → HasNoOver (lines_of text words read.tokens) → Each NamesNoSet list }
-    ensures model { (words : List (List ℕ)) (sorts : List (Option Sort)) (list : List Statement)
-        → Each NamesNoSet list → model_of words sorts list ≡ written_alone words sorts list }
-    ensures plain { (limit : ℕ) (text : List ℕ) (m : RobustModel) (read : ReadsModel limit text m)
-        → HasNoOver (lines_of text read.words read.reads.tokens) → HasOneSet m }
-    ensures lines { (m : RobustModel) → m.sets ≡ [] → IsPlaced m → canonical_lines_of m ≡ lines_alone m }
-    ensures no_over { (m : RobustModel) → Each (Each IsNotOver) (lines_alone m) }
 {}
 
 /// A model that a text reads as is within the limits, and the sizes that are counted line by line, which rule 22 judges, are
@@ -95,54 +46,4 @@ pub fn well_formed()
 pub fn well_named()
     ensures names { (limit : ℕ) (text : List ℕ) (m : RobustModel) → ReadsModel limit text m → IsNamed m }
     ensures spelled { (limit : ℕ) (text : List ℕ) (m : RobustModel) → ReadsModel limit text m → Each IsSpelled (declared_names m) }
-{}
-
-/// Lines of words and signs that may be written are read as they were written.
-pub fn pages()
-    ensures read { (ls : List (List Written)) → Each IsLine ls → length (ended ls) ≤ most_tokens → IsReadAs ls }
-    ensures only { (ls : List (List Written)) (tokens : List Token) → Each (Each IsWritable) ls → AreTokens (page_text ls) tokens
-        → (words_of (page_text ls) tokens ≡ words_on ls)
-        × (lines_of (page_text ls) (words_on ls) tokens ≡ map (symbols_on (words_on ls)) ls ++ [] ∷ []) }
-{}
-
-/// What the canonical lines of a model that a text reads as consist of may be written, and the model's names are found in them.
-pub fn canonical_words()
-    ensures writable { (limit : ℕ) (text : List ℕ) (m : RobustModel) → 1 ≤ limit → limit < 2 ^ 62 → ReadsModel limit text m
-        → Each (Each IsWritable) (canonical_lines_of m) }
-    ensures declarable { (limit : ℕ) (text : List ℕ) (m : RobustModel) → ReadsModel limit text m
-        → AreDeclarable (words_on (canonical_lines_of m)) m }
-{}
-
-/// An expression that is written is read back, where its names are known.
-pub fn expressions()
-    ensures read { (limit : ℕ) → limit < 2 ^ 62
-        → (words : List (List ℕ)) (sorts : List (Option Sort)) (names : Naming) → AreKnown words sorts names
-        → (e : Expression) → IsReadable limit names e → IsReadBack words sorts names e }
-{}
-
-/// The canonical lines of a model are statements, whose model it is.
-pub fn canonical_lines()
-    ensures read { (limit : ℕ) → limit < 2 ^ 62
-        → (words : List (List ℕ)) (sorts : List (Option Sort)) (m : RobustModel) → AreKnown words sorts (naming_of m)
-        → AreDeclarable words m → IsReadableModel limit (naming_of m) m → AreReadBack words sorts m }
-{}
-
-/// A model that a text reads as is readable: its numbers are within the limit, and its expressions are the grammar's.
-pub fn readable()
-    ensures model { (limit : ℕ) (text : List ℕ) (m : RobustModel) → 1 ≤ limit → ReadsModel limit text m → IsReadableModel limit (naming_of m) m }
-{}
-
-/// The canonical text of a readable, well-named model within the limits, whose lines are few and shallow, is read as that model.
-pub fn canonical_reading()
-    ensures read { (limit : ℕ) (m : RobustModel) → 1 ≤ limit → limit < 2 ^ 62 → IsReadableModel limit (naming_of m) m
-        → IsModel (written_model m) → IsNamed m → Each IsSpelled (declared_names m)
-        → Each HasDistinctMembers (written_model m).set_lines → IsWithinLimits m
-        → Each (IsShallow 0) (canonical_lines_of m) → length (ended (canonical_lines_of m)) ≤ most_tokens
-        → ReadsModel limit (model_text m) m }
-{}
-
-/// A model that a text reads as is read again from its canonical text.
-pub fn round_trip()
-    ensures again { (limit : ℕ) (text : List ℕ) (m : RobustModel) → 1 ≤ limit → limit < 2 ^ 62 → ReadsModel limit text m
-        → ReadsModel limit (model_text m) m }
 {}

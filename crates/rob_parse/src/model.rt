@@ -7,25 +7,23 @@ ghost use Rattle.rob_meaning.specs.RobustModel.{in_set, joint_parameters};
 ghost use Rattle.std.specs.List.{flat_map};
 ghost use Rattle.rob_model.specs.Valid.{IsValid};
 ghost use Rattle.rob_model.specs.View.{robust, parameter_of, variable_of, adaptive_of, set_line_of, row_of};
-ghost use Rattle.rob_parse.specs.Building.{FitsBounds, FitsRelation, FitsNumber, FitsMember, FitsStatement, HasAdded, HasRoom, HasRoomForAll, place_of as place_lem};
-ghost use Rattle.rob_parse.specs.Known.{texts};
+ghost use Rattle.rob_parse.specs.Building.{FitsBounds, FitsRelation, FitsNumber, FitsMember, FitsStatement, HasAdded, HasRoom, HasRoomForAll};
+ghost use Rattle.rob_parse.specs.Building as spec;
+ghost use Rattle.rob_syntax.specs.Known.{texts};
 ghost use Rattle.rob_parse.specs.Models.{parameters, variables, adaptives, set_lines, rows, goal_in, line_taken, model_of, row_taken};
 ghost use Rattle.rob_parse.specs.Modelled.{ReadsModel};
-ghost use Rattle.rob_parse.specs.Reading.{HasModelCause};
-ghost use Rattle.rob_parse.specs.declared.syntax.Statement.TheVariants as parsed;
+ghost use Rattle.rob_rules.specs.Reading.{HasModelCause};
+ghost use Rattle.rob_syntax.specs.declared.syntax.Statement.TheVariants as parsed;
 
-use crate::error::ModelErr;
 use crate::fraction::{fraction, lower, upper};
 use crate::parts::{members, parameters_at, relation, sense, word_of};
 use crate::place::{Place, set_at};
-use crate::reader::read_statements;
-use crate::scope::Scope;
-use crate::sort::Sort;
-use crate::syntax::{Budget, Declared, Goal, Policy, Relation, Row, Statement};
 use crate::tree::expression;
-use crate::words::Words;
 use rob_model::{Adaptive, Model, Param, RowDef, SetLine, Var};
 use rob_number::{Exact, Ledger, List, Memory, Text};
+use rob_rules::{ModelErr, Scope, Sort, read_statements};
+use rob_syntax::Words;
+use rob_syntax::syntax::{Budget, Declared, Goal, Policy, Relation, Row, Statement};
 use std::alloc::Global;
 
 /// The model that a text says, its numbers being of the type `N`, whose limit bounds digits; or the rule that the text breaks
@@ -103,8 +101,8 @@ fn model<N: Exact, L: Ledger>(
 
 /// The set that a line is over, and how many written parameters there are.
 fn place_of(scope: &Scope, over: Option<usize>) -> Place
-    requires { scope.now.sizes.parameters < 2 ^ 32 }
-    ensures { result ≡ place_lem scope.now over }
+    requires count { scope.now.sizes.parameters < 2 ^ 32 }
+    ensures place { result ≡ spec.place_of scope.now over }
 {
     Place {
         count: scope.sizes.parameters as u32,
@@ -114,7 +112,7 @@ fn place_of(scope: &Scope, over: Option<usize>) -> Place
 
 /// Gives each named set the written parameters, with its name in front of theirs.
 fn join<N: Exact>(alloc: Global, sets: &[Text], params: &mut List<Param<N>>) -> Result<(), Memory>
-    ensures { OnOk result (map (parameter_of N.value) params.new ≡ joint_parameters (map (parameter_of N.value) params.old) sets.now) }
+    ensures joint { OnOk result (map (parameter_of N.value) params.new ≡ joint_parameters (map (parameter_of N.value) params.old) sets.now) }
 {
     let count = params.items().len();
     for set in sets {
@@ -130,8 +128,8 @@ fn join_set<N: Exact>(
     count: usize,
     params: &mut List<Param<N>>,
 ) -> Result<(), Memory>
-    requires { count ≤ length params.old }
-    ensures { OnOk result (map (parameter_of N.value) params.new
+    requires count { count ≤ length params.old }
+    ensures joint { OnOk result (map (parameter_of N.value) params.new
         ≡ map (parameter_of N.value) params.old ++ map (in_set set.now) (take count (map (parameter_of N.value) params.old))) }
 {
     for k in 0..count {
@@ -143,7 +141,7 @@ fn join_set<N: Exact>(
 
 /// A parameter as a set has it: its name behind the set's and a dot, and its bounds.
 fn param_in<N: Exact>(alloc: Global, set: &Text, param: &Param<N>) -> Result<Param<N>, Memory>
-    ensures { IfOk result (λ p. parameter_of N.value p ≡ in_set set.now (parameter_of N.value param.now)) }
+    ensures parameter { IfOk result (λ p. parameter_of N.value p ≡ in_set set.now (parameter_of N.value param.now)) }
 {
     let mut name = Text::new(alloc);
     name.push(set.bytes())?;
@@ -158,7 +156,7 @@ fn param_in<N: Exact>(alloc: Global, set: &Text, param: &Param<N>) -> Result<Par
 
 /// The goal, if there is one.
 fn goal(list: &[Statement]) -> Option<&Goal>
-    ensures { option_copied result ≡ goal_in list.now }
+    ensures goal { option_copied result ≡ goal_in list.now }
 {
     for statement in list {
         if let Statement::Goal(goal) = statement {
@@ -215,7 +213,7 @@ fn add<N: Exact, L: Ledger>(
 
 /// Adds a statement on a set, with the set's number.
 fn add_line<N: Exact>(model: &mut Model<N>, line: SetLine<N>, set: u32) -> Result<(), Memory>
-    ensures { OnOk result (robust N.value model.new ≡ record (robust N.value model.old) {
+    ensures added { OnOk result (robust N.value model.new ≡ record (robust N.value model.old) {
       set_lines = (robust N.value model.old).set_lines ++ set_line_of N.value line ∷ [];
       line_sets = (robust N.value model.old).line_sets ++ set ∷ [];
     }) }

@@ -4,22 +4,21 @@ ghost use Rattle.std.specs.Prelude.{◌≡◌, ◌≤◌, map, IfOk};
 ghost use Rattle.rob_meaning.specs.Places.{Each};
 ghost use Rattle.rob_model.specs.View.{member_of, relation_of as model_relation, sense_of as model_sense};
 ghost use Rattle.rob_parse.specs.Building.{FitsMember, HasRoom};
-ghost use Rattle.rob_parse.specs.Known.{texts};
-ghost use Rattle.rob_parse.specs.Models.{member as member_lem, member_taken, parameter_number as parameter_number_lem, parameter_at as parameter_at_lem, relation_of, sense_of, word_of as word_of_lem};
+ghost use Rattle.rob_syntax.specs.Known.{texts};
+ghost use Rattle.rob_parse.specs.Models.{member_taken, relation_of, sense_of};
+ghost use Rattle.rob_parse.specs.Models as spec;
 
-use crate::degree::sort_at;
 use crate::fraction::{fraction, signed};
 use crate::place::Place;
-use crate::sort::Sort;
-use crate::syntax;
-use crate::words::Words;
 use rob_model::{Member, Rel, Sense};
 use rob_number::{Exact, Ledger, List, Memory, Text};
+use rob_rules::{Sort, sort_at};
+use rob_syntax::{Words, syntax};
 use std::alloc::Global;
 
 /// The word of this number, as a text.
 pub fn word_of(alloc: Global, words: &Words, name: usize) -> Result<Text, Memory>
-    ensures { IfOk result (λ text. text ≡ word_of_lem (texts words.now.keys) name) }
+    ensures word { IfOk result (λ text. text ≡ spec.word_of (texts words.now.keys) name) }
 {
     let mut text = Text::new(alloc);
     text.push(word_at(words, name))?;
@@ -28,7 +27,7 @@ pub fn word_of(alloc: Global, words: &Words, name: usize) -> Result<Text, Memory
 
 /// The word of this number.
 fn word_at(words: &Words, name: usize) -> &[u8]
-    ensures { result.now ≡ word_of_lem (texts words.now.keys) name }
+    ensures word { result.now ≡ spec.word_of (texts words.now.keys) name }
 {
     match words.get_index(name) {
         Some(word) => word.as_slice(),
@@ -38,7 +37,7 @@ fn word_at(words: &Words, name: usize) -> &[u8]
 
 /// The number of a parameter; nothing else stands where one is asked for.
 fn parameter_number(sort: Option<Sort>) -> u32
-    ensures { result ≡ parameter_number_lem sort }
+    ensures number { result ≡ spec.parameter_number sort }
 {
     match sort {
         Some(Sort::Parameter(k)) => k,
@@ -48,7 +47,7 @@ fn parameter_number(sort: Option<Sort>) -> u32
 
 /// The number of the parameter of this name.
 fn parameter_at(sorts: &[Option<Sort>], name: usize) -> u32
-    ensures { result ≡ parameter_at_lem sorts.now name }
+    ensures number { result ≡ spec.parameter_at sorts.now name }
 {
     parameter_number(sort_at(sorts, name))
 }
@@ -59,7 +58,7 @@ pub fn parameters_at(
     sorts: &[Option<Sort>],
     names: &[usize],
 ) -> Result<List<u32>, Memory>
-    ensures { IfOk result (λ list. list ≡ map (parameter_at_lem sorts.now) names.now) }
+    ensures numbers { IfOk result (λ list. list ≡ map (spec.parameter_at sorts.now) names.now) }
 {
     let mut list = List::new(alloc);
     for name in names {
@@ -79,7 +78,7 @@ pub fn members<N: Exact, L: Ledger>(
     requires fits { Each (FitsMember N.limit) members.now }
     requires room { HasRoom sorts.now place }
     ensures read { IfOk result (λ list. map (member_of N.value) list
-        ≡ map (member_taken place.count place.set) (map (member_lem sorts.now) members.now)) }
+        ≡ map (member_taken place.count place.set) (map (spec.member sorts.now) members.now)) }
     ensures ops { L.ops ledger.old ≤ L.ops ledger.new }
     ensures wides { L.wides ledger.old ≡ L.wides ledger.new }
 {
@@ -99,7 +98,7 @@ fn member<N: Exact, L: Ledger>(
 ) -> Member<N>
     requires fits { FitsMember N.limit member.now }
     requires room { HasRoom sorts.now place }
-    ensures read { member_of N.value result ≡ member_taken place.count place.set (member_lem sorts.now member.now) }
+    ensures read { member_of N.value result ≡ member_taken place.count place.set (spec.member sorts.now member.now) }
     ensures ops { L.ops ledger.old ≤ L.ops ledger.new }
     ensures wides { L.wides ledger.old ≡ L.wides ledger.new }
 {
@@ -112,7 +111,7 @@ fn member<N: Exact, L: Ledger>(
 
 /// A relation.
 pub fn relation(rel: syntax::Rel) -> Rel
-    ensures { model_relation result ≡ relation_of rel }
+    ensures relation { model_relation result ≡ relation_of rel }
 {
     match rel {
         syntax::Rel::AtMost => Rel::AtMost,
@@ -123,7 +122,7 @@ pub fn relation(rel: syntax::Rel) -> Rel
 
 /// Whether a goal is to be small or large.
 pub fn sense(sense: syntax::Sense) -> Sense
-    ensures { model_sense result ≡ sense_of sense }
+    ensures sense { model_sense result ≡ sense_of sense }
 {
     match sense {
         syntax::Sense::Minimise => Sense::Minimise,

@@ -1,10 +1,9 @@
 //! The set that a line answers to.
 
 ghost use Rattle.std.specs.Prelude.{◌≡◌};
-ghost use Rattle.rob_parse.specs.Models.{set_number as set_number_lem, set_at as set_at_lem};
+ghost use Rattle.rob_parse.specs.Models as spec;
 
-use crate::degree::sort_at;
-use crate::sort::Sort;
+use rob_rules::{Sort, sort_at};
 
 /// The set that a line answers to, in a text with so many written parameters.
 #[derive(Clone, Copy)]
@@ -16,7 +15,7 @@ pub struct Place {
 
 /// The number of the set that a line is over; without `over` it is the default set.
 pub fn set_at(sorts: &[Option<Sort>], over: Option<usize>) -> u32
-    ensures { result ≡ set_at_lem sorts.now over }
+    ensures set { result ≡ spec.set_at sorts.now over }
 {
     match over {
         None => 0,
@@ -26,7 +25,7 @@ pub fn set_at(sorts: &[Option<Sort>], over: Option<usize>) -> u32
 
 /// The number of a set; nothing else stands where one is asked for.
 fn set_number(sort: Option<Sort>) -> u32
-    ensures { result ≡ set_number_lem sort }
+    ensures set { result ≡ spec.set_number sort }
 {
     match sort {
         Some(Sort::Set(set)) => set,

@@ -3,17 +3,17 @@
 ghost use Rattle.std.specs.Prelude.{◌≡◌, ◌≤◌, map, IfOk};
 ghost use Rattle.rob_model.specs.View.{expression_of, signed_of, terms_of, factors_of};
 ghost use Rattle.rob_parse.specs.Building.{FitsTree, FitsSummands, FitsOperands, HasRoom};
-ghost use Rattle.rob_parse.specs.Degrees.{sort_at as sort_lem};
-ghost use Rattle.rob_parse.specs.Models.{expression as expression_lem, terms as terms_lem, factors as factors_lem, named as named_lem, taken, terms_taken, factors_taken};
-ghost use Rattle.rob_parse.specs.Trees.{tree_of, part_of, summands_of, operands_of};
+ghost use Rattle.rob_rules.specs.Degrees as degrees;
+ghost use Rattle.rob_parse.specs.Models.{taken, terms_taken, factors_taken};
+ghost use Rattle.rob_parse.specs.Models as spec;
+ghost use Rattle.rob_syntax.specs.Trees.{tree_of, part_of, summands_of, operands_of};
 
-use crate::degree::sort_at;
 use crate::fraction::fraction;
 use crate::place::Place;
-use crate::sort::Sort;
-use crate::syntax::{Summand, Syntax};
 use rob_model::{Expr, Term};
 use rob_number::{Exact, Ledger, List, Memory};
+use rob_rules::{Sort, sort_at};
+use rob_syntax::syntax::{Summand, Syntax};
 use std::alloc::Global;
 
 /// The expression that a tree is, where this is what its names stand for.
@@ -27,7 +27,7 @@ pub fn expression<N: Exact, L: Ledger>(
 ) -> Result<Expr<N>, Memory>
     requires fits { FitsTree N.limit (tree_of tree.now) }
     requires room { HasRoom sorts.now place }
-    ensures read { IfOk result (λ e. expression_of N.value e ≡ taken place.count place.set (expression_lem sorts.now (tree_of tree.now))) }
+    ensures read { IfOk result (λ e. expression_of N.value e ≡ taken place.count place.set (spec.expression sorts.now (tree_of tree.now))) }
     ensures ops { L.ops ledger.old ≤ L.ops ledger.new }
     ensures wides { L.wides ledger.old ≡ L.wides ledger.new }
 {
@@ -43,7 +43,7 @@ pub fn expression<N: Exact, L: Ledger>(
 
 /// The parts of a sum.
 #[cycle(tree)]
-#[tactic(auto, using(crate::proofs::MapLemmas::summands_fit))]
+#[tactic(auto, using(crate::proofs::Building::MapLemmas::summands_fit))]
 fn terms<N: Exact, L: Ledger>(
     alloc: Global,
     sorts: &[Option<Sort>],
@@ -54,7 +54,7 @@ fn terms<N: Exact, L: Ledger>(
     requires fits { FitsSummands N.limit (summands_of (map part_of parts.now)) }
     requires room { HasRoom sorts.now place }
     ensures read { IfOk result (λ ts. terms_of (map (signed_of N.value) ts)
-        ≡ terms_taken place.count place.set (terms_lem sorts.now (summands_of (map part_of parts.now)))) }
+        ≡ terms_taken place.count place.set (spec.terms sorts.now (summands_of (map part_of parts.now)))) }
     ensures ops { L.ops ledger.old ≤ L.ops ledger.new }
     ensures wides { L.wides ledger.old ≡ L.wides ledger.new }
 {
@@ -69,7 +69,7 @@ fn terms<N: Exact, L: Ledger>(
 
 /// The factors of a product.
 #[cycle(tree)]
-#[tactic(auto, using(crate::proofs::MapLemmas::operands_fit))]
+#[tactic(auto, using(crate::proofs::Building::MapLemmas::operands_fit))]
 fn factors<N: Exact, L: Ledger>(
     alloc: Global,
     sorts: &[Option<Sort>],
@@ -80,7 +80,7 @@ fn factors<N: Exact, L: Ledger>(
     requires fits { FitsOperands N.limit (operands_of (map tree_of trees.now)) }
     requires room { HasRoom sorts.now place }
     ensures read { IfOk result (λ fs. factors_of (map (expression_of N.value) fs)
-        ≡ factors_taken place.count place.set (factors_lem sorts.now (operands_of (map tree_of trees.now)))) }
+        ≡ factors_taken place.count place.set (spec.factors sorts.now (operands_of (map tree_of trees.now)))) }
     ensures ops { L.ops ledger.old ≤ L.ops ledger.new }
     ensures wides { L.wides ledger.old ≡ L.wides ledger.new }
 {
@@ -95,7 +95,7 @@ fn factors<N: Exact, L: Ledger>(
 /// What a name is in an expression of this set; one that may not be used is the empty sum.
 fn named<N: Exact>(alloc: Global, sorts: &[Option<Sort>], place: Place, name: usize) -> Expr<N>
     requires room { HasRoom sorts.now place }
-    ensures read { expression_of N.value result ≡ taken place.count place.set (named_lem (sort_lem sorts.now name)) }
+    ensures read { expression_of N.value result ≡ taken place.count place.set (spec.named (degrees.sort_at sorts.now name)) }
 {
     match sort_at(sorts, name) {
         Some(Sort::Parameter(k)) => Expr::Param(place.set * place.count + k),

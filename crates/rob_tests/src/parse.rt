@@ -2,7 +2,9 @@
 
 use rob_model::Model;
 use rob_number::{Frac, Tally, Text};
-use rob_parse::{ModelErr, read_model, read_statements, write_model};
+use rob_parse::read_model;
+use rob_rules::{ModelErr, read_statements};
+use rob_write::write_model;
 use std::test::Fail;
 
 const LIMIT: u64 = (1 << 62) - 1;

@@ -7,8 +7,7 @@ use Rattle.rob_meaning.specs.Named.{declared_names}
 use Rattle.rob_meaning.specs.Names.{Name}
 use Rattle.rob_meaning.specs.Places.{Each}
 use Rattle.rob_meaning.specs.RobustModel.{RobustModel}
-use Rattle.rob_parse.specs.Pages.{GoesOn, IsWord as IsReadWord}
-use Rattle.rob_parse.specs.Readable.{IsSpelled}
+use Rattle.rob_syntax.specs.Names.{GoesOn, IsWord as IsReadWord, IsSpelled}
 
 goes_on_apart : (b : ℕ) → goes_on_word b ≡ true → (b ≢ 32) × (b ≢ 10)
 goes_on_apart b h = (

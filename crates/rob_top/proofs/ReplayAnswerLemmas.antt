@@ -15,7 +15,7 @@ use Rattle.rob_meaning.specs.Proves.{Proves}
 use Rattle.rob_meaning.specs.RobustModel.{RobustModel}
 use Rattle.rob_meaning.specs.WellFormed.{IsModel}
 use Rattle.rob_number.specs.Lowest.{limit_low}
-use Rattle.rob_parse.proofs.PlacedLemmas.{well_formed}
+use Rattle.rob_parse.proofs.Building.PlacedLemmas.{well_formed}
 use Rattle.rob_replay.proofs.OneFileLemmas.{one_file}
 use Rattle.rob_replay.specs.Files.{IsFile}
 use Rattle.rob_replay.specs.Outcome.{outcome}

@@ -10,9 +10,9 @@ use Rattle.rob_meaning.proofs.StatusLemmas.{optimal_not_infeasible, optimal_not_
 use Rattle.rob_parse.specs.Modelled.{ReadsModel}
 use Rattle.rob_outside.specs.Fetches.{Fetch}
 use Rattle.rob_outside.specs.Files.{File, Found, whole, missing, too_long, found_at}
-use Rattle.rob_parse.specs.Reading.{Breaks}
-use Rattle.rob_parse.proofs.OneModel.{not_both, one_model}
-use Rattle.rob_parse.proofs.OneReading.{one_rule}
+use Rattle.rob_rules.specs.Reading.{Breaks}
+use Rattle.rob_parse.proofs.Building.OneModel.{not_both, one_model}
+use Rattle.rob_rules.proofs.OneReading.{one_rule}
 use Rattle.rob_model.specs.declared.place.Spot.{Spot}
 use Rattle.rob_top.proofs.CourseLemmas.{Course, accepted_course, cert_course, empty_course, inside_admitted, rejected_course, lacking_course, replayed_course, rows_course, scenarios_course, solved_course, wide_course}
 use Rattle.rob_top.specs.Calls.{Call, Came, HasFile, IsFirstAbsent, IsFound, Known, Request, answer_to, by_fetches, by_files, limit_of, requests}

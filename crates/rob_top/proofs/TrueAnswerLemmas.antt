@@ -26,10 +26,10 @@ use Rattle.rob_model.specs.declared.place.Spot.{Spot}
 use Rattle.rob_model.specs.declared.place.Spot.TheVariants as spots
 use Rattle.rob_number.specs.Lowest.{limit_high, limit_low}
 use Rattle.rob_outside.specs.Files.{Found, whole, missing, too_long}
-use Rattle.rob_parse.proofs.PlacedLemmas.{well_formed}
-use Rattle.rob_parse.proofs.OneModel.{not_both}
-use Rattle.rob_parse.proofs.WellNamed.{well_named, well_spelled}
-use Rattle.rob_parse.specs.Reading.{Breaks}
+use Rattle.rob_parse.proofs.Building.PlacedLemmas.{well_formed}
+use Rattle.rob_parse.proofs.Building.OneModel.{not_both}
+use Rattle.rob_parse.proofs.Names.WellNamed.{well_named, well_spelled}
+use Rattle.rob_rules.specs.Reading.{Breaks}
 use Rattle.rob_sets.specs.FirstWide.{IsFirstWide, IsWideThere, Judged, NothingWide, spot_of}
 use Rattle.rob_sets.specs.SetForm.{judged_set}
 use Rattle.rob_cert.proofs.OneBreach.{one_cause}

@@ -6,9 +6,9 @@ use Rattle.rob_number.specs.Counts.{Rose}
 use Rattle.rob_number.specs.Lowest as Lowest
 use Rattle.rob_number.specs.declared.memory.Memory.{Memory as Want}
 use Rattle.rob_parse.specs.Modelled.{ReadsModel}
-use Rattle.rob_parse.specs.Reading.{Breaks, HasModelCause}
-use Rattle.rob_parse.specs.declared.error.ModelErr.{ModelErr}
-use Rattle.rob_parse.specs.declared.error.ModelErr.TheVariants as unread
+use Rattle.rob_rules.specs.Reading.{Breaks, HasModelCause}
+use Rattle.rob_rules.specs.declared.error.ModelErr.{ModelErr}
+use Rattle.rob_rules.specs.declared.error.ModelErr.TheVariants as unread
 use Rattle.rob_report.specs.Rows.{rows_of}
 use Rattle.rob_report.proofs.SpotLemmas.{set_spot, forms_spot}
 use Rattle.rob_sets.specs.FirstWide.{HasCause, IsFirstWide, IsWideThere, NothingWide, RoseIfWide}

@@ -24,12 +24,13 @@ use Rattle.rob_meaning.specs.UncertaintySet.{Admits, IsEmptySet}
 use Rattle.rob_meaning.specs.WellFormed.{IsModel}
 use Rattle.rob_outside.specs.Files.{file_of, found_at, whole}
 use Rattle.rob_model.specs.Limits.{IsWithinLimits, model_size, most_columns, most_members, most_parameters, most_rows, most_set_lines, most_sets, most_size}
-use Rattle.rob_parse.proofs.CanonicalReading.{canonical_reads}
-use Rattle.rob_parse.specs.Canonical.{model_text, naming_of, written_model}
+use Rattle.rob_round_trip.proofs.Canonical.CanonicalReading.{canonical_reads}
+use Rattle.rob_write.specs.Canonical.{model_text, naming_of, written_model}
 use Rattle.rob_parse.specs.Modelled.{ReadsModel}
 use Rattle.rob_lex.specs.Bytes.{begins_word}
-use Rattle.rob_parse.specs.Symbols.{keyword_among, keywords}
-use Rattle.rob_parse.specs.Readable.{IsReadableModel, IsSpelled as IsSpelledName}
+use Rattle.rob_syntax.specs.Symbols.{keyword_among, keywords}
+use Rattle.rob_syntax.specs.Names.{IsSpelled as IsSpelledName}
+use Rattle.rob_round_trip.specs.Readable.{IsReadableModel}
 use Rattle.rob_sets.specs.FirstWide.{NothingWide}
 use Rattle.rob_sets.specs.SetForm.{judged_set}
 use Rattle.rob_top.proofs.NarrowForms.{all_narrow, difference_narrow}

@@ -23,7 +23,7 @@ use Rattle.rob_meaning.specs.Proves.{Proves}
 use Rattle.rob_model.specs.declared.place.Place.{Place}
 use Rattle.rob_model.specs.declared.place.Place.TheVariants as At
 use Rattle.rob_outside.specs.Files.{file_of, found_at, whole}
-use Rattle.rob_parse.specs.Canonical.{model_text}
+use Rattle.rob_write.specs.Canonical.{model_text}
 use Rattle.rob_top.proofs.WorkedCalls.{fits_by, one_demand_model, one_demand_narrow, one_demand_reads}
 use Rattle.rob_top.specs.Completeness.{EndsAs, MustEnd}
 use Rattle.rob_top.specs.Inputs.{HasCertificate}

@@ -7,7 +7,7 @@ use Rattle.rob_algebra.specs.Fraction.{ratio}
 use Rattle.rob_cert.specs.Spelling.{cert_text}
 use Rattle.rob_dualize.specs.SmallestModel.{one_demand}
 use Rattle.rob_outside.specs.Files.{file_of, found_at, whole}
-use Rattle.rob_parse.specs.Canonical.{model_text}
+use Rattle.rob_write.specs.Canonical.{model_text}
 use Rattle.rob_replay.specs.Files.{BeginsRecord, IsFile, IsUnquoted, IsWithin, NextRecord}
 use Rattle.rob_replay.specs.Outcome.{outcome}
 use Rattle.rob_top.proofs.WorkedCalls.{one_demand_reads}

@@ -23,11 +23,12 @@ use Rattle.rob_meaning.specs.UncertaintySet.{Admits, IsEmptySet}
 use Rattle.rob_meaning.specs.WellFormed.{IsModel}
 use Rattle.rob_model.specs.Limits.{IsWithinLimits}
 use Rattle.rob_model.specs.declared.place.Spot.{Spot}
-use Rattle.rob_parse.proofs.CanonicalReading.{canonical_reads}
-use Rattle.rob_parse.specs.Canonical.{model_text, naming_of, written_model}
+use Rattle.rob_round_trip.proofs.Canonical.CanonicalReading.{canonical_reads}
+use Rattle.rob_write.specs.Canonical.{model_text, naming_of, written_model}
 use Rattle.rob_parse.specs.Modelled.{ReadsModel}
-use Rattle.rob_parse.specs.Readable.{IsReadableModel, IsSpelled}
-use Rattle.rob_parse.specs.Symbols.{keyword_among, keywords}
+use Rattle.rob_syntax.specs.Names.{IsSpelled}
+use Rattle.rob_round_trip.specs.Readable.{IsReadableModel}
+use Rattle.rob_syntax.specs.Symbols.{keyword_among, keywords}
 use Rattle.rob_sets.specs.FirstWide.{NothingWide, Some_of}
 use Rattle.rob_sets.specs.SetForm.{judged_set}
 use Rattle.rob_sets.specs.Subexpressions.{HasWideCoefficient, subexpressions}

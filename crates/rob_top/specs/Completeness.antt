@@ -21,7 +21,7 @@ use Rattle.rob_model.specs.declared.place.Program.TheVariants as program
 use Rattle.rob_model.specs.declared.place.Spot.{Spot}
 use Rattle.rob_model.specs.declared.place.Spot.TheVariants.{Check, Dictionary}
 use Rattle.rob_outside.specs.Files.{missing, too_long}
-use Rattle.rob_parse.specs.Reading.{Breaks}
+use Rattle.rob_rules.specs.Reading.{Breaks}
 use Rattle.rob_replay.specs.Files.{IsFile}
 use Rattle.rob_replay.specs.Outcome.{outcome}
 use Rattle.rob_sets.specs.FirstWide.{IsFirstWide}

@@ -9,8 +9,8 @@ use Rattle.rob_check.specs.declared.verdict.Verdict.TheVariants as verdict
 use Rattle.rob_meaning.specs.RobustModel.{RobustModel}
 use Rattle.rob_meaning.specs.SetRows.{set_rows}
 use Rattle.rob_model.specs.declared.place.Spot.TheVariants as spots
-use Rattle.rob_parse.specs.declared.error.ModelErr.{ModelErr}
-use Rattle.rob_parse.specs.declared.error.ModelErr.TheVariants as unread
+use Rattle.rob_rules.specs.declared.error.ModelErr.{ModelErr}
+use Rattle.rob_rules.specs.declared.error.ModelErr.TheVariants as unread
 use Rattle.rob_report.specs.Places.{IsSpotOf}
 use Rattle.rob_report.specs.Spots.{too_wide_line, empty_set_lines}
 use Rattle.rob_sets.specs.declared.error.ElabErr.{ElabErr}

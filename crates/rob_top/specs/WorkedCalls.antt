@@ -9,7 +9,7 @@ use Rattle.rob_meaning.specs.Places.{0ℚ, 1ℚ}
 use Rattle.rob_meaning.specs.Expressions.{number, parameter, variable, sum, no_terms, term}
 use Rattle.rob_meaning.specs.RobustModel.{RobustModel, at_least, at_most, line, minimise}
 use Rattle.rob_outside.specs.Files.{File, file_of}
-use Rattle.rob_parse.specs.Canonical.{model_text}
+use Rattle.rob_write.specs.Canonical.{model_text}
 use Rattle.rob_report.specs.Lines.{line as line_of}
 use Rattle.rob_top.specs.Calls.{Call, call_of, count}
 use Rattle.rob_words.specs.Values.{Word}

@@ -1,4 +1,4 @@
-use Rattle.rob_parse.proofs.OneModel.{some_model, one_model, not_both}
+use Rattle.rob_parse.proofs.Building.OneModel.{some_model, one_model, not_both}
 use Rattle.rob_parse.proofs.laws.one_model.Goals as goal
 
 pub returns : goal.returns

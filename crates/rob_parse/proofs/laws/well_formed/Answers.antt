@@ -1,4 +1,4 @@
-use Rattle.rob_parse.proofs.PlacedLemmas.{well_formed}
+use Rattle.rob_parse.proofs.Building.PlacedLemmas.{well_formed}
 use Rattle.rob_parse.proofs.laws.well_formed.Goals as goal
 
 pub returns : goal.returns

@@ -1,4 +1,4 @@
-use Rattle.rob_parse.proofs.WellNamed.{well_named, well_spelled}
+use Rattle.rob_parse.proofs.Names.WellNamed.{well_named, well_spelled}
 use Rattle.rob_parse.proofs.laws.well_named.Goals as goal
 
 pub returns : goal.returns

@@ -1,4 +1,4 @@
-use Rattle.rob_parse.proofs.LimitLemmas.{within_limits, counted_is}
+use Rattle.rob_parse.proofs.Sizes.LimitLemmas.{within_limits, counted_is}
 use Rattle.rob_parse.proofs.laws.within_limits.Goals as goal
 
 pub returns : goal.returns

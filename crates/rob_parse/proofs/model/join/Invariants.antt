@@ -1,7 +1,7 @@
 use Rattle.std.proofs.Common.{◌≡◌, ◌≤◌, ◌++◌, drop, length, map, take}
 use Rattle.rob_meaning.specs.RobustModel.{in_set, joint_parameters}
 use Rattle.rob_model.specs.View.{parameter_of}
-use Rattle.rob_parse.proofs.JoinLemmas.{copies}
+use Rattle.rob_parse.proofs.Sets.JoinLemmas.{copies}
 use Rattle.rob_parse.proofs.model.join.Given as goal
 
 abbrev pub invariant-loop-set : goal.invariant-loop-set

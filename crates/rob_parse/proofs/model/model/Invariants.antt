@@ -2,8 +2,8 @@ use Rattle.std.proofs.Common.{◌≡◌, ◌≤◌, drop}
 use Rattle.rob_meaning.specs.Places.{Each}
 use Rattle.rob_model.specs.View.{robust}
 use Rattle.rob_parse.specs.Building.{FitsStatement}
-use Rattle.rob_parse.specs.Known.{texts}
-use Rattle.rob_parse.proofs.BuildLemmas.{Grows}
+use Rattle.rob_syntax.specs.Known.{texts}
+use Rattle.rob_parse.proofs.Building.BuildLemmas.{Grows}
 use Rattle.rob_parse.proofs.model.model.Given as goal
 
 abbrev pub invariant-loop-statement : goal.invariant-loop-statement

@@ -1,22 +1,22 @@
 use Rattle.std.proofs.Common.{◌≡◌, ap, sym, subst, ◌∙◌, List, length, refl}
 use Rattle.std.specs.Prelude.{IsSome}
 use Rattle.rob_meaning.specs.Places.{Each}
-use Rattle.rob_parse.specs.declared.syntax.Statement.{Statement}
+use Rattle.rob_syntax.specs.declared.syntax.Statement.{Statement}
 use Rattle.rob_parse.specs.Building.{FitsStatement}
-use Rattle.rob_parse.specs.Known.{texts}
+use Rattle.rob_syntax.specs.Known.{texts}
 use Rattle.rob_parse.specs.Models.{goal_in, model_of, parameters}
 use Rattle.std.specs.List.{flat_map}
-use Rattle.rob_parse.specs.Reading.{Reads}
-use Rattle.rob_parse.specs.Scopes.{earlier_of, start}
-use Rattle.rob_parse.specs.Symbols.{lines_of}
-use Rattle.rob_parse.proofs.FitLemmas.{all_fit, goal_there}
+use Rattle.rob_rules.specs.Reading.{Reads}
+use Rattle.rob_rules.specs.Scopes.{earlier_of, start}
+use Rattle.rob_syntax.specs.Symbols.{lines_of}
+use Rattle.rob_parse.proofs.Degrees.FitLemmas.{all_fit, goal_there}
 use Rattle.rob_model.specs.View.{robust}
 use Rattle.rob_parse.specs.Modelled.{ReadsModel}
-use Rattle.rob_parse.proofs.LimitLemmas.{within_limits}
-use Rattle.rob_parse.proofs.PlacedLemmas.{well_formed}
-use Rattle.rob_parse.proofs.RoomLemmas.{has_room, written_count_is}
-use Rattle.rob_parse.proofs.WellNamed.{well_named}
-use Rattle.rob_parse.proofs.NumberLemmas.{limit_seen}
+use Rattle.rob_parse.proofs.Sizes.LimitLemmas.{within_limits}
+use Rattle.rob_parse.proofs.Building.PlacedLemmas.{well_formed}
+use Rattle.rob_parse.proofs.Sets.RoomLemmas.{has_room, written_count_is}
+use Rattle.rob_parse.proofs.Names.WellNamed.{well_named}
+use Rattle.rob_parse.proofs.Degrees.NumberLemmas.{limit_seen}
 use Rattle.rob_parse.proofs.model.read_model.Goals as goal
 
 pub model-requires-clause-fits : goal.model-requires-clause-fits

@@ -3,7 +3,7 @@ use Rattle.rob_meaning.specs.Places.{Each}
 use Rattle.rob_model.specs.View.{member_of}
 use Rattle.rob_parse.specs.Building.{FitsMember}
 use Rattle.rob_parse.specs.Models.{member, member_taken}
-use Rattle.rob_parse.specs.declared.syntax.Member.{Member}
+use Rattle.rob_syntax.specs.declared.syntax.Member.{Member}
 use Rattle.rob_parse.proofs.parts.members.Given as goal
 
 abbrev pub invariant-loop-next : goal.invariant-loop-next

@@ -1,7 +1,7 @@
 use Rattle.std.proofs.Common.{arith, ap, ◌∙◌}
 use Rattle.rob_model.specs.View.{expression_of, signed_of, terms_of, factors_of}
 use Rattle.rob_model.proofs.PartLemmas.{signed_is}
-use Rattle.rob_parse.proofs.MapLemmas.{map_step, map_end, signed_at, signed_same, factor_at, factor_same, terms_are, factors_are, summands_fit, operands_fit}
+use Rattle.rob_parse.proofs.Building.MapLemmas.{map_step, map_end, signed_at, signed_same, factor_at, factor_same, terms_are, factors_are, summands_fit, operands_fit}
 use Rattle.rob_parse.proofs.tree.+tree.Goals as goal
 
 pub terms-loop-part-preserved : goal.terms-loop-part-preserved

@@ -1,8 +1,8 @@
 use Rattle.std.proofs.Common.{◌≡◌, ◌≤◌, ◌++◌, drop, map}
 use Rattle.rob_model.specs.View.{expression_of, signed_of}
 use Rattle.rob_parse.specs.Building.{FitsSummands, FitsOperands}
-use Rattle.rob_parse.specs.Trees.{tree_of, part_of, summands_of, operands_of}
-use Rattle.rob_parse.proofs.MapLemmas.{signed_at, factor_at}
+use Rattle.rob_syntax.specs.Trees.{tree_of, part_of, summands_of, operands_of}
+use Rattle.rob_parse.proofs.Building.MapLemmas.{signed_at, factor_at}
 use Rattle.rob_parse.proofs.tree.+tree.Given as goal
 
 abbrev pub invariant-terms-loop-part : goal.invariant-terms-loop-part

@@ -1,0 +1,7 @@
+-- What names stand for, and which names a model that is read has.
+pub mod SortLemmas
+pub mod WordSetLemmas
+pub mod NamedLemmas
+pub mod DeclaredLemmas
+pub mod OnceLemmas
+pub mod WellNamed

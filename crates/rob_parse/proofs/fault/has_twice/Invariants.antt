@@ -1,7 +1,0 @@
-use Rattle.std.proofs.Common.{◌≡◌, drop}
-use Rattle.rob_parse.specs.Faults.{has_twice}
-use Rattle.rob_parse.proofs.TwiceLemmas.{comes_again}
-use Rattle.rob_parse.proofs.fault.has_twice.Given as goal
-
-abbrev pub invariant-loop-symbol : goal.invariant-loop-symbol
-invariant-loop-symbol l = comes_again l.seen.keys (drop l.symbol-index l.symbols) ≡ has_twice l.symbols

@@ -1,5 +1,0 @@
-use Rattle.rob_parse.proofs.KnownNames.{ends_in_sets, has_by_name, known}
-use Rattle.rob_parse.proofs.laws.known.Goals as goal
-
-pub returns : goal.returns
-returns c = record { names = known; things = has_by_name; over = ends_in_sets }

@@ -1,5 +1,0 @@
-use Rattle.rob_parse.proofs.PageSymbols.{page_is_read, read_as}
-use Rattle.rob_parse.proofs.laws.pages.Goals as goal
-
-pub returns : goal.returns
-returns c = record { read = page_is_read; only = λ ls tokens h are. read_as ls h tokens are }

@@ -1,5 +1,0 @@
-use Rattle.rob_parse.proofs.WithoutSets.{lines_are_alone, lines_are_quiet, model_alone, one_set, statements_alone}
-use Rattle.rob_parse.proofs.laws.without_sets.Goals as goal
-
-pub returns : goal.returns
-returns c = record { statements = statements_alone; model = model_alone; plain = one_set; lines = lines_are_alone; no_over = lines_are_quiet }

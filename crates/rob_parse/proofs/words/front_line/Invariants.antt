@@ -1,7 +1,0 @@
-use Rattle.std.proofs.Common.{◌≡◌, take, drop}
-use Rattle.rob_parse.specs.Symbols.{token_lines}
-use Rattle.rob_parse.proofs.WordLemmas.{prepend}
-use Rattle.rob_parse.proofs.words.front_line.Given as goal
-
-abbrev pub invariant-loop-i : goal.invariant-loop-i
-invariant-loop-i l = prepend (take l.i l.tokens) (token_lines (drop l.i l.tokens)) ≡ token_lines l.tokens

@@ -1,7 +1,0 @@
-use Rattle.std.proofs.Common.{◌≡◌, ◌++◌, drop}
-use Rattle.rob_parse.specs.Known.{texts}
-use Rattle.rob_parse.specs.Symbols.{symbols_of}
-use Rattle.rob_parse.proofs.words.symbols.Given as goal
-
-abbrev pub invariant-loop-token : goal.invariant-loop-token
-invariant-loop-token l = l.symbols.items ++ symbols_of l.text (texts l.words.keys) (drop l.token-index l.tokens) ≡ symbols_of l.text (texts l.words.keys) l.tokens

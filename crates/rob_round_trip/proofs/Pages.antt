@@ -1,0 +1,4 @@
+-- Lines of words are read, at the level of bytes, as they were written.
+pub mod DigitLemmas
+pub mod PageTokens
+pub mod PageSymbols

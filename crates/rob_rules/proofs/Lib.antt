@@ -1,0 +1,9 @@
+pub mod WeightLemmas
+pub mod WalkLemmas
+pub mod SearchLemmas
+pub mod TwiceLemmas
+pub mod SizeLemmas
+pub mod ReadingLemmas
+pub mod TextLemmas
+pub mod LinesSettled
+pub mod OneReading

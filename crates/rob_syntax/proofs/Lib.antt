@@ -1,0 +1,4 @@
+pub mod TreeLemmas
+pub mod WordLemmas
+pub mod Readers
+pub mod OneReading
