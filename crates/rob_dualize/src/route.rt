@@ -12,7 +12,7 @@ ghost use Rattle.rob_dualize.specs.Solving.{Solves};
 ghost use Rattle.rob_dualize.specs.Wholes.{counterpart_of, IsFew};
 
 use crate::certificate::certificate;
-use crate::counterpart::{reform, program_rows};
+use crate::counterpart::{program_rows, reform};
 use crate::scenario::scenario;
 use crate::stop::{or_stop, position, wide};
 use rob_cert::{Cert, Stop};

@@ -74,8 +74,8 @@ module _ {N : Type 0} (value : N → Fraction) where
       → Parted (other_variables xs i) (bound_forms (expression_of value (Is.Var n)) (option_map value x.lower) (option_map value x.upper)) (other_variables xs (i + 1))
   variables_at xs i n {x} at same = record {
     is = ap (λ (ys : List (Var N)). variable_forms i (map (variable_of value) ys)) at
-      ∙ ap₂ (λ (y : Expression) a. bound_forms y (option_map value x.lower) (option_map value x.upper) ++ variable_forms a (map (variable_of value) (drop (i + 1) xs)))
-      (sym (variable_is value (Is.Var n) n refl ∙ ap variable same)) (sym (add-one i));
+        ∙ ap₂ (λ (y : Expression) a. bound_forms y (option_map value x.lower) (option_map value x.upper) ++ variable_forms a (map (variable_of value) (drop (i + 1) xs)))
+        (sym (variable_is value (Is.Var n) n refl ∙ ap variable same)) (sym (add-one i));
   }
 
   pub variables_end : (xs : List (Var N)) (i : ℕ) → drop i xs ≡ [] → other_variables xs i ≡ []
@@ -89,8 +89,8 @@ module _ {N : Type 0} (value : N → Fraction) where
       → Parted (other_rules ys i) (bound_forms (expression_of value (Is.Adaptive n)) (option_map value y.lower) (option_map value y.upper)) (other_rules ys (i + 1))
   rules_at ys i n {y} at same = record {
     is = ap (λ (zs : List (Adaptive N)). adaptive_forms i (map (adaptive_of value) zs)) at
-      ∙ ap₂ (λ (z : Expression) a. bound_forms z (option_map value y.lower) (option_map value y.upper) ++ adaptive_forms a (map (adaptive_of value) (drop (i + 1) ys)))
-      (sym (adaptive_is value (Is.Adaptive n) n refl ∙ ap adaptive same)) (sym (add-one i));
+        ∙ ap₂ (λ (z : Expression) a. bound_forms z (option_map value y.lower) (option_map value y.upper) ++ adaptive_forms a (map (adaptive_of value) (drop (i + 1) ys)))
+        (sym (adaptive_is value (Is.Adaptive n) n refl ∙ ap adaptive same)) (sym (add-one i));
   }
 
   pub rules_end : (ys : List (Adaptive N)) (i : ℕ) → drop i ys ≡ [] → other_rules ys i ≡ []

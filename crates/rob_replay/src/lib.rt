@@ -14,4 +14,3 @@ pub mod table;
 pub use error::ReplayErr;
 pub use replaying::replay;
 pub use table::{Table, TableLine};
-

@@ -89,11 +89,7 @@ fn put_values<N: Exact>(
 }
 
 /// Appends ` NAME NUM` for each name and its number.
-fn put_named_numbers<N: Exact>(
-    names: &[Text],
-    numbers: &[N],
-    out: &mut Text,
-) -> Result<(), Memory>
+fn put_named_numbers<N: Exact>(names: &[Text], numbers: &[N], out: &mut Text) -> Result<(), Memory>
     ensures appended { OnOk result (out.new ≡ out.old ++ named_texts names.now (map N.value numbers.now)) }
 {
     for (name, number) in names.iter().zip(numbers) {
@@ -113,10 +109,7 @@ fn put_named_number<N: Exact>(name: &[u8], number: N, out: &mut Text) -> Result<
 }
 
 /// The names of the adaptive variables.
-fn adaptive_names<N: Exact>(
-    alloc: Global,
-    adaptives: &[Adaptive<N>],
-) -> Result<List<Text>, Memory>
+fn adaptive_names<N: Exact>(alloc: Global, adaptives: &[Adaptive<N>]) -> Result<List<Text>, Memory>
     ensures list { IfOk result (λ list. list ≡ names_of_adaptives (map (adaptive_of N.value) adaptives.now)) }
 {
     let mut names = List::new(alloc);

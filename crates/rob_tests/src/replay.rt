@@ -73,7 +73,13 @@ fn a_plan_is_replayed_on_three_demands(rt: HostRuntime) -> Result<(), Fail> {
     let alloc = rt.alloc();
     let one: Model<Frac<62>> = model(alloc, ONE)?;
     let twelve = plan(alloc, &[12])?;
-    let table = replay(alloc, &one, &twelve, b"d\r\n9\r\n12\r\n13", &mut Tally::new())?;
+    let table = replay(
+        alloc,
+        &one,
+        &twelve,
+        b"d\r\n9\r\n12\r\n13",
+        &mut Tally::new(),
+    )?;
     let lines = table.lines.items();
     assert_eq!(rt; lines.len(), 3);
     assert!(rt; is_inside(&lines[0], 2, &[], 12, &[3]));
@@ -89,7 +95,13 @@ fn each_set_has_its_own_demand(rt: HostRuntime) -> Result<(), Fail> {
     let alloc = rt.alloc();
     let two: Model<Frac<62>> = model(alloc, TWO)?;
     let rule = plan(alloc, &[4, 0, 1])?;
-    let table = replay(alloc, &two, &rule, b"S.d,d\n2,1\n4,1\n1,\"4\"", &mut Tally::new())?;
+    let table = replay(
+        alloc,
+        &two,
+        &rule,
+        b"S.d,d\n2,1\n4,1\n1,\"4\"",
+        &mut Tally::new(),
+    )?;
     let lines = table.lines.items();
     assert_eq!(rt; lines.len(), 3);
     assert!(rt; is_inside(&lines[0], 2, &[1], 5, &[3, -2, 1]));
@@ -151,7 +163,11 @@ fn a_file_is_refused_at_its_first_bad_record(rt: HostRuntime) -> Result<(), Fail
     let one: Model<Frac<62>> = model(alloc, ONE)?;
     let twelve = plan(alloc, &[12])?;
     for (label, file, rule, record) in FILES {
-        assert_eq!(rt; judged(alloc, &one, &twelve, file), (rule, record), "{label}");
+        assert_eq!(rt;
+            judged(alloc, &one, &twelve, file),
+            (rule, record),
+            "{label}"
+        );
     }
     Ok(())
 }

@@ -82,7 +82,7 @@ loop-member-preserved g c =
     record {
       column = omega (arith, c.loop-member.invariant.column);
       progress = rows_go_on (rows_go_on c.loop-member.invariant.progress at c.in_ok-append_member.ensures.row)
-    (down_at value hs c.loop-member.column c.loop-member.member-index c.member-item.result last) c.in_ok-append_member-2.ensures.row;
+          (down_at value hs c.loop-member.column c.loop-member.member-index c.member-item.result last) c.in_ok-append_member-2.ensures.row;
       counted = later (later c.loop-member.invariant.counted c.append_member.ensures.counted) c.append_member-in-loop-member.ensures.counted;
     }
 

@@ -5,5 +5,5 @@ pub returns : goal.returns
 returns c =
     record {
       read =
-        shares_read c.in-Some.limit c.in-Some.ensures.read c.in-Some-behind_mark.ensures.read c.in_ok-members.ensures.read;
+          shares_read c.in-Some.limit c.in-Some.ensures.read c.in-Some-behind_mark.ensures.read c.in_ok-members.ensures.read;
     }

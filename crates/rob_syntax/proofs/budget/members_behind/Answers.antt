@@ -6,7 +6,7 @@ pub returns-in_default-member : goal.returns-in_default-member
 returns-in_default-member c =
     record {
       read =
-        front_refused spell_member c.loop-behind.invariant c.in-Some.ensures.read c.in_default-member.ensures.read;
+          front_refused spell_member c.loop-behind.invariant c.in-Some.ensures.read c.in_default-member.ensures.read;
     }
 
 pub loop-behind-preserved : goal.loop-behind-preserved
@@ -17,5 +17,5 @@ pub returns : goal.returns
 returns c =
     record {
       read =
-        front_end spell_member c.loop-behind.invariant c.in_default.ensures.read;
+          front_end spell_member c.loop-behind.invariant c.in_default.ensures.read;
     }

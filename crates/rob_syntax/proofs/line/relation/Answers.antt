@@ -5,5 +5,5 @@ pub returns : goal.returns
 returns c =
     record {
       read =
-        sides_read c.in-Some.rel c.in_ok-left.ensures.read c.in-Some.ensures.read c.in_ok-right.ensures.read;
+          sides_read c.in-Some.rel c.in_ok-left.ensures.read c.in-Some.ensures.read c.in_ok-right.ensures.read;
     }

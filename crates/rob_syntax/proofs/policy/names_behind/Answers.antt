@@ -7,7 +7,7 @@ pub returns-in_default-front_name : goal.returns-in_default-front_name
 returns-in_default-front_name c =
     record {
       read =
-        front_refused spell_name c.loop-behind.invariant c.in-Some.ensures.read (no_name c.in_default-front_name.ensures.read);
+          front_refused spell_name c.loop-behind.invariant c.in-Some.ensures.read (no_name c.in_default-front_name.ensures.read);
     }
 
 pub loop-behind-preserved : goal.loop-behind-preserved
@@ -19,5 +19,5 @@ pub returns : goal.returns
 returns c =
     record {
       read =
-        front_end spell_name c.loop-behind.invariant c.in_default.ensures.read;
+          front_end spell_name c.loop-behind.invariant c.in_default.ensures.read;
     }

@@ -5,5 +5,5 @@ pub returns : goal.returns
 returns c =
     record {
       read =
-        is_goal c.args.sense c.in_ok-objective.ensures.read;
+          is_goal c.args.sense c.in_ok-objective.ensures.read;
     }

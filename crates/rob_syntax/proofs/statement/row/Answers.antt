@@ -5,5 +5,5 @@ pub returns : goal.returns
 returns c =
     record {
       read =
-        row_read c.in-Some.name c.in-Some.ensures.read c.in-Some-behind_mark.ensures.read c.in_ok-relation.ensures.read;
+          row_read c.in-Some.name c.in-Some.ensures.read c.in-Some-behind_mark.ensures.read c.in_ok-relation.ensures.read;
     }

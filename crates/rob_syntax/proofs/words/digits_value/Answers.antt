@@ -12,5 +12,5 @@ pub returns : goal.returns
 returns c =
     record {
       value =
-        digits_all c.args.digits.now c.loop-digit.digit-index c.loop-digit.value _ c.loop-digit-test.false c.loop-digit.invariant.small c.loop-digit.invariant.rest;
+          digits_all c.args.digits.now c.loop-digit.digit-index c.loop-digit.value _ c.loop-digit-test.false c.loop-digit.invariant.small c.loop-digit.invariant.rest;
     }

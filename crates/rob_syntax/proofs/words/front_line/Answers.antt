@@ -11,8 +11,8 @@ pub returns-in-LineEnd : goal.returns-in-LineEnd
 returns-in-LineEnd c =
     record {
       line =
-        line_ends c.args.tokens.now c.loop-i.i _ c.loop-i-test.true c.in-LineEnd.is c.loop-i.invariant
-        ∙ ap (λ (l : List Token). take c.loop-i.i c.args.tokens.now ∷ token_lines l) (drop_all c.args.tokens.now (c.loop-i.i + 1));
+          line_ends c.args.tokens.now c.loop-i.i _ c.loop-i-test.true c.in-LineEnd.is c.loop-i.invariant
+          ∙ ap (λ (l : List Token). take c.loop-i.i c.args.tokens.now ∷ token_lines l) (drop_all c.args.tokens.now (c.loop-i.i + 1));
     }
 
 pub loop-i-preserved : goal.loop-i-preserved
@@ -22,5 +22,5 @@ pub returns : goal.returns
 returns c =
     record {
       line =
-        last_line c.args.tokens.now c.loop-i.i c.loop-i-test.false c.loop-i.invariant;
+          last_line c.args.tokens.now c.loop-i.i c.loop-i-test.false c.loop-i.invariant;
     }

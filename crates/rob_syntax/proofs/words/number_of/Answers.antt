@@ -8,6 +8,6 @@ pub returns : goal.returns
 returns c =
     record {
       number =
-        c.unwrap_or.ensures
-        ∙ ap (λ (o : Option ℕ). unwrap_or o 0) (c.get_index_of.ensures.index ∙ sym (position-texts (bytes_eq c.args.word.now) c.args.words.now.keys));
+          c.unwrap_or.ensures
+          ∙ ap (λ (o : Option ℕ). unwrap_or o 0) (c.get_index_of.ensures.index ∙ sym (position-texts (bytes_eq c.args.word.now) c.args.words.now.keys));
     }
