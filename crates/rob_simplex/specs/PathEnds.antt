@@ -1,0 +1,14 @@
+-- How the path of a program ends in a dictionary.
+use Rattle.std.specs.Prelude.{Some, None}
+use Rattle.rob_linear.specs.Programs.{Program}
+use Rattle.rob_simplex.specs.declared.path.Ending.{Ending}
+use Rattle.rob_simplex.specs.declared.path.Ending.TheVariants.{Optimal, Infeasible, Unbounded}
+use Rattle.rob_simplex.specs.declared.first_phase.FirstEnding.TheVariants as first
+use Rattle.rob_simplex.specs.Dictionaries.{Table}
+use Rattle.rob_simplex.specs.Phases.{InSecond, EndsIn, FirstEnds}
+
+-- at the last basis of the program, or in the first phase
+abbrev pub PathEnds : Program → Ending → Table → Type 0
+PathEnds P Optimal t = InSecond P t × EndsIn P None t
+PathEnds P (Infeasible row) t = FirstEnds P (first.Infeasible row) t
+PathEnds P (Unbounded column) t = InSecond P t × EndsIn P (Some column) t
