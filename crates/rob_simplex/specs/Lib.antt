@@ -2,3 +2,4 @@ pub mod Tables
 pub mod Dictionaries
 pub mod Phases
 pub mod Starts
+pub mod Explicit
