@@ -5,7 +5,8 @@ use Rattle.rob_simplex.specs.declared.path.Ending.{Ending}
 use Rattle.rob_simplex.specs.declared.path.Ending.TheVariants.{Optimal, Infeasible, Unbounded}
 use Rattle.rob_simplex.specs.declared.first_phase.FirstEnding.TheVariants as first
 use Rattle.rob_simplex.specs.Dictionaries.{Table}
-use Rattle.rob_simplex.specs.Phases.{InSecond, EndsIn, FirstEnds}
+use Rattle.rob_simplex.specs.Phases.{InSecond, EndsIn}
+use Rattle.rob_simplex.specs.Explicit.{FirstEnds}
 
 -- at the last basis of the program, or in the first phase
 abbrev pub PathEnds : Program → Ending → Table → Type 0

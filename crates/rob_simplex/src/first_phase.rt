@@ -1,10 +1,14 @@
 // The first phase, with the auxiliary column kept out of the table's basis: the path's basis has it at position q, where the
 // table has the column that left last.
 
-ghost use Rattle.std.specs.Prelude.{◌≡◌, ◌<◌, ◌≤◌, ◌+◌, IfOk, IfErr};
+ghost use Rattle.std.specs.Prelude.{◌≡◌, ◌<◌, ◌≤◌, ◌+◌, IfOk, IfErr, MatchResult};
 ghost use Rattle.rob_linear.specs.Programs.{Program};
-ghost use Rattle.rob_simplex.specs.Dictionaries.{positions, rows_of, FirstNegative};
+ghost use Rattle.rob_linear.specs.WideRows.{HasWideRow};
+ghost use Rattle.rob_number.specs.Counts.{CountsWide};
+ghost use Rattle.rob_simplex.specs.Dictionaries.{positions, columns_of, rows_of, FirstNegative};
 ghost use Rattle.rob_simplex.specs.Phases.{InBeside, HasTurnedBeside, IsOpenBeside, EndsBeside};
+ghost use Rattle.rob_simplex.specs.Starts.{IsStartingTable};
+ghost use Rattle.rob_simplex.specs.Explicit.{FirstTurns, FirstEnds};
 
 use crate::dictionary::Dictionary;
 use rob_number::Ledger;
@@ -30,24 +34,52 @@ pub enum Beside {
 }
 
 impl Dictionary {
-    /// The first phase, from the starting rows. The least row tells whether it is needed.
-    pub fn first_phase<L: Ledger>(&mut self, ledger: &mut L) -> Result<FirstEnding, usize> {
-        let ending = match self.least() {
-            None => FirstEnding::Feasible,
-            Some(q) => match self.go_beside(q, ledger) {
-                Beside::Infeasible => FirstEnding::Infeasible(q),
-                Beside::Feasible => FirstEnding::Feasible,
-                Beside::Open => {
-                    self.bring_in(q, ledger)?;
-                    self.drive_out(ledger)?
-                }
-            },
-        };
-        if let FirstEnding::Feasible = ending {
-            let auxiliary = self.columns + self.basis.len();
-            self.empty(auxiliary);
+    /// The first phase, from the starting rows. The auxiliary column is 0 where it is out. An `Err` names the first row that
+    /// would be wide at the basis that is then told.
+    pub fn first_phase<L: Ledger>(&mut self, ledger: &mut L) -> Result<FirstEnding, usize>
+        requires starts { (P : Program) × IsStartingTable self.old.limit P self.old }
+        ensures ended { (P : Program) → IsStartingTable self.old.limit P self.old
+            → MatchResult result
+            (λ ending. FirstEnds P ending self.new)
+            (λ i. HasWideRow self.old.limit P (columns_of self.new.basis) i) }
+        ensures position { IfErr result (λ i. i ≤ positions self.old) }
+        ensures positions { positions self.new ≡ positions self.old }
+        ensures columns { self.new.columns ≡ self.old.columns }
+        ensures limit { self.new.limit ≡ self.old.limit }
+        ensures counted { CountsWide L.ops L.wides ledger.old ledger.new result }
+    {
+        match self.first_turns(ledger) {
+            Ok(FirstEnding::Feasible) => {
+                let auxiliary = self.columns + self.basis.len();
+                self.empty(auxiliary);
+                Ok(FirstEnding::Feasible)
+            }
+            Ok(FirstEnding::Infeasible(row)) => Ok(FirstEnding::Infeasible(row)),
+            Err(i) => Err(i),
         }
-        Ok(ending)
+    }
+
+    // Its turns. The least row tells whether the auxiliary column is needed.
+    fn first_turns<L: Ledger>(&mut self, ledger: &mut L) -> Result<FirstEnding, usize>
+        requires starts { (P : Program) × IsStartingTable self.old.limit P self.old }
+        ensures ended { (P : Program) → IsStartingTable self.old.limit P self.old
+            → MatchResult result
+            (λ ending. FirstTurns P ending self.new)
+            (λ i. HasWideRow self.old.limit P (columns_of self.new.basis) i) }
+        ensures position { IfErr result (λ i. i ≤ positions self.old) }
+        ensures positions { positions self.new ≡ positions self.old }
+        ensures columns { self.new.columns ≡ self.old.columns }
+        ensures limit { self.new.limit ≡ self.old.limit }
+        ensures counted { CountsWide L.ops L.wides ledger.old ledger.new result }
+    {
+        let Some(q) = self.least() else {
+            return Ok(FirstEnding::Feasible);
+        };
+        match self.go_beside(q, ledger) {
+            Beside::Infeasible => Ok(FirstEnding::Infeasible(q)),
+            Beside::Feasible => Ok(FirstEnding::Feasible),
+            Beside::Open => self.explicit_turns(q, ledger),
+        }
     }
 
     // Turns beside the auxiliary column until it has left, no column comes in, or a row would be wide.
