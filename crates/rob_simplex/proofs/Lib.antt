@@ -14,3 +14,13 @@ pub mod LeastRows
 pub mod PivotLemmas
 pub mod SecondPhase
 pub mod FirstPhase
+pub mod Positions
+pub mod Quotients
+pub mod LowestRows
+pub mod SolverRows
+pub mod LastPoints
+pub mod Solved
+pub mod WeightLemmas
+pub mod ColumnLemmas
+pub mod Told
+pub mod Solving

@@ -4,3 +4,7 @@ pub mod Phases
 pub mod Starts
 pub mod Explicit
 pub mod PathEnds
+pub mod LowestTerms
+pub mod Solvers
+pub mod Solutions
+pub mod Endings

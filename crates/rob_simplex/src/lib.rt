@@ -2,6 +2,7 @@
 //! point is feasible.
 #![tactic(auto)]
 
+mod columns;
 mod dictionary;
 mod edits;
 mod entering;
@@ -21,6 +22,7 @@ mod starting_places;
 mod starting_rows;
 mod state;
 mod table;
+mod weights;
 mod work;
 
 pub use rob_number::LpKind;

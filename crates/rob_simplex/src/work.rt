@@ -1,14 +1,25 @@
 // The solver: its memory, and its answers.
 
+ghost use Rattle.std.specs.Prelude.{◌≡◌, ◌+◌, ◌^◌, ◌<◌, ◌≤◌, suc, neg_ℤ, nat_abs, length, IfOk, MatchResult};
+ghost use Rattle.rob_algebra.specs.Fraction.{of_pair};
+ghost use Rattle.rob_rows.specs.LinearPrograms.{IsShaped, HasNumbersWithin, program_of};
+ghost use Rattle.rob_simplex.specs.Solvers.{positions, HasPoint, HasOptimum, HasRay, HasWeights, column_of, IsMadeFor};
+ghost use Rattle.rob_simplex.specs.Solutions.{point_of, ray_of, dual_of, value_of, weights_of};
+ghost use Rattle.rob_linear.specs.Programs.{Program};
+ghost use Rattle.rob_number.specs.Counts.{CountsWide};
+ghost use Rattle.rob_simplex.specs.Dictionaries.{width_of, columns_of, rows_of};
+ghost use Rattle.rob_simplex.specs.Endings.{IsFresh, HasAnswered, HasSolved, HasStopped};
+
 use crate::dictionary::Dictionary;
 use crate::path::Ending;
-use crate::solution::{position_of, quotient};
+use crate::solution::quotient;
 use crate::state::{LpStop, State};
 use rob_number::{Exact, Ledger, LpKind, Memory};
-use rob_rows::{Lp, to_lowest_terms};
+use rob_rows::Lp;
 use std::alloc::Global;
-use std::marker::PhantomData;
+use std::marker::{Model, PhantomData};
 
+/// A solver of one linear program by the simplex method on whole rows. It takes all its memory when it is made.
 #[derive(Drop)]
 pub struct Work<N: Exact> {
     dictionary: Dictionary,
@@ -17,24 +28,52 @@ pub struct Work<N: Exact> {
     number: PhantomData<N>,
 }
 
+impl<N: Exact> Model for Work<N> {
+    ghost use Rattle.rob_simplex.specs.Solvers.{Solver, IsSound};
+
+    ghost Value = { Solver };
+
+    ghost view = { λ w. record { state = w.state; dictionary = w.dictionary; weights = w.weights.items } };
+
+    ghost invariant = { λ w. IsSound N.limit (record { state = w.state; dictionary = w.dictionary; weights = w.weights.items }) };
+}
+
 impl<N: Exact> Work<N> {
-    pub fn new(alloc: Global, lp: &Lp) -> Result<Work<N>, Memory> {
+    /// Makes a solver of the program: all memory that it will ever need.
+    pub fn new(alloc: Global, lp: &Lp) -> Result<Work<N>, Memory>
+        requires shaped { IsShaped lp.now }
+        requires few { length lp.now.c + length lp.now.b < 2 ^ 31 }
+        requires numbers { HasNumbersWithin N.limit lp.now }
+        ensures made { IfOk result (λ work. IsMadeFor (program_of lp.now) work) }
+    {
+        let dictionary = Dictionary::new(alloc, lp, N::LIMIT as u64)?;
+        let weights = vec![in alloc; 0i64; lp.b.items().len()]?;
         Ok(Work {
-            dictionary: Dictionary::new(alloc, lp, N::LIMIT as u64)?,
-            weights: vec![in alloc; 0i64; lp.b.items().len()]?,
+            dictionary,
+            weights,
             state: State::New,
             number: PhantomData,
         })
     }
 
-    pub fn solve<L: Ledger>(&mut self, ledger: &mut L) -> Result<LpKind, LpStop> {
+    /// Solves the program: its true status, with the point, the dual values, the weights or the ray that show it. It is
+    /// called once. After a stop only `basis` may be called.
+    pub fn solve<L: Ledger>(&mut self, ledger: &mut L) -> Result<LpKind, LpStop>
+        requires fresh { IsFresh self.old }
+        ensures solved { (P : Program) → IsMadeFor P self.old
+            → MatchResult result (λ kind. HasSolved P kind self.new) (λ stop. HasStopped N.limit P stop self.new) }
+        ensures answered { IfOk result (λ kind. HasAnswered kind self.new) }
+        ensures columns { self.new.columns ≡ self.old.columns }
+        ensures positions { positions self.new ≡ positions self.old }
+        ensures counted { CountsWide L.ops L.wides ledger.old ledger.new result }
+    {
         match self.dictionary.follow(ledger) {
             Ok(Ending::Optimal) => {
                 self.state = State::Optimal;
                 Ok(LpKind::Optimal)
             }
             Ok(Ending::Infeasible(row)) => {
-                self.write_weights(row);
+                self.dictionary.show_weights(row, self.weights.as_mut_slice());
                 self.state = State::Infeasible;
                 Ok(LpKind::Infeasible)
             }
@@ -49,76 +88,120 @@ impl<N: Exact> Work<N> {
         }
     }
 
-    // Writes the weights, the slack entries of a row over what divides them all, and tells the path's basis: where the
-    // auxiliary column was kept out of it, it stands at this row's position.
-    fn write_weights(&mut self, row: usize) {
-        let n = self.dictionary.columns;
-        let m = self.dictionary.basis.len();
-        for i in 0..m {
-            self.weights[i] = self.dictionary.entry(row, n + i);
-        }
-        to_lowest_terms(self.weights.as_mut_slice(), N::LIMIT as u64);
-        if row < m {
-            self.dictionary.replace(row, n + m);
-        }
+    /// The basic column of a position, counted from 0: structural columns first, then the slack columns, then the
+    /// auxiliary one.
+    pub fn basis(&self, i: u32) -> u32
+        requires inside { i < positions self.now }
+        ensures column { result ≡ columns_of self.now.basis i }
+    {
+        self.dictionary.basic(i as usize) as u32
     }
 
-    pub fn basis(&self, i: u32) -> u32 {
-        self.dictionary.basis[i as usize] as u32
-    }
-
-    pub fn x(&self, j: u32) -> N {
-        match position_of(self.dictionary.basis.as_slice(), j as usize) {
-            Some(i) => self.over_own(
-                self.dictionary.entry(i, self.dictionary.columns + self.dictionary.basis.len() + 2),
-                i,
-            ),
+    /// The number of a structural column in the point of the last basis, which is feasible, and best after `Optimal`.
+    pub fn x(&self, j: u32) -> N
+        requires point { HasPoint self.now }
+        requires inside { j < self.now.columns }
+        ensures value { N.value result ≡ point_of self.now j }
+    {
+        let right = self.dictionary.columns() + self.dictionary.positions() + 2;
+        match self.dictionary.position_of(j as usize) {
+            Some(i) => self.over_own(right, i),
             None => quotient(0, 1),
         }
     }
 
-    fn over_own(&self, numerator: i64, i: usize) -> N {
-        let own = self.dictionary.basis[i];
-        quotient(numerator, self.dictionary.entry(i, own))
+    // An entry of the row of position i, in a column of the dictionary, over the row's own entry.
+    fn over_own(&self, column: usize, i: usize) -> N
+        requires point { HasPoint self.now }
+        requires inside { i < positions self.now }
+        requires column { column < width_of self.now.dictionary }
+        ensures value { N.value result ≡ of_pair (rows_of self.now.dictionary i column)
+            (nat_abs (rows_of self.now.dictionary i (columns_of self.now.basis i))) }
+    {
+        let own = self.dictionary.basic(i);
+        quotient(self.dictionary.entry(i, column), self.dictionary.entry(i, own))
     }
 
-    pub fn y(&self, i: u32) -> N {
-        self.over_objective(self.dictionary.columns + i as usize)
+    // Minus such an entry.
+    fn minus_over_own(&self, column: usize, i: usize) -> N
+        requires point { HasPoint self.now }
+        requires inside { i < positions self.now }
+        requires column { column < width_of self.now.dictionary }
+        ensures value { N.value result ≡ of_pair (neg_ℤ (rows_of self.now.dictionary i column))
+            (nat_abs (rows_of self.now.dictionary i (columns_of self.now.basis i))) }
+    {
+        let own = self.dictionary.basic(i);
+        quotient(-self.dictionary.entry(i, column), self.dictionary.entry(i, own))
     }
 
-    pub fn value(&self) -> N {
-        self.over_objective(self.dictionary.columns + self.dictionary.basis.len() + 2)
+    /// The dual value of row `i`, at least 0, in units of the objective for one unit of the right side.
+    pub fn y(&self, i: u32) -> N
+        requires optimum { HasOptimum self.now }
+        requires inside { i < positions self.now }
+        ensures value { N.value result ≡ dual_of self.now i }
+    {
+        self.over_objective(self.dictionary.columns() + i as usize)
     }
 
-    // An entry of the objective's row over the row's own entry.
-    fn over_objective(&self, column: usize) -> N {
-        let m = self.dictionary.basis.len();
-        quotient(
-            self.dictionary.entry(m, column),
-            self.dictionary.entry(m, self.dictionary.columns + m + 1),
-        )
+    /// The value of the point and of the dual values.
+    pub fn value(&self) -> N
+        requires optimum { HasOptimum self.now }
+        ensures value { N.value result ≡ value_of self.now }
+    {
+        self.over_objective(self.dictionary.columns() + self.dictionary.positions() + 2)
     }
 
-    pub fn farkas(&self, i: u32) -> i64 {
+    // An entry of the objective's row, in a column of the dictionary, over the row's own entry.
+    fn over_objective(&self, column: usize) -> N
+        requires optimum { HasOptimum self.now }
+        requires column { column < width_of self.now.dictionary }
+        ensures value { N.value result ≡ of_pair (rows_of self.now.dictionary (positions self.now) column)
+            (nat_abs (rows_of self.now.dictionary (positions self.now) (suc (self.now.columns + positions self.now)))) }
+    {
+        let m = self.dictionary.positions();
+        let own = self.dictionary.columns() + m + 1;
+        quotient(self.dictionary.entry(m, column), self.dictionary.entry(m, own))
+    }
+
+    /// The weight of row `i`, at least 0. Weights have no common divisor.
+    pub fn farkas(&self, i: u32) -> i64
+        requires weights { HasWeights self.now }
+        requires inside { i < positions self.now }
+        ensures weight { result ≡ weights_of self.now i }
+        ensures within { nat_abs result ≤ N.limit }
+    {
         self.weights[i as usize]
     }
 
-    pub fn ray(&self, j: u32) -> N {
+    /// How much a structural column grows along the ray.
+    pub fn ray(&self, j: u32) -> N
+        requires ray { HasRay self.now }
+        requires inside { j < self.now.columns }
+        ensures value { N.value result ≡ ray_of self.now j }
+    {
         let column = self.growing();
         if j as usize == column {
             return quotient(1, 1);
         }
-        match position_of(self.dictionary.basis.as_slice(), j as usize) {
-            Some(i) => self.over_own(-self.dictionary.entry(i, column), i),
+        match self.dictionary.position_of(j as usize) {
+            Some(i) => self.minus_over_own(column, i),
             None => quotient(0, 1),
         }
     }
 
-    pub fn column(&self) -> u32 {
+    /// The column that grows by 1 along the ray.
+    pub fn column(&self) -> u32
+        requires ray { HasRay self.now }
+        ensures column { result ≡ column_of self.now.state }
+    {
         self.growing() as u32
     }
 
-    fn growing(&self) -> usize {
+    fn growing(&self) -> usize
+        ensures column { result ≡ column_of self.now.state }
+        ensures few { result < 2 ^ 31 }
+        ensures inside { HasRay self.now → result < self.now.columns + positions self.now }
+    {
         match self.state {
             State::Unbounded(column) => column,
             _ => 0,

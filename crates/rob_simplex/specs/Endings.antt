@@ -1,0 +1,84 @@
+-- What a solver has shown of its program.
+-- Chvatal, Linear Programming (1983), chapters 3, 5 and 9.
+use Rattle.std.specs.Prelude.{◌≡◌, ℕ, ◌<◌, ◌+◌}
+use Rattle.rob_number.specs.declared.lp_kind.LpKind.{LpKind}
+use Rattle.rob_number.specs.declared.lp_kind.LpKind.TheVariants as kind
+use Rattle.rob_linear.specs.Vectors.{Matrix}
+use Rattle.rob_linear.specs.Systems.{IsBasis, IsPrimitive, EndsOptimal, EndsUnbounded}
+use Rattle.rob_linear.specs.Programs.{Program, system_of, auxiliary_of, ShowsEmpty, EndsInfeasible}
+use Rattle.rob_linear.specs.Turns.{own_of, Enters}
+use Rattle.rob_linear.specs.Paths.{Last}
+use Rattle.rob_linear.specs.Optimality.{IsFeasible, objective_at, IsOptimal, IsInfeasible, IsUnbounded, IsDualFeasible, dual_objective_at, IsImprovingRay, IsScaled, IsBasicPoint, IsBasicMove}
+use Rattle.rob_linear.specs.WideRows.{HasWideRow}
+use Rattle.rob_simplex.specs.declared.state.State.TheVariants.{Stopped}
+use Rattle.rob_simplex.specs.declared.state.LpStop.{LpStop}
+use Rattle.rob_simplex.specs.declared.state.LpStop.TheVariants.{Wide}
+use Rattle.rob_simplex.specs.Dictionaries.{columns_of}
+use Rattle.rob_simplex.specs.Solvers.{Solver, entries, column_of, HasPoint, HasOptimum, HasRay, HasWeights, IsMadeFor}
+use Rattle.rob_simplex.specs.Solutions.{point_of, ray_of, dual_of, value_of, weights_of}
+
+-- the solver was made for a program, and has not solved yet
+abbrev pub IsFresh : Solver → Type 0
+IsFresh s = (P : Program) × IsMadeFor P s
+
+-- the point is the basic solution of the last basis on the program's path
+pub record IsLastPoint (P : Program) (s : Solver) : Type 0 where
+  pub last : Last P (columns_of s.basis)
+  pub basis : IsBasis (system_of P) (own_of (system_of P) (columns_of s.basis)) (entries s)
+  pub basic : IsBasicPoint (system_of P) (own_of (system_of P) (columns_of s.basis)) (entries s) (point_of s)
+
+-- the slack entries of an infeasible ending of the auxiliary form, at the last basis of the first phase, are the weights
+pub record IsFirstPhaseEnd (P : Program) (s : Solver) : Type 0 where
+  pub rows : Matrix
+  pub basis : IsBasis (auxiliary_of P) (own_of (auxiliary_of P) (columns_of s.basis)) rows
+  pub ends : EndsInfeasible P rows
+  pub weights_are : (i : ℕ) → i < P.m → rows P.m (P.n + i) ≡ weights_of s i
+
+-- the point is best, and the dual values show it
+pub record IsOptimumOf (P : Program) (s : Solver) : Type 0 where
+  pub state : HasOptimum s
+  pub point : IsLastPoint P s
+  pub open point use *
+  pub ends : EndsOptimal (system_of P) (entries s)
+  pub scaled : IsScaled P.m (dual_of s) (entries s P.m (P.n + P.m)) (λ i. entries s P.m (P.n + i))
+  pub optimal : IsOptimal P (point_of s)
+  pub dual : IsDualFeasible P (dual_of s)
+  pub value : objective_at P (point_of s) ≡ value_of s
+  pub dual_value : dual_objective_at P (dual_of s) ≡ value_of s
+
+-- the point is feasible, and from it the ray leads to values as great as one likes
+pub record IsRayOf (P : Program) (s : Solver) : Type 0 where
+  pub state : HasRay s
+  pub point : IsLastPoint P s
+  pub open point use *
+  pub enters : Enters (system_of P) (entries s) (column_of s.state)
+  pub ends : EndsUnbounded (system_of P) (own_of (system_of P) (columns_of s.basis)) (entries s) (column_of s.state)
+  pub move : IsBasicMove (system_of P) (own_of (system_of P) (columns_of s.basis)) (entries s) (column_of s.state) (ray_of s)
+  pub feasible : IsFeasible P (point_of s)
+  pub improving : IsImprovingRay P (ray_of s)
+  pub unbounded : IsUnbounded P
+
+-- no point is feasible, and the weights, which have no common divisor, show it
+pub record HasWeightsFor (P : Program) (s : Solver) : Type 0 where
+  pub state : HasWeights s
+  pub last : Last P (columns_of s.basis)
+  pub ending : IsFirstPhaseEnd P s
+  pub weights : ShowsEmpty P (weights_of s)
+  pub primitive : IsPrimitive P.m (weights_of s)
+  pub infeasible : IsInfeasible P
+
+-- which calls tell the answer's numbers
+abbrev pub HasAnswered : LpKind → Solver → Type 0
+HasAnswered kind.Optimal s = HasOptimum s × HasPoint s
+HasAnswered kind.Infeasible s = HasWeights s
+HasAnswered kind.Unbounded s = HasRay s × HasPoint s
+
+-- the answer is true
+abbrev pub HasSolved : Program → LpKind → Solver → Type 0
+HasSolved P kind.Optimal s = IsOptimumOf P s
+HasSolved P kind.Infeasible s = HasWeightsFor P s
+HasSolved P kind.Unbounded s = IsRayOf P s
+
+-- the solver stands at a basis on the path, where the row of that position is wide
+abbrev pub HasStopped : ℕ → Program → LpStop → Solver → Type 0
+HasStopped limit P (Wide position) s = (s.state ≡ Stopped) × HasWideRow limit P (columns_of s.basis) position
