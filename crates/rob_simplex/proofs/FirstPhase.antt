@@ -50,7 +50,7 @@ small_neg : (z z' : ℤ) (l : ℕ) → z' ≡ neg_ℤ z → nat_abs z' ≤ l →
 small_neg z z' l e h = omega (arith, ints)
 
 -- a column written to a list
-set_is : (b : List ℕ) (q col i : ℕ) → q < length b → columns_of (set b q col) i ≡ put_at (columns_of b) q col i
+pub set_is : (b : List ℕ) (q col i : ℕ) → q < length b → columns_of (set b q col) i ≡ put_at (columns_of b) q col i
 set_is b q col i l = elim (cases_eq i q) [
   | inl e ↦ ap (columns_of (set b q col)) e ∙ get_or-set_same b q col 0 l ∙ sym (ap (put_at (columns_of b) q col) e ∙ put_same (columns_of b) q col)
   | inr d ↦ get_or-set_other b q i col 0 d ∙ sym (put_other (columns_of b) q col i d)

@@ -14,3 +14,6 @@ pub mod LeastRows
 pub mod PivotLemmas
 pub mod SecondPhase
 pub mod FirstPhase
+pub mod FirstTurns
+pub mod ExplicitTurns
+pub mod ExplicitStart
