@@ -24,3 +24,6 @@ pub mod WeightLemmas
 pub mod ColumnLemmas
 pub mod Told
 pub mod Solving
+pub mod FirstTurns
+pub mod ExplicitTurns
+pub mod ExplicitStart

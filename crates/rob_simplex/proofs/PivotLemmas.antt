@@ -9,7 +9,7 @@ use lib.Signed.{◌<ℤ◌}
 use Rattle.rob_algebra.specs.Integer.{mul_assoc, mul_left_comm, mul-sub, mul-zero, one-mul, mul-pos_z, mul_cancel_zero, mul_cancel_lt, *ℤ_comm}
 use Rattle.rob_linear.specs.Multiples.{IsParallel, IsClearedBy}
 use Rattle.rob_rows.specs.Updates.{IsWideCleared}
-use Rattle.rob_simplex.specs.Dictionaries.{Table, positions, width_of, columns_of, basic_columns, right_column, spare_column, rows_of, IsFree, IsAlone, IsOpen, IsClosed, IsPivoted, IsBegunPivot, ClearsTable, StopsTable}
+use Rattle.rob_simplex.specs.Dictionaries.{Table, positions, width_of, columns_of, basic_columns, right_column, spare_column, rows_of, kept_row_of, IsFree, IsAlone, IsOpen, IsClosed, IsPivoted, IsBegunPivot, ClearsTable, StopsTable}
 use Rattle.rob_simplex.proofs.Replacing.{basic_low, basic_high}
 
 pub set_twice : (xs : List ℕ) (k x y : ℕ) → set (set xs k x) k y ≡ set xs k y
@@ -121,6 +121,32 @@ module _ (t0 t1 t2 : Table) (row column s : ℕ) (spare : s ≡ spare_column t0.
   positive2 cl h =
       mul_cancel_lt r1.0 (pos 0) (rows_of t2 row column) r1.1
       (subst (λ x. x <ℤ (r1.0 *ℤ rows_of t2 row column)) (sym (mul-zero r1.0)) (subst (λ x. pos 0 <ℤ x) (sym (row2 column cl)) h))
+
+  -- ---- the kept row, where it is 0 in the spare column
+  module _ (column_in : column < width_of t0) (k1 : (c : ℕ) → kept_row_of t1 c ≡ kept_row_of t0 c)
+      (k2 : kept_row_of t1 s ≡ pos 0 → (c : ℕ) → kept_row_of t2 c ≡ kept_row_of t1 c)
+      (z : kept_row_of t0 (spare_column t0.columns (positions t0)) ≡ pos 0) where
+    kept2 : (c : ℕ) → kept_row_of t2 c ≡ kept_row_of t0 c
+    kept2 c = k2 (k1 s ∙ ap (kept_row_of t0) spare ∙ z) c ∙ k1 c
+
+    pub kept_cleared : (new new' : ℕ → ℤ) → ((k : ℕ) → new' k ≡ new k)
+        → IsClearedBy (width_of t2) column (kept_row_of t2) (rows_of t2 row) new
+        → IsClearedBy (width_of t0) column (kept_row_of t0) (rows_of t0 row) new'
+    kept_cleared new new' same h =
+        cleared_by_times (width_of t0) column (kept_row_of t2) (kept_row_of t0) (rows_of t2 row) (rows_of t0 row) new new' r1.0 r1.1
+        (λ k l. kept2 k) row2 (λ k l. same k) column_in
+        (subst (λ k. IsClearedBy k column (kept_row_of t2) (rows_of t2 row) new) w2 h)
+
+    pub kept_wide : (limit : ℕ) → IsWideCleared limit (width_of t2) column (kept_row_of t2) (rows_of t2 row)
+        → IsWideCleared limit (width_of t0) column (kept_row_of t0) (rows_of t0 row)
+    kept_wide limit h =
+        let w = subst (λ k. IsWideCleared limit k column (kept_row_of t2) (rows_of t2 row)) w2 h in (
+          w.0,
+          cleared_by_times (width_of t0) column (kept_row_of t2) (kept_row_of t0) (rows_of t2 row) (rows_of t0 row) w.0 w.0 r1.0 r1.1
+          (λ k l. kept2 k) row2 (λ k l. refl) column_in w.1,
+          w.2,
+          w.3,
+        )
 
   module _ (t3 : Table) (free : IsFree t0.columns t0.basis column) (structural : column ≢ spare_column t0.columns (positions t0))
       (b3 : t3.basis ≡ t2.basis) (n3 : t3.columns ≡ t2.columns) where

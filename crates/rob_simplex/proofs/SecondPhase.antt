@@ -43,7 +43,7 @@ own_last : (P : Program) (basis : Columns) → own_of (system_of P) basis P.m �
 own_last P basis = grind (arith, nat_tests)
 
 -- less columns
-shorter : (n n' column : ℕ) (low top new : Vector) → n' ≤ n → IsClearedBy n column low top new → IsClearedBy n' column low top new
+pub shorter : (n n' column : ℕ) (low top new : Vector) → n' ≤ n → IsClearedBy n column low top new → IsClearedBy n' column low top new
 shorter n n' column low top new l c = record {
   divisor = c.divisor;
   p = c.p;

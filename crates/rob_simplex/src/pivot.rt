@@ -1,8 +1,9 @@
 // A row whose position is open clears a column in the other rows.
 
-ghost use Rattle.std.specs.Prelude.{◌≡◌, ◌≢◌, ◌<◌, ◌≤◌, ◌+◌, ◌<ℤ◌, ℕ, pos, nat_abs, set, length, OnOk, IfErr};
+ghost use Rattle.std.specs.Prelude.{◌≡◌, ◌≢◌, ◌<◌, ◌≤◌, ◌+◌, ◌<ℤ◌, ℕ, suc, pos, nat_abs, set, length, OnOk, IfErr};
+ghost use Rattle.rob_linear.specs.Multiples.{IsClearedBy};
 ghost use Rattle.rob_rows.specs.Updates.{IsWideCleared};
-ghost use Rattle.rob_simplex.specs.Dictionaries.{positions, width_of, spare_column, rows_of, IsFree, IsOpen, IsClosed, IsPivoted, IsBegunPivot, ClearsTable, StopsTable};
+ghost use Rattle.rob_simplex.specs.Dictionaries.{positions, width_of, spare_column, rows_of, kept_row_of, IsFree, IsOpen, IsClosed, IsPivoted, IsBegunPivot, ClearsTable, StopsTable};
 
 use crate::dictionary::Dictionary;
 use crate::table::{Place, clear_rows};
@@ -70,8 +71,14 @@ impl Dictionary {
         requires positive { pos 0 <ℤ rows_of self.old row column }
         ensures pivoted { OnOk result (IsPivoted self.old self.new row column) }
         ensures closed { OnOk result (IsClosed self.new) }
+        ensures kept { OnOk result (kept_row_of self.old (spare_column self.old.columns (positions self.old)) ≡ pos 0
+            → suc (positions self.old) < count
+            → IsClearedBy (width_of self.old) column (kept_row_of self.old) (rows_of self.old row) (kept_row_of self.new)) }
         ensures wide { IfErr result (λ i. (i < count) × (i ≢ row) × (i ≤ positions self.old
             → IsWideCleared self.old.limit (width_of self.old) column (rows_of self.old i) (rows_of self.old row))) }
+        ensures wide_kept { IfErr result (λ i. kept_row_of self.old (spare_column self.old.columns (positions self.old)) ≡ pos 0
+            → i ≡ suc (positions self.old)
+            → IsWideCleared self.old.limit (width_of self.old) column (kept_row_of self.old) (rows_of self.old row)) }
         ensures begun { IfErr result (λ i. IsBegunPivot self.old self.new row column) }
         ensures small { OnOk result ((i c : ℕ) → i ≤ positions self.new → nat_abs (rows_of self.new i c) ≤ self.new.limit) }
         ensures basis { OnOk result (self.new.basis ≡ set self.old.basis row column) }
@@ -108,8 +115,14 @@ impl Dictionary {
         requires positive { pos 0 <ℤ rows_of self.old row column }
         ensures pivoted { OnOk result (IsPivoted self.old self.new row column) }
         ensures closed { OnOk result (IsClosed self.new) }
+        ensures kept { OnOk result (kept_row_of self.old (spare_column self.old.columns (positions self.old)) ≡ pos 0
+            → suc (positions self.old) < count
+            → IsClearedBy (width_of self.old) column (kept_row_of self.old) (rows_of self.old row) (kept_row_of self.new)) }
         ensures wide { IfErr result (λ i. (i < count) × (i ≢ row) × (i ≤ positions self.old
             → IsWideCleared self.old.limit (width_of self.old) column (rows_of self.old i) (rows_of self.old row))) }
+        ensures wide_kept { IfErr result (λ i. kept_row_of self.old (spare_column self.old.columns (positions self.old)) ≡ pos 0
+            → i ≡ suc (positions self.old)
+            → IsWideCleared self.old.limit (width_of self.old) column (kept_row_of self.old) (rows_of self.old row)) }
         ensures small { (i c : ℕ) → i ≤ positions self.new → nat_abs (rows_of self.new i c) ≤ self.new.limit }
         ensures basis { self.new.basis ≡ set self.old.basis row column }
         ensures columns { self.new.columns ≡ self.old.columns }
