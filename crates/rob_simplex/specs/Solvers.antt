@@ -10,7 +10,7 @@ use Rattle.rob_simplex.specs.Dictionaries.{Table, rows_of, columns_of, sized}
 use Rattle.rob_simplex.specs.LowestTerms.{lowest_terms}
 use Rattle.rob_simplex.specs.Starts.{IsStartingTable}
 
--- the state, the dictionary, with the number of structural columns and the basic column of each position, and the weights
+-- the state; the dictionary, with the number of structural columns and the basic column of each position; the weights
 pub record Solver : Type 0 where
   pub state : State
   pub dictionary : Table
@@ -60,7 +60,8 @@ HasRay s = s.state ≡ Unbounded (column_of s.state)
 abbrev pub HasWeights : Solver → Type 0
 HasWeights s = s.state ≡ Infeasible
 
--- what always holds: of the limit, of the program's size, of the weights, and, where there is a point, entries that are divided by are positive
+-- what always holds: of the limit, the program's size and the weights; where there is a point, entries that are divided by
+-- are positive
 pub record IsSound (limit : ℕ) (s : Solver) : Type 0 where
   pub limit_is : s.limit ≡ limit
   pub few : s.columns + positions s < 2 ^ 31

@@ -13,12 +13,13 @@ use crate::dictionary::Dictionary;
 use rob_rows::to_lowest_terms;
 
 impl Dictionary {
-    /// Writes the weights, the slack entries of the row that ended the first phase over what divides them all, and tells the
-    /// path's basis: where the auxiliary column was kept out of it, it comes to this row's position.
+    /// Writes the weights, the slack entries of the row that ended the first phase over what divides them all, and tells
+    /// the path's basis: where the auxiliary column was kept out of it, it comes to this row's position.
     pub fn show_weights(&mut self, row: usize, weights: &mut [i64])
         requires ends { (P : Program) × FirstEnds P (Infeasible row) self.old }
         requires size { length weights.old ≡ positions self.old }
-        ensures shown { (P : Program) → FirstEnds P (Infeasible row) self.old → AreWeights P self.new.basis weights.new }
+        ensures shown { (P : Program) → FirstEnds P (Infeasible row) self.old
+            → AreWeights P self.new.basis weights.new }
         ensures within { IsWithin self.old.limit weights.new }
         ensures positions { positions self.new ≡ positions self.old }
         ensures columns { self.new.columns ≡ self.old.columns }
@@ -45,7 +46,8 @@ impl Dictionary {
     fn slacks(&self, row: usize, weights: &mut [i64])
         requires row_in { row ≤ positions self.now }
         requires size { length weights.old ≡ positions self.now }
-        ensures weights { (i : ℕ) → i < positions self.now → at weights.new i ≡ rows_of self.now row (self.now.columns + i) }
+        ensures weights { (i : ℕ) → i < positions self.now
+            → at weights.new i ≡ rows_of self.now row (self.now.columns + i) }
         ensures within { IsWithin self.now.limit weights.new }
     {
         for i in 0..weights.len() {
@@ -56,8 +58,10 @@ impl Dictionary {
     // The auxiliary column comes to a row's position, unless the row is the objective's.
     fn tell_auxiliary(&mut self, row: usize)
         requires row_in { row ≤ positions self.old }
-        requires free { row < positions self.old → IsFree self.old.columns self.old.basis (self.old.columns + positions self.old) }
-        ensures comes { row < positions self.old → self.new.basis ≡ set self.old.basis row (self.old.columns + positions self.old) }
+        requires free { row < positions self.old
+            → IsFree self.old.columns self.old.basis (self.old.columns + positions self.old) }
+        ensures comes { row < positions self.old
+            → self.new.basis ≡ set self.old.basis row (self.old.columns + positions self.old) }
         ensures stays { row ≡ positions self.old → self.new.basis ≡ self.old.basis }
         ensures positions { positions self.new ≡ positions self.old }
         ensures columns { self.new.columns ≡ self.old.columns }

@@ -35,7 +35,8 @@ impl<N: Exact> Model for Work<N> {
 
     ghost view = { λ w. record { state = w.state; dictionary = w.dictionary; weights = w.weights.items } };
 
-    ghost invariant = { λ w. IsSound N.limit (record { state = w.state; dictionary = w.dictionary; weights = w.weights.items }) };
+    ghost invariant = { λ w. IsSound N.limit
+        (record { state = w.state; dictionary = w.dictionary; weights = w.weights.items }) };
 }
 
 impl<N: Exact> Work<N> {
