@@ -12,7 +12,8 @@ use Rattle.rob_simplex.specs.declared.explicit_phase.ExplicitTurn.TheVariants.{E
 use Rattle.rob_simplex.specs.Dictionaries.{Table, positions, columns_of, rows_of, kept_row_of, spare_column, sized, IsClosed}
 use Rattle.rob_simplex.specs.Phases.{InSecond, InBeside, HasLeft}
 
--- the basis is on the path; the rows are those of the auxiliary form up to positive factors, and the kept row is that of the cost
+-- the basis is on the path; the rows are those of the auxiliary form up to positive factors, and the kept row is that
+-- of the cost
 pub record HoldsExplicit (P : Program) (t : Table) : Type 0 where
   pub rows_are : positions t ≡ P.m
   pub columns_are : t.columns ≡ P.n
@@ -60,8 +61,8 @@ pub record EndsAtRow (P : Program) (row : ℕ) (t : Table) : Type 0 where
   pub stands : InBeside P row t
   pub none : (k : ℕ) → k < P.n + P.m → pos 0 ≤ℤ rows_of t row k
 
--- how the turns of the first phase end: the auxiliary column is out, or no point is feasible, as a row beside shows, or the
--- auxiliary objective's row of the explicit form
+-- how the turns of the first phase end: the auxiliary column is out, or no point is feasible, as a row beside shows,
+-- or the auxiliary objective's row of the explicit form
 abbrev pub FirstTurns : Program → FirstEnding → Table → Type 0
 FirstTurns P Feasible t = HasLeft P t
 FirstTurns P (Infeasible row) t = EndsAtRow P row t ⊎ ((row ≡ P.m) × EndsExplicit P t)

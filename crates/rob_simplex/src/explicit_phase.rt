@@ -1,5 +1,5 @@
-// The first phase in the explicit form, in which the auxiliary column is basic: the way out where the first phase beside it
-// meets a row that would be wide.
+// The first phase in the explicit form, in which the auxiliary column is basic: the way out where the first phase
+// beside it meets a row that would be wide.
 
 ghost use Rattle.std.specs.Prelude.{◌≡◌, ◌≤◌, IfOk, IfErr, MatchResult};
 ghost use Rattle.rob_linear.specs.Programs.{Program};
@@ -25,8 +25,8 @@ pub enum ExplicitTurn {
 }
 
 impl Dictionary {
-    /// Goes on in the explicit form, where position q is open, to the end of the first phase. An `Err` names the first row
-    /// that would be wide at the basis that is then told.
+    /// Goes on in the explicit form, where position q is open, to the end of the first phase. An `Err` names the
+    /// first row that would be wide at the basis that is then told.
     pub fn explicit_turns<L: Ledger>(&mut self, q: usize, ledger: &mut L) -> Result<FirstEnding, usize>
         requires opened { (P : Program) × IsOpenBeside P q self.old }
         ensures ended { (P : Program) → IsOpenBeside P q self.old
@@ -105,11 +105,12 @@ impl Dictionary {
         }
     }
 
-    // Makes the next turn, if there is one. After an `Err`, which names the first row that would be wide, the basis is the
-    // next one and the rows are open.
+    // Makes the next turn, if there is one. After an `Err`, which names the first row that would be wide, the basis
+    // is the next one and the rows are open.
     fn turn_explicit<L: Ledger>(&mut self, ledger: &mut L) -> Result<ExplicitTurn, usize>
         requires stands { (P : Program) × InExplicit P self.old }
-        ensures turned { IfOk result (λ turn. (P : Program) → InExplicit P self.old → HasTurnedExplicit P turn self.old self.new) }
+        ensures turned { IfOk result (λ turn. (P : Program) → InExplicit P self.old
+            → HasTurnedExplicit P turn self.old self.new) }
         ensures wide { IfErr result (λ i. (P : Program) → InExplicit P self.old
             → HasWideRow self.old.limit P (columns_of self.new.basis) i) }
         ensures position { IfErr result (λ i. i ≤ positions self.old) }

@@ -1,5 +1,5 @@
-// The first phase, with the auxiliary column kept out of the table's basis: the path's basis has it at position q, where the
-// table has the column that left last.
+// The first phase, with the auxiliary column kept out of the table's basis: the path's basis has it at position q,
+// where the table has the column that left last.
 
 ghost use Rattle.std.specs.Prelude.{◌≡◌, ◌<◌, ◌≤◌, ◌+◌, IfOk, IfErr, MatchResult};
 ghost use Rattle.rob_linear.specs.Programs.{Program};
@@ -34,8 +34,8 @@ pub enum Beside {
 }
 
 impl Dictionary {
-    /// The first phase, from the starting rows. The auxiliary column is 0 where it is out. An `Err` names the first row that
-    /// would be wide at the basis that is then told.
+    /// The first phase, from the starting rows. The auxiliary column is 0 where it is out. An `Err` names the first
+    /// row that would be wide at the basis that is then told.
     pub fn first_phase<L: Ledger>(&mut self, ledger: &mut L) -> Result<FirstEnding, usize>
         requires starts { (P : Program) × IsStartingTable self.old.limit P self.old }
         ensures ended { (P : Program) → IsStartingTable self.old.limit P self.old
@@ -104,8 +104,8 @@ impl Dictionary {
         }
     }
 
-    // One turn: the column comes in at position q, and the least row comes to it. Whether the auxiliary column is still in;
-    // after an `Err` position q is open.
+    // One turn: the column comes in at position q, and the least row comes to it. Whether the auxiliary column is
+    // still in; after an `Err` position q is open.
     fn turn_beside<L: Ledger>(
         &mut self,
         q: usize,
@@ -114,7 +114,8 @@ impl Dictionary {
     ) -> Result<bool, usize>
         requires stands { (P : Program) × InBeside P q self.old }
         requires first { FirstNegative (self.old.columns + positions self.old) (rows_of self.old q) column }
-        ensures turned { IfOk result (λ stays. (P : Program) → InBeside P q self.old → HasTurnedBeside P q stays self.old self.new) }
+        ensures turned { IfOk result (λ stays. (P : Program) → InBeside P q self.old
+            → HasTurnedBeside P q stays self.old self.new) }
         ensures opened { IfErr result (λ i. (P : Program) → InBeside P q self.old → IsOpenBeside P q self.new) }
         ensures positions { positions self.new ≡ positions self.old }
         ensures columns { self.new.columns ≡ self.old.columns }

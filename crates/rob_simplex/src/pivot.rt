@@ -10,8 +10,8 @@ use crate::table::{Place, clear_rows};
 use rob_number::Ledger;
 
 impl Dictionary {
-    /// Clears the column in all rows before `count` but this one, whose position is open. After an `Err`, which names the
-    /// first row that would be wide, the rows before it are cleared, and the others are as they were.
+    /// Clears the column in all rows before `count` but this one, whose position is open. After an `Err`, which names
+    /// the first row that would be wide, the rows before it are cleared, and the others are as they were.
     pub fn clear_others<L: Ledger>(
         &mut self,
         row: usize,
@@ -54,8 +54,8 @@ impl Dictionary {
         )
     }
 
-    /// A column comes in at a position, and is cleared in all other rows before `count`. After an `Err`, which names the
-    /// first row that would be wide, the position is open and the pivot begun.
+    /// A column comes in at a position, and is cleared in all other rows before `count`. After an `Err`, which names
+    /// the first row that would be wide, the position is open and the pivot begun.
     pub fn pivot_or_open<L: Ledger>(
         &mut self,
         row: usize,
@@ -73,14 +73,17 @@ impl Dictionary {
         ensures closed { OnOk result (IsClosed self.new) }
         ensures kept { OnOk result (kept_row_of self.old (spare_column self.old.columns (positions self.old)) ≡ pos 0
             → suc (positions self.old) < count
-            → IsClearedBy (width_of self.old) column (kept_row_of self.old) (rows_of self.old row) (kept_row_of self.new)) }
+            → IsClearedBy (width_of self.old) column (kept_row_of self.old) (rows_of self.old row)
+            (kept_row_of self.new)) }
         ensures wide { IfErr result (λ i. (i < count) × (i ≢ row) × (i ≤ positions self.old
             → IsWideCleared self.old.limit (width_of self.old) column (rows_of self.old i) (rows_of self.old row))) }
-        ensures wide_kept { IfErr result (λ i. kept_row_of self.old (spare_column self.old.columns (positions self.old)) ≡ pos 0
+        ensures wide_kept { IfErr result (λ i.
+            kept_row_of self.old (spare_column self.old.columns (positions self.old)) ≡ pos 0
             → i ≡ suc (positions self.old)
             → IsWideCleared self.old.limit (width_of self.old) column (kept_row_of self.old) (rows_of self.old row)) }
         ensures begun { IfErr result (λ i. IsBegunPivot self.old self.new row column) }
-        ensures small { OnOk result ((i c : ℕ) → i ≤ positions self.new → nat_abs (rows_of self.new i c) ≤ self.new.limit) }
+        ensures small { OnOk result ((i c : ℕ) → i ≤ positions self.new
+            → nat_abs (rows_of self.new i c) ≤ self.new.limit) }
         ensures basis { OnOk result (self.new.basis ≡ set self.old.basis row column) }
         ensures columns { self.new.columns ≡ self.old.columns }
         ensures limit { self.new.limit ≡ self.old.limit }
@@ -117,10 +120,12 @@ impl Dictionary {
         ensures closed { OnOk result (IsClosed self.new) }
         ensures kept { OnOk result (kept_row_of self.old (spare_column self.old.columns (positions self.old)) ≡ pos 0
             → suc (positions self.old) < count
-            → IsClearedBy (width_of self.old) column (kept_row_of self.old) (rows_of self.old row) (kept_row_of self.new)) }
+            → IsClearedBy (width_of self.old) column (kept_row_of self.old) (rows_of self.old row)
+            (kept_row_of self.new)) }
         ensures wide { IfErr result (λ i. (i < count) × (i ≢ row) × (i ≤ positions self.old
             → IsWideCleared self.old.limit (width_of self.old) column (rows_of self.old i) (rows_of self.old row))) }
-        ensures wide_kept { IfErr result (λ i. kept_row_of self.old (spare_column self.old.columns (positions self.old)) ≡ pos 0
+        ensures wide_kept { IfErr result (λ i.
+            kept_row_of self.old (spare_column self.old.columns (positions self.old)) ≡ pos 0
             → i ≡ suc (positions self.old)
             → IsWideCleared self.old.limit (width_of self.old) column (kept_row_of self.old) (rows_of self.old row)) }
         ensures small { (i c : ℕ) → i ≤ positions self.new → nat_abs (rows_of self.new i c) ≤ self.new.limit }
