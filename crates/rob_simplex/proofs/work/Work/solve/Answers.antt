@@ -10,10 +10,10 @@ use Rattle.rob_simplex.proofs.Solving.{made_start, sound_optimal, sound_unbounde
 use Rattle.rob_simplex.proofs.WrittenBack.{written_back}
 use Rattle.rob_simplex.proofs.work.Work.solve.Goals as goal
 
-pub follow-requires-clause-starts : goal.follow-requires-clause-starts
-follow-requires-clause-starts g c =
+pub follow-requires : goal.follow-requires
+follow-requires g c =
     let v : Solver = record { state = c.self.inside.state; dictionary = c.self.inside.dictionary; weights = c.self.inside.weights.items } in
-    (c.requires.fresh.0, made_start c.requires.fresh.0 v c.args.self.now c.self.view_is c.requires.fresh.1)
+    record { starts = (c.requires.fresh.0, made_start c.requires.fresh.0 v c.args.self.now c.self.view_is c.requires.fresh.1) }
 
 pub invariant_of-self : goal.invariant_of-self
 invariant_of-self g c =
