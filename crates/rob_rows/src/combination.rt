@@ -9,7 +9,7 @@ use crate::{general, narrow};
 use rob_number::Wide;
 
 /// Writes the primitive part of `p * top - q * low` to `out`. After `Wide` the entries of `out` are open.
-pub fn write_part(
+pub fn combine_rows(
     out: &mut [i64],
     p: i64,
     top: &[i64],

@@ -4,7 +4,7 @@ ghost use Rattle.std.specs.Prelude.{◌≡◌, ◌≤◌, nat_abs, length, OnOk,
 ghost use Rattle.rob_number.specs.Counts.{CountsOne};
 ghost use Rattle.rob_rows.specs.PrimitiveParts.{combination, IsPrimitivePart, IsWithin, HasWidePart};
 
-use crate::combination::write_part;
+use crate::combination::combine_rows;
 use rob_number::{Exact, Ledger, Wide};
 
 /// Writes `p * top - q * low`, divided by the greatest common divisor of its entries, to `out`: the row operation of a
@@ -32,7 +32,7 @@ pub fn combine<N: Exact, L: Ledger>(
     ensures counted { CountsOne L.ops L.wides ledger.old ledger.new result }
 {
     ledger.op();
-    let written = write_part(out, p, top, q, low, N::LIMIT as u64);
+    let written = combine_rows(out, p, top, q, low, N::LIMIT as u64);
     if written.is_err() {
         ledger.wide();
     }

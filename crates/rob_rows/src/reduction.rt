@@ -29,6 +29,19 @@ pub fn reduce(row: &mut [i64], limit: u64) -> Result<(), Wide>
     Ok(())
 }
 
+/// The same of a row within the limit, whose primitive part is so too.
+pub fn to_lowest_terms(row: &mut [i64], limit: u64)
+    requires limit { limit < 2 ^ 62 }
+    requires within { IsWithin limit row.old }
+    ensures part { IsPrimitivePart row.new row.old }
+    ensures within { IsWithin limit row.new }
+{
+    match reduce(row, limit) {
+        Ok(()) => {}
+        Err(_) => unreachable!(),
+    }
+}
+
 // The greatest common divisor of the entries. Nothing but 1 divides 1, so the search ends there.
 fn content_of(row: &[i64]) -> Divisor
     ensures content { result.value ≡ content row.now }

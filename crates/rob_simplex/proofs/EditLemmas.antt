@@ -1,94 +1,231 @@
--- What the edits of a table come to.
-use Rattle.std.proofs.Common.{◌≡◌, ◌≢◌, ℕ, suc, ◌+◌, ◌*◌, ◌<◌, ◌≤◌, sym, ap, ◌∙◌, arith, inl, inr, ◌⊎◌, List, length, set, cond, eqb}
-use Rattle.std.proofs.lemmas.Bool.{cases_eq, cases_order}
-use Rattle.std.proofs.lemmas.Bool.Decides.{nat_tests}
-use lib.IntN.{ℤ, pos, negsuc, neg_ℤ}
-use Rattle.rob_linear.specs.Vectors.{at}
-use Rattle.rob_simplex.specs.Tables.{row_at}
-use Rattle.rob_simplex.specs.FirstPhases.{IsPrepared, IsTurnedRound, IsTakenOver}
-use Rattle.rob_simplex.proofs.Places.{row_within, set_here, set_elsewhere}
+-- Edits of a dictionary: two positions exchanged, a column emptied, the objective's row kept and written back.
+use Rattle.std.proofs.Common.{◌≡◌, ◌≢◌, ◌⊎◌, ℕ, suc, ◌+◌, ◌^◌, ◌<◌, ◌≤◌, sym, ap, ◌∙◌, subst, arith, inl, inr, List, length, set, nat_abs}
+use Rattle.std.proofs.lemmas.Bool.{cases_eq, cases_lt}
+use Rattle.std.proofs.lemmas.List.{get_or-set_same, get_or-set_other, length-set}
+use lib.IntN.{ℤ, pos}
+use Rattle.rob_linear.specs.Vectors.{Matrix}
+use Rattle.rob_linear.specs.CondensedRows.{IsPlaced}
+use Rattle.rob_linear.specs.Beside.{exchanged}
+use Rattle.rob_linear.proofs.BesidePaths.{exchanged_q, exchanged_p, exchanged_other, exchanged_low}
+use Rattle.rob_linear.proofs.CondensedRows.{placed_swapped, swapped_entry}
+use Rattle.rob_simplex.specs.Tables.{row_at, bound_at, HasBounds}
+use Rattle.rob_simplex.specs.Dictionaries.{Table, columns_of, basic_columns, right_column, read_row, rows_of, kept_row_of, IsSound, IsFree}
+use Rattle.rob_simplex.proofs.Replacing.{basic_low, basic_high}
+use Rattle.rob_simplex.proofs.TableClearing.{read_near, read_own, read_none, read_same}
 
--- an edit of entries start to start + w of a table, where start is row r's: other rows are outside
-pub outside_row : (w r i k : ℕ) → k < w → i ≢ r → (i * w + k < r * w) ⊎ (r * w + w ≤ i * w + k)
-outside_row w r i k kl d =
-    elim (cases_order i r) [
-      | inl e ↦ absurd (d e)
-      | inr (inl l) ↦ let b : i * w + w ≤ r * w = row_within r w i l in inl (omega arith)
-      | inr (inr l) ↦ let b : r * w + w ≤ i * w = row_within i w r l in inr (omega arith)
+-- ---- rows and bounds that were lent and written back
+pub carry : (table old new t : List ℤ) (width i j k : ℕ) → old ≡ table → t ≡ new → row_at new width i k ≡ row_at old width j k → row_at t width i k ≡ row_at table width j k
+carry table old new t width i j k eo et h = ap (λ (s : List ℤ). row_at s width i k) et ∙ h ∙ ap (λ (s : List ℤ). row_at s width j k) eo
+
+pub carry_value : (new t : List ℤ) (width i k : ℕ) (v : ℤ) → t ≡ new → row_at new width i k ≡ v → row_at t width i k ≡ v
+carry_value new t width i k v et h = ap (λ (s : List ℤ). row_at s width i k) et ∙ h
+
+pub bounds_carry : (limit width : ℕ) (new t : List ℤ) (news ts : List ℕ) → t ≡ new → ts ≡ news → HasBounds limit width new news → HasBounds limit width t ts
+bounds_carry limit width new t news ts et es h = subst (λ (s : List ℤ). HasBounds limit width s ts) (sym et) (subst (λ (s : List ℕ). HasBounds limit width new s) (sym es) h)
+
+module _ (limit n : ℕ) (basis places near : List ℕ) (table : List ℤ) (bounds : List ℕ) (room : ℕ) (sound : IsSound limit n basis places near table bounds room) where
+  abbrev pub table_with : List ℤ → Table
+  table_with t = record { limit = limit; columns = n; basis = basis; places = places; table = t }
+
+  pub free_place : (column : ℕ) → IsFree n basis column → columns_of places column < n + 3
+  free_place column free = elim (cases_lt (columns_of places column) (n + 3)) [
+    | inl l ↦ l
+    | inr l ↦ let b = sound.placed.basic_column column free.inside l in absurd (free.not_basic b.0 b.1 b.3)
+  ]
+
+  pub column_in : (column : ℕ) → IsFree n basis column → column < length places
+  column_in column free = let l : column < n + length basis + 4 = free.inside in omega (arith, sound.places_size)
+
+  -- ---- a column emptied
+  module _ (column : ℕ) (free : IsFree n basis column) (x : ℕ) (ex : x ≡ columns_of places column) (new : List ℤ) (zero : (i : ℕ) → i < length basis + 1 → row_at new (n + 4) i x ≡ pos 0)
+      (others : (i k : ℕ) → k < n + 4 → (length basis + 1 ≤ i) ⊎ (k ≢ x) → row_at new (n + 4) i k ≡ row_at table (n + 4) i k) where
+    pub emptied_bounds : length new ≡ length table → HasBounds limit (n + 4) new bounds
+    emptied_bounds ln = record {
+      size = ln ∙ sound.bounded.size;
+      within = λ i k il kl. elim (cases_lt i (length basis + 1)) [
+        | inr g ↦ subst (λ t. nat_abs t ≤ bound_at bounds i) (sym (others i k kl (inl g))) (sound.bounded.within i k il kl)
+        | inl l ↦ elim (cases_eq k x) [
+          | inr d ↦ subst (λ t. nat_abs t ≤ bound_at bounds i) (sym (others i k kl (inr d))) (sound.bounded.within i k il kl)
+          | inl e ↦ subst (λ t. nat_abs t ≤ bound_at bounds i) (sym (ap (row_at new (n + 4) i) e ∙ zero i l)) (omega arith)
+        ]
+      ];
+      low = sound.bounded.low;
+    }
+
+    pub emptied_zero : (i : ℕ) → i ≤ length basis → rows_of (table_with new) i column ≡ pos 0
+    emptied_zero i il =
+        read_near (n + 3) (columns_of places) i (row_at new (n + 4) i) column (free_place column free) ∙ ap (row_at new (n + 4) i) (sym ex) ∙ zero i (omega arith)
+
+    pub emptied_others : (i c : ℕ) → i ≤ length basis → c < n + length basis + 4 → c ≢ column → rows_of (table_with new) i c ≡ rows_of (table_with table) i c
+    emptied_others i c il cl d = elim (cases_lt (columns_of places c) (n + 3)) [
+      | inl l ↦
+          let apart : columns_of places c ≢ x = (λ e. d (sym (sound.placed.near_column c cl l) ∙ ap (columns_of near) (e ∙ ex) ∙ sound.placed.near_column column free.inside (free_place column free))) in
+          read_near (n + 3) (columns_of places) i (row_at new (n + 4) i) c l ∙ others i (columns_of places c) (omega arith) (inr apart) ∙ sym (read_near (n + 3) (columns_of places) i (row_at table (n + 4) i) c l)
+      | inr l ↦ elim (cases_eq (columns_of places c) (n + 3 + i)) [
+        | inl s ↦
+            let p : columns_of places column < n + 3 = free_place column free in
+            read_own (n + 3) (columns_of places) i (row_at new (n + 4) i) c s ∙ others i (n + 3) (omega arith) (inr (λ e. absurd (omega arith))) ∙ sym (read_own (n + 3) (columns_of places) i (row_at table (n + 4) i) c s)
+        | inr o ↦ read_none (n + 3) (columns_of places) i (row_at new (n + 4) i) c l o ∙ sym (read_none (n + 3) (columns_of places) i (row_at table (n + 4) i) c l o)
+      ]
     ]
 
-module _ (n m : ℕ) (old copied blank one new : List ℤ) (size : length old ≡ (m + 2) * (n + m + 3)) where
-  abbrev w : ℕ
-  w = n + m + 3
+    pub emptied_kept : (c : ℕ) → kept_row_of (table_with new) c ≡ kept_row_of (table_with table) c
+    emptied_kept = read_same (n + 3) (columns_of places) (length basis) (row_at table (n + 4) (suc (length basis))) (row_at new (n + 4) (suc (length basis))) (λ k l. others (suc (length basis)) k (omega arith) (inl (omega arith)))
 
-  -- the kept row, the auxiliary objective, and the auxiliary column
-  pub prepared : row_at old (n + m + 3) m (n + m + 2) ≡ pos 0
-      → ((k : ℕ) → k < n + m + 3 → at copied (m * (n + m + 3) + (n + m + 3) + k) ≡ at old (m * (n + m + 3) + k))
-      → ((k : ℕ) → (k < m * (n + m + 3) + (n + m + 3)) ⊎ (m * (n + m + 3) + (n + m + 3) + (n + m + 3) ≤ k) → at copied k ≡ at old k)
-      → ((k : ℕ) → m * (n + m + 3) ≤ k → k < m * (n + m + 3) + (n + m + 3) → at blank k ≡ pos 0)
-      → ((k : ℕ) → (k < m * (n + m + 3)) ⊎ (m * (n + m + 3) + (n + m + 3) ≤ k) → at blank k ≡ at copied k)
-      → one ≡ set blank (m * (n + m + 3) + n + m) (pos 1) → length blank ≡ (m + 2) * (n + m + 3)
-      → ((i : ℕ) → i < m + 1 → row_at new (n + m + 3) i (n + m + 2) ≡ pos 1)
-      → ((i k : ℕ) → k < n + m + 3 → (k ≢ n + m + 2) ⊎ (m + 1 ≤ i) → row_at new (n + m + 3) i k ≡ row_at one (n + m + 3) i k)
-      → IsPrepared n m old new
-  prepared last hc oc hb ob hs bl hf of =
-      let place : m * (n + m + 3) + n + m ≡ m * (n + m + 3) + (n + m) = omega arith in
-      let hs' : one ≡ set blank (m * (n + m + 3) + (n + m)) (pos 1) = hs ∙ ap (λ t. set blank t (pos 1)) place in
-      let bound : m * (n + m + 3) + (n + m + 3) ≤ (m + 2) * (n + m + 3) = row_within (m + 2) (n + m + 3) m (omega arith) in
-      let elsewhere : (i k : ℕ) → k < n + m + 3 → (k ≢ n + m) ⊎ (i ≢ m) → row_at one (n + m + 3) i k ≡ row_at blank (n + m + 3) i k =
-      (λ i k kl d. ap (λ t. row_at t (n + m + 3) i k) hs' ∙ set_elsewhere blank (n + m + 3) m (n + m) i k (pos 1) (omega arith) kl d) in
-      let kept_all : (k : ℕ) → k < n + m + 3 → row_at new (n + m + 3) (suc m) k ≡ row_at old (n + m + 3) m k =
-      (λ k kl.
-      let s : suc m * (n + m + 3) ≡ m * (n + m + 3) + (n + m + 3) = omega arith in
-      of (suc m) k kl (inr (omega arith)) ∙ elsewhere (suc m) k kl (inr (omega arith)) ∙ ob (suc m * (n + m + 3) + k) (inr (omega arith)) ∙ ap (λ t. at copied (t + k)) s ∙ hc k kl) in
-      record {
-        low = λ i k il kl.
-            let o : (i * (n + m + 3) + k < m * (n + m + 3)) ⊎ (m * (n + m + 3) + (n + m + 3) ≤ i * (n + m + 3) + k) = outside_row (n + m + 3) m i k (omega arith) (omega arith) in
-            let b : i * (n + m + 3) + (n + m + 3) ≤ m * (n + m + 3) = row_within m (n + m + 3) i il in
-            of i k (omega arith) (inl (omega arith)) ∙ elsewhere i k (omega arith) (inr (omega arith)) ∙ ob (i * (n + m + 3) + k) o ∙ oc (i * (n + m + 3) + k) (inl (omega arith));
-        ones = λ i il. hf i (omega arith);
-        cost = λ k kl. of m k (omega arith) (inl (omega arith)) ∙ elim (cases_eq k (n + m)) [
-          | inl e ↦
-              let f : cond (eqb k (n + m)) (pos 1) (pos 0) ≡ pos 1 = grind (arith, nat_tests) in
-              ap (λ t. row_at one (n + m + 3) m t) e ∙ ap (λ t. row_at t (n + m + 3) m (n + m)) hs' ∙ set_here blank (n + m + 3) m (n + m) (pos 1) (omega arith) ∙ sym f
-          | inr d ↦
-              let f : cond (eqb k (n + m)) (pos 1) (pos 0) ≡ pos 0 = grind (arith, nat_tests) in
-              elsewhere m k (omega arith) (inl d) ∙ hb (m * (n + m + 3) + k) (omega arith) (omega arith) ∙ sym f
-        ];
-        kept = λ k kl. kept_all k (omega arith);
-        kept_last = kept_all (n + m + 2) (omega arith) ∙ last;
-      }
+  -- ---- one row copied over another one
+  pub copied_between : (from to f g : ℕ) → from ≡ f → to ≡ g → (new : List ℤ) → ((k : ℕ) → k < n + 4 → row_at new (n + 4) to k ≡ row_at table (n + 4) from k)
+      → (i c : ℕ) → read_row (n + 3) (columns_of places) i (row_at new (n + 4) g) c ≡ read_row (n + 3) (columns_of places) i (row_at table (n + 4) f) c
+  copied_between from to f g ef eg new here i =
+      subst (λ (j : ℕ). (c : ℕ) → read_row (n + 3) (columns_of places) i (row_at new (n + 4) j) c ≡ read_row (n + 3) (columns_of places) i (row_at table (n + 4) f) c) eg
+      (subst (λ (j : ℕ). (c : ℕ) → read_row (n + 3) (columns_of places) i (row_at new (n + 4) to) c ≡ read_row (n + 3) (columns_of places) i (row_at table (n + 4) j) c) ef
+      (read_same (n + 3) (columns_of places) i (row_at table (n + 4) from) (row_at new (n + 4) to) (λ k l. here k (omega arith))))
 
-  -- one row turned round
-  pub turned_round_table : (e : ℕ) → e < m
-      → ((i : ℕ) → i < m → row_at copied (n + m + 3) i (n + m + 2) ≡ negsuc 0)
-      → ((i k : ℕ) → k < n + m + 3 → (k ≢ n + m + 2) ⊎ (m ≤ i) → row_at copied (n + m + 3) i k ≡ row_at old (n + m + 3) i k)
-      → ((k : ℕ) → e * (n + m + 3) ≤ k → k < e * (n + m + 3) + (n + m + 3) → at new k ≡ neg_ℤ (at copied k))
-      → ((k : ℕ) → (k < e * (n + m + 3)) ⊎ (e * (n + m + 3) + (n + m + 3) ≤ k) → at new k ≡ at copied k)
-      → IsTurnedRound n m e old new
-  turned_round_table e el hf of hn on = record {
-    row = λ k kl. hn (e * (n + m + 3) + k) (omega arith) (omega arith) ∙ ap neg_ℤ (of e k (omega arith) (inl (omega arith)));
-    row_last = hn (e * (n + m + 3) + (n + m + 2)) (omega arith) (omega arith) ∙ ap neg_ℤ (hf e el);
-    others = λ i k il d kl. on (i * (n + m + 3) + k) (outside_row (n + m + 3) e i k (omega arith) d) ∙ of i k (omega arith) (inl (omega arith));
-    others_last = λ i il d. on (i * (n + m + 3) + (n + m + 2)) (outside_row (n + m + 3) e i (n + m + 2) (omega arith) d) ∙ hf i il;
-    behind = λ i k il kl. on (i * (n + m + 3) + k) (outside_row (n + m + 3) e i k kl (omega arith)) ∙ of i k kl (inr il);
-  }
+  -- a row that has not changed
+  pub other_read : (m : ℕ) (new : List ℤ) → ((i k : ℕ) → i ≢ m → k < n + 4 → row_at new (n + 4) i k ≡ row_at table (n + 4) i k) → (i j c : ℕ) → j ≢ m
+      → read_row (n + 3) (columns_of places) i (row_at new (n + 4) j) c ≡ read_row (n + 3) (columns_of places) i (row_at table (n + 4) j) c
+  other_read m new others i j c d = read_same (n + 3) (columns_of places) i (row_at table (n + 4) j) (row_at new (n + 4) j) (λ k l. others j k d (omega arith)) c
 
-  -- the kept row brought back
-  pub taken_over : ((k : ℕ) → k < n + m + 3 → at copied (m * (n + m + 3) + k) ≡ at old (m * (n + m + 3) + (n + m + 3) + k))
-      → ((k : ℕ) → (k < m * (n + m + 3)) ⊎ (m * (n + m + 3) + (n + m + 3) ≤ k) → at copied k ≡ at old k)
-      → ((k : ℕ) → m * (n + m + 3) + (n + m + 3) ≤ k → k < m * (n + m + 3) + (n + m + 3) + (n + m + 3) → at blank k ≡ pos 0)
-      → ((k : ℕ) → (k < m * (n + m + 3) + (n + m + 3)) ⊎ (m * (n + m + 3) + (n + m + 3) + (n + m + 3) ≤ k) → at blank k ≡ at copied k)
-      → ((i : ℕ) → i < m + 1 → row_at new (n + m + 3) i (n + m + 2) ≡ pos 0)
-      → ((i k : ℕ) → k < n + m + 3 → (k ≢ n + m + 2) ⊎ (m + 1 ≤ i) → row_at new (n + m + 3) i k ≡ row_at blank (n + m + 3) i k)
-      → IsTakenOver n m old new
-  taken_over hc oc hb ob hf of =
-      let s : suc m * (n + m + 3) ≡ m * (n + m + 3) + (n + m + 3) = omega arith in
-      record {
-        low = λ i k il kl.
-            let b : i * (n + m + 3) + (n + m + 3) ≤ m * (n + m + 3) = row_within m (n + m + 3) i il in
-            of i k (omega arith) (inl (omega arith)) ∙ ob (i * (n + m + 3) + k) (inl (omega arith)) ∙ oc (i * (n + m + 3) + k) (inl (omega arith));
-        objective = λ k kl. of m k (omega arith) (inl (omega arith)) ∙ ob (m * (n + m + 3) + k) (inl (omega arith)) ∙ hc k (omega arith) ∙ ap (λ t. at old (t + k)) (sym s);
-        column = λ i il. hf i (omega arith);
-        row = λ k kl. of (suc m) k kl (inr (omega arith)) ∙ hb (suc m * (n + m + 3) + k) (omega arith) (omega arith);
-      }
+  -- ---- the auxiliary objective
+  module _ (free : IsFree n basis (n + length basis)) (x : ℕ) (ex : x ≡ columns_of places (n + length basis)) (new : List ℤ) (there : row_at new (n + 4) (length basis) x ≡ pos 1) (own : (w : ℕ) → w + 1 ≡ n + 4 → row_at new (n + 4) (length basis) w ≡ pos 1)
+      (zero : (k : ℕ) → k + 1 < n + 4 → k ≢ x → row_at new (n + 4) (length basis) k ≡ pos 0) where
+    objective_at : columns_of places (suc (n + length basis)) ≡ n + 3 + length basis
+    objective_at = ap (columns_of places) (sym (basic_high n basis (length basis) (omega arith))) ∙ sound.placed.basic_at (length basis) (omega arith)
+
+    pub unit_auxiliary : rows_of (table_with new) (length basis) (n + length basis) ≡ pos 1
+    unit_auxiliary = read_near (n + 3) (columns_of places) (length basis) (row_at new (n + 4) (length basis)) (n + length basis) (free_place (n + length basis) free) ∙ ap (row_at new (n + 4) (length basis)) (sym ex) ∙ there
+
+    pub unit_objective : rows_of (table_with new) (length basis) (suc (n + length basis)) ≡ pos 1
+    unit_objective = read_own (n + 3) (columns_of places) (length basis) (row_at new (n + 4) (length basis)) (suc (n + length basis)) objective_at ∙ own (n + 3) (omega arith)
+
+    pub unit_else : (c : ℕ) → c < n + length basis + 4 → c ≢ n + length basis → c ≢ suc (n + length basis) → rows_of (table_with new) (length basis) c ≡ pos 0
+    unit_else c cl d o = elim (cases_lt (columns_of places c) (n + 3)) [
+      | inl l ↦
+          let apart : columns_of places c ≢ x = (λ e. d (sym (sound.placed.near_column c cl l) ∙ ap (columns_of near) (e ∙ ex) ∙ sound.placed.near_column (n + length basis) free.inside (free_place (n + length basis) free))) in
+          read_near (n + 3) (columns_of places) (length basis) (row_at new (n + 4) (length basis)) c l ∙ zero (columns_of places c) (omega arith) apart
+      | inr l ↦ elim (cases_eq (columns_of places c) (n + 3 + length basis)) [
+        | inr s ↦ read_none (n + 3) (columns_of places) (length basis) (row_at new (n + 4) (length basis)) c l s
+        | inl s ↦
+            let b : (i : ℕ) × (i ≤ length basis) × (columns_of places c ≡ n + 3 + i) × (basic_columns n basis i ≡ c) = sound.placed.basic_column c cl l in
+            let bp : columns_of places c ≡ n + 3 + b.0 = b.2 in
+            let e : b.0 ≡ length basis = omega arith in
+            absurd (o (sym b.3 ∙ ap (basic_columns n basis) e ∙ basic_high n basis (length basis) (omega arith)))
+      ]
+    ]
+
+  -- ---- two positions exchanged
+  module _ (a b : ℕ) (al : a < length basis) (bl : b < length basis) (x y : ℕ) (ex : x ≡ columns_of basis a) (ey : y ≡ columns_of basis b) where
+    abbrev basis' : List ℕ
+    basis' = set (set basis a y) b x
+
+    abbrev places' : List ℕ
+    places' = set (set places y (n + 3 + a)) x (n + 3 + b)
+
+    same_length : length basis' ≡ length basis
+    same_length = length-set (set basis a y) b x ∙ length-set basis a y
+
+    x_is : basic_columns n basis a ≡ x
+    x_is = basic_low n basis a al ∙ sym ex
+
+    y_is : basic_columns n basis b ≡ y
+    y_is = basic_low n basis b bl ∙ sym ey
+
+    x_at : columns_of places x ≡ n + 3 + a
+    x_at = ap (columns_of places) (sym x_is) ∙ sound.placed.basic_at a (omega arith)
+
+    y_at : columns_of places y ≡ n + 3 + b
+    y_at = ap (columns_of places) (sym y_is) ∙ sound.placed.basic_at b (omega arith)
+
+    pub x_in : x < length places
+    x_in = let l : basic_columns n basis a < n + length basis + 4 = sound.placed.basic_in a (omega arith) in omega (arith, x_is, sound.places_size)
+
+    pub y_in : y < length places
+    y_in = let l : basic_columns n basis b < n + length basis + 4 = sound.placed.basic_in b (omega arith) in omega (arith, y_is, sound.places_size)
+
+    x_in_set : x < length (set places y (n + 3 + a))
+    x_in_set = let l : x < length places = x_in in omega (arith, length-set places y (n + 3 + a))
+
+    elsewhere : (c : ℕ) → c ≢ x → c ≢ y → columns_of places' c ≡ columns_of places c
+    elsewhere c dx dy = get_or-set_other (set places y (n + 3 + a)) x c (n + 3 + b) 0 dx ∙ get_or-set_other places y c (n + 3 + a) 0 dy
+
+    at_x : columns_of places' x ≡ n + 3 + b
+    at_x = get_or-set_same (set places y (n + 3 + a)) x (n + 3 + b) 0 x_in_set
+
+    at_y : y ≢ x → columns_of places' y ≡ n + 3 + a
+    at_y d = get_or-set_other (set places y (n + 3 + a)) x y (n + 3 + b) 0 d ∙ get_or-set_same places y (n + 3 + a) 0 y_in
+
+    stays : (c : ℕ) → columns_of places c < n + 3 → columns_of places' c ≡ columns_of places c
+    stays c l = elsewhere c (λ e. let s : columns_of places c ≡ n + 3 + a = ap (columns_of places) e ∙ x_at in absurd (omega arith)) (λ e. let s : columns_of places c ≡ n + 3 + b = ap (columns_of places) e ∙ y_at in absurd (omega arith))
+
+    pub columns_exchanged : (i : ℕ) → columns_of basis' i ≡ columns_of basis (exchanged a b i)
+    columns_exchanged i = elim (cases_eq i b) [
+      | inl e ↦ ap (columns_of basis') e ∙ get_or-set_same (set basis a y) b x 0 (omega (arith, length-set basis a y)) ∙ ex ∙ ap (columns_of basis) (sym (exchanged_p a b) ∙ ap (exchanged a b) (sym e))
+      | inr d ↦ elim (cases_eq i a) [
+        | inl e ↦
+            ap (columns_of basis') e ∙ get_or-set_other (set basis a y) b a x 0 (λ s. d (e ∙ s)) ∙ get_or-set_same basis a y 0 al ∙ ey
+            ∙ ap (columns_of basis) (sym (exchanged_q a b) ∙ ap (exchanged a b) (sym e))
+        | inr o ↦ get_or-set_other (set basis a y) b i x 0 d ∙ get_or-set_other basis a i y 0 o ∙ ap (columns_of basis) (sym (exchanged_other a b i o d))
+      ]
+    ]
+
+    basic_exchanged : (i : ℕ) → i ≤ length basis → basic_columns n basis' i ≡ basic_columns n basis (exchanged a b i)
+    basic_exchanged i il = elim (cases_lt i (length basis)) [
+      | inl l ↦ basic_low n basis' i (omega (arith, same_length)) ∙ columns_exchanged i ∙ sym (basic_low n basis (exchanged a b i) (exchanged_low a b i (length basis) al bl l))
+      | inr l ↦
+          let s : exchanged a b i ≡ i = exchanged_other a b i (λ e. absurd (omega arith)) (λ e. absurd (omega arith)) in
+          basic_high n basis' i (omega (arith, same_length)) ∙ ap (λ t. suc (n + t)) same_length ∙ sym (basic_high n basis i l) ∙ ap (basic_columns n basis) (sym s)
+    ]
+
+    moved : (i : ℕ) → i ≤ length basis → columns_of places' (basic_columns n basis i) ≡ n + 3 + exchanged a b i
+    moved i il = elim (cases_eq i a) [
+      | inl e ↦ ap (λ (t : ℕ). columns_of places' (basic_columns n basis t)) e ∙ ap (columns_of places') x_is ∙ at_x ∙ ap (λ t. n + 3 + t) (sym (exchanged_q a b) ∙ ap (exchanged a b) (sym e))
+      | inr d ↦ elim (cases_eq i b) [
+        | inl e ↦
+            ap (λ (t : ℕ). columns_of places' (basic_columns n basis t)) e ∙ ap (columns_of places') y_is
+            ∙ at_y (λ s. let t : n + 3 + b ≡ n + 3 + a = sym y_at ∙ ap (columns_of places) s ∙ x_at in d (e ∙ omega arith))
+            ∙ ap (λ t. n + 3 + t) (sym (exchanged_p a b) ∙ ap (exchanged a b) (sym e))
+        | inr o ↦
+            let here : columns_of places (basic_columns n basis i) ≡ n + 3 + i = sound.placed.basic_at i il in
+            elsewhere (basic_columns n basis i) (λ s. let t : n + 3 + i ≡ n + 3 + a = sym here ∙ ap (columns_of places) s ∙ x_at in d (omega arith)) (λ s. let t : n + 3 + i ≡ n + 3 + b = sym here ∙ ap (columns_of places) s ∙ y_at in o (omega arith))
+            ∙ here ∙ ap (λ t. n + 3 + t) (sym (exchanged_other a b i d o))
+      ]
+    ]
+
+    pub exchanged_sound : (new : List ℤ) (news : List ℕ) → HasBounds limit (n + 4) new news → length news ≡ length bounds → IsSound limit n basis' places' near new news room
+    exchanged_sound new news h ln = record {
+      few = subst (λ t. n + t < 2 ^ 31) (sym same_length) sound.few;
+      limit_low = sound.limit_low;
+      limit_high = sound.limit_high;
+      count = ln ∙ sound.count ∙ ap (λ t. t + 2) (sym same_length);
+      bounded = h;
+      places_size = length-set (set places y (n + 3 + a)) x (n + 3 + b) ∙ length-set places y (n + 3 + a) ∙ sound.places_size ∙ ap (λ t. n + t + 4) (sym same_length);
+      near_size = sound.near_size;
+      placed = subst (λ t. IsPlaced t (n + 3) (n + t + 4) (columns_of places') (columns_of near) (basic_columns n basis')) (sym same_length)
+          (placed_swapped (length basis) (n + 3) (n + length basis + 4) a b (columns_of places) (columns_of near) (basic_columns n basis) (columns_of places') (basic_columns n basis') (omega arith) (omega arith) sound.placed stays moved basic_exchanged);
+      right_at =
+          ap (λ t. columns_of places' (right_column n t)) same_length
+          ∙ stays (right_column n (length basis)) (let s : columns_of places (right_column n (length basis)) ≡ n + 2 = sound.right_at in omega arith)
+          ∙ sound.right_at;
+      room_is = sound.room_is;
+    }
+
+    read_exchanged : (rows rows' : Matrix) (i : ℕ) → i ≤ length basis → ((k : ℕ) → k < n + 4 → rows' i k ≡ rows (exchanged a b i) k) → (c : ℕ) → c < n + length basis + 4
+        → read_row (n + 3) (columns_of places') i (rows' i) c ≡ read_row (n + 3) (columns_of places) (exchanged a b i) (rows (exchanged a b i)) c
+    read_exchanged rows rows' i il same c cl =
+        swapped_entry (length basis) (n + 3) (n + length basis + 4) a b (columns_of places) (columns_of near) (basic_columns n basis) (columns_of places') (basic_columns n basis') (omega arith) (omega arith) sound.placed stays moved basic_exchanged
+        rows rows' (λ j. rows j (n + 3)) (λ j. rows' j (n + 3)) i il (λ k l. same k (omega arith)) (same (n + 3) (omega arith)) c cl
+
+    abbrev pub exchanged_table : List ℤ → Table
+    exchanged_table t = record { limit = limit; columns = n; basis = basis'; places = places'; table = t }
+
+    module _ (new : List ℤ) (same : (i k : ℕ) → k < n + 4 → row_at new (n + 4) i k ≡ row_at table (n + 4) (exchanged a b i) k) where
+      pub exchanged_rows : (i c : ℕ) → i ≤ length basis → c < n + length basis + 4 → rows_of (exchanged_table new) i c ≡ rows_of (table_with table) (exchanged a b i) c
+      exchanged_rows i c il cl = read_exchanged (row_at table (n + 4)) (row_at new (n + 4)) i il (same i) c cl
+
+      pub exchanged_kept : (c : ℕ) → c < n + length basis + 4 → kept_row_of (exchanged_table new) c ≡ kept_row_of (table_with table) c
+      exchanged_kept c cl =
+          let s : exchanged a b (length basis) ≡ length basis = exchanged_other a b (length basis) (λ e. absurd (omega arith)) (λ e. absurd (omega arith)) in
+          let t : exchanged a b (suc (length basis)) ≡ suc (length basis) = exchanged_other a b (suc (length basis)) (λ e. absurd (omega arith)) (λ e. absurd (omega arith)) in
+          ap (λ (k : ℕ). read_row (n + 3) (columns_of places') k (row_at new (n + 4) (suc k)) c) same_length
+          ∙ read_exchanged (λ j. row_at table (n + 4) (suc (length basis))) (λ j. row_at new (n + 4) (suc (length basis))) (length basis) (omega arith)
+          (λ k l. same (suc (length basis)) k l ∙ ap (λ (j : ℕ). row_at table (n + 4) j k) t) c cl
+          ∙ ap (λ (k : ℕ). read_row (n + 3) (columns_of places) k (row_at table (n + 4) (suc (length basis))) c) s

@@ -1,258 +1,352 @@
--- A turn of the dictionary in the first phase is one of the auxiliary form, and the kept row turns with it.
-use Rattle.std.proofs.Common.{◌≡◌, ◌≢◌, ℕ, suc, ◌+◌, ◌-◌, ◌*◌, ◌<◌, ◌≤◌, sym, ap, ◌∙◌, subst, arith, inl, inr, List, length, set, min}
-use Rattle.std.proofs.lemmas.Bool.{cases_eq}
-use Rattle.rob_linear.proofs.Unique.{own_apart}
-use Rattle.rob_linear.proofs.Choices.{lex_feasible}
-use Rattle.rob_linear.proofs.LastBases.{auxiliary_bounded}
-use Rattle.std.specs.Int.RustNames.{unsigned_abs}
-use lib.IntN.{ℤ, pos}
+-- A turn of the first phase beside the auxiliary column on a dictionary is one of the path.
+use Rattle.std.proofs.Common.{◌≡◌, ◌≢◌, ℕ, suc, ◌+◌, ◌<◌, ◌≤◌, sym, refl, ap, ◌∙◌, subst, arith, inl, inr, List, length, set, cond, nat_eq, ◌-◌}
+use Rattle.std.specs.Prelude.{nat_abs}
+use Rattle.std.proofs.lemmas.Bool.{cases_eq, cases_lt}
+use Rattle.std.proofs.lemmas.Int.{ints}
+use Rattle.std.proofs.lemmas.List.{get_or-set_same, get_or-set_other, length-set}
+use lib.IntN.{ℤ, pos, ◌-ℤ◌, ◌*ℤ◌, neg_ℤ}
 use lib.Signed.{◌<ℤ◌, ◌≤ℤ◌}
-use Rattle.rob_linear.specs.Vectors.{Vector}
-use Rattle.rob_linear.specs.Systems.{IsTagged, IsCombined, IsPrimitive, RowOf}
-use Rattle.rob_linear.specs.Programs.{Program, auxiliary_of, kept_of}
-use Rattle.rob_linear.specs.Turns.{Enters, Leaves, IsExchange, IsPivot, IsTurn, Rises, own_of, StandsWith, TurnsTo}
-use Rattle.rob_linear.specs.Paths.{HasAuxiliary, Reached}
-use Rattle.rob_linear.specs.Rank.{rank, rank_limit}
-use Rattle.rob_linear.specs.WideRows.{HasWideRow}
-use Rattle.rob_linear.proofs.Solutions.{tags_in, own_below}
-use Rattle.rob_linear.proofs.Endings.{own_positive}
-use Rattle.rob_linear.proofs.Pivots.{basis_pivotable, pivot_is_basis, row_of_other}
-use Rattle.rob_linear.proofs.Lexical.{turn_keeps_order, turn_rises}
-use Rattle.rob_linear.proofs.Turns.{own_low, turn_exchange}
+use Rattle.rob_algebra.specs.Integer.{ring}
+use Rattle.rob_linear.specs.Programs.{Program, system_of, kept_of, auxiliary_of}
+use Rattle.rob_linear.specs.Turns.{own_of, IsSameBasis}
+use Rattle.rob_linear.specs.Paths.{HasAuxiliary, Reached, Turned}
+use Rattle.rob_linear.specs.Multiples.{IsParallel, IsClearedBy, HasMultipleRows, StandsMultiple, put_at}
+use Rattle.rob_linear.specs.Beside.{HoldsBeside, EntersBeside, IsBesidePivot, IsBegun, IsLeast, HasNoLeast, exchanged, swapped, turned_columns, path_basis, without_column, beside_objective}
+use Rattle.rob_linear.specs.Rank.{rank, rank_limit, IsWithin}
+use Rattle.rob_linear.proofs.Beside.{put_same, put_other}
+use Rattle.rob_linear.proofs.BesideColumns.{multiples_same, stands_multiple_same, holds_turn, holds_leaves, holds_stands}
+use Rattle.rob_linear.proofs.BesideLoops.{beside_within, beside_rank}
+use Rattle.rob_linear.proofs.Measure.{rank_below}
+use Rattle.rob_linear.proofs.MultipleNumbers.{rank_parallel}
 use Rattle.rob_linear.proofs.Starts.{auxiliary_tagged}
-use Rattle.rob_linear.proofs.TwoPhases.{kept_turned}
-use Rattle.rob_linear.proofs.WideRows.{exchange_inside}
-use Rattle.rob_rows.specs.PrimitiveParts.{IsWithin}
-use Rattle.rob_simplex.specs.Tables.{cleared, IsPivoted, IsWidePivot, IsWideClear}
-use Rattle.rob_simplex.specs.Dictionaries.{shape, rows_of, columns_of}
-use Rattle.rob_simplex.specs.Turning.{IsChosen}
-use Rattle.rob_simplex.specs.FirstPhases.{table_place, auxiliary_rows, HoldsFirst, InFirst}
-use Rattle.rob_simplex.proofs.Combined.{clears_combined, own_left}
-use Rattle.rob_simplex.proofs.Ranks.{rank_falls}
-use Rattle.rob_simplex.proofs.SecondPhase.{columns_set, columns_kept, columns_new}
-use Rattle.rob_simplex.proofs.TablePlaces.{place_low, place_objective, place_inside, place_onto, combined_placed, auxiliary_before}
+use Rattle.rob_linear.proofs.BesidePaths.{exchanged_in, exchanged_low, exchanged_q}
+use Rattle.rob_linear.proofs.Multiples.{multiple_parallel, multiples_in}
+use Rattle.rob_linear.proofs.OtherCosts.{turned_same}
+use Rattle.rob_linear.proofs.Solutions.{tags_in}
+use Rattle.rob_linear.proofs.Turns.{own_low, own_same}
+use Rattle.rob_linear.proofs.TwoPhases.{kept_tagged}
+use Rattle.rob_simplex.specs.Dictionaries.{Table, positions, width_of, columns_of, basic_columns, right_column, spare_column, shape, rows_of, IsFree, IsClosed, IsPivoted, IsBegunPivot, FirstNegative}
+use Rattle.rob_simplex.specs.Phases.{InBeside, HasLeft, IsOpenBeside, rank_left_beside, turns_left_beside}
+use Rattle.rob_simplex.proofs.SecondPhase.{IsSmall, falls}
+use Rattle.rob_simplex.proofs.Replacing.{basic_low, basic_high}
 
--- ---- the chosen column and position, in the auxiliary form
-auxiliary_enters : (P : Program) (table : List ℤ) (column : ℕ) → Enters (shape P.n P.m) (rows_of P.n P.m table) column → Enters (auxiliary_of P) (auxiliary_rows P.n P.m table) column
-auxiliary_enters P table column h =
-    let l : column < P.n + P.m = h.inside in
-    record {
-      inside = omega arith;
-      improving = subst (λ t. rows_of P.n P.m table P.m t <ℤ pos 0) (sym (place_low P.n P.m column l)) h.improving;
-      first = λ k kl. subst (λ t. pos 0 ≤ℤ rows_of P.n P.m table P.m t) (sym (place_low P.n P.m k (omega arith))) (h.first k kl);
-    }
+-- a row that clears may be turned round
+round_ring : (D p q x a b b' : ℤ) → b' ≡ neg_ℤ b → D *ℤ x ≡ (p *ℤ a) -ℤ (q *ℤ b') → D *ℤ x ≡ (p *ℤ a) -ℤ (neg_ℤ q *ℤ b)
+round_ring D p q x a b b' e h =
+    h ∙ ap (λ z. (p *ℤ a) -ℤ (q *ℤ z)) e ∙ ap (λ z. (p *ℤ a) -ℤ z) (let r : q *ℤ neg_ℤ b ≡ neg_ℤ q *ℤ b = simp ring (omega (arith, ints)) in r)
 
-auxiliary_leaves : (P : Program) (table : List ℤ) (column row : ℕ) → column < P.n + P.m → Leaves (shape P.n P.m) (rows_of P.n P.m table) column row → Leaves (auxiliary_of P) (auxiliary_rows P.n P.m table) column row
-auxiliary_leaves P table column row l h =
-    let e : table_place P.n P.m column ≡ column = place_low P.n P.m column l in
-    record {
-      inside = h.inside;
-      positive = subst (λ t. pos 0 <ℤ rows_of P.n P.m table row t) (sym e) h.positive;
-      first =
-          λ i il p b.
-          h.first i il (subst (λ t. pos 0 <ℤ rows_of P.n P.m table i t) e p)
-          (auxiliary_before P table table i row (auxiliary_rows P.n P.m table i column) (auxiliary_rows P.n P.m table row column) (rows_of P.n P.m table i column) (rows_of P.n P.m table row column) (ap (rows_of P.n P.m table i) e) (ap (rows_of P.n P.m table row) e) b);
-    }
+cleared_round : (n n' column : ℕ) (low low' top top' new : ℕ → ℤ) → n' ≤ n → ((k : ℕ) → low k ≡ low' k) → ((k : ℕ) → top k ≡ neg_ℤ (top' k)) → IsClearedBy n column low top new → IsClearedBy n' column low' top' new
+cleared_round n n' column low low' top top' new l el et c = record {
+  divisor = c.divisor;
+  p = c.p;
+  q = neg_ℤ c.q;
+  divides = c.divides;
+  positive = c.positive;
+  entries = λ k kl. round_ring c.divisor c.p c.q (new k) (low' k) (top' k) (top k) (et k) (c.entries k (omega arith) ∙ ap (λ z. (c.p *ℤ z) -ℤ (c.q *ℤ top k)) (el k));
+  cleared = c.cleared;
+}
 
-primitive_placed : (n m : ℕ) (r : Vector) → IsPrimitive (n + m + 3) (λ k. r (table_place n m k)) → IsPrimitive (n + m + 3) r
-primitive_placed n m r h d g = h d (λ k l. g (table_place n m k) (place_inside n m k l))
+small_neg : (z z' : ℤ) (l : ℕ) → z' ≡ neg_ℤ z → nat_abs z' ≤ l → nat_abs z ≤ l
+small_neg z z' l e h = omega (arith, ints)
 
-module _ (P : Program) (basis basis' : List ℕ) (table : List ℤ) (row column : ℕ) (h : InFirst P basis table) (size : length basis ≡ P.m) (chosen : IsChosen P.n P.m basis basis' table row column) where
-  row_in : row < P.m
-  row_in = chosen.leaves.inside
+-- a column written to a list
+pub set_is : (b : List ℕ) (q col i : ℕ) → q < length b → columns_of (set b q col) i ≡ put_at (columns_of b) q col i
+set_is b q col i l = elim (cases_eq i q) [
+  | inl e ↦ ap (columns_of (set b q col)) e ∙ get_or-set_same b q col 0 l ∙ sym (ap (put_at (columns_of b) q col) e ∙ put_same (columns_of b) q col)
+  | inr d ↦ get_or-set_other b q i col 0 d ∙ sym (put_other (columns_of b) q col i d)
+]
 
-  column_in : column < P.n + P.m
-  column_in = chosen.enters.inside
+module _ (P : Program) (q : ℕ) (t : Table) (h : InBeside P q t) where
+  size_is : t.columns + positions t ≡ P.n + P.m
+  size_is = omega (arith, h.rows_are, h.columns_are)
 
-  three : suc (suc (suc (P.n + P.m))) ≡ P.n + P.m + 3
-  three = omega arith
+  q_low : q < P.m
+  q_low = h.holds.inside
 
-  pub turns_to : TurnsTo (auxiliary_of P) (columns_of basis) (columns_of basis')
-  turns_to = record {
-    rows = auxiliary_rows P.n P.m table;
-    position = row;
-    column = column;
-    is_basis = h.stands.is_basis;
-    enters = auxiliary_enters P table column chosen.enters;
-    leaves = auxiliary_leaves P table column row column_in chosen.leaves;
-    exchanged = λ i l. ap (λ t. columns_of t i) chosen.basis_is ∙ columns_set basis row column i (let r : row < P.m = row_in in omega arith);
+  pub q_in : q < positions t
+  q_in = omega (arith, h.rows_are, q_low)
+
+  own_is : (i : ℕ) → i < P.m → own_of (kept_of P) (columns_of t.basis) i ≡ columns_of t.basis i
+  own_is i l = own_low (kept_of P) (columns_of t.basis) i l
+
+  -- row q is 0 in the other basic columns, and positive in its own
+  other_zero : (i : ℕ) → i < P.m → i ≢ q → rows_of t q (columns_of t.basis i) ≡ pos 0
+  other_zero i l d = ap (rows_of t q) (sym (own_is i l)) ∙ (h.holds.multiples.rows_of q (omega (arith, q_low))).along.zeros i (omega arith) d
+
+  own_positive : pos 0 <ℤ rows_of t q (columns_of t.basis q)
+  own_positive = subst (λ k. pos 0 <ℤ rows_of t q k) (own_is q q_low) (h.holds.multiples.rows_of q (omega (arith, q_low))).positive
+
+  basic_nonneg : (i : ℕ) → i < P.m → pos 0 ≤ℤ rows_of t q (columns_of t.basis i)
+  basic_nonneg i l = elim (cases_eq i q) [
+    | inl e ↦ subst (λ k. pos 0 ≤ℤ rows_of t q (columns_of t.basis k)) (sym e) (let p : pos 0 <ℤ rows_of t q (columns_of t.basis q) = own_positive in omega (arith, ints))
+    | inr d ↦ let z : rows_of t q (columns_of t.basis i) ≡ pos 0 = other_zero i l d in omega (arith, ints)
+  ]
+
+  pub row_own : pos 0 ≤ℤ rows_of t q (basic_columns t.columns t.basis q)
+  row_own = subst (λ k. pos 0 ≤ℤ rows_of t q k) (sym (basic_low t.columns t.basis q q_in)) (basic_nonneg q q_low)
+
+  -- a column in which row q is negative is not basic
+  negative_free : (column : ℕ) → column ≤ P.n + P.m → rows_of t q column <ℤ pos 0 → IsFree t.columns t.basis column
+  negative_free column low negative = record {
+    inside = omega (arith, size_is, low);
+    not_basic = λ i il e. elim (cases_lt i (positions t)) [
+      | inl l ↦
+          let n : pos 0 ≤ℤ rows_of t q (columns_of t.basis i) = basic_nonneg i (omega (arith, h.rows_are)) in
+          let z : pos 0 ≤ℤ rows_of t q column = subst (λ k. pos 0 ≤ℤ rows_of t q k) (sym (basic_low t.columns t.basis i l) ∙ e) n in
+          absurd (omega (arith, ints))
+      | inr l ↦ let x : suc (t.columns + positions t) ≡ column = sym (basic_high t.columns t.basis i l) ∙ e in omega (arith, size_is, low)
+    ];
+    not_right = λ e. absurd (omega (arith, size_is, low));
   }
 
-  exchange : IsExchange (auxiliary_of P) (own_of (auxiliary_of P) (columns_of basis)) (own_of (auxiliary_of P) (columns_of basis')) (auxiliary_rows P.n P.m table) row column
-  unfolding turns_to
-  exchange = turn_exchange (auxiliary_of P) (columns_of basis) (columns_of basis') turns_to
+  pub auxiliary_free : IsFree t.columns t.basis (P.n + P.m)
+  auxiliary_free = negative_free (P.n + P.m) (omega arith) h.holds.below
 
-  pub reached_next : Reached P (columns_of basis')
-  reached_next = (suc h.reached.0, (columns_of basis, h.reached.1, inl (h.auxiliary, turns_to)))
+  module _ (column : ℕ) (first' : FirstNegative (t.columns + positions t) (rows_of t q) column) where
+    first : FirstNegative (P.n + P.m) (rows_of t q) column
+    first = subst (λ k. FirstNegative k (rows_of t q) column) size_is first'
 
-  own_in : (i : ℕ) → i ≤ P.m → own_of (auxiliary_of P) (columns_of basis) i < suc (suc (P.n + P.m))
-  own_in i l = own_below (auxiliary_of P) (own_of (auxiliary_of P) (columns_of basis)) (auxiliary_rows P.n P.m table) h.stands.is_basis i l
+    low : column < P.n + P.m
+    low = first.inside
 
-  -- the entries in the column, as the table has them
-  at_column : (i : ℕ) → auxiliary_rows P.n P.m table i column ≡ rows_of P.n P.m table i column
-  at_column i = ap (rows_of P.n P.m table i) (place_low P.n P.m column column_in)
+    enters : EntersBeside P q (rows_of t) column
+    enters = record { inside = low; improving = first.negative; first = first.first }
 
-  -- no row but the leaving one is cleared away
-  left : (i : ℕ) → i ≤ P.m → i ≢ row → cleared column (rows_of P.n P.m table i) (rows_of P.n P.m table row) (table_place P.n P.m (own_of (auxiliary_of P) (columns_of basis) i)) ≢ pos 0
-  left i l d =
-      let r : row < P.m = row_in in
-      own_left column (table_place P.n P.m (own_of (auxiliary_of P) (columns_of basis) i)) (rows_of P.n P.m table i) (rows_of P.n P.m table row) chosen.leaves.positive (h.stands.is_basis.rows_of i l).positive ((h.stands.is_basis.rows_of row (omega arith)).zeros i l d)
+    pub column_free : IsFree t.columns t.basis column
+    column_free = negative_free column (omega (arith, low)) first.negative
 
-  kept_left : cleared column (rows_of P.n P.m table (suc P.m)) (rows_of P.n P.m table row) (table_place P.n P.m (own_of (kept_of P) (columns_of basis) P.m)) ≢ pos 0
-  kept_left =
-      let r : row < P.m = row_in in
-      own_left column (table_place P.n P.m (own_of (kept_of P) (columns_of basis) P.m)) (rows_of P.n P.m table (suc P.m)) (rows_of P.n P.m table row) chosen.leaves.positive h.kept.positive
-      ((h.stands.is_basis.rows_of row (omega arith)).zeros P.m (omega arith) (omega arith))
+    pub column_not_spare : column ≢ spare_column t.columns (positions t)
+    column_not_spare e = absurd (omega (arith, size_is, low))
 
-  -- a combined row, in the order of the auxiliary form
-  placed : (low new : Vector) → IsCombined (P.n + P.m + 3) (rows_of P.n P.m table row column) low (low column) (rows_of P.n P.m table row) new
-      → IsCombined (suc (suc (suc (P.n + P.m)))) (auxiliary_rows P.n P.m table row column) (λ k. low (table_place P.n P.m k)) (low (table_place P.n P.m column)) (auxiliary_rows P.n P.m table row) (λ k. new (table_place P.n P.m k))
-  placed low new c =
-      subst (λ t. IsCombined t (auxiliary_rows P.n P.m table row column) (λ k. low (table_place P.n P.m k)) (low (table_place P.n P.m column)) (auxiliary_rows P.n P.m table row) (λ k. new (table_place P.n P.m k))) (sym three)
-      (subst (λ t. IsCombined (P.n + P.m + 3) (rows_of P.n P.m table row t) (λ k. low (table_place P.n P.m k)) (low t) (auxiliary_rows P.n P.m table row) (λ k. new (table_place P.n P.m k))) (sym (place_low P.n P.m column column_in))
-      (combined_placed P.n P.m (rows_of P.n P.m table row column) (low column) low (rows_of P.n P.m table row) new c))
+    -- ---- row q turned round
+    module _ (r : Table) (rb : r.basis ≡ t.basis) (rn : r.columns ≡ t.columns) (rr : (c : ℕ) → rows_of r q c ≡ neg_ℤ (rows_of t q c)) (ro : (i c : ℕ) → i ≤ positions t → i ≢ q → rows_of r i c ≡ rows_of t i c) where
+      rm : positions r ≡ positions t
+      rm = ap length rb
 
-  module _ (table' : List ℤ) (pivoted : IsPivoted (P.m + 2) (P.n + P.m + 3) row column (rows_of P.n P.m table) (rows_of P.n P.m table')) where
-    pivot : IsPivot (auxiliary_of P) (own_of (auxiliary_of P) (columns_of basis)) (own_of (auxiliary_of P) (columns_of basis')) (auxiliary_rows P.n P.m table) (auxiliary_rows P.n P.m table') row column
-    pivot = record {
-      exchange = exchange;
-      row_at = λ k l. pivoted.row_stays (table_place P.n P.m k) (place_inside P.n P.m k (omega arith));
-      row_other = λ i l d.
-          let k = own_in i l in
-          let cl : column < P.n + P.m = column_in in
-          placed (rows_of P.n P.m table i) (rows_of P.n P.m table' i)
-          (clears_combined (P.n + P.m + 3) column (rows_of P.n P.m table i) (rows_of P.n P.m table row) (rows_of P.n P.m table' i) (table_place P.n P.m (own_of (auxiliary_of P) (columns_of basis) i)) (omega arith) (place_inside P.n P.m (own_of (auxiliary_of P) (columns_of basis) i) (omega arith)) chosen.leaves.positive (left i l d)
-          (primitive_placed P.n P.m (rows_of P.n P.m table i) (subst (λ t. IsPrimitive t (auxiliary_rows P.n P.m table i)) three (h.stands.is_basis.rows_of i l).primitive)) (pivoted.row_other i (omega arith) d));
-    }
+      width_is : width_of r ≡ suc (suc (suc (suc (P.n + P.m))))
+      width_is = omega (arith, size_is, rm, rn)
 
-    turn : IsTurn (auxiliary_of P) (own_of (auxiliary_of P) (columns_of basis)) (own_of (auxiliary_of P) (columns_of basis')) (auxiliary_rows P.n P.m table) (auxiliary_rows P.n P.m table') row column
-    unfolding turns_to
-    turn = record { pivot = pivot; enters = turns_to.enters; leaves = turns_to.leaves }
+      pub round_free : IsFree r.columns r.basis column
+      round_free = subst (λ n. IsFree n r.basis column) (sym rn) (subst (λ (b : List ℕ). IsFree t.columns b column) (sym rb) column_free)
 
-    stands_next : StandsWith (auxiliary_of P) (columns_of basis') (auxiliary_rows P.n P.m table')
-    stands_next =
-        let g : IsTagged (auxiliary_of P) = auxiliary_tagged P in
-        let r : row < P.m = row_in in
-        record {
-          is_basis = pivot_is_basis (auxiliary_of P) (own_of (auxiliary_of P) (columns_of basis)) (own_of (auxiliary_of P) (columns_of basis')) (auxiliary_rows P.n P.m table) (auxiliary_rows P.n P.m table') row column (tags_in (auxiliary_of P) g) (basis_pivotable (auxiliary_of P) (own_of (auxiliary_of P) (columns_of basis)) (auxiliary_rows P.n P.m table) row (omega arith) h.stands.is_basis) pivot;
-          feasible = turn_keeps_order (auxiliary_of P) (own_of (auxiliary_of P) (columns_of basis)) (own_of (auxiliary_of P) (columns_of basis')) (auxiliary_rows P.n P.m table) (auxiliary_rows P.n P.m table') row column (tags_in (auxiliary_of P) g) g.last h.stands.is_basis h.stands.feasible turn;
+      pub round_not_spare : column ≢ spare_column r.columns (positions r)
+      round_not_spare e = absurd (omega (arith, size_is, low, rm, rn))
+
+      pub round_positive : pos 0 <ℤ rows_of r q column
+      round_positive = subst (λ z. pos 0 <ℤ z) (sym (rr column)) (let n : rows_of t q column <ℤ pos 0 = first.negative in omega (arith, ints))
+
+      pub round_closed : IsClosed r
+      round_closed =
+          let e : spare_column r.columns (positions r) ≡ spare_column t.columns (positions t) = omega (arith, rm, rn) in
+          record {
+            free = λ i l x. h.closed.free i (omega (arith, rm)) (ap (λ (b : List ℕ). columns_of b i) (sym rb) ∙ x ∙ e);
+            zero = λ i l. ap (rows_of r i) e ∙ zero_at i (omega (arith, rm));
+          }
+        where
+          zero_at : (i : ℕ) → i ≤ positions t → rows_of r i (spare_column t.columns (positions t)) ≡ pos 0
+          zero_at i l = elim (cases_eq i q) [
+            | inl e ↦ ap (λ k. rows_of r k (spare_column t.columns (positions t))) e ∙ rr (spare_column t.columns (positions t)) ∙ ap neg_ℤ (h.closed.zero q (omega (arith, q_in)))
+            | inr d ↦ ro i (spare_column t.columns (positions t)) l d ∙ h.closed.zero i l
+          ]
+
+      pub round_small : r.limit ≡ t.limit → IsSmall r → IsSmall t
+      round_small el small i c il = elim (cases_eq i q) [
+        | inl e ↦
+            subst (λ k. nat_abs (rows_of t k c) ≤ t.limit) (sym e)
+            (small_neg (rows_of t q c) (rows_of r q c) t.limit (rr c) (subst (λ l. nat_abs (rows_of r q c) ≤ l) el (small q c (omega (arith, rm, q_in)))))
+        | inr d ↦ subst (λ z. nat_abs z ≤ t.limit) (ro i c il d) (subst (λ l. nat_abs (rows_of r i c) ≤ l) el (small i c (omega (arith, rm))))
+      ]
+
+      row_round : (new : ℕ → ℤ) → IsParallel (width_of r) new (rows_of r q) → IsParallel (suc (suc (suc (P.n + P.m)))) new (λ k. neg_ℤ (rows_of t q k))
+      row_round new p = record {
+        p = p.p;
+        q = p.q;
+        p_positive = p.p_positive;
+        q_positive = p.q_positive;
+        same = λ k l. p.same k (omega (arith, width_is)) ∙ ap (λ z. p.q *ℤ z) (rr k);
+      }
+
+      other_round : (i : ℕ) (new : ℕ → ℤ) → i ≤ P.m → i ≢ q → IsClearedBy (width_of r) column (rows_of r i) (rows_of r q) new → IsClearedBy (suc (suc (suc (P.n + P.m)))) column (rows_of t i) (rows_of t q) new
+      other_round i new il d c = cleared_round (width_of r) (suc (suc (suc (P.n + P.m)))) column (rows_of r i) (rows_of t i) (rows_of r q) (rows_of t q) new (omega (arith, width_is)) (λ k. ro i k (omega (arith, h.rows_are)) d) rr c
+
+      -- a pivot that was begun
+      pub begun_beside : (t' : Table) → IsBegunPivot r t' q column → IsBegun P q column (rows_of t) (rows_of t')
+      begun_beside t' b = record {
+        inside = low;
+        row_at = row_round (rows_of t' q) b.row_at;
+        row_other = λ i il d. elim (b.row_other i (omega (arith, rm, h.rows_are)) d) [
+          | inl s ↦ inl (record {
+            p = pos 1;
+            q = pos 1;
+            p_positive = omega (arith, ints);
+            q_positive = omega (arith, ints);
+            same = λ k l. ap (λ z. pos 1 *ℤ z) (sym (s k (omega (arith, width_is)) ∙ ro i k (omega (arith, h.rows_are)) d));
+          })
+          | inr c ↦ inr (other_round i (rows_of t' i) il d c)
+        ];
+      }
+
+      pub open_beside : (t' : Table) → IsBegunPivot r t' q column → t'.columns ≡ r.columns → IsOpenBeside P q t'
+      open_beside t' b en =
+          let e : spare_column r.columns (positions r) ≡ spare_column P.n P.m = omega (arith, size_is, rm, rn) in
+          record {
+            before = t;
+            stood = h;
+            column = column;
+            begun = begun_beside t' b;
+            basis = b.basis ∙ ap (λ k. set r.basis q k) e ∙ ap (λ (x : List ℕ). set x q (spare_column P.n P.m)) rb;
+            columns_are = en ∙ rn ∙ h.columns_are;
+            opened = b.opened;
+            zero = λ i l. ap (rows_of t' i) (sym e) ∙ b.zero i (omega (arith, rm, h.rows_are));
+          }
+
+      module _ (t' : Table) (p : IsPivoted r t' q column) (c' : IsClosed t') (eb : t'.basis ≡ set r.basis q column) (en : t'.columns ≡ r.columns) where
+        beside_pivot : IsBesidePivot P q column (rows_of t) (rows_of t')
+        beside_pivot = record {
+          row_at = row_round (rows_of t' q) p.row_at;
+          row_other = λ i il d. other_round i (rows_of t' i) il d (p.row_other i (omega (arith, rm, h.rows_are)) d);
         }
 
-    kept_next : RowOf (kept_of P) (own_of (kept_of P) (columns_of basis')) P.m (auxiliary_rows P.n P.m table' (suc P.m))
-    kept_next =
-        let cl : column < P.n + P.m = column_in in
-        let r : row < P.m = row_in in
-        let k : own_of (auxiliary_of P) (columns_of basis) P.m < suc (suc (P.n + P.m)) = own_in P.m (omega arith) in
-        kept_turned P (own_of (auxiliary_of P) (columns_of basis)) (own_of (auxiliary_of P) (columns_of basis')) (auxiliary_rows P.n P.m table) (auxiliary_rows P.n P.m table (suc P.m)) (auxiliary_rows P.n P.m table' (suc P.m)) row column h.stands.is_basis h.kept exchange
-        (placed (rows_of P.n P.m table (suc P.m)) (rows_of P.n P.m table' (suc P.m))
-        (clears_combined (P.n + P.m + 3) column (rows_of P.n P.m table (suc P.m)) (rows_of P.n P.m table row) (rows_of P.n P.m table' (suc P.m)) (table_place P.n P.m (own_of (kept_of P) (columns_of basis) P.m)) (omega arith) (place_inside P.n P.m (own_of (kept_of P) (columns_of basis) P.m) (omega arith)) chosen.leaves.positive kept_left
-        (primitive_placed P.n P.m (rows_of P.n P.m table (suc P.m)) (subst (λ t. IsPrimitive t (auxiliary_rows P.n P.m table (suc P.m))) three h.kept.primitive)) (pivoted.row_other (suc P.m) (omega arith) (omega arith))))
+        pub rows_after : positions t' ≡ P.m
+        rows_after = ap length eb ∙ length-set r.basis q column ∙ rm ∙ h.rows_are
 
-    pub first_next : HoldsFirst P basis' table'
-    first_next = record { reached = reached_next; needs = h.needs; stands = stands_next; kept = kept_next }
+        pub columns_after : t'.columns ≡ P.n
+        columns_after = en ∙ rn ∙ h.columns_are
 
-    pub first_rises : Rises (shape P.n P.m) (rows_of P.n P.m table P.m) (rows_of P.n P.m table' P.m)
-    first_rises =
-        auxiliary_before P table table' P.m P.m (auxiliary_rows P.n P.m table P.m (suc (P.n + P.m))) (auxiliary_rows P.n P.m table' P.m (suc (P.n + P.m))) (rows_of P.n P.m table P.m (P.n + P.m)) (rows_of P.n P.m table' P.m (P.n + P.m)) (ap (rows_of P.n P.m table P.m) (place_objective P.n P.m)) (ap (rows_of P.n P.m table' P.m) (place_objective P.n P.m))
-        (turn_rises (auxiliary_of P) (own_of (auxiliary_of P) (columns_of basis)) (own_of (auxiliary_of P) (columns_of basis')) (auxiliary_rows P.n P.m table) (auxiliary_rows P.n P.m table') row column (auxiliary_tagged P) h.stands.is_basis h.stands.feasible turn)
+        basis_after : (i : ℕ) → columns_of t'.basis i ≡ put_at (columns_of t.basis) q column i
+        basis_after i = ap (λ (b : List ℕ). columns_of b i) (eb ∙ ap (λ (b : List ℕ). set b q column) rb) ∙ set_is t.basis q column i q_in
 
-  -- ---- a row that would be wide
-  wide_entry : (limit : ℕ) (new : Vector) → ((j : ℕ) × (j < P.n + P.m + 3) × (limit < unsigned_abs (new j))) → (k : ℕ) × (k ≤ suc (suc (P.n + P.m))) × (limit < unsigned_abs (new (table_place P.n P.m k)))
-  wide_entry limit new w =
-      let o : (k : ℕ) × (k < P.n + P.m + 3) × (table_place P.n P.m k ≡ w.0) = place_onto P.n P.m w.0 w.1 in
-      let l : o.0 < P.n + P.m + 3 = o.1 in
-      (o.0, omega arith, subst (λ t. limit < unsigned_abs (new t)) (sym o.2) w.2)
-
-  pub first_wide : (limit i : ℕ) → IsWidePivot limit (P.m + 2) (P.n + P.m + 3) row column (rows_of P.n P.m table) i → HasWideRow limit P (columns_of basis') (min i P.m)
-  first_wide limit i w =
-      let r : row < P.m = row_in in
-      let ii : i < P.m + 2 = w.inside in
-      elim (cases_eq i (suc P.m)) [
-        | inl c ↦
-            let k : own_of (auxiliary_of P) (columns_of basis) P.m < suc (suc (P.n + P.m)) = own_in P.m (omega arith) in
-            let z : IsWideClear limit (P.n + P.m + 3) column (rows_of P.n P.m table (suc P.m)) (rows_of P.n P.m table row) = subst (λ t. IsWideClear limit (P.n + P.m + 3) column (rows_of P.n P.m table t) (rows_of P.n P.m table row)) c w.wide in
-            let x = z.wide (table_place P.n P.m (own_of (kept_of P) (columns_of basis) P.m)) (place_inside P.n P.m (own_of (kept_of P) (columns_of basis) P.m) (omega arith)) kept_left in
-            let e : min i P.m ≡ P.m = omega arith in
-            subst (λ t. HasWideRow limit P (columns_of basis') t) (sym e) record {
-              reached = reached_next;
-              wide = inr (inr (
-                h.needs,
-                inr (
-                  (λ k. x.0 (table_place P.n P.m k)),
-                  exchange_inside (auxiliary_of P) (own_of (auxiliary_of P) (columns_of basis)) (columns_of basis') (auxiliary_rows P.n P.m table) row column h.stands.is_basis.inside exchange,
-                  kept_turned P (own_of (auxiliary_of P) (columns_of basis)) (own_of (auxiliary_of P) (columns_of basis')) (auxiliary_rows P.n P.m table) (auxiliary_rows P.n P.m table (suc P.m)) (λ k. x.0 (table_place P.n P.m k)) row column h.stands.is_basis h.kept exchange (placed (rows_of P.n P.m table (suc P.m)) x.0 x.1),
-                  wide_entry limit x.0 x.2,
-                ),
-              ));
+        -- the auxiliary column leaves
+        pub leaves_beside : HasNoLeast (shape t'.columns (positions t')) (t'.columns + positions t') (rows_of t') → HasLeft P t'
+        leaves_beside none' =
+            let none : HasNoLeast (shape P.n P.m) (P.n + P.m) (rows_of t') =
+            subst (λ n. HasNoLeast (shape n P.m) (n + P.m) (rows_of t')) columns_after (subst (λ m. HasNoLeast (shape t'.columns m) (t'.columns + m) (rows_of t')) rows_after none') in
+            let x = holds_leaves P h.reached.0 (columns_of t.basis) q column (rows_of t) (rows_of t') h.reached.1 h.holds enters beside_pivot none in
+            record {
+              rows_are = rows_after;
+              columns_are = columns_after;
+              reached = (suc h.reached.0, turned_same P (suc h.reached.0) (put_at (columns_of t.basis) q column) (columns_of t'.basis) (λ i l. sym (basis_after i)) x.0);
+              without = λ a. x.1 (a.0, a.1, a.2 ∙ basis_after a.0);
+              stands = stands_multiple_same (system_of P) (put_at (columns_of t.basis) q column) (columns_of t'.basis) (without_column P (rows_of t')) (λ i l. sym (basis_after i)) x.2;
+              closed = c';
             }
-        | inr d ↦
-            let il : i ≤ P.m = omega arith in
-            let k = own_in i il in
-            let x = w.wide.wide (table_place P.n P.m (own_of (auxiliary_of P) (columns_of basis) i)) (place_inside P.n P.m (own_of (auxiliary_of P) (columns_of basis) i) (omega arith)) (left i il w.other) in
-            let e : min i P.m ≡ i = omega arith in
-            subst (λ t. HasWideRow limit P (columns_of basis') t) (sym e) record {
-              reached = reached_next;
-              wide = inr (inr (
-                h.needs,
-                inl (
-                  (λ k. x.0 (table_place P.n P.m k)),
-                  exchange_inside (auxiliary_of P) (own_of (auxiliary_of P) (columns_of basis)) (columns_of basis') (auxiliary_rows P.n P.m table) row column h.stands.is_basis.inside exchange,
-                  row_of_other (auxiliary_of P) (own_of (auxiliary_of P) (columns_of basis)) (own_of (auxiliary_of P) (columns_of basis')) (auxiliary_rows P.n P.m table) (λ k. x.0 (table_place P.n P.m k)) row column i (tags_in (auxiliary_of P) (auxiliary_tagged P)) (basis_pivotable (auxiliary_of P) (own_of (auxiliary_of P) (columns_of basis)) (auxiliary_rows P.n P.m table) row (omega arith) h.stands.is_basis) exchange il w.other (placed (rows_of P.n P.m table i) x.0 x.1),
-                  wide_entry limit x.0 x.2,
-                ),
-              ));
-            }
-      ]
 
--- the measure of the loop falls
-pub first_falls : (P : Program) (basis basis' : List ℕ) (table table' : List ℤ) (row column limit : ℕ) → InFirst P basis table → length basis ≡ P.m → IsChosen P.n P.m basis basis' table row column → IsPivoted (P.m + 2) (P.n + P.m + 3) row column (rows_of P.n P.m table) (rows_of P.n P.m table')
-    → length table ≡ (P.m + 2) * (P.n + P.m + 3) → length table' ≡ (P.m + 2) * (P.n + P.m + 3) → IsWithin limit table → IsWithin limit table'
-    → rank_limit (shape P.n P.m) limit - rank (shape P.n P.m) limit (rows_of P.n P.m table' P.m) < rank_limit (shape P.n P.m) limit - rank (shape P.n P.m) limit (rows_of P.n P.m table P.m)
-first_falls P basis basis' table table' row column limit h size chosen pivoted ts ts' w w' =
-    let h' : HoldsFirst P basis' table' = first_next P basis basis' table row column h size chosen table' pivoted in
-    let p : pos 0 <ℤ auxiliary_rows P.n P.m table P.m (suc (P.n + P.m)) = own_positive (auxiliary_of P) (own_of (auxiliary_of P) (columns_of basis)) (auxiliary_rows P.n P.m table) h.stands.is_basis in
-    let p' : pos 0 <ℤ auxiliary_rows P.n P.m table' P.m (suc (P.n + P.m)) = own_positive (auxiliary_of P) (own_of (auxiliary_of P) (columns_of basis')) (auxiliary_rows P.n P.m table') h'.stands.is_basis in
-    rank_falls limit P.n P.m table table' ts ts' w w' (subst (λ t. pos 0 <ℤ rows_of P.n P.m table P.m t) (place_objective P.n P.m) p) (subst (λ t. pos 0 <ℤ rows_of P.n P.m table' P.m t) (place_objective P.n P.m) p')
-    (first_rises P basis basis' table row column h size chosen table' pivoted)
+        -- it stays in: the least row comes to position q
+        module _ (least : ℕ) (found' : IsLeast (shape t'.columns (positions t')) (t'.columns + positions t') (rows_of t') least) (t'' : Table)
+            (rx : (i c : ℕ) → i ≤ positions t' → c < width_of t' → rows_of t'' i c ≡ rows_of t' (exchanged q least i) c)
+            (bx : (i : ℕ) → columns_of t''.basis i ≡ columns_of t'.basis (exchanged q least i)) (mx : positions t'' ≡ positions t') (nx : t''.columns ≡ t'.columns) where
+          found : IsLeast (shape P.n P.m) (P.n + P.m) (rows_of t') least
+          found = subst (λ n. IsLeast (shape n P.m) (n + P.m) (rows_of t') least) columns_after (subst (λ m. IsLeast (shape t'.columns m) (t'.columns + m) (rows_of t') least) rows_after found')
 
--- ---- the auxiliary column
-module _ (P : Program) (basis basis' : List ℕ) (table : List ℤ) (row column left : ℕ) (h : InFirst P basis table) (size : length basis ≡ P.m) (chosen : IsChosen P.n P.m basis basis' table row column) (left_is : left ≡ columns_of basis row) where
-  after_other : (i : ℕ) → i ≢ row → columns_of basis' i ≡ columns_of basis i
-  after_other i d = ap (λ t. columns_of t i) chosen.basis_is ∙ columns_kept basis row column i d
+          least_in : IsLeast (auxiliary_of P) (P.n + P.m) (rows_of t') least
+          least_in = record { inside = found.inside; below = found.below; negative = found.negative; first = found.first }
 
-  after_row : (i : ℕ) → i ≡ row → columns_of basis' i ≡ column
-  after_row i c = let r : row < P.m = chosen.leaves.inside in ap (λ t. columns_of t i) chosen.basis_is ∙ ap (columns_of (set basis row column)) c ∙ columns_new basis row column (omega arith)
+          turn : Turned P (suc h.reached.0) (path_basis P (turned_columns (columns_of t.basis) q least column) q) × HoldsBeside P (turned_columns (columns_of t.basis) q least column) q (swapped q least (rows_of t'))
+          turn = holds_turn P h.reached.0 (columns_of t.basis) q column least (rows_of t) (rows_of t') h.reached.1 h.holds enters beside_pivot least_in
 
-  -- it has left
-  pub auxiliary_left : left ≡ P.n + P.m → ¬ (HasAuxiliary P (columns_of basis'))
-  auxiliary_left e x =
-      let r : row < P.m = chosen.leaves.inside in
-      let l : column < P.n + P.m = chosen.enters.inside in
-      let il : x.0 < P.m = x.1 in
-      let x2 : P.n + P.m ≡ columns_of basis' x.0 = x.2 in
-      elim (cases_eq x.0 row) [
-        | inl c ↦ let f : columns_of basis' x.0 ≡ column = after_row x.0 c in omega arith
-        | inr d ↦
-            let f : columns_of basis' x.0 ≡ columns_of basis x.0 = after_other x.0 d in
-            let o : own_of (auxiliary_of P) (columns_of basis) x.0 ≡ own_of (auxiliary_of P) (columns_of basis) row = own_low (auxiliary_of P) (columns_of basis) x.0 il ∙ sym f ∙ sym x2 ∙ sym e ∙ left_is ∙ sym (own_low (auxiliary_of P) (columns_of basis) row r) in
-            d (own_apart (auxiliary_of P) (own_of (auxiliary_of P) (columns_of basis)) (auxiliary_rows P.n P.m table) h.stands.is_basis x.0 row (omega arith) (omega arith) o)
-      ]
+          basis_swapped : (i : ℕ) → columns_of t''.basis i ≡ turned_columns (columns_of t.basis) q least column i
+          basis_swapped i = bx i ∙ basis_after (exchanged q least i)
 
-  -- it is still basic
-  pub auxiliary_stays : left ≢ P.n + P.m → HasAuxiliary P (columns_of basis')
-  auxiliary_stays d =
-      let a : HasAuxiliary P (columns_of basis) = h.auxiliary in
-      let a2 : P.n + P.m ≡ columns_of basis a.0 = a.2 in
-      (a.0, a.1, a2 ∙ sym (after_other a.0 (λ c. d (left_is ∙ sym (ap (columns_of basis) c) ∙ sym a2))))
+          same_path : IsSameBasis P.m (path_basis P (turned_columns (columns_of t.basis) q least column) q) (path_basis P (columns_of t''.basis) q)
+          same_path i l = elim (cases_eq i q) [
+            | inl e ↦
+                ap (path_basis P (turned_columns (columns_of t.basis) q least column) q) e ∙ put_same (turned_columns (columns_of t.basis) q least column) q (P.n + P.m)
+                ∙ sym (ap (path_basis P (columns_of t''.basis) q) e ∙ put_same (columns_of t''.basis) q (P.n + P.m))
+            | inr d ↦
+                put_other (turned_columns (columns_of t.basis) q least column) q (P.n + P.m) i d ∙ sym (basis_swapped i) ∙ sym (put_other (columns_of t''.basis) q (P.n + P.m) i d)
+          ]
 
--- the auxiliary form is never unbounded
-pub first_bounded : (P : Program) (basis : List ℕ) (table : List ℤ) (column : ℕ) → InFirst P basis table → Enters (shape P.n P.m) (rows_of P.n P.m table) column → ((i : ℕ) → i < P.m → rows_of P.n P.m table i column ≤ℤ pos 0) → ⊥
-first_bounded P basis table column h v z =
-    let l : column < P.n + P.m = v.inside in
-    let e : table_place P.n P.m column ≡ column = place_low P.n P.m column l in
-    auxiliary_bounded P (own_of (auxiliary_of P) (columns_of basis)) (auxiliary_rows P.n P.m table) column h.stands.is_basis record {
-      feasible = lex_feasible (auxiliary_of P) (auxiliary_rows P.n P.m table) h.stands.feasible;
-      inside = omega arith;
-      improving = subst (λ t. rows_of P.n P.m table P.m t <ℤ pos 0) (sym e) v.improving;
-      no_limit = λ i il. subst (λ t. rows_of P.n P.m table i t ≤ℤ pos 0) (sym e) (z i il);
-    }
+          row_same : (i k : ℕ) → i ≤ P.m → k < suc (suc (suc (P.n + P.m))) → rows_of t'' i k ≡ swapped q least (rows_of t') i k
+          row_same i k il kl = rx i k (omega (arith, rows_after)) (omega (arith, rows_after, columns_after))
+
+          multiples_after : HasMultipleRows (kept_of P) (own_of (kept_of P) (turned_columns (columns_of t.basis) q least column)) (rows_of t'')
+          multiples_after =
+              let m = turn.1.multiples in
+              record {
+                inside = m.inside;
+                last = m.last;
+                rows_of = λ i il. multiple_parallel (kept_of P) (own_of (kept_of P) (turned_columns (columns_of t.basis) q least column)) i (swapped q least (rows_of t') i) (rows_of t'' i) (tags_in (kept_of P) (kept_tagged P))
+                    (multiples_in (kept_of P) (own_of (kept_of P) (turned_columns (columns_of t.basis) q least column)) (swapped q least (rows_of t')) m) il
+                    (record { p = pos 1; q = pos 1; p_positive = omega (arith, ints); q_positive = omega (arith, ints); same = λ k kl. ap (λ z. pos 1 *ℤ z) (sym (row_same i k il kl)) }) (m.rows_of i il);
+              }
+
+          closed_swapped : IsClosed t''
+          closed_swapped =
+              let e : spare_column t''.columns (positions t'') ≡ spare_column t'.columns (positions t') = omega (arith, mx, nx) in
+              let ql : q < positions t' = omega (arith, rows_after, q_low) in
+              let ll : least < positions t' = omega (arith, rows_after, found.inside) in
+              record {
+                free = λ i l x. c'.free (exchanged q least i) (exchanged_low q least i (positions t') ql ll (omega (arith, mx))) (sym (bx i) ∙ x ∙ e);
+                zero = λ i l.
+                    ap (rows_of t'' i) e ∙ rx i (spare_column t'.columns (positions t')) (omega (arith, mx)) (omega arith)
+                    ∙ c'.zero (exchanged q least i) (exchanged_in q least i (positions t') (omega arith) (omega arith) (omega (arith, mx)));
+              }
+
+          pub stays_beside : InBeside P q t''
+          stays_beside = record {
+            rows_are = mx ∙ rows_after;
+            columns_are = nx ∙ columns_after;
+            reached = (suc h.reached.0, turned_same P (suc h.reached.0) (path_basis P (turned_columns (columns_of t.basis) q least column) q) (path_basis P (columns_of t''.basis) q) same_path turn.0);
+            holds = record {
+              inside = q_low;
+              multiples =
+                  multiples_same (kept_of P) (own_of (kept_of P) (columns_of t''.basis)) (own_of (kept_of P) (turned_columns (columns_of t.basis) q least column)) (rows_of t'')
+                  (λ i il. own_same (kept_of P) (turned_columns (columns_of t.basis) q least column) (columns_of t''.basis) (λ j jl. sym (basis_swapped j)) i) multiples_after;
+              below = subst (λ z. z <ℤ pos 0) (sym (row_same q (P.n + P.m) (omega (arith, q_low)) (omega arith))) turn.1.below;
+            };
+            closed = closed_swapped;
+          }
+
+          -- ---- less turns are left
+          module _ (lt : t'.limit ≡ t.limit) (lx : t''.limit ≡ t'.limit) (small : IsSmall t) (small' : IsSmall t') where
+            row_q : (k : ℕ) → k < suc (suc (suc (P.n + P.m))) → rows_of t'' q k ≡ rows_of t' least k
+            row_q k l = row_same q k (omega (arith, q_low)) l ∙ ap (λ i. rows_of t' i k) (exchanged_q q least)
+
+            in_before : (k : ℕ) → k ≤ suc (suc (P.n + P.m)) → nat_abs (rows_of t q k) ≤ t.limit
+            in_before k l = small q k (omega (arith, q_in))
+
+            in_least : (k : ℕ) → k ≤ suc (suc (P.n + P.m)) → nat_abs (rows_of t' least k) ≤ t.limit
+            in_least k l = subst (λ x. nat_abs (rows_of t' least k) ≤ x) lt (small' least k (omega (arith, rows_after, found.inside)))
+
+            in_after : (k : ℕ) → k ≤ suc (suc (P.n + P.m)) → nat_abs (rows_of t'' q k) ≤ t.limit
+            in_after k l = subst (λ z. nat_abs z ≤ t.limit) (sym (row_q k (omega arith))) (in_least k l)
+
+            objective_same : (k : ℕ) → k < suc (suc (suc (P.n + P.m))) → beside_objective P (rows_of t' least) k ≡ beside_objective P (rows_of t'' q) k
+            objective_same k l =
+                ap (λ x. cond (nat_eq k (suc (P.n + P.m))) (neg_ℤ x) (cond (nat_eq k (P.n + P.m)) (pos 0) (rows_of t' least k))) (sym (row_q (P.n + P.m) (omega arith)))
+                ∙ ap (λ y. cond (nat_eq k (suc (P.n + P.m))) (neg_ℤ (rows_of t'' q (P.n + P.m))) (cond (nat_eq k (P.n + P.m)) (pos 0) y)) (sym (row_q k l))
+
+            within_least : IsWithin (auxiliary_of P) t.limit (beside_objective P (rows_of t' least))
+            within_least = beside_within P t.limit (rows_of t' least) least_in.below in_least
+
+            within_after : IsWithin (auxiliary_of P) t.limit (beside_objective P (rows_of t'' q))
+            within_after = beside_within P t.limit (rows_of t'' q) stays_beside.holds.below in_after
+
+            rank_same : rank (auxiliary_of P) t.limit (beside_objective P (rows_of t' least)) ≡ rank (auxiliary_of P) t.limit (beside_objective P (rows_of t'' q))
+            rank_same =
+                rank_parallel (auxiliary_of P) t.limit (beside_objective P (rows_of t' least)) (beside_objective P (rows_of t'' q)) (auxiliary_tagged P) within_least within_after
+                (record { p = pos 1; q = pos 1; p_positive = omega (arith, ints); q_positive = omega (arith, ints); same = λ k l. ap (λ z. pos 1 *ℤ z) (objective_same k l) })
+
+            rank_up : rank (auxiliary_of P) t.limit (beside_objective P (rows_of t q)) < rank (auxiliary_of P) t.limit (beside_objective P (rows_of t' least))
+            rank_up =
+                beside_rank P t.limit (path_basis P (columns_of t.basis) q) q (columns_of t.basis q) column least (rows_of t) (rows_of t') (holds_stands P (columns_of t.basis) q (rows_of t) h.holds) h.reached enters beside_pivot least_in in_before in_least
+
+            left_before : turns_left_beside q t ≡ rank_limit (auxiliary_of P) t.limit - rank (auxiliary_of P) t.limit (beside_objective P (rows_of t q))
+            left_before = ap (λ n. rank_left_beside n (positions t) q t) h.columns_are ∙ ap (λ m. rank_left_beside P.n m q t) h.rows_are
+
+            left_after : turns_left_beside q t'' ≡ rank_limit (auxiliary_of P) t.limit - rank (auxiliary_of P) t.limit (beside_objective P (rows_of t'' q))
+            left_after =
+                ap (λ n. rank_left_beside n (positions t'') q t'') (nx ∙ columns_after) ∙ ap (λ m. rank_left_beside P.n m q t'') (mx ∙ rows_after)
+                ∙ ap (λ l. rank_limit (auxiliary_of P) l - rank (auxiliary_of P) l (beside_objective P (rows_of t'' q))) (lx ∙ lt)
+
+            pub falls_beside : turns_left_beside q t'' < turns_left_beside q t
+            falls_beside =
+                subst (λ x. x < turns_left_beside q t) (sym left_after)
+                (subst (λ x. rank_limit (auxiliary_of P) t.limit - rank (auxiliary_of P) t.limit (beside_objective P (rows_of t'' q)) < x) (sym left_before)
+                (falls (rank_limit (auxiliary_of P) t.limit) (rank (auxiliary_of P) t.limit (beside_objective P (rows_of t q))) (rank (auxiliary_of P) t.limit (beside_objective P (rows_of t'' q)))
+                (subst (λ x. rank (auxiliary_of P) t.limit (beside_objective P (rows_of t q)) < x) rank_same rank_up)
+                (rank_below (auxiliary_of P) t.limit (beside_objective P (rows_of t'' q)) within_after)))
+
+-- no column comes in
+pub none_enters : (P : Program) (q : ℕ) (t : Table) → InBeside P q t → ((c : ℕ) → c < t.columns + positions t → pos 0 ≤ℤ rows_of t q c) → (k : ℕ) → k < P.n + P.m → pos 0 ≤ℤ rows_of t q k
+none_enters P q t h none k l = none k (omega (arith, h.rows_are, h.columns_are))

@@ -1,212 +1,337 @@
--- A turn of the dictionary is one of the program's path.
-use Rattle.std.proofs.Common.{◌≡◌, ◌≢◌, ℕ, zero, suc, ◌+◌, ◌-◌, ◌*◌, ◌<◌, ◌≤◌, sym, refl, ap, ◌∙◌, subst, arith, inl, inr, List, length, set, cond, eqb, min}
-use Rattle.std.proofs.lemmas.Int.{ints}
-use Rattle.std.proofs.lemmas.Bool.{cases_eq}
+-- A turn of the second phase on a dictionary is one of the path.
+use Rattle.std.proofs.Common.{◌≡◌, ◌≢◌, ℕ, suc, ◌+◌, ◌<◌, ◌≤◌, ◌-◌, sym, refl, ap, ◌∙◌, subst, arith, inl, inr, List, length, get_or, set, cond, nat_lt, nat_eq, zero, Some, None}
+use Rattle.std.proofs.lemmas.Bool.{cases_eq, cases_lt}
 use Rattle.std.proofs.lemmas.Bool.Decides.{nat_tests}
-use Rattle.std.proofs.lemmas.List.{get_or-set_same, get_or-set_other}
+use Rattle.std.proofs.lemmas.Int.{ints}
+use Rattle.std.proofs.lemmas.List.{get_or-set_same, get_or-set_other, length-set}
 use Rattle.std.specs.Int.RustNames.{unsigned_abs}
+use Rattle.std.specs.Int.{◌∣◌}
+use Rattle.std.specs.Prelude.{nat_abs}
+use Rattle.std.proofs.lemmas.Nat.Gcd.{dvd-zero}
 use lib.IntN.{ℤ, pos, ◌-ℤ◌, ◌*ℤ◌}
-use Rattle.rob_linear.specs.Vectors.{Matrix, Vector, Columns}
-use Rattle.rob_linear.specs.Systems.{IsTagged, IsCombined, IsPrimitive}
-use Rattle.rob_linear.specs.Programs.{Program, system_of}
-use Rattle.rob_linear.specs.Turns.{key, ComesBefore, Enters, Leaves, IsExchange, IsPivot, IsTurn, Rises, own_of, StandsWith, TurnsTo}
-use Rattle.rob_linear.specs.Paths.{Reached}
-use Rattle.rob_linear.specs.WideRows.{HasWideRow}
-use Rattle.rob_linear.proofs.Solutions.{tags_in, own_below}
-use Rattle.rob_linear.proofs.Pivots.{basis_pivotable, pivot_is_basis, row_of_other}
-use Rattle.rob_linear.proofs.Lexical.{lex_ext, turn_keeps_order, turn_rises}
-use Rattle.rob_linear.proofs.WideRows.{exchange_inside}
-use Rattle.rob_linear.proofs.Turns.{turn_exchange}
-use Rattle.rob_linear.specs.Rank.{rank, rank_limit}
-use Rattle.rob_linear.proofs.Endings.{own_positive}
-use Rattle.rob_rows.specs.PrimitiveParts.{IsWithin}
-use Rattle.rob_simplex.proofs.Ranks.{rank_falls}
+use lib.Signed.{◌<ℤ◌, ◌≤ℤ◌}
+use Rattle.rob_algebra.specs.Integer.{*ℤ_comm}
+use Rattle.rob_linear.specs.Vectors.{Vector, Matrix, Columns}
+use Rattle.rob_linear.specs.Systems.{System, IsTagged, right, IsPrimitive}
+use Rattle.rob_linear.specs.Programs.{Program, system_of, kept_of, auxiliary_place}
+use Rattle.rob_linear.specs.Turns.{Enters, Leaves, IsExchange, Rises, key, own_of, TurnsTo}
+use Rattle.rob_linear.specs.Rank.{rank, rank_limit, IsWithin}
+use Rattle.rob_linear.specs.Paths.{HasAuxiliary, Turned, Reached, auxiliary_column}
+use Rattle.rob_linear.specs.WideRows.{HasWideEntry, IsWideIn, HasWideRow}
+use Rattle.rob_linear.specs.Multiples.{IsParallel, IsClearedBy, IsMultiplePivot, IsPivotableMultiple, HasMultipleRows, StandsMultiple}
+use Rattle.rob_linear.specs.Beside.{without_column}
 use Rattle.rob_linear.proofs.Starts.{system_tagged}
-use Rattle.rob_linear.proofs.TwoPhases.{stands_without}
-use Rattle.rob_simplex.specs.Tables.{cleared, ClearsTo, IsPivoted, IsWidePivot}
-use Rattle.rob_simplex.specs.Dictionaries.{shape, rows_of, columns_of}
-use Rattle.rob_simplex.specs.Turning.{IsChosen}
-use Rattle.rob_simplex.specs.Phases.{IsUnused, InSecond}
-use Rattle.rob_simplex.proofs.Combined.{clears_combined, own_left, combined_zero, combined_shorter, primitive_longer}
+use Rattle.rob_linear.proofs.Turns.{own_low}
+use Rattle.rob_linear.proofs.WithoutColumn.{enters_without, leaves_without, cleared_without, parallel_without}
+use Rattle.rob_linear.proofs.CondensedNumbers.{primitive_without}
+use Rattle.rob_linear.proofs.Measure.{rank_rises, rank_below}
+use Rattle.rob_linear.proofs.Multiples.{factors_clear, pivot_wide, multiple_turn}
+use Rattle.rob_linear.proofs.MultiplePaths.{path_turn}
+use Rattle.rob_rows.specs.Updates.{IsWideCleared}
+use Rattle.rob_simplex.specs.Dictionaries.{Table, positions, width_of, columns_of, basic_columns, right_column, spare_column, shape, rows_of, IsFree, IsClosed, IsPivoted, FirstNegative}
+use Rattle.rob_simplex.specs.Phases.{InSecond, EndsIn, rank_left, turns_left}
+use Rattle.rob_simplex.proofs.Replacing.{basic_low, basic_high}
+use Rattle.rob_simplex.proofs.PivotLemmas.{zero_stays}
 
--- ---- the places of all programs of one size are the same
-shape_key : (P : Program) (r : Vector) (k : ℕ) → key (shape P.n P.m) r k ≡ key (system_of P) r k
-shape_key P r zero = refl
-shape_key P r (suc k) = refl
+place_low : (P : Program) (k : ℕ) → k < P.n + P.m → auxiliary_place P k ≡ k
+place_low P k l = grind (arith, nat_tests)
 
-pub shape_before : (P : Program) (a : Vector) (p : ℤ) (b : Vector) (q : ℤ) → ComesBefore (system_of P) a p b q → ComesBefore (shape P.n P.m) a p b q
-shape_before P a p b q h =
-    lex_ext (suc P.m) (λ k. (p *ℤ key (system_of P) b k) -ℤ (q *ℤ key (system_of P) a k)) (λ k. (p *ℤ key (shape P.n P.m) b k) -ℤ (q *ℤ key (shape P.n P.m) a k))
-    (λ k kl. ap (λ t. (p *ℤ t) -ℤ (q *ℤ key (system_of P) a k)) (sym (shape_key P b k)) ∙ ap (λ t. (p *ℤ key (shape P.n P.m) b k) -ℤ (q *ℤ t)) (sym (shape_key P a k))) h
+place_high : (P : Program) (k : ℕ) → P.n + P.m ≤ k → auxiliary_place P k ≡ suc k
+place_high P k l = grind (arith, nat_tests)
 
-pub shape_enters : (P : Program) (rows : Matrix) (column : ℕ) → Enters (shape P.n P.m) rows column → Enters (system_of P) rows column
-shape_enters P rows column h = record { inside = h.inside; improving = h.improving; first = h.first }
+own_last : (P : Program) (basis : Columns) → own_of (system_of P) basis P.m ≡ P.n + P.m
+own_last P basis = grind (arith, nat_tests)
 
-pub shape_leaves : (P : Program) (rows : Matrix) (column row : ℕ) → Leaves (shape P.n P.m) rows column row → Leaves (system_of P) rows column row
-shape_leaves P rows column row h = record {
-  inside = h.inside;
-  positive = h.positive;
-  first = λ i il p b. h.first i il p (shape_before P (rows i) (rows i column) (rows row) (rows row column) b);
+-- less columns
+pub shorter : (n n' column : ℕ) (low top new : Vector) → n' ≤ n → IsClearedBy n column low top new → IsClearedBy n' column low top new
+shorter n n' column low top new l c = record {
+  divisor = c.divisor;
+  p = c.p;
+  q = c.q;
+  divides = c.divides;
+  positive = c.positive;
+  entries = λ k kl. c.entries k (omega arith);
+  cleared = c.cleared;
 }
 
--- the basis after a turn
-pub columns_kept : (basis : List ℕ) (row column i : ℕ) → i ≢ row → columns_of (set basis row column) i ≡ columns_of basis i
-columns_kept basis row column i d = get_or-set_other basis row i column 0 d
+-- no number of the rows is over the limit
+abbrev pub IsSmall : Table → Type 0
+IsSmall t = (i c : ℕ) → i ≤ positions t → nat_abs (rows_of t i c) ≤ t.limit
 
-pub columns_new : (basis : List ℕ) (row column : ℕ) → row < length basis → columns_of (set basis row column) row ≡ column
-columns_new basis row column l = get_or-set_same basis row column 0 l
+-- so the objective's row is one of those that are ranked
+within_second : (P : Program) (t : Table) → InSecond P t → IsSmall t → IsWithin (system_of P) t.limit (without_column P (rows_of t) P.m)
+within_second P t h small = record {
+  keys = λ k l. key_in k;
+  positive = subst (λ k. pos 0 <ℤ without_column P (rows_of t) P.m k) (own_last P (columns_of t.basis)) (h.stands.multiples.rows_of P.m (omega arith)).positive;
+  objective_in = small P.m (auxiliary_place P (P.n + P.m)) (omega (arith, h.rows_are));
+}
+  where
+    key_in : (k : ℕ) → nat_abs (key (system_of P) (without_column P (rows_of t) P.m) k) ≤ t.limit
+    key_in zero = small P.m (auxiliary_place P (suc (P.n + P.m))) (omega (arith, h.rows_are))
+    key_in (suc k) = small P.m (auxiliary_place P (P.n + k)) (omega (arith, h.rows_are))
 
-pub columns_set : (basis : List ℕ) (row column i : ℕ) → row < length basis → columns_of (set basis row column) i ≡ cond (eqb i row) column (columns_of basis i)
-columns_set basis row column i l =
-    elim (cases_eq i row) [
-      | inl e ↦
-          let f : cond (eqb i row) column (columns_of basis i) ≡ column = grind (arith, nat_tests) in
-          ap (columns_of (set basis row column)) e ∙ get_or-set_same basis row column 0 l ∙ sym f
-      | inr d ↦
-          let f : cond (eqb i row) column (columns_of basis i) ≡ columns_of basis i = grind (arith, nat_tests) in
-          get_or-set_other basis row i column 0 d ∙ sym f
-    ]
+left_is : (P : Program) (t : Table) → InSecond P t → turns_left t ≡ rank_limit (system_of P) t.limit - rank (system_of P) t.limit (without_column P (rows_of t) P.m)
+left_is P t h = ap (λ n. rank_left n (positions t) t) h.columns_are ∙ ap (λ m. rank_left P.n m t) h.rows_are
 
-module _ (P : Program) (basis basis' : List ℕ) (table : List ℤ) (row column : ℕ) (h : InSecond P basis table) (size : length basis ≡ P.m) (chosen : IsChosen P.n P.m basis basis' table row column) where
-  rows : Matrix
-  rows = rows_of P.n P.m table
+pub falls : (top a b : ℕ) → a < b → b < top → top - b < top - a
+falls top a b l u = omega arith
 
-  row_in : row < P.m
-  row_in = chosen.leaves.inside
+module _ (P : Program) (t : Table) (h : InSecond P t) where
+  abbrev S : System
+  S = system_of P
 
-  column_in : column < P.n + P.m
-  column_in = chosen.enters.inside
+  own_is : (i : ℕ) → i < P.m → own_of (system_of P) (columns_of t.basis) i ≡ columns_of t.basis i
+  own_is i l = own_low (system_of P) (columns_of t.basis) i l
 
-  abbrev before : Columns
-  before = columns_of basis
+  column_in : (i : ℕ) → i < P.m → columns_of t.basis i < P.n + P.m
+  column_in i l = subst (λ k. k < P.n + P.m) (own_is i l) (h.stands.multiples.inside i l)
 
-  abbrev after : Columns
-  after = columns_of basis'
+  -- the objective's row is 0 in the basic columns, and positive in its own
+  basic_zero : (i : ℕ) → i < P.m → rows_of t P.m (columns_of t.basis i) ≡ pos 0
+  basic_zero i l =
+      let z = (h.stands.multiples.rows_of P.m (omega arith)).along.zeros i (omega arith) (λ e. absurd (omega arith)) in
+      let p : auxiliary_place P (own_of (system_of P) (columns_of t.basis) i) ≡ columns_of t.basis i = ap (auxiliary_place P) (own_is i l) ∙ place_low P (columns_of t.basis i) (column_in i l) in
+      ap (rows_of t P.m) (sym p) ∙ z
 
-  pub turns_to : TurnsTo (system_of P) (columns_of basis) (columns_of basis')
-  turns_to = record {
-    rows = rows_of P.n P.m table;
-    position = row;
-    column = column;
-    is_basis = h.stands.is_basis;
-    enters = shape_enters P (rows_of P.n P.m table) column chosen.enters;
-    leaves = shape_leaves P (rows_of P.n P.m table) column row chosen.leaves;
-    exchanged = λ i l. ap (λ t. columns_of t i) chosen.basis_is ∙ columns_set basis row column i (let r : row < P.m = row_in in omega arith);
-  }
+  pub objective_positive : pos 0 <ℤ rows_of t P.m (suc (P.n + P.m))
+  objective_positive =
+      let p = (h.stands.multiples.rows_of P.m (omega arith)).positive in
+      let e : auxiliary_place P (own_of (system_of P) (columns_of t.basis) P.m) ≡ suc (P.n + P.m) = ap (auxiliary_place P) (own_last P (columns_of t.basis)) ∙ place_high P (P.n + P.m) (omega arith) in
+      subst (λ k. pos 0 <ℤ rows_of t P.m k) e p
 
-  exchange : IsExchange (system_of P) (own_of (system_of P) (columns_of basis)) (own_of (system_of P) (columns_of basis')) (rows_of P.n P.m table) row column
-  unfolding turns_to
-  exchange = turn_exchange (system_of P) (columns_of basis) (columns_of basis') turns_to
+  pub own_nonneg : pos 0 ≤ℤ rows_of t (positions t) (basic_columns t.columns t.basis (positions t))
+  own_nonneg =
+      let e : basic_columns t.columns t.basis (positions t) ≡ suc (P.n + P.m) = basic_high t.columns t.basis (positions t) (omega arith) ∙ ap suc (omega (arith, h.rows_are, h.columns_are)) in
+      let p : pos 0 <ℤ rows_of t P.m (suc (P.n + P.m)) = objective_positive in
+      let q : pos 0 ≤ℤ rows_of t P.m (suc (P.n + P.m)) = omega (arith, ints) in
+      subst (λ i. pos 0 ≤ℤ rows_of t i (basic_columns t.columns t.basis (positions t))) (sym h.rows_are) (subst (λ k. pos 0 ≤ℤ rows_of t P.m k) (sym e) q)
 
-  pub reached_next : Reached P (columns_of basis')
-  reached_next = (suc h.reached.0, (columns_of basis, h.reached.1, inr (stands_without P (columns_of basis) (rows_of P.n P.m table) h.stands, turns_to)))
+  size_is : t.columns + positions t ≡ P.n + P.m
+  size_is = omega (arith, h.rows_are, h.columns_are)
 
-  own_in : (i : ℕ) → i ≤ P.m → own_of (system_of P) (columns_of basis) i < suc (P.n + P.m)
-  own_in i l = own_below (system_of P) (own_of (system_of P) (columns_of basis)) (rows_of P.n P.m table) h.stands.is_basis i l
+  module _ (column : ℕ) (first' : FirstNegative (t.columns + positions t) (rows_of t (positions t)) column) where
+    first : FirstNegative (P.n + P.m) (rows_of t P.m) column
+    first = subst (λ k. FirstNegative k (rows_of t P.m) column) size_is (subst (λ i. FirstNegative (t.columns + positions t) (rows_of t i) column) h.rows_are first')
 
-  -- a row that is not the leaving one is not cleared away
-  left : (i : ℕ) → i ≤ P.m → i ≢ row → cleared column (rows_of P.n P.m table i) (rows_of P.n P.m table row) (own_of (system_of P) (columns_of basis) i) ≢ pos 0
-  left i l d =
-      let r : row < P.m = row_in in
-      own_left column (own_of (system_of P) (columns_of basis) i) (rows_of P.n P.m table i) (rows_of P.n P.m table row) chosen.leaves.positive (h.stands.is_basis.rows_of i l).positive ((h.stands.is_basis.rows_of row (omega arith)).zeros i l d)
+    low : column < P.n + P.m
+    low = first.inside
 
-  -- a combined row, which is 0 in the auxiliary column, is one of the program's places
-  short : (new : Vector) (i : ℕ) → i ≤ P.m → IsCombined (P.n + P.m + 3) (rows_of P.n P.m table row column) (rows_of P.n P.m table i) (rows_of P.n P.m table i column) (rows_of P.n P.m table row) new
-      → (new (P.n + P.m + 2) ≡ pos 0) × IsCombined (suc (suc (P.n + P.m))) (rows_of P.n P.m table row column) (rows_of P.n P.m table i) (rows_of P.n P.m table i column) (rows_of P.n P.m table row) new
-  short new i l c =
-      let r : row < P.m = row_in in
-      let w : P.n + P.m + 3 ≡ suc (P.n + P.m + 2) = omega arith in
-      let v : P.n + P.m + 2 ≡ suc (suc (P.n + P.m)) = omega arith in
-      let z : new (P.n + P.m + 2) ≡ pos 0 =
-      combined_zero (P.n + P.m + 3) (rows_of P.n P.m table row column) (rows_of P.n P.m table i column) (rows_of P.n P.m table i) (rows_of P.n P.m table row) new (P.n + P.m + 2) c (omega arith) (h.unused.column i l) (h.unused.column row (omega arith)) in (
-        z,
-        subst (λ t. IsCombined t (rows_of P.n P.m table row column) (rows_of P.n P.m table i) (rows_of P.n P.m table i column) (rows_of P.n P.m table row) new) v
-            (combined_shorter (P.n + P.m + 2) (rows_of P.n P.m table row column) (rows_of P.n P.m table i column) (rows_of P.n P.m table i) (rows_of P.n P.m table row) new
-            (subst (λ t. IsCombined t (rows_of P.n P.m table row column) (rows_of P.n P.m table i) (rows_of P.n P.m table i column) (rows_of P.n P.m table row) new) w c) z),
-      )
-
-  long_combined : (new : Vector) (i : ℕ) → i ≤ P.m → i ≢ row → ClearsTo (P.n + P.m + 3) column (rows_of P.n P.m table i) (rows_of P.n P.m table row) new
-      → IsCombined (P.n + P.m + 3) (rows_of P.n P.m table row column) (rows_of P.n P.m table i) (rows_of P.n P.m table i column) (rows_of P.n P.m table row) new
-  long_combined new i l d c =
-      let k : own_of (system_of P) (columns_of basis) i < suc (P.n + P.m) = own_in i l in
-      let cl : column < P.n + P.m = column_in in
-      let w : suc (suc (suc (P.n + P.m))) ≡ P.n + P.m + 3 = omega arith in
-      clears_combined (P.n + P.m + 3) column (rows_of P.n P.m table i) (rows_of P.n P.m table row) new (own_of (system_of P) (columns_of basis) i) (omega arith) (omega arith) chosen.leaves.positive (left i l d)
-      (subst (λ t. IsPrimitive t (rows_of P.n P.m table i)) w (primitive_longer (suc (suc (P.n + P.m))) (rows_of P.n P.m table i) (h.stands.is_basis.rows_of i l).primitive)) c
-
-  -- ---- the rows that the pivot makes
-  module _ (table' : List ℤ) (pivoted : IsPivoted (P.m + 2) (P.n + P.m + 3) row column (rows_of P.n P.m table) (rows_of P.n P.m table')) where
-    pivot : IsPivot (system_of P) (own_of (system_of P) (columns_of basis)) (own_of (system_of P) (columns_of basis')) (rows_of P.n P.m table) (rows_of P.n P.m table') row column
-    pivot = record {
-      exchange = exchange;
-      row_at = λ k l. pivoted.row_stays k (omega arith);
-      row_other = λ i l d. (short (rows_of P.n P.m table' i) i l (long_combined (rows_of P.n P.m table' i) i l d (pivoted.row_other i (omega arith) d))).1;
-    }
-
-    turn : IsTurn (system_of P) (own_of (system_of P) (columns_of basis)) (own_of (system_of P) (columns_of basis')) (rows_of P.n P.m table) (rows_of P.n P.m table') row column
-    unfolding turns_to
-    turn = record { pivot = pivot; enters = turns_to.enters; leaves = turns_to.leaves }
-
-    stands_next : StandsWith (system_of P) (columns_of basis') (rows_of P.n P.m table')
-    stands_next =
-        let g : IsTagged (system_of P) = system_tagged P in
-        let r : row < P.m = row_in in
-        record {
-          is_basis = pivot_is_basis (system_of P) (own_of (system_of P) (columns_of basis)) (own_of (system_of P) (columns_of basis')) (rows_of P.n P.m table) (rows_of P.n P.m table') row column (tags_in (system_of P) g) (basis_pivotable (system_of P) (own_of (system_of P) (columns_of basis)) (rows_of P.n P.m table) row (omega arith) h.stands.is_basis) pivot;
-          feasible = turn_keeps_order (system_of P) (own_of (system_of P) (columns_of basis)) (own_of (system_of P) (columns_of basis')) (rows_of P.n P.m table) (rows_of P.n P.m table') row column (tags_in (system_of P) g) g.last h.stands.is_basis h.stands.feasible turn;
-        }
-
-    unused_next : IsUnused P.n P.m table'
-    unused_next = record {
-      column = λ i l. elim (cases_eq i row) [
-        | inl e ↦ ap (λ t. rows_of P.n P.m table' t (P.n + P.m + 2)) e ∙ pivoted.row_stays (P.n + P.m + 2) (omega arith) ∙ h.unused.column row (let r : row < P.m = row_in in omega arith)
-        | inr d ↦ (short (rows_of P.n P.m table' i) i l (long_combined (rows_of P.n P.m table' i) i l d (pivoted.row_other i (omega arith) d))).0
+    pub entering_free : IsFree t.columns t.basis column
+    entering_free = record {
+      inside = omega (arith, size_is, low);
+      not_basic = λ i il e. elim (cases_lt i (positions t)) [
+        | inl l ↦
+            let im : i < P.m = omega (arith, h.rows_are) in
+            let z : rows_of t P.m column ≡ pos 0 = ap (rows_of t P.m) (sym e ∙ basic_low t.columns t.basis i l) ∙ basic_zero i im in
+            let n : rows_of t P.m column <ℤ pos 0 = first.negative in
+            omega (arith, ints)
+        | inr l ↦ let x : suc (t.columns + positions t) ≡ column = sym (basic_high t.columns t.basis i l) ∙ e in omega (arith, size_is, low)
       ];
-      row = λ k l.
-          let r : row < P.m = row_in in
-          let cl : column < P.n + P.m = column_in in
-          (pivoted.row_other (suc P.m) (omega arith) (omega arith)).stays (h.unused.row column (omega arith)) k l ∙ h.unused.row k l;
+      not_right = λ e. absurd (omega (arith, size_is, low));
     }
 
-    pub second_next : InSecond P basis' table'
-    second_next = record { reached = reached_next; stands = stands_next; unused = unused_next }
+    pub not_spare : column ≢ spare_column t.columns (positions t)
+    not_spare e = absurd (omega (arith, size_is, low))
 
-    pub second_rises : Rises (system_of P) (rows_of P.n P.m table P.m) (rows_of P.n P.m table' P.m)
-    second_rises = turn_rises (system_of P) (own_of (system_of P) (columns_of basis)) (own_of (system_of P) (columns_of basis')) (rows_of P.n P.m table) (rows_of P.n P.m table') row column (system_tagged P) h.stands.is_basis h.stands.feasible turn
+    enters : Enters (system_of P) (without_column P (rows_of t)) column
+    enters = enters_without P (rows_of t) column low first.negative first.first
 
-  -- a row that would be wide is one of the basis that the turn leads to
-  pub second_wide : (limit i : ℕ) → IsWidePivot limit (P.m + 2) (P.n + P.m + 3) row column (rows_of P.n P.m table) i → HasWideRow limit P (columns_of basis') (min i P.m)
-  second_wide limit i w =
-      let r : row < P.m = row_in in
-      let cl : column < P.n + P.m = column_in in
-      let ii : i < P.m + 2 = w.inside in
-      let d : i ≢ suc P.m = (λ e. w.wide.touched (ap (λ t. rows_of P.n P.m table t column) e ∙ h.unused.row column (omega arith))) in
-      let il : i ≤ P.m = omega arith in
-      let k : own_of (system_of P) (columns_of basis) i < suc (P.n + P.m) = own_in i il in
-      let x : (new : Vector) × IsCombined (P.n + P.m + 3) (rows_of P.n P.m table row column) (rows_of P.n P.m table i) (rows_of P.n P.m table i column) (rows_of P.n P.m table row) new × ((j : ℕ) × (j < P.n + P.m + 3) × (limit < unsigned_abs (new j))) =
-      w.wide.wide (own_of (system_of P) (columns_of basis) i) (omega arith) (left i il w.other) in
-      let jl : x.2.0 < P.n + P.m + 3 = x.2.1 in
-      let jw : limit < unsigned_abs (x.0 x.2.0) = x.2.2 in
-      let s = short x.0 i il x.1 in
-      let e : x.2.0 ≢ P.n + P.m + 2 = (λ c. let z : x.0 x.2.0 ≡ pos 0 = ap x.0 c ∙ s.0 in omega (arith, ints)) in
-      let m_is : min i P.m ≡ i = omega arith in
-      subst (λ t. HasWideRow limit P (columns_of basis') t) (sym m_is) record {
-        reached = reached_next;
-        wide =
-            inl (
-              x.0,
-              exchange_inside (system_of P) (own_of (system_of P) (columns_of basis)) (columns_of basis') (rows_of P.n P.m table) row column h.stands.is_basis.inside exchange,
-              row_of_other (system_of P) (own_of (system_of P) (columns_of basis)) (own_of (system_of P) (columns_of basis')) (rows_of P.n P.m table) x.0 row column i (tags_in (system_of P) (system_tagged P)) (basis_pivotable (system_of P) (own_of (system_of P) (columns_of basis)) (rows_of P.n P.m table) row (omega arith) h.stands.is_basis) exchange il w.other s.1,
-              (x.2.0, omega arith, x.2.2),
-            );
+    module _ (row : ℕ) (leaves' : Leaves (shape t.columns (positions t)) (rows_of t) column row) where
+      leaves_kept : Leaves (kept_of P) (rows_of t) column row
+      leaves_kept =
+          let l : Leaves (shape P.n P.m) (rows_of t) column row = subst (λ n. Leaves (shape n P.m) (rows_of t) column row) h.columns_are (subst (λ m. Leaves (shape t.columns m) (rows_of t) column row) h.rows_are leaves') in
+          record { inside = l.inside; positive = l.positive; first = l.first }
+
+      leaves : Leaves (system_of P) (without_column P (rows_of t)) column row
+      leaves = leaves_without P (rows_of t) column row low leaves_kept
+
+      row_low : row < P.m
+      row_low = leaves_kept.inside
+
+      abbrev next : List ℕ
+      next = set t.basis row column
+
+      next_at : columns_of (set t.basis row column) row ≡ column
+      next_at = get_or-set_same t.basis row column 0 (omega (arith, h.rows_are, row_low))
+
+      next_other : (i : ℕ) → i ≢ row → columns_of (set t.basis row column) i ≡ columns_of t.basis i
+      next_other i d = get_or-set_other t.basis row i column 0 d
+
+      own_next : (i : ℕ) → i ≢ row → own_of (system_of P) (columns_of (set t.basis row column)) i ≡ own_of (system_of P) (columns_of t.basis) i
+      own_next i d = ap (λ k. cond (nat_lt i P.m) k (P.n + P.m)) (next_other i d)
+
+      exchange : IsExchange (system_of P) (own_of (system_of P) (columns_of t.basis)) (own_of (system_of P) (columns_of (set t.basis row column))) (without_column P (rows_of t)) row column
+      exchange = record {
+        row_in = row_low;
+        col_in = low;
+        entry = leaves.positive;
+        own_at = own_low (system_of P) (columns_of (set t.basis row column)) row row_low ∙ next_at;
+        own_other = own_next;
       }
 
--- the measure of the loop falls
-pub second_falls : (P : Program) (basis basis' : List ℕ) (table table' : List ℤ) (row column limit : ℕ) → InSecond P basis table → length basis ≡ P.m → IsChosen P.n P.m basis basis' table row column → IsPivoted (P.m + 2) (P.n + P.m + 3) row column (rows_of P.n P.m table) (rows_of P.n P.m table')
-    → length table ≡ (P.m + 2) * (P.n + P.m + 3) → length table' ≡ (P.m + 2) * (P.n + P.m + 3) → IsWithin limit table → IsWithin limit table'
-    → rank_limit (shape P.n P.m) limit - rank (shape P.n P.m) limit (rows_of P.n P.m table' P.m) < rank_limit (shape P.n P.m) limit - rank (shape P.n P.m) limit (rows_of P.n P.m table P.m)
-second_falls P basis basis' table table' row column limit h size chosen pivoted ts ts' w w' =
-    let h' : InSecond P basis' table' = second_next P basis basis' table row column h size chosen table' pivoted in
-    rank_falls limit P.n P.m table table' ts ts' w w' (own_positive (system_of P) (own_of (system_of P) (columns_of basis)) (rows_of P.n P.m table) h.stands.is_basis)
-    (own_positive (system_of P) (own_of (system_of P) (columns_of basis')) (rows_of P.n P.m table') h'.stands.is_basis)
-    (shape_before P (rows_of P.n P.m table P.m) (rows_of P.n P.m table P.m (P.n + P.m)) (rows_of P.n P.m table' P.m) (rows_of P.n P.m table' P.m (P.n + P.m)) (second_rises P basis basis' table row column h size chosen table' pivoted))
+      -- the auxiliary column does not come back
+      stays_out : ¬ (HasAuxiliary P (columns_of (set t.basis row column)))
+      stays_out a = elim (cases_eq a.0 row) [
+        | inl e ↦ let x : P.n + P.m ≡ column = a.2 ∙ ap (columns_of (set t.basis row column)) e ∙ next_at in omega (arith, low)
+        | inr d ↦ h.without (a.0, a.1, a.2 ∙ next_other a.0 d)
+      ]
+
+      multiple_pivot : (rows' : Matrix) → IsParallel (suc (right (system_of P))) (rows' row) (without_column P (rows_of t) row)
+          → ((i : ℕ) → i ≤ P.m → i ≢ row → IsClearedBy (suc (right (system_of P))) column (without_column P (rows_of t) i) (without_column P (rows_of t) row) (rows' i))
+          → IsMultiplePivot (system_of P) (own_of (system_of P) (columns_of t.basis)) (own_of (system_of P) (columns_of (set t.basis row column))) (without_column P (rows_of t)) rows' row column
+      multiple_pivot rows' row_at row_other = record { exchange = exchange; row_at = row_at; row_other = row_other }
+
+      turned : (rows' : Matrix) → IsParallel (suc (right (system_of P))) (rows' row) (without_column P (rows_of t) row)
+          → ((i : ℕ) → i ≤ P.m → i ≢ row → IsClearedBy (suc (right (system_of P))) column (without_column P (rows_of t) i) (without_column P (rows_of t) row) (rows' i))
+          → Turned P (suc h.reached.0) (columns_of (set t.basis row column)) × StandsMultiple (system_of P) (columns_of (set t.basis row column)) rows'
+      turned rows' row_at row_other =
+          path_turn P h.reached.0 (columns_of t.basis) (columns_of (set t.basis row column)) (without_column P (rows_of t)) rows' row column h.reached.1 h.without h.stands enters leaves
+          (multiple_pivot rows' row_at row_other)
+
+      -- ---- the dictionary after the turn
+      row_turned : (t' : Table) → IsPivoted t t' row column → IsParallel (suc (right (system_of P))) (without_column P (rows_of t') row) (without_column P (rows_of t) row)
+      row_turned t' p =
+          let w : width_of t ≡ suc (suc (suc (suc (P.n + P.m)))) = omega (arith, size_is) in
+          parallel_without P (rows_of t' row) (rows_of t row) (record { p = p.row_at.p; q = p.row_at.q; p_positive = p.row_at.p_positive; q_positive = p.row_at.q_positive; same = λ k l. p.row_at.same k (omega arith) })
+
+      others_turned : (t' : Table) → IsPivoted t t' row column → (i : ℕ) → i ≤ P.m → i ≢ row
+          → IsClearedBy (suc (right (system_of P))) column (without_column P (rows_of t) i) (without_column P (rows_of t) row) (without_column P (rows_of t') i)
+      others_turned t' p i il d =
+          let w : width_of t ≡ suc (suc (suc (suc (P.n + P.m)))) = omega (arith, size_is) in
+          cleared_without P column (rows_of t i) (rows_of t row) (rows_of t' i) low (shorter (width_of t) (suc (suc (suc (P.n + P.m)))) column (rows_of t i) (rows_of t row) (rows_of t' i) (omega arith) (p.row_other i (omega (arith, h.rows_are)) d))
+
+      risen : (t' : Table) → IsPivoted t t' row column → Rises (system_of P) (without_column P (rows_of t) P.m) (without_column P (rows_of t') P.m)
+      risen t' p =
+          (multiple_turn (system_of P) (columns_of t.basis) (columns_of (set t.basis row column)) (without_column P (rows_of t)) (without_column P (rows_of t')) row column (system_tagged P) h.stands enters leaves
+          (multiple_pivot (without_column P (rows_of t')) (row_turned t' p) (others_turned t' p))).2
+
+      pub turn_second : (t' : Table) → IsPivoted t t' row column → IsClosed t' → t'.basis ≡ set t.basis row column → t'.columns ≡ t.columns → InSecond P t'
+      turn_second t' p c eb en =
+          let w : width_of t ≡ suc (suc (suc (suc (P.n + P.m)))) = omega (arith, size_is) in
+          let k = turned (without_column P (rows_of t')) (row_turned t' p) (others_turned t' p) in
+          record {
+            rows_are = ap length eb ∙ length-set t.basis row column ∙ h.rows_are;
+            columns_are = en ∙ h.columns_are;
+            reached = subst (λ (b : List ℕ). Reached P (columns_of b)) (sym eb) (suc h.reached.0, k.0);
+            without = subst (λ (b : List ℕ). ¬ (HasAuxiliary P (columns_of b))) (sym eb) stays_out;
+            stands = subst (λ (b : List ℕ). StandsMultiple (system_of P) (columns_of b) (without_column P (rows_of t'))) (sym eb) k.1;
+            empty = λ i il. elim (cases_eq i row) [
+              | inl e ↦
+                  subst (λ (x : ℕ). rows_of t' x (P.n + P.m) ≡ pos 0) (sym e)
+                  (zero_stays p.row_at.p (pos 0) p.row_at.q (rows_of t' row (P.n + P.m)) (pos 0) (rows_of t row (P.n + P.m)) p.row_at.p_positive
+                  (p.row_at.same (P.n + P.m) (omega arith) ∙ row_zero p.row_at.q (rows_of t row (P.n + P.m)) (h.empty row (omega (arith, row_low)))) refl (h.empty row (omega (arith, row_low))))
+              | inr d ↦
+                  let x = p.row_other i (omega (arith, h.rows_are)) d in
+                  zero_stays x.divisor x.p x.q (rows_of t' i (P.n + P.m)) (rows_of t i (P.n + P.m)) (rows_of t row (P.n + P.m)) x.divides (x.entries (P.n + P.m) (omega arith)) (h.empty i il) (h.empty row (omega (arith, row_low)))
+            ];
+            closed = c;
+          }
+        where
+          row_zero : (q b : ℤ) → b ≡ pos 0 → q *ℤ b ≡ (pos 0 *ℤ pos 0) -ℤ (q *ℤ b)
+          row_zero q b e = ap (λ x. q *ℤ x) e ∙ (let z : q *ℤ pos 0 ≡ pos 0 = omega (arith, ints) in z) ∙ sym (ap (λ x. (pos 0 *ℤ pos 0) -ℤ (q *ℤ x)) e ∙ (let z : (pos 0 *ℤ pos 0) -ℤ (q *ℤ pos 0) ≡ pos 0 = omega (arith, ints) in z))
+
+      -- ---- less turns are left
+      pub turns_fall : (t' : Table) → IsPivoted t t' row column → IsClosed t' → t'.basis ≡ set t.basis row column → t'.columns ≡ t.columns → t'.limit ≡ t.limit → IsSmall t → IsSmall t' → turns_left t' < turns_left t
+      turns_fall t' p c eb en el small small' =
+          let h' : InSecond P t' = turn_second t' p c eb en in
+          let w : IsWithin (system_of P) t.limit (without_column P (rows_of t) P.m) = within_second P t h small in
+          let w' : IsWithin (system_of P) t.limit (without_column P (rows_of t') P.m) = subst (λ l. IsWithin (system_of P) l (without_column P (rows_of t') P.m)) el (within_second P t' h' small') in
+          let low : rank (system_of P) t.limit (without_column P (rows_of t) P.m) < rank (system_of P) t.limit (without_column P (rows_of t') P.m) =
+          rank_rises (system_of P) t.limit (without_column P (rows_of t) P.m) (without_column P (rows_of t') P.m) w w' (risen t' p) in
+          let high : rank (system_of P) t.limit (without_column P (rows_of t') P.m) < rank_limit (system_of P) t.limit = rank_below (system_of P) t.limit (without_column P (rows_of t') P.m) w' in
+          let e : turns_left t ≡ rank_limit (system_of P) t.limit - rank (system_of P) t.limit (without_column P (rows_of t) P.m) = left_is P t h in
+          let e' : turns_left t' ≡ rank_limit (system_of P) t.limit - rank (system_of P) t.limit (without_column P (rows_of t') P.m) =
+          left_is P t' h' ∙ ap (λ l. rank_limit (system_of P) l - rank (system_of P) l (without_column P (rows_of t') P.m)) el in
+          subst (λ x. x < turns_left t) (sym e') (subst (λ x. rank_limit (system_of P) t.limit - rank (system_of P) t.limit (without_column P (rows_of t') P.m) < x) (sym e)
+          (falls (rank_limit (system_of P) t.limit) (rank (system_of P) t.limit (without_column P (rows_of t) P.m)) (rank (system_of P) t.limit (without_column P (rows_of t') P.m)) low high))
+
+      -- ---- a row that would be wide
+      abbrev R : Matrix
+      R = without_column P (rows_of t)
+
+      next_rows : Matrix
+      next_rows i k = cond (nat_eq i row) (without_column P (rows_of t) row k) ((without_column P (rows_of t) row column *ℤ without_column P (rows_of t) i k) -ℤ (without_column P (rows_of t) i column *ℤ without_column P (rows_of t) row k))
+
+      next_row : (k : ℕ) → next_rows row k ≡ without_column P (rows_of t) row k
+      unfolding next_rows
+      next_row k = grind (arith, nat_tests)
+
+      other_row : (i : ℕ) → i ≢ row → (k : ℕ)
+          → next_rows i k ≡ (without_column P (rows_of t) row column *ℤ without_column P (rows_of t) i k) -ℤ (without_column P (rows_of t) i column *ℤ without_column P (rows_of t) row k)
+      unfolding next_rows
+      other_row i d k = grind (arith, nat_tests)
+
+      pub next_reached : Reached P (columns_of (set t.basis row column))
+      next_reached =
+          let k = turned next_rows
+          (record { p = pos 1; q = pos 1; p_positive = omega (arith, ints); q_positive = omega (arith, ints); same = λ k l. ap (λ x. pos 1 *ℤ x) (next_row k) })
+          (λ i il d. factors_clear (suc (right (system_of P))) column (without_column P (rows_of t) i) (without_column P (rows_of t) row) (next_rows i) (without_column P (rows_of t) row column) (without_column P (rows_of t) i column)
+          (omega (arith, low)) leaves.positive (*ℤ_comm (without_column P (rows_of t) row column) (without_column P (rows_of t) i column)) (λ k l. other_row i d k)) in
+          (suc h.reached.0, k.0)
+
+      pivotable : IsPivotableMultiple (system_of P) (own_of (system_of P) (columns_of t.basis)) (without_column P (rows_of t)) row
+      pivotable = record {
+        inside = h.stands.multiples.inside;
+        last = h.stands.multiples.last;
+        others = λ i il d. h.stands.multiples.rows_of i il;
+        along = (h.stands.multiples.rows_of row (omega (arith, row_low))).along;
+      }
+
+      module _ (limit i : ℕ) (il : i ≤ positions t) (d : i ≢ row) (w : IsWideCleared limit (width_of t) column (rows_of t i) (rows_of t row)) where
+        im : i ≤ P.m
+        im = omega (arith, h.rows_are)
+
+        wide_zero : (c : ℕ) → c < width_of t → rows_of t i c ≡ pos 0 → rows_of t row c ≡ pos 0 → w.0 c ≡ pos 0
+        wide_zero c cl a b = zero_stays w.1.divisor w.1.p w.1.q (w.0 c) (rows_of t i c) (rows_of t row c) w.1.divides (w.1.entries c cl) a b
+
+        auxiliary_zero : w.0 (P.n + P.m) ≡ pos 0
+        auxiliary_zero = wide_zero (P.n + P.m) (omega (arith, size_is)) (h.empty i im) (h.empty row (omega (arith, row_low)))
+
+        spare_zero : w.0 (suc (suc (suc (P.n + P.m)))) ≡ pos 0
+        spare_zero =
+            let e : spare_column t.columns (positions t) ≡ suc (suc (suc (P.n + P.m))) = omega (arith, size_is) in
+            subst (λ c. w.0 c ≡ pos 0) e (wide_zero (spare_column t.columns (positions t)) (omega arith) (h.closed.zero i il) (h.closed.zero row (omega (arith, h.rows_are, row_low))))
+
+        primitive_short : IsPrimitive (suc (suc (suc (P.n + P.m)))) w.0
+        primitive_short g each = w.2 g (λ k l. elim (cases_eq k (suc (suc (suc (P.n + P.m))))) [
+          | inl e ↦ subst (λ v. g ∣ unsigned_abs v) (sym (ap w.0 e ∙ spare_zero)) (dvd-zero g)
+          | inr o ↦ each k (omega (arith, size_is))
+        ])
+
+        wide_entry : HasWideEntry limit (system_of P) (λ k. w.0 (auxiliary_place P k))
+        wide_entry =
+            let over : limit < unsigned_abs (w.0 w.3.0) = w.3.2 in
+            let inside : w.3.0 < width_of t = w.3.1 in
+            elim (cases_lt w.3.0 (P.n + P.m)) [
+              | inl l ↦ (w.3.0, omega arith, subst (λ k. limit < unsigned_abs (w.0 k)) (sym (place_low P w.3.0 l)) over)
+              | inr l ↦ elim (cases_eq w.3.0 (P.n + P.m)) [
+                | inl e ↦ absurd (let z : unsigned_abs (w.0 w.3.0) ≡ 0 = ap (λ k. unsigned_abs (w.0 k)) e ∙ ap unsigned_abs auxiliary_zero in omega arith)
+                | inr o ↦ elim (cases_eq w.3.0 (suc (suc (suc (P.n + P.m))))) [
+                  | inl e ↦ absurd (let z : unsigned_abs (w.0 w.3.0) ≡ 0 = ap (λ k. unsigned_abs (w.0 k)) e ∙ ap unsigned_abs spare_zero in omega arith)
+                  | inr q ↦ at_high w.3.0 (omega arith) (omega (arith, size_is)) over
+                ]
+              ]
+            ]
+          where
+            at_high : (c : ℕ) → P.n + P.m < c → c < suc (suc (suc (P.n + P.m))) → limit < unsigned_abs (w.0 c) → HasWideEntry limit (system_of P) (λ k. w.0 (auxiliary_place P k))
+            at_high zero l u o = absurd (omega arith)
+            at_high (suc c) l u o = (c, omega arith, subst (λ k. limit < unsigned_abs (w.0 k)) (sym (place_high P c (omega arith))) o)
+
+        pub wide_second : HasWideRow limit P (columns_of (set t.basis row column)) i
+        wide_second = record {
+          reached = next_reached;
+          wide = inl (pivot_wide limit (system_of P) (columns_of t.basis) (columns_of (set t.basis row column)) (without_column P (rows_of t)) row column i (λ k. w.0 (auxiliary_place P k)) (system_tagged P) pivotable exchange im d
+              (cleared_without P column (rows_of t i) (rows_of t row) w.0 low (shorter (width_of t) (suc (suc (suc (P.n + P.m)))) column (rows_of t i) (rows_of t row) w.0 (omega (arith, size_is)) w.1))
+              (primitive_without P w.0 auxiliary_zero primitive_short) wide_entry);
+        }
+
+-- ---- the ends
+pub ends_optimal : (P : Program) (t : Table) → InSecond P t → ((c : ℕ) → c < t.columns + positions t → pos 0 ≤ℤ rows_of t (positions t) c) → EndsIn P None t
+ends_optimal P t h none k l = subst (λ i. pos 0 ≤ℤ rows_of t i k) h.rows_are (none k (omega (arith, h.rows_are, h.columns_are)))
+
+pub ends_unbounded : (P : Program) (t : Table) (column : ℕ) → InSecond P t → FirstNegative (t.columns + positions t) (rows_of t (positions t)) column
+    → ((i : ℕ) → i < positions t → rows_of t i column ≤ℤ pos 0) → EndsIn P (Some column) t
+ends_unbounded P t column h f none = (
+  subst (λ k. FirstNegative k (rows_of t P.m) column) (omega (arith, h.rows_are, h.columns_are)) (subst (λ i. FirstNegative (t.columns + positions t) (rows_of t i) column) h.rows_are f),
+  λ i l. none i (omega (arith, h.rows_are)),
+)

@@ -1,34 +1,36 @@
 -- From the end of the path to what the solver answers.
-use Rattle.std.proofs.Common.{◌≡◌, ℕ, suc, ◌+◌, ◌<◌, sym, refl, ap, ap₂, ◌∙◌, subst, arith, inl, inr, List, length, Some, None}
+use Rattle.std.proofs.Common.{◌≡◌, ℕ, suc, ◌+◌, ◌<◌, sym, refl, ap, ap₂, ◌∙◌, subst, arith, List, length, Some, None}
 use Rattle.std.proofs.lemmas.Int.{ints}
-use Rattle.std.proofs.lemmas.Bool.{cases_eq}
 use Rattle.std.specs.Int.RustNames.{unsigned_abs}
 use Rattle.std.specs.Int.{◌∣◌}
-use lib.IntN.{ℤ, pos, nat_abs, ◌*ℤ◌}
-use Rattle.rob_linear.proofs.Sums.{sum_ext}
+use lib.IntN.{ℤ, pos, ◌*ℤ◌}
 use lib.Signed.{◌<ℤ◌, ◌≤ℤ◌}
-use Rattle.rob_linear.specs.Vectors.{Matrix, Vector}
+use Rattle.rob_linear.specs.Vectors.{Matrix, Vector, at}
 use Rattle.rob_linear.specs.Systems.{System, EndsOptimal, EndsUnbounded, IsNonnegative}
-use Rattle.rob_linear.specs.Programs.{Program, system_of, auxiliary_of, ShowsEmpty, EndsInfeasible}
-use Rattle.rob_linear.specs.Turns.{own_of}
-use Rattle.rob_linear.specs.Paths.{HasAuxiliary}
+use Rattle.rob_linear.specs.Programs.{Program, system_of, auxiliary_of, ShowsEmpty}
+use Rattle.rob_linear.specs.Turns.{own_of, Enters, StandsWith}
+use Rattle.rob_linear.specs.Paths.{HasAuxiliary, Reached, Last}
+use Rattle.rob_linear.specs.Beside.{without_column}
 use Rattle.rob_linear.specs.Optimality.{IsScaled}
+use Rattle.rob_linear.proofs.Sums.{sum_ext}
 use Rattle.rob_linear.proofs.Endings.{own_positive}
 use Rattle.rob_linear.proofs.Choices.{lex_feasible}
-use Rattle.rob_linear.proofs.Auxiliary.{auxiliary_shows_empty, farkas_primitive}
-use Rattle.rob_linear.proofs.LastBases.{optimum_is_last, ray_is_last, first_phase_is_last, never_at_zero}
+use Rattle.rob_linear.proofs.Auxiliary.{farkas_primitive}
+use Rattle.rob_linear.proofs.LastBases.{optimum_is_last, ray_is_last, first_phase_is_last}
+use Rattle.rob_linear.proofs.Multiples.{enters_parallel, none_improves_parallel, no_limit_parallel}
 use Rattle.rob_linear.proofs.Optimality.{optimal_ending, optimal_duals_ℚ, unbounded_ending, farkas}
 use Rattle.rob_linear.proofs.Scaling.{over_scaled}
+use Rattle.rob_linear.proofs.Truths.{infeasible}
 use Rattle.rob_linear.proofs.Turns.{own_low}
-use Rattle.rob_simplex.specs.declared.state.State.{State}
-use Rattle.rob_simplex.specs.declared.state.State.TheVariants.{Optimal, Infeasible, Unbounded}
+use Rattle.rob_linear.proofs.WithoutColumn.{enters_without}
+use Rattle.rob_simplex.specs.declared.state.State.TheVariants.{Optimal}
 use Rattle.rob_simplex.specs.Dictionaries.{sized, rows_of, columns_of}
 use Rattle.rob_simplex.specs.Phases.{InSecond, EndsIn}
-use Rattle.rob_simplex.specs.FirstPhases.{auxiliary_rows, InFirst}
-use Rattle.rob_simplex.specs.Solvers.{Solver}
+use Rattle.rob_simplex.specs.PathEnds.{AreWeights}
+use Rattle.rob_simplex.specs.Solvers.{Solver, positions, sized_as, entries, column_of, HasRay, HasWeights}
 use Rattle.rob_simplex.specs.Solutions.{point_of, ray_of, dual_of, weights_of}
-use Rattle.rob_simplex.specs.Endings.{IsOptimumOf, IsRayOf, HasWeightsFor}
-use Rattle.rob_simplex.proofs.TablePlaces.{place_low}
+use Rattle.rob_simplex.specs.Endings.{IsOptimumOf, IsRayOf, HasWeightsFor, IsLastPoint}
+use Rattle.rob_simplex.proofs.SolverRows.{low_place, high_place, shown_parallel, shown_stands}
 use Rattle.rob_simplex.proofs.LastPoints.{basic_point, basic_move, value_is}
 
 -- the same weights show the same
@@ -40,89 +42,111 @@ shows_ext P w w' e h = record {
 }
 
 -- a program, from its parts
-pub sized_is : (P : Program) (n m : ℕ) → P.n ≡ n → P.m ≡ m → sized n m P.a P.b P.c ≡ P
+sized_is : (P : Program) (n m : ℕ) → P.n ≡ n → P.m ≡ m → sized n m P.a P.b P.c ≡ P
 sized_is P n m en em = sym (ap₂ (λ v w. sized v w P.a P.b P.c) en em)
 
-module _ (n : ℕ) (a : Matrix) (b c : Vector) (basis : List ℕ) (table : List ℤ) where
-  abbrev P : Program
-  P = sized n (length basis) a b c
+module _ (s : Solver) (a : Matrix) (b c : Vector) (h : InSecond (sized s.columns (positions s) a b c) s.dictionary) where
+  stands : StandsWith (system_of (sized s.columns (positions s) a b c)) (columns_of s.basis) (entries s)
+  stands = shown_stands s a b c h.stands
 
-  abbrev solver : State → Solver
-  solver state = record { state = state; columns = n; basis = basis; table = table }
-
-  module _ (h : InSecond (sized n (length basis) a b c) basis table) where
-    pub optimum : EndsIn (sized n (length basis) a b c) None table → IsOptimumOf (sized n (length basis) a b c) (record { state = Optimal; columns = n; basis = basis; table = table })
-    optimum e =
-        let s : Solver = record { state = Optimal; columns = n; basis = basis; table = table } in
-        let S : System = system_of (sized n (length basis) a b c) in
-        let own : ℕ → ℕ = own_of (system_of (sized n (length basis) a b c)) (columns_of basis) in
-        let o : EndsOptimal (system_of (sized n (length basis) a b c)) (rows_of n (length basis) table) = record { feasible = lex_feasible (system_of (sized n (length basis) a b c)) (rows_of n (length basis) table) h.stands.feasible; no_improving = e } in
-        let f = basic_point (record { state = Optimal; columns = n; basis = basis; table = table }) a b c h.stands.is_basis in
-        let d : pos 0 <ℤ rows_of n (length basis) table (length basis) (n + length basis) = own_positive (system_of (sized n (length basis) a b c)) (own_of (system_of (sized n (length basis) a b c)) (columns_of basis)) (rows_of n (length basis) table) h.stands.is_basis in
-        let scaled : IsScaled (length basis) (dual_of (record { state = Optimal; columns = n; basis = basis; table = table })) (rows_of n (length basis) table (length basis) (n + length basis)) (λ i. rows_of n (length basis) table (length basis) (n + i)) =
-        over_scaled (length basis) (rows_of n (length basis) table (length basis) (n + length basis)) (λ i. rows_of n (length basis) table (length basis) (n + i)) d in
-        let y = optimal_duals_ℚ (sized n (length basis) a b c) (own_of (system_of (sized n (length basis) a b c)) (columns_of basis)) (rows_of n (length basis) table) (point_of (record { state = Optimal; columns = n; basis = basis; table = table })) (dual_of (record { state = Optimal; columns = n; basis = basis; table = table })) h.stands.is_basis o f scaled in
-        let v = value_is (record { state = Optimal; columns = n; basis = basis; table = table }) a b c h.stands.is_basis o.feasible in
-        record {
-          state = refl;
-          point = record { last = optimum_is_last (sized n (length basis) a b c) (columns_of basis) h.reached (rows_of n (length basis) table, h.stands.is_basis, o); basis = h.stands.is_basis; basic = f };
-          ends = o;
-          scaled = scaled;
-          optimal = optimal_ending (sized n (length basis) a b c) (own_of (system_of (sized n (length basis) a b c)) (columns_of basis)) (rows_of n (length basis) table) (point_of (record { state = Optimal; columns = n; basis = basis; table = table })) h.stands.is_basis o f;
-          dual = y.0;
-          value = v;
-          dual_value = sym y.1 ∙ v;
-        }
-
-    pub ray_found : (column : ℕ) → EndsIn (sized n (length basis) a b c) (Some column) table → IsRayOf (sized n (length basis) a b c) (record { state = Unbounded column; columns = n; basis = basis; table = table })
-    ray_found column e =
-        let u : EndsUnbounded (system_of (sized n (length basis) a b c)) (own_of (system_of (sized n (length basis) a b c)) (columns_of basis)) (rows_of n (length basis) table) column = record { feasible = lex_feasible (system_of (sized n (length basis) a b c)) (rows_of n (length basis) table) h.stands.feasible; inside = e.0.inside; improving = e.0.improving; no_limit = e.1 } in
-        let f = basic_point (record { state = Unbounded column; columns = n; basis = basis; table = table }) a b c h.stands.is_basis in
-        let g = basic_move (record { state = Unbounded column; columns = n; basis = basis; table = table }) a b c h.stands.is_basis e.0.inside e.0.improving in
-        let w = unbounded_ending (sized n (length basis) a b c) (own_of (system_of (sized n (length basis) a b c)) (columns_of basis)) (rows_of n (length basis) table) column (point_of (record { state = Unbounded column; columns = n; basis = basis; table = table })) (ray_of (record { state = Unbounded column; columns = n; basis = basis; table = table })) h.stands.is_basis u f g in
-        record {
-          state = refl;
-          point = record { last = ray_is_last (sized n (length basis) a b c) (columns_of basis) h.reached (rows_of n (length basis) table, column, h.stands.is_basis, e.0, u); basis = h.stands.is_basis; basic = f };
-          enters = e.0;
-          ends = u;
-          move = g;
-          feasible = w.0;
-          improving = w.1;
-          unbounded = w.2;
-        }
-
-    -- what the solver divides by is positive
-    pub own_in_range : (i : ℕ) → i < length basis → (columns_of basis i < n + length basis) × (pos 0 <ℤ rows_of n (length basis) table i (columns_of basis i))
-    own_in_range i l =
-        let e : own_of (system_of (sized n (length basis) a b c)) (columns_of basis) i ≡ columns_of basis i = own_low (system_of (sized n (length basis) a b c)) (columns_of basis) i l in
-        (subst (λ k. k < n + length basis) e (h.stands.is_basis.inside i l), subst (λ k. pos 0 <ℤ rows_of n (length basis) table i k) e (h.stands.is_basis.rows_of i (omega arith)).positive)
-
-    pub objective_entry : pos 0 <ℤ rows_of n (length basis) table (length basis) (n + length basis)
-    objective_entry = own_positive (system_of (sized n (length basis) a b c)) (own_of (system_of (sized n (length basis) a b c)) (columns_of basis)) (rows_of n (length basis) table) h.stands.is_basis
-
-  pub weights_found : InFirst (sized n (length basis) a b c) basis table × IsNonnegative (n + length basis) (rows_of n (length basis) table (length basis)) → HasWeightsFor (sized n (length basis) a b c) (record { state = Infeasible; columns = n; basis = basis; table = table })
-  weights_found x =
-      let h : InFirst (sized n (length basis) a b c) basis table = x.0 in
-      let aux : HasAuxiliary (sized n (length basis) a b c) (columns_of basis) = h.auxiliary in
-      let el : aux.0 < length basis = aux.1 in
-      let oe : own_of (auxiliary_of (sized n (length basis) a b c)) (columns_of basis) aux.0 ≡ n + length basis = own_low (auxiliary_of (sized n (length basis) a b c)) (columns_of basis) aux.0 el ∙ sym aux.2 in
-      let none : IsNonnegative (suc (n + length basis)) (auxiliary_rows n (length basis) table (length basis)) =
-      (λ k kl. elim (cases_eq k (n + length basis)) [
-        | inl e ↦
-            let z : auxiliary_rows n (length basis) table (length basis) k ≡ pos 0 = ap (auxiliary_rows n (length basis) table (length basis)) (e ∙ sym oe) ∙ (h.stands.is_basis.rows_of (length basis) (omega arith)).zeros aux.0 (omega arith) (omega arith) in
-            omega (arith, ints)
-        | inr d ↦ subst (λ t. pos 0 ≤ℤ rows_of n (length basis) table (length basis) t) (sym (place_low n (length basis) k (omega arith))) (x.1 k (omega arith))
-      ]) in
-      let same : (i : ℕ) → i < length basis → auxiliary_rows n (length basis) table (length basis) (n + i) ≡ rows_of n (length basis) table (length basis) (n + i) = (λ i l. ap (rows_of n (length basis) table (length basis)) (place_low n (length basis) (n + i) (omega arith))) in
-      let w : ShowsEmpty (sized n (length basis) a b c) (weights_of (record { state = Infeasible; columns = n; basis = basis; table = table })) =
-      shows_ext (sized n (length basis) a b c) (λ i. auxiliary_rows n (length basis) table (length basis) (n + i)) (λ i. rows_of n (length basis) table (length basis) (n + i)) same
-      (auxiliary_shows_empty (sized n (length basis) a b c) (own_of (auxiliary_of (sized n (length basis) a b c)) (columns_of basis)) (auxiliary_rows n (length basis) table) aux.0 h.stands.is_basis h.stands.feasible none el oe) in
-      let ends : EndsInfeasible (sized n (length basis) a b c) (auxiliary_rows n (length basis) table) = never_at_zero (sized n (length basis) a b c) (columns_of basis) (auxiliary_rows n (length basis) table) h.stands aux none in
+  sized_optimum : s.state ≡ Optimal → EndsIn (sized s.columns (positions s) a b c) None s.dictionary → IsOptimumOf (sized s.columns (positions s) a b c) s
+  sized_optimum state e =
+      let none : IsNonnegative (s.columns + positions s) (without_column (sized s.columns (positions s) a b c) (rows_of s.dictionary) (positions s)) = (λ k l. subst (λ v. pos 0 ≤ℤ rows_of s.dictionary (positions s) v) (sym (low_place s k l)) (e k l)) in
+      let o : EndsOptimal (system_of (sized s.columns (positions s) a b c)) (entries s) = record {
+        feasible = lex_feasible (system_of (sized s.columns (positions s) a b c)) (entries s) stands.feasible;
+        no_improving = none_improves_parallel (system_of (sized s.columns (positions s) a b c)) (without_column (sized s.columns (positions s) a b c) (rows_of s.dictionary)) (entries s) (shown_parallel s a b c h.stands) none;
+      } in
+      let f = basic_point s a b c stands.is_basis in
+      let d : pos 0 <ℤ entries s (positions s) (s.columns + positions s) = own_positive (system_of (sized s.columns (positions s) a b c)) (own_of (system_of (sized s.columns (positions s) a b c)) (columns_of s.basis)) (entries s) stands.is_basis in
+      let scaled : IsScaled (positions s) (dual_of s) (entries s (positions s) (s.columns + positions s)) (λ i. entries s (positions s) (s.columns + i)) =
+      over_scaled (positions s) (entries s (positions s) (s.columns + positions s)) (λ i. entries s (positions s) (s.columns + i)) d in
+      let y = optimal_duals_ℚ (sized s.columns (positions s) a b c) (own_of (system_of (sized s.columns (positions s) a b c)) (columns_of s.basis)) (entries s) (point_of s) (dual_of s) stands.is_basis o f scaled in
+      let v = value_is s a b c stands.is_basis o.feasible in
       record {
-        state = refl;
-        last = first_phase_is_last (sized n (length basis) a b c) (columns_of basis) h.reached (auxiliary_rows n (length basis) table, aux, h.stands.is_basis, ends);
-        ending = record { rows = auxiliary_rows n (length basis) table; basis = h.stands.is_basis; ends = ends; weights_are = same };
-        weights = w;
-        primitive = λ d k. farkas_primitive (sized n (length basis) a b c) (own_of (auxiliary_of (sized n (length basis) a b c)) (columns_of basis)) (auxiliary_rows n (length basis) table) aux.0 h.stands.is_basis el oe d (λ i l. subst (λ t. d ∣ unsigned_abs t) (sym (same i l)) (k i l));
-        infeasible = farkas (sized n (length basis) a b c) (weights_of (record { state = Infeasible; columns = n; basis = basis; table = table })) w;
+        state = state;
+        point = record { last = optimum_is_last (sized s.columns (positions s) a b c) (columns_of s.basis) h.reached (entries s, stands.is_basis, o); basis = stands.is_basis; basic = f };
+        ends = o;
+        scaled = scaled;
+        optimal = optimal_ending (sized s.columns (positions s) a b c) (own_of (system_of (sized s.columns (positions s) a b c)) (columns_of s.basis)) (entries s) (point_of s) stands.is_basis o f;
+        dual = y.0;
+        value = v;
+        dual_value = sym y.1 ∙ v;
       }
+
+  sized_ray : HasRay s → EndsIn (sized s.columns (positions s) a b c) (Some (column_of s.state)) s.dictionary → IsRayOf (sized s.columns (positions s) a b c) s
+  sized_ray state e =
+      let inside : column_of s.state < s.columns + positions s = e.0.inside in
+      let par = shown_parallel s a b c h.stands in
+      let enters : Enters (system_of (sized s.columns (positions s) a b c)) (entries s) (column_of s.state) =
+      enters_parallel (system_of (sized s.columns (positions s) a b c)) (without_column (sized s.columns (positions s) a b c) (rows_of s.dictionary)) (entries s) (column_of s.state) par
+      (enters_without (sized s.columns (positions s) a b c) (rows_of s.dictionary) (column_of s.state) inside e.0.negative e.0.first) in
+      let u : EndsUnbounded (system_of (sized s.columns (positions s) a b c)) (own_of (system_of (sized s.columns (positions s) a b c)) (columns_of s.basis)) (entries s) (column_of s.state) = record {
+        feasible = lex_feasible (system_of (sized s.columns (positions s) a b c)) (entries s) stands.feasible;
+        inside = inside;
+        improving = enters.improving;
+        no_limit = no_limit_parallel (system_of (sized s.columns (positions s) a b c)) (without_column (sized s.columns (positions s) a b c) (rows_of s.dictionary)) (entries s) (column_of s.state) inside par
+            (λ i l. subst (λ v. rows_of s.dictionary i v ≤ℤ pos 0) (sym (low_place s (column_of s.state) inside)) (e.1 i l));
+      } in
+      let f = basic_point s a b c stands.is_basis in
+      let g = basic_move s a b c stands.is_basis inside enters.improving in
+      let w = unbounded_ending (sized s.columns (positions s) a b c) (own_of (system_of (sized s.columns (positions s) a b c)) (columns_of s.basis)) (entries s) (column_of s.state) (point_of s) (ray_of s) stands.is_basis u f g in
+      record {
+        state = state;
+        point = record { last = ray_is_last (sized s.columns (positions s) a b c) (columns_of s.basis) h.reached (entries s, column_of s.state, stands.is_basis, enters, u); basis = stands.is_basis; basic = f };
+        enters = enters;
+        ends = u;
+        move = g;
+        feasible = w.0;
+        improving = w.1;
+        unbounded = w.2;
+      }
+
+  -- what the solver divides by is positive
+  sized_own : (i : ℕ) → i < positions s → (columns_of s.basis i < s.columns + positions s) × (pos 0 <ℤ rows_of s.dictionary i (columns_of s.basis i))
+  sized_own i l =
+      let e : own_of (system_of (sized s.columns (positions s) a b c)) (columns_of s.basis) i ≡ columns_of s.basis i = own_low (system_of (sized s.columns (positions s) a b c)) (columns_of s.basis) i l in
+      let low : columns_of s.basis i < s.columns + positions s = subst (λ k. k < s.columns + positions s) e (h.stands.multiples.inside i l) in (
+        low,
+        subst (λ k. pos 0 <ℤ rows_of s.dictionary i k) (low_place s (columns_of s.basis i) low)
+        (subst (λ k. pos 0 <ℤ without_column (sized s.columns (positions s) a b c) (rows_of s.dictionary) i k) e (h.stands.multiples.rows_of i (omega arith)).positive),
+      )
+
+  sized_objective : pos 0 <ℤ rows_of s.dictionary (positions s) (suc (s.columns + positions s))
+  sized_objective =
+      subst (λ k. pos 0 <ℤ rows_of s.dictionary (positions s) k) (high_place s (s.columns + positions s) (omega arith))
+      (subst (λ k. pos 0 <ℤ without_column (sized s.columns (positions s) a b c) (rows_of s.dictionary) (positions s) k) h.stands.multiples.last (h.stands.multiples.rows_of (positions s) (omega arith)).positive)
+
+-- ---- of a program of the solver's size
+module _ (P : Program) (s : Solver) (h : InSecond P s.dictionary) where
+  program_is : sized s.columns (positions s) P.a P.b P.c ≡ P
+  program_is = sized_is P s.columns (positions s) (sym h.columns_are) (sym h.rows_are)
+
+  second : InSecond (sized s.columns (positions s) P.a P.b P.c) s.dictionary
+  second = subst (λ (Q : Program). InSecond Q s.dictionary) (sym program_is) h
+
+  pub optimum : s.state ≡ Optimal → EndsIn P None s.dictionary → IsOptimumOf P s
+  optimum state e = subst (λ (Q : Program). IsOptimumOf Q s) program_is (sized_optimum s P.a P.b P.c second state (subst (λ (Q : Program). EndsIn Q None s.dictionary) (sym program_is) e))
+
+  pub ray_found : HasRay s → EndsIn P (Some (column_of s.state)) s.dictionary → IsRayOf P s
+  ray_found state e = subst (λ (Q : Program). IsRayOf Q s) program_is (sized_ray s P.a P.b P.c second state (subst (λ (Q : Program). EndsIn Q (Some (column_of s.state)) s.dictionary) (sym program_is) e))
+
+  pub own_in_range : (i : ℕ) → i < positions s → (columns_of s.basis i < s.columns + positions s) × (pos 0 <ℤ rows_of s.dictionary i (columns_of s.basis i))
+  own_in_range = sized_own s P.a P.b P.c second
+
+  pub objective_entry : pos 0 <ℤ rows_of s.dictionary (positions s) (suc (s.columns + positions s))
+  objective_entry = sized_objective s P.a P.b P.c second
+
+pub weights_found : (P : Program) (s : Solver) → HasWeights s → AreWeights P s.basis s.weights → HasWeightsFor P s
+weights_found P s state h =
+    let aux : HasAuxiliary P (columns_of s.basis) = h.ends.1 in
+    let w : ShowsEmpty P (weights_of s) = shows_ext P (λ i. h.ends.0 P.m (P.n + i)) (weights_of s) h.entries (infeasible P (own_of (auxiliary_of P) (columns_of s.basis)) h.ends.0 h.ends.2 h.ends.3.no_improving h.ends.3.below) in
+    record {
+      state = state;
+      last = first_phase_is_last P (columns_of s.basis) h.reached h.ends;
+      ending = record { rows = h.ends.0; basis = h.ends.2; ends = h.ends.3; weights_are = h.entries };
+      weights = w;
+      primitive = λ d k.
+          farkas_primitive P (own_of (auxiliary_of P) (columns_of s.basis)) h.ends.0 aux.0 h.ends.2 aux.1 (own_low (auxiliary_of P) (columns_of s.basis) aux.0 aux.1 ∙ sym aux.2) d
+          (λ i l. subst (λ t. d ∣ unsigned_abs t) (sym (h.entries i l)) (k i l));
+      infeasible = farkas P (weights_of s) w;
+    }

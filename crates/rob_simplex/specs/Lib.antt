@@ -1,12 +1,10 @@
 pub mod Tables
-pub mod Listed
 pub mod Dictionaries
-pub mod Turning
 pub mod Phases
-pub mod FirstPhases
-pub mod FirstEndings
 pub mod Starts
+pub mod Explicit
 pub mod PathEnds
+pub mod LowestTerms
 pub mod Solvers
 pub mod Solutions
 pub mod Endings

@@ -2,7 +2,7 @@
 -- Chvatal, Linear Programming (1983), chapters 2 and 5.
 use Rattle.std.specs.Prelude.{ℕ, suc, ◌+◌, nat_eq, cond, pos, neg_ℤ, nat_abs, List, [], ◌∷◌, Option, Some, None}
 use Rattle.rob_algebra.specs.Fraction.{Fraction, of_int, of_pair}
-use Rattle.rob_linear.specs.Vectors.{Vector}
+use Rattle.rob_linear.specs.Vectors.{Vector, at}
 use Rattle.rob_simplex.specs.Dictionaries.{columns_of}
 use Rattle.rob_simplex.specs.Solvers.{Solver, positions, entries, column_of}
 
@@ -47,6 +47,6 @@ dual_of s i = over_objective s (s.columns + i)
 abbrev pub value_of : Solver → Fraction
 value_of s = over_objective s (s.columns + positions s + 1)
 
--- the weights that show that no point is feasible: the slack entries of the objective's row
+-- the weights that show that no point is feasible
 abbrev pub weights_of : Solver → Vector
-weights_of s i = entries s (positions s) (s.columns + i)
+weights_of s = at s.weights

@@ -1,28 +1,33 @@
--- What contracts see of a solver: its state, its basis and its rows.
-use Rattle.std.specs.Prelude.{◌≡◌, ℕ, ◌<◌, ◌≤◌, ◌+◌, ◌*◌, ◌^◌, ℤ, pos, ◌<ℤ◌, List, All, length, ⊤}
+-- What contracts see of a solver: its state, its dictionary and its weights.
+use Rattle.std.specs.Prelude.{◌≡◌, ℕ, suc, ◌<◌, ◌≤◌, ◌+◌, ◌^◌, ℤ, pos, ◌<ℤ◌, List, length, ⊤}
 use Rattle.rob_linear.specs.Vectors.{Matrix}
 use Rattle.rob_linear.specs.Programs.{Program}
+use Rattle.rob_linear.specs.Beside.{without_column}
 use Rattle.rob_rows.specs.PrimitiveParts.{IsWithin}
 use Rattle.rob_simplex.specs.declared.state.State.{State}
 use Rattle.rob_simplex.specs.declared.state.State.TheVariants.{New, Optimal, Infeasible, Unbounded, Stopped}
-use Rattle.rob_simplex.specs.Dictionaries.{rows_of, columns_of}
-use Rattle.rob_simplex.specs.Phases.{IsUnused}
-use Rattle.rob_simplex.specs.Starts.{HasStartingRows}
+use Rattle.rob_simplex.specs.Dictionaries.{Table, rows_of, columns_of, sized}
+use Rattle.rob_simplex.specs.LowestTerms.{lowest_terms}
+use Rattle.rob_simplex.specs.Starts.{IsStartingTable}
 
--- the state, the number of structural columns, the basic column of each position, and the rows as a table
+-- the state; the dictionary, with the number of structural columns and the basic column of each position; the weights
 pub record Solver : Type 0 where
   pub state : State
-  pub columns : ℕ
-  pub basis : List ℕ
-  pub table : List ℤ
+  pub dictionary : Table
+  pub open dictionary use *
+  pub weights : List ℤ
 
 -- the number of positions but the objective's
 abbrev pub positions : Solver → ℕ
 positions s = length s.basis
 
--- entry k of the row of position i
+-- a program of the solver's size, for the places of its columns
+abbrev pub sized_as : Solver → Program
+sized_as s = sized s.columns (positions s) (λ i j. pos 0) (λ i. pos 0) (λ j. pos 0)
+
+-- entry k of the row of position i: the dictionary's, without the auxiliary column and in lowest terms
 abbrev pub entries : Solver → Matrix
-entries s = rows_of s.columns (positions s) s.table
+entries s i = lowest_terms (suc (suc (s.columns + positions s))) (without_column (sized_as s) (rows_of s.dictionary) i)
 
 -- a point has been found
 abbrev pub has_point : State → Type 0
@@ -55,22 +60,23 @@ HasRay s = s.state ≡ Unbounded (column_of s.state)
 abbrev pub HasWeights : Solver → Type 0
 HasWeights s = s.state ≡ Infeasible
 
--- sizes that always hold: of the table, of the program, and of each entry; where there is a point, entries that are divided by are positive
+-- what always holds: of the limit, the program's size and the weights; where there is a point, entries that are divided by
+-- are positive
 pub record IsSound (limit : ℕ) (s : Solver) : Type 0 where
-  pub size : length s.table ≡ (positions s + 2) * (s.columns + positions s + 3)
+  pub limit_is : s.limit ≡ limit
   pub few : s.columns + positions s < 2 ^ 31
-  pub within : IsWithin limit s.table
-  pub basis_in : All (λ column. column ≤ s.columns + positions s) s.basis
-  pub own : HasPoint s → (i : ℕ) → i < positions s → (columns_of s.basis i < s.columns + positions s) × (pos 0 <ℤ entries s i (columns_of s.basis i))
+  pub weights_size : length s.weights ≡ positions s
+  pub weights_within : IsWithin limit s.weights
+  pub own :
+      HasPoint s → (i : ℕ) → i < positions s
+      → (columns_of s.basis i < s.columns + positions s) × (pos 0 <ℤ rows_of s.dictionary i (columns_of s.basis i))
   pub column : column_of s.state < 2 ^ 31
   pub growing : HasRay s → column_of s.state < s.columns + positions s
-  pub objective : HasPoint s → pos 0 <ℤ entries s (positions s) (s.columns + positions s)
+  pub objective : HasPoint s → pos 0 <ℤ rows_of s.dictionary (positions s) (suc (s.columns + positions s))
 
 -- the solver was made for the program, and has not solved yet
 pub record IsMadeFor (P : Program) (s : Solver) : Type 0 where
   pub state : s.state ≡ New
   pub rows : P.m ≡ positions s
   pub columns : P.n ≡ s.columns
-  pub slacks : (i : ℕ) → i < P.m → columns_of s.basis i ≡ P.n + i
-  pub starting : HasStartingRows P s.table
-  pub unused : IsUnused P.n P.m s.table
+  pub starting : IsStartingTable s.limit P s.dictionary

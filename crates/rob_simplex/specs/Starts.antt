@@ -1,25 +1,29 @@
--- The starting rows of a program in a table.
-use Rattle.std.specs.Prelude.{◌≡◌, ℕ, ◌<◌, ◌≤◌, ◌+◌, ℤ, pos, List, nat_lt, nat_eq, cond, length}
-use Rattle.rob_linear.specs.Vectors.{Vector, at}
-use Rattle.rob_linear.specs.Programs.{Program, starting_row}
-use Rattle.rob_rows.specs.declared.program.Lp.{Lp}
-use Rattle.rob_simplex.specs.Dictionaries.{rows_of, columns_of}
-use Rattle.rob_simplex.specs.Phases.{IsUnused}
+-- The dictionary that a program starts from: the slack columns and the objective's are basic.
+use Rattle.std.specs.Prelude.{◌≡◌, ℕ, suc, ◌<◌, ◌≤◌, ◌+◌, nat_lt, nat_eq, cond, ℤ, pos}
+use Rattle.rob_linear.specs.Vectors.{Vector}
+use Rattle.rob_linear.specs.Programs.{Program, kept_row}
+use Rattle.rob_simplex.specs.Dictionaries.{Table, positions, columns_of, rows_of, IsClosed}
 
--- these entries, then 0 but for a 1 in the tag and the right side at its place
-abbrev pub written_row : List ℤ → ℕ → ℕ → ℤ → Vector
-written_row left tag place right k = cond (nat_lt k (length left)) (at left k) (cond (nat_eq k tag) (pos 1) (cond (nat_eq k place) right (pos 0)))
+-- the place of each column: the structural columns, the auxiliary one, the spare one, the right side, and then the basic ones
+abbrev pub start_place : ℕ → ℕ → ℕ → ℕ
+start_place n m c =
+    cond (nat_lt c n) c (cond (nat_lt c (n + m)) (c + 3)
+    (cond (nat_eq c (n + m)) n (cond (nat_eq c (n + m + 1)) (n + 3 + m) (cond (nat_eq c (n + m + 2)) (n + 2) (n + 1)))))
 
--- the program's data, from its parts
-abbrev pub lp_of : List (List ℤ) → List ℤ → List ℤ → Lp
-lp_of a b c = record { a = a; b = b; c = c }
+-- the column at each place
+abbrev pub start_column : ℕ → ℕ → ℕ → ℕ
+start_column n m k = cond (nat_lt k n) k (cond (nat_eq k n) (n + m) (cond (nat_eq k (n + 1)) (n + m + 3) (n + m + 2)))
 
--- rows 0 to m are those that the program starts from
-abbrev pub HasStartingRows : Program → List ℤ → Type 0
-HasStartingRows P table = (i k : ℕ) → i ≤ P.m → k ≤ P.n + P.m + 1 → rows_of P.n P.m table i k ≡ starting_row P i k
+-- a condensed row: its structural entries, that of the auxiliary column, 0 in the spare one, the right side, and 1 as its own entry
+abbrev pub start_entry : ℕ → Vector → ℤ → ℤ → Vector
+start_entry n low auxiliary right k =
+    cond (nat_lt k n) (low k) (cond (nat_eq k n) auxiliary (cond (nat_eq k (n + 1)) (pos 0) (cond (nat_eq k (n + 2)) right (pos 1))))
 
--- the slack columns, and the rows that the program starts from
-pub record IsStart (P : Program) (basis : List ℕ) (table : List ℤ) : Type 0 where
-  pub slacks : (i : ℕ) → i < P.m → columns_of basis i ≡ P.n + i
-  pub starting : HasStartingRows P table
-  pub unused : IsUnused P.n P.m table
+-- the dictionary has the program's starting rows
+pub record IsStartingTable (limit : ℕ) (P : Program) (t : Table) : Type 0 where
+  pub limit_is : t.limit ≡ limit
+  pub columns_are : t.columns ≡ P.n
+  pub rows_are : positions t ≡ P.m
+  pub slacks : (i : ℕ) → i < P.m → columns_of t.basis i ≡ P.n + i
+  pub rows : (i c : ℕ) → i ≤ P.m → c ≤ suc (suc (P.n + P.m)) → rows_of t i c ≡ kept_row P i c
+  pub closed : IsClosed t

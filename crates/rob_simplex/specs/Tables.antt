@@ -1,41 +1,32 @@
--- Rows that stand one after another in one list, and what a pivot makes of them.
-use Rattle.std.specs.Prelude.{◌≡◌, ◌≢◌, ℕ, ◌<◌, ◌+◌, ◌*◌, ℤ, pos, ◌-ℤ◌, ◌*ℤ◌, List}
-use Rattle.std.specs.Int.RustNames.{unsigned_abs}
+-- Rows that stand one after another in one list, each with a number that bounds its entries, and what a pivot makes of them.
+use Rattle.std.specs.Prelude.{◌≡◌, ◌≢◌, ℕ, ◌<◌, ◌≤◌, ◌+◌, ◌*◌, ℤ, List, length, nat_abs, slice_index_or}
 use Rattle.rob_linear.specs.Vectors.{Matrix, Vector, at}
-use Rattle.rob_linear.specs.Systems.{IsCombined}
+use Rattle.rob_linear.specs.Multiples.{IsClearedBy}
+use Rattle.rob_rows.specs.Updates.{IsWideCleared}
 
 -- entry k of row i of a table with rows of this width
 abbrev pub row_at : List ℤ → ℕ → Matrix
 row_at table width i k = at table (i * width + k)
 
--- the row `low` less the row `top`, both taken as often as makes the entry in column col 0
-abbrev pub cleared : ℕ → Vector → Vector → Vector
-cleared col low top k = (top col *ℤ low k) -ℤ (low col *ℤ top k)
+-- the bound of row i
+abbrev pub bound_at : List ℕ → ℕ → ℕ
+bound_at bounds i = slice_index_or bounds i 0
 
--- a row that is 0 in the column stays; of another, unless nothing is left of it, `new` is `low` less `top` in lowest terms
-pub record ClearsTo (width col : ℕ) (low top new : Vector) : Type 0 where
-  pub stays : low col ≡ pos 0 → (k : ℕ) → k < width → new k ≡ low k
-  pub gives : low col ≢ pos 0 → (k : ℕ) → k < width → cleared col low top k ≢ pos 0 → IsCombined width (top col) low (low col) top new
+-- the entries of each row are within its bound, and this within the limit
+pub record HasBounds (limit width : ℕ) (table : List ℤ) (bounds : List ℕ) : Type 0 where
+  pub size : length table ≡ length bounds * width
+  pub within : (i k : ℕ) → i < length bounds → k < width → nat_abs (row_at table width i k) ≤ bound_at bounds i
+  pub low : (i : ℕ) → i < length bounds → bound_at bounds i ≤ limit
 
--- of the rows, row i alone has changed, and is cleared by row e
-pub record IsCleared (width e col i : ℕ) (rows rows' : Matrix) : Type 0 where
-  pub row_here : ClearsTo width col (rows i) (rows e) (rows' i)
-  pub others : (j k : ℕ) → j ≢ i → k < width → rows' j k ≡ rows j k
-
--- row e stays, and clears all other rows
-pub record IsPivoted (count width e col : ℕ) (rows rows' : Matrix) : Type 0 where
+-- of the rows before `count` but row e, each is cleared of its entry at the place by the row `top`; all others stay
+pub record AreCleared (count width e place : ℕ) (top : Vector) (rows rows' : Matrix) : Type 0 where
+  pub cleared : (i : ℕ) → i < count → i ≢ e → IsClearedBy width place (rows i) top (rows' i)
   pub row_stays : (k : ℕ) → k < width → rows' e k ≡ rows e k
-  pub row_other : (i : ℕ) → i < count → i ≢ e → ClearsTo width col (rows i) (rows e) (rows' i)
+  pub others : (i k : ℕ) → count ≤ i → k < width → rows' i k ≡ rows i k
 
--- `low` is not 0 in the column, and `low` less `top` in lowest terms has an entry over the limit
-pub record IsWideClear (limit width col : ℕ) (low top : Vector) : Type 0 where
-  pub touched : low col ≢ pos 0
-  pub wide :
-      (k : ℕ) → k < width → cleared col low top k ≢ pos 0
-      → (new : Vector) × IsCombined width (top col) low (low col) top new × ((j : ℕ) × (j < width) × (limit < unsigned_abs (new j)))
-
--- row i would be such a row after the pivot
-pub record IsWidePivot (limit count width e col : ℕ) (rows : Matrix) (i : ℕ) : Type 0 where
+-- the rows before row i are cleared, and row i would be wide
+pub record IsStopped (limit count width e place : ℕ) (top : Vector) (rows rows' : Matrix) (i : ℕ) : Type 0 where
   pub inside : i < count
   pub other : i ≢ e
-  pub wide : IsWideClear limit width col (rows i) (rows e)
+  pub before : AreCleared i width e place top rows rows'
+  pub wide : IsWideCleared limit width place (rows i) top

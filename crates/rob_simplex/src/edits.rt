@@ -1,90 +1,118 @@
-// Edits of a table between the phases.
+// Edits of a dictionary between its pivots and its phases.
 
-ghost use Rattle.std.specs.Prelude.{◌≡◌, ◌≢◌, ◌+◌, ◌-◌, ◌*◌, ◌^◌, ◌<◌, ◌≤◌, ◌⊎◌, ℕ, pos, nat_abs, length};
-ghost use Rattle.rob_linear.specs.Vectors.{at};
-ghost use Rattle.rob_rows.specs.PrimitiveParts.{IsWithin};
-ghost use Rattle.rob_simplex.specs.Tables.{row_at};
-ghost use Rattle.rob_simplex.specs.FirstPhases.{IsPrepared, IsTurnedRound, IsTakenOver};
+ghost use Rattle.std.specs.Prelude.{◌≡◌, ◌≢◌, ◌<◌, ◌≤◌, ◌+◌, ℕ, suc, pos, length};
+ghost use Rattle.rob_linear.specs.Beside.{exchanged};
+ghost use Rattle.rob_simplex.specs.Dictionaries.{positions, width_of, columns_of, rows_of, kept_row_of, IsFree};
 
-use crate::starting_rows::negate;
+use crate::dictionary::Dictionary;
+use crate::row_moves::{copy_row, empty_place, exchange_rows, write_unit};
 
-// Copies `count` entries.
-fn copy_entries(rows: &mut [i64], from: usize, to: usize, count: usize)
-    requires from_in { from + count ≤ length rows.old }
-    requires to_in { to + count ≤ length rows.old }
-    requires apart { (from + count ≤ to) ⊎ (to + count ≤ from) }
-    ensures copied { (k : ℕ) → k < count → at rows.new (to + k) ≡ at rows.old (from + k) }
-    ensures outside { (k : ℕ) → (k < to) ⊎ (to + count ≤ k) → at rows.new k ≡ at rows.old k }
-    ensures within { (limit : ℕ) → IsWithin limit rows.old → IsWithin limit rows.new }
-{
-    for k in 0..count {
-        rows[to + k] = rows[from + k];
+impl Dictionary {
+    /// Two positions exchange their rows and columns.
+    pub fn exchange(&mut self, a: usize, b: usize)
+        requires a_in { a < positions self.old }
+        requires b_in { b < positions self.old }
+        ensures rows { (i c : ℕ) → i ≤ positions self.old → c < width_of self.old
+            → rows_of self.new i c ≡ rows_of self.old (exchanged a b i) c }
+        ensures kept { (c : ℕ) → c < width_of self.old → kept_row_of self.new c ≡ kept_row_of self.old c }
+        ensures basis { (i : ℕ) → columns_of self.new.basis i ≡ columns_of self.old.basis (exchanged a b i) }
+        ensures size { positions self.new ≡ positions self.old }
+        ensures columns { self.new.columns ≡ self.old.columns }
+        ensures limit { self.new.limit ≡ self.old.limit }
+    {
+        let width = self.columns + 4;
+        exchange_rows(
+            self.rows.as_mut_slice(),
+            self.bounds.as_mut_slice(),
+            a,
+            b,
+            width,
+        );
+        let first = self.basis[a];
+        let second = self.basis[b];
+        self.basis[a] = second;
+        self.basis[b] = first;
+        self.places[second] = self.columns + 3 + a;
+        self.places[first] = self.columns + 3 + b;
     }
-}
 
-// Writes 0 to `count` entries.
-fn blank_entries(rows: &mut [i64], start: usize, count: usize)
-    requires inside { start + count ≤ length rows.old }
-    ensures blank { (k : ℕ) → start ≤ k → k < start + count → at rows.new k ≡ pos 0 }
-    ensures outside { (k : ℕ) → (k < start) ⊎ (start + count ≤ k) → at rows.new k ≡ at rows.old k }
-    ensures within { (limit : ℕ) → IsWithin limit rows.old → IsWithin limit rows.new }
-{
-    for k in start..start + count {
-        rows[k] = 0;
+    /// Writes 0 to a column that is not basic, in the rows of all positions.
+    pub fn empty(&mut self, column: usize)
+        requires free { IsFree self.old.columns self.old.basis column }
+        ensures zero { (i : ℕ) → i ≤ positions self.old → rows_of self.new i column ≡ pos 0 }
+        ensures others { (i c : ℕ) → i ≤ positions self.old → c < width_of self.old → c ≢ column
+            → rows_of self.new i c ≡ rows_of self.old i c }
+        ensures kept { (c : ℕ) → kept_row_of self.new c ≡ kept_row_of self.old c }
+        ensures basis { self.new.basis ≡ self.old.basis }
+        ensures columns { self.new.columns ≡ self.old.columns }
+        ensures limit { self.new.limit ≡ self.old.limit }
+    {
+        let width = self.columns + 4;
+        let place = self.places[column];
+        let count = self.basis.len() + 1;
+        empty_place(self.rows.as_mut_slice(), place, width, count);
     }
-}
 
-// Writes a number to a column of the first rows.
-fn fill_column(rows: &mut [i64], width: usize, count: usize, column: usize, number: i64)
-    requires inside { count * width ≤ length rows.old }
-    requires column_in { column < width }
-    ensures filled { (i : ℕ) → i < count → row_at rows.new width i column ≡ number }
-    ensures others { (i k : ℕ) → k < width → (k ≢ column) ⊎ (count ≤ i)
-        → row_at rows.new width i k ≡ row_at rows.old width i k }
-    ensures within { (limit : ℕ) → nat_abs number ≤ limit → IsWithin limit rows.old → IsWithin limit rows.new }
-{
-    for i in 0..count {
-        rows[i * width + column] = number;
+    /// Keeps the objective's row behind it.
+    pub fn keep_objective(&mut self)
+        ensures kept { (c : ℕ) → kept_row_of self.new c ≡ rows_of self.old (positions self.old) c }
+        ensures rows { (i c : ℕ) → i ≤ positions self.old → rows_of self.new i c ≡ rows_of self.old i c }
+        ensures basis { self.new.basis ≡ self.old.basis }
+        ensures columns { self.new.columns ≡ self.old.columns }
+        ensures limit { self.new.limit ≡ self.old.limit }
+    {
+        let width = self.columns + 4;
+        let m = self.basis.len();
+        copy_row(
+            self.rows.as_mut_slice(),
+            self.bounds.as_mut_slice(),
+            m,
+            m + 1,
+            width,
+        );
     }
-}
 
-/// Keeps the objective's row behind it, puts the auxiliary objective in its place, and writes 1 to the auxiliary column.
-pub fn prepare(rows: &mut [i64], n: usize, m: usize)
-    requires size { length rows.old ≡ (m + 2) * (n + m + 3) }
-    requires last { row_at rows.old (n + m + 3) m (n + m + 2) ≡ pos 0 }
-    ensures prepared { IsPrepared n m rows.old rows.new }
-    ensures within { (limit : ℕ) → 1 ≤ limit → IsWithin limit rows.old → IsWithin limit rows.new }
-{
-    let width = n + m + 3;
-    let start = m * width;
-    copy_entries(rows, start, start + width, width);
-    blank_entries(rows, start, width);
-    rows[start + n + m] = 1;
-    fill_column(rows, width, m + 1, n + m + 2, 1);
-}
+    /// Writes the kept row back to the objective's position.
+    pub fn restore_objective(&mut self)
+        ensures objective { (c : ℕ) → rows_of self.new (positions self.old) c ≡ kept_row_of self.old c }
+        ensures rows { (i c : ℕ) → i < positions self.old → rows_of self.new i c ≡ rows_of self.old i c }
+        ensures basis { self.new.basis ≡ self.old.basis }
+        ensures columns { self.new.columns ≡ self.old.columns }
+        ensures limit { self.new.limit ≡ self.old.limit }
+    {
+        let width = self.columns + 4;
+        let m = self.basis.len();
+        copy_row(
+            self.rows.as_mut_slice(),
+            self.bounds.as_mut_slice(),
+            m + 1,
+            m,
+            width,
+        );
+    }
 
-/// Writes -1 to the auxiliary column of each row below m, and turns row e round.
-pub fn turn_round(rows: &mut [i64], n: usize, m: usize, e: usize)
-    requires size { length rows.old ≡ (m + 2) * (n + m + 3) }
-    requires inside { e < m }
-    requires small { IsWithin (2 ^ 62 - 1) rows.old }
-    ensures turned { IsTurnedRound n m e rows.old rows.new }
-    ensures within { (limit : ℕ) → 1 ≤ limit → IsWithin limit rows.old → IsWithin limit rows.new }
-{
-    let width = n + m + 3;
-    fill_column(rows, width, m, n + m + 2, -1);
-    negate(rows, e * width, width);
-}
-
-/// Makes the kept row the objective's, and empties the auxiliary column and the row behind the objective's.
-pub fn take_over(rows: &mut [i64], n: usize, m: usize)
-    requires size { length rows.old ≡ (m + 2) * (n + m + 3) }
-    ensures taken { IsTakenOver n m rows.old rows.new }
-    ensures within { (limit : ℕ) → IsWithin limit rows.old → IsWithin limit rows.new }
-{
-    let width = n + m + 3;
-    let start = m * width;
-    copy_entries(rows, start + width, start, width);
-    blank_entries(rows, start + width, width);
-    fill_column(rows, width, m + 1, n + m + 2, 0);
+    /// Writes the auxiliary objective to the objective's row: 1 in the auxiliary column and in its own.
+    pub fn write_auxiliary(&mut self)
+        requires free { IsFree self.old.columns self.old.basis (self.old.columns + positions self.old) }
+        ensures auxiliary { rows_of self.new (positions self.old) (self.old.columns + positions self.old) ≡ pos 1 }
+        ensures own { rows_of self.new (positions self.old) (suc (self.old.columns + positions self.old)) ≡ pos 1 }
+        ensures zero { (c : ℕ) → c < width_of self.old → c ≢ self.old.columns + positions self.old
+            → c ≢ suc (self.old.columns + positions self.old) → rows_of self.new (positions self.old) c ≡ pos 0 }
+        ensures rows { (i c : ℕ) → i < positions self.old → rows_of self.new i c ≡ rows_of self.old i c }
+        ensures kept { (c : ℕ) → kept_row_of self.new c ≡ kept_row_of self.old c }
+        ensures basis { self.new.basis ≡ self.old.basis }
+        ensures columns { self.new.columns ≡ self.old.columns }
+        ensures limit { self.new.limit ≡ self.old.limit }
+    {
+        let width = self.columns + 4;
+        let m = self.basis.len();
+        let place = self.places[self.columns + m];
+        write_unit(
+            self.rows.as_mut_slice(),
+            self.bounds.as_mut_slice(),
+            m,
+            place,
+            width,
+        );
+    }
 }

@@ -1,21 +1,56 @@
-// Which column enters: the first whose reduced cost is negative.
+// Which column enters: the first with a negative entry in a row.
 
-ghost use Rattle.std.specs.Prelude.{◌≡◌, ◌+◌, ◌*◌, length, MatchOption};
-ghost use Rattle.rob_linear.specs.Systems.{IsNonnegative};
-ghost use Rattle.rob_linear.specs.Turns.{Enters};
-ghost use Rattle.rob_simplex.specs.Dictionaries.{shape, rows_of};
+ghost use Rattle.std.specs.Prelude.{◌≡◌, ◌<◌, ◌≤◌, ◌+◌, ◌≤ℤ◌, ◌<ℤ◌, ◌*◌, ◌⊎◌, ◌^◌, ℕ, min, pos, nat_abs, length, MatchOption};
+ghost use Rattle.rob_linear.specs.Vectors.{at};
+ghost use Rattle.rob_simplex.specs.Dictionaries.{positions, rows_of, basic_columns, columns_of, IsLowest, FirstNegative};
 
-/// The column that enters, if one improves the objective.
-pub fn entering(rows: &[i64], n: usize, m: usize) -> Option<usize>
-    requires size { length rows.now ≡ (m + 2) * (n + m + 3) }
-    ensures first { MatchOption result (IsNonnegative (n + m) (rows_of n m rows.now m))
-        (λ column. Enters (shape n m) (rows_of n m rows.now) column) }
+use crate::dictionary::Dictionary;
+
+// The column, where the entry is negative and the column comes before the best one so far; else that one.
+fn lower(best: usize, entry: i64, column: usize) -> usize
+    requires small { nat_abs entry < 2 ^ 62 }
+    ensures stays { (pos 0 ≤ℤ entry) → result ≡ best }
+    ensures lower { (entry <ℤ pos 0) → result ≡ min best column }
 {
-    let start = m * (n + m + 3);
-    for k in 0..n + m {
-        if rows[start + k] < 0 {
-            return Some(k);
-        }
+    if entry < 0 && column < best {
+        column
+    } else {
+        best
     }
-    None
+}
+
+// The lowest column with a negative entry among the first `count` places, or the given one where none is lower.
+fn lowest_column(row: &[i64], near: &[usize], count: usize, before: usize) -> usize
+    requires row_in { count ≤ length row.now }
+    requires near_in { count ≤ length near.now }
+    requires small { (k : ℕ) → k < length row.now → nat_abs (at row.now k) < 2 ^ 62 }
+    ensures lowest { IsLowest (at row.now) (columns_of near.now) count before result }
+{
+    let mut best = before;
+    for k in 0..count {
+        best = lower(best, row[k], near[k]);
+    }
+    best
+}
+
+impl Dictionary {
+    /// The first structural or slack column with a negative entry in a row, if there is one.
+    pub fn first_negative(&self, row: usize) -> Option<usize>
+        requires row_in { row ≤ positions self.now }
+        requires own { pos 0 ≤ℤ rows_of self.now row (basic_columns self.now.columns self.now.basis row) }
+        ensures first { MatchOption result
+            ((c : ℕ) → c < self.now.columns + positions self.now → pos 0 ≤ℤ rows_of self.now row c)
+            (λ column. FirstNegative (self.now.columns + positions self.now) (rows_of self.now row) column) }
+    {
+        let width = self.columns + 4;
+        let start = row * width;
+        let auxiliary = self.columns + self.basis.len();
+        let best = lowest_column(
+            &self.rows.as_slice()[start..start + width],
+            self.near.as_slice(),
+            self.columns + 2,
+            auxiliary,
+        );
+        if best < auxiliary { Some(best) } else { None }
+    }
 }

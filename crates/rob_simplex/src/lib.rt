@@ -1,21 +1,28 @@
-//! The exact simplex method on whole rows: a best point with dual values, an improving ray, or weights that show that no
+//! The exact simplex method on condensed rows: a best point with dual values, an improving ray, or weights that show that no
 //! point is feasible.
 #![tactic(auto)]
 
+mod columns;
+mod dictionary;
 mod edits;
 mod entering;
-mod nonzero;
+mod entries;
+mod explicit_phase;
+mod first_phase;
+mod least_row;
 mod path;
-mod phase_one;
-mod phase_two;
 mod pivot;
 mod ratio_test;
-mod room;
+mod replacement;
+mod row_edits;
+mod row_moves;
+mod second_phase;
 mod solution;
+mod starting_places;
 mod starting_rows;
 mod state;
-mod subtraction;
-mod turn;
+mod table;
+mod weights;
 mod work;
 
 pub use rob_number::LpKind;

@@ -1,152 +1,146 @@
-// One pivot on a table of whole rows: a column comes in at a position, and all other rows lose it.
-//     row i  becomes  entry(e, column) * row i - entry(i, column) * row e,  divided by what divides all its entries
-// A row with 0 in the column stays as it is, and where entry(e, column) divides entry(i, column) only the places change
-// where row e is not 0. (Edmonds 1967.)
+// A row whose position is open clears a column in the other rows.
 
-ghost use Rattle.std.specs.Prelude.{◌≡◌, ◌≢◌, ◌<◌, ◌≤◌, ◌+◌, ◌*◌, ◌-◌, ◌^◌, length, OnOk, OnErr, IfErr};
-ghost use Rattle.rob_simplex.specs.Listed.{AreListed};
-ghost use Rattle.rob_rows.specs.PrimitiveParts.{IsWithin};
-ghost use Rattle.rob_simplex.specs.Tables.{row_at, IsCleared, IsPivoted, IsWideClear, IsWidePivot};
-ghost use Rattle.rob_number.specs.Counts.{CountsWide};
+ghost use Rattle.std.specs.Prelude.{◌≡◌, ◌≢◌, ◌<◌, ◌≤◌, ◌+◌, ◌<ℤ◌, ℕ, suc, pos, nat_abs, set, length, OnOk, IfErr};
+ghost use Rattle.rob_linear.specs.Multiples.{IsClearedBy};
+ghost use Rattle.rob_rows.specs.Updates.{IsWideCleared};
+ghost use Rattle.rob_simplex.specs.Dictionaries.{positions, width_of, spare_column, rows_of, kept_row_of, IsFree, IsOpen, IsClosed, IsPivoted, IsBegunPivot, ClearsTable, StopsTable};
 
-use crate::nonzero::list_places;
-use crate::room::Room;
-use crate::subtraction::subtract;
-use rob_number::{Exact, Ledger, Wide};
-use rob_rows::combine;
+use crate::dictionary::Dictionary;
+use crate::table::{Place, clear_rows};
+use rob_number::Ledger;
 
-/// Where a column comes in: at this row of a table whose rows have this width.
-#[derive(Clone, Copy, Drop)]
-pub struct Place {
-    pub row: usize,
-    pub column: usize,
-    pub width: usize,
-}
-
-// Row i loses the column.
-fn combine_row<N: Exact, L: Ledger>(
-    rows: &mut [i64],
-    scratch: &mut [i64],
-    place: Place,
-    i: usize,
-    ledger: &mut L,
-) -> Result<(), Wide>
-    requires scratch_size { length scratch.old ≡ place.width }
-    requires column_in { place.column < place.width }
-    requires row_in { place.row * place.width + place.width ≤ length rows.old }
-    requires other_in { i * place.width + place.width ≤ length rows.old }
-    requires within { IsWithin N.limit rows.old }
-    ensures cleared { OnOk result
-        (IsCleared place.width place.row place.column i (row_at rows.old place.width) (row_at rows.new place.width)) }
-    ensures within { IsWithin N.limit rows.new }
-    ensures wide { OnErr result
-        (IsWideClear N.limit place.width place.column (row_at rows.old place.width i) (row_at rows.old place.width place.row)) }
-    ensures counted { CountsWide L.ops L.wides ledger.old ledger.new result }
-{
-    let width = place.width;
-    let here = i * width;
-    let there = place.row * width;
-    let factor = rows[here + place.column];
-    if factor == 0 {
-        return Ok(());
+impl Dictionary {
+    /// Clears the column in all rows before `count` but this one, whose position is open. After an `Err`, which names
+    /// the first row that would be wide, the rows before it are cleared, and the others are as they were.
+    pub fn clear_others<L: Ledger>(
+        &mut self,
+        row: usize,
+        column: usize,
+        count: usize,
+        ledger: &mut L,
+    ) -> Result<(), usize>
+        requires row_in { row < positions self.old }
+        requires free { IsFree self.old.columns self.old.basis column }
+        requires open { IsOpen self.old row }
+        requires count { count ≤ positions self.old + 2 }
+        requires positive { pos 0 <ℤ rows_of self.old row column }
+        ensures cleared { OnOk result (ClearsTable count self.old self.new row column) }
+        ensures stopped { IfErr result (λ i. StopsTable self.old.limit count self.old self.new row column i) }
+        ensures basis { self.new.basis ≡ self.old.basis }
+        ensures columns { self.new.columns ≡ self.old.columns }
+        ensures limit { self.new.limit ≡ self.old.limit }
+        ensures ops { L.ops ledger.old ≤ L.ops ledger.new }
+        ensures wides { L.wides ledger.new ≡ L.wides ledger.old }
+    {
+        let width = self.columns + 4;
+        let start = row * width;
+        self.pivot_row.load(
+            &self.rows.as_slice()[start..start + width],
+            self.bounds[row],
+        );
+        let place = Place {
+            row,
+            place: self.places[column],
+            width,
+            limit: self.limit,
+        };
+        clear_rows(
+            self.rows.as_mut_slice(),
+            self.bounds.as_mut_slice(),
+            &mut self.pivot_row,
+            place,
+            count,
+            ledger,
+        )
     }
-    let top = rows[there + place.column];
-    let low = &rows[here..here + width];
-    combine::<N, L>(
-        scratch,
-        top,
-        low,
-        factor,
-        &rows[there..there + width],
-        ledger,
-    )?;
-    rows[here..here + width].copy_from_slice(scratch);
-    Ok(())
-}
 
-// Row i loses the column, in its places or as a whole.
-fn clear_row<N: Exact, L: Ledger>(
-    rows: &mut [i64],
-    scratch: &mut [i64],
-    places: &[usize],
-    place: Place,
-    i: usize,
-    ledger: &mut L,
-) -> Result<(), Wide>
-    requires scratch_size { length scratch.old ≡ place.width }
-    requires column_in { place.column < place.width }
-    requires row_in { place.row * place.width + place.width ≤ length rows.old }
-    requires other_in { i * place.width + place.width ≤ length rows.old }
-    requires other { i ≢ place.row }
-    requires listed { AreListed place.width (row_at rows.old place.width place.row) places.now }
-    requires within { IsWithin N.limit rows.old }
-    ensures cleared { OnOk result
-        (IsCleared place.width place.row place.column i (row_at rows.old place.width) (row_at rows.new place.width)) }
-    ensures within { IsWithin N.limit rows.new }
-    ensures wide { OnErr result
-        (IsWideClear N.limit place.width place.column (row_at rows.old place.width i) (row_at rows.old place.width place.row)) }
-    ensures counted { CountsWide L.ops L.wides ledger.old ledger.new result }
-{
-    if subtract::<N>(rows, scratch, places, place, i) {
-        ledger.op();
-        return Ok(());
-    }
-    combine_row::<N, L>(rows, scratch, place, i, ledger)
-}
-
-// All rows but its own lose the column.
-fn clear_others<N: Exact, L: Ledger>(
-    rows: &mut [i64],
-    scratch: &mut [i64],
-    places: &[usize],
-    count: usize,
-    place: Place,
-    ledger: &mut L,
-) -> Result<(), usize>
-    requires size { length rows.old ≡ count * place.width }
-    requires scratch_size { length scratch.old ≡ place.width }
-    requires column_in { place.column < place.width }
-    requires row_in { place.row < count }
-    requires listed { AreListed place.width (row_at rows.old place.width place.row) places.now }
-    requires within { IsWithin N.limit rows.old }
-    ensures pivoted { OnOk result
-        (IsPivoted count place.width place.row place.column (row_at rows.old place.width) (row_at rows.new place.width)) }
-    ensures within { IsWithin N.limit rows.new }
-    ensures wide { IfErr result (λ i.
-        IsWidePivot N.limit count place.width place.row place.column (row_at rows.old place.width) i) }
-    ensures counted { CountsWide L.ops L.wides ledger.old ledger.new result }
-{
-    for i in 0..count {
-        if i != place.row && clear_row::<N, L>(rows, scratch, places, place, i, ledger).is_err() {
-            return Err(i);
+    /// A column comes in at a position, and is cleared in all other rows before `count`. After an `Err`, which names
+    /// the first row that would be wide, the position is open and the pivot begun.
+    pub fn pivot_or_open<L: Ledger>(
+        &mut self,
+        row: usize,
+        column: usize,
+        count: usize,
+        ledger: &mut L,
+    ) -> Result<(), usize>
+        requires row_in { row < positions self.old }
+        requires free { IsFree self.old.columns self.old.basis column }
+        requires structural { column ≢ spare_column self.old.columns (positions self.old) }
+        requires closed { IsClosed self.old }
+        requires count { (positions self.old < count) × (count ≤ positions self.old + 2) }
+        requires positive { pos 0 <ℤ rows_of self.old row column }
+        ensures pivoted { OnOk result (IsPivoted self.old self.new row column) }
+        ensures closed { OnOk result (IsClosed self.new) }
+        ensures kept { OnOk result (kept_row_of self.old (spare_column self.old.columns (positions self.old)) ≡ pos 0
+            → suc (positions self.old) < count
+            → IsClearedBy (width_of self.old) column (kept_row_of self.old) (rows_of self.old row)
+            (kept_row_of self.new)) }
+        ensures wide { IfErr result (λ i. (i < count) × (i ≢ row) × (i ≤ positions self.old
+            → IsWideCleared self.old.limit (width_of self.old) column (rows_of self.old i) (rows_of self.old row))) }
+        ensures wide_kept { IfErr result (λ i.
+            kept_row_of self.old (spare_column self.old.columns (positions self.old)) ≡ pos 0
+            → i ≡ suc (positions self.old)
+            → IsWideCleared self.old.limit (width_of self.old) column (kept_row_of self.old) (rows_of self.old row)) }
+        ensures begun { IfErr result (λ i. IsBegunPivot self.old self.new row column) }
+        ensures small { OnOk result ((i c : ℕ) → i ≤ positions self.new
+            → nat_abs (rows_of self.new i c) ≤ self.new.limit) }
+        ensures basis { OnOk result (self.new.basis ≡ set self.old.basis row column) }
+        ensures columns { self.new.columns ≡ self.old.columns }
+        ensures limit { self.new.limit ≡ self.old.limit }
+        ensures ops { L.ops ledger.old ≤ L.ops ledger.new }
+        ensures wides { L.wides ledger.new ≡ L.wides ledger.old }
+    {
+        self.make_primitive(row);
+        let spare = self.columns + self.basis.len() + 3;
+        self.replace(row, spare);
+        match self.clear_others(row, column, count, ledger) {
+            Ok(()) => {
+                self.replace(row, column);
+                Ok(())
+            }
+            Err(i) => Err(i),
         }
     }
-    Ok(())
-}
 
-/// Brings the column in at its row: all other rows lose it. After an `Err`, which names the first row that would be
-/// wide, the table is open.
-pub fn exchange<N: Exact, L: Ledger>(
-    rows: &mut [i64],
-    room: &mut Room,
-    count: usize,
-    place: Place,
-    ledger: &mut L,
-) -> Result<(), usize>
-    requires size { length rows.old ≡ count * place.width }
-    requires room_size { room.old ≡ place.width }
-    requires column_in { place.column < place.width }
-    requires row_in { place.row < count }
-    requires within { IsWithin N.limit rows.old }
-    ensures pivoted { OnOk result
-        (IsPivoted count place.width place.row place.column (row_at rows.old place.width) (row_at rows.new place.width)) }
-    ensures within { IsWithin N.limit rows.new }
-    ensures wide { IfErr result (λ i.
-        IsWidePivot N.limit count place.width place.row place.column (row_at rows.old place.width) i) }
-    ensures room { room.new ≡ room.old }
-    ensures counted { CountsWide L.ops L.wides ledger.old ledger.new result }
-{
-    let listed = list_places(rows, place, room.places.as_mut_slice());
-    let places = &room.places.as_slice()[..listed];
-    clear_others::<N, L>(rows, room.row.as_mut_slice(), places, count, place, ledger)
+    /// The same, but after an `Err` the basis is the next one and the rows are open.
+    pub fn pivot<L: Ledger>(
+        &mut self,
+        row: usize,
+        column: usize,
+        count: usize,
+        ledger: &mut L,
+    ) -> Result<(), usize>
+        requires row_in { row < positions self.old }
+        requires free { IsFree self.old.columns self.old.basis column }
+        requires structural { column ≢ spare_column self.old.columns (positions self.old) }
+        requires closed { IsClosed self.old }
+        requires count { (positions self.old < count) × (count ≤ positions self.old + 2) }
+        requires positive { pos 0 <ℤ rows_of self.old row column }
+        ensures pivoted { OnOk result (IsPivoted self.old self.new row column) }
+        ensures closed { OnOk result (IsClosed self.new) }
+        ensures kept { OnOk result (kept_row_of self.old (spare_column self.old.columns (positions self.old)) ≡ pos 0
+            → suc (positions self.old) < count
+            → IsClearedBy (width_of self.old) column (kept_row_of self.old) (rows_of self.old row)
+            (kept_row_of self.new)) }
+        ensures wide { IfErr result (λ i. (i < count) × (i ≢ row) × (i ≤ positions self.old
+            → IsWideCleared self.old.limit (width_of self.old) column (rows_of self.old i) (rows_of self.old row))) }
+        ensures wide_kept { IfErr result (λ i.
+            kept_row_of self.old (spare_column self.old.columns (positions self.old)) ≡ pos 0
+            → i ≡ suc (positions self.old)
+            → IsWideCleared self.old.limit (width_of self.old) column (kept_row_of self.old) (rows_of self.old row)) }
+        ensures small { (i c : ℕ) → i ≤ positions self.new → nat_abs (rows_of self.new i c) ≤ self.new.limit }
+        ensures basis { self.new.basis ≡ set self.old.basis row column }
+        ensures columns { self.new.columns ≡ self.old.columns }
+        ensures limit { self.new.limit ≡ self.old.limit }
+        ensures ops { L.ops ledger.old ≤ L.ops ledger.new }
+        ensures wides { L.wides ledger.new ≡ L.wides ledger.old }
+    {
+        match self.pivot_or_open(row, column, count, ledger) {
+            Ok(()) => Ok(()),
+            Err(i) => {
+                self.replace(row, column);
+                Err(i)
+            }
+        }
+    }
 }

@@ -1,83 +1,99 @@
 // Which row leaves: of the rows that are positive in the entering column, the one whose right side and then slack
 // entries, all over its entry in that column, come first. (Dantzig, Orden, Wolfe 1955.)
 
-ghost use Rattle.std.specs.Prelude.{◌≡◌, ◌+◌, ◌*◌, ◌-◌, ◌^◌, ◌<◌, ◌<ℤ◌, ◌≤ℤ◌, ◌↔◌, pos, length, IsTrue, IfSome, MatchOption, ℕ};
+ghost use Rattle.std.specs.Prelude.{◌≡◌, ◌<◌, ◌≤◌, ◌^◌, ◌-◌, ◌+◌, ◌<ℤ◌, ◌≤ℤ◌, ◌*ℤ◌, ◌-ℤ◌, ◌↔◌, ℕ, pos, nat_abs, IsTrue, IfSome, MatchOption};
 ghost use Rattle.rob_linear.specs.Turns.{ComesBefore, Leaves};
-ghost use Rattle.rob_rows.specs.PrimitiveParts.{IsWithin};
-ghost use Rattle.rob_simplex.specs.Dictionaries.{shape, rows_of, GoesFirst};
+ghost use Rattle.rob_simplex.specs.Dictionaries.{positions, width_of, rows_of, shape, GoesFirst, Decided, IsFree};
 
-use rob_rows::lex_cmp;
-use std::cmp::Ordering;
+use crate::dictionary::Dictionary;
 
-// Whether row i comes before row e, each over its entry in the column. Slack entries count only where the right sides
-// are in the same ratio.
-fn comes_before(rows: &[i64], n: usize, m: usize, column: usize, i: usize, e: usize) -> bool
-    requires size { length rows.now ≡ (m + 2) * (n + m + 3) }
-    requires within { IsWithin (2 ^ 62 - 1) rows.now }
-    requires column_in { column < n + m + 3 }
-    requires i_in { i < m }
-    requires e_in { e < m }
-    requires i_positive { pos 0 <ℤ rows_of n m rows.now i column }
-    requires e_positive { pos 0 <ℤ rows_of n m rows.now e column }
-    ensures decides { IsTrue result ↔ ComesBefore (shape n m) (rows_of n m rows.now i)
-        (rows_of n m rows.now i column) (rows_of n m rows.now e) (rows_of n m rows.now e column) }
+// a * b
+fn product(a: i64, b: i64) -> i128
+    ensures value { result ≡ a *ℤ b }
 {
-    let here = i * (n + m + 3);
-    let there = e * (n + m + 3);
-    let right = n + m + 1;
-    let p = rows[here + column];
-    let q = rows[there + column];
-    let a = &rows[here + right..here + right + 1];
-    let b = &rows[there + right..there + right + 1];
-    match lex_cmp(a, p, b, q) {
-        Ordering::Less => true,
-        Ordering::Greater => false,
-        Ordering::Equal => {
-            let a = &rows[here + n..here + n + m];
-            let b = &rows[there + n..there + n + m];
-            lex_cmp(a, p, b, q).is_lt()
-        }
-    }
+    a as i128 * b as i128
 }
 
-// Whether row i is positive in the column and comes before the best row so far.
-fn goes_first(
-    rows: &[i64],
-    n: usize,
-    m: usize,
-    column: usize,
-    i: usize,
-    best: Option<usize>,
-) -> bool
-    requires size { length rows.now ≡ (m + 2) * (n + m + 3) }
-    requires within { IsWithin (2 ^ 62 - 1) rows.now }
-    requires column_in { column < n + m + 3 }
-    requires i_in { i < m }
-    requires best_in { IfSome best (λ e. (e < m) × (pos 0 <ℤ rows_of n m rows.now e column)) }
-    ensures decides { IsTrue result ↔ GoesFirst n m (rows_of n m rows.now) column i best }
+// Whether a over p is less than b over q, for positive divisors; none where they are the same.
+fn is_less(a: i64, p: i64, b: i64, q: i64) -> Option<bool>
+    ensures order { MatchOption result ((p *ℤ b) -ℤ (q *ℤ a) ≡ pos 0) (λ less. Decided less ((p *ℤ b) -ℤ (q *ℤ a))) }
 {
-    if rows[i * (n + m + 3) + column] <= 0 {
-        return false;
+    let first = product(a, q);
+    let second = product(b, p);
+    if first < second {
+        return Some(true);
     }
-    match best {
-        None => true,
-        Some(e) => comes_before(rows, n, m, column, i, e),
+    if second < first {
+        return Some(false);
     }
+    None
 }
 
-/// The row that leaves, if one is positive in the column.
-pub fn leaving(rows: &[i64], n: usize, m: usize, column: usize) -> Option<usize>
-    requires size { length rows.now ≡ (m + 2) * (n + m + 3) }
-    requires within { IsWithin (2 ^ 62 - 1) rows.now }
-    requires column_in { column < n + m + 3 }
-    ensures first { MatchOption result ((i : ℕ) → i < m → rows_of n m rows.now i column ≤ℤ pos 0)
-        (λ row. Leaves (shape n m) (rows_of n m rows.now) column row) }
-{
-    let mut best = None;
-    for i in 0..m {
-        if goes_first(rows, n, m, column, i, best) {
-            best = Some(i);
+impl Dictionary {
+    // Whether entries in a column, over the rows' divisors, decide which of two rows comes first.
+    fn is_less_at(&self, column: usize, i: usize, p: i64, e: usize, q: i64) -> Option<bool>
+        requires column_in { column < width_of self.now }
+        requires i_in { i < positions self.now }
+        requires e_in { e < positions self.now }
+        ensures order { MatchOption result
+            ((p *ℤ rows_of self.now e column) -ℤ (q *ℤ rows_of self.now i column) ≡ pos 0)
+            (λ less. Decided less ((p *ℤ rows_of self.now e column) -ℤ (q *ℤ rows_of self.now i column))) }
+    {
+        is_less(self.entry(i, column), p, self.entry(e, column), q)
+    }
+
+    // Whether row i comes before row e, each over its divisor. Slack entries count only where the right sides are in the
+    // same ratio.
+    pub fn comes_before(&self, i: usize, p: i64, e: usize, q: i64) -> bool
+        requires i_in { i < positions self.now }
+        requires e_in { e < positions self.now }
+        ensures decides { IsTrue result ↔ ComesBefore (shape self.now.columns (positions self.now))
+            (rows_of self.now i) p (rows_of self.now e) q }
+    {
+        let m = self.basis.len();
+        match self.is_less_at(self.columns + m + 2, i, p, e, q) {
+            Some(less) => return less,
+            None => {}
+        }
+        for k in 0..m {
+            match self.is_less_at(self.columns + k, i, p, e, q) {
+                Some(less) => return less,
+                None => {}
+            }
+        }
+        false
+    }
+
+    // Whether row i is positive in the column and comes before the best row so far.
+    fn goes_first(&self, column: usize, i: usize, best: Option<usize>) -> bool
+        requires column_in { column < width_of self.now }
+        requires i_in { i < positions self.now }
+        requires best_in { IfSome best (λ e. (e < positions self.now) × (pos 0 <ℤ rows_of self.now e column)) }
+        ensures decides { IsTrue result
+            ↔ GoesFirst self.now.columns (positions self.now) (rows_of self.now) column i best }
+    {
+        let entry = self.entry(i, column);
+        if entry <= 0 {
+            return false;
+        }
+        match best {
+            None => true,
+            Some(e) => self.comes_before(i, entry, e, self.entry(e, column)),
         }
     }
-    best
+
+    /// The row that leaves, if one is positive in the column.
+    pub fn leaving(&self, column: usize) -> Option<usize>
+        requires column_in { column < width_of self.now }
+        ensures first { MatchOption result ((i : ℕ) → i < positions self.now → rows_of self.now i column ≤ℤ pos 0)
+            (λ row. Leaves (shape self.now.columns (positions self.now)) (rows_of self.now) column row) }
+    {
+        let mut best = None;
+        for i in 0..self.basis.len() {
+            if self.goes_first(column, i, best) {
+                best = Some(i);
+            }
+        }
+        best
+    }
 }

@@ -1,19 +1,18 @@
 // The solver: its memory, and its answers.
 
-ghost use Rattle.std.specs.Prelude.{◌≡◌, ◌+◌, ◌^◌, ◌<◌, ◌≤◌, ℕ, nat_abs, length, IfOk, MatchResult};
+ghost use Rattle.std.specs.Prelude.{◌≡◌, ◌+◌, ◌^◌, ◌<◌, ◌≤◌, suc, neg_ℤ, nat_abs, length, IfOk, MatchResult};
 ghost use Rattle.rob_algebra.specs.Fraction.{of_pair};
 ghost use Rattle.rob_rows.specs.LinearPrograms.{IsShaped, HasNumbersWithin, program_of};
-ghost use Rattle.rob_simplex.specs.Solvers.{positions, entries, HasPoint, HasOptimum, HasRay, HasWeights, column_of, IsMadeFor};
-ghost use Rattle.rob_simplex.specs.Solutions.{point_of, ray_of, dual_of, value_of, weights_of, over_objective};
+ghost use Rattle.rob_simplex.specs.Solvers.{positions, HasPoint, HasOptimum, HasRay, HasWeights, column_of, IsMadeFor};
+ghost use Rattle.rob_simplex.specs.Solutions.{point_of, ray_of, dual_of, value_of, weights_of};
 ghost use Rattle.rob_linear.specs.Programs.{Program};
 ghost use Rattle.rob_number.specs.Counts.{CountsWide};
-ghost use Rattle.rob_simplex.specs.Dictionaries.{columns_of};
+ghost use Rattle.rob_simplex.specs.Dictionaries.{width_of, columns_of, rows_of};
 ghost use Rattle.rob_simplex.specs.Endings.{IsFresh, HasAnswered, HasSolved, HasStopped};
 
-use crate::path::{Ending, follow};
-use crate::room::Room;
-use crate::solution::{position_of, quotient};
-use crate::starting_rows::fill;
+use crate::dictionary::Dictionary;
+use crate::path::Ending;
+use crate::solution::quotient;
 use crate::state::{LpStop, State};
 use rob_number::{Exact, Ledger, LpKind, Memory};
 use rob_rows::Lp;
@@ -23,24 +22,21 @@ use std::marker::{Model, PhantomData};
 /// A solver of one linear program by the simplex method on whole rows. It takes all its memory when it is made.
 #[derive(Drop)]
 pub struct Work<N: Exact> {
-    rows: Vec<i64>,
-    room: Room,
-    basis: Vec<usize>,
-    columns: usize,
+    dictionary: Dictionary,
+    weights: Vec<i64>,
     state: State,
     number: PhantomData<N>,
 }
 
 impl<N: Exact> Model for Work<N> {
-    ghost use Rattle.std.specs.Prelude.{◌≡◌, ◌+◌, length};
     ghost use Rattle.rob_simplex.specs.Solvers.{Solver, IsSound};
 
     ghost Value = { Solver };
 
-    ghost view = { λ w. record { state = w.state; columns = w.columns; basis = w.basis.items; table = w.rows.items } };
+    ghost view = { λ w. record { state = w.state; dictionary = w.dictionary; weights = w.weights.items } };
 
-    ghost invariant = { λ w. IsSound N.limit (record { state = w.state; columns = w.columns; basis = w.basis.items; table = w.rows.items })
-        × (w.room ≡ w.columns + length w.basis.items + 3) };
+    ghost invariant = { λ w. IsSound N.limit
+        (record { state = w.state; dictionary = w.dictionary; weights = w.weights.items }) };
 }
 
 impl<N: Exact> Work<N> {
@@ -51,20 +47,11 @@ impl<N: Exact> Work<N> {
         requires numbers { HasNumbersWithin N.limit lp.now }
         ensures made { IfOk result (λ work. IsMadeFor (program_of lp.now) work) }
     {
-        let cost = lp.c.items();
-        let right = lp.b.items();
-        let left = lp.a.items();
-        let width = cost.len() + right.len() + 3;
-        let mut rows = vec![in alloc; 0i64; (right.len() + 2) * width]?;
-        let mut basis = vec![in alloc; 0usize; right.len()]?;
-        fill(rows.as_mut_slice(), left, right, cost);
-        fill_slacks(basis.as_mut_slice(), cost.len());
-        let room = Room::new(alloc, width)?;
+        let dictionary = Dictionary::new(alloc, lp, N::LIMIT as u64)?;
+        let weights = vec![in alloc; 0i64; lp.b.items().len()]?;
         Ok(Work {
-            rows,
-            room,
-            basis,
-            columns: cost.len(),
+            dictionary,
+            weights,
             state: State::New,
             number: PhantomData,
         })
@@ -81,16 +68,13 @@ impl<N: Exact> Work<N> {
         ensures positions { positions self.new ≡ positions self.old }
         ensures counted { CountsWide L.ops L.wides ledger.old ledger.new result }
     {
-        let positions = self.basis.len();
-        let rows = self.rows.as_mut_slice();
-        let room = &mut self.room;
-        let basis = self.basis.as_mut_slice();
-        match follow::<N, L>(rows, room, basis, self.columns, positions, ledger) {
+        match self.dictionary.follow(ledger) {
             Ok(Ending::Optimal) => {
                 self.state = State::Optimal;
                 Ok(LpKind::Optimal)
             }
-            Ok(Ending::Infeasible) => {
+            Ok(Ending::Infeasible(row)) => {
+                self.dictionary.show_weights(row, self.weights.as_mut_slice());
                 self.state = State::Infeasible;
                 Ok(LpKind::Infeasible)
             }
@@ -111,7 +95,7 @@ impl<N: Exact> Work<N> {
         requires inside { i < positions self.now }
         ensures column { result ≡ columns_of self.now.basis i }
     {
-        self.basis[i as usize] as u32
+        self.dictionary.basic(i as usize) as u32
     }
 
     /// The number of a structural column in the point of the last basis, which is feasible, and best after `Optimal`.
@@ -120,33 +104,35 @@ impl<N: Exact> Work<N> {
         requires inside { j < self.now.columns }
         ensures value { N.value result ≡ point_of self.now j }
     {
-        let right = self.columns + self.basis.len() + 1;
-        match position_of(self.basis.as_slice(), j as usize) {
-            Some(i) => self.over_own(self.entry(i, right), i),
+        let right = self.dictionary.columns() + self.dictionary.positions() + 2;
+        match self.dictionary.position_of(j as usize) {
+            Some(i) => self.over_own(right, i),
             None => quotient(0, 1),
         }
     }
 
-    // An entry of the row of position i.
-    fn entry(&self, i: usize, k: usize) -> i64
-        requires row_in { i < positions self.now + 2 }
-        requires column_in { k < self.now.columns + positions self.now + 3 }
-        ensures entry { result ≡ entries self.now i k }
-        ensures within { nat_abs result ≤ N.limit }
-    {
-        self.rows[i * (self.columns + self.basis.len() + 3) + k]
-    }
-
-    // A number over the own entry of the row of position i.
-    fn over_own(&self, numerator: i64, i: usize) -> N
+    // An entry of the row of position i, in a column of the dictionary, over the row's own entry.
+    fn over_own(&self, column: usize, i: usize) -> N
         requires point { HasPoint self.now }
         requires inside { i < positions self.now }
-        requires within { nat_abs numerator ≤ N.limit }
-        ensures value { N.value result
-            ≡ of_pair numerator (nat_abs (entries self.now i (columns_of self.now.basis i))) }
+        requires column { column < width_of self.now.dictionary }
+        ensures value { N.value result ≡ of_pair (rows_of self.now.dictionary i column)
+            (nat_abs (rows_of self.now.dictionary i (columns_of self.now.basis i))) }
     {
-        let own = self.basis[i];
-        quotient(numerator, self.entry(i, own))
+        let own = self.dictionary.basic(i);
+        quotient(self.dictionary.entry(i, column), self.dictionary.entry(i, own))
+    }
+
+    // Minus such an entry.
+    fn minus_over_own(&self, column: usize, i: usize) -> N
+        requires point { HasPoint self.now }
+        requires inside { i < positions self.now }
+        requires column { column < width_of self.now.dictionary }
+        ensures value { N.value result ≡ of_pair (neg_ℤ (rows_of self.now.dictionary i column))
+            (nat_abs (rows_of self.now.dictionary i (columns_of self.now.basis i))) }
+    {
+        let own = self.dictionary.basic(i);
+        quotient(-self.dictionary.entry(i, column), self.dictionary.entry(i, own))
     }
 
     /// The dual value of row `i`, at least 0, in units of the objective for one unit of the right side.
@@ -155,7 +141,7 @@ impl<N: Exact> Work<N> {
         requires inside { i < positions self.now }
         ensures value { N.value result ≡ dual_of self.now i }
     {
-        self.over_objective(self.columns + i as usize)
+        self.over_objective(self.dictionary.columns() + i as usize)
     }
 
     /// The value of the point and of the dual values.
@@ -163,21 +149,19 @@ impl<N: Exact> Work<N> {
         requires optimum { HasOptimum self.now }
         ensures value { N.value result ≡ value_of self.now }
     {
-        self.over_objective(self.columns + self.basis.len() + 1)
+        self.over_objective(self.dictionary.columns() + self.dictionary.positions() + 2)
     }
 
-    // An entry of the objective's row over the row's own entry.
-    fn over_objective(&self, k: usize) -> N
+    // An entry of the objective's row, in a column of the dictionary, over the row's own entry.
+    fn over_objective(&self, column: usize) -> N
         requires optimum { HasOptimum self.now }
-        requires inside { k < self.now.columns + positions self.now + 3 }
-        ensures value { N.value result ≡ over_objective self.now k }
+        requires column { column < width_of self.now.dictionary }
+        ensures value { N.value result ≡ of_pair (rows_of self.now.dictionary (positions self.now) column)
+            (nat_abs (rows_of self.now.dictionary (positions self.now) (suc (self.now.columns + positions self.now)))) }
     {
-        let positions = self.basis.len();
-        let start = positions * (self.columns + positions + 3);
-        quotient(
-            self.rows[start + k],
-            self.rows[start + self.columns + positions],
-        )
+        let m = self.dictionary.positions();
+        let own = self.dictionary.columns() + m + 1;
+        quotient(self.dictionary.entry(m, column), self.dictionary.entry(m, own))
     }
 
     /// The weight of row `i`, at least 0. Weights have no common divisor.
@@ -187,8 +171,7 @@ impl<N: Exact> Work<N> {
         ensures weight { result ≡ weights_of self.now i }
         ensures within { nat_abs result ≤ N.limit }
     {
-        let positions = self.basis.len();
-        self.rows[positions * (self.columns + positions + 3) + self.columns + i as usize]
+        self.weights[i as usize]
     }
 
     /// How much a structural column grows along the ray.
@@ -201,8 +184,8 @@ impl<N: Exact> Work<N> {
         if j as usize == column {
             return quotient(1, 1);
         }
-        match position_of(self.basis.as_slice(), j as usize) {
-            Some(i) => self.over_own(-self.entry(i, column), i),
+        match self.dictionary.position_of(j as usize) {
+            Some(i) => self.minus_over_own(column, i),
             None => quotient(0, 1),
         }
     }
@@ -224,15 +207,5 @@ impl<N: Exact> Work<N> {
             State::Unbounded(column) => column,
             _ => 0,
         }
-    }
-}
-
-// The slack columns, in order, from the first on.
-fn fill_slacks(basis: &mut [usize], first: usize)
-    requires few { first + length basis.old < 2 ^ 31 }
-    ensures slacks { (i : ℕ) → i < length basis.old → columns_of basis.new i ≡ first + i }
-{
-    for i in 0..basis.len() {
-        basis[i] = first + i;
     }
 }

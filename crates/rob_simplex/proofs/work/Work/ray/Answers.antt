@@ -1,8 +1,6 @@
-use Rattle.std.proofs.Common.{◌≡◌, ◌≢◌, sym, ◌∙◌, ap, arith, to_z, of_z, w64, pos, ◌-ℤ◌, neg_ℤ, nat_abs}
-use Rattle.rob_algebra.specs.Fraction.{of_pair}
-use Rattle.rob_number.proofs.CastLemmas.{negated_seen}
-use Rattle.rob_simplex.specs.Dictionaries.{columns_of}
-use Rattle.rob_simplex.specs.Solvers.{Solver, entries, column_of}
+use Rattle.std.proofs.Common.{◌≡◌, ◌≢◌, ◌<◌, sym, ◌∙◌, subst, Some, None}
+use Rattle.rob_simplex.specs.Solvers.{Solver, positions, IsSound, column_of, has_point}
+use Rattle.rob_simplex.specs.Solutions.{position_of}
 use Rattle.rob_simplex.proofs.Told.{ray_none, ray_some, ray_here}
 use Rattle.rob_simplex.proofs.work.Work.ray.Goals as goal
 
@@ -11,16 +9,15 @@ returns-then-j-column g c = record { value = c.quotient.ensures.value ∙ ray_he
 
 pub returns-in-None : goal.returns-in-None
 returns-in-None g c =
-    let v : Solver = record { state = c.self.inside.state; columns = c.self.inside.columns; basis = c.self.inside.basis.items; table = c.self.inside.rows.items } in
+    let h = subst (λ (t : Solver). None ≡ position_of t.basis c.args.j) c.self.view_is c.in-None.ensures.position in
     let d : c.args.j ≢ column_of c.args.self.now.state = (λ e. c.if-j-column.false (e ∙ sym c.growing-column.ensures.column)) in
-    record { value = c.quotient-in-None.ensures.value ∙ ray_none c.args.self.now v c.self.view_is c.as_slice.result.now c.as_slice.ensures.value c.args.j d c.in-None.ensures.position }
+    record { value = c.quotient-in-None.ensures.value ∙ ray_none c.args.self.now c.args.j d h }
 
 pub returns-in-Some : goal.returns-in-Some
 returns-in-Some g c =
-    let v : Solver = record { state = c.self.inside.state; columns = c.self.inside.columns; basis = c.self.inside.basis.items; table = c.self.inside.rows.items } in
+    let h = subst (λ (t : Solver). Some c.in-Some.i ≡ position_of t.basis c.args.j) c.self.view_is c.in-Some.ensures.position in
+    let sound : IsSound g.N.Exact.limit c.args.self.now = subst (λ (t : Solver). IsSound g.N.Exact.limit t) c.self.view_is c.self.invariant in
+    let il = subst (λ (t : Solver). c.in-Some.i < positions t) c.self.view_is c.in-Some.ensures.inside in
+    let point = subst has_point (sym c.requires.ray) tt in
     let d : c.args.j ≢ column_of c.args.self.now.state = (λ e. c.if-j-column.false (e ∙ sym c.growing-column.ensures.column)) in
-    let r = ray_some c.args.self.now v c.self.view_is c.as_slice.result.now c.as_slice.ensures.value c.args.j c.in-Some.i d c.in-Some.ensures.position in
-    let den = nat_abs (entries c.args.self.now c.in-Some.i (columns_of c.args.self.now.basis c.in-Some.i)) in
-    let n : to_z w64 (of_z w64 (pos 0 -ℤ to_z w64 (of_z w64 c.entry.result))) ≡ neg_ℤ (entries c.args.self.now c.in-Some.i (column_of c.args.self.now.state)) =
-    negated_seen c.entry.result (omega (arith, c.entry.ensures.within, g.met.N.Exact.limit_high)) ∙ ap neg_ℤ (c.entry.ensures.entry ∙ ap (λ k. entries c.args.self.now c.in-Some.i k) c.growing-column.ensures.column) in
-    record { value = c.over_own.ensures.value ∙ ap (λ t. of_pair t den) n ∙ r }
+    record { value = c.minus_over_own.ensures.value ∙ ray_some c.args.self.now c.in-Some.i (sound.own point c.in-Some.i il) c.args.j c.growing-column.result d c.growing-column.ensures.column (sound.growing c.requires.ray) h }

@@ -1,0 +1,348 @@
+-- The auxiliary column comes in where a pivot beside it was begun: the rows are then those of the explicit form.
+use Rattle.std.proofs.Common.{◌≡◌, ◌≢◌, ℕ, zero, suc, ◌+◌, ◌<◌, ◌≤◌, sym, refl, ap, ◌∙◌, subst, arith, inl, inr, List, length, set, min}
+use Rattle.std.proofs.lemmas.Bool.{cases_eq, cases_lt}
+use Rattle.std.proofs.lemmas.Int.{ints}
+use Rattle.std.proofs.lemmas.List.{length-set}
+use Rattle.std.specs.Int.RustNames.{unsigned_abs}
+use lib.IntN.{ℤ, pos, ◌-ℤ◌, ◌*ℤ◌, neg_ℤ}
+use lib.Signed.{◌<ℤ◌}
+use Rattle.rob_linear.specs.Vectors.{Vector, Columns}
+use Rattle.rob_linear.specs.Systems.{System, IsPrimitive}
+use Rattle.rob_linear.specs.Programs.{Program, auxiliary_row, auxiliary_of, kept_of}
+use Rattle.rob_linear.specs.Turns.{own_of, IsSameBasis}
+use Rattle.rob_linear.specs.Paths.{HasAuxiliary, Reached}
+use Rattle.rob_linear.specs.WideRows.{HasWideEntry, IsWideIn, HasWideRow, NeedsAuxiliary}
+use Rattle.rob_linear.specs.Multiples.{IsParallel, IsMultipleRow, IsClearedBy, StandsMultiple}
+use Rattle.rob_linear.specs.Beside.{StandsBeside, IsBackPivot, path_basis}
+use Rattle.rob_linear.proofs.Programs.{auxiliary_cost_zero, auxiliary_cost_entry, auxiliary_cost_objective}
+use Rattle.rob_linear.proofs.Turns.{own_same}
+use Rattle.rob_linear.proofs.OtherCosts.{turned_same}
+use Rattle.rob_linear.proofs.Multiples.{parallel_sym, parallel_positive}
+use Rattle.rob_linear.proofs.Beside.{put_same, put_other}
+use Rattle.rob_linear.proofs.BesideColumns.{holds_stands, stands_multiple_same}
+use Rattle.rob_linear.proofs.BesideLoops.{beside_needs}
+use Rattle.rob_linear.proofs.BesideBack.{begun_stands, begun_wide, begun_cost_wide}
+use Rattle.rob_rows.specs.Updates.{IsWideCleared}
+use Rattle.rob_simplex.specs.Dictionaries.{Table, positions, width_of, columns_of, spare_column, rows_of, kept_row_of, IsFree, IsAlone, IsOpen, IsClosed, ClearsTable, StopsTable}
+use Rattle.rob_simplex.specs.Phases.{IsOpenBeside}
+use Rattle.rob_simplex.specs.Explicit.{InExplicit}
+use Rattle.rob_simplex.proofs.PivotLemmas.{set_twice, zero_stays, free_opened}
+use Rattle.rob_simplex.proofs.FirstPhase.{set_is, auxiliary_free}
+use Rattle.rob_simplex.proofs.ExplicitTurns.{wide_cleared, wide_primitive, wide_entry}
+
+-- the same entries
+cleared_same : (n n' col : ℕ) (low low' top top' new new' : Vector) → n' ≤ n → col < n' → ((k : ℕ) → k < n' → low k ≡ low' k) → ((k : ℕ) → k < n' → top k ≡ top' k) → ((k : ℕ) → k < n' → new' k ≡ new k)
+    → IsClearedBy n col low top new → IsClearedBy n' col low' top' new'
+cleared_same n n' col low low' top top' new new' l cl el et en c = record {
+  divisor = c.divisor;
+  p = c.p;
+  q = c.q;
+  divides = c.divides;
+  positive = c.positive;
+  entries = λ k kl.
+      ap (λ z. c.divisor *ℤ z) (en k kl) ∙ c.entries k (omega arith) ∙ ap (λ z. (c.p *ℤ z) -ℤ (c.q *ℤ top k)) (el k kl)
+      ∙ ap (λ z. (c.p *ℤ low' k) -ℤ (c.q *ℤ z)) (et k kl);
+  cleared = en col cl ∙ c.cleared;
+}
+
+-- the same columns
+row_of_same : (S : System) (basis basis' : Columns) (i : ℕ) (r : Vector) → IsSameBasis S.m basis basis' → IsMultipleRow S (own_of S basis) i r → IsMultipleRow S (own_of S basis') i r
+row_of_same S basis basis' i r e h = record {
+  along = record { zeros = λ j jl d. subst (λ v. r v ≡ pos 0) (own_same S basis basis' e j) (h.along.zeros j jl d); spanned = h.along.spanned };
+  positive = subst (λ v. pos 0 <ℤ r v) (own_same S basis basis' e i) h.positive;
+}
+
+wide_same : (limit : ℕ) (S : System) (basis basis' : Columns) (i : ℕ) → IsSameBasis S.m basis basis' → IsWideIn limit S basis i → IsWideIn limit S basis' i
+wide_same limit S basis basis' i e w = (
+  w.0,
+  (λ j jl. subst (λ v. v < S.columns) (e j jl) (w.1 j jl)),
+  record {
+    along = record { zeros = λ j jl d. subst (λ v. w.0 v ≡ pos 0) (own_same S basis basis' e j) (w.2.along.zeros j jl d); spanned = w.2.along.spanned };
+    positive = subst (λ v. pos 0 <ℤ w.0 v) (own_same S basis basis' e i) w.2.positive;
+    primitive = w.2.primitive;
+  },
+  w.3,
+)
+
+-- the objective's row is kept, and the auxiliary one stands in its place
+pub record IsPrepared (n m : ℕ) (t t2 : Table) : Type 0 where
+  pub basis : t2.basis ≡ t.basis
+  pub columns : t2.columns ≡ t.columns
+  pub rows : (i c : ℕ) → i < m → rows_of t2 i c ≡ rows_of t i c
+  pub kept : (c : ℕ) → kept_row_of t2 c ≡ rows_of t m c
+  pub auxiliary : rows_of t2 m (n + m) ≡ pos 1
+  pub own : rows_of t2 m (suc (n + m)) ≡ pos 1
+  pub zero_else : (c : ℕ) → c < n + m + 4 → c ≢ n + m → c ≢ suc (n + m) → rows_of t2 m c ≡ pos 0
+
+module _ (t t1 t2 : Table) (k1 : (c : ℕ) → kept_row_of t1 c ≡ rows_of t (positions t) c) (r1 : (i c : ℕ) → i ≤ positions t → rows_of t1 i c ≡ rows_of t i c) (b1 : t1.basis ≡ t.basis) (n1 : t1.columns ≡ t.columns)
+    (a2 : rows_of t2 (positions t1) (t1.columns + positions t1) ≡ pos 1) (o2 : rows_of t2 (positions t1) (suc (t1.columns + positions t1)) ≡ pos 1)
+    (z2 : (c : ℕ) → c < width_of t1 → c ≢ t1.columns + positions t1 → c ≢ suc (t1.columns + positions t1) → rows_of t2 (positions t1) c ≡ pos 0)
+    (r2 : (i c : ℕ) → i < positions t1 → rows_of t2 i c ≡ rows_of t1 i c) (k2 : (c : ℕ) → kept_row_of t2 c ≡ kept_row_of t1 c) (b2 : t2.basis ≡ t1.basis) (n2 : t2.columns ≡ t1.columns) where
+  m1 : positions t1 ≡ positions t
+  m1 = ap length b1
+
+  pub prepared : IsPrepared t.columns (positions t) t t2
+  prepared = record {
+    basis = b2 ∙ b1;
+    columns = n2 ∙ n1;
+    rows = λ i c l. r2 i c (omega (arith, m1)) ∙ r1 i c (omega arith);
+    kept = λ c. k2 c ∙ k1 c;
+    auxiliary = subst (λ n. rows_of t2 (positions t) (n + positions t) ≡ pos 1) n1 (subst (λ m. rows_of t2 m (t1.columns + m) ≡ pos 1) m1 a2);
+    own = subst (λ n. rows_of t2 (positions t) (suc (n + positions t)) ≡ pos 1) n1 (subst (λ m. rows_of t2 m (suc (t1.columns + m)) ≡ pos 1) m1 o2);
+    zero_else =
+        subst (λ n. (c : ℕ) → c < n + positions t + 4 → c ≢ n + positions t → c ≢ suc (n + positions t) → rows_of t2 (positions t) c ≡ pos 0) n1
+        (subst (λ m. (c : ℕ) → c < t1.columns + m + 4 → c ≢ t1.columns + m → c ≢ suc (t1.columns + m) → rows_of t2 m c ≡ pos 0) m1 z2);
+  }
+
+module _ (P : Program) (q : ℕ) (t : Table) (h : IsOpenBeside P q t) where
+  q_low : q < P.m
+  q_low = h.stood.holds.inside
+
+  pub open_size : positions t ≡ P.m
+  open_size = ap length h.basis ∙ length-set h.before.basis q (spare_column P.n P.m) ∙ h.stood.rows_are
+
+  pub open_row : q < positions t
+  open_row = omega (arith, open_size, q_low)
+
+  size_is : t.columns + positions t ≡ P.n + P.m
+  size_is = omega (arith, open_size, h.columns_are)
+
+  free : IsFree t.columns t.basis (P.n + P.m)
+  free =
+      let e : spare_column P.n P.m ≡ spare_column h.before.columns (positions h.before) = omega (arith, h.stood.rows_are, h.stood.columns_are) in
+      let ql : q < positions h.before = omega (arith, h.stood.rows_are, q_low) in
+      subst (λ n. IsFree n t.basis (P.n + P.m)) (h.stood.columns_are ∙ sym h.columns_are)
+      (subst (λ (b : List ℕ). IsFree h.before.columns b (P.n + P.m)) (sym h.basis)
+      (free_opened h.before q (P.n + P.m) (spare_column P.n P.m) e ql (auxiliary_free P q h.before h.stood) (λ x. absurd (omega (arith, e)))))
+
+  pub open_free : IsFree t.columns t.basis (t.columns + positions t)
+  open_free = subst (λ x. IsFree t.columns t.basis x) (sym size_is) free
+
+  positive : pos 0 <ℤ rows_of t q (P.n + P.m)
+  positive =
+      let b : rows_of h.before q (P.n + P.m) <ℤ pos 0 = h.stood.holds.below in
+      let n : pos 0 <ℤ neg_ℤ (rows_of h.before q (P.n + P.m)) = omega (arith, ints) in
+      parallel_positive (suc (suc (suc (P.n + P.m)))) (λ k. neg_ℤ (rows_of h.before q k)) (rows_of t q) (P.n + P.m)
+      (parallel_sym (suc (suc (suc (P.n + P.m)))) (rows_of t q) (λ k. neg_ℤ (rows_of h.before q k)) h.begun.row_at) (omega arith) n
+
+  -- the basis of the path
+  abbrev on_path : Columns
+  on_path = path_basis P (columns_of h.before.basis) q
+
+  path_auxiliary : HasAuxiliary P (path_basis P (columns_of h.before.basis) q)
+  path_auxiliary = (q, q_low, sym (put_same (columns_of h.before.basis) q (P.n + P.m)))
+
+  needs : NeedsAuxiliary P
+  needs = beside_needs P (path_basis P (columns_of h.before.basis) q) h.stood.reached path_auxiliary
+
+  stands_there : StandsBeside P (path_basis P (columns_of h.before.basis) q) q (columns_of h.before.basis q) (rows_of h.before)
+  stands_there = holds_stands P (columns_of h.before.basis) q (rows_of h.before) h.stood.holds
+
+  module _ (t2 : Table) (prep : IsPrepared t.columns (positions t) t t2) (x : ℕ) (is : x ≡ t.columns + positions t) where
+    p : IsPrepared P.n P.m t t2
+    p = subst (λ n. IsPrepared n P.m t t2) h.columns_are (subst (λ m. IsPrepared t.columns m t t2) open_size prep)
+
+    x_is : x ≡ P.n + P.m
+    x_is = is ∙ size_is
+
+    m2 : positions t2 ≡ P.m
+    m2 = ap length p.basis ∙ open_size
+
+    n2 : t2.columns ≡ P.n
+    n2 = p.columns ∙ h.columns_are
+
+    w2 : width_of t2 ≡ suc (suc (suc (suc (P.n + P.m))))
+    w2 = omega (arith, m2, n2)
+
+    pub ready_free : IsFree t2.columns t2.basis x
+    ready_free =
+        subst (λ v. IsFree t2.columns t2.basis v) (sym x_is)
+        (subst (λ n. IsFree n t2.basis (P.n + P.m)) (sym p.columns) (subst (λ (b : List ℕ). IsFree t.columns b (P.n + P.m)) (sym p.basis) free))
+
+    pub ready_open : IsOpen t2 q
+    ready_open =
+        let e : spare_column t2.columns (positions t2) ≡ spare_column t.columns (positions t) = omega (arith, m2, n2, size_is) in
+        record {
+          spare = ap (λ (b : List ℕ). columns_of b q) p.basis ∙ h.opened.spare ∙ sym e;
+          zero = ap (rows_of t2 q) e ∙ p.rows q (spare_column t.columns (positions t)) q_low ∙ h.opened.zero;
+        }
+
+    pub ready_positive : pos 0 <ℤ rows_of t2 q x
+    ready_positive = subst (λ v. pos 0 <ℤ rows_of t2 q v) (sym x_is) (subst (λ z. pos 0 <ℤ z) (sym (p.rows q (P.n + P.m) q_low)) positive)
+
+    -- the objective's row is the auxiliary one
+    cost_is : (k : ℕ) → k < suc (suc (suc (P.n + P.m))) → rows_of t2 P.m k ≡ auxiliary_row P P.m k
+    cost_is k l = elim (cases_eq k (P.n + P.m)) [
+      | inl e ↦ ap (rows_of t2 P.m) e ∙ p.auxiliary ∙ sym (ap (auxiliary_row P P.m) e ∙ auxiliary_cost_entry P)
+      | inr d ↦ elim (cases_eq k (suc (P.n + P.m))) [
+        | inl e ↦ ap (rows_of t2 P.m) e ∙ p.own ∙ sym (ap (auxiliary_row P P.m) e ∙ auxiliary_cost_objective P)
+        | inr f ↦ p.zero_else k (omega arith) d f ∙ sym (auxiliary_cost_zero P k d f)
+      ]
+    ]
+
+    zero2 : (i : ℕ) → i ≤ P.m → rows_of t2 i (spare_column P.n P.m) ≡ pos 0
+    zero2 i il = elim (cases_lt i P.m) [
+      | inl l ↦ p.rows i (spare_column P.n P.m) l ∙ h.zero i il
+      | inr l ↦
+          let e : i ≡ P.m = omega arith in
+          ap (λ v. rows_of t2 v (spare_column P.n P.m)) e ∙ p.zero_else (spare_column P.n P.m) (omega arith) (λ y. absurd (omega arith)) (λ y. absurd (omega arith))
+    ]
+
+    kept2 : kept_row_of t2 (spare_column P.n P.m) ≡ pos 0
+    kept2 = p.kept (spare_column P.n P.m) ∙ h.zero P.m (omega arith)
+
+    module _ (t3 t4 : Table) (b3 : t3.basis ≡ t2.basis) (n3 : t3.columns ≡ t2.columns) (b4 : t4.basis ≡ set t3.basis q x) (n4 : t4.columns ≡ t3.columns) where
+      m3 : positions t3 ≡ P.m
+      m3 = ap length b3 ∙ m2
+
+      basis_is : (i : ℕ) → path_basis P (columns_of h.before.basis) q i ≡ columns_of t4.basis i
+      basis_is i =
+          let e : t4.basis ≡ set h.before.basis q (P.n + P.m) =
+          b4 ∙ ap (λ v. set t3.basis q v) x_is ∙ ap (λ (b : List ℕ). set b q (P.n + P.m)) (b3 ∙ p.basis ∙ h.basis) ∙ set_twice h.before.basis q (spare_column P.n P.m) (P.n + P.m) in
+          sym (ap (λ (b : List ℕ). columns_of b i) e ∙ set_is h.before.basis q (P.n + P.m) i (omega (arith, h.stood.rows_are, q_low)))
+
+      pub path_reached : Reached P (columns_of t4.basis)
+      path_reached = (h.stood.reached.0, turned_same P h.stood.reached.0 (path_basis P (columns_of h.before.basis) q) (columns_of t4.basis) (λ i l. basis_is i) h.stood.reached.1)
+
+      -- ---- all rows are cleared
+      module _ (r4 : IsAlone t3 q x → (i c : ℕ) → i ≤ positions t3 → c < t3.columns + positions t3 + 4 → rows_of t4 i c ≡ rows_of t3 i c)
+          (k4 : kept_row_of t3 x ≡ pos 0 → (c : ℕ) → kept_row_of t4 c ≡ kept_row_of t3 c) (count : ℕ) (count_is : count ≡ positions t + 2) (cl : ClearsTable count t2 t3 q x) where
+        cleared : (i : ℕ) → i ≤ P.m → i ≢ q → IsClearedBy (width_of t2) x (rows_of t2 i) (rows_of t2 q) (rows_of t3 i)
+        cleared i il d = cl.cleared i (omega (arith, open_size, count_is)) (omega (arith, m2)) d
+
+        kept_cleared : IsClearedBy (width_of t2) x (kept_row_of t2) (rows_of t2 q) (kept_row_of t3)
+        kept_cleared = cl.kept (omega (arith, open_size, count_is, m2))
+
+        alone : IsAlone t3 q x
+        alone i il d = (cleared i (omega (arith, m3)) d).cleared
+
+        same4 : (i c : ℕ) → i ≤ P.m → c < suc (suc (suc (suc (P.n + P.m)))) → rows_of t4 i c ≡ rows_of t3 i c
+        same4 i c il l = r4 alone i c (omega (arith, m3)) (omega (arith, m3, n3, n2))
+
+        kept4 : (c : ℕ) → kept_row_of t4 c ≡ kept_row_of t3 c
+        kept4 c = k4 kept_cleared.cleared c
+
+        row_q : (c : ℕ) → c < suc (suc (suc (suc (P.n + P.m)))) → rows_of t4 q c ≡ rows_of t q c
+        row_q c l = same4 q c (omega (arith, q_low)) l ∙ cl.row_stays c ∙ p.rows q c q_low
+
+        -- a cleared row, told by the rows before
+        told : (low low' new new' : Vector) → ((k : ℕ) → k < suc (suc (suc (P.n + P.m))) → low k ≡ low' k) → ((k : ℕ) → k < suc (suc (suc (P.n + P.m))) → new' k ≡ new k)
+            → IsClearedBy (width_of t2) x low (rows_of t2 q) new → IsClearedBy (suc (suc (suc (P.n + P.m)))) (P.n + P.m) low' (rows_of t q) new'
+        told low low' new new' el en c =
+            cleared_same (width_of t2) (suc (suc (suc (P.n + P.m)))) (P.n + P.m) low low' (rows_of t2 q) (rows_of t q) new new' (omega (arith, w2)) (omega arith) el (λ k l. p.rows q k q_low) en
+            (subst (λ v. IsClearedBy (width_of t2) v low (rows_of t2 q) new) x_is c)
+
+        back_pivot : IsBackPivot P q (rows_of t) (rows_of t4) (kept_row_of t4)
+        back_pivot = record {
+          row_at = record { p = pos 1; q = pos 1; p_positive = omega (arith, ints); q_positive = omega (arith, ints); same = λ k l. ap (λ z. pos 1 *ℤ z) (row_q k (omega arith)) };
+          row_other = λ i il d. told (rows_of t2 i) (rows_of t i) (rows_of t3 i) (rows_of t4 i) (λ k l. p.rows i k il) (λ k l. same4 i k (omega arith) (omega arith)) (cleared i (omega arith) d);
+          cost = told (rows_of t2 P.m) (auxiliary_row P P.m) (rows_of t3 P.m) (rows_of t4 P.m) cost_is (λ k l. same4 P.m k (omega arith) (omega arith)) (cleared P.m (omega arith) (λ e. absurd (omega (arith, q_low))));
+          kept_row = told (kept_row_of t2) (rows_of t P.m) (kept_row_of t3) (kept_row_of t4) (λ k l. p.kept k) (λ k l. kept4 k) kept_cleared;
+        }
+
+        stands4 : StandsMultiple (auxiliary_of P) (path_basis P (columns_of h.before.basis) q) (rows_of t4) × IsMultipleRow (kept_of P) (own_of (kept_of P) (path_basis P (columns_of h.before.basis) q)) P.m (kept_row_of t4)
+        stands4 =
+            begun_stands P (path_basis P (columns_of h.before.basis) q) q (columns_of h.before.basis q) h.column (rows_of h.before) (rows_of t) stands_there h.begun (rows_of t4) (kept_row_of t4) h.stood.reached back_pivot
+
+        spare_in : spare_column P.n P.m < width_of t2
+        spare_in = omega (arith, w2)
+
+        zero4 : (i : ℕ) → i ≤ P.m → rows_of t4 i (spare_column P.n P.m) ≡ pos 0
+        zero4 i il = elim (cases_eq i q) [
+          | inl e ↦ ap (λ v. rows_of t4 v (spare_column P.n P.m)) e ∙ row_q (spare_column P.n P.m) (omega arith) ∙ h.zero q (omega (arith, q_low))
+          | inr d ↦
+              let c = cleared i il d in
+              same4 i (spare_column P.n P.m) il (omega arith)
+              ∙ zero_stays c.divisor c.p c.q (rows_of t3 i (spare_column P.n P.m)) (rows_of t2 i (spare_column P.n P.m)) (rows_of t2 q (spare_column P.n P.m)) c.divides (c.entries (spare_column P.n P.m) spare_in) (zero2 i il) (zero2 q (omega (arith, q_low)))
+        ]
+
+        kept_zero4 : kept_row_of t4 (spare_column P.n P.m) ≡ pos 0
+        kept_zero4 =
+            let c = kept_cleared in
+            kept4 (spare_column P.n P.m)
+            ∙ zero_stays c.divisor c.p c.q (kept_row_of t3 (spare_column P.n P.m)) (kept_row_of t2 (spare_column P.n P.m)) (rows_of t2 q (spare_column P.n P.m)) c.divides (c.entries (spare_column P.n P.m) spare_in) kept2 (zero2 q (omega (arith, q_low)))
+
+        m4 : positions t4 ≡ P.m
+        m4 = ap length b4 ∙ length-set t3.basis q x ∙ m3
+
+        no_spare : (i : ℕ) → i < P.m → columns_of t4.basis i ≢ spare_column P.n P.m
+        no_spare i il y = elim (cases_eq i q) [
+          | inl e ↦ let z : P.n + P.m ≡ spare_column P.n P.m = sym (put_same (columns_of h.before.basis) q (P.n + P.m)) ∙ sym (ap (path_basis P (columns_of h.before.basis) q) e) ∙ basis_is i ∙ y in absurd (omega arith)
+          | inr d ↦
+              let e : spare_column P.n P.m ≡ spare_column h.before.columns (positions h.before) = omega (arith, h.stood.rows_are, h.stood.columns_are) in
+              h.stood.closed.free i (omega (arith, h.stood.rows_are)) (sym (put_other (columns_of h.before.basis) q (P.n + P.m) i d) ∙ basis_is i ∙ y ∙ e)
+        ]
+
+        pub explicit_begins : InExplicit P t4
+        explicit_begins =
+            let e : spare_column t4.columns (positions t4) ≡ spare_column P.n P.m = omega (arith, m4, n4, n3, n2) in
+            record {
+              holds = record {
+                rows_are = m4;
+                columns_are = n4 ∙ n3 ∙ n2;
+                reached = path_reached;
+                stands = stands_multiple_same (auxiliary_of P) (path_basis P (columns_of h.before.basis) q) (columns_of t4.basis) (rows_of t4) (λ i l. basis_is i) stands4.0;
+                kept = row_of_same (kept_of P) (path_basis P (columns_of h.before.basis) q) (columns_of t4.basis) P.m (kept_row_of t4) (λ i l. basis_is i) stands4.1;
+                closed = record {
+                  free = λ i il y. no_spare i (omega (arith, m4)) (y ∙ e);
+                  zero = λ i il. ap (rows_of t4 i) e ∙ zero4 i (omega (arith, m4));
+                };
+                kept_zero = kept_zero4;
+              };
+              auxiliary = (q, q_low, sym (put_same (columns_of h.before.basis) q (P.n + P.m)) ∙ basis_is q);
+            }
+
+      -- ---- a row would be wide
+      module _ (limit count i : ℕ) (count_is : count ≡ positions t + 2) (st : StopsTable limit count t2 t3 q x i) where
+        short : (low low' : Vector) → ((k : ℕ) → k < suc (suc (suc (P.n + P.m))) → low k ≡ low' k) → low (spare_column P.n P.m) ≡ pos 0
+            → IsWideCleared limit (width_of t2) x low (rows_of t2 q)
+            → (new : Vector) × IsClearedBy (suc (suc (suc (P.n + P.m)))) (P.n + P.m) low' (rows_of t q) new × IsPrimitive (suc (suc (suc (P.n + P.m)))) new
+            × ((k : ℕ) × (k ≤ suc (suc (P.n + P.m))) × (limit < unsigned_abs (new k)))
+        short low low' el z w =
+            let zq : rows_of t2 q (spare_column P.n P.m) ≡ pos 0 = zero2 q (omega (arith, q_low)) in (
+              w.0,
+              cleared_same (suc (suc (suc (P.n + P.m)))) (suc (suc (suc (P.n + P.m)))) (P.n + P.m) low low' (rows_of t2 q) (rows_of t q) w.0 w.0 (omega arith) (omega arith) el (λ k l. p.rows q k q_low) (λ k l. refl)
+              (subst (λ v. IsClearedBy (suc (suc (suc (P.n + P.m)))) v low (rows_of t2 q) w.0) x_is (wide_cleared limit P.n P.m (width_of t2) x low (rows_of t2 q) w2 w z zq)),
+              wide_primitive limit P.n P.m (width_of t2) x low (rows_of t2 q) w2 w z zq,
+              wide_entry limit P.n P.m (width_of t2) x low (rows_of t2 q) w2 w z zq,
+            )
+
+        row_wide : (j : ℕ) (new : Vector) → j ≤ P.m → j ≢ q → IsClearedBy (suc (suc (suc (P.n + P.m)))) (P.n + P.m) (rows_of t j) (rows_of t q) new → IsPrimitive (suc (suc (suc (P.n + P.m)))) new
+            → ((k : ℕ) × (k ≤ suc (suc (P.n + P.m))) × (limit < unsigned_abs (new k))) → HasWideRow limit P (columns_of t4.basis) j
+        row_wide j new jl d c prim entry = record {
+          reached = path_reached;
+          wide = inr (inr (needs, inr (wide_same limit (kept_of P) (path_basis P (columns_of h.before.basis) q) (columns_of t4.basis) j (λ k l. basis_is k)
+              (begun_wide P (path_basis P (columns_of h.before.basis) q) q (columns_of h.before.basis q) h.column (rows_of h.before) (rows_of t) stands_there h.begun limit j new jl d c prim entry))));
+        }
+
+        low_wide : i < P.m → HasWideRow limit P (columns_of t4.basis) i
+        low_wide l =
+            let s = short (rows_of t2 i) (rows_of t i) (λ k kl. p.rows i k l) (zero2 i (omega arith)) (st.wide (omega (arith, m2))) in
+            row_wide i s.0 (omega arith) st.other s.1 s.2 s.3
+
+        cost_wide : i ≡ P.m → HasWideRow limit P (columns_of t4.basis) P.m
+        cost_wide e =
+            let s = short (rows_of t2 P.m) (auxiliary_row P P.m) cost_is (zero2 P.m (omega arith))
+            (subst (λ v. IsWideCleared limit (width_of t2) x (rows_of t2 v) (rows_of t2 q)) e (st.wide (omega (arith, m2, e)))) in
+            record {
+              reached = path_reached;
+              wide = inr (inr (needs, inl (wide_same limit (auxiliary_of P) (path_basis P (columns_of h.before.basis) q) (columns_of t4.basis) P.m (λ k l. basis_is k)
+                  (begun_cost_wide P (path_basis P (columns_of h.before.basis) q) q (columns_of h.before.basis q) h.column (rows_of h.before) (rows_of t) stands_there h.begun limit s.0 s.1 s.2 s.3))));
+            }
+
+        kept_wide : i ≡ suc P.m → HasWideRow limit P (columns_of t4.basis) P.m
+        kept_wide e =
+            let s = short (kept_row_of t2) (rows_of t P.m) (λ k kl. p.kept k) kept2 (st.wide_kept (omega (arith, m2, e))) in
+            row_wide P.m s.0 (omega arith) (λ y. absurd (omega (arith, q_low))) s.1 s.2 s.3
+
+        pub begins_refused : HasWideRow limit P (columns_of t4.basis) (min i (positions t))
+        begins_refused = elim (cases_lt i P.m) [
+          | inl l ↦ subst (λ v. HasWideRow limit P (columns_of t4.basis) v) (let y : i ≡ min i (positions t) = omega (arith, open_size) in y) (low_wide l)
+          | inr l ↦
+              let y : P.m ≡ min i (positions t) = omega (arith, open_size) in
+              subst (λ v. HasWideRow limit P (columns_of t4.basis) v) y
+              (elim (cases_eq i P.m) [
+                | inl e ↦ cost_wide e
+                | inr d ↦ kept_wide (let il : i < count = st.inside in omega (arith, count_is, open_size))
+              ])
+        ]

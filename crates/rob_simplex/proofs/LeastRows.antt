@@ -1,0 +1,121 @@
+-- The sign of a row's key, and the least row so far.
+use Rattle.std.proofs.Common.{◌≡◌, ◌≢◌, ℕ, zero, suc, ◌+◌, ◌<◌, ◌≤◌, sym, ap, ◌∙◌, subst, arith, inl, inr, Option, Some, None, Bool, IsTrue, ◌↔◌, false, to_z, of_z, w64, ◌^◌}
+use Rattle.std.specs.Prelude.{nat_abs}
+use Rattle.std.proofs.lemmas.Int.{ints}
+use Rattle.std.proofs.lemmas.Bool.{cases_eq}
+use Rattle.std.proofs.lemmas.Bool.Decides.{nat_tests}
+use Rattle.std.specs.Option.{IfSome, MatchOption}
+use lib.IntN.{ℤ, pos, neg_ℤ, ◌-ℤ◌}
+use lib.Signed.{◌<ℤ◌}
+use Rattle.rob_linear.specs.Vectors.{Matrix, Vector}
+use Rattle.rob_linear.specs.Programs.{auxiliary_tag}
+use Rattle.rob_linear.specs.Turns.{key, ComesBefore}
+use Rattle.rob_linear.specs.Beside.{IsLexNegative, IsLeast, HasNoLeast}
+use Rattle.rob_linear.proofs.Lexical.{before_trans}
+use Rattle.rob_linear.proofs.Choices.{before_not_self}
+use Rattle.rob_simplex.specs.Dictionaries.{shape, IsLower, Decided}
+use Rattle.rob_simplex.proofs.RatioLemmas.{lex_decided, lex_none}
+
+-- ---- numbers turned round
+pub negated : (z : ℤ) → nat_abs z < 2 ^ 62 → to_z w64 (of_z w64 (pos 0 -ℤ z)) ≡ neg_ℤ z
+negated z h =
+    let low : z <ℤ pos (2 ^ 62) = omega (arith, ints) in
+    let high : neg_ℤ (pos (2 ^ 62)) <ℤ z = omega (arith, ints) in
+    omega (arith, ints)
+
+pub negative_of : (z : ℤ) → pos 0 <ℤ neg_ℤ z → z <ℤ pos 0
+negative_of z h = omega (arith, ints)
+
+-- ---- the sign of a key
+module _ (n m : ℕ) (r : Vector) where
+  abbrev minus_key : ℕ → ℤ
+  minus_key k = neg_ℤ (key (shape n m) r k)
+
+  tag_low : (k : ℕ) → k < m → minus_key (suc k) ≡ neg_ℤ (r (n + k))
+  tag_low k l = ap (λ c. neg_ℤ (r c)) (tag k l)
+    where
+      tag : (k : ℕ) → k < m → auxiliary_tag (record { m = m; n = n; a = λ i j. pos 0; b = λ i. pos 0; c = λ j. pos 0 }) k ≡ n + k
+      tag k l = grind (arith, nat_tests)
+
+  zeros_to : (k : ℕ) → k ≤ m → r (n + m + 2) ≡ pos 0 → ((j : ℕ) → j < k → r (n + j) ≡ pos 0) → (j : ℕ) → j < suc k → minus_key j ≡ pos 0
+  zeros_to k kl first rest zero l = ap (λ c. neg_ℤ (r c)) (let e : suc (suc (n + m)) ≡ n + m + 2 = omega arith in e) ∙ ap neg_ℤ first
+  zeros_to k kl first rest (suc j) l = tag_low j (omega arith) ∙ ap neg_ℤ (rest j (omega arith))
+
+  pub right_decides : (col : ℕ) (below : Bool) → col ≡ n + m + 2 → Decided below (neg_ℤ (r col)) → IsTrue below ↔ IsLexNegative (suc m) (key (shape n m) r)
+  right_decides col below e d =
+      let w : col ≡ suc (suc (n + m)) = omega arith in
+      lex_decided (suc m) minus_key 0 below (omega arith) (λ j l. absurd (omega arith)) (subst (λ (c : ℕ). Decided below (neg_ℤ (r c))) w d)
+
+  pub slack_decides : (col c k : ℕ) (below : Bool) → col ≡ n + m + 2 → c ≡ n + k → k < m → r col ≡ pos 0 → ((j : ℕ) → j < k → r (n + j) ≡ pos 0) → Decided below (neg_ℤ (r c)) → IsTrue below ↔ IsLexNegative (suc m) (key (shape n m) r)
+  slack_decides col c k below e ec l first rest d =
+      lex_decided (suc m) minus_key (suc k) below (omega arith) (zeros_to k (omega arith) (ap r (sym e) ∙ first) rest) (subst (Decided below) (ap (λ x. neg_ℤ (r x)) ec ∙ sym (tag_low k l)) d)
+
+  pub none_decides : (col k : ℕ) → col ≡ n + m + 2 → k ≡ m → r col ≡ pos 0 → ((j : ℕ) → j < k → r (n + j) ≡ pos 0) → IsTrue false ↔ IsLexNegative (suc m) (key (shape n m) r)
+  none_decides col k e ek first rest = lex_none (suc m) minus_key (zeros_to m (omega arith) (ap r (sym e) ∙ first) (λ j l. rest j (omega arith)))
+
+-- ---- the least row so far
+module _ (n m : ℕ) (rows : Matrix) (column : ℕ) where
+  abbrev Negative : ℕ → Type 0
+  Negative j = IsLexNegative (suc m) (key (shape n m) (rows j))
+
+  abbrev Before : ℕ → ℕ → Type 0
+  Before j e = ComesBefore (shape n m) (rows j) (neg_ℤ (rows j column)) (rows e) (neg_ℤ (rows e column))
+
+  -- the least of the rows before i, if there is one
+  abbrev pub IsLeastSoFar : ℕ → Option ℕ → Type 0
+  IsLeastSoFar i best =
+      MatchOption best ((j : ℕ) → j < i → rows j column <ℤ pos 0 → ¬ (IsLexNegative (suc m) (key (shape n m) (rows j))))
+      (λ e. (e < i) × (rows e column <ℤ pos 0) × IsLexNegative (suc m) (key (shape n m) (rows e))
+          × ((j : ℕ) → j < i → rows j column <ℤ pos 0 → IsLexNegative (suc m) (key (shape n m) (rows j)) → ¬ (ComesBefore (shape n m) (rows j) (neg_ℤ (rows j column)) (rows e) (neg_ℤ (rows e column)))))
+
+  turned : (j : ℕ) → rows j column <ℤ pos 0 → pos 0 <ℤ neg_ℤ (rows j column)
+  turned j b = omega (arith, ints)
+
+  pub least_takes : (i : ℕ) (best : Option ℕ) → IsLeastSoFar i best → IsLower n m rows column i best → IsLeastSoFar (i + 1) (Some i)
+  least_takes i None f g = (
+    omega arith,
+    g.0,
+    g.2,
+    (λ j jl b neg. elim (cases_eq j i) [
+      | inl c ↦ (λ w. before_not_self (shape n m) (rows i) (neg_ℤ (rows i column)) (subst (λ v. ComesBefore (shape n m) (rows v) (neg_ℤ (rows v column)) (rows i) (neg_ℤ (rows i column))) c w))
+      | inr d ↦ absurd (f j (omega arith) b neg)
+    ]),
+  )
+  least_takes i (Some e) f g = (
+    omega arith,
+    g.0,
+    g.2,
+    (λ j jl b neg. elim (cases_eq j i) [
+      | inl c ↦ (λ w. before_not_self (shape n m) (rows i) (neg_ℤ (rows i column)) (subst (λ v. ComesBefore (shape n m) (rows v) (neg_ℤ (rows v column)) (rows i) (neg_ℤ (rows i column))) c w))
+      | inr d ↦ (λ w. f.3 j (omega arith) b neg
+          (before_trans (shape n m) (rows j) (rows i) (rows e) (neg_ℤ (rows j column)) (neg_ℤ (rows i column)) (neg_ℤ (rows e column)) (turned j b) (turned i g.0) (turned e f.1) w g.1))
+    ]),
+  )
+
+  pub least_keeps : (i : ℕ) (best : Option ℕ) → IsLeastSoFar i best → ¬ (IsLower n m rows column i best) → IsLeastSoFar (i + 1) best
+  least_keeps i None f g =
+      λ j jl b. elim (cases_eq j i) [
+        | inl c ↦ (λ neg. g (subst (λ t. rows t column <ℤ pos 0) c b, tt, subst (λ v. IsLexNegative (suc m) (key (shape n m) (rows v))) c neg))
+        | inr d ↦ f j (omega arith) b
+      ]
+  least_keeps i (Some e) f g = (
+    (let l : e < i = f.0 in omega arith),
+    f.1,
+    f.2,
+    (λ j jl b neg. elim (cases_eq j i) [
+      | inl c ↦ (λ w. g (
+        subst (λ t. rows t column <ℤ pos 0) c b,
+        subst (λ v. ComesBefore (shape n m) (rows v) (neg_ℤ (rows v column)) (rows e) (neg_ℤ (rows e column))) c w,
+        subst (λ v. IsLexNegative (suc m) (key (shape n m) (rows v))) c neg,
+      ))
+      | inr d ↦ f.3 j (omega arith) b neg
+    ]),
+  )
+
+  pub least_of_all : (best : Option ℕ) → IsLeastSoFar m best → MatchOption best (HasNoLeast (shape n m) column rows) (λ e. IsLeast (shape n m) column rows e)
+  least_of_all None f = f
+  least_of_all (Some e) f = record { inside = f.0; below = f.1; negative = f.2; first = f.3 }
+
+  pub lowest_within : (i : ℕ) (best : Option ℕ) → i < m → IsLeastSoFar i best → IfSome best (λ e. (e < m) × (rows e column <ℤ pos 0))
+  lowest_within i None l f = tt
+  lowest_within i (Some e) l f = ((let k : e < i = f.0 in omega arith), f.1)

@@ -1,0 +1,8 @@
+-- The slack entries before k are in the same ratio.
+use Rattle.std.specs.Prelude.{◌≡◌, ℕ, ◌<◌, ◌+◌, pos}
+use Rattle.rob_simplex.specs.Dictionaries.{rows_of}
+use Rattle.rob_simplex.proofs.RatioLemmas.{difference}
+use Rattle.rob_simplex.proofs.dictionary.Dictionary.comes_before.Given as goal
+
+abbrev pub invariant-loop-k : goal.invariant-loop-k
+invariant-loop-k l = (j : ℕ) → j < l.k → difference l.fn.self.columns 0 (rows_of l.fn.self l.fn.i) (rows_of l.fn.self l.fn.e) l.fn.p l.fn.q (l.fn.self.columns + j) ≡ pos 0

@@ -1,0 +1,21 @@
+use Rattle.std.proofs.Common.{◌≡◌, ℕ, ◌≤◌, IfErr, MatchResult, subst}
+use Rattle.rob_linear.specs.WideRows.{HasWideRow}
+use Rattle.rob_simplex.specs.Dictionaries.{columns_of}
+use Rattle.rob_simplex.specs.Explicit.{FirstTurns}
+use Rattle.rob_simplex.proofs.FirstTurns.{counts_after}
+use Rattle.rob_simplex.proofs.dictionary.Dictionary.explicit_turns.Goals as goal
+
+pub drive_out-requires : goal.drive_out-requires
+drive_out-requires g c = record { stands = (c.requires.opened.0, c.in-Ok.ensures.ended c.requires.opened.0 c.requires.opened.1) }
+
+pub returns-in-Ok-clause-ended : goal.returns-in-Ok-clause-ended
+returns-in-Ok-clause-ended g c P h =
+    subst (λ (l : ℕ). MatchResult c.drive_out.result (λ ending. FirstTurns P ending c.drive_out.new.self) (λ i. HasWideRow l P (columns_of c.drive_out.new.self.basis) i)) c.bring_in.ensures.limit
+    (c.drive_out.ensures.ended P (c.in-Ok.ensures.ended P h))
+
+pub returns-in-Ok-clause-position : goal.returns-in-Ok-clause-position
+returns-in-Ok-clause-position g c = subst (λ (m : ℕ). IfErr c.drive_out.result (λ i. i ≤ m)) c.bring_in.ensures.positions c.drive_out.ensures.position
+
+pub returns-in-Ok-clause-counted : goal.returns-in-Ok-clause-counted
+returns-in-Ok-clause-counted g c =
+    counts_after g.L.Ledger.ops g.L.Ledger.wides c.args.ledger.now c.bring_in.new.ledger c.drive_out.new.ledger c.drive_out.result c.in-Ok.ensures.counted.ops c.in-Ok.ensures.counted.wides c.drive_out.ensures.counted

@@ -1,0 +1,10 @@
+use Rattle.std.proofs.Common.{◌∙◌, ap, subst}
+use Rattle.std.proofs.Common.{ℕ, List, set}
+use Rattle.rob_simplex.specs.Dictionaries.{positions, spare_column}
+use Rattle.rob_simplex.proofs.PivotLemmas.{set_twice, free_begun}
+use Rattle.rob_simplex.proofs.dictionary.Dictionary.pivot.Goals as goal
+
+pub returns-in-Err-clause-basis : goal.returns-in-Err-clause-basis
+returns-in-Err-clause-basis g c =
+    c.replace.ensures.basis ∙ ap (λ (b : List ℕ). set b c.args.row c.args.column) c.in-Err.ensures.begun.basis
+    ∙ set_twice c.args.self.now.basis c.args.row (spare_column c.args.self.now.columns (positions c.args.self.now)) c.args.column

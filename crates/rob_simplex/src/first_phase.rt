@@ -1,0 +1,139 @@
+// The first phase, with the auxiliary column kept out of the table's basis: the path's basis has it at position q,
+// where the table has the column that left last.
+
+ghost use Rattle.std.specs.Prelude.{◌≡◌, ◌<◌, ◌≤◌, ◌+◌, IfOk, IfErr, MatchResult};
+ghost use Rattle.rob_linear.specs.Programs.{Program};
+ghost use Rattle.rob_linear.specs.WideRows.{HasWideRow};
+ghost use Rattle.rob_number.specs.Counts.{CountsWide};
+ghost use Rattle.rob_simplex.specs.Dictionaries.{positions, columns_of, rows_of, FirstNegative};
+ghost use Rattle.rob_simplex.specs.Phases.{InBeside, HasTurnedBeside, IsOpenBeside, EndsBeside};
+ghost use Rattle.rob_simplex.specs.Starts.{IsStartingTable};
+ghost use Rattle.rob_simplex.specs.Explicit.{FirstTurns, FirstEnds};
+
+use crate::dictionary::Dictionary;
+use rob_number::Ledger;
+
+/// How the first phase ends.
+#[derive(Clone, Copy, Drop)]
+pub enum FirstEnding {
+    /// The auxiliary column is out.
+    Feasible,
+    /// No point is feasible: the slack entries of this row, over what divides them all, are the weights.
+    Infeasible(usize),
+}
+
+/// How the turns beside the auxiliary column end.
+#[derive(Clone, Copy, Drop)]
+pub enum Beside {
+    /// No column comes in: no point is feasible.
+    Infeasible,
+    /// The auxiliary column is out.
+    Feasible,
+    /// A row would be wide: position q is open, and the path goes on in the explicit form.
+    Open,
+}
+
+impl Dictionary {
+    /// The first phase, from the starting rows. The auxiliary column is 0 where it is out. An `Err` names the first
+    /// row that would be wide at the basis that is then told.
+    pub fn first_phase<L: Ledger>(&mut self, ledger: &mut L) -> Result<FirstEnding, usize>
+        requires starts { (P : Program) × IsStartingTable self.old.limit P self.old }
+        ensures ended { (P : Program) → IsStartingTable self.old.limit P self.old
+            → MatchResult result
+            (λ ending. FirstEnds P ending self.new)
+            (λ i. HasWideRow self.old.limit P (columns_of self.new.basis) i) }
+        ensures position { IfErr result (λ i. i ≤ positions self.old) }
+        ensures positions { positions self.new ≡ positions self.old }
+        ensures columns { self.new.columns ≡ self.old.columns }
+        ensures limit { self.new.limit ≡ self.old.limit }
+        ensures counted { CountsWide L.ops L.wides ledger.old ledger.new result }
+    {
+        match self.first_turns(ledger) {
+            Ok(FirstEnding::Feasible) => {
+                let auxiliary = self.columns + self.basis.len();
+                self.empty(auxiliary);
+                Ok(FirstEnding::Feasible)
+            }
+            Ok(FirstEnding::Infeasible(row)) => Ok(FirstEnding::Infeasible(row)),
+            Err(i) => Err(i),
+        }
+    }
+
+    // Its turns. The least row tells whether the auxiliary column is needed.
+    fn first_turns<L: Ledger>(&mut self, ledger: &mut L) -> Result<FirstEnding, usize>
+        requires starts { (P : Program) × IsStartingTable self.old.limit P self.old }
+        ensures ended { (P : Program) → IsStartingTable self.old.limit P self.old
+            → MatchResult result
+            (λ ending. FirstTurns P ending self.new)
+            (λ i. HasWideRow self.old.limit P (columns_of self.new.basis) i) }
+        ensures position { IfErr result (λ i. i ≤ positions self.old) }
+        ensures positions { positions self.new ≡ positions self.old }
+        ensures columns { self.new.columns ≡ self.old.columns }
+        ensures limit { self.new.limit ≡ self.old.limit }
+        ensures counted { CountsWide L.ops L.wides ledger.old ledger.new result }
+    {
+        let Some(q) = self.least() else {
+            return Ok(FirstEnding::Feasible);
+        };
+        match self.go_beside(q, ledger) {
+            Beside::Infeasible => Ok(FirstEnding::Infeasible(q)),
+            Beside::Feasible => Ok(FirstEnding::Feasible),
+            Beside::Open => self.explicit_turns(q, ledger),
+        }
+    }
+
+    // Turns beside the auxiliary column until it has left, no column comes in, or a row would be wide.
+    fn go_beside<L: Ledger>(&mut self, q: usize, ledger: &mut L) -> Beside
+        requires stands { (P : Program) × InBeside P q self.old }
+        ensures ended { (P : Program) → InBeside P q self.old → EndsBeside P q result self.new }
+        ensures positions { positions self.new ≡ positions self.old }
+        ensures columns { self.new.columns ≡ self.old.columns }
+        ensures limit { self.new.limit ≡ self.old.limit }
+        ensures ops { L.ops ledger.old ≤ L.ops ledger.new }
+        ensures wides { L.wides ledger.new ≡ L.wides ledger.old }
+    {
+        'turns: loop {
+            let Some(column) = self.first_negative(q) else {
+                return Beside::Infeasible;
+            };
+            match self.turn_beside(q, column, ledger) {
+                Ok(true) => {}
+                Ok(false) => return Beside::Feasible,
+                Err(_) => return Beside::Open,
+            }
+        }
+    }
+
+    // One turn: the column comes in at position q, and the least row comes to it. Whether the auxiliary column is
+    // still in; after an `Err` position q is open.
+    fn turn_beside<L: Ledger>(
+        &mut self,
+        q: usize,
+        column: usize,
+        ledger: &mut L,
+    ) -> Result<bool, usize>
+        requires stands { (P : Program) × InBeside P q self.old }
+        requires first { FirstNegative (self.old.columns + positions self.old) (rows_of self.old q) column }
+        ensures turned { IfOk result (λ stays. (P : Program) → InBeside P q self.old
+            → HasTurnedBeside P q stays self.old self.new) }
+        ensures opened { IfErr result (λ i. (P : Program) → InBeside P q self.old → IsOpenBeside P q self.new) }
+        ensures positions { positions self.new ≡ positions self.old }
+        ensures columns { self.new.columns ≡ self.old.columns }
+        ensures limit { self.new.limit ≡ self.old.limit }
+        ensures ops { L.ops ledger.old ≤ L.ops ledger.new }
+        ensures wides { L.wides ledger.new ≡ L.wides ledger.old }
+    {
+        self.turn_round(q);
+        let count = self.basis.len() + 1;
+        match self.pivot_or_open(q, column, count, ledger) {
+            Ok(()) => match self.least() {
+                None => Ok(false),
+                Some(p) => {
+                    self.exchange(q, p);
+                    Ok(true)
+                }
+            },
+            Err(i) => Err(i),
+        }
+    }
+}

@@ -1,0 +1,90 @@
+// The least row over minus its entry in the auxiliary column: of the rows that are negative there and lexicographically
+// negative, the one that comes first.
+
+ghost use Rattle.std.specs.Prelude.{◌≡◌, ◌≢◌, ◌<◌, ◌≤◌, ◌+◌, ◌<ℤ◌, ◌↔◌, ℕ, suc, pos, neg_ℤ, IsTrue, IfSome, MatchOption};
+ghost use Rattle.rob_linear.specs.Turns.{key};
+ghost use Rattle.rob_linear.specs.Beside.{IsLexNegative, IsLeast, HasNoLeast};
+ghost use Rattle.rob_simplex.specs.Dictionaries.{positions, rows_of, width_of, shape, IsLower, Decided};
+
+use crate::dictionary::Dictionary;
+
+// Whether a number is below 0; none for 0.
+fn is_below(a: i64) -> Option<bool>
+    ensures sign { MatchOption result (a ≡ pos 0) (λ below. Decided below (neg_ℤ a)) }
+{
+    if a < 0 {
+        return Some(true);
+    }
+    if a > 0 {
+        return Some(false);
+    }
+    None
+}
+
+impl Dictionary {
+    // Whether the first number of a row's right side and slack entries that is not 0 is negative.
+    fn is_negative(&self, i: usize) -> bool
+        requires row_in { i < positions self.now }
+        ensures decides { IsTrue result ↔ IsLexNegative (suc (positions self.now))
+            (key (shape self.now.columns (positions self.now)) (rows_of self.now i)) }
+    {
+        let m = self.basis.len();
+        match is_below(self.entry(i, self.columns + m + 2)) {
+            Some(below) => return below,
+            None => {}
+        }
+        for k in 0..m {
+            match is_below(self.entry(i, self.columns + k)) {
+                Some(below) => return below,
+                None => {}
+            }
+        }
+        false
+    }
+
+    // Minus the entry of a row in a column.
+    fn minus_entry(&self, i: usize, column: usize) -> i64
+        requires row_in { i ≤ positions self.now }
+        requires column_in { column < width_of self.now }
+        ensures entry { result ≡ neg_ℤ (rows_of self.now i column) }
+    {
+        let _ = &self.limit;
+        -self.entry(i, column)
+    }
+
+    // Whether row i may be the least, and comes before the best row so far. Its sign is looked at last.
+    fn is_lower(&self, column: usize, i: usize, best: Option<usize>) -> bool
+        requires column_in { column < width_of self.now }
+        requires i_in { i < positions self.now }
+        requires best_in { IfSome best (λ e. (e < positions self.now) × (rows_of self.now e column <ℤ pos 0)) }
+        ensures decides { IsTrue result
+            ↔ IsLower self.now.columns (positions self.now) (rows_of self.now) column i best }
+    {
+        let divisor = self.minus_entry(i, column);
+        if divisor <= 0 {
+            return false;
+        }
+        match best {
+            None => self.is_negative(i),
+            Some(e) => {
+                self.comes_before(i, divisor, e, self.minus_entry(e, column)) && self.is_negative(i)
+            }
+        }
+    }
+
+    /// The least row, if there is one.
+    pub fn least(&self) -> Option<usize>
+        ensures least { MatchOption result
+            (HasNoLeast (shape self.now.columns (positions self.now)) (self.now.columns + positions self.now) (rows_of self.now))
+            (λ e. IsLeast (shape self.now.columns (positions self.now)) (self.now.columns + positions self.now) (rows_of self.now) e) }
+    {
+        let auxiliary = self.columns + self.basis.len();
+        let mut best = None;
+        for i in 0..self.basis.len() {
+            if self.is_lower(auxiliary, i, best) {
+                best = Some(i);
+            }
+        }
+        best
+    }
+}

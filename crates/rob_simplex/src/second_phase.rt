@@ -1,0 +1,78 @@
+// The second phase: turns from a feasible basis of the program to its last one.
+
+ghost use Rattle.std.specs.Prelude.{◌≡◌, ◌≤◌, IfOk, IfErr, MatchResult};
+ghost use Rattle.rob_linear.specs.Programs.{Program};
+ghost use Rattle.rob_linear.specs.WideRows.{HasWideRow};
+ghost use Rattle.rob_simplex.specs.Dictionaries.{positions, columns_of};
+ghost use Rattle.rob_number.specs.Counts.{CountsWide};
+ghost use Rattle.rob_simplex.specs.Phases.{InSecond, EndsIn, HasTurned};
+
+use crate::dictionary::Dictionary;
+use rob_number::Ledger;
+
+/// What a basis does next.
+#[derive(Clone, Copy, Drop)]
+pub enum Turn {
+    /// No column improves the objective.
+    Optimal,
+    /// This column improves it without limit.
+    Unbounded(usize),
+    /// A column has come in for another one.
+    Replaced,
+}
+
+impl Dictionary {
+    // Makes the next turn, if there is one. After an `Err`, which names the first row that would be wide, the basis is the
+    // next one and the rows are open.
+    fn advance<L: Ledger>(&mut self, ledger: &mut L) -> Result<Turn, usize>
+        requires stands { (P : Program) × InSecond P self.old }
+        ensures turned { IfOk result (λ turn. (P : Program) → InSecond P self.old → HasTurned P turn self.old self.new) }
+        ensures wide { IfErr result (λ i. (P : Program) → InSecond P self.old
+            → HasWideRow self.old.limit P (columns_of self.new.basis) i) }
+        ensures position { IfErr result (λ i. i ≤ positions self.old) }
+        ensures positions { positions self.new ≡ positions self.old }
+        ensures columns { self.new.columns ≡ self.old.columns }
+        ensures limit { self.new.limit ≡ self.old.limit }
+        ensures ops { L.ops ledger.old ≤ L.ops ledger.new }
+        ensures wides { L.wides ledger.new ≡ L.wides ledger.old }
+    {
+        let m = self.basis.len();
+        let Some(column) = self.first_negative(m) else {
+            return Ok(Turn::Optimal);
+        };
+        let Some(row) = self.leaving(column) else {
+            return Ok(Turn::Unbounded(column));
+        };
+        match self.pivot(row, column, m + 1, ledger) {
+            Ok(()) => Ok(Turn::Replaced),
+            Err(i) => Err(i),
+        }
+    }
+
+    /// Turns until the path ends: with `None` where no column improves the objective, else with the column that improves it
+    /// without limit. An `Err` names the first row that would be wide at the basis that is then told.
+    pub fn improve<L: Ledger>(&mut self, ledger: &mut L) -> Result<Option<usize>, usize>
+        requires stands { (P : Program) × InSecond P self.old }
+        ensures told { (P : Program) → InSecond P self.old
+            → MatchResult result
+            (λ ending. InSecond P self.new × EndsIn P ending self.new)
+            (λ i. HasWideRow self.old.limit P (columns_of self.new.basis) i) }
+        ensures position { IfErr result (λ i. i ≤ positions self.old) }
+        ensures positions { positions self.new ≡ positions self.old }
+        ensures columns { self.new.columns ≡ self.old.columns }
+        ensures limit { self.new.limit ≡ self.old.limit }
+        ensures counted { CountsWide L.ops L.wides ledger.old ledger.new result }
+    {
+        'turns: loop {
+            match self.advance(ledger) {
+                Ok(Turn::Optimal) => return Ok(None),
+                Ok(Turn::Unbounded(column)) => return Ok(Some(column)),
+                Ok(Turn::Replaced) => {}
+                Err(i) => {
+                    ledger.wide();
+                    return Err(i);
+                }
+            }
+        }
+    }
+}
