@@ -302,7 +302,7 @@ module _ (P : Program) (q : ℕ) (t : Table) (h : IsOpenBeside P q t) where
             let zq : rows_of t2 q (spare_column P.n P.m) ≡ pos 0 = zero2 q (omega (arith, q_low)) in (
               w.0,
               cleared_same (suc (suc (suc (P.n + P.m)))) (suc (suc (suc (P.n + P.m)))) (P.n + P.m) low low' (rows_of t2 q) (rows_of t q) w.0 w.0 (omega arith) (omega arith) el (λ k l. p.rows q k q_low) (λ k l. refl)
-              (subst (λ v. IsClearedBy (suc (suc (suc (P.n + P.m)))) v low (rows_of t2 q) w.0) x_is (wide_cleared limit P.n P.m (width_of t2) x low (rows_of t2 q) w2 w z zq)),
+                  (subst (λ v. IsClearedBy (suc (suc (suc (P.n + P.m)))) v low (rows_of t2 q) w.0) x_is (wide_cleared limit P.n P.m (width_of t2) x low (rows_of t2 q) w2 w z zq)),
               wide_primitive limit P.n P.m (width_of t2) x low (rows_of t2 q) w2 w z zq,
               wide_entry limit P.n P.m (width_of t2) x low (rows_of t2 q) w2 w z zq,
             )
@@ -311,8 +311,11 @@ module _ (P : Program) (q : ℕ) (t : Table) (h : IsOpenBeside P q t) where
             → ((k : ℕ) × (k ≤ suc (suc (P.n + P.m))) × (limit < unsigned_abs (new k))) → HasWideRow limit P (columns_of t4.basis) j
         row_wide j new jl d c prim entry = record {
           reached = path_reached;
-          wide = inr (inr (needs, inr (wide_same limit (kept_of P) (path_basis P (columns_of h.before.basis) q) (columns_of t4.basis) j (λ k l. basis_is k)
-              (begun_wide P (path_basis P (columns_of h.before.basis) q) q (columns_of h.before.basis q) h.column (rows_of h.before) (rows_of t) stands_there h.begun limit j new jl d c prim entry))));
+          wide = inr (inr (
+            needs,
+            inr (wide_same limit (kept_of P) (path_basis P (columns_of h.before.basis) q) (columns_of t4.basis) j (λ k l. basis_is k)
+                (begun_wide P (path_basis P (columns_of h.before.basis) q) q (columns_of h.before.basis q) h.column (rows_of h.before) (rows_of t) stands_there h.begun limit j new jl d c prim entry)),
+          ));
         }
 
         low_wide : i < P.m → HasWideRow limit P (columns_of t4.basis) i
@@ -326,8 +329,11 @@ module _ (P : Program) (q : ℕ) (t : Table) (h : IsOpenBeside P q t) where
             (subst (λ v. IsWideCleared limit (width_of t2) x (rows_of t2 v) (rows_of t2 q)) e (st.wide (omega (arith, m2, e)))) in
             record {
               reached = path_reached;
-              wide = inr (inr (needs, inl (wide_same limit (auxiliary_of P) (path_basis P (columns_of h.before.basis) q) (columns_of t4.basis) P.m (λ k l. basis_is k)
-                  (begun_cost_wide P (path_basis P (columns_of h.before.basis) q) q (columns_of h.before.basis q) h.column (rows_of h.before) (rows_of t) stands_there h.begun limit s.0 s.1 s.2 s.3))));
+              wide = inr (inr (
+                needs,
+                inl (wide_same limit (auxiliary_of P) (path_basis P (columns_of h.before.basis) q) (columns_of t4.basis) P.m (λ k l. basis_is k)
+                    (begun_cost_wide P (path_basis P (columns_of h.before.basis) q) q (columns_of h.before.basis q) h.column (rows_of h.before) (rows_of t) stands_there h.begun limit s.0 s.1 s.2 s.3)),
+              ));
             }
 
         kept_wide : i ≡ suc P.m → HasWideRow limit P (columns_of t4.basis) P.m

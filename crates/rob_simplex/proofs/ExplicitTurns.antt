@@ -282,11 +282,14 @@ module _ (P : Program) (t : Table) (h : HoldsExplicit P t) where
             let z : rows_of t i (spare_column P.n P.m) ≡ pos 0 = subst (λ k. rows_of t i k ≡ pos 0) e (h.closed.zero i (omega (arith, h.rows_are))) in
             record {
               reached = next_reached;
-              wide = inr (inr (needs, inl (
-                  pivot_wide limit (auxiliary_of P) (columns_of t.basis) (columns_of (set t.basis row column)) (rows_of t) row column i w.0 (auxiliary_tagged P) pivotable exchange il d
-                  (wide_cleared limit P.n P.m (width_of t) column (rows_of t i) (rows_of t row) width_is w z row_zero)
-                  (wide_primitive limit P.n P.m (width_of t) column (rows_of t i) (rows_of t row) width_is w z row_zero)
-                  (wide_entry limit P.n P.m (width_of t) column (rows_of t i) (rows_of t row) width_is w z row_zero))));
+              wide = inr (inr (
+                needs,
+                inl (
+                    pivot_wide limit (auxiliary_of P) (columns_of t.basis) (columns_of (set t.basis row column)) (rows_of t) row column i w.0 (auxiliary_tagged P) pivotable exchange il d
+                    (wide_cleared limit P.n P.m (width_of t) column (rows_of t i) (rows_of t row) width_is w z row_zero)
+                    (wide_primitive limit P.n P.m (width_of t) column (rows_of t i) (rows_of t row) width_is w z row_zero)
+                    (wide_entry limit P.n P.m (width_of t) column (rows_of t i) (rows_of t row) width_is w z row_zero)),
+              ));
             }
 
         explicit_wide_kept : IsWideCleared limit (width_of t) column (kept_row_of t) (rows_of t row) → HasWideRow limit P (columns_of (set t.basis row column)) P.m
@@ -296,11 +299,15 @@ module _ (P : Program) (t : Table) (h : HoldsExplicit P t) where
             (wide_cleared limit P.n P.m (width_of t) column (kept_row_of t) (rows_of t row) width_is w h.kept_zero row_zero) in
             record {
               reached = next_reached;
-              wide = inr (inr (needs, inr (
+              wide = inr (inr (
+                needs,
+                inr (
                   w.0,
                   exchange_inside (auxiliary_of P) (own_of (auxiliary_of P) (columns_of t.basis)) (columns_of (set t.basis row column)) (rows_of t) row column h.stands.multiples.inside exchange,
                   record { along = m.along; positive = m.positive; primitive = wide_primitive limit P.n P.m (width_of t) column (kept_row_of t) (rows_of t row) width_is w h.kept_zero row_zero },
-                  wide_entry limit P.n P.m (width_of t) column (kept_row_of t) (rows_of t row) width_is w h.kept_zero row_zero)));
+                  wide_entry limit P.n P.m (width_of t) column (kept_row_of t) (rows_of t row) width_is w h.kept_zero row_zero,
+                ),
+              ));
             }
 
         pub explicit_refused : (i : ℕ) → i < positions t + 2 → i ≢ row

@@ -66,7 +66,7 @@ module _ (n m : ℕ) (rows : Matrix) (column : ℕ) where
   IsLeastSoFar i best =
       MatchOption best ((j : ℕ) → j < i → rows j column <ℤ pos 0 → ¬ (IsLexNegative (suc m) (key (shape n m) (rows j))))
       (λ e. (e < i) × (rows e column <ℤ pos 0) × IsLexNegative (suc m) (key (shape n m) (rows e))
-          × ((j : ℕ) → j < i → rows j column <ℤ pos 0 → IsLexNegative (suc m) (key (shape n m) (rows j)) → ¬ (ComesBefore (shape n m) (rows j) (neg_ℤ (rows j column)) (rows e) (neg_ℤ (rows e column)))))
+      × ((j : ℕ) → j < i → rows j column <ℤ pos 0 → IsLexNegative (suc m) (key (shape n m) (rows j)) → ¬ (ComesBefore (shape n m) (rows j) (neg_ℤ (rows j column)) (rows e) (neg_ℤ (rows e column)))))
 
   turned : (j : ℕ) → rows j column <ℤ pos 0 → pos 0 <ℤ neg_ℤ (rows j column)
   turned j b = omega (arith, ints)

@@ -143,7 +143,7 @@ module _ (t0 t1 t2 : Table) (row column s : ℕ) (spare : s ≡ spare_column t0.
         let w = subst (λ k. IsWideCleared limit k column (kept_row_of t2) (rows_of t2 row)) w2 h in (
           w.0,
           cleared_by_times (width_of t0) column (kept_row_of t2) (kept_row_of t0) (rows_of t2 row) (rows_of t0 row) w.0 w.0 r1.0 r1.1
-          (λ k l. kept2 k) row2 (λ k l. refl) column_in w.1,
+              (λ k l. kept2 k) row2 (λ k l. refl) column_in w.1,
           w.2,
           w.3,
         )

@@ -144,7 +144,6 @@ module _ (rows start : List ℤ) (width i p : ℕ) (il : i * width + width ≤ l
     | inr d ↦ zero_elsewhere i k (omega arith) (inl d) ∙ zero k (omega arith)
   ]
 
-
 -- ---- a unit row: 1 at the place and in the own entry
 module _ (rows empty new : List ℤ) (width i p w : ℕ) (wl : w + 1 ≡ width) (il : i * width + width ≤ length rows) (pl : p + 1 < width) (le : length empty ≡ length rows) (e : new ≡ set (set empty (i * width + p) (pos 1)) (i * width + w) (pos 1)) (others : (j k : ℕ) → j ≢ i → k < width → row_at empty width j k ≡ row_at rows width j k) (zero : (k : ℕ) → k < width → row_at empty width i k ≡ pos 0) where
   pub unit_others : (j k : ℕ) → j ≢ i → k < width → row_at new width j k ≡ row_at rows width j k

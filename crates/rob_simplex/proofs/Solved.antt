@@ -108,7 +108,7 @@ module _ (s : Solver) (a : Matrix) (b c : Vector) (h : InSecond (sized s.columns
       let low : columns_of s.basis i < s.columns + positions s = subst (λ k. k < s.columns + positions s) e (h.stands.multiples.inside i l) in (
         low,
         subst (λ k. pos 0 <ℤ rows_of s.dictionary i k) (low_place s (columns_of s.basis i) low)
-        (subst (λ k. pos 0 <ℤ without_column (sized s.columns (positions s) a b c) (rows_of s.dictionary) i k) e (h.stands.multiples.rows_of i (omega arith)).positive),
+            (subst (λ k. pos 0 <ℤ without_column (sized s.columns (positions s) a b c) (rows_of s.dictionary) i k) e (h.stands.multiples.rows_of i (omega arith)).positive),
       )
 
   sized_objective : pos 0 <ℤ rows_of s.dictionary (positions s) (suc (s.columns + positions s))

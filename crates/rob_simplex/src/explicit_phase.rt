@@ -27,7 +27,11 @@ pub enum ExplicitTurn {
 impl Dictionary {
     /// Goes on in the explicit form, where position q is open, to the end of the first phase. An `Err` names the
     /// first row that would be wide at the basis that is then told.
-    pub fn explicit_turns<L: Ledger>(&mut self, q: usize, ledger: &mut L) -> Result<FirstEnding, usize>
+    pub fn explicit_turns<L: Ledger>(
+        &mut self,
+        q: usize,
+        ledger: &mut L,
+    ) -> Result<FirstEnding, usize>
         requires opened { (P : Program) × IsOpenBeside P q self.old }
         ensures ended { (P : Program) → IsOpenBeside P q self.old
             → MatchResult result

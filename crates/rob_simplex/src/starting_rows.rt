@@ -125,7 +125,15 @@ fn write_objective(row: &mut [i64], cost: &[i64], bound: u64)
 }
 
 // Writes row i of the table, with its bound.
-fn write_row(rows: &mut [i64], bounds: &mut [u64], i: usize, numbers: &[i64], right: i64, n: usize, limit: u64)
+fn write_row(
+    rows: &mut [i64],
+    bounds: &mut [u64],
+    i: usize,
+    numbers: &[i64],
+    right: i64,
+    n: usize,
+    limit: u64,
+)
     requires few { n < 2 ^ 31 }
     requires size { length numbers.now ≡ n }
     requires bounded { HasBounds limit (n + 4) rows.old bounds.old }
@@ -165,7 +173,14 @@ fn write_cost(rows: &mut [i64], bounds: &mut [u64], i: usize, cost: &[i64], limi
 }
 
 // Writes the rows of the constraints, with their bounds.
-fn write_rows(rows: &mut [i64], bounds: &mut [u64], left: &[List<i64>], right: &[i64], n: usize, limit: u64)
+fn write_rows(
+    rows: &mut [i64],
+    bounds: &mut [u64],
+    left: &[List<i64>],
+    right: &[i64],
+    n: usize,
+    limit: u64,
+)
     requires few { n < 2 ^ 31 }
     requires size { length left.now ≡ length right.now }
     requires sizes { (i : ℕ) → i < length left.now → length (slice_index_or left.now i []) ≡ n }

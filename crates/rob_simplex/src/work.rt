@@ -74,7 +74,8 @@ impl<N: Exact> Work<N> {
                 Ok(LpKind::Optimal)
             }
             Ok(Ending::Infeasible(row)) => {
-                self.dictionary.show_weights(row, self.weights.as_mut_slice());
+                self.dictionary
+                    .show_weights(row, self.weights.as_mut_slice());
                 self.state = State::Infeasible;
                 Ok(LpKind::Infeasible)
             }
@@ -120,7 +121,10 @@ impl<N: Exact> Work<N> {
             (nat_abs (rows_of self.now.dictionary i (columns_of self.now.basis i))) }
     {
         let own = self.dictionary.basic(i);
-        quotient(self.dictionary.entry(i, column), self.dictionary.entry(i, own))
+        quotient(
+            self.dictionary.entry(i, column),
+            self.dictionary.entry(i, own),
+        )
     }
 
     // Minus such an entry.
@@ -132,7 +136,10 @@ impl<N: Exact> Work<N> {
             (nat_abs (rows_of self.now.dictionary i (columns_of self.now.basis i))) }
     {
         let own = self.dictionary.basic(i);
-        quotient(-self.dictionary.entry(i, column), self.dictionary.entry(i, own))
+        quotient(
+            -self.dictionary.entry(i, column),
+            self.dictionary.entry(i, own),
+        )
     }
 
     /// The dual value of row `i`, at least 0, in units of the objective for one unit of the right side.
@@ -161,7 +168,10 @@ impl<N: Exact> Work<N> {
     {
         let m = self.dictionary.positions();
         let own = self.dictionary.columns() + m + 1;
-        quotient(self.dictionary.entry(m, column), self.dictionary.entry(m, own))
+        quotient(
+            self.dictionary.entry(m, column),
+            self.dictionary.entry(m, own),
+        )
     }
 
     /// The weight of row `i`, at least 0. Weights have no common divisor.

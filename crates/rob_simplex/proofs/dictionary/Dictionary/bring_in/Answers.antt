@@ -7,9 +7,9 @@ use Rattle.rob_simplex.proofs.dictionary.Dictionary.bring_in.Goals as goal
 pub write_auxiliary-requires : goal.write_auxiliary-requires
 write_auxiliary-requires g c = record {
   free =
-    subst (λ (n : ℕ). IsFree n c.keep_objective.new.self.basis (n + positions c.keep_objective.new.self)) (sym c.keep_objective.ensures.columns)
-    (subst (λ (b : List ℕ). IsFree c.args.self.now.columns b (c.args.self.now.columns + length b)) (sym c.keep_objective.ensures.basis)
-    (open_free c.requires.opened.0 c.args.q c.args.self.now c.requires.opened.1));
+      subst (λ (n : ℕ). IsFree n c.keep_objective.new.self.basis (n + positions c.keep_objective.new.self)) (sym c.keep_objective.ensures.columns)
+      (subst (λ (b : List ℕ). IsFree c.args.self.now.columns b (c.args.self.now.columns + length b)) (sym c.keep_objective.ensures.basis)
+      (open_free c.requires.opened.0 c.args.q c.args.self.now c.requires.opened.1));
 }
 
 pub clear_others-cleared-requires-clause-free : goal.clear_others-cleared-requires-clause-free

@@ -11,4 +11,4 @@ returns c =
     let w : nat_abs c.entry.result ≤ c.args.self.now.limit = c.entry.ensures.within in
     let el : c.self.inside.limit ≡ c.args.self.now.limit = ap (λ (t : Table). t.limit) c.self.view_is in
     let h : c.self.inside.limit < 2 ^ 62 = c.self.invariant.limit_high in
-    record { entry = ap (λ z. to_z w64 (of_z w64 (pos 0 -ℤ z))) a ∙ negated c.entry.result (omega arith) ∙ ap neg_ℤ c.entry.ensures.entry; }
+    record { entry = ap (λ z. to_z w64 (of_z w64 (pos 0 -ℤ z))) a ∙ negated c.entry.result (omega arith) ∙ ap neg_ℤ c.entry.ensures.entry }

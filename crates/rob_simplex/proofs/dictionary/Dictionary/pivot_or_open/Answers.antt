@@ -62,7 +62,7 @@ returns-in-Err-clause-wide g c =
     let es : c.self.inside.columns + c.len.result + 3 ≡ spare_column c.args.self.now.columns (positions c.args.self.now) = omega arith in
     let el : c.replace.new.self.limit ≡ c.args.self.now.limit = c.replace.ensures.limit ∙ c.make_primitive.ensures.limit in
     subst (λ (l : ℕ). (c.in-Err.i < c.args.count) × (c.in-Err.i ≢ c.args.row)
-        × (c.in-Err.i ≤ positions c.args.self.now → IsWideCleared l (width_of c.args.self.now) c.args.column (rows_of c.args.self.now c.in-Err.i) (rows_of c.args.self.now c.args.row))) el
+    × (c.in-Err.i ≤ positions c.args.self.now → IsWideCleared l (width_of c.args.self.now) c.args.column (rows_of c.args.self.now c.in-Err.i) (rows_of c.args.self.now c.args.row))) el
     (wide_begun c.args.self.now c.make_primitive.new.self c.replace.new.self c.args.row c.args.column s es c.requires.row_in c.requires.closed c.make_primitive.ensures.basis c.make_primitive.ensures.columns c.make_primitive.ensures.row c.make_primitive.ensures.others c.replace.ensures.basis c.replace.ensures.columns c.replace.ensures.rows c.clear_others.new.self c.requires.free c.requires.structural c.clear_others.ensures.basis c.clear_others.ensures.columns c.replace.new.self.limit c.args.count c.in-Err.i c.in-Err.ensures.stopped)
 
 pub returns-in-Err-clause-begun : goal.returns-in-Err-clause-begun
