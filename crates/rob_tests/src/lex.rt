@@ -1,61 +1,50 @@
-ghost use Rattle.std.specs.Prelude.{◌≤◌, ◌^◌, length};
+// Tokens of texts.
 
-use rob_lex::{Kind, LexErr, tokens};
-use std::test::Fail;
+use crate::text::broken;
+use crate::trouble::Trouble;
+use rob_lex::{LexErr, Token, tokens};
+use std::alloc::Global;
 
-/// How many tokens a text has, or the rule and the line that it breaks; nothing where memory was refused.
-fn reading(rt: &HostRuntime, text: &[u8]) -> Option<Result<usize, (u8, u32)>>
-    requires { length text.now ≤ 2 ^ 30 }
-{
-    match tokens(rt.alloc(), text) {
-        Ok(list) => Some(Ok(list.len())),
-        Err(LexErr::Rule(rule, line)) => Some(Err((rule, line))),
-        Err(LexErr::Memory) => None,
+/// How many tokens a text has, or the rule and the line that it breaks.
+fn reading(alloc: Global, text: &[u8]) -> Result<Result<usize, (u8, u32)>, Trouble> {
+    if text.len() > 1 << 30 {
+        return Err(Trouble::Line);
+    }
+    match tokens(alloc, text) {
+        Ok(list) => Ok(Ok(list.len())),
+        Err(LexErr::Rule(rule, line)) => Ok(Err((rule, line))),
+        Err(LexErr::Memory) => Err(Trouble::Memory),
     }
 }
 
-// A last line without LF has a line end only in the count of tokens.
-#[rattlefmt::skip]
-const TEXTS: [(&str, &[u8], Result<usize, (u8, u32)>); 14] = [
-    ("no byte",                                 b"",                     Ok(0)),
-    ("a line end alone",                        b"\n",                   Ok(1)),
-    ("the last line has no line end",           b"a\nb",                 Ok(3)),
-    ("CR is ignored",                           b"a\r\n\tb \r\n",        Ok(4)),
-    ("a word holds digits, digits no letter",   b"ab1 1ab",              Ok(3)),
-    ("each sign is one token",                  b"+-*/()[],:=<=>=",      Ok(13)),
-    ("a comment's bytes aren't looked at",      b"# \xff < !\nx#\x00",   Ok(2)),
-    ("128 is no ASCII",                         b"a\n\x80",              Err((1, 2))),
-    ("127 begins no token",                     b"a\n\n\x7f",            Err((2, 3))),
-    ("a less sign alone",                       b"a < b",                Err((2, 1))),
-    ("a greater sign at the end",               b"a >",                  Err((2, 1))),
-    ("the first offending place decides",       b"!\n\xc3",              Err((2, 1))),
-    ("a closing parenthesis with none open",    b")))",                  Ok(3)),
-    ("a comment begins inside a line",          b"a#\xc3\n\xc3",         Err((1, 2))),
-];
-
-#[test]
-fn worked_texts(rt: HostRuntime) -> Result<(), Fail> {
-    for (name, text, want) in TEXTS {
-        assert_eq!(rt; reading(&rt, text), Some(want), "{name}");
+/// How many tokens a text has.
+pub(crate) fn count(alloc: Global, text: &[u8]) -> Result<String, Trouble> {
+    match reading(alloc, text)? {
+        Ok(count) => Ok(format!(in alloc; "{count} tokens")?),
+        Err((rule, line)) => broken(alloc, rule, line),
     }
-    Ok(())
 }
 
-#[test]
-fn tokens_tell_their_place(rt: HostRuntime) -> Result<(), Fail> {
-    let list = tokens(rt.alloc(), b"row r1: 2*x<=12ab # (((<\n")?;
-    assert_eq!(rt; list.len(), 10);
-    let ab = list[8];
-    assert_eq!(rt;
-        (ab.kind, ab.start, ab.end, ab.line),
-        (Kind::Word, 15, 17, 1)
-    );
-    let last = list[9];
-    assert_eq!(rt;
-        (last.kind, last.start, last.end, last.line),
-        (Kind::LineEnd, 24, 25, 1)
-    );
-    Ok(())
+/// The token of that number, from 0: its kind, from where and to where it reaches, and its line.
+pub(crate) fn token(alloc: Global, text: &[u8], k: u32) -> Result<String, Trouble> {
+    if text.len() > 1 << 30 {
+        return Err(Trouble::Line);
+    }
+    match tokens(alloc, text) {
+        Ok(list) => match list.get(k as usize) {
+            Some(token) => told(alloc, token),
+            None => Err(Trouble::Line),
+        },
+        Err(_) => Err(Trouble::Line),
+    }
+}
+
+fn told(alloc: Global, token: &Token) -> Result<String, Trouble> {
+    let kind = token.kind;
+    let start = token.start;
+    let end = token.end;
+    let line = token.line;
+    Ok(format!(in alloc; "{kind:?} from {start} to {end} on line {line}")?)
 }
 
 /// What a byte alone on the second line gives: letters, `_`, digits, the short signs and LF are tokens, `#` and the
@@ -70,45 +59,21 @@ fn of_byte(byte: u8) -> Result<usize, (u8, u32)> {
     }
 }
 
-#[test]
-fn every_byte_outside_and_inside_a_comment(rt: HostRuntime) -> Result<(), Fail> {
+/// The first byte that reads otherwise than `of_byte` says alone on a line, or in a comment otherwise than as nothing.
+fn first_other(alloc: Global) -> Result<Option<u8>, Trouble> {
     for byte in 0..=255 {
-        assert_eq!(rt; reading(&rt, &[b'\n', byte]), Some(of_byte(byte)), "{byte}");
         let inside = if byte == b'\n' { 2 } else { 1 };
-        assert_eq!(rt;
-            reading(&rt, &[b'\n', b'#', byte]),
-            Some(Ok(inside)),
-            "{byte}"
-        );
+        if reading(alloc, &[b'\n', byte])? != of_byte(byte)
+            || reading(alloc, &[b'\n', b'#', byte])? != Ok(inside)
+        {
+            return Ok(Some(byte));
+        }
     }
-    Ok(())
+    Ok(None)
 }
 
-#[test]
-fn fifty_parentheses_on_a_line(rt: HostRuntime) -> Result<(), Fail> {
-    let mut text = vec![in rt.alloc(); b'('; 50]?;
-    assert_eq!(rt; reading(&rt, &text), Some(Ok(50)));
-    text.push(b')')?;
-    text.push(b'(')?;
-    text.push(b'\n')?;
-    text.push(b'(')?;
-    assert_eq!(rt; reading(&rt, &text), Some(Ok(54)));
-    let text = vec![in rt.alloc(); b'('; 51]?;
-    assert_eq!(rt; reading(&rt, &text), Some(Err((4, 1))));
-    Ok(())
-}
-
-#[test]
-fn twenty_thousand_tokens(rt: HostRuntime) -> Result<(), Fail> {
-    let mut text = vec![in rt.alloc(); b'+'; 19_999]?;
-    assert_eq!(rt; reading(&rt, &text), Some(Ok(19_999)));
-    text.push(b'\n')?;
-    assert_eq!(rt; reading(&rt, &text), Some(Ok(20_000)));
-    text.push(b' ')?;
-    assert_eq!(rt; reading(&rt, &text), Some(Ok(20_000)));
-    text.push(b'(')?;
-    assert_eq!(rt; reading(&rt, &text), Some(Err((3, 2))));
-    let text = vec![in rt.alloc(); b'+'; 20_000]?;
-    assert_eq!(rt; reading(&rt, &text), Some(Err((3, 1))));
-    Ok(())
+/// Whether every byte reads as it should, outside and inside a comment.
+pub(crate) fn every_byte(alloc: Global) -> Result<String, Trouble> {
+    let other = first_other(alloc)?;
+    Ok(format!(in alloc; "{other:?}")?)
 }

@@ -1,147 +1,167 @@
-// Values, policies, admission and names, on small models, with values worked by hand.
+// Values, policies, admission and names of a model.
 
-use crate::models::{demand, number, numbers};
+ghost use Rattle.rob_model.specs.Valid.{IsValid};
+
+use crate::case::Case;
+use crate::numbers::{exact, exacts, shown as shown_number, small, whole, wholes};
+use crate::parse;
+use crate::text::{keyword, said, shown};
+use crate::trouble::Trouble;
 use rob_model::{
-    Expr, Model, Plan, Scenario, Sense, Term, admits, column_count, find_column, find_form,
-    find_param, find_set_row, first_broken, form_count, policy_at, put_column_name, put_form_name,
-    put_set_place_name, put_set_row_name, set_place_count, set_row_count, value_at,
+    Model, Plan, Scenario, admits, column_count, find_column, find_form, find_param, find_set_row,
+    first_broken, form_count, policy_at, put_column_name, put_form_name, put_set_place_name,
+    put_set_row_name, set_place_count, set_row_count, value_at,
 };
-use rob_number::{Exact, Frac, List, Tally, Text, Wide};
-use std::test::Fail;
+use rob_number::{Exact, Frac, Tally, Text, Wide};
+use std::alloc::Global;
 
-// no parameter, no variable, and the objective 7; and the value of -7 in it
-#[test]
-fn a_model_of_nothing(rt: HostRuntime) -> Result<(), Fail> {
-    let alloc = rt.alloc();
-    let mut ledger = Tally::new();
-    let seven: Frac<62> = number(7)?;
-    let one: Frac<62> = number(1)?;
-    let minus_seven: Frac<62> = number(-7)?;
-    let model = Model {
-        params: List::new(alloc),
-        sets: List::new(alloc),
-        set_lines: List::new(alloc),
-        line_sets: List::new(alloc),
-        vars: List::new(alloc),
-        adaptives: List::new(alloc),
-        sense: Sense::Minimise,
-        objective: Expr::Number(seven),
-        objective_set: 0,
-        rows: List::new(alloc),
-        row_sets: List::new(alloc),
-    };
-    let scenario = Scenario {
-        values: List::new(alloc),
-    };
-    assert!(rt; admits(&model, &scenario, &mut ledger)?);
-    assert_eq!(rt; first_broken(&model, one, &[], &mut ledger)?, None);
-    assert_eq!(rt; form_count(&model), 1);
-    assert_eq!(rt; column_count(&model), 0);
-    assert_eq!(rt; set_row_count(&model), 0);
-    assert_eq!(rt; set_place_count(&model), 0);
-    assert_eq!(rt; find_form(&model, b"objective"), Some(0));
-    assert_eq!(rt; find_column(&model, b"x"), None);
-    assert_eq!(rt; find_set_row(&model, b"d.lower"), None);
-    assert_eq!(rt; find_param(&model, b"d"), None);
-    let mut out = Text::new(alloc);
-    put_form_name(&model, 0, &mut out)?;
-    assert_eq!(rt; out.bytes(), b"objective".as_slice());
-    let plan = Plan {
-        columns: List::new(alloc),
-        bound: seven,
-    };
-    let mut terms = List::new(alloc);
-    terms.push(Term {
-        minus: true,
-        inner: Expr::Number(seven),
-    })?;
-    assert_eq!(rt;
-        value_at(&Expr::Sum(terms), &model, &plan, &scenario, &mut ledger)?,
-        minus_seven
-    );
-    Ok(())
+/// The answer of a test, or that a number on the way is wide.
+fn told(alloc: Global, answer: Result<bool, Wide>) -> Result<String, Trouble> {
+    match answer {
+        Ok(true) => said(alloc, "yes"),
+        Ok(false) => said(alloc, "no"),
+        Err(Wide) => said(alloc, "wide"),
+    }
 }
 
-#[test]
-fn a_budget_of_one(rt: HostRuntime) -> Result<(), Fail> {
-    let alloc = rt.alloc();
-    let mut ledger = Tally::new();
-    let model: Model<Frac<62>> = demand(alloc)?;
-    assert_eq!(rt; model.params.items().len(), 2);
-    assert_eq!(rt; model.adaptives.items().len(), 1);
-    // |12 - 10| / 2 + |10 - 10| / 2 = 1, and |12 - 10| / 2 + |11 - 10| / 2 = 3/2
-    let inside = Scenario {
-        values: numbers(alloc, &[12, 10])?,
-    };
-    let outside = Scenario {
-        values: numbers(alloc, &[12, 11])?,
-    };
-    assert!(rt; admits(&model, &inside, &mut ledger)?);
-    assert!(rt; !admits(&model, &outside, &mut ledger)?);
-    // the budget is the condition behind the four bounds; 13 breaks the upper bound of d1; a ray leaves no bound
-    assert_eq!(rt;
-        first_broken(&model, number(1)?, outside.values.items(), &mut ledger)?,
-        Some(4)
-    );
-    let far: List<Frac<62>> = numbers(alloc, &[13, 10])?;
-    assert_eq!(rt;
-        first_broken(&model, number(1)?, far.items(), &mut ledger)?,
-        Some(1)
-    );
-    assert_eq!(rt;
-        first_broken(&model, number(0)?, far.items(), &mut ledger)?,
-        Some(1)
-    );
-    // y = 5 + 2 d1 is 29 at 12
-    let plan = Plan {
-        columns: numbers(alloc, &[3, 5, 2])?,
-        bound: number(3)?,
-    };
-    assert_eq!(rt;
-        policy_at(&model, 0, &plan, &inside, &mut ledger)?,
-        number(29)?
-    );
-    Ok(())
+fn value<N: Exact>(alloc: Global, answer: Result<N, Wide>) -> Result<String, Trouble> {
+    match answer {
+        Ok(x) => shown_number(alloc, x),
+        Err(Wide) => said(alloc, "wide"),
+    }
 }
 
-// the names of y's coefficient, of the row, of the budget's sum and of its second column
-#[test]
-fn names_of_a_budget(rt: HostRuntime) -> Result<(), Fail> {
-    let alloc = rt.alloc();
-    let model: Model<Frac<62>> = demand(alloc)?;
-    let mut out = Text::new(alloc);
-    assert_eq!(rt; find_column(&model, b"y.d1"), Some(2));
-    assert!(rt; 2 < column_count(&model));
-    put_column_name(&model, 2, &mut out)?;
-    assert_eq!(rt; find_form(&model, b"need"), Some(1));
-    assert_eq!(rt; find_set_row(&model, b"budget.1.sum"), Some(8));
-    assert!(rt; 8 < set_row_count(&model));
-    put_set_row_name(&model, 8, &mut out)?;
-    assert!(rt; 8 < set_place_count(&model));
-    put_set_place_name(&model, 8, &mut out)?;
-    assert_eq!(rt; find_param(&model, b"d2"), Some(1));
-    assert_eq!(rt; out.bytes(), b"y.d1budget.1.sumt.1.d2".as_slice());
-    Ok(())
+fn scenario<N: Exact>(alloc: Global, line: &str) -> Result<Scenario<N>, Trouble> {
+    let numbers = wholes(alloc, line)?;
+    Ok(Scenario {
+        values: exacts(alloc, numbers.as_slice())?,
+    })
 }
 
-// 100 * 12 is over 255
-#[test]
-fn wide_at_eight_bits(rt: HostRuntime) -> Result<(), Fail> {
-    let alloc = rt.alloc();
+fn plan<N: Exact>(alloc: Global, case: &Case) -> Result<Plan<N>, Trouble> {
+    Ok(Plan {
+        columns: exacts(alloc, case.plan())?,
+        bound: exact(0)?,
+    })
+}
+
+/// Whether a scenario is admitted.
+pub(crate) fn admitted<N: Exact>(
+    alloc: Global,
+    case: &Case,
+    line: &str,
+) -> Result<String, Trouble> {
+    let model: Model<N> = parse::model(alloc, case.model())?;
+    let scenario = scenario(alloc, line)?;
+    if scenario.values.items().len() != model.params.items().len() {
+        return Err(Trouble::Line);
+    }
+    told(alloc, admits(&model, &scenario, &mut Tally::new()))
+}
+
+/// The first condition that fails, at a base and then a vector.
+pub(crate) fn broken<N: Exact>(alloc: Global, case: &Case, line: &str) -> Result<String, Trouble> {
+    let model: Model<N> = parse::model(alloc, case.model())?;
+    let (base, vector) = keyword(line);
+    let base = exact(whole(base)?)?;
+    let vector: Scenario<N> = scenario(alloc, vector)?;
+    let vector = vector.values.items();
+    if vector.len() != model.params.items().len() {
+        return Err(Trouble::Line);
+    }
+    match first_broken(&model, base, vector, &mut Tally::new()) {
+        Ok(found) => Ok(format!(in alloc; "{found:?}")?),
+        Err(Wide) => said(alloc, "wide"),
+    }
+}
+
+/// The value of the first adaptive variable in a scenario, and how many numbers were found wide.
+pub(crate) fn policy<N: Exact>(alloc: Global, case: &Case, line: &str) -> Result<String, Trouble> {
+    let model: Model<N> = parse::model(alloc, case.model())?;
+    let plan = plan(alloc, case)?;
+    let scenario = scenario(alloc, line)?;
+    if model.adaptives.items().len() == 0 {
+        return Err(Trouble::Line);
+    }
     let mut ledger = Tally::new();
-    let model: Model<Frac<8>> = demand(alloc)?;
-    assert_eq!(rt; model.adaptives.items().len(), 1);
-    let inside = Scenario {
-        values: numbers(alloc, &[12, 10])?,
-    };
-    let plan = Plan {
-        columns: numbers(alloc, &[200, 200, 100])?,
-        bound: number(3)?,
-    };
-    assert_eq!(rt;
-        policy_at(&model, 0, &plan, &inside, &mut ledger),
-        Err(Wide)
-    );
-    assert_eq!(rt; ledger.wides(), 1);
-    Ok(())
+    let answer = value(alloc, policy_at(&model, 0, &plan, &scenario, &mut ledger))?;
+    let wides = ledger.wides();
+    Ok(format!(in alloc; "{answer} with {wides} wide")?)
+}
+
+/// The objective's value in a scenario.
+pub(crate) fn objective<N: Exact>(
+    alloc: Global,
+    case: &Case,
+    line: &str,
+) -> Result<String, Trouble> {
+    let model: Model<N> = parse::model(alloc, case.model())?;
+    let plan = plan(alloc, case)?;
+    let scenario = scenario(alloc, line)?;
+    value(
+        alloc,
+        value_at(
+            &model.objective,
+            &model,
+            &plan,
+            &scenario,
+            &mut Tally::new(),
+        ),
+    )
+}
+
+/// The numbers of forms, columns, set rows and set places.
+pub(crate) fn counts(alloc: Global, case: &Case) -> Result<String, Trouble> {
+    let model: Model<Frac<62>> = parse::model(alloc, case.model())?;
+    let forms = form_count(&model);
+    let columns = column_count(&model);
+    let rows = set_row_count(&model);
+    let places = set_place_count(&model);
+    Ok(format!(in alloc; "{forms} {columns} {rows} {places}")?)
+}
+
+/// The number of a name of a kind.
+pub(crate) fn found(alloc: Global, case: &Case, line: &str) -> Result<String, Trouble> {
+    let model: Model<Frac<62>> = parse::model(alloc, case.model())?;
+    let (kind, name) = keyword(line);
+    let number = number_of(&model, kind, name.as_bytes())?;
+    Ok(format!(in alloc; "{number:?}")?)
+}
+
+fn number_of<N: Exact>(model: &Model<N>, kind: &str, name: &[u8]) -> Result<Option<u32>, Trouble>
+    requires valid { IsValid N.value model.now }
+{
+    match kind {
+        "form" => Ok(find_form(model, name)),
+        "column" => Ok(find_column(model, name)),
+        "set-row" => Ok(find_set_row(model, name)),
+        "parameter" => Ok(find_param(model, name)),
+        _ => Err(Trouble::Line),
+    }
+}
+
+/// The name of a number of a kind.
+pub(crate) fn named(alloc: Global, case: &Case, line: &str) -> Result<String, Trouble> {
+    let model: Model<Frac<62>> = parse::model(alloc, case.model())?;
+    let (kind, number) = keyword(line);
+    let mut name = Text::new(alloc);
+    put_name(&model, kind, small(number)?, &mut name)?;
+    shown(alloc, name.bytes())
+}
+
+fn put_name<N: Exact>(
+    model: &Model<N>,
+    kind: &str,
+    index: u32,
+    out: &mut Text,
+) -> Result<(), Trouble>
+    requires valid { IsValid N.value model.now }
+{
+    match kind {
+        "form" if index < form_count(model) => Ok(put_form_name(model, index, out)?),
+        "column" if index < column_count(model) => Ok(put_column_name(model, index, out)?),
+        "set-row" if index < set_row_count(model) => Ok(put_set_row_name(model, index, out)?),
+        "set-place" if index < set_place_count(model) => Ok(put_set_place_name(model, index, out)?),
+        _ => Err(Trouble::Line),
+    }
 }

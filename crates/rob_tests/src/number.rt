@@ -1,149 +1,161 @@
-// Worked results, by hand. The expected values are those of the fractions, in lowest terms.
+// Exact numbers, lists and texts.
 
-use rob_number::{Exact, Frac, Ledger, List, Memory, Tally, Text, Wide, gcd128};
-use std::process::Abort;
-use std::test::Fail;
+use crate::numbers::{shown as shown_number, small, whole, wholes};
+use crate::text::{keyword, said, shown};
+use crate::trouble::Trouble;
+use rob_number::{Exact, Frac, List, Memory, Tally, Text, Wide, gcd128};
+use std::alloc::Global;
 
-#[derive(Debug, Clone, Copy)]
-enum Operation {
-    Add,
-    Sub,
-    Mul,
-    Div,
+/// The pair of a word.
+fn pair(word: &str) -> Result<(i64, i64), Trouble> {
+    match word.split_once('/') {
+        Some((num, den)) => Ok((whole(num)?, whole(den)?)),
+        None => Ok((whole(word)?, 1)),
+    }
 }
 
-use Operation::{Add, Div, Mul, Sub};
-
-// Name, operation, the two numbers as pairs, and the result as a pair, or none where it is wide.
-type Row = (
-    &'static str,
-    Operation,
-    (i64, i64),
-    (i64, i64),
-    Option<(i64, i64)>,
-);
-
-// LIMIT is 255.
-#[rattlefmt::skip]
-const AT_EIGHT_BITS: [Row; 14] = [
-    ("the limit itself fits",               Add, (200, 1),  (55, 1),  Some((255, 1))),
-    ("256 is wide",                         Add, (200, 1),  (56, 1),  None),
-    ("36/323",                              Add, (1, 17),   (1, 19),  None),
-    ("1/6 + 1/3 is 1/2",                    Add, (1, 6),    (1, 3),   Some((1, 2))),
-    ("the sum is reduced to 0/1",           Add, (1, 200),  (-1, 200), Some((0, 1))),
-    ("-256 is wide",                        Sub, (-200, 1), (56, 1),  None),
-    ("1/2 - 1/3 is 1/6",                    Sub, (1, 2),    (1, 3),   Some((1, 6))),
-    ("wide only before it is reduced",      Mul, (200, 3),  (3, 200), Some((1, 1))),
-    ("a product of whole numbers",          Mul, (-15, 1),  (17, 1),  Some((-255, 1))),
-    ("16 * 16 is wide",                     Mul, (16, 1),   (16, 1),  None),
-    ("both signs change the sign twice",    Mul, (-1, 2),   (-2, 3),  Some((1, 3))),
-    ("a divisor below 0",                   Div, (1, 2),    (-3, 4),  Some((-2, 3))),
-    ("1/3 / 100 is 1/300",                  Div, (1, 3),    (100, 1), None),
-    ("255 / 255",                           Div, (255, 1),  (255, 1), Some((1, 1))),
-];
-
-fn number<N: Exact>(rt: &impl Abort, pair: (i64, i64)) -> N {
-    let (num, den) = pair;
-    assert!(rt; den > 0);
-    N::from_parts(num, den, &mut Tally::new()).expect(rt, "the number fits")
+/// The number of a pair, or that it is wide.
+fn number<N: Exact>(word: &str, ledger: &mut Tally) -> Result<Result<N, Wide>, Trouble> {
+    let (num, den) = pair(word)?;
+    if den > 0 {
+        Ok(N::from_parts(num, den, ledger))
+    } else {
+        Err(Trouble::Line)
+    }
 }
 
-fn result<N: Exact, L: Ledger>(
-    rt: &impl Abort,
-    operation: Operation,
+/// The number of a pair that fits.
+fn fitting<N: Exact>(word: &str) -> Result<N, Trouble> {
+    match number(word, &mut Tally::new())? {
+        Ok(x) => Ok(x),
+        Err(Wide) => Err(Trouble::Line),
+    }
+}
+
+fn result<N: Exact>(
+    operation: &str,
     a: N,
     b: N,
-    ledger: &mut L,
-) -> Result<N, Wide> {
-    match operation {
-        Add => a.add(b, ledger),
-        Sub => a.sub(b, ledger),
-        Mul => a.mul(b, ledger),
-        Div => {
-            assert!(rt; b.sign() != 0);
-            a.div(b, ledger)
+    ledger: &mut Tally,
+) -> Result<Result<N, Wide>, Trouble> {
+    if operation == "add" {
+        Ok(a.add(b, ledger))
+    } else if operation == "sub" {
+        Ok(a.sub(b, ledger))
+    } else if operation == "mul" {
+        Ok(a.mul(b, ledger))
+    } else if operation == "div" && b.sign() != 0 {
+        Ok(a.div(b, ledger))
+    } else {
+        Err(Trouble::Line)
+    }
+}
+
+/// What an operation on two numbers gives, and what its ledger counted.
+pub(crate) fn operation<N: Exact>(alloc: Global, line: &str) -> Result<String, Trouble> {
+    let (name, numbers) = keyword(line);
+    let (a, b) = keyword(numbers);
+    let mut ledger = Tally::new();
+    let got = result(name, fitting::<N>(a)?, fitting(b)?, &mut ledger)?;
+    let told = answer(alloc, got)?;
+    let ops = ledger.ops();
+    let wides = ledger.wides();
+    Ok(format!(in alloc; "{told} counted {ops} {wides}")?)
+}
+
+/// The number of a pair, or that it is wide.
+fn answer<N: Exact>(alloc: Global, number: Result<N, Wide>) -> Result<String, Trouble> {
+    match number {
+        Ok(x) => shown_number(alloc, x),
+        Err(Wide) => said(alloc, "wide"),
+    }
+}
+
+/// A pair as a number, and its sign.
+pub(crate) fn reduced<N: Exact>(alloc: Global, word: &str) -> Result<String, Trouble> {
+    match number::<N>(word, &mut Tally::new())? {
+        Ok(x) => signed(alloc, x),
+        Err(Wide) => said(alloc, "wide"),
+    }
+}
+
+fn signed<N: Exact>(alloc: Global, x: N) -> Result<String, Trouble> {
+    let num = x.num();
+    let den = x.den();
+    let sign = x.sign();
+    Ok(format!(in alloc; "{num}/{den} of sign {sign}")?)
+}
+
+/// How a number stands to another, and how its negation does.
+pub(crate) fn compared<N: Exact>(alloc: Global, line: &str) -> Result<String, Trouble> {
+    let (a, b) = keyword(line);
+    let a = fitting::<N>(a)?;
+    let b = fitting::<N>(b)?;
+    let order = a.cmp(&b);
+    let negated = a.neg().cmp(&b);
+    let same = a == b;
+    Ok(format!(in alloc; "{order:?}, negated {negated:?}, the same {same}")?)
+}
+
+/// The limits at widths of 8, 31 and 62 bits; at 7 and 63, which are none, they are those of 8.
+pub(crate) fn limits(alloc: Global) -> Result<String, Trouble> {
+    let limits = [
+        Frac::<8>::LIMIT,
+        Frac::<31>::LIMIT,
+        Frac::<62>::LIMIT,
+        Frac::<7>::LIMIT,
+        Frac::<63>::LIMIT,
+    ];
+    Ok(format!(in alloc; "{limits:?}")?)
+}
+
+/// The greatest common divisor of two numbers, each times so many powers of 2.
+pub(crate) fn divisor(alloc: Global, line: &str) -> Result<String, Trouble> {
+    let (a, b) = keyword(line);
+    match (a.parse::<u128>(), b.parse::<u128>()) {
+        (Ok(a), Ok(b)) => {
+            let divisor = gcd128(a, b);
+            Ok(format!(in alloc; "{divisor}")?)
         }
+        _ => Err(Trouble::Line),
     }
 }
 
-#[test]
-fn worked_results(rt: HostRuntime) {
-    let mut ledger = Tally::new();
-    for (name, operation, a, b, want) in &AT_EIGHT_BITS {
-        let a = number::<Frac<8>>(&rt, *a);
-        let b = number::<Frac<8>>(&rt, *b);
-        let parts = match result(&rt, *operation, a, b, &mut ledger) {
-            Ok(x) => Some((x.num(), x.den())),
-            Err(Wide) => None,
-        };
-        assert_eq!(rt; parts, *want, "{name}");
+/// Pieces appended to a text, with `|` between them, and the text cut to a length.
+pub(crate) fn cut(alloc: Global, line: &str) -> Result<String, Trouble> {
+    let (length, pieces) = keyword(line);
+    let mut text = Text::new(alloc);
+    for piece in pieces.split('|') {
+        text.push(piece.as_bytes())?;
     }
-    assert_eq!(rt; (ledger.ops(), ledger.wides()), (14, 5));
+    let length = small(length)? as usize;
+    if text.bytes().len() < length {
+        return Err(Trouble::Line);
+    }
+    text.cut(length);
+    shown(alloc, text.bytes())
 }
 
-#[test]
-fn pairs_are_reduced(rt: HostRuntime) {
-    let mut ledger = Tally::new();
-    assert!(rt; Frac::<8>::from_parts(i64::MIN, 1, &mut ledger).is_err());
-    assert!(rt; Frac::<8>::from_parts(i64::MIN, i64::MAX, &mut ledger).is_err());
-    let half = number::<Frac<8>>(&rt, (i64::MAX / 2 + 1, 4611686018427387904));
-    assert_eq!(rt; (half.num(), half.den()), (1, 1));
-    let third = number::<Frac<8>>(&rt, (-300, 900));
-    assert_eq!(rt; (third.num(), third.den(), third.sign()), (-1, 3, -1));
-    assert!(rt; third < third.neg());
-    assert!(rt; third == number(&rt, (-2, 6)));
-}
-
-#[test]
-fn widths(rt: HostRuntime) {
-    assert_eq!(rt; Frac::<8>::LIMIT, 255);
-    assert_eq!(rt; Frac::<31>::LIMIT, 2147483647);
-    assert_eq!(rt; Frac::<62>::LIMIT, 4611686018427387903);
-    // Every other width has 8 bits.
-    assert_eq!(rt; Frac::<7>::LIMIT, 255);
-    assert_eq!(rt; Frac::<63>::LIMIT, 255);
-    let most = number::<Frac<62>>(&rt, (4611686018427387903, 1));
-    let mut ledger = Tally::new();
-    assert!(rt; most.add(number(&rt, (1, 1)), &mut ledger).is_err());
-    let least = number::<Frac<62>>(&rt, (1, 4611686018427387903));
-    assert!(rt; most.mul(least, &mut ledger) == Ok(number(&rt, (1, 1))));
-    assert!(rt; least.add(least, &mut ledger).is_ok());
-}
-
-#[test]
-fn divisors(rt: HostRuntime) {
-    assert_eq!(rt; gcd128(0, 0), 0);
-    assert_eq!(rt; gcd128(0, 7), 7);
-    assert_eq!(rt; gcd128(12, 18), 6);
-    // 2^100 and 3 * 2^90; then 2^70 * 35 and 2^66 * 21
-    assert_eq!(rt; gcd128(1 << 100, 3 << 90), 1 << 90);
-    assert_eq!(rt; gcd128(35 << 70, 21 << 66), 7 << 66);
-}
-
-#[test]
-fn collections_grow(rt: HostRuntime) -> Result<(), Fail> {
-    let mut text = Text::new(rt.alloc());
-    text.push(b"exact")?;
-    text.push(b" fractions")?;
-    text.cut(9);
-    assert_eq!(rt; text.bytes(), b"exact fra".as_slice());
-    let mut list = List::new(rt.alloc());
-    list.push(3)?;
-    list.push(5)?;
-    assert_eq!(rt; list.items(), [3, 5].as_slice());
-    Ok(())
+/// Numbers pushed to a list.
+pub(crate) fn pushed(alloc: Global, line: &str) -> Result<String, Trouble> {
+    let mut list = List::new(alloc);
+    for number in wholes(alloc, line)? {
+        list.push(number)?;
+    }
+    let items = list.items();
+    Ok(format!(in alloc; "{items:?}")?)
 }
 
 // A sum of sums: a type that leads back to itself through `List`.
 #[cycle(sum)]
-#[derive(Debug, Drop)]
+#[derive(Drop)]
 enum Sum<N> {
     Number(N),
     Terms(List<Term<N>>),
 }
 
 #[cycle(sum)]
-#[derive(Debug, Drop)]
+#[derive(Drop)]
 struct Term<N> {
     minus: bool,
     inner: Sum<N>,
@@ -167,19 +179,18 @@ fn any_minus<N>(terms: &[Term<N>]) -> bool {
     false
 }
 
-#[test]
-fn lists_lead_back(rt: HostRuntime) -> Result<(), Memory> {
-    let mut inner = List::new(rt.alloc());
-    inner.push(Term {
-        minus: true,
-        inner: Sum::Number(7),
-    })?;
-    let mut outer = List::new(rt.alloc());
-    outer.push(Term {
-        minus: false,
-        inner: Sum::Terms(inner),
-    })?;
-    assert!(rt; has_minus(&Sum::Terms(outer)));
-    assert!(rt; !has_minus(&Sum::Number(7)));
-    Ok(())
+/// A sum of one term.
+fn sum_of(alloc: Global, minus: bool, inner: Sum<i64>) -> Result<Sum<i64>, Memory> {
+    let mut terms = List::new(alloc);
+    terms.push(Term { minus, inner })?;
+    Ok(Sum::Terms(terms))
+}
+
+/// Whether 7 has a minus, and whether 0 + (0 - 7) has one.
+pub(crate) fn minuses(alloc: Global) -> Result<String, Trouble> {
+    let inner = sum_of(alloc, true, Sum::Number(7))?;
+    let outer = sum_of(alloc, false, inner)?;
+    let seven = has_minus(&Sum::Number(7));
+    let whole = has_minus(&outer);
+    Ok(format!(in alloc; "{seven}, {whole}")?)
 }

@@ -1,6 +1,9 @@
-// What no clause says: that the calls succeed where memory is there, and what the machine's files and output do.
+// What no clause says of shelves and sinks: that the calls succeed where memory is there, and what the machine's files
+// and output do.
 
-use rob_number::Memory;
+use crate::numbers::small;
+use crate::text::{add, keyword, said};
+use crate::trouble::Trouble;
 use rob_outside::{
     Fetched, FileShelf, MemShelf, MemSink, Shelf, ShelfErr, Sink, SinkErr, StdSink, SureShelf,
     SureSink,
@@ -8,25 +11,34 @@ use rob_outside::{
 use std::alloc::Global;
 use std::cell::Cell;
 use std::fmt::Display;
-use std::test::Fail;
-use std::{env, fs, io, process};
+use std::io;
 
 /// The limit of a model text.
 const LIMIT: usize = 65_536;
 
 /// How many bytes a fetch answered, or why none came.
-fn seen(answer: Result<Fetched, ShelfErr>) -> Result<usize, &'static str> {
+fn seen(alloc: Global, answer: Result<Fetched, ShelfErr>) -> Result<String, Trouble> {
     match answer {
-        Ok(Fetched::Bytes(bytes)) => Ok(bytes.len()),
-        Ok(Fetched::Missing) => Err("missing"),
-        Ok(Fetched::TooLong) => Err("too long"),
-        Err(ShelfErr::Failed) => Err("failed"),
-        Err(ShelfErr::Memory) => Err("memory"),
+        Ok(Fetched::Bytes(bytes)) => {
+            let count = bytes.len();
+            Ok(format!(in alloc; "{count} bytes")?)
+        }
+        Ok(Fetched::Missing) => said(alloc, "missing"),
+        Ok(Fetched::TooLong) => said(alloc, "too long"),
+        Err(ShelfErr::Failed) => said(alloc, "failed"),
+        Err(ShelfErr::Memory) => Err(Trouble::Memory),
     }
 }
 
+/// Fetches a file: its greatest length, and its name.
+fn fetched<S: Shelf>(alloc: Global, shelf: &mut S, call: &str) -> Result<String, Trouble> {
+    let (max, name) = keyword(call);
+    let max = small(max)?;
+    seen(alloc, shelf.fetch(alloc, name, max as usize))
+}
+
 /// A shelf with two files of one name and two at the limit, whose first two fetches fail.
-fn stocked(alloc: Global) -> Result<MemShelf, Memory> {
+fn stocked(alloc: Global) -> Result<MemShelf, Trouble> {
     let mut shelf = MemShelf::new(alloc);
     shelf.add("one", b"12")?;
     shelf.add("one", b"hidden")?;
@@ -37,103 +49,65 @@ fn stocked(alloc: Global) -> Result<MemShelf, Memory> {
     Ok(shelf)
 }
 
-#[rattlefmt::skip]
-const FETCHES: [(&str, &str, usize, Result<usize, &str>); 8] = [
-    ("the first listed call fails",        "one",  LIMIT, Err("failed")),
-    ("the second too, with no such file",  "two",  LIMIT, Err("failed")),
-    ("of two files the first counts",      "one",  2,     Ok(2)),
-    ("a file longer than the limit",       "one",  1,     Err("too long")),
-    ("no file of that name",               "on",   LIMIT, Err("missing")),
-    ("no file of the empty name",          "",     LIMIT, Err("missing")),
-    ("a file of exactly the limit",        "full", LIMIT, Ok(65_536)),
-    ("a file one byte longer",             "over", LIMIT, Err("too long")),
-];
-
-#[test]
-fn a_shelf_in_memory_finds_and_fails(rt: HostRuntime) -> Result<(), Fail> {
-    let mut shelf = stocked(rt.alloc())?;
-    for (shows, name, max, want) in FETCHES {
-        assert_eq!(rt; seen(shelf.fetch(rt.alloc(), name, max)), want, "{shows}");
+/// What the fetches from such a shelf give, with `|` between them, and how many it counted.
+pub(crate) fn fetches(alloc: Global, calls: &str) -> Result<String, Trouble> {
+    let mut shelf = stocked(alloc)?;
+    let mut answer = String::new(alloc);
+    for call in calls.split('|') {
+        let one = fetched(alloc, &mut shelf, call)?;
+        add(&mut answer, one.as_str())?;
     }
-    assert_eq!(rt; shelf.calls(), 8);
-    Ok(())
+    let calls = shelf.calls();
+    add(&mut answer, format!(in alloc; "{calls} calls")?.as_str())?;
+    Ok(answer)
 }
 
-#[test]
-fn a_sure_shelf_never_fails(rt: HostRuntime) -> Result<(), Fail> {
-    let mut shelf = SureShelf::new(rt.alloc());
+/// What a fetch from a shelf that never fails gives.
+pub(crate) fn sure_fetch(alloc: Global, call: &str) -> Result<String, Trouble> {
+    let mut shelf = SureShelf::new(alloc);
     shelf.add("one", b"12")?;
-    assert_eq!(rt; seen(shelf.fetch(rt.alloc(), "one", 2)), Ok(2));
-    Ok(())
+    fetched(alloc, &mut shelf, call)
 }
 
-#[test]
-fn a_sure_sink_never_fails(rt: HostRuntime) -> Result<(), Fail> {
-    let mut sink = SureSink::new(rt.alloc());
-    sink.put(b"ab")?;
-    sink.put(b"c")?;
-    assert_eq!(rt; sink.bytes().len(), 3);
-    Ok(())
+/// What a fetch of a file of the machine gives.
+pub(crate) fn machine_fetch(rt: &HostRuntime, call: &str) -> Result<String, Trouble> {
+    let mut shelf = FileShelf::new(rt);
+    fetched(rt.alloc(), &mut shelf, call)
 }
 
-#[rattlefmt::skip]
-const PUTS: [(&str, &str, Result<(), SinkErr>, usize); 5] = [
-    ("a piece that fits",                    "ab",    Ok(()),                2),
-    ("a listed call keeps its first bytes",  "cdefg", Err(SinkErr::Failed),  5),
-    ("the sink goes on behind them",         "fg",    Ok(()),                7),
-    ("a piece that fits in part",            "hij",   Err(SinkErr::Failed),  9),
-    ("the empty piece always fits",          "",      Ok(()),                9),
-];
+/// Whether a piece was taken whole.
+fn taken(answer: Result<(), SinkErr>) -> Result<&'static str, Trouble> {
+    match answer {
+        Ok(()) => Ok("taken"),
+        Err(SinkErr::Failed) => Ok("failed"),
+        Err(SinkErr::Memory) => Err(Trouble::Memory),
+    }
+}
 
-#[test]
-fn a_sink_in_memory_keeps_a_prefix(rt: HostRuntime) -> Result<(), Fail> {
-    let mut sink = MemSink::new(rt.alloc(), 9)?;
+/// What puts into a sink of 9 bytes give, whose second call keeps 3 bytes and fails, with the bytes that it then holds.
+pub(crate) fn puts(alloc: Global, pieces: &str) -> Result<String, Trouble> {
+    let mut sink = MemSink::new(alloc, 9)?;
     sink.fail_at(2, 3)?;
     sink.fail_at(2, 0)?;
-    for (shows, piece, want, held) in PUTS {
-        assert_eq!(rt; sink.put(piece.as_bytes()), want, "{shows}");
-        assert_eq!(rt; sink.bytes().len(), held, "{shows}");
+    let mut answer = String::new(alloc);
+    for piece in pieces.split('|') {
+        let word = taken(sink.put(piece.as_bytes()))?;
+        let held = sink.bytes().len();
+        add(&mut answer, format!(in alloc; "{word} {held}")?.as_str())?;
     }
-    assert_eq!(rt; sink.calls(), 5);
-    Ok(())
+    let calls = sink.calls();
+    add(&mut answer, format!(in alloc; "{calls} calls")?.as_str())?;
+    Ok(answer)
 }
 
-/// A path that no other test uses.
-fn own_path(rt: &HostRuntime) -> io::Result<String> {
-    let folder = env::temp_dir(rt)?;
-    let id = process::id(rt.process());
-    Ok(format!(in rt.alloc(); "{}/rob_outside_{id}", folder.as_str())?)
-}
-
-#[test]
-fn a_file_of_the_machine_is_read_whole(rt: HostRuntime) -> Result<(), Fail> {
-    let path = own_path(&rt)?;
-    let mut shelf = FileShelf::new(&rt);
-    fs::write(
-        &rt,
-        path.as_str(),
-        vec![in rt.alloc(); 7u8; 5000]?.as_slice(),
-    )?;
-    // It is read in two turns.
-    assert_eq!(rt;
-        seen(shelf.fetch(rt.alloc(), path.as_str(), 5000)),
-        Ok(5000)
-    );
-    assert_eq!(rt;
-        seen(shelf.fetch(rt.alloc(), path.as_str(), 4999)),
-        Err("too long")
-    );
-    fs::remove_file(&rt, path.as_str())?;
-    assert_eq!(rt;
-        seen(shelf.fetch(rt.alloc(), path.as_str(), 5000)),
-        Err("missing")
-    );
-    assert_eq!(rt;
-        seen(shelf.fetch(rt.alloc(), "/", 5000)),
-        Err("failed"),
-        "a folder cannot be read"
-    );
-    Ok(())
+/// How many bytes a sink that never fails holds of pieces.
+pub(crate) fn sure_puts(alloc: Global, pieces: &str) -> Result<String, Trouble> {
+    let mut sink = SureSink::new(alloc);
+    for piece in pieces.split('|') {
+        taken(sink.put(piece.as_bytes()))?;
+    }
+    let held = sink.bytes().len();
+    Ok(format!(in alloc; "{held} bytes")?)
 }
 
 /// A printer that takes three bytes at a time, and nothing once its paper is used up.
@@ -163,18 +137,25 @@ impl Print for Printer {
     }
 }
 
-#[test]
-fn standard_output_is_written_whole(rt: HostRuntime) {
+/// What puts on paper for 10 bytes give, and how much paper is left.
+pub(crate) fn prints(alloc: Global, pieces: &str) -> Result<String, Trouble> {
     let printer = Printer {
         paper: Cell::new(10),
     };
     let mut sink = StdSink::new(&printer);
-    assert_eq!(rt; sink.put(b"1234567"), Ok(()));
-    assert_eq!(rt; printer.paper.get(), 3);
-    assert_eq!(rt;
-        sink.put(b"1234567"),
-        Err(SinkErr::Failed),
-        "no paper is left"
-    );
-    assert_eq!(rt; StdSink::new(&rt).put(b"rob_outside\n"), Ok(()));
+    let mut answer = String::new(alloc);
+    for piece in pieces.split('|') {
+        let word = taken(sink.put(piece.as_bytes()))?;
+        let left = printer.paper.get();
+        add(&mut answer, format!(in alloc; "{word} {left}")?.as_str())?;
+    }
+    Ok(answer)
+}
+
+/// Puts a line to standard output.
+pub(crate) fn machine_put(rt: &HostRuntime, line: &str) -> Result<String, Trouble> {
+    let mut sink = StdSink::new(rt);
+    taken(sink.put(line.as_bytes()))?;
+    let word = taken(sink.put(b"\n"))?;
+    said(rt.alloc(), word)
 }
