@@ -1,12 +1,25 @@
 -- What a computation in order answers is what it computes.
 use Rattle.std.proofs.Common.{◌≡◌, ℕ, refl, Bool, true, false}
-use Rattle.std.specs.Prelude.{Option, Some, None, cond}
+use Rattle.std.specs.Prelude.{Option, Some, None, Result, Ok, Err, cond}
 use Rattle.rob_algebra.specs.Fraction.{Fraction}
 use Rattle.rob_algebra.specs.Width.{is_wide, kept}
 use Rattle.rob_model.specs.Within.{◌>>=◌}
 
 pub some_is : {A : Type 0} {a b : A} → Some a ≡ Some b → a ≡ b
 some_is h = cc
+
+-- an answer is one of its kinds alone
+pub none_is_none : {A : Type 0} (a : A) → None ≡ Some a → ⊥
+none_is_none a h = cc
+
+pub ok_is : {A E : Type 0} {r : Result A E} {a b : A} → r ≡ Ok a → r ≡ Ok b → a ≡ b
+ok_is e f = cc
+
+pub err_is_not_ok : {A E : Type 0} {r : Result A E} {e : E} {a : A} → r ≡ Err e → r ≡ Ok a → ⊥
+err_is_not_ok e f = cc
+
+pub false_is_not_true : false ≡ true → ⊥
+false_is_not_true h = cc
 
 kept_case : (wide : Bool) (q v : Fraction) → cond wide None (Some q) ≡ Some v → q ≡ v
 kept_case true q v h = cc

@@ -1,10 +1,11 @@
 -- 0 and 1 fit every limit, and the numbers at the places of a list.
 use Rattle.std.proofs.Common.{◌≡◌, ℕ, zero, suc, ◌<◌, ◌≤◌, List, [], ◌∷◌, ◌++◌, map, length, get_or, arith, refl, ap, sym, ◌∙◌, ℤ}
-use Rattle.std.specs.Prelude.{pos, negsuc, neg_ℤ, nat_abs, ◌*ℤ◌, ◌≤ℤ◌, ◌<ℤ◌, Some}
+use Rattle.std.specs.Prelude.{pos, negsuc, neg_ℤ, nat_abs, ◌*ℤ◌, ◌≤ℤ◌, ◌<ℤ◌, Some, None}
 use Rattle.std.proofs.lemmas.Int.{ints}
 use Rattle.rob_algebra.specs.Fraction.{Fraction, of_pair, of_int, ratio, ext, same_is, is_self, is_neg, neg_ℚ, sign_of, sign_ℚ}
 use Rattle.rob_algebra.specs.Width.{Fits, kept}
 use Rattle.rob_algebra.proofs.WidthLaws.{kept-fits}
+use Rattle.rob_model.proofs.KeptLemmas.{some_is, none_is_none}
 use Rattle.rob_meaning.specs.Places.{0ℚ, 1ℚ, at}
 use Rattle.rob_meaning.specs.UncertaintySet.{abs_ℚ}
 
@@ -24,6 +25,19 @@ zero_kept limit h = kept-fits limit 0ℚ (zero_fits limit h)
 pub one_kept : (limit : ℕ) → 1 ≤ limit → kept limit (of_pair (pos 1) 1) ≡ Some 1ℚ
 unfolding of_int
 one_kept limit h = kept-fits limit 1ℚ (one_fits limit h)
+
+-- so the number that is made of 0 over 1 is 0, and it is not refused; and so for 1
+pub made_zero : (limit : ℕ) → 1 ≤ limit → (x : Fraction) → Some x ≡ kept limit (of_pair (pos 0) 1) → x ≡ 0ℚ
+made_zero limit h x e = some_is (e ∙ zero_kept limit h)
+
+pub zero_made : (limit : ℕ) → 1 ≤ limit → None ≡ kept limit (of_pair (pos 0) 1) → ⊥
+zero_made limit h e = none_is_none 0ℚ (e ∙ zero_kept limit h)
+
+pub made_one : (limit : ℕ) → 1 ≤ limit → (x : Fraction) → Some x ≡ kept limit (of_pair (pos 1) 1) → x ≡ 1ℚ
+made_one limit h x e = some_is (e ∙ one_kept limit h)
+
+pub one_made : (limit : ℕ) → 1 ≤ limit → None ≡ kept limit (of_pair (pos 1) 1) → ⊥
+one_made limit h e = none_is_none 1ℚ (e ∙ one_kept limit h)
 
 -- a number of a list, and its fraction
 pub at_map : {N : Type 0} (value : N → Fraction) (xs : List N) (k : ℕ) (x : N) → k < length xs → x ≡ get_or xs k x → value x ≡ at (map value xs) k

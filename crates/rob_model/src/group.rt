@@ -27,7 +27,7 @@ pub enum Kind {
 }
 
 /// The names of one part of a model, in order.
-#[derive(Clone, Copy)]
+#[derive(Drop)]
 pub enum Group<'a, N> {
     /// One name.
     Single(&'a [u8]),
