@@ -1,17 +1,16 @@
 -- A row that another row clears of one entry, from the factors in lowest terms.
-use Rattle.std.proofs.Common.{◌≡◌, ◌≢◌, ℕ, suc, ◌+◌, ◌*◌, ◌^◌, ◌<◌, ◌≤◌, sym, refl, ap, ◌∙◌, subst, arith, inl, inr, List, length, get_or, Any, to_z, of_z, w64, Result, Ok, Err, OnOk}
+use Rattle.std.proofs.Common.{◌≡◌, ◌≢◌, ℕ, ◌+◌, ◌*◌, ◌^◌, ◌<◌, ◌≤◌, sym, refl, ap, ◌∙◌, subst, arith, inl, inr, List, length, get_or, Any, to_z, of_z, w64, Result, Ok, Err, OnOk}
 use Rattle.std.specs.Prelude.{IfOk}
 use mir.Val.{SFits}
 use Rattle.std.proofs.Math.Nat.{mul-le-mul, mul-le-mul_right}
-use Rattle.std.proofs.lemmas.Int.{ints, by_lt_z, unsigned_abs-mul}
+use Rattle.std.proofs.lemmas.Int.{ints, unsigned_abs-mul}
 use Rattle.std.proofs.lemmas.Bool.{cases_eq}
 use Rattle.std.proofs.lemmas.List.{get_or-map, get_or_default, length-map}
-use Rattle.std.specs.Int.RustNames.{unsigned_abs}
 use lib.IntN.{ℤ, pos, ◌-ℤ◌, ◌*ℤ◌, nat_abs}
 use lib.Signed.{◌<ℤ◌, ◌≤ℤ◌}
-use Rattle.rob_algebra.specs.Integer.{mul_cancel, mul_cancel_lt, mul_cancel_zero, mul_assoc, mul_left_comm, mul-zero, *ℤ_comm}
+use Rattle.rob_algebra.specs.Integer.{mul_cancel_lt, mul_cancel_zero, mul_left_comm, mul-zero, *ℤ_comm}
 use Rattle.rob_linear.specs.Vectors.{Vector, at}
-use Rattle.rob_linear.specs.Systems.{IsCombined, IsPrimitive}
+use Rattle.rob_linear.specs.Systems.{IsCombined}
 use Rattle.rob_linear.specs.Multiples.{IsClearedBy}
 use Rattle.rob_linear.proofs.Multiples.{factors_clear}
 use Rattle.rob_rows.specs.PrimitiveParts.{combination, IsPrimitivePart, IsWithin, HasWideEntry, HasWidePart}
@@ -21,7 +20,6 @@ use Rattle.rob_rows.specs.declared.factors.Factors.{Factors}
 use Rattle.rob_rows.proofs.Combinations.{combination-at, length-combination, multiple_read}
 use Rattle.rob_rows.proofs.Entries.{narrow_from_bounds}
 use Rattle.rob_rows.proofs.Pivots.{pivot_row}
-use Rattle.rob_rows.proofs.UpdateLemmas.{cases_zero}
 
 -- ---- the factors
 module _ (t e : ℤ) (f : Factors) (m : IsMultiple t e f) where

@@ -1,14 +1,14 @@
 -- Entries of a dictionary's rows, as its code reads them, and the first negative one.
-use Rattle.std.proofs.Common.{◌≡◌, ◌≢◌, ◌⊎◌, ℕ, suc, ◌+◌, ◌-◌, ◌*◌, ◌^◌, ◌<◌, ◌≤◌, min, sym, refl, ap, ◌∙◌, subst, arith, inl, inr, List, length, get_or, nat_abs, to_z, of_z, w64}
+use Rattle.std.proofs.Common.{◌≡◌, ◌≢◌, ◌⊎◌, ℕ, ◌+◌, ◌-◌, ◌*◌, ◌^◌, ◌<◌, ◌≤◌, min, sym, ap, ◌∙◌, subst, arith, inl, inr, List, length, get_or, nat_abs, to_z, of_z, w64}
 use Rattle.std.proofs.lemmas.Bool.{cases_eq, cases_lt}
 use Rattle.std.proofs.lemmas.Int.{ints, by_lt_z}
 use Rattle.std.proofs.lemmas.List.{get_or_default}
 use lib.IntN.{ℤ, pos}
 use lib.Signed.{◌<ℤ◌, ◌≤ℤ◌}
-use Rattle.rob_linear.specs.Vectors.{Vector, Columns, at}
+use Rattle.rob_linear.specs.Vectors.{Vector, Columns}
 use Rattle.rob_linear.proofs.CondensedSigns.{condensed_first, condensed_none}
-use Rattle.rob_simplex.specs.Tables.{row_at, bound_at, HasBounds}
-use Rattle.rob_simplex.specs.Dictionaries.{Table, positions, columns_of, basic_columns, right_column, read_row, rows_of, IsSound, IsLowest, FirstNegative}
+use Rattle.rob_simplex.specs.Tables.{row_at, bound_at}
+use Rattle.rob_simplex.specs.Dictionaries.{Table, columns_of, basic_columns, right_column, read_row, rows_of, IsSound, IsLowest, FirstNegative}
 use Rattle.rob_simplex.proofs.Places.{row_within, seen_within}
 use Rattle.rob_simplex.proofs.TableClearing.{read_near, read_own, read_none}
 

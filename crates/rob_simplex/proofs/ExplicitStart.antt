@@ -11,8 +11,8 @@ use Rattle.rob_linear.specs.Systems.{System, IsPrimitive}
 use Rattle.rob_linear.specs.Programs.{Program, auxiliary_row, auxiliary_of, kept_of}
 use Rattle.rob_linear.specs.Turns.{own_of, IsSameBasis}
 use Rattle.rob_linear.specs.Paths.{HasAuxiliary, Reached}
-use Rattle.rob_linear.specs.WideRows.{HasWideEntry, IsWideIn, HasWideRow, NeedsAuxiliary}
-use Rattle.rob_linear.specs.Multiples.{IsParallel, IsMultipleRow, IsClearedBy, StandsMultiple}
+use Rattle.rob_linear.specs.WideRows.{IsWideIn, HasWideRow, NeedsAuxiliary}
+use Rattle.rob_linear.specs.Multiples.{IsMultipleRow, IsClearedBy, StandsMultiple}
 use Rattle.rob_linear.specs.Beside.{StandsBeside, IsBackPivot, path_basis}
 use Rattle.rob_linear.proofs.Programs.{auxiliary_cost_zero, auxiliary_cost_entry, auxiliary_cost_objective}
 use Rattle.rob_linear.proofs.Turns.{own_same}
@@ -23,7 +23,7 @@ use Rattle.rob_linear.proofs.BesideColumns.{holds_stands, stands_multiple_same}
 use Rattle.rob_linear.proofs.BesideLoops.{beside_needs}
 use Rattle.rob_linear.proofs.BesideBack.{begun_stands, begun_wide, begun_cost_wide}
 use Rattle.rob_rows.specs.Updates.{IsWideCleared}
-use Rattle.rob_simplex.specs.Dictionaries.{Table, positions, width_of, columns_of, spare_column, rows_of, kept_row_of, IsFree, IsAlone, IsOpen, IsClosed, ClearsTable, StopsTable}
+use Rattle.rob_simplex.specs.Dictionaries.{Table, positions, width_of, columns_of, spare_column, rows_of, kept_row_of, IsFree, IsAlone, IsOpen, ClearsTable, StopsTable}
 use Rattle.rob_simplex.specs.Phases.{IsOpenBeside}
 use Rattle.rob_simplex.specs.Explicit.{InExplicit}
 use Rattle.rob_simplex.proofs.PivotLemmas.{set_twice, zero_stays, free_opened}

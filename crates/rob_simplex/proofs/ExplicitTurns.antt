@@ -11,14 +11,14 @@ use Rattle.std.proofs.lemmas.Nat.Gcd.{dvd-zero}
 use lib.IntN.{ℤ, pos, ◌-ℤ◌, ◌*ℤ◌}
 use lib.Signed.{◌<ℤ◌, ◌≤ℤ◌}
 use Rattle.rob_algebra.specs.Integer.{*ℤ_comm}
-use Rattle.rob_linear.specs.Vectors.{Vector, Matrix, Columns}
-use Rattle.rob_linear.specs.Systems.{System, right, IsPrimitive, IsBasis, RowOf}
+use Rattle.rob_linear.specs.Vectors.{Vector, Matrix}
+use Rattle.rob_linear.specs.Systems.{right, IsPrimitive, IsBasis}
 use Rattle.rob_linear.specs.Programs.{Program, auxiliary_tag, auxiliary_of, kept_of}
 use Rattle.rob_linear.specs.Turns.{Enters, Leaves, IsExchange, Rises, key, own_of, TurnsTo}
 use Rattle.rob_linear.specs.Rank.{rank, rank_limit, IsWithin}
 use Rattle.rob_linear.specs.Paths.{HasAuxiliary, Reached}
-use Rattle.rob_linear.specs.WideRows.{HasWideEntry, IsWideIn, HasWideRow, NeedsAuxiliary}
-use Rattle.rob_linear.specs.Multiples.{IsParallel, AreParallel, IsClearedBy, IsMultipleRow, IsMultiplePivot, IsPivotableMultiple, StandsMultiple}
+use Rattle.rob_linear.specs.WideRows.{HasWideRow, NeedsAuxiliary}
+use Rattle.rob_linear.specs.Multiples.{IsParallel, AreParallel, IsClearedBy, IsMultipleRow, IsPivotableMultiple, StandsMultiple}
 use Rattle.rob_linear.proofs.Starts.{auxiliary_tagged}
 use Rattle.rob_linear.proofs.Turns.{own_low, own_high}
 use Rattle.rob_linear.proofs.Unique.{own_apart}
@@ -27,7 +27,7 @@ use Rattle.rob_linear.proofs.LastBases.{auxiliary_bounded}
 use Rattle.rob_linear.proofs.Measure.{rank_rises, rank_below}
 use Rattle.rob_linear.proofs.WideRows.{exchange_inside}
 use Rattle.rob_linear.proofs.BesideLoops.{beside_needs}
-use Rattle.rob_linear.proofs.Multiples.{multiple_rows_exist, rows_parallel, order_parallel, unbounded_parallel, factors_clear, pivot_wide, multiple_turn}
+use Rattle.rob_linear.proofs.Multiples.{multiple_rows_exist, rows_parallel, unbounded_parallel, factors_clear, pivot_wide, multiple_turn}
 use Rattle.rob_linear.proofs.MultiplePhases.{kept_multiple}
 use Rattle.rob_rows.specs.Updates.{IsWideCleared}
 use Rattle.rob_simplex.specs.Dictionaries.{Table, positions, width_of, columns_of, basic_columns, spare_column, shape, rows_of, kept_row_of, IsFree, IsClosed, IsPivoted, FirstNegative}

@@ -1,5 +1,5 @@
 -- A turn of the first phase beside the auxiliary column on a dictionary is one of the path.
-use Rattle.std.proofs.Common.{◌≡◌, ◌≢◌, ℕ, suc, ◌+◌, ◌<◌, ◌≤◌, sym, refl, ap, ◌∙◌, subst, arith, inl, inr, List, length, set, cond, nat_eq, ◌-◌}
+use Rattle.std.proofs.Common.{◌≡◌, ◌≢◌, ℕ, suc, ◌+◌, ◌<◌, ◌≤◌, sym, ap, ◌∙◌, subst, arith, inl, inr, List, length, set, cond, nat_eq, ◌-◌}
 use Rattle.std.specs.Prelude.{nat_abs}
 use Rattle.std.proofs.lemmas.Bool.{cases_eq, cases_lt}
 use Rattle.std.proofs.lemmas.Int.{ints}
@@ -9,8 +9,8 @@ use lib.Signed.{◌<ℤ◌, ◌≤ℤ◌}
 use Rattle.rob_algebra.specs.Integer.{ring}
 use Rattle.rob_linear.specs.Programs.{Program, system_of, kept_of, auxiliary_of}
 use Rattle.rob_linear.specs.Turns.{own_of, IsSameBasis}
-use Rattle.rob_linear.specs.Paths.{HasAuxiliary, Reached, Turned}
-use Rattle.rob_linear.specs.Multiples.{IsParallel, IsClearedBy, HasMultipleRows, StandsMultiple, put_at}
+use Rattle.rob_linear.specs.Paths.{Turned}
+use Rattle.rob_linear.specs.Multiples.{IsParallel, IsClearedBy, HasMultipleRows, put_at}
 use Rattle.rob_linear.specs.Beside.{HoldsBeside, EntersBeside, IsBesidePivot, IsBegun, IsLeast, HasNoLeast, exchanged, swapped, turned_columns, path_basis, without_column, beside_objective}
 use Rattle.rob_linear.specs.Rank.{rank, rank_limit, IsWithin}
 use Rattle.rob_linear.proofs.Beside.{put_same, put_other}
@@ -25,7 +25,7 @@ use Rattle.rob_linear.proofs.OtherCosts.{turned_same}
 use Rattle.rob_linear.proofs.Solutions.{tags_in}
 use Rattle.rob_linear.proofs.Turns.{own_low, own_same}
 use Rattle.rob_linear.proofs.TwoPhases.{kept_tagged}
-use Rattle.rob_simplex.specs.Dictionaries.{Table, positions, width_of, columns_of, basic_columns, right_column, spare_column, shape, rows_of, IsFree, IsClosed, IsPivoted, IsBegunPivot, FirstNegative}
+use Rattle.rob_simplex.specs.Dictionaries.{Table, positions, width_of, columns_of, basic_columns, spare_column, shape, rows_of, IsFree, IsClosed, IsPivoted, IsBegunPivot, FirstNegative}
 use Rattle.rob_simplex.specs.Phases.{InBeside, HasLeft, IsOpenBeside, rank_left_beside, turns_left_beside}
 use Rattle.rob_simplex.proofs.SecondPhase.{IsSmall, falls}
 use Rattle.rob_simplex.proofs.Replacing.{basic_low, basic_high}

@@ -15,7 +15,7 @@ use Rattle.rob_linear.specs.Beside.{AreStarting, IsLeast, HasNoLeast, without_co
 use Rattle.rob_linear.proofs.Solutions.{tags_in}
 use Rattle.rob_linear.proofs.Starts.{system_tagged}
 use Rattle.rob_linear.proofs.Turns.{own_low}
-use Rattle.rob_linear.proofs.Phases.{place_low, place_high, place_in}
+use Rattle.rob_linear.proofs.Phases.{place_low, place_high}
 use Rattle.rob_linear.proofs.Multiples.{multiple_parallel, multiples_in, order_parallel}
 use Rattle.rob_linear.proofs.BesideColumns.{holds_start}
 use Rattle.rob_linear.proofs.BesideLoops.{beside_starts, slacks_start}
@@ -23,7 +23,7 @@ use Rattle.rob_linear.proofs.WithoutColumn.{slacks_without}
 use Rattle.rob_linear.proofs.Costs.{with_objective_low, with_objective_at}
 use Rattle.rob_linear.proofs.MultiplePhases.{change_multiple}
 use Rattle.rob_number.specs.Counts.{CountsWide, raised}
-use Rattle.rob_simplex.specs.Dictionaries.{Table, positions, width_of, columns_of, basic_columns, spare_column, shape, rows_of, kept_row_of, IsFree, IsClosed}
+use Rattle.rob_simplex.specs.Dictionaries.{Table, positions, width_of, columns_of, spare_column, shape, rows_of, kept_row_of, IsFree}
 use Rattle.rob_simplex.specs.Phases.{InSecond, InBeside, HasLeft}
 use Rattle.rob_simplex.specs.Starts.{IsStartingTable}
 use Rattle.rob_simplex.specs.Explicit.{HoldsExplicit}

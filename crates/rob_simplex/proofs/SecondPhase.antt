@@ -1,5 +1,5 @@
 -- A turn of the second phase on a dictionary is one of the path.
-use Rattle.std.proofs.Common.{◌≡◌, ◌≢◌, ℕ, suc, ◌+◌, ◌<◌, ◌≤◌, ◌-◌, sym, refl, ap, ◌∙◌, subst, arith, inl, inr, List, length, get_or, set, cond, nat_lt, nat_eq, zero, Some, None}
+use Rattle.std.proofs.Common.{◌≡◌, ◌≢◌, ℕ, suc, ◌+◌, ◌<◌, ◌≤◌, ◌-◌, sym, refl, ap, ◌∙◌, subst, arith, inl, inr, List, length, set, cond, nat_lt, nat_eq, zero, Some, None}
 use Rattle.std.proofs.lemmas.Bool.{cases_eq, cases_lt}
 use Rattle.std.proofs.lemmas.Bool.Decides.{nat_tests}
 use Rattle.std.proofs.lemmas.Int.{ints}
@@ -12,13 +12,13 @@ use lib.IntN.{ℤ, pos, ◌-ℤ◌, ◌*ℤ◌}
 use lib.Signed.{◌<ℤ◌, ◌≤ℤ◌}
 use Rattle.rob_algebra.specs.Integer.{*ℤ_comm}
 use Rattle.rob_linear.specs.Vectors.{Vector, Matrix, Columns}
-use Rattle.rob_linear.specs.Systems.{System, IsTagged, right, IsPrimitive}
+use Rattle.rob_linear.specs.Systems.{System, right, IsPrimitive}
 use Rattle.rob_linear.specs.Programs.{Program, system_of, kept_of, auxiliary_place}
-use Rattle.rob_linear.specs.Turns.{Enters, Leaves, IsExchange, Rises, key, own_of, TurnsTo}
+use Rattle.rob_linear.specs.Turns.{Enters, Leaves, IsExchange, Rises, key, own_of}
 use Rattle.rob_linear.specs.Rank.{rank, rank_limit, IsWithin}
-use Rattle.rob_linear.specs.Paths.{HasAuxiliary, Turned, Reached, auxiliary_column}
-use Rattle.rob_linear.specs.WideRows.{HasWideEntry, IsWideIn, HasWideRow}
-use Rattle.rob_linear.specs.Multiples.{IsParallel, IsClearedBy, IsMultiplePivot, IsPivotableMultiple, HasMultipleRows, StandsMultiple}
+use Rattle.rob_linear.specs.Paths.{HasAuxiliary, Turned, Reached}
+use Rattle.rob_linear.specs.WideRows.{HasWideEntry, HasWideRow}
+use Rattle.rob_linear.specs.Multiples.{IsParallel, IsClearedBy, IsMultiplePivot, IsPivotableMultiple, StandsMultiple}
 use Rattle.rob_linear.specs.Beside.{without_column}
 use Rattle.rob_linear.proofs.Starts.{system_tagged}
 use Rattle.rob_linear.proofs.Turns.{own_low}
@@ -28,7 +28,7 @@ use Rattle.rob_linear.proofs.Measure.{rank_rises, rank_below}
 use Rattle.rob_linear.proofs.Multiples.{factors_clear, pivot_wide, multiple_turn}
 use Rattle.rob_linear.proofs.MultiplePaths.{path_turn}
 use Rattle.rob_rows.specs.Updates.{IsWideCleared}
-use Rattle.rob_simplex.specs.Dictionaries.{Table, positions, width_of, columns_of, basic_columns, right_column, spare_column, shape, rows_of, IsFree, IsClosed, IsPivoted, FirstNegative}
+use Rattle.rob_simplex.specs.Dictionaries.{Table, positions, width_of, columns_of, basic_columns, spare_column, shape, rows_of, IsFree, IsClosed, IsPivoted, FirstNegative}
 use Rattle.rob_simplex.specs.Phases.{InSecond, EndsIn, rank_left, turns_left}
 use Rattle.rob_simplex.proofs.Replacing.{basic_low, basic_high}
 use Rattle.rob_simplex.proofs.PivotLemmas.{zero_stays}

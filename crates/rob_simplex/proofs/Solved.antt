@@ -1,15 +1,14 @@
 -- From the end of the path to what the solver answers.
-use Rattle.std.proofs.Common.{◌≡◌, ℕ, suc, ◌+◌, ◌<◌, sym, refl, ap, ap₂, ◌∙◌, subst, arith, List, length, Some, None}
-use Rattle.std.proofs.lemmas.Int.{ints}
+use Rattle.std.proofs.Common.{◌≡◌, ℕ, suc, ◌+◌, ◌<◌, sym, ap, ap₂, ◌∙◌, subst, arith, Some, None}
 use Rattle.std.specs.Int.RustNames.{unsigned_abs}
 use Rattle.std.specs.Int.{◌∣◌}
 use lib.IntN.{ℤ, pos, ◌*ℤ◌}
 use lib.Signed.{◌<ℤ◌, ◌≤ℤ◌}
-use Rattle.rob_linear.specs.Vectors.{Matrix, Vector, at}
-use Rattle.rob_linear.specs.Systems.{System, EndsOptimal, EndsUnbounded, IsNonnegative}
+use Rattle.rob_linear.specs.Vectors.{Matrix, Vector}
+use Rattle.rob_linear.specs.Systems.{EndsOptimal, EndsUnbounded, IsNonnegative}
 use Rattle.rob_linear.specs.Programs.{Program, system_of, auxiliary_of, ShowsEmpty}
 use Rattle.rob_linear.specs.Turns.{own_of, Enters, StandsWith}
-use Rattle.rob_linear.specs.Paths.{HasAuxiliary, Reached, Last}
+use Rattle.rob_linear.specs.Paths.{HasAuxiliary}
 use Rattle.rob_linear.specs.Beside.{without_column}
 use Rattle.rob_linear.specs.Optimality.{IsScaled}
 use Rattle.rob_linear.proofs.Sums.{sum_ext}
@@ -27,9 +26,9 @@ use Rattle.rob_simplex.specs.declared.state.State.TheVariants.{Optimal}
 use Rattle.rob_simplex.specs.Dictionaries.{sized, rows_of, columns_of}
 use Rattle.rob_simplex.specs.Phases.{InSecond, EndsIn}
 use Rattle.rob_simplex.specs.PathEnds.{AreWeights}
-use Rattle.rob_simplex.specs.Solvers.{Solver, positions, sized_as, entries, column_of, HasRay, HasWeights}
+use Rattle.rob_simplex.specs.Solvers.{Solver, positions, entries, column_of, HasRay, HasWeights}
 use Rattle.rob_simplex.specs.Solutions.{point_of, ray_of, dual_of, weights_of}
-use Rattle.rob_simplex.specs.Endings.{IsOptimumOf, IsRayOf, HasWeightsFor, IsLastPoint}
+use Rattle.rob_simplex.specs.Endings.{IsOptimumOf, IsRayOf, HasWeightsFor}
 use Rattle.rob_simplex.proofs.SolverRows.{low_place, high_place, shown_parallel, shown_stands}
 use Rattle.rob_simplex.proofs.LastPoints.{basic_point, basic_move, value_is}
 

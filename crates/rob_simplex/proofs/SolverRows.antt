@@ -1,21 +1,19 @@
 -- The rows that a solver shows are its dictionary's, in lowest terms: the same quotients, and the rows of a basis.
-use Rattle.std.proofs.Common.{◌≡◌, ◌≢◌, ℕ, suc, ◌+◌, ◌<◌, ◌≤◌, sym, ap, ap₂, ◌∙◌, subst, arith}
-use Rattle.std.proofs.lemmas.Int.{ints}
+use Rattle.std.proofs.Common.{◌≡◌, ◌≢◌, ℕ, suc, ◌+◌, ◌<◌, ◌≤◌, ◌∙◌, arith}
 use lib.IntN.{ℤ, pos, neg_ℤ, nat_abs}
 use lib.Signed.{◌<ℤ◌, ◌≤ℤ◌}
 use Rattle.rob_algebra.specs.Fraction.{of_pair}
 use Rattle.rob_linear.specs.Vectors.{Matrix, Vector}
 use Rattle.rob_linear.specs.Systems.{IsPrimitive}
 use Rattle.rob_linear.specs.Programs.{Program, system_of, auxiliary_place}
-use Rattle.rob_linear.specs.Turns.{own_of, Enters, StandsWith}
+use Rattle.rob_linear.specs.Turns.{own_of, StandsWith}
 use Rattle.rob_linear.specs.Multiples.{AreParallel, HasMultipleRows, StandsMultiple, IsParallel}
 use Rattle.rob_linear.specs.Beside.{without_column}
 use Rattle.rob_linear.proofs.Multiples.{parallel_positive, multiple_parallel, multiples_in, multiples_basis, order_parallel}
 use Rattle.rob_linear.proofs.Phases.{place_low, place_high}
 use Rattle.rob_linear.proofs.Solutions.{tags_in}
 use Rattle.rob_linear.proofs.Starts.{system_tagged}
-use Rattle.rob_simplex.specs.Dictionaries.{Table, rows_of, columns_of, sized}
-use Rattle.rob_simplex.specs.LowestTerms.{lowest_terms}
+use Rattle.rob_simplex.specs.Dictionaries.{rows_of, columns_of, sized}
 use Rattle.rob_simplex.specs.Solvers.{Solver, positions, sized_as, entries}
 use Rattle.rob_simplex.proofs.LowestRows.{lowest_parallel, lowest_primitive, parallel_over, parallel_minus_over}
 

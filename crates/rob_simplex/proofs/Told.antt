@@ -1,5 +1,5 @@
 -- The numbers that a solver tells.
-use Rattle.std.proofs.Common.{◌≡◌, ◌≢◌, ℕ, suc, sym, refl, ap, ap₂, subst, ◌∙◌, ◌+◌, ◌<◌, ◌≤◌, arith, List, Some, None}
+use Rattle.std.proofs.Common.{◌≡◌, ◌≢◌, ℕ, suc, sym, refl, ap, ap₂, subst, ◌∙◌, ◌+◌, ◌<◌, ◌≤◌, arith, Some, None}
 use Rattle.std.proofs.lemmas.Bool.Decides.{nat_tests}
 use lib.IntN.{ℤ, pos, neg_ℤ, nat_abs}
 use lib.Signed.{◌<ℤ◌}

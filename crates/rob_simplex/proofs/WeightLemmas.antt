@@ -9,7 +9,7 @@ use Rattle.std.specs.Int.{◌∣◌}
 use lib.IntN.{ℤ, pos, nat_abs, ◌+ℤ◌, ◌*ℤ◌}
 use lib.Signed.{◌<ℤ◌, ◌≤ℤ◌}
 use Rattle.rob_algebra.specs.Integer.{mul-zero, zero-mul, mul-one}
-use Rattle.rob_linear.specs.Vectors.{Columns, Matrix, Vector, at, sum_to}
+use Rattle.rob_linear.specs.Vectors.{Columns, Vector, at, sum_to}
 use Rattle.rob_linear.specs.Systems.{System, right, IsSpanned, IsPrimitive, IsNonnegative}
 use Rattle.rob_linear.specs.Programs.{Program, auxiliary_of, auxiliary_row, auxiliary_tag, kept_of, kept_row}
 use Rattle.rob_linear.specs.Turns.{own_of}

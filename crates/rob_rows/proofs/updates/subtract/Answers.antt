@@ -1,5 +1,4 @@
-use Rattle.std.proofs.Common.{◌≡◌, ◌≢◌, ◌+◌, ◌*◌, ◌^◌, ◌<◌, ◌∙◌, ap, sym, subst, arith, rules, pos, nat_abs, get_or, length, ◌*ℤ◌, ◌-ℤ◌, inl, inr, to_z, of_z}
-use Rattle.std.proofs.lemmas.Bool.{cases_eq}
+use Rattle.std.proofs.Common.{◌≡◌, ◌≢◌, ◌+◌, ◌*◌, ◌^◌, ◌<◌, ◌∙◌, ap, sym, subst, arith, rules, pos, nat_abs, get_or, length, ◌*ℤ◌, ◌-ℤ◌, to_z, of_z}
 use Rattle.std.proofs.lemmas.Int.{to_z-of_z}
 use Rattle.std.proofs.lemmas.List.{get_or-set_other}
 use mir.Syntax.{w64}

@@ -1,5 +1,4 @@
-use Rattle.std.proofs.Common.{◌≡◌, ◌<◌, ◌^◌, ◌-◌, ◌∙◌, subst, sym, ap, arith, get_or, nat_abs, pos, to_z, of_z, w64, min}
-use Rattle.std.proofs.lemmas.Int.{ints}
+use Rattle.std.proofs.Common.{◌≡◌, ◌<◌, ◌^◌, ◌-◌, ◌∙◌, subst, sym, arith, nat_abs, pos, to_z, of_z, w64}
 use lib.IntN.{ℤ}
 use lib.Signed.{◌<ℤ◌, ◌≤ℤ◌}
 use Rattle.rob_linear.specs.Vectors.{at}

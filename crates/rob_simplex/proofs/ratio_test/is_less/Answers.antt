@@ -1,4 +1,4 @@
-use Rattle.std.proofs.Common.{◌≡◌, ◌∙◌, sym, ap, arith, ◌*ℤ◌, to_z, of_z, w64}
+use Rattle.std.proofs.Common.{◌≡◌, ◌∙◌, ap, arith, ◌*ℤ◌, to_z, of_z, w64}
 use Rattle.std.proofs.lemmas.Int.{ints, to_z-of_z}
 use Rattle.rob_algebra.specs.Integer.{*ℤ_comm}
 use Rattle.rob_simplex.proofs.ratio_test.is_less.Goals as goal

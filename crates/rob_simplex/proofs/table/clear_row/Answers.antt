@@ -1,7 +1,6 @@
 use Rattle.std.proofs.Common.{◌≡◌, ◌∙◌, length}
 use Rattle.rob_linear.specs.Vectors.{at}
 use Rattle.rob_rows.proofs.Reductions.{on_err}
-use Rattle.rob_simplex.proofs.Places.{part}
 use Rattle.rob_simplex.proofs.Clearing.{cleared_in, wide_in, others_in, part_is, put_bounds}
 use Rattle.rob_simplex.proofs.table.clear_row.Goals as goal
 

@@ -1,11 +1,10 @@
-use Rattle.std.proofs.Common.{◌≡◌, ℕ, ◌≤◌, ◌<◌, ◌∙◌, ap, sym, subst, arith, rules, pos, nat_abs, length, get_or}
+use Rattle.std.proofs.Common.{◌≡◌, ℕ, ◌≤◌, ◌<◌, ◌∙◌, ap, sym, subst, arith, pos, nat_abs, length, get_or}
 use Rattle.std.specs.Prelude.{IfOk, OnOk, OnErr, ◌*ℤ◌, ◌-ℤ◌, ◌<ℤ◌}
 use Rattle.std.proofs.lemmas.Result.{on_err_weaker}
 use Rattle.rob_linear.specs.Vectors.{at}
 use Rattle.rob_linear.specs.Multiples.{IsClearedBy}
-use Rattle.rob_rows.specs.PrimitiveParts.{combination, IsPrimitivePart, IsWithin, HasWidePart}
+use Rattle.rob_rows.specs.PrimitiveParts.{combination, IsPrimitivePart, HasWidePart}
 use Rattle.rob_rows.specs.Updates.{IsWideCleared, Clearing}
-use Rattle.rob_rows.specs.Factors.{IsMultiple}
 use Rattle.rob_rows.proofs.ClearingLemmas.{factors_read, second_low, cleared_by_factors, cleared_by_part, wide_by_part, bounded_by_sum, ok_if}
 use Rattle.rob_rows.proofs.clearing.PivotRow.clear.Goals as goal
 

@@ -1,13 +1,12 @@
 use Rattle.std.proofs.Common.{◌≡◌, ℕ, ◌<◌, ◌≤◌, ◌+◌, ◌*◌, ◌-◌, ◌∙◌, ap, sym, subst, arith, length, take, drop, ◌++◌, List, pos, nat_abs, get_or, OnOk}
 use Rattle.std.specs.Prelude.{IfErr}
 use Rattle.std.proofs.lemmas.Result.{on_ok_weaker}
-use Rattle.std.proofs.lemmas.List.{get_or_default}
 use lib.IntN.{ℤ}
 use lib.Signed.{◌<ℤ◌}
 use Rattle.rob_linear.specs.Vectors.{at}
 use Rattle.rob_simplex.specs.Tables.{row_at, bound_at, AreCleared, IsStopped}
 use Rattle.rob_simplex.specs.Dictionaries.{Table, positions, columns_of, rows_of, IsFree, IsOpen, ClearsTable, StopsTable}
-use Rattle.rob_simplex.proofs.Places.{part, part_at, part_length}
+use Rattle.rob_simplex.proofs.Places.{part, part_at}
 use Rattle.rob_simplex.proofs.WrittenBack.{written_back, read_at}
 use Rattle.rob_simplex.proofs.Clearing.{part_bounded}
 use Rattle.rob_simplex.proofs.Replacing.{row_in, free_low}

@@ -1,4 +1,4 @@
-use Rattle.std.proofs.Common.{◌≡◌, ◌+◌, ◌∙◌, sym, ap, subst, arith, length, to_z, of_z, w64, pos, ◌*ℤ◌, ◌-ℤ◌}
+use Rattle.std.proofs.Common.{◌≡◌, ◌+◌, ◌∙◌, ap, subst, arith, to_z, of_z, w64, pos, ◌*ℤ◌, ◌-ℤ◌}
 use Rattle.std.proofs.lemmas.Int.{to_z-of_z}
 use Rattle.rob_simplex.specs.Dictionaries.{Table, positions, rows_of}
 use Rattle.rob_simplex.proofs.RatioLemmas.{first_found, later_found, none_found, zeros_more}

@@ -1,5 +1,4 @@
 use Rattle.std.proofs.Common.{◌≡◌, ℕ, ◌+◌, ◌∙◌, ap, subst, arith}
-use Rattle.rob_linear.specs.Programs.{Program}
 use Rattle.rob_simplex.specs.Dictionaries.{Table, positions, IsFree}
 use Rattle.rob_simplex.specs.Explicit.{FirstTurns}
 use Rattle.rob_simplex.proofs.FirstTurns.{auxiliary_out, second_begins}

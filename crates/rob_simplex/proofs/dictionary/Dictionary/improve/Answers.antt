@@ -1,9 +1,7 @@
 use Rattle.std.proofs.Common.{◌≡◌, ◌≤◌, ◌<◌, ℕ, ◌∙◌, subst, arith}
-use Rattle.rob_linear.specs.Programs.{Program}
 use Rattle.rob_linear.specs.WideRows.{HasWideRow}
-use Rattle.rob_simplex.specs.declared.second_phase.Turn.TheVariants.{Replaced}
 use Rattle.rob_simplex.specs.Dictionaries.{columns_of}
-use Rattle.rob_simplex.specs.Phases.{InSecond, EndsIn, HasTurned, turns_left}
+use Rattle.rob_simplex.specs.Phases.{HasTurned}
 use Rattle.rob_simplex.proofs.dictionary.Dictionary.improve.Goals as goal
 
 pub returns-in-Ok-Optimal-clause-told : goal.returns-in-Ok-Optimal-clause-told

@@ -1,7 +1,7 @@
-use Rattle.std.proofs.Common.{◌∙◌, ap, subst}
+use Rattle.std.proofs.Common.{◌∙◌, ap}
 use Rattle.std.proofs.Common.{ℕ, List, set}
 use Rattle.rob_simplex.specs.Dictionaries.{positions, spare_column}
-use Rattle.rob_simplex.proofs.PivotLemmas.{set_twice, free_begun}
+use Rattle.rob_simplex.proofs.PivotLemmas.{set_twice}
 use Rattle.rob_simplex.proofs.dictionary.Dictionary.pivot.Goals as goal
 
 pub returns-in-Err-clause-basis : goal.returns-in-Err-clause-basis

@@ -1,6 +1,6 @@
 use Rattle.std.proofs.Common.{◌≡◌, ℕ, ◌<◌, ◌≤◌, ◌+◌, ◌*◌, ◌∙◌, ap, sym, subst, arith, length, take, drop, ◌++◌, List, pos, set}
 use lib.IntN.{ℤ}
-use Rattle.rob_simplex.specs.Dictionaries.{Table, positions, columns_of, rows_of, kept_row_of, IsFree, IsAlone, IsSound}
+use Rattle.rob_simplex.specs.Dictionaries.{Table, positions, columns_of, rows_of, kept_row_of, IsFree, IsAlone}
 use Rattle.rob_simplex.proofs.WrittenBack.{written_back, read_at}
 use Rattle.rob_simplex.proofs.EntryLemmas.{small_entries}
 use Rattle.rob_simplex.proofs.Replacing.{exchanged_entries, first_in, left_in, place_low, made_sound, made_rows, made_kept, made}

@@ -2,9 +2,9 @@ use Rattle.std.proofs.Common.{◌≡◌, ◌++◌, sym, refl, ap, ◌∙◌, sub
 use Rattle.rob_linear.specs.WideRows.{HasWideRow}
 use Rattle.rob_rows.specs.PrimitiveParts.{IsWithin}
 use Rattle.rob_simplex.specs.declared.state.State.TheVariants.{Optimal, Infeasible, Unbounded}
-use Rattle.rob_simplex.specs.Dictionaries.{Table, columns_of}
+use Rattle.rob_simplex.specs.Dictionaries.{columns_of}
 use Rattle.rob_simplex.specs.PathEnds.{PathEnds, AreWeights}
-use Rattle.rob_simplex.specs.Solvers.{Solver, positions, IsSound}
+use Rattle.rob_simplex.specs.Solvers.{Solver, IsSound}
 use Rattle.rob_simplex.proofs.Solved.{optimum, ray_found, weights_found}
 use Rattle.rob_simplex.proofs.Solving.{made_start, sound_optimal, sound_unbounded, sound_infeasible, sound_stopped}
 use Rattle.rob_simplex.proofs.WrittenBack.{written_back}
