@@ -75,7 +75,6 @@ module _ (call : Call) where
   wide_course line m spot (elaborating has makes first) = wide_number spot makes first refl
   wide_course line m spot (solving has solves wide) = wide_row spot has solves wide refl
   wide_course line m spot (checking c place has is verdict) = judges c has (ap (λ (s : Spot). TooWide s) is ∙ ap verdict_ended (sym verdict))
-
   wide_course line m spot (replaying c bytes number has is gives) =
       replays c bytes gives.0 has gives.1 (ap (λ (s : Spot). TooWide s) is ∙ ap replay_ended (sym gives.2))
 

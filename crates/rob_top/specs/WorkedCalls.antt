@@ -46,8 +46,8 @@ abbrev pub replay_call : Certificate → List ℕ → Call
 replay_call c bytes =
     call_over (codes "replay" ∷ model_name ∷ certificate_name ∷ scenarios_name ∷ [])
     (
-      file_of model_name (model_text one_demand)
-      ∷ file_of certificate_name (cert_text one_demand c) ∷ file_of scenarios_name bytes ∷ []
+    file_of model_name (model_text one_demand)
+    ∷ file_of certificate_name (cert_text one_demand c) ∷ file_of scenarios_name bytes ∷ []
     )
 
 -- the demands 9, and 13, which is not admitted, each on its line

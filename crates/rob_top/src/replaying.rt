@@ -105,11 +105,7 @@ fn replay_plan<N: Exact + Drop, L: Ledger>(
 }
 
 /// The answer with a table.
-fn printed<N: Exact>(
-    alloc: Global,
-    model: &Model<N>,
-    table: &Table<N>,
-) -> Result<Reply, Memory>
+fn printed<N: Exact>(alloc: Global, model: &Model<N>, table: &Table<N>) -> Result<Reply, Memory>
     ensures printed { IfOk result (Replies Ended.Printed
         (table_of (robust N.value model.now) (map (line_of N.value) table.now.lines))) }
 {
