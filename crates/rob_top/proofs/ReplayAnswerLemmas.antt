@@ -1,6 +1,5 @@
 -- Which answer has to come at `replay`, where what is known of the files decides.
-use Rattle.std.proofs.Common.{◌≡◌, ℕ, ◌≤◌, List, refl, sym, ◌∙◌, ap, subst, ◌⊎◌}
-use Rattle.rob_cert.specs.Apart.{FitsLines}
+use Rattle.std.proofs.Common.{◌≡◌, ℕ, ◌≤◌, List, sym, ◌∙◌, ap, subst, ◌⊎◌}
 use Rattle.rob_cert.specs.Causes.{HasCause}
 use Rattle.rob_cert.specs.Reading.{start}
 use Rattle.rob_cert.specs.Spelling.{naming_of}

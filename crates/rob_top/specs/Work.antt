@@ -16,7 +16,7 @@ use Rattle.rob_report.specs.Spots.{too_wide_line, empty_set_lines}
 use Rattle.rob_sets.specs.declared.error.ElabErr.{ElabErr}
 use Rattle.rob_sets.specs.declared.error.ElabErr.TheVariants as refused
 use Rattle.rob_top.specs.Answers.{model_text}
-use Rattle.rob_top.specs.Calls.{Call, Count, HasFile, IsElaborating, WasRaised, limit_of}
+use Rattle.rob_top.specs.Calls.{Call, Count, HasFile, WasRaised, limit_of}
 use Rattle.rob_top.specs.Headline.{Means}
 use Rattle.rob_top.specs.Inputs.{HasModel, HasForms, HasCertificateFile, HasCertificate, HasReplayCertificate, HasReplayFile, HasScenarios}
 use Rattle.rob_top.specs.Replies.{HasTexts, Replies}
