@@ -157,7 +157,7 @@ AsksInOrder (request ∷ requests) (fetch ∷ fetches) =
     IsFetchOf request fetch × ((fetches ≡ []) ⊎ (CameWhole fetch × AsksInOrder requests fetches))
 
 -- the fetches of a call with these words stand behind the earlier ones: there is none, or the words are a command line, and its
--- files are asked for in the order of the words, each at most once, and none behind one that didn't come whole
+-- files are asked for in the order of the words, each word's once at most, and none behind one that didn't come whole
 pub record Fetches (words : List Word) (before now : List Fetch) : Type 0 where
   pub grown : now ≡ before ++ behind before now
   pub in_order : (behind before now ≡ []) ⊎ ((line : Line) × IsSpelled words line × AsksInOrder (requests line) (behind before now))

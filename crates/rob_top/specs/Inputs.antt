@@ -58,7 +58,7 @@ module _ (call : Call) where
     pub text : IsTextOf m c bytes
     pub fits : FitsLines (limit_of line) m c
 
-  -- and it has a plan, as each but that of an infeasible model, and the scenario file came, with these bytes
+  -- and it has a plan, as each has but one that claims an infeasible model, and the scenario file came, with these bytes
   pub record HasScenarios (line : Line) (m : RobustModel) (c : Certificate) (bytes : List ℕ) : Type 0 where
     pub certificate : HasReplayCertificate line m c
     pub has_plan : c.status ≢ infeasible

@@ -47,7 +47,7 @@ module _ (call : Call) where
     pub bounded : HasBound m c.plan c.value → Each (ShowsBound m c.value) lines
     pub printed : text ≡ table_of m lines
 
-  -- the certificate gives no plan: its text breaks the rule at the line, first; or it is that of an infeasible model,
+  -- the certificate gives no plan: its text breaks the rule at the line, first; or it claims an infeasible model,
   -- which is rule 34 at line 1
   pub data LacksPlan (line : Line) (m : RobustModel) (rule number : ℕ) : Type 0 where
     unread : (bytes : List ℕ) → HasReplayFile call line m bytes

@@ -35,7 +35,7 @@ pub enum Ended {
     EmptySet(List<i64>),
     /// A number is wider than the program computes with.
     TooWide(Spot),
-    /// The certificate's text can't be read, or it is of an infeasible model and a plan is asked for.
+    /// The certificate's text can't be read, or it claims that its model is infeasible, and a plan is asked for.
     Cert(u8, u32),
     /// The scenario file can't be read.
     Scenarios(u8, u32),

@@ -33,7 +33,7 @@ pub fn run_here<R: Files, P: Print, L: Ledger>(
         (call_of (map string_bytes words.now) (source_of None shelf.old.log shelf.new.log)
         (count shelf.old.faults shelf.new.faults) (count (L.wides ledger.old) (L.wides ledger.new)))
         result }
-    // The files are asked for in the order of the words, each at most once, and none behind the one that decided.
+    // The files are asked for in the order of the words, each word's once at most, and none behind the one that decided.
     ensures fetched { Fetches (map string_bytes words.now) shelf.old.log shelf.new.log }
     ensures counted { (shelf.old.faults ≤ shelf.new.faults) × (out.old.faults ≤ out.new.faults)
         × (L.wides ledger.old ≤ L.wides ledger.new) }

@@ -51,7 +51,7 @@ pub fn replay_text<N: Exact + Drop, L: Ledger>(
     }
 }
 
-/// The answer for a certificate, which isn't checked. That of an infeasible model has no plan.
+/// The answer for a certificate, which isn't checked. One that claims an infeasible model has no plan.
 fn replay_cert<N: Exact + Drop, L: Ledger>(
     alloc: Global,
     model: &Model<N>,

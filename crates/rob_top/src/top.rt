@@ -48,7 +48,7 @@ pub fn run<S: Shelf, K: Sink, L: Ledger>(
         (count (L.wides ledger.old) (L.wides ledger.new)))
         result }
     ensures files { S.files shelf.new ≡ S.files shelf.old }
-    // The files are asked for in the order of the words, each at most once, and none behind the one that decided.
+    // The files are asked for in the order of the words, each word's once at most, and none behind the one that decided.
     ensures fetched { Fetches (map string_bytes words.now) (S.log shelf.old) (S.log shelf.new) }
     ensures counted { (S.faults shelf.old ≤ S.faults shelf.new) × (K.faults out.old ≤ K.faults out.new)
         × (L.wides ledger.old ≤ L.wides ledger.new) }

@@ -29,7 +29,7 @@ use Rattle.rob_round_trip.proofs.Faultless.Clear.{parameters_only, AreClear}
 use Rattle.rob_round_trip.proofs.ReadBack.ExpressionText.{symbols_append}
 use Rattle.rob_round_trip.proofs.Faultless.SymbolNames.{names_in, names_in-append, no_names, once}
 use Rattle.rob_round_trip.proofs.Faultless.FitSymbols.{AreFit, ReadFit, both, number_fit, deviation_fit, bounds_fit, list_fit, name_back, name_fit, expression_fit, comparison_fit}
-use Rattle.rob_round_trip.proofs.Faultless.ToldLines.{told, OfSet, assemble, plain_answers, ending_answers, undecided}
+use Rattle.rob_round_trip.proofs.Faultless.ToldLines.{told, OfSet, assemble, plain_answers, ending_answers, undecided, no_decision}
 
 -- ---- the lines of each kind
 module _ (limit : ℕ) (small : limit < 2 ^ 62) (words : List (List ℕ)) (sorts : List (Option Sort)) where

@@ -154,7 +154,7 @@ undecided limit sorts used fit =
 -- an expression whose degree in the decisions is 0 has parameters alone
 module _ (limit : ℕ) (names : Naming) (m : RobustModel) where
   mutual
-    no_decision : (e : meaning.Expression) → IsReadable limit names e → decision_degree m e ≡ 0 → IsReadable limit (parameters_only names) e
+    pub no_decision : (e : meaning.Expression) → IsReadable limit names e → decision_degree m e ≡ 0 → IsReadable limit (parameters_only names) e
     no_decision (meaning.number q) h none = h
     no_decision (meaning.parameter k) h none = h
     no_decision (meaning.variable k) h none = absurd (omega (arith, none))
