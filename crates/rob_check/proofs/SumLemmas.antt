@@ -88,10 +88,3 @@ module _ {N : Type 0} (value : N → Fraction) (limit column : ℕ) where
   abbrev pub cut_left : List N → ℕ → List (List ℤ) → ℕ → Fraction → Option Fraction
   cut_left vector k form i so_far =
       added_within limit so_far (products limit (map value (drop k vector)) (column_of column (fractions (drop i form))))
-
-  module _ (vector : List N) (k : ℕ) (number : N) (form : List (List ℤ)) (i : ℕ) (entries row : List ℤ) (so_far : Fraction)
-      (inside : k < length vector) (is : number ≡ get_or vector k number) (there : i < length form) (same : entries ≡ row) (row_is : row ≡ get_or form i row) where
-
-  -- the base, before the numbers of the vector
-  module _ (vector : List N) (form : List (List ℤ)) (entries row : List ℤ) (nothing base : N) (zero_is : value nothing ≡ 0ℚ)
-      (there : 0 < length form) (same : entries ≡ row) (row_is : row ≡ get_or form 0 row) where

@@ -78,6 +78,7 @@ fn name(verb: Verb) -> &'static str {
         Verb::Solve => "solve",
         Verb::Prove => "prove",
         Verb::Check => "check",
+        Verb::Replay => "replay",
     }
 }
 
