@@ -1,0 +1,244 @@
+#!/usr/bin/env python3
+"""Times `robust solve` on the models of bench/models and examples and, in the same run, each other exact solver that
+the machine has on the robust counterpart of the same models as a linear program (counterpart.py). It prints a table in
+Markdown, and ends with 1 where an answer isn't the one that is kept beside the model.
+
+    python3 bench/run.py                                           # crates/robust/out/robust
+    python3 bench/run.py --robust old=PATH --robust new=PATH       # two builds beside each other
+    python3 bench/run.py --runs 1 --only lot08 --only mix          # a short look
+"""
+import argparse
+import datetime
+import hashlib
+import os
+import pathlib
+import re
+import resource
+import shutil
+import subprocess
+import sys
+import tempfile
+from fractions import Fraction
+
+import counterpart
+
+TOP = pathlib.Path(__file__).resolve().parent.parent
+FOLDERS = ("bench/models", "examples")
+TIME = "/usr/bin/time"
+OVER = "over"
+
+
+# ---- the answer that a tool's output tells: the optimal value, or `infeasible` or `unbounded`, or `?`
+
+def answer_of_robust(text):
+    word, *value = (text.splitlines() or ["?"])[0].split()
+    return Fraction(value[0]) if word == "optimal" else word
+
+
+def answer_of_check(text):
+    return answer_of_robust(text.removeprefix("accepted "))
+
+
+def answer_of_esolver(text):
+    if found := re.search(r"^\s*Value = (\S+)", text, re.MULTILINE):
+        return Fraction(found[1])
+    return next((word for word in ("infeasible", "unbounded") if word in text.lower()), "?")
+
+
+def answer_of_glpsol(text):
+    for word, status in (("NO FEASIBLE", "infeasible"), ("UNBOUNDED", "unbounded")):
+        if word in text:
+            return status
+    values = re.findall(r"objval = +(\S+)", text)
+    return float(values[-1]) if "OPTIMAL SOLUTION FOUND" in text and values else "?"
+
+
+def answer_of_z3(text):
+    if "unsat" in text:
+        return "infeasible"
+    told = re.search(r"\(tau (.*)\)", text)
+    if not told or "oo" in told[1]:
+        return "unbounded" if told else "?"
+    above, below = (re.findall(r"[\d.]+", told[1]) + ["1"])[:2]
+    return Fraction(above) / Fraction(below) * (-1 if "-" in told[1] else 1)
+
+
+def agrees(found, kept):
+    """Whether it is the kept answer. glpsol tells its value with 15 digits."""
+    if isinstance(found, float) and isinstance(kept, Fraction):
+        return abs(found - float(kept)) <= 1e-9 * max(1, abs(float(kept)))
+    return found == kept
+
+
+# ---- the tools
+
+class Tool:
+    """A program, the words that it is run with, how its output is read, and which version it is."""
+
+    def __init__(self, name, words, answer, version):
+        self.name, self.words, self.answer, self.version = name, words, answer, version
+
+    def command(self, files):
+        """The words, with the files' names in the places of MODEL, CERT, LP, SMT and ANSWER"""
+        return [files.get(word, word) for word in self.words]
+
+
+def first_line(*words):
+    """The first line with a digit that a command prints"""
+    done = subprocess.run(words, stdout=subprocess.PIPE, stderr=subprocess.STDOUT, text=True)
+    return next((line for line in done.stdout.splitlines() if re.search(r"\d", line)), "?")
+
+
+def build_of(path):
+    """Which build of robust this is: the beginning of its SHA-256, as it knows no version"""
+    return "SHA-256 " + hashlib.sha256(pathlib.Path(path).read_bytes()).hexdigest()[:12]
+
+
+def tools(robusts, check):
+    """The builds of robust, the check of the last one's certificate, and each other solver that is on the PATH"""
+    for name, path in robusts:
+        yield Tool(name, [path, "solve", "MODEL"], answer_of_robust, build_of(path))
+    if check:
+        name, path = robusts[-1]
+        yield Tool("check", [path, "check", "MODEL", "CERT"], answer_of_check, f"of the certificate that {name} proves")
+    for words, answer, version in (
+        (["esolver", "-L", "-O", "ANSWER", "LP"], answer_of_esolver, ["esolver", "-v"]),
+        (["glpsol", "--exact", "--lp", "LP"], answer_of_glpsol, ["glpsol", "--version"]),
+        (["z3", "SMT"], answer_of_z3, ["z3", "--version"]),
+    ):
+        if shutil.which(words[0]):
+            name = "glpsol --exact" if words[0] == "glpsol" else words[0]
+            yield Tool(name, words, answer, first_line(*version))
+        else:
+            print(f"{words[0]} is not on the PATH: no column", file=sys.stderr)
+
+
+# ---- one run
+
+def processor_seconds(command, files, limit):
+    """User and system seconds, and the output, of a command; `over` where it takes more than the limit. Both together,
+    since their shares of a run of a few milliseconds are the kernel's guess."""
+    pathlib.Path(files["ANSWER"]).write_text("")
+    writing = os.O_WRONLY | os.O_CREAT | os.O_TRUNC
+    pid = os.posix_spawnp(command[0], command, os.environ, file_actions=[
+        (os.POSIX_SPAWN_OPEN, 0, os.devnull, os.O_RDONLY, 0),
+        (os.POSIX_SPAWN_OPEN, 1, files["OUTPUT"], writing, 0o600),
+        (os.POSIX_SPAWN_DUP2, 1, 2)])
+    resource.prlimit(pid, resource.RLIMIT_CPU, (limit, limit))
+    _, status, usage = os.wait4(pid, 0)
+    seconds = usage.ru_utime + usage.ru_stime
+    if os.WIFSIGNALED(status) and seconds > limit - 1:
+        return OVER, ""
+    return seconds, "".join(pathlib.Path(files[name]).read_text() for name in ("OUTPUT", "ANSWER"))
+
+
+def peak_megabytes(command, files):
+    """The greatest memory of a command, in a run of its own under `time`: what Python starts, counts Python's too"""
+    words = [TIME, "-q", "-f", "%M", "-o", files["MEMORY"], *command]
+    subprocess.run(words, stdin=subprocess.DEVNULL, stdout=subprocess.DEVNULL, stderr=subprocess.DEVNULL)
+    return int(pathlib.Path(files["MEMORY"]).read_text().split()[-1]) / 1024
+
+
+def measure(tool_list, files, kept, runs, limit):
+    """For each tool its cell of the table, and whether each answer was the kept one. The tools take turns, so that what
+    else the machine does falls on all of them."""
+    best, right = {}, True
+    for _ in range(runs):
+        for tool in tool_list:
+            if best.get(tool) == OVER:
+                continue
+            seconds, text = processor_seconds(tool.command(files), files, limit)
+            best[tool] = seconds if seconds == OVER else min(seconds, best.get(tool, seconds))
+            if seconds != OVER and not agrees(tool.answer(text), kept):
+                print(f"{tool.name} says {tool.answer(text)} of {files['MODEL']}; kept: {kept}", file=sys.stderr)
+                right = False
+    cells = []
+    for tool in tool_list:
+        memory = None if best[tool] == OVER else peak_megabytes(tool.command(files), files)
+        cells.append(f"over {limit}" if memory is None else f"{shown(best[tool])}, {memory:.0f}")
+    return cells, right
+
+
+def shown(seconds):
+    return f"{seconds:.3f}" if seconds < 1 else f"{seconds:.2f}" if seconds < 10 else f"{seconds:.1f}"
+
+
+# ---- the table
+
+def models(only):
+    """The models, with the name that each has in the table"""
+    for folder in FOLDERS:
+        for path in sorted((TOP / folder).glob("*.rob")):
+            name = path.stem if folder == FOLDERS[0] else f"{folder}/{path.stem}"
+            if not only or name in only:
+                yield name, path
+
+
+def printed(robust, command, path):
+    return subprocess.run([robust, command, str(path)], capture_output=True, text=True).stdout
+
+
+def write_files(path, words, folder):
+    """Writes the counterpart for each reader, and the certificate. Answers the names of a run's files, and its size."""
+    robust = words.robust[-1][1]
+    rows = printed(robust, "rows", path).splitlines()
+    program = counterpart.counterpart(*counterpart.read_rows(rows), words.short)
+    files = {word: folder / word.lower() for word in ("LP", "SMT", "CERT", "ANSWER", "OUTPUT", "MEMORY")}
+    files["LP"].write_text("\n".join(counterpart.as_lp(program)) + "\n")
+    files["SMT"].write_text("\n".join(counterpart.as_smt(program)) + "\n")
+    if words.check:
+        files["CERT"].write_text(printed(robust, "prove", path))
+    files = {word: str(file) for word, file in files.items()} | {"MODEL": str(path)}
+    return files, f"{len(program.rows)} x {len(program.columns())}"
+
+
+def processor():
+    lines = pathlib.Path("/proc/cpuinfo").read_text().splitlines()
+    return next((line.split(":")[1].strip() for line in lines if line.startswith("model name")), "unknown processor")
+
+
+def load():
+    return f"{os.getloadavg()[0]:.1f}"
+
+
+def words_of():
+    parse = argparse.ArgumentParser(description=__doc__.split("\n\n")[0])
+    add = parse.add_argument
+    add("--robust", action="append", metavar="[NAME=]PATH", help="a build of robust; several may be given")
+    add("--runs", type=int, default=3, help="how often each is run; the least time counts")
+    add("--limit", type=int, default=60, help="the processor seconds at which a run is ended")
+    add("--only", action="append", metavar="MODEL", help="a name of the table; several may be given")
+    add("--check", action="store_true", help="a column for the check of the last build's certificate")
+    add("--short", action="store_true", help="for the others, forms without parameters are plain rows")
+    words = parse.parse_args()
+    given = [word.rpartition("=")[::2] for word in words.robust or [str(TOP / "crates/robust/out/robust")]]
+    words.robust = [(name or "robust", path) for name, path in given]
+    return words
+
+
+def main():
+    words = words_of()
+    tool_list = list(tools(words.robust, words.check))
+    before, right, lines = load(), True, []
+    with tempfile.TemporaryDirectory() as folder:
+        for name, path in models(words.only):
+            files, size = write_files(path, words, pathlib.Path(folder))
+            kept = answer_of_robust(path.with_suffix(".out").read_text())
+            cells, agreed = measure(tool_list, files, kept, words.runs, words.limit)
+            right = right and agreed
+            lines.append([name, str(kept), size, *cells])
+            print(*lines[-1], sep="  ", file=sys.stderr, flush=True)
+    machine = f"{processor()}, {os.cpu_count()} processors"
+    print(f"{datetime.date.today()}, {machine}, load {before} at the start and {load()} at the end.")
+    print(f"Processor seconds, the least of {words.runs} runs; peak megabytes.\n")
+    heads = ["model", "value", "rows x columns", *(tool.name for tool in tool_list)]
+    for line in (heads, ["---"] * len(heads), *lines):
+        print("|", " | ".join(line), "|")
+    print()
+    for tool in tool_list:
+        print(f"- {tool.name}: {tool.version}")
+    return 0 if right else 1
+
+
+if __name__ == "__main__":
+    sys.exit(main())
