@@ -1,28 +1,19 @@
-//! The tests of the libraries: cases from standard input call their public names, and what comes is compared with what
-//! is wanted.
+//! The tests of the libraries of numbers, programs, words and the outside: cases from standard input call their public
+//! names, and what comes is compared with what is wanted.
 #![tactic(auto)]
 
 mod call;
-mod case;
-mod cert;
-mod lex;
-mod model;
 mod narrow;
 mod number;
-mod numbers;
 mod outside;
-mod parse;
 mod program;
-mod replay;
 mod rows;
 mod simplex;
-mod text;
-mod trouble;
 mod words;
 
-use case::Case;
+use rob_case::text::keyword;
+use rob_case::{Case, Trouble, give, judge};
 use std::process::ExitCode;
-use trouble::Trouble;
 
 fn main(rt: HostRuntime) -> ExitCode {
     match run_all(&rt) {
@@ -34,36 +25,24 @@ fn main(rt: HostRuntime) -> ExitCode {
 
 /// Runs the cases of standard input, and gives how many of them differ.
 fn run_all(rt: &HostRuntime) -> Result<u64, Trouble> {
+    let alloc = rt.alloc();
     let mut cases = 0u64;
     let mut differ = 0u64;
-    let mut case = Case::new(rt.alloc());
-    for line in rt.lines(rt.alloc()) {
+    let mut case = Case::new(alloc);
+    for line in rt.lines(alloc) {
         let line = line?;
-        let (keyword, rest) = text::keyword(line.as_str());
-        if keyword == "gives" {
+        let (word, rest) = keyword(line.as_str());
+        if word == "gives" {
+            let verdict = judge(alloc, &case, rest)?;
+            println!(rt; "{}", verdict.text.as_str())?;
             cases = cases.saturating_add(1);
-            if !report(rt, &case, rest)? {
-                differ = differ.saturating_add(1);
-            }
+            differ = differ.saturating_add(u64::from(!verdict.same));
             case.end();
-        } else {
-            call::take(rt, &mut case, keyword, rest)?;
+        } else if !give(alloc, &mut case, word, rest)? {
+            let answer = call::answer(rt, word, rest)?;
+            case.add(answer.as_str())?;
         }
     }
     println!(rt; "{cases} cases, {differ} differ")?;
     Ok(differ)
-}
-
-/// Prints the line of a case, and says whether it gave what is wanted.
-fn report(rt: &HostRuntime, case: &Case, wanted: &str) -> Result<bool, Trouble> {
-    let name = case.name();
-    let answer = case.answer();
-    if answer == wanted {
-        println!(rt; "ok {name}")?;
-        return Ok(true);
-    }
-    println!(rt; "DIFFERS {name}")?;
-    println!(rt; "  gave   {answer}")?;
-    println!(rt; "  wanted {wanted}")?;
-    Ok(false)
 }

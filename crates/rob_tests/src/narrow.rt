@@ -3,10 +3,10 @@
 ghost use Rattle.std.specs.Prelude.{◌^◌, ◌-◌};
 ghost use Rattle.rob_rows.specs.LinearPrograms.{HasNumbersWithin};
 
-use crate::numbers::whole;
 use crate::program::program;
-use crate::text::keyword;
-use crate::trouble::Trouble;
+use rob_case::Trouble;
+use rob_case::numbers::whole;
+use rob_case::text::keyword;
 use rob_narrow::{bound_of, greatest};
 use std::alloc::Global;
 

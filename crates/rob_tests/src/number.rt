@@ -1,8 +1,8 @@
 // Exact numbers, lists and texts.
 
-use crate::numbers::{shown as shown_number, small, whole, wholes};
-use crate::text::{keyword, said, shown};
-use crate::trouble::Trouble;
+use rob_case::Trouble;
+use rob_case::numbers::{shown as shown_number, small, whole, wholes};
+use rob_case::text::{keyword, said, shown};
 use rob_number::{Exact, Frac, List, Memory, Tally, Text, Wide, gcd128};
 use std::alloc::Global;
 

@@ -1,9 +1,9 @@
 // What no clause says of shelves and sinks: that the calls succeed where memory is there, and what the machine's files
 // and output do.
 
-use crate::numbers::small;
-use crate::text::{add, keyword, said};
-use crate::trouble::Trouble;
+use rob_case::Trouble;
+use rob_case::numbers::small;
+use rob_case::text::{add, keyword, said};
 use rob_outside::{
     Fetched, FileShelf, MemShelf, MemSink, Shelf, ShelfErr, Sink, SinkErr, StdSink, SureShelf,
     SureSink,

@@ -1,7 +1,7 @@
 // Linear programs of the cases.
 
-use crate::numbers::wholes;
-use crate::trouble::Trouble;
+use rob_case::Trouble;
+use rob_case::numbers::wholes;
 use rob_number::List;
 use rob_rows::Lp;
 use std::alloc::Global;

@@ -1,7 +1,7 @@
 // The order of rows over their divisors.
 
-use crate::numbers::wholes;
-use crate::trouble::Trouble;
+use rob_case::Trouble;
+use rob_case::numbers::wholes;
 use rob_rows::lex_cmp;
 use std::alloc::Global;
 use std::cmp::Ordering;

@@ -1,14 +1,16 @@
 // Linear programs solved.
 
-ghost use Rattle.std.specs.Prelude.{◌≡◌, IfOk};
+ghost use Rattle.std.specs.Prelude.{◌≡◌, IfOk, length};
+ghost use Rattle.rob_linear.specs.Programs.{Program};
 ghost use Rattle.rob_rows.specs.LinearPrograms.{program_of};
 ghost use Rattle.rob_simplex.specs.Solvers.{positions, HasPoint, HasOptimum, HasRay, HasWeights, IsMadeFor};
+ghost use Rattle.rob_simplex.specs.Resuming.{CanResume};
 
-use crate::numbers::put;
 use crate::program::program;
-use crate::trouble::Trouble;
+use rob_case::Trouble;
+use rob_case::numbers::{put, wholes};
 use rob_number::{Exact, LpKind, Tally};
-use rob_rows::Lp;
+use rob_rows::{Lp, largest};
 use rob_simplex::Work;
 use std::alloc::Global;
 
@@ -89,6 +91,51 @@ pub(crate) fn solved<N: Exact>(alloc: Global, line: &str) -> Result<String, Trou
         Ok(LpKind::Optimal) => optimum(alloc, &work, columns, rows),
         Ok(LpKind::Unbounded) => ray(alloc, &work, columns),
         Ok(LpKind::Infeasible) => weights(alloc, &work, rows),
+        Err(stop) => Ok(format!(in alloc; "{stop:?}")?),
+    }
+}
+
+/// What a solver gives that goes on with another cost from where the first one stands.
+fn resumed_from<N: Exact>(
+    alloc: Global,
+    lp: &Lp,
+    work: &Work<N>,
+    cost: &[i64],
+) -> Result<String, Trouble>
+    requires resumable { (P : Program) × CanResume P work.now }
+    requires columns { work.now.columns ≡ length lp.now.c }
+    requires rows { positions work.now ≡ length lp.now.b }
+{
+    if cost.len() != lp.c.items().len() {
+        return Err(Trouble::Line);
+    }
+    if largest(cost) > N::LIMIT as u64 {
+        return Err(Trouble::Line);
+    }
+    let mut next = made::<N>(alloc, lp)?;
+    next.set_to(work);
+    let columns = lp.c.items().len() as u32;
+    let rows = lp.b.items().len() as u32;
+    match next.resume(cost, &mut Tally::new()) {
+        Ok(LpKind::Optimal) => optimum(alloc, &next, columns, rows),
+        Ok(LpKind::Unbounded) => ray(alloc, &next, columns),
+        Ok(LpKind::Infeasible) => Err(Trouble::Line),
+        Err(stop) => Ok(format!(in alloc; "{stop:?}")?),
+    }
+}
+
+/// What a solver of the program gives with the cost behind the `>`, once it stands as one that has solved the program.
+pub(crate) fn resumed<N: Exact>(alloc: Global, line: &str) -> Result<String, Trouble> {
+    let Some((first, second)) = line.split_once('>') else {
+        return Err(Trouble::Line);
+    };
+    let lp = program(alloc, first)?;
+    let cost = wholes(alloc, second)?;
+    let mut work = made::<N>(alloc, &lp)?;
+    match work.solve(&mut Tally::new()) {
+        Ok(LpKind::Optimal) => resumed_from(alloc, &lp, &work, cost.as_slice()),
+        Ok(LpKind::Unbounded) => resumed_from(alloc, &lp, &work, cost.as_slice()),
+        Ok(LpKind::Infeasible) => Ok(String::from_str(alloc, "infeasible")?),
         Err(stop) => Ok(format!(in alloc; "{stop:?}")?),
     }
 }

@@ -1,7 +1,7 @@
 // Command lines and other words.
 
-use crate::text::said;
-use crate::trouble::Trouble;
+use rob_case::Trouble;
+use rob_case::text::said;
 use rob_words::{CommandLine, Verb, Width, WordsErr, read_words};
 use std::alloc::Global;
 
@@ -79,6 +79,7 @@ fn name(verb: Verb) -> &'static str {
         Verb::Prove => "prove",
         Verb::Check => "check",
         Verb::Replay => "replay",
+        Verb::Text => "text",
     }
 }
 

@@ -21,7 +21,7 @@ pub struct Case {
 
 impl Case {
     /// A case with nothing in it.
-    pub(crate) fn new(alloc: Global) -> Case {
+    pub fn new(alloc: Global) -> Case {
         Case {
             alloc,
             name: String::new(alloc),
@@ -32,46 +32,46 @@ impl Case {
         }
     }
 
-    pub(crate) fn name(&self) -> &str {
+    pub fn name(&self) -> &str {
         self.name.as_str()
     }
 
-    pub(crate) fn answer(&self) -> &str {
+    pub fn answer(&self) -> &str {
         self.answer.as_str()
     }
 
-    pub(crate) fn bytes(&self) -> &[u8] {
+    pub fn bytes(&self) -> &[u8] {
         self.bytes.as_slice()
     }
 
-    pub(crate) fn model(&self) -> &[u8] {
+    pub fn model(&self) -> &[u8] {
         self.model.as_slice()
     }
 
-    pub(crate) fn plan(&self) -> &[i64] {
+    pub fn plan(&self) -> &[i64] {
         self.plan.as_slice()
     }
 
     /// Ends the case; the model and the plan stay.
-    pub(crate) fn end(&mut self) {
+    pub fn end(&mut self) {
         self.name.clear();
         self.answer.clear();
         self.bytes.clear();
     }
 
     /// Names the case.
-    pub(crate) fn begin(&mut self, name: &str) -> Result<(), Trouble> {
+    pub fn begin(&mut self, name: &str) -> Result<(), Trouble> {
         self.name.push_str(name)?;
         Ok(())
     }
 
     /// Appends a text in which `\` and two hexadecimal digits stand for any byte.
-    pub(crate) fn append(&mut self, text: &str) -> Result<(), Trouble> {
+    pub fn append(&mut self, text: &str) -> Result<(), Trouble> {
         unescape(&mut self.bytes, text.as_bytes())
     }
 
     /// Appends a text so many times.
-    pub(crate) fn append_times(&mut self, count: u32, text: &str) -> Result<(), Trouble> {
+    pub fn append_times(&mut self, count: u32, text: &str) -> Result<(), Trouble> {
         for _ in 0..count {
             self.append(text)?;
         }
@@ -79,12 +79,7 @@ impl Case {
     }
 
     /// Appends so many lines, each of the two pieces with its number between them, from 0.
-    pub(crate) fn append_lines(
-        &mut self,
-        count: u32,
-        before: &str,
-        behind: &str,
-    ) -> Result<(), Trouble> {
+    pub fn append_lines(&mut self, count: u32, before: &str, behind: &str) -> Result<(), Trouble> {
         for i in 0..count {
             let line = format!(in self.alloc; "{before}{i}{behind}\n")?;
             self.bytes.extend_from_slice(line.as_bytes())?;
@@ -93,7 +88,7 @@ impl Case {
     }
 
     /// Takes the bytes so far as the model's text.
-    pub(crate) fn keep_model(&mut self) -> Result<(), Trouble> {
+    pub fn keep_model(&mut self) -> Result<(), Trouble> {
         self.model.clear();
         self.model.extend_from_slice(self.bytes.as_slice())?;
         self.bytes.clear();
@@ -101,12 +96,12 @@ impl Case {
     }
 
     /// Takes the columns of a plan.
-    pub(crate) fn keep_plan(&mut self, plan: Vec<i64>) {
+    pub fn keep_plan(&mut self, plan: Vec<i64>) {
         self.plan = plan;
     }
 
     /// Adds an answer behind the ones so far.
-    pub(crate) fn add(&mut self, answer: &str) -> Result<(), Trouble> {
+    pub fn add(&mut self, answer: &str) -> Result<(), Trouble> {
         if !self.answer.is_empty() {
             self.answer.push_str("; ")?;
         }

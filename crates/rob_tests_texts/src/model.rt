@@ -2,11 +2,10 @@
 
 ghost use Rattle.rob_model.specs.Valid.{IsValid};
 
-use crate::case::Case;
-use crate::numbers::{exact, exacts, shown as shown_number, small, whole, wholes};
 use crate::parse;
-use crate::text::{keyword, said, shown};
-use crate::trouble::Trouble;
+use rob_case::numbers::{exact, exacts, shown as shown_number, small, whole, wholes};
+use rob_case::text::{keyword, said, shown};
+use rob_case::{Case, Trouble};
 use rob_model::{
     Model, Plan, Scenario, admits, column_count, find_column, find_form, find_param, find_set_row,
     first_broken, form_count, policy_at, put_column_name, put_form_name, put_set_place_name,

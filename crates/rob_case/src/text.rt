@@ -1,4 +1,4 @@
-// The texts of cases: lines with a keyword, bytes with escapes, and bytes as they are shown.
+//! The texts of cases: lines with a keyword, bytes with escapes, and bytes as they are shown.
 
 ghost use Rattle.std.specs.Prelude.{◌<◌, IfOk, length};
 
@@ -6,7 +6,7 @@ use crate::trouble::Trouble;
 use std::alloc::Global;
 
 /// The first word of a line, and what stands behind the space behind it.
-pub(crate) fn keyword(line: &str) -> (&str, &str) {
+pub fn keyword(line: &str) -> (&str, &str) {
     match line.split_once(' ') {
         Some((keyword, rest)) => (keyword, rest),
         None => (line, ""),
@@ -14,7 +14,7 @@ pub(crate) fn keyword(line: &str) -> (&str, &str) {
 }
 
 /// Appends a text in which `\` and two hexadecimal digits stand for any byte.
-pub(crate) fn unescape(bytes: &mut Vec<u8>, text: &[u8]) -> Result<(), Trouble> {
+pub fn unescape(bytes: &mut Vec<u8>, text: &[u8]) -> Result<(), Trouble> {
     let mut rest = text;
     while !rest.is_empty() {
         let (byte, behind) = first_byte(rest)?;
@@ -47,7 +47,7 @@ fn hex(digit: u8) -> Result<u8, Trouble>
 }
 
 /// Bytes as a text: each that is no visible letter stands as `\` and two hexadecimal digits.
-pub(crate) fn shown(alloc: Global, bytes: &[u8]) -> Result<String, Trouble> {
+pub fn shown(alloc: Global, bytes: &[u8]) -> Result<String, Trouble> {
     let mut text = String::new(alloc);
     for byte in bytes {
         if (b' '..=b'~').contains(byte) && *byte != b'\\' {
@@ -70,17 +70,17 @@ fn digit(value: u8) -> char {
 }
 
 /// The answer of a text that breaks a rule.
-pub(crate) fn broken(alloc: Global, rule: u8, line: u32) -> Result<String, Trouble> {
+pub fn broken(alloc: Global, rule: u8, line: u32) -> Result<String, Trouble> {
     Ok(format!(in alloc; "rule {rule} line {line}")?)
 }
 
 /// An answer in words.
-pub(crate) fn said(alloc: Global, words: &str) -> Result<String, Trouble> {
+pub fn said(alloc: Global, words: &str) -> Result<String, Trouble> {
     Ok(String::from_str(alloc, words)?)
 }
 
 /// Appends a piece, behind a comma where something stands before it.
-pub(crate) fn add(text: &mut String, piece: &str) -> Result<(), Trouble> {
+pub fn add(text: &mut String, piece: &str) -> Result<(), Trouble> {
     if !text.is_empty() {
         text.push_str(", ")?;
     }

@@ -1,7 +1,7 @@
 // Tokens of texts.
 
-use crate::text::broken;
-use crate::trouble::Trouble;
+use rob_case::Trouble;
+use rob_case::text::broken;
 use rob_lex::{LexErr, Token, tokens};
 use std::alloc::Global;
 

@@ -5,11 +5,10 @@ ghost use Rattle.rob_meaning.specs.Named.{IsNamed};
 ghost use Rattle.rob_model.specs.Valid.{IsValid};
 ghost use Rattle.rob_model.specs.View.{robust};
 
-use crate::case::Case;
-use crate::numbers::{put, put_all};
 use crate::parse;
-use crate::text::{broken, said};
-use crate::trouble::Trouble;
+use rob_case::numbers::{put, put_all};
+use rob_case::text::{broken, said};
+use rob_case::{Case, Trouble};
 use rob_cert::{Cert, CertErr, Cover, read_cert, write_cert};
 use rob_model::Model;
 use rob_number::{Exact, Frac, Tally};

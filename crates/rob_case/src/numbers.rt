@@ -1,4 +1,4 @@
-// Numbers of the cases: read from words, made exact, and shown.
+//! Numbers of the cases: read from words, made exact, and shown.
 
 ghost use Rattle.std.specs.Prelude.{◌≡◌, IfOk, length};
 
@@ -7,7 +7,7 @@ use rob_number::{Exact, List, Tally};
 use std::alloc::Global;
 
 /// The whole numbers of a line, with spaces between them.
-pub(crate) fn wholes(alloc: Global, line: &str) -> Result<Vec<i64>, Trouble> {
+pub fn wholes(alloc: Global, line: &str) -> Result<Vec<i64>, Trouble> {
     let mut numbers = Vec::new(alloc);
     for word in line.split_whitespace() {
         numbers.push(whole(word)?)?;
@@ -16,7 +16,7 @@ pub(crate) fn wholes(alloc: Global, line: &str) -> Result<Vec<i64>, Trouble> {
 }
 
 /// The whole number of a word.
-pub(crate) fn whole(word: &str) -> Result<i64, Trouble> {
+pub fn whole(word: &str) -> Result<i64, Trouble> {
     match word.parse::<i64>() {
         Ok(number) => Ok(number),
         Err(_) => Err(Trouble::Line),
@@ -24,7 +24,7 @@ pub(crate) fn whole(word: &str) -> Result<i64, Trouble> {
 }
 
 /// The small number of a word.
-pub(crate) fn small(word: &str) -> Result<u32, Trouble> {
+pub fn small(word: &str) -> Result<u32, Trouble> {
     match word.parse::<u32>() {
         Ok(number) => Ok(number),
         Err(_) => Err(Trouble::Line),
@@ -32,7 +32,7 @@ pub(crate) fn small(word: &str) -> Result<u32, Trouble> {
 }
 
 /// A whole number as a number of a width.
-pub(crate) fn exact<N: Exact>(num: i64) -> Result<N, Trouble> {
+pub fn exact<N: Exact>(num: i64) -> Result<N, Trouble> {
     match N::from_parts(num, 1, &mut Tally::new()) {
         Ok(number) => Ok(number),
         Err(_) => Err(Trouble::Line),
@@ -40,7 +40,7 @@ pub(crate) fn exact<N: Exact>(num: i64) -> Result<N, Trouble> {
 }
 
 /// Whole numbers as numbers of a width.
-pub(crate) fn exacts<N: Exact>(alloc: Global, nums: &[i64]) -> Result<List<N>, Trouble>
+pub fn exacts<N: Exact>(alloc: Global, nums: &[i64]) -> Result<List<N>, Trouble>
     ensures count { IfOk result (λ list. length list ≡ length nums.now) }
 {
     let mut list = List::new(alloc);
@@ -51,7 +51,7 @@ pub(crate) fn exacts<N: Exact>(alloc: Global, nums: &[i64]) -> Result<List<N>, T
 }
 
 /// A number: its numerator, and its denominator where that isn't 1.
-pub(crate) fn shown<N: Exact>(alloc: Global, number: N) -> Result<String, Trouble> {
+pub fn shown<N: Exact>(alloc: Global, number: N) -> Result<String, Trouble> {
     let num = number.num();
     let den = number.den();
     if den == 1 {
@@ -62,7 +62,7 @@ pub(crate) fn shown<N: Exact>(alloc: Global, number: N) -> Result<String, Troubl
 }
 
 /// Appends a number behind a space.
-pub(crate) fn put<N: Exact>(alloc: Global, text: &mut String, number: N) -> Result<(), Trouble> {
+pub fn put<N: Exact>(alloc: Global, text: &mut String, number: N) -> Result<(), Trouble> {
     let word = shown(alloc, number)?;
     text.push(' ')?;
     text.push_str(word.as_str())?;
@@ -70,11 +70,7 @@ pub(crate) fn put<N: Exact>(alloc: Global, text: &mut String, number: N) -> Resu
 }
 
 /// Appends numbers, each behind a space.
-pub(crate) fn put_all<N: Exact>(
-    alloc: Global,
-    text: &mut String,
-    numbers: &[N],
-) -> Result<(), Trouble> {
+pub fn put_all<N: Exact>(alloc: Global, text: &mut String, numbers: &[N]) -> Result<(), Trouble> {
     for number in numbers {
         put(alloc, text, *number)?;
     }

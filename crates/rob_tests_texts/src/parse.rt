@@ -5,8 +5,8 @@ ghost use Rattle.rob_meaning.specs.Named.{IsNamed};
 ghost use Rattle.rob_model.specs.Valid.{IsValid};
 ghost use Rattle.rob_model.specs.View.{robust};
 
-use crate::text::{broken, shown};
-use crate::trouble::Trouble;
+use rob_case::Trouble;
+use rob_case::text::{broken, shown};
 use rob_model::Model;
 use rob_number::{Exact, Frac, Tally, Text};
 use rob_parse::read_model;

@@ -2,10 +2,9 @@
 
 ghost use Rattle.rob_model.specs.Valid.{IsValid};
 
-use crate::case::Case;
-use crate::numbers::{exact, exacts, put, put_all};
 use crate::parse;
-use crate::trouble::Trouble;
+use rob_case::numbers::{exact, exacts, put, put_all};
+use rob_case::{Case, Trouble};
 use rob_model::{Model, Plan};
 use rob_number::{Exact, Frac, Tally};
 use rob_replay::{ReplayErr, TableLine, replay};
