@@ -87,7 +87,7 @@ unfolding behind_line
 behind_spaces-line [] = refl
 behind_spaces-line (w ∷ ws) = ap (λ l. 32 ∷ l) (ap (λ l. w ++ l) (behind_spaces-line ws) ∙ sym (append_assoc w (behind_line ws) (10 ∷ [])))
 
-spaced-line : (ws : List Name) → spaced ws ≡ line_of ws ++ 10 ∷ []
+pub spaced-line : (ws : List Name) → spaced ws ≡ line_of ws ++ 10 ∷ []
 unfolding line_of
 spaced-line [] = refl
 spaced-line (w ∷ ws) = ap (λ l. w ++ l) (behind_spaces-line ws) ∙ sym (append_assoc w (behind_line ws) (10 ∷ []))
@@ -107,13 +107,13 @@ unfolding behind_line
 behind_whole [] h = tt
 behind_whole (w ∷ ws) h = (λ e. omega arith, each_append (λ b. b ≢ 10) w (behind_line ws) (no_end w h.0) (behind_whole ws h.1))
 
-line_whole : (ws : List Name) → Each IsWord ws → Lacks 10 (line_of ws)
+pub line_whole : (ws : List Name) → Each IsWord ws → Lacks 10 (line_of ws)
 unfolding line_of
 line_whole [] h = tt
 line_whole (w ∷ ws) h = each_append (λ b. b ≢ 10) w (behind_line ws) (no_end w h.0) (behind_whole ws h.1)
 
 -- its words are those that it is made of
-words_in-line : (w : Name) (ws : List Name) → Each IsWord (w ∷ ws) → words_in (line_of (w ∷ ws)) ≡ w ∷ ws
+pub words_in-line : (w : Name) (ws : List Name) → Each IsWord (w ∷ ws) → words_in (line_of (w ∷ ws)) ≡ w ∷ ws
 unfolding line_of behind_line
 words_in-line w [] h = ap words_in (append-nil w) ∙ words_in-lacks w (no_space w h.0)
 words_in-line w (v ∷ ws) h = words_in-split w (v ++ behind_line ws) (no_space w h.0) ∙ ap (λ l. w ∷ l) (words_in-line v ws h.1)

@@ -4,7 +4,7 @@
 
 pub mod certificate;
 mod covers;
-mod cursor;
+pub mod cursor;
 pub mod ending;
 mod entries;
 mod entry;
@@ -14,8 +14,8 @@ mod head;
 mod items;
 mod kind;
 pub mod laws;
-mod names;
-mod number;
+pub mod names;
+pub mod number;
 mod part;
 pub mod reader;
 pub mod spelling;
