@@ -4,7 +4,6 @@ use Rattle.std.specs.Prelude.{Result, MatchResult}
 use Rattle.std.proofs.lemmas.Bool.{cases_lt}
 use Rattle.std.proofs.lemmas.Int.{ints}
 use lib.IntN.{ℤ, pos, ◌*ℤ◌}
-use lib.Signed.{◌<ℤ◌}
 use Rattle.rob_linear.specs.Vectors.{Matrix, Columns}
 use Rattle.rob_linear.specs.Systems.{System, IsTagged, right, with_objective}
 use Rattle.rob_linear.specs.Programs.{Program, system_of, auxiliary_of, auxiliary_place, without_auxiliary}
@@ -122,19 +121,21 @@ module _ (P : Program) (t : Table) (h : HasLeft P t) where
     second_begins =
         let e : spare_column t'.columns (positions t') ≡ spare_column t.columns (positions t) = omega (arith, em, en) in
         record {
-          rows_are = em ∙ h.rows_are;
-          columns_are = en ∙ h.columns_are;
           reached = subst (λ (b : List ℕ). Reached P (columns_of b)) (sym eb) h.reached;
           without = subst (λ (b : List ℕ). ¬ (HasAuxiliary P (columns_of b))) (sym eb) h.without;
-          stands =
-              subst (λ (b : List ℕ). StandsMultiple (system_of P) (columns_of b) (without_column P (rows_of t'))) (sym eb)
-              (stands_equal_rows (system_of P) (columns_of t.basis) (without_column P (rows_of t)) (without_column P (rows_of t')) (system_tagged P) same h.stands);
-          empty = λ i il. subst (λ k. rows_of t' i k ≡ pos 0) column_is (zeros i (omega (arith, h.rows_are)));
-          closed = record {
-            free = λ i il x. h.closed.free i (omega (arith, em)) (ap (λ (b : List ℕ). columns_of b i) (sym eb) ∙ x ∙ e);
-            zero = λ i il.
-                ap (rows_of t' i) e ∙ others i (spare_column t.columns (positions t)) (omega (arith, em)) (omega arith) (λ x. absurd (omega (arith, is)))
-                ∙ h.closed.zero i (omega (arith, em));
+          own = record {
+            rows_are = em ∙ h.rows_are;
+            columns_are = en ∙ h.columns_are;
+            stands =
+                subst (λ (b : List ℕ). StandsMultiple (system_of P) (columns_of b) (without_column P (rows_of t'))) (sym eb)
+                (stands_equal_rows (system_of P) (columns_of t.basis) (without_column P (rows_of t)) (without_column P (rows_of t')) (system_tagged P) same h.stands);
+            empty = λ i il. subst (λ k. rows_of t' i k ≡ pos 0) column_is (zeros i (omega (arith, h.rows_are)));
+            closed = record {
+              free = λ i il x. h.closed.free i (omega (arith, em)) (ap (λ (b : List ℕ). columns_of b i) (sym eb) ∙ x ∙ e);
+              zero = λ i il.
+                  ap (rows_of t' i) e ∙ others i (spare_column t.columns (positions t)) (omega (arith, em)) (omega arith) (λ x. absurd (omega (arith, is)))
+                  ∙ h.closed.zero i (omega (arith, em));
+            };
           };
         }
 

@@ -27,3 +27,13 @@ pub mod Solving
 pub mod FirstTurns
 pub mod ExplicitTurns
 pub mod ExplicitStart
+pub mod PathsFrom
+pub mod LoweredRows
+pub mod CostStages
+pub mod BasicColumns
+pub mod NewCosts
+pub mod LoweringSteps
+pub mod LoweredTables
+pub mod ClearedObjective
+pub mod CopiedTables
+pub mod FreeColumns

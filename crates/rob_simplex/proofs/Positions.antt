@@ -36,3 +36,19 @@ position_cases (own ∷ basis) column =
     nowhere : (own : ℕ) (basis : List ℕ) (column : ℕ) → own ≢ column → ((j : ℕ) → j < length basis → get_or basis j 0 ≢ column) → (j : ℕ) → j < suc (length basis) → get_or (own ∷ basis) j 0 ≢ column
     nowhere own basis column d h zero l = d
     nowhere own basis column d h (suc j) l = h j (omega arith)
+
+-- what its position tells
+pub position_is : (basis : List ℕ) (column k : ℕ) → Some k ≡ position_of basis column → (k < length basis) × (get_or basis k 0 ≡ column)
+position_is basis column k e = elim (position_cases basis column) [
+  | inl h ↦ let s : k ≡ h.0 = some_is k h.0 (e ∙ h.3) in let l : h.0 < length basis = h.1 in (omega arith, ap (λ i. get_or basis i 0) s ∙ h.2)
+  | inr h ↦ absurd (let f : Some k ≡ None = e ∙ h.1 in cc)
+]
+  where
+    some_is : (a b : ℕ) → Some a ≡ Some b → a ≡ b
+    some_is a b f = cc
+
+pub position_not : (basis : List ℕ) (column : ℕ) → None ≡ position_of basis column → (j : ℕ) → j < length basis → get_or basis j 0 ≢ column
+position_not basis column e = elim (position_cases basis column) [
+  | inl h ↦ absurd (let f : None ≡ Some h.0 = e ∙ h.3 in cc)
+  | inr h ↦ h.0
+]

@@ -14,10 +14,9 @@ use Rattle.rob_algebra.specs.Integer.{*ℤ_comm}
 use Rattle.rob_linear.specs.Vectors.{Vector, Matrix, Columns}
 use Rattle.rob_linear.specs.Systems.{System, right, IsPrimitive}
 use Rattle.rob_linear.specs.Programs.{Program, system_of, kept_of, auxiliary_place}
-use Rattle.rob_linear.specs.Turns.{Enters, Leaves, IsExchange, Rises, key, own_of}
+use Rattle.rob_linear.specs.Turns.{Enters, Leaves, IsExchange, Rises, key, own_of, TurnsTo}
 use Rattle.rob_linear.specs.Rank.{rank, rank_limit, IsWithin}
-use Rattle.rob_linear.specs.Paths.{HasAuxiliary, Turned, Reached}
-use Rattle.rob_linear.specs.WideRows.{HasWideEntry, HasWideRow}
+use Rattle.rob_linear.specs.WideRows.{HasWideEntry, IsWideIn}
 use Rattle.rob_linear.specs.Multiples.{IsParallel, IsClearedBy, IsMultiplePivot, IsPivotableMultiple, StandsMultiple}
 use Rattle.rob_linear.specs.Beside.{without_column}
 use Rattle.rob_linear.proofs.Starts.{system_tagged}
@@ -26,10 +25,9 @@ use Rattle.rob_linear.proofs.WithoutColumn.{enters_without, leaves_without, clea
 use Rattle.rob_linear.proofs.CondensedNumbers.{primitive_without}
 use Rattle.rob_linear.proofs.Measure.{rank_rises, rank_below}
 use Rattle.rob_linear.proofs.Multiples.{factors_clear, pivot_wide, multiple_turn}
-use Rattle.rob_linear.proofs.MultiplePaths.{path_turn}
 use Rattle.rob_rows.specs.Updates.{IsWideCleared}
 use Rattle.rob_simplex.specs.Dictionaries.{Table, positions, width_of, columns_of, basic_columns, spare_column, shape, rows_of, IsFree, IsClosed, IsPivoted, FirstNegative}
-use Rattle.rob_simplex.specs.Phases.{InSecond, EndsIn, rank_left, turns_left}
+use Rattle.rob_simplex.specs.Phases.{StandsFor, TurnsOn, HasRefused, EndsIn, rank_left, turns_left}
 use Rattle.rob_simplex.proofs.Replacing.{basic_low, basic_high}
 use Rattle.rob_simplex.proofs.PivotLemmas.{zero_stays}
 
@@ -59,7 +57,7 @@ abbrev pub IsSmall : Table → Type 0
 IsSmall t = (i c : ℕ) → i ≤ positions t → nat_abs (rows_of t i c) ≤ t.limit
 
 -- so the objective's row is one of those that are ranked
-within_second : (P : Program) (t : Table) → InSecond P t → IsSmall t → IsWithin (system_of P) t.limit (without_column P (rows_of t) P.m)
+within_second : (P : Program) (t : Table) → StandsFor P t → IsSmall t → IsWithin (system_of P) t.limit (without_column P (rows_of t) P.m)
 within_second P t h small = record {
   keys = λ k l. key_in k;
   positive = subst (λ k. pos 0 <ℤ without_column P (rows_of t) P.m k) (own_last P (columns_of t.basis)) (h.stands.multiples.rows_of P.m (omega arith)).positive;
@@ -70,13 +68,13 @@ within_second P t h small = record {
     key_in zero = small P.m (auxiliary_place P (suc (P.n + P.m))) (omega (arith, h.rows_are))
     key_in (suc k) = small P.m (auxiliary_place P (P.n + k)) (omega (arith, h.rows_are))
 
-left_is : (P : Program) (t : Table) → InSecond P t → turns_left t ≡ rank_limit (system_of P) t.limit - rank (system_of P) t.limit (without_column P (rows_of t) P.m)
+left_is : (P : Program) (t : Table) → StandsFor P t → turns_left t ≡ rank_limit (system_of P) t.limit - rank (system_of P) t.limit (without_column P (rows_of t) P.m)
 left_is P t h = ap (λ n. rank_left n (positions t) t) h.columns_are ∙ ap (λ m. rank_left P.n m t) h.rows_are
 
 pub falls : (top a b : ℕ) → a < b → b < top → top - b < top - a
 falls top a b l u = omega arith
 
-module _ (P : Program) (t : Table) (h : InSecond P t) where
+module _ (P : Program) (t : Table) (h : StandsFor P t) where
   abbrev S : System
   S = system_of P
 
@@ -169,13 +167,6 @@ module _ (P : Program) (t : Table) (h : InSecond P t) where
         own_other = own_next;
       }
 
-      -- the auxiliary column does not come back
-      stays_out : ¬ (HasAuxiliary P (columns_of (set t.basis row column)))
-      stays_out a = elim (cases_eq a.0 row) [
-        | inl e ↦ let x : P.n + P.m ≡ column = a.2 ∙ ap (columns_of (set t.basis row column)) e ∙ next_at in omega (arith, low)
-        | inr d ↦ h.without (a.0, a.1, a.2 ∙ next_other a.0 d)
-      ]
-
       multiple_pivot : (rows' : Matrix) → IsParallel (suc (right (system_of P))) (rows' row) (without_column P (rows_of t) row)
           → ((i : ℕ) → i ≤ P.m → i ≢ row → IsClearedBy (suc (right (system_of P))) column (without_column P (rows_of t) i) (without_column P (rows_of t) row) (rows' i))
           → IsMultiplePivot (system_of P) (own_of (system_of P) (columns_of t.basis)) (own_of (system_of P) (columns_of (set t.basis row column))) (without_column P (rows_of t)) rows' row column
@@ -183,9 +174,10 @@ module _ (P : Program) (t : Table) (h : InSecond P t) where
 
       turned : (rows' : Matrix) → IsParallel (suc (right (system_of P))) (rows' row) (without_column P (rows_of t) row)
           → ((i : ℕ) → i ≤ P.m → i ≢ row → IsClearedBy (suc (right (system_of P))) column (without_column P (rows_of t) i) (without_column P (rows_of t) row) (rows' i))
-          → Turned P (suc h.reached.0) (columns_of (set t.basis row column)) × StandsMultiple (system_of P) (columns_of (set t.basis row column)) rows'
+          → TurnsTo (system_of P) (columns_of t.basis) (columns_of (set t.basis row column)) × StandsMultiple (system_of P) (columns_of (set t.basis row column)) rows'
+          × Rises (system_of P) (without_column P (rows_of t) P.m) (rows' P.m)
       turned rows' row_at row_other =
-          path_turn P h.reached.0 (columns_of t.basis) (columns_of (set t.basis row column)) (without_column P (rows_of t)) rows' row column h.reached.1 h.without h.stands enters leaves
+          multiple_turn (system_of P) (columns_of t.basis) (columns_of (set t.basis row column)) (without_column P (rows_of t)) rows' row column (system_tagged P) h.stands enters leaves
           (multiple_pivot rows' row_at row_other)
 
       -- ---- the dictionary after the turn
@@ -201,19 +193,15 @@ module _ (P : Program) (t : Table) (h : InSecond P t) where
           cleared_without P column (rows_of t i) (rows_of t row) (rows_of t' i) low (shorter (width_of t) (suc (suc (suc (P.n + P.m)))) column (rows_of t i) (rows_of t row) (rows_of t' i) (omega arith) (p.row_other i (omega (arith, h.rows_are)) d))
 
       risen : (t' : Table) → IsPivoted t t' row column → Rises (system_of P) (without_column P (rows_of t) P.m) (without_column P (rows_of t') P.m)
-      risen t' p =
-          (multiple_turn (system_of P) (columns_of t.basis) (columns_of (set t.basis row column)) (without_column P (rows_of t)) (without_column P (rows_of t')) row column (system_tagged P) h.stands enters leaves
-          (multiple_pivot (without_column P (rows_of t')) (row_turned t' p) (others_turned t' p))).2
+      risen t' p = (turned (without_column P (rows_of t')) (row_turned t' p) (others_turned t' p)).2
 
-      pub turn_second : (t' : Table) → IsPivoted t t' row column → IsClosed t' → t'.basis ≡ set t.basis row column → t'.columns ≡ t.columns → InSecond P t'
+      pub turn_second : (t' : Table) → IsPivoted t t' row column → IsClosed t' → t'.basis ≡ set t.basis row column → t'.columns ≡ t.columns → StandsFor P t'
       turn_second t' p c eb en =
           let w : width_of t ≡ suc (suc (suc (suc (P.n + P.m)))) = omega (arith, size_is) in
           let k = turned (without_column P (rows_of t')) (row_turned t' p) (others_turned t' p) in
           record {
             rows_are = ap length eb ∙ length-set t.basis row column ∙ h.rows_are;
             columns_are = en ∙ h.columns_are;
-            reached = subst (λ (b : List ℕ). Reached P (columns_of b)) (sym eb) (suc h.reached.0, k.0);
-            without = subst (λ (b : List ℕ). ¬ (HasAuxiliary P (columns_of b))) (sym eb) stays_out;
             stands = subst (λ (b : List ℕ). StandsMultiple (system_of P) (columns_of b) (without_column P (rows_of t'))) (sym eb) k.1;
             empty = λ i il. elim (cases_eq i row) [
               | inl e ↦
@@ -233,7 +221,7 @@ module _ (P : Program) (t : Table) (h : InSecond P t) where
       -- ---- less turns are left
       pub turns_fall : (t' : Table) → IsPivoted t t' row column → IsClosed t' → t'.basis ≡ set t.basis row column → t'.columns ≡ t.columns → t'.limit ≡ t.limit → IsSmall t → IsSmall t' → turns_left t' < turns_left t
       turns_fall t' p c eb en el small small' =
-          let h' : InSecond P t' = turn_second t' p c eb en in
+          let h' : StandsFor P t' = turn_second t' p c eb en in
           let w : IsWithin (system_of P) t.limit (without_column P (rows_of t) P.m) = within_second P t h small in
           let w' : IsWithin (system_of P) t.limit (without_column P (rows_of t') P.m) = subst (λ l. IsWithin (system_of P) l (without_column P (rows_of t') P.m)) el (within_second P t' h' small') in
           let low : rank (system_of P) t.limit (without_column P (rows_of t) P.m) < rank (system_of P) t.limit (without_column P (rows_of t') P.m) =
@@ -261,13 +249,15 @@ module _ (P : Program) (t : Table) (h : InSecond P t) where
       unfolding next_rows
       other_row i d k = grind (arith, nat_tests)
 
-      pub next_reached : Reached P (columns_of (set t.basis row column))
-      next_reached =
-          let k = turned next_rows
+      next_turned : TurnsTo (system_of P) (columns_of t.basis) (columns_of (set t.basis row column))
+      next_turned =
+          (turned next_rows
           (record { p = pos 1; q = pos 1; p_positive = omega (arith, ints); q_positive = omega (arith, ints); same = λ k l. ap (λ x. pos 1 *ℤ x) (next_row k) })
           (λ i il d. factors_clear (suc (right (system_of P))) column (without_column P (rows_of t) i) (without_column P (rows_of t) row) (next_rows i) (without_column P (rows_of t) row column) (without_column P (rows_of t) i column)
-          (omega (arith, low)) leaves.positive (*ℤ_comm (without_column P (rows_of t) row column) (without_column P (rows_of t) i column)) (λ k l. other_row i d k)) in
-          (suc h.reached.0, k.0)
+          (omega (arith, low)) leaves.positive (*ℤ_comm (without_column P (rows_of t) row column) (without_column P (rows_of t) i column)) (λ k l. other_row i d k))).0
+
+      pub turns_on : (t' : Table) → t'.basis ≡ set t.basis row column → TurnsOn P t t'
+      turns_on t' eb = subst (λ (b : List ℕ). TurnsTo (system_of P) (columns_of t.basis) (columns_of b)) (sym eb) next_turned
 
       pivotable : IsPivotableMultiple (system_of P) (own_of (system_of P) (columns_of t.basis)) (without_column P (rows_of t)) row
       pivotable = record {
@@ -317,19 +307,20 @@ module _ (P : Program) (t : Table) (h : InSecond P t) where
             at_high zero l u o = absurd (omega arith)
             at_high (suc c) l u o = (c, omega arith, subst (λ k. limit < unsigned_abs (w.0 k)) (sym (place_high P c (omega arith))) o)
 
-        pub wide_second : HasWideRow limit P (columns_of (set t.basis row column)) i
-        wide_second = record {
-          reached = next_reached;
-          wide = inl (pivot_wide limit (system_of P) (columns_of t.basis) (columns_of (set t.basis row column)) (without_column P (rows_of t)) row column i (λ k. w.0 (auxiliary_place P k)) (system_tagged P) pivotable exchange im d
-              (cleared_without P column (rows_of t i) (rows_of t row) w.0 low (shorter (width_of t) (suc (suc (suc (P.n + P.m)))) column (rows_of t i) (rows_of t row) w.0 (omega (arith, size_is)) w.1))
-              (primitive_without P w.0 auxiliary_zero primitive_short) wide_entry);
-        }
+        wide_next : IsWideIn limit (system_of P) (columns_of (set t.basis row column)) i
+        wide_next =
+            pivot_wide limit (system_of P) (columns_of t.basis) (columns_of (set t.basis row column)) (without_column P (rows_of t)) row column i (λ k. w.0 (auxiliary_place P k)) (system_tagged P) pivotable exchange im d
+            (cleared_without P column (rows_of t i) (rows_of t row) w.0 low (shorter (width_of t) (suc (suc (suc (P.n + P.m)))) column (rows_of t i) (rows_of t row) w.0 (omega (arith, size_is)) w.1))
+            (primitive_without P w.0 auxiliary_zero primitive_short) wide_entry
+
+        pub wide_second : (t' : Table) → t'.basis ≡ set t.basis row column → HasRefused limit P i t t'
+        wide_second t' eb = (turns_on t' eb, subst (λ (b : List ℕ). IsWideIn limit (system_of P) (columns_of b) i) (sym eb) wide_next)
 
 -- ---- the ends
-pub ends_optimal : (P : Program) (t : Table) → InSecond P t → ((c : ℕ) → c < t.columns + positions t → pos 0 ≤ℤ rows_of t (positions t) c) → EndsIn P None t
+pub ends_optimal : (P : Program) (t : Table) → StandsFor P t → ((c : ℕ) → c < t.columns + positions t → pos 0 ≤ℤ rows_of t (positions t) c) → EndsIn P None t
 ends_optimal P t h none k l = subst (λ i. pos 0 ≤ℤ rows_of t i k) h.rows_are (none k (omega (arith, h.rows_are, h.columns_are)))
 
-pub ends_unbounded : (P : Program) (t : Table) (column : ℕ) → InSecond P t → FirstNegative (t.columns + positions t) (rows_of t (positions t)) column
+pub ends_unbounded : (P : Program) (t : Table) (column : ℕ) → StandsFor P t → FirstNegative (t.columns + positions t) (rows_of t (positions t)) column
     → ((i : ℕ) → i < positions t → rows_of t i column ≤ℤ pos 0) → EndsIn P (Some column) t
 ends_unbounded P t column h f none = (
   subst (λ k. FirstNegative k (rows_of t P.m) column) (omega (arith, h.rows_are, h.columns_are)) (subst (λ i. FirstNegative (t.columns + positions t) (rows_of t i) column) h.rows_are f),

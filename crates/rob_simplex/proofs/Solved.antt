@@ -2,13 +2,13 @@
 use Rattle.std.proofs.Common.{◌≡◌, ℕ, suc, ◌+◌, ◌<◌, sym, ap, ap₂, ◌∙◌, subst, arith, Some, None}
 use Rattle.std.specs.Int.RustNames.{unsigned_abs}
 use Rattle.std.specs.Int.{◌∣◌}
-use lib.IntN.{ℤ, pos, ◌*ℤ◌}
+use lib.IntN.{pos, ◌*ℤ◌}
 use lib.Signed.{◌<ℤ◌, ◌≤ℤ◌}
-use Rattle.rob_linear.specs.Vectors.{Matrix, Vector}
+use Rattle.rob_linear.specs.Vectors.{Matrix, Vector, Columns}
 use Rattle.rob_linear.specs.Systems.{EndsOptimal, EndsUnbounded, IsNonnegative}
 use Rattle.rob_linear.specs.Programs.{Program, system_of, auxiliary_of, ShowsEmpty}
 use Rattle.rob_linear.specs.Turns.{own_of, Enters, StandsWith}
-use Rattle.rob_linear.specs.Paths.{HasAuxiliary}
+use Rattle.rob_linear.specs.Paths.{HasAuxiliary, Last, LastFrom, EndsAtOptimum, EndsAtRay}
 use Rattle.rob_linear.specs.Beside.{without_column}
 use Rattle.rob_linear.specs.Optimality.{IsScaled}
 use Rattle.rob_linear.proofs.Sums.{sum_ext}
@@ -16,6 +16,7 @@ use Rattle.rob_linear.proofs.Endings.{own_positive}
 use Rattle.rob_linear.proofs.Choices.{lex_feasible}
 use Rattle.rob_linear.proofs.Auxiliary.{farkas_primitive}
 use Rattle.rob_linear.proofs.LastBases.{optimum_is_last, ray_is_last, first_phase_is_last}
+use Rattle.rob_linear.proofs.MultiplePaths.{optimum_last_from, ray_last_from}
 use Rattle.rob_linear.proofs.Multiples.{enters_parallel, none_improves_parallel, no_limit_parallel}
 use Rattle.rob_linear.proofs.Optimality.{optimal_ending, optimal_duals_ℚ, unbounded_ending, farkas}
 use Rattle.rob_linear.proofs.Scaling.{over_scaled}
@@ -24,11 +25,11 @@ use Rattle.rob_linear.proofs.Turns.{own_low}
 use Rattle.rob_linear.proofs.WithoutColumn.{enters_without}
 use Rattle.rob_simplex.specs.declared.state.State.TheVariants.{Optimal}
 use Rattle.rob_simplex.specs.Dictionaries.{sized, rows_of, columns_of}
-use Rattle.rob_simplex.specs.Phases.{InSecond, EndsIn}
+use Rattle.rob_simplex.specs.Phases.{StandsFor, InSecond, EndsFrom, EndsIn}
 use Rattle.rob_simplex.specs.PathEnds.{AreWeights}
 use Rattle.rob_simplex.specs.Solvers.{Solver, positions, entries, column_of, HasRay, HasWeights}
 use Rattle.rob_simplex.specs.Solutions.{point_of, ray_of, dual_of, weights_of}
-use Rattle.rob_simplex.specs.Endings.{IsOptimumOf, IsRayOf, HasWeightsFor}
+use Rattle.rob_simplex.specs.Endings.{IsOptimumAt, IsRayAt, IsOptimumOf, IsRayOf, HasWeightsFor}
 use Rattle.rob_simplex.proofs.SolverRows.{low_place, high_place, shown_parallel, shown_stands}
 use Rattle.rob_simplex.proofs.LastPoints.{basic_point, basic_move, value_is}
 
@@ -44,12 +45,12 @@ shows_ext P w w' e h = record {
 sized_is : (P : Program) (n m : ℕ) → P.n ≡ n → P.m ≡ m → sized n m P.a P.b P.c ≡ P
 sized_is P n m en em = sym (ap₂ (λ v w. sized v w P.a P.b P.c) en em)
 
-module _ (s : Solver) (a : Matrix) (b c : Vector) (h : InSecond (sized s.columns (positions s) a b c) s.dictionary) where
+module _ (IsEnd : Columns → Type 0) (s : Solver) (a : Matrix) (b c : Vector) (h : StandsFor (sized s.columns (positions s) a b c) s.dictionary) where
   stands : StandsWith (system_of (sized s.columns (positions s) a b c)) (columns_of s.basis) (entries s)
   stands = shown_stands s a b c h.stands
 
-  sized_optimum : s.state ≡ Optimal → EndsIn (sized s.columns (positions s) a b c) None s.dictionary → IsOptimumOf (sized s.columns (positions s) a b c) s
-  sized_optimum state e =
+  sized_optimum : s.state ≡ Optimal → (EndsAtOptimum (sized s.columns (positions s) a b c) (columns_of s.basis) → IsEnd (columns_of s.basis)) → EndsIn (sized s.columns (positions s) a b c) None s.dictionary → IsOptimumAt IsEnd (sized s.columns (positions s) a b c) s
+  sized_optimum state end e =
       let none : IsNonnegative (s.columns + positions s) (without_column (sized s.columns (positions s) a b c) (rows_of s.dictionary) (positions s)) = (λ k l. subst (λ v. pos 0 ≤ℤ rows_of s.dictionary (positions s) v) (sym (low_place s k l)) (e k l)) in
       let o : EndsOptimal (system_of (sized s.columns (positions s) a b c)) (entries s) = record {
         feasible = lex_feasible (system_of (sized s.columns (positions s) a b c)) (entries s) stands.feasible;
@@ -63,7 +64,7 @@ module _ (s : Solver) (a : Matrix) (b c : Vector) (h : InSecond (sized s.columns
       let v = value_is s a b c stands.is_basis o.feasible in
       record {
         state = state;
-        point = record { last = optimum_is_last (sized s.columns (positions s) a b c) (columns_of s.basis) h.reached (entries s, stands.is_basis, o); basis = stands.is_basis; basic = f };
+        point = record { last = end (entries s, stands.is_basis, o); basis = stands.is_basis; basic = f };
         ends = o;
         scaled = scaled;
         optimal = optimal_ending (sized s.columns (positions s) a b c) (own_of (system_of (sized s.columns (positions s) a b c)) (columns_of s.basis)) (entries s) (point_of s) stands.is_basis o f;
@@ -72,8 +73,8 @@ module _ (s : Solver) (a : Matrix) (b c : Vector) (h : InSecond (sized s.columns
         dual_value = sym y.1 ∙ v;
       }
 
-  sized_ray : HasRay s → EndsIn (sized s.columns (positions s) a b c) (Some (column_of s.state)) s.dictionary → IsRayOf (sized s.columns (positions s) a b c) s
-  sized_ray state e =
+  sized_ray : HasRay s → (EndsAtRay (sized s.columns (positions s) a b c) (columns_of s.basis) → IsEnd (columns_of s.basis)) → EndsIn (sized s.columns (positions s) a b c) (Some (column_of s.state)) s.dictionary → IsRayAt IsEnd (sized s.columns (positions s) a b c) s
+  sized_ray state end e =
       let inside : column_of s.state < s.columns + positions s = e.0.inside in
       let par = shown_parallel s a b c h.stands in
       let enters : Enters (system_of (sized s.columns (positions s) a b c)) (entries s) (column_of s.state) =
@@ -91,7 +92,7 @@ module _ (s : Solver) (a : Matrix) (b c : Vector) (h : InSecond (sized s.columns
       let w = unbounded_ending (sized s.columns (positions s) a b c) (own_of (system_of (sized s.columns (positions s) a b c)) (columns_of s.basis)) (entries s) (column_of s.state) (point_of s) (ray_of s) stands.is_basis u f g in
       record {
         state = state;
-        point = record { last = ray_is_last (sized s.columns (positions s) a b c) (columns_of s.basis) h.reached (entries s, column_of s.state, stands.is_basis, enters, u); basis = stands.is_basis; basic = f };
+        point = record { last = end (entries s, column_of s.state, stands.is_basis, enters, u); basis = stands.is_basis; basic = f };
         enters = enters;
         ends = u;
         move = g;
@@ -100,7 +101,8 @@ module _ (s : Solver) (a : Matrix) (b c : Vector) (h : InSecond (sized s.columns
         unbounded = w.2;
       }
 
-  -- what the solver divides by is positive
+-- what the solver divides by is positive
+module _ (s : Solver) (a : Matrix) (b c : Vector) (h : StandsFor (sized s.columns (positions s) a b c) s.dictionary) where
   sized_own : (i : ℕ) → i < positions s → (columns_of s.basis i < s.columns + positions s) × (pos 0 <ℤ rows_of s.dictionary i (columns_of s.basis i))
   sized_own i l =
       let e : own_of (system_of (sized s.columns (positions s) a b c)) (columns_of s.basis) i ≡ columns_of s.basis i = own_low (system_of (sized s.columns (positions s) a b c)) (columns_of s.basis) i l in
@@ -116,24 +118,43 @@ module _ (s : Solver) (a : Matrix) (b c : Vector) (h : InSecond (sized s.columns
       (subst (λ k. pos 0 <ℤ without_column (sized s.columns (positions s) a b c) (rows_of s.dictionary) (positions s) k) h.stands.multiples.last (h.stands.multiples.rows_of (positions s) (omega arith)).positive)
 
 -- ---- of a program of the solver's size
-module _ (P : Program) (s : Solver) (h : InSecond P s.dictionary) where
+module _ (P : Program) (s : Solver) (h : StandsFor P s.dictionary) where
   program_is : sized s.columns (positions s) P.a P.b P.c ≡ P
   program_is = sized_is P s.columns (positions s) (sym h.columns_are) (sym h.rows_are)
 
-  second : InSecond (sized s.columns (positions s) P.a P.b P.c) s.dictionary
-  second = subst (λ (Q : Program). InSecond Q s.dictionary) (sym program_is) h
+  stood : StandsFor (sized s.columns (positions s) P.a P.b P.c) s.dictionary
+  stood = subst (λ (Q : Program). StandsFor Q s.dictionary) (sym program_is) h
 
-  pub optimum : s.state ≡ Optimal → EndsIn P None s.dictionary → IsOptimumOf P s
-  optimum state e = subst (λ (Q : Program). IsOptimumOf Q s) program_is (sized_optimum s P.a P.b P.c second state (subst (λ (Q : Program). EndsIn Q None s.dictionary) (sym program_is) e))
+  pub optimum_at : (IsEnd : Columns → Type 0) → s.state ≡ Optimal → (EndsAtOptimum P (columns_of s.basis) → IsEnd (columns_of s.basis)) → EndsIn P None s.dictionary → IsOptimumAt IsEnd P s
+  optimum_at IsEnd state end e =
+      subst (λ (Q : Program). IsOptimumAt IsEnd Q s) program_is
+      (sized_optimum IsEnd s P.a P.b P.c stood state (subst (λ (Q : Program). EndsAtOptimum Q (columns_of s.basis) → IsEnd (columns_of s.basis)) (sym program_is) end)
+      (subst (λ (Q : Program). EndsIn Q None s.dictionary) (sym program_is) e))
 
-  pub ray_found : HasRay s → EndsIn P (Some (column_of s.state)) s.dictionary → IsRayOf P s
-  ray_found state e = subst (λ (Q : Program). IsRayOf Q s) program_is (sized_ray s P.a P.b P.c second state (subst (λ (Q : Program). EndsIn Q (Some (column_of s.state)) s.dictionary) (sym program_is) e))
+  pub ray_at : (IsEnd : Columns → Type 0) → HasRay s → (EndsAtRay P (columns_of s.basis) → IsEnd (columns_of s.basis)) → EndsIn P (Some (column_of s.state)) s.dictionary → IsRayAt IsEnd P s
+  ray_at IsEnd state end e =
+      subst (λ (Q : Program). IsRayAt IsEnd Q s) program_is
+      (sized_ray IsEnd s P.a P.b P.c stood state (subst (λ (Q : Program). EndsAtRay Q (columns_of s.basis) → IsEnd (columns_of s.basis)) (sym program_is) end)
+      (subst (λ (Q : Program). EndsIn Q (Some (column_of s.state)) s.dictionary) (sym program_is) e))
 
   pub own_in_range : (i : ℕ) → i < positions s → (columns_of s.basis i < s.columns + positions s) × (pos 0 <ℤ rows_of s.dictionary i (columns_of s.basis i))
-  own_in_range = sized_own s P.a P.b P.c second
+  own_in_range = sized_own s P.a P.b P.c stood
 
   pub objective_entry : pos 0 <ℤ rows_of s.dictionary (positions s) (suc (s.columns + positions s))
-  objective_entry = sized_objective s P.a P.b P.c second
+  objective_entry = sized_objective s P.a P.b P.c stood
+
+-- ---- at the end of the program's path, and of one that goes on from a basis
+pub optimum : (P : Program) (s : Solver) → InSecond P s.dictionary → s.state ≡ Optimal → EndsIn P None s.dictionary → IsOptimumOf P s
+optimum P s h state e = optimum_at P s h.own (Last P) state (optimum_is_last P (columns_of s.basis) h.reached) e
+
+pub ray_found : (P : Program) (s : Solver) → InSecond P s.dictionary → HasRay s → EndsIn P (Some (column_of s.state)) s.dictionary → IsRayOf P s
+ray_found P s h state e = ray_at P s h.own (Last P) state (ray_is_last P (columns_of s.basis) h.reached) e
+
+pub optimum_from : (P : Program) (start : Columns) (s : Solver) → s.state ≡ Optimal → EndsFrom P start None s.dictionary → IsOptimumAt (LastFrom P start) P s
+optimum_from P start s state h = optimum_at P s h.own (LastFrom P start) state (optimum_last_from P start (columns_of s.basis) h.reached) h.ends
+
+pub ray_from : (P : Program) (start : Columns) (s : Solver) → HasRay s → EndsFrom P start (Some (column_of s.state)) s.dictionary → IsRayAt (LastFrom P start) P s
+ray_from P start s state h = ray_at P s h.own (LastFrom P start) state (ray_last_from P start (columns_of s.basis) h.reached) h.ends
 
 pub weights_found : (P : Program) (s : Solver) → HasWeights s → AreWeights P s.basis s.weights → HasWeightsFor P s
 weights_found P s state h =

@@ -6,7 +6,8 @@ use Rattle.rob_linear.specs.Programs.{Program}
 use Rattle.rob_rows.specs.PrimitiveParts.{IsWithin}
 use Rattle.rob_simplex.specs.declared.state.State.TheVariants.{New, Optimal, Infeasible, Unbounded, Stopped}
 use Rattle.rob_simplex.specs.Dictionaries.{Table}
-use Rattle.rob_simplex.specs.Phases.{InSecond}
+use Rattle.rob_simplex.specs.Phases.{StandsFor}
+use Rattle.rob_simplex.specs.Resuming.{CanResume}
 use Rattle.rob_simplex.specs.Starts.{IsStartingTable}
 use Rattle.rob_simplex.specs.Solvers.{Solver, positions, IsSound, IsMadeFor}
 use Rattle.rob_simplex.proofs.Places.{seen_within}
@@ -15,6 +16,10 @@ use Rattle.rob_simplex.proofs.Solved.{own_in_range, objective_entry}
 -- a solver that was made for a program has its starting rows
 pub made_start : (P : Program) (v s : Solver) → v ≡ s → IsMadeFor P s → IsStartingTable v.limit P v.dictionary
 made_start P v s e h = subst (λ (t : Solver). IsStartingTable t.limit P t.dictionary) (sym e) h.starting
+
+-- a solver that can resume has rows that stand
+pub resumed_stands : (P : Program) (v s : Solver) → v ≡ s → CanResume P s → StandsFor P v.dictionary
+resumed_stands P v s e h = subst (λ (u : Solver). StandsFor P u.dictionary) (sym e) h.own
 
 -- ---- a new solver
 -- the limit, as it is read
@@ -69,7 +74,7 @@ module _ (limit : ℕ) (v : Solver) (sound : IsSound limit v) (t : Table) (w : L
   }
 
   -- with one
-  module _ (P : Program) (h : InSecond P t) where
+  module _ (P : Program) (h : StandsFor P t) where
     pub sound_optimal : IsSound limit (record { state = Optimal; dictionary = t; weights = w })
     sound_optimal = record {
       limit_is = el ∙ sound.limit_is;

@@ -3,7 +3,7 @@
 use Rattle.std.specs.Prelude.{◌≡◌, ℕ, ◌<◌, ◌+◌}
 use Rattle.rob_number.specs.declared.lp_kind.LpKind.{LpKind}
 use Rattle.rob_number.specs.declared.lp_kind.LpKind.TheVariants as kind
-use Rattle.rob_linear.specs.Vectors.{Matrix}
+use Rattle.rob_linear.specs.Vectors.{Matrix, Columns}
 use Rattle.rob_linear.specs.Systems.{IsBasis, IsPrimitive, EndsOptimal, EndsUnbounded}
 use Rattle.rob_linear.specs.Programs.{Program, system_of, auxiliary_of, ShowsEmpty, EndsInfeasible}
 use Rattle.rob_linear.specs.Turns.{own_of, Enters}
@@ -21,11 +21,15 @@ use Rattle.rob_simplex.specs.Solutions.{point_of, ray_of, dual_of, value_of, wei
 abbrev pub IsFresh : Solver → Type 0
 IsFresh s = (P : Program) × IsMadeFor P s
 
--- the point is the basic solution of the last basis on the program's path
-pub record IsLastPoint (P : Program) (s : Solver) : Type 0 where
-  pub last : Last P (columns_of s.basis)
+-- the point is the basic solution of the basis, and this is the last one of a path
+pub record IsPointAt (IsEnd : Columns → Type 0) (P : Program) (s : Solver) : Type 0 where
+  pub last : IsEnd (columns_of s.basis)
   pub basis : IsBasis (system_of P) (own_of (system_of P) (columns_of s.basis)) (entries s)
   pub basic : IsBasicPoint (system_of P) (own_of (system_of P) (columns_of s.basis)) (entries s) (point_of s)
+
+-- of the program's path
+abbrev pub IsLastPoint : Program → Solver → Type 0
+IsLastPoint P s = IsPointAt (Last P) P s
 
 -- the slack entries of an infeasible ending of the auxiliary form, at the last basis of the first phase, are the weights
 pub record IsFirstPhaseEnd (P : Program) (s : Solver) : Type 0 where
@@ -35,9 +39,9 @@ pub record IsFirstPhaseEnd (P : Program) (s : Solver) : Type 0 where
   pub weights_are : (i : ℕ) → i < P.m → rows P.m (P.n + i) ≡ weights_of s i
 
 -- the point is best, and the dual values show it
-pub record IsOptimumOf (P : Program) (s : Solver) : Type 0 where
+pub record IsOptimumAt (IsEnd : Columns → Type 0) (P : Program) (s : Solver) : Type 0 where
   pub state : HasOptimum s
-  pub point : IsLastPoint P s
+  pub point : IsPointAt IsEnd P s
   pub open point use *
   pub ends : EndsOptimal (system_of P) (entries s)
   pub scaled : IsScaled P.m (dual_of s) (entries s P.m (P.n + P.m)) (λ i. entries s P.m (P.n + i))
@@ -46,10 +50,14 @@ pub record IsOptimumOf (P : Program) (s : Solver) : Type 0 where
   pub value : objective_at P (point_of s) ≡ value_of s
   pub dual_value : dual_objective_at P (dual_of s) ≡ value_of s
 
+-- at the end of the program's path
+abbrev pub IsOptimumOf : Program → Solver → Type 0
+IsOptimumOf P s = IsOptimumAt (Last P) P s
+
 -- the point is feasible, and from it the ray leads to values as great as one likes
-pub record IsRayOf (P : Program) (s : Solver) : Type 0 where
+pub record IsRayAt (IsEnd : Columns → Type 0) (P : Program) (s : Solver) : Type 0 where
   pub state : HasRay s
-  pub point : IsLastPoint P s
+  pub point : IsPointAt IsEnd P s
   pub open point use *
   pub enters : Enters (system_of P) (entries s) (column_of s.state)
   pub ends : EndsUnbounded (system_of P) (own_of (system_of P) (columns_of s.basis)) (entries s) (column_of s.state)
@@ -57,6 +65,10 @@ pub record IsRayOf (P : Program) (s : Solver) : Type 0 where
   pub feasible : IsFeasible P (point_of s)
   pub improving : IsImprovingRay P (ray_of s)
   pub unbounded : IsUnbounded P
+
+-- at the end of the program's path
+abbrev pub IsRayOf : Program → Solver → Type 0
+IsRayOf P s = IsRayAt (Last P) P s
 
 -- no point is feasible, and the weights, which have no common divisor, show it
 pub record HasWeightsFor (P : Program) (s : Solver) : Type 0 where

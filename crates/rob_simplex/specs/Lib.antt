@@ -8,3 +8,5 @@ pub mod LowestTerms
 pub mod Solvers
 pub mod Solutions
 pub mod Endings
+pub mod Lowering
+pub mod Resuming

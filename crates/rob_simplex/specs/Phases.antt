@@ -1,7 +1,10 @@
 -- What a dictionary stands for on the path of a program.
 use Rattle.std.specs.Prelude.{◌≡◌, ℕ, ◌<◌, ◌≤◌, ◌+◌, ◌-◌, pos, ◌≤ℤ◌, Option, Some, None, Bool, true, false, set}
 use Rattle.rob_linear.specs.Programs.{Program, system_of, auxiliary_of}
-use Rattle.rob_linear.specs.Paths.{HasAuxiliary, Reached}
+use Rattle.rob_linear.specs.Vectors.{Columns}
+use Rattle.rob_linear.specs.Turns.{TurnsTo}
+use Rattle.rob_linear.specs.Paths.{HasAuxiliary, Reached, ReachedFrom}
+use Rattle.rob_linear.specs.WideRows.{IsWideIn}
 use Rattle.rob_linear.specs.Rank.{rank, rank_limit}
 use Rattle.rob_linear.specs.Multiples.{StandsMultiple}
 use Rattle.rob_linear.specs.Beside.{without_column, path_basis, HoldsBeside, IsBegun, beside_objective}
@@ -11,15 +14,20 @@ use Rattle.rob_simplex.specs.declared.second_phase.Turn.{Turn}
 use Rattle.rob_simplex.specs.declared.second_phase.Turn.TheVariants.{Optimal, Unbounded, Replaced}
 use Rattle.rob_simplex.specs.Dictionaries.{Table, positions, columns_of, rows_of, spare_column, sized, IsOpen, IsClosed, FirstNegative}
 
--- the rows are, up to positive factors, those of a basis on the program's path, without the auxiliary column
-pub record InSecond (P : Program) (t : Table) : Type 0 where
+-- the rows are, up to positive factors, those of a feasible basis of the program, without the auxiliary column
+pub record StandsFor (P : Program) (t : Table) : Type 0 where
   pub rows_are : positions t ≡ P.m
   pub columns_are : t.columns ≡ P.n
-  pub reached : Reached P (columns_of t.basis)
-  pub without : ¬ (HasAuxiliary P (columns_of t.basis))
   pub stands : StandsMultiple (system_of P) (columns_of t.basis) (without_column P (rows_of t))
   pub empty : (i : ℕ) → i ≤ P.m → rows_of t i (P.n + P.m) ≡ pos 0
   pub closed : IsClosed t
+
+-- and the basis is on the program's path
+pub record InSecond (P : Program) (t : Table) : Type 0 where
+  pub own : StandsFor P t
+  pub open own use *
+  pub reached : Reached P (columns_of t.basis)
+  pub without : ¬ (HasAuxiliary P (columns_of t.basis))
 
 -- the last basis: no column improves the objective, or this one does without limit
 abbrev pub EndsIn : Program → Option ℕ → Table → Type 0
@@ -36,11 +44,25 @@ rank_left n m t =
 abbrev pub turns_left : Table → ℕ
 turns_left t = rank_left t.columns (positions t) t
 
--- one turn has led from the first dictionary to the second, and less are left; or the path ends here
+-- one turn leads from the basis of the first dictionary to that of the second
+abbrev pub TurnsOn : Program → Table → Table → Type 0
+TurnsOn P t t' = TurnsTo (system_of P) (columns_of t.basis) (columns_of t'.basis)
+
+-- such a turn was made, and less are left; or the path ends here
 abbrev pub HasTurned : Program → Turn → Table → Table → Type 0
-HasTurned P Optimal t t' = InSecond P t' × EndsIn P None t'
-HasTurned P (Unbounded column) t t' = InSecond P t' × EndsIn P (Some column) t'
-HasTurned P Replaced t t' = InSecond P t' × (turns_left t' < turns_left t)
+HasTurned P Optimal t t' = (t' ≡ t) × EndsIn P None t'
+HasTurned P (Unbounded column) t t' = (t' ≡ t) × EndsIn P (Some column) t'
+HasTurned P Replaced t t' = StandsFor P t' × TurnsOn P t t' × (turns_left t' < turns_left t)
+
+-- such a turn was begun, and at its basis the row of that position is wide
+abbrev pub HasRefused : ℕ → Program → ℕ → Table → Table → Type 0
+HasRefused limit P i t t' = TurnsOn P t t' × IsWideIn limit (system_of P) (columns_of t'.basis) i
+
+-- turns have led from the basis of the first dictionary to that of the second, on which the path from there ends
+pub record EndsFrom (P : Program) (start : Columns) (ending : Option ℕ) (t : Table) : Type 0 where
+  pub own : StandsFor P t
+  pub reached : ReachedFrom P start (columns_of t.basis)
+  pub ends : EndsIn P ending t
 
 -- ---- the first phase beside the auxiliary column
 -- the path's basis is the dictionary's, with the auxiliary column at position q

@@ -3,6 +3,8 @@
 #![tactic(auto)]
 
 mod columns;
+mod copies;
+mod cost;
 mod dictionary;
 mod edits;
 mod entering;
@@ -10,6 +12,7 @@ mod entries;
 mod explicit_phase;
 mod first_phase;
 mod least_row;
+mod lowering;
 mod path;
 mod pivot;
 mod ratio_test;

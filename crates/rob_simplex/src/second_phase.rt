@@ -2,10 +2,10 @@
 
 ghost use Rattle.std.specs.Prelude.{◌≡◌, ◌≤◌, IfOk, IfErr, MatchResult};
 ghost use Rattle.rob_linear.specs.Programs.{Program};
-ghost use Rattle.rob_linear.specs.WideRows.{HasWideRow};
+ghost use Rattle.rob_linear.specs.WideRows.{HasWideRowFrom};
 ghost use Rattle.rob_simplex.specs.Dictionaries.{positions, columns_of};
 ghost use Rattle.rob_number.specs.Counts.{CountsWide};
-ghost use Rattle.rob_simplex.specs.Phases.{InSecond, EndsIn, HasTurned};
+ghost use Rattle.rob_simplex.specs.Phases.{StandsFor, HasTurned, HasRefused, EndsFrom};
 
 use crate::dictionary::Dictionary;
 use rob_number::Ledger;
@@ -25,10 +25,10 @@ impl Dictionary {
     // Makes the next turn, if there is one. After an `Err`, which names the first row that would be wide, the basis is the
     // next one and the rows are open.
     fn advance<L: Ledger>(&mut self, ledger: &mut L) -> Result<Turn, usize>
-        requires stands { (P : Program) × InSecond P self.old }
-        ensures turned { IfOk result (λ turn. (P : Program) → InSecond P self.old → HasTurned P turn self.old self.new) }
-        ensures wide { IfErr result (λ i. (P : Program) → InSecond P self.old
-            → HasWideRow self.old.limit P (columns_of self.new.basis) i) }
+        requires stands { (P : Program) × StandsFor P self.old }
+        ensures turned { IfOk result (λ turn. (P : Program) → StandsFor P self.old → HasTurned P turn self.old self.new) }
+        ensures wide { IfErr result (λ i. (P : Program) → StandsFor P self.old
+            → HasRefused self.old.limit P i self.old self.new) }
         ensures position { IfErr result (λ i. i ≤ positions self.old) }
         ensures positions { positions self.new ≡ positions self.old }
         ensures columns { self.new.columns ≡ self.old.columns }
@@ -49,14 +49,15 @@ impl Dictionary {
         }
     }
 
-    /// Turns until the path ends: with `None` where no column improves the objective, else with the column that improves it
-    /// without limit. An `Err` names the first row that would be wide at the basis that is then told.
+    /// Turns until the path from the basis that stands ends: with `None` where no column improves the objective, else
+    /// with the column that improves it without limit. An `Err` names the first row that would be wide at the basis
+    /// that is then told.
     pub fn improve<L: Ledger>(&mut self, ledger: &mut L) -> Result<Option<usize>, usize>
-        requires stands { (P : Program) × InSecond P self.old }
-        ensures told { (P : Program) → InSecond P self.old
+        requires stands { (P : Program) × StandsFor P self.old }
+        ensures told { (P : Program) → StandsFor P self.old
             → MatchResult result
-            (λ ending. InSecond P self.new × EndsIn P ending self.new)
-            (λ i. HasWideRow self.old.limit P (columns_of self.new.basis) i) }
+            (λ ending. EndsFrom P (columns_of self.old.basis) ending self.new)
+            (λ i. HasWideRowFrom self.old.limit P (columns_of self.old.basis) (columns_of self.new.basis) i) }
         ensures position { IfErr result (λ i. i ≤ positions self.old) }
         ensures positions { positions self.new ≡ positions self.old }
         ensures columns { self.new.columns ≡ self.old.columns }

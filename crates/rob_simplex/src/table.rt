@@ -18,8 +18,8 @@ pub struct Place {
     pub limit: u64,
 }
 
-// Row i is cleared of its entry at the place, which is not 0.
-fn clear_row(
+/// Row i is cleared of its entry at the place.
+pub fn clear_row(
     rows: &mut [i64],
     bounds: &mut [u64],
     pivot_row: &mut PivotRow,

@@ -5,10 +5,13 @@ ghost use Rattle.rob_algebra.specs.Fraction.{of_pair};
 ghost use Rattle.rob_rows.specs.LinearPrograms.{IsShaped, HasNumbersWithin, program_of};
 ghost use Rattle.rob_simplex.specs.Solvers.{positions, HasPoint, HasOptimum, HasRay, HasWeights, column_of, IsMadeFor};
 ghost use Rattle.rob_simplex.specs.Solutions.{point_of, ray_of, dual_of, value_of, weights_of};
-ghost use Rattle.rob_linear.specs.Programs.{Program};
+ghost use Rattle.rob_linear.specs.Vectors.{at};
+ghost use Rattle.rob_rows.specs.PrimitiveParts.{IsWithin};
+ghost use Rattle.rob_linear.specs.Programs.{Program, with_cost};
 ghost use Rattle.rob_number.specs.Counts.{CountsWide};
 ghost use Rattle.rob_simplex.specs.Dictionaries.{width_of, columns_of, rows_of};
 ghost use Rattle.rob_simplex.specs.Endings.{IsFresh, HasAnswered, HasSolved, HasStopped};
+ghost use Rattle.rob_simplex.specs.Resuming.{CanResume, HasResumed, HasStoppedFrom};
 
 use crate::dictionary::Dictionary;
 use crate::path::Ending;
@@ -64,6 +67,8 @@ impl<N: Exact> Work<N> {
         ensures solved { (P : Program) → IsMadeFor P self.old
             → MatchResult result (λ kind. HasSolved P kind self.new) (λ stop. HasStopped N.limit P stop self.new) }
         ensures answered { IfOk result (λ kind. HasAnswered kind self.new) }
+        ensures resumable { (P : Program) → IsMadeFor P self.old
+            → IfOk result (λ kind. HasPoint self.new → CanResume P self.new) }
         ensures columns { self.new.columns ≡ self.old.columns }
         ensures positions { positions self.new ≡ positions self.old }
         ensures counted { CountsWide L.ops L.wides ledger.old ledger.new result }
@@ -88,6 +93,54 @@ impl<N: Exact> Work<N> {
                 Err(LpStop::Wide(i as u32))
             }
         }
+    }
+
+    /// The status with `cost` in place of the program's cost, from the dictionary that stands: one number for each
+    /// structural column, in their order. The last call answered `Optimal` or `Unbounded`, or was `set_to` a solver
+    /// whose last call did. It takes no memory. After a stop only `basis` may be called; its cause may be a stage of
+    /// the objective's row, which is made as the cost is put on.
+    pub fn resume<L: Ledger>(&mut self, cost: &[i64], ledger: &mut L) -> Result<LpKind, LpStop>
+        requires stands { (P : Program) × CanResume P self.old }
+        requires size { length cost.now ≡ self.old.columns }
+        requires within { IsWithin N.limit cost.now }
+        ensures resumed { (P : Program) → CanResume P self.old → MatchResult result
+            (λ kind. HasResumed (with_cost P (at cost.now)) (columns_of self.old.basis) kind self.new)
+            (λ stop. HasStoppedFrom N.limit (with_cost P (at cost.now)) (columns_of self.old.basis) stop self.new) }
+        ensures answered { IfOk result (λ kind. HasAnswered kind self.new) }
+        ensures resumable { (P : Program) → CanResume P self.old
+            → IfOk result (λ kind. CanResume (with_cost P (at cost.now)) self.new) }
+        ensures columns { self.new.columns ≡ self.old.columns }
+        ensures positions { positions self.new ≡ positions self.old }
+        ensures counted { CountsWide L.ops L.wides ledger.old ledger.new result }
+    {
+        match self.dictionary.go_on(cost, ledger) {
+            Ok(None) => {
+                self.state = State::Optimal;
+                Ok(LpKind::Optimal)
+            }
+            Ok(Some(column)) => {
+                self.state = State::Unbounded(column);
+                Ok(LpKind::Unbounded)
+            }
+            Err(row) => {
+                self.state = State::Stopped;
+                Err(LpStop::Wide(row as u32))
+            }
+        }
+    }
+
+    /// Afterwards this solver stands as the other one does: every call on it answers what it answers on the other. Both
+    /// were made of programs of one size. It takes no memory.
+    pub fn set_to(&mut self, other: &Work<N>)
+        requires columns { self.old.columns ≡ other.now.columns }
+        requires positions { positions self.old ≡ positions other.now }
+        ensures same { self.new ≡ other.now }
+    {
+        self.state = other.state;
+        self.dictionary.copy_from(&other.dictionary);
+        self.weights
+            .as_mut_slice()
+            .copy_from_slice(other.weights.as_slice());
     }
 
     /// The basic column of a position, counted from 0: structural columns first, then the slack columns, then the

@@ -1,20 +1,38 @@
-use Rattle.std.proofs.Common.{◌≡◌, ◌≤◌, ◌<◌, ℕ, ◌∙◌, subst, arith}
-use Rattle.rob_linear.specs.WideRows.{HasWideRow}
+use Rattle.std.proofs.Common.{◌∙◌, refl, subst, arith, Some, None}
+use Rattle.rob_linear.specs.WideRows.{HasWideRowFrom}
 use Rattle.rob_simplex.specs.Dictionaries.{columns_of}
 use Rattle.rob_simplex.specs.Phases.{HasTurned}
+use Rattle.rob_simplex.proofs.PathsFrom.{from_here, one_turn, ends_from, refused_from}
 use Rattle.rob_simplex.proofs.dictionary.Dictionary.improve.Goals as goal
 
 pub returns-in-Ok-Optimal-clause-told : goal.returns-in-Ok-Optimal-clause-told
 returns-in-Ok-Optimal-clause-told g c P h =
-    subst (λ v. HasTurned P v c.turns.self c.advance.new.self) c.in-Ok-Optimal.field-0-is (c.in-Ok-Optimal.ensures.turned P (c.turns.invariant.stands P h))
+    let i = c.turns.invariant.stands P h in
+    let told = subst (λ v. HasTurned P v c.turns.self c.advance.new.self) c.in-Ok-Optimal.field-0-is (c.in-Ok-Optimal.ensures.turned P i.0) in
+    ends_from P (columns_of c.args.self.now.basis) None c.turns.self c.advance.new.self i.0 i.1 told.0 told.1
 
 pub returns-in-Ok-Unbounded-clause-told : goal.returns-in-Ok-Unbounded-clause-told
 returns-in-Ok-Unbounded-clause-told g c P h =
-    subst (λ v. HasTurned P v c.turns.self c.advance.new.self) c.in-Ok-Unbounded.field-0-is (c.in-Ok-Unbounded.ensures.turned P (c.turns.invariant.stands P h))
+    let i = c.turns.invariant.stands P h in
+    let told = subst (λ v. HasTurned P v c.turns.self c.advance.new.self) c.in-Ok-Unbounded.field-0-is (c.in-Ok-Unbounded.ensures.turned P i.0) in
+    ends_from P (columns_of c.args.self.now.basis) (Some c.in-Ok-Unbounded.column) c.turns.self c.advance.new.self i.0 i.1 told.0 told.1
+
+pub turns-init : goal.turns-init
+turns-init g c = record {
+  stands = λ P h. (h, from_here P c.args.self.now h);
+  positions = refl;
+  columns = refl;
+  limit = refl;
+  ops = omega arith;
+  wides = refl;
+}
 
 pub turns-preserved : goal.turns-preserved
 turns-preserved g c = record {
-  stands = λ P h. (subst (λ v. HasTurned P v c.turns.self c.advance.new.self) c.in-Ok-Replaced.field-0-is (c.in-Ok-Replaced.ensures.turned P (c.turns.invariant.stands P h))).0;
+  stands = λ P h.
+      let i = c.turns.invariant.stands P h in
+      let told = subst (λ v. HasTurned P v c.turns.self c.advance.new.self) c.in-Ok-Replaced.field-0-is (c.in-Ok-Replaced.ensures.turned P i.0) in
+      (told.0, one_turn P (columns_of c.args.self.now.basis) c.turns.self c.advance.new.self i.1 told.1);
   positions = c.advance.ensures.positions ∙ c.turns.invariant.positions;
   columns = c.advance.ensures.columns ∙ c.turns.invariant.columns;
   limit = c.advance.ensures.limit ∙ c.turns.invariant.limit;
@@ -25,8 +43,10 @@ turns-preserved g c = record {
 pub turns-smaller : goal.turns-smaller
 turns-smaller g c =
     (subst (λ v. HasTurned c.requires.stands.0 v c.turns.self c.advance.new.self) c.in-Ok-Replaced.field-0-is
-    (c.in-Ok-Replaced.ensures.turned c.requires.stands.0 (c.turns.invariant.stands c.requires.stands.0 c.requires.stands.1))).1
+    (c.in-Ok-Replaced.ensures.turned c.requires.stands.0 (c.turns.invariant.stands c.requires.stands.0 c.requires.stands.1).0)).2
 
 pub returns-in-Err-clause-told : goal.returns-in-Err-clause-told
 returns-in-Err-clause-told g c P h =
-    subst (λ l. HasWideRow l P (columns_of c.advance.new.self.basis) c.in-Err.i) c.turns.invariant.limit (c.in-Err.ensures.wide P (c.turns.invariant.stands P h))
+    let i = c.turns.invariant.stands P h in
+    subst (λ l. HasWideRowFrom l P (columns_of c.args.self.now.basis) (columns_of c.advance.new.self.basis) c.in-Err.i) c.turns.invariant.limit
+    (refused_from c.turns.self.limit P (columns_of c.args.self.now.basis) c.turns.self c.advance.new.self c.in-Err.i i.1 (c.in-Err.ensures.wide P i.0))

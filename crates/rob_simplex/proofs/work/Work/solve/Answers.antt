@@ -20,14 +20,14 @@ invariant_of-self g c =
     let v : Solver = record { state = c.self.inside.state; dictionary = c.self.inside.dictionary; weights = c.self.inside.weights.items } in
     let P = c.requires.fresh.0 in
     let told = subst (λ e. PathEnds P e c.follow.new.self) c.in-Ok-Optimal.field-0-is (c.in-Ok-Optimal.ensures.told P (made_start P v c.args.self.now c.self.view_is c.requires.fresh.1)) in
-    sound_optimal g.N.Exact.limit v c.self.invariant c.follow.new.self c.self.inside.weights.items c.follow.ensures.limit c.follow.ensures.columns c.follow.ensures.positions c.self.invariant.weights_size c.self.invariant.weights_within P told.0
+    sound_optimal g.N.Exact.limit v c.self.invariant c.follow.new.self c.self.inside.weights.items c.follow.ensures.limit c.follow.ensures.columns c.follow.ensures.positions c.self.invariant.weights_size c.self.invariant.weights_within P told.0.own
 
 pub invariant_of-self-in-Ok-Unbounded : goal.invariant_of-self-in-Ok-Unbounded
 invariant_of-self-in-Ok-Unbounded g c =
     let v : Solver = record { state = c.self.inside.state; dictionary = c.self.inside.dictionary; weights = c.self.inside.weights.items } in
     let P = c.requires.fresh.0 in
     let told = subst (λ e. PathEnds P e c.follow.new.self) c.in-Ok-Unbounded.field-0-is (c.in-Ok-Unbounded.ensures.told P (made_start P v c.args.self.now c.self.view_is c.requires.fresh.1)) in
-    sound_unbounded g.N.Exact.limit v c.self.invariant c.follow.new.self c.self.inside.weights.items c.follow.ensures.limit c.follow.ensures.columns c.follow.ensures.positions c.self.invariant.weights_size c.self.invariant.weights_within P told.0 c.in-Ok-Unbounded.column told.1.0.inside
+    sound_unbounded g.N.Exact.limit v c.self.invariant c.follow.new.self c.self.inside.weights.items c.follow.ensures.limit c.follow.ensures.columns c.follow.ensures.positions c.self.invariant.weights_size c.self.invariant.weights_within P told.0.own c.in-Ok-Unbounded.column told.1.0.inside
 
 pub returns-in-Ok-Optimal-clause-solved : goal.returns-in-Ok-Optimal-clause-solved
 returns-in-Ok-Optimal-clause-solved g c P h =
@@ -81,3 +81,18 @@ invariant_of-self-in-Err g c =
 
 pub overflow_cast-result : goal.overflow_cast-result
 overflow_cast-result g c = omega (arith, c.in-Err.ensures.position, c.self.invariant.few)
+
+pub returns-in-Ok-Optimal-clause-resumable : goal.returns-in-Ok-Optimal-clause-resumable
+returns-in-Ok-Optimal-clause-resumable g c P h p =
+    let v : Solver = record { state = c.self.inside.state; dictionary = c.self.inside.dictionary; weights = c.self.inside.weights.items } in
+    let told = subst (λ e. PathEnds P e c.follow.new.self) c.in-Ok-Optimal.field-0-is (c.in-Ok-Optimal.ensures.told P (made_start P v c.args.self.now c.self.view_is h)) in
+    record { point = p; own = told.0.own }
+
+pub returns-in-Ok-Unbounded-clause-resumable : goal.returns-in-Ok-Unbounded-clause-resumable
+returns-in-Ok-Unbounded-clause-resumable g c P h p =
+    let v : Solver = record { state = c.self.inside.state; dictionary = c.self.inside.dictionary; weights = c.self.inside.weights.items } in
+    let told = subst (λ e. PathEnds P e c.follow.new.self) c.in-Ok-Unbounded.field-0-is (c.in-Ok-Unbounded.ensures.told P (made_start P v c.args.self.now c.self.view_is h)) in
+    record { point = p; own = told.0.own }
+
+pub returns-in-Ok-Infeasible-clause-resumable : goal.returns-in-Ok-Infeasible-clause-resumable
+returns-in-Ok-Infeasible-clause-resumable g c P h p = absurd p

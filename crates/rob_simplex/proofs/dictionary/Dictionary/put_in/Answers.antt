@@ -1,0 +1,55 @@
+use Rattle.std.proofs.Common.{◌≡◌, ◌∙◌, ap, sym, subst, arith, OnOk, OnErr, to_z, of_z, w64}
+use Rattle.std.proofs.lemmas.Result.{on_ok_weaker, on_err_weaker}
+use Rattle.std.proofs.lemmas.Int.{to_z-of_z}
+use lib.IntN.{ℤ, pos}
+use Rattle.rob_linear.specs.Stages.{truncated}
+use Rattle.rob_simplex.specs.Dictionaries.{positions, width_of, rows_of}
+use Rattle.rob_simplex.specs.Lowering.{IsLowered, IsWideLowered, amount_of}
+use Rattle.rob_simplex.proofs.Positions.{position_is, position_not}
+use Rattle.rob_simplex.proofs.FreeColumns.{way_free, way_zero, column_free}
+use Rattle.rob_simplex.proofs.NewCosts.{nothing_put}
+use Rattle.rob_simplex.proofs.CostStages.{half_wide, next_lowered}
+use Rattle.rob_simplex.proofs.dictionary.Dictionary.put_in.Goals as goal
+
+pub lower-requires-clause-free : goal.lower-requires-clause-free
+lower-requires-clause-free g c =
+    column_free (truncated c.requires.stands.0 c.args.column) c.args.self.now c.requires.stands.1 c.args.column c.requires.column_in (position_not c.args.self.now.basis c.args.column c.in-None.ensures.position)
+
+pub lower-requires-clause-way : goal.lower-requires-clause-way
+lower-requires-clause-way g c = way_free (truncated c.requires.stands.0 c.args.column) c.args.self.now c.requires.stands.1
+
+pub lower-requires-clause-zero : goal.lower-requires-clause-zero
+lower-requires-clause-zero g c = way_zero (truncated c.requires.stands.0 c.args.column) c.args.self.now c.requires.stands.1
+
+pub put_in_basic-requires-clause-basic : goal.put_in_basic-requires-clause-basic
+put_in_basic-requires-clause-basic g c = position_is c.args.self.now.basis c.args.column c.in-Some.i c.in-Some.ensures.position
+
+pub returns-then-factor-eq0-clause-put : goal.returns-then-factor-eq0-clause-put
+returns-then-factor-eq0-clause-put g c P ef h =
+    let zero : c.args.factor ≡ pos 0 = sym (to_z-of_z w64 c.args.factor c.ranges.factor) ∙ ap (to_z w64) c.if-factor-eq0.true in
+    nothing_put P c.args.column (omega (arith, c.requires.column_in, h.columns_are)) c.args.self.now h (ef ∙ zero)
+
+pub returns-in-None-clause-put : goal.returns-in-None-clause-put
+returns-in-None-clause-put g c P ef h =
+    let seen : to_z w64 (of_z w64 c.args.factor) ≡ c.args.factor = to_z-of_z w64 c.args.factor c.ranges.factor in
+    on_ok_weaker c.lower.result
+    (next_lowered P c.args.column (omega (arith, c.requires.column_in, h.columns_are)) c.args.self.now h c.args.factor ef c.lower.new.self c.lower.ensures.basis c.lower.ensures.columns
+    (position_not c.args.self.now.basis c.args.column c.in-None.ensures.position) c.lower.ensures.rows)
+    (subst (λ (z : ℤ). OnOk c.lower.result (IsLowered (width_of c.args.self.now) c.args.column (amount_of c.args.self.now z) (rows_of c.args.self.now (positions c.args.self.now)) (rows_of c.lower.new.self (positions c.args.self.now)))) seen
+    c.lower.ensures.lowered)
+
+pub returns-in-None-clause-wide : goal.returns-in-None-clause-wide
+returns-in-None-clause-wide g c P ef h =
+    let seen : to_z w64 (of_z w64 c.args.factor) ≡ c.args.factor = to_z-of_z w64 c.args.factor c.ranges.factor in
+    on_err_weaker c.lower.result (half_wide P c.args.column (omega (arith, c.requires.column_in, h.columns_are)) c.args.self.now h c.args.self.now.limit c.args.factor ef)
+    (subst (λ (z : ℤ). OnErr c.lower.result (IsWideLowered c.args.self.now.limit (width_of c.args.self.now) c.args.column (amount_of c.args.self.now z) (rows_of c.args.self.now (positions c.args.self.now)))) seen c.lower.ensures.wide)
+
+pub returns-in-Some-clause-put : goal.returns-in-Some-clause-put
+returns-in-Some-clause-put g c P ef h =
+    let seen : to_z w64 (of_z w64 c.args.factor) ≡ c.args.factor = to_z-of_z w64 c.args.factor c.ranges.factor in
+    c.put_in_basic.ensures.put P (ef ∙ sym seen) h
+
+pub returns-in-Some-clause-wide : goal.returns-in-Some-clause-wide
+returns-in-Some-clause-wide g c P ef h =
+    let seen : to_z w64 (of_z w64 c.args.factor) ≡ c.args.factor = to_z-of_z w64 c.args.factor c.ranges.factor in
+    c.put_in_basic.ensures.wide P (ef ∙ sym seen) h

@@ -1,0 +1,48 @@
+-- A row that loses an amount in one column: how the cost of a column is put into the objective's row.
+use Rattle.std.specs.Prelude.{◌≡◌, ◌≢◌, ◌⊎◌, ℕ, suc, ◌+◌, ◌<◌, nat_eq, cond, ℤ, pos, ◌-ℤ◌, ◌*ℤ◌, ◌<ℤ◌}
+use Rattle.std.specs.Int.RustNames.{unsigned_abs}
+use Rattle.rob_linear.specs.Vectors.{Vector}
+use Rattle.rob_linear.specs.Systems.{IsPrimitive}
+use Rattle.rob_linear.specs.Stages.{unit_row}
+use Rattle.rob_linear.specs.Multiples.{IsClearedBy}
+use Rattle.rob_rows.specs.Updates.{IsWideCleared}
+use Rattle.rob_simplex.specs.Dictionaries.{Table, positions, width_of, rows_of}
+
+-- the amount is subtracted in that column, up to a positive factor
+pub record IsLowered (n column : ℕ) (amount : ℤ) (row new : Vector) : Type 0 where
+  pub divisor : ℤ
+  pub p : ℤ
+  pub divides : pos 0 <ℤ divisor
+  pub positive : pos 0 <ℤ p
+  pub entries : (k : ℕ) → k < n → divisor *ℤ new k ≡ p *ℤ (row k -ℤ (amount *ℤ unit_row column k))
+
+-- what the row becomes, in lowest terms, has an entry over the limit
+abbrev pub IsWideLowered : ℕ → ℕ → ℕ → ℤ → Vector → Type 0
+IsWideLowered limit n column amount row =
+    (new : Vector) × IsLowered n column amount row new × IsPrimitive n new
+    × ((k : ℕ) × (k < n) × (limit < unsigned_abs (new k)))
+
+-- the row that subtracts: 1 at one place, a number at another, and 0 elsewhere
+abbrev pub step_row : ℕ → ℕ → ℤ → Vector
+step_row one place number k = cond (nat_eq k one) (pos 1) (cond (nat_eq k place) number (pos 0))
+
+-- what is subtracted in the objective's row for the cost of a column: that many times the objective's entry
+abbrev pub amount_of : Table → ℤ → ℤ
+amount_of t factor = factor *ℤ rows_of t (positions t) (suc (t.columns + positions t))
+
+-- it was subtracted in a column, and then the row of position i, which stays, has cleared the column in all others
+pub record HasCleared (t t' : Table) (i column : ℕ) (factor : ℤ) : Type 0 where
+  pub half : Vector
+  pub lowered : IsLowered (width_of t) column (amount_of t factor) (rows_of t (positions t)) half
+  pub objective : IsClearedBy (width_of t) column half (rows_of t i) (rows_of t' (positions t))
+  pub row_stays : (c : ℕ) → c < width_of t → rows_of t' i c ≡ rows_of t i c
+  pub others :
+      (k : ℕ) → k < positions t → k ≢ i
+      → IsClearedBy (width_of t) column (rows_of t k) (rows_of t i) (rows_of t' k)
+
+-- one of the two rows that the objective's would become is wide
+abbrev pub HasRefusedCost : ℕ → Table → ℕ → ℕ → ℤ → Type 0
+HasRefusedCost limit t i column factor =
+    IsWideLowered limit (width_of t) column (amount_of t factor) (rows_of t (positions t))
+    ⊎ ((half : Vector) × IsLowered (width_of t) column (amount_of t factor) (rows_of t (positions t)) half
+    × IsWideCleared limit (width_of t) column half (rows_of t i))

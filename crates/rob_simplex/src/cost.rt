@@ -1,0 +1,223 @@
+// A new cost, put on a dictionary that stands, column by column.
+
+ghost use Rattle.std.specs.Prelude.{◌≡◌, ◌≢◌, ◌<◌, ◌≤◌, ◌+◌, ◌^◌, ◌<ℤ◌, ◌*ℤ◌, ℕ, suc, pos, nat_abs, length, OnOk, OnErr, IfErr, MatchResult};
+ghost use Rattle.rob_linear.specs.Vectors.{at};
+ghost use Rattle.rob_linear.specs.Programs.{Program, with_cost};
+ghost use Rattle.rob_linear.specs.Stages.{truncated, unit_row};
+ghost use Rattle.rob_linear.specs.WideRows.{IsOwnWideAt, HasWideRowFrom};
+ghost use Rattle.rob_number.specs.Counts.{CountsWide};
+ghost use Rattle.rob_rows.specs.PrimitiveParts.{IsWithin};
+ghost use Rattle.rob_simplex.specs.Dictionaries.{positions, width_of, columns_of, rows_of, IsFree, IsOpen, IsAlone};
+ghost use Rattle.rob_simplex.specs.Lowering.{IsLowered, IsWideLowered, amount_of, HasCleared, HasRefusedCost};
+ghost use Rattle.rob_simplex.specs.Phases.{StandsFor, EndsFrom};
+
+use crate::dictionary::Dictionary;
+use crate::lowering::{Lowering, Step, lower_row, write_step};
+use rob_number::{Ledger, Wide};
+
+impl Dictionary {
+    // Makes the objective's row that of the cost 0: 1 in its own column, and 0 elsewhere.
+    fn drop_cost(&mut self)
+        ensures objective { (c : ℕ) → c < width_of self.old
+            → rows_of self.new (positions self.old) c ≡ unit_row (suc (self.old.columns + positions self.old)) c }
+        ensures rows { (i c : ℕ) → i < positions self.old → rows_of self.new i c ≡ rows_of self.old i c }
+        ensures basis { self.new.basis ≡ self.old.basis }
+        ensures columns { self.new.columns ≡ self.old.columns }
+        ensures limit { self.new.limit ≡ self.old.limit }
+        ensures bound { self.new.limit < 2 ^ 62 }
+    {
+        let n = self.columns;
+        let step = Step {
+            one: n + 3,
+            place: n + 3,
+            number: 1,
+        };
+        let m = self.basis.len();
+        write_step(
+            self.rows.as_mut_slice(),
+            self.bounds.as_mut_slice(),
+            m,
+            step,
+            n,
+            self.limit,
+        );
+    }
+
+    // Takes the factor times the objective's entry off the entry of a column that is not basic, in the objective's row.
+    // `Wide` where that row in lowest terms then has an entry over the limit; the row is then open.
+    fn lower(&mut self, column: usize, factor: i64) -> Result<(), Wide>
+        requires free { IsFree self.old.columns self.old.basis column }
+        requires way { IsFree self.old.columns self.old.basis (self.old.columns + positions self.old) }
+        requires other { column ≢ self.old.columns + positions self.old }
+        requires factor { nat_abs factor ≤ self.old.limit }
+        requires zero { rows_of self.old (positions self.old) (self.old.columns + positions self.old) ≡ pos 0 }
+        ensures lowered { OnOk result (IsLowered (width_of self.old) column
+            (amount_of self.old factor) (rows_of self.old (positions self.old))
+            (rows_of self.new (positions self.old))) }
+        ensures wide { OnErr result (IsWideLowered self.old.limit (width_of self.old) column
+            (amount_of self.old factor) (rows_of self.old (positions self.old))) }
+        ensures rows { (i c : ℕ) → i < positions self.old → rows_of self.new i c ≡ rows_of self.old i c }
+        ensures basis { self.new.basis ≡ self.old.basis }
+        ensures columns { self.new.columns ≡ self.old.columns }
+        ensures limit { self.new.limit ≡ self.old.limit }
+    {
+        let m = self.basis.len();
+        let place = self.places[column];
+        let way = self.places[self.columns + m];
+        let there = Lowering {
+            row: m,
+            place,
+            way,
+            n: self.columns,
+            limit: self.limit,
+        };
+        lower_row(
+            self.rows.as_mut_slice(),
+            self.bounds.as_mut_slice(),
+            &mut self.pivot_row,
+            there,
+            factor,
+        )
+    }
+
+    // The same for a column that stands open at the position i, whose row then clears it in the objective's.
+    fn lower_and_clear<L: Ledger>(
+        &mut self,
+        i: usize,
+        column: usize,
+        factor: i64,
+        ledger: &mut L,
+    ) -> Result<(), Wide>
+        requires row_in { i < positions self.old }
+        requires free { IsFree self.old.columns self.old.basis column }
+        requires way { IsFree self.old.columns self.old.basis (self.old.columns + positions self.old) }
+        requires other { column ≢ self.old.columns + positions self.old }
+        requires open { IsOpen self.old i }
+        requires positive { pos 0 <ℤ rows_of self.old i column }
+        requires alone { IsAlone self.old i column }
+        requires zero { rows_of self.old (positions self.old) (self.old.columns + positions self.old) ≡ pos 0 }
+        requires small { (k c : ℕ) → k ≤ positions self.old → nat_abs (rows_of self.old k c) ≤ self.old.limit }
+        requires factor { nat_abs factor ≤ self.old.limit }
+        ensures cleared { OnOk result (HasCleared self.old self.new i column factor) }
+        ensures wide { OnErr result (HasRefusedCost self.old.limit self.old i column factor) }
+        ensures basis { self.new.basis ≡ self.old.basis }
+        ensures columns { self.new.columns ≡ self.old.columns }
+        ensures limit { self.new.limit ≡ self.old.limit }
+        ensures ops { L.ops ledger.old ≤ L.ops ledger.new }
+        ensures wides { L.wides ledger.new ≡ L.wides ledger.old }
+    {
+        self.lower(column, factor)?;
+        let count = self.basis.len() + 1;
+        match self.clear_others(i, column, count, ledger) {
+            Ok(()) => Ok(()),
+            Err(_) => Err(Wide),
+        }
+    }
+
+    // Puts in the cost of a column that is basic at position i.
+    fn put_in_basic<L: Ledger>(
+        &mut self,
+        i: usize,
+        column: usize,
+        factor: i64,
+        ledger: &mut L,
+    ) -> Result<(), Wide>
+        requires stands { (P : Program) × StandsFor (truncated P column) self.old }
+        requires column_in { column < self.old.columns }
+        requires basic { (i < positions self.old) × (columns_of self.old.basis i ≡ column) }
+        requires factor { nat_abs factor ≤ self.old.limit }
+        ensures put { (P : Program) → P.c column ≡ factor → StandsFor (truncated P column) self.old
+            → OnOk result (StandsFor (truncated P (suc column)) self.new) }
+        ensures wide { (P : Program) → P.c column ≡ factor → StandsFor (truncated P column) self.old
+            → OnErr result (IsOwnWideAt self.old.limit P (columns_of self.old.basis) P.m) }
+        ensures basis { self.new.basis ≡ self.old.basis }
+        ensures columns { self.new.columns ≡ self.old.columns }
+        ensures limit { self.new.limit ≡ self.old.limit }
+        ensures ops { L.ops ledger.old ≤ L.ops ledger.new }
+        ensures wides { L.wides ledger.new ≡ L.wides ledger.old }
+    {
+        let spare = self.columns + self.basis.len() + 3;
+        self.replace(i, spare);
+        let cleared = self.lower_and_clear(i, column, factor, ledger);
+        self.replace(i, column);
+        cleared
+    }
+
+    // Puts in the cost of a column: the objective's row goes from the stage of the columns before it to the next.
+    // `Wide` where a stage is wide; the rows are then open.
+    fn put_in<L: Ledger>(&mut self, column: usize, factor: i64, ledger: &mut L) -> Result<(), Wide>
+        requires stands { (P : Program) × StandsFor (truncated P column) self.old }
+        requires column_in { column < self.old.columns }
+        requires factor { nat_abs factor ≤ self.old.limit }
+        ensures put { (P : Program) → P.c column ≡ factor → StandsFor (truncated P column) self.old
+            → OnOk result (StandsFor (truncated P (suc column)) self.new) }
+        ensures wide { (P : Program) → P.c column ≡ factor → StandsFor (truncated P column) self.old
+            → OnErr result (IsOwnWideAt self.old.limit P (columns_of self.old.basis) P.m) }
+        ensures basis { self.new.basis ≡ self.old.basis }
+        ensures columns { self.new.columns ≡ self.old.columns }
+        ensures limit { self.new.limit ≡ self.old.limit }
+        ensures ops { L.ops ledger.old ≤ L.ops ledger.new }
+        ensures wides { L.wides ledger.new ≡ L.wides ledger.old }
+    {
+        if factor == 0 {
+            return Ok(());
+        }
+        match self.position_of(column) {
+            None => self.lower(column, factor),
+            Some(i) => self.put_in_basic(i, column, factor, ledger),
+        }
+    }
+
+    // Puts the cost on the dictionary in place of the one that it has. `Wide` where a stage of the objective's row is
+    // wide; the rows are then open.
+    fn put_on<L: Ledger>(&mut self, cost: &[i64], ledger: &mut L) -> Result<(), Wide>
+        requires stands { (P : Program) × StandsFor P self.old }
+        requires size { length cost.now ≡ self.old.columns }
+        requires within { IsWithin self.old.limit cost.now }
+        ensures put { (P : Program) → StandsFor P self.old
+            → OnOk result (StandsFor (with_cost P (at cost.now)) self.new) }
+        ensures wide { (P : Program) → StandsFor P self.old
+            → OnErr result (IsOwnWideAt self.old.limit (with_cost P (at cost.now)) (columns_of self.old.basis) P.m) }
+        ensures basis { self.new.basis ≡ self.old.basis }
+        ensures columns { self.new.columns ≡ self.old.columns }
+        ensures limit { self.new.limit ≡ self.old.limit }
+        ensures ops { L.ops ledger.old ≤ L.ops ledger.new }
+        ensures wides { L.wides ledger.new ≡ L.wides ledger.old }
+    {
+        self.drop_cost();
+        for k in 0..cost.len() {
+            match self.put_in(k, cost[k], ledger) {
+                Ok(()) => {}
+                Err(_) => return Err(Wide),
+            }
+        }
+        Ok(())
+    }
+
+    /// Puts the cost on the dictionary, and turns until the path from the basis that stands ends: with `None` where no
+    /// column improves the objective, else with the column that improves it without limit. An `Err` names the first row
+    /// that would be wide at the basis that is then told, where the cost was being put on the objective's.
+    pub fn go_on<L: Ledger>(&mut self, cost: &[i64], ledger: &mut L) -> Result<Option<usize>, usize>
+        requires stands { (P : Program) × StandsFor P self.old }
+        requires size { length cost.now ≡ self.old.columns }
+        requires within { IsWithin self.old.limit cost.now }
+        ensures told { (P : Program) → StandsFor P self.old
+            → MatchResult result
+            (λ ending. EndsFrom (with_cost P (at cost.now)) (columns_of self.old.basis) ending self.new)
+            (λ i. HasWideRowFrom self.old.limit (with_cost P (at cost.now)) (columns_of self.old.basis)
+            (columns_of self.new.basis) i) }
+        ensures position { IfErr result (λ i. i ≤ positions self.old) }
+        ensures positions { positions self.new ≡ positions self.old }
+        ensures columns { self.new.columns ≡ self.old.columns }
+        ensures limit { self.new.limit ≡ self.old.limit }
+        ensures counted { CountsWide L.ops L.wides ledger.old ledger.new result }
+    {
+        match self.put_on(cost, ledger) {
+            Ok(()) => self.improve(ledger),
+            Err(_) => {
+                ledger.wide();
+                Err(self.basis.len())
+            }
+        }
+    }
+}
