@@ -4,13 +4,13 @@
 
 mod certificate;
 mod counterpart;
-mod entries;
+pub mod entries;
 pub mod laws;
-mod reading;
+pub mod reading;
 mod route;
 mod scenario;
-mod stop;
-mod told;
+pub mod stop;
+pub mod told;
 
 pub use counterpart::reform;
 pub use route::solve_dual;
