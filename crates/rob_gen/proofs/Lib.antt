@@ -1,0 +1,5 @@
+pub mod ListLemmas
+pub mod NumberLemmas
+pub mod TreeLemmas
+pub mod MadeLemmas
+pub mod GeneratedLemmas

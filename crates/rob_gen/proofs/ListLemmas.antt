@@ -1,0 +1,35 @@
+-- Loops that make the items of the first places, one after another.
+use Rattle.std.proofs.Common.{◌≡◌, ℕ, ◌+◌, List, [], ◌∷◌, ◌++◌, map, refl, ap, sym, ◌∙◌, add-one, append_assoc}
+use Rattle.rob_meaning.specs.Places.{tabulate}
+use Rattle.rob_meaning.proofs.TabulateLemmas.{tabulate-more}
+
+-- the items of one place more
+pub tabulate_next : {A : Type 0} (f : ℕ → A) (k : ℕ) → tabulate k f ++ f k ∷ [] ≡ tabulate (k + 1) f
+tabulate_next f k = sym (tabulate-more k f) ∙ ap (λ n. tabulate n f) (sym (add-one k))
+
+-- one item more of a list that is made as it stands
+pub item_more : {A : Type 0} (f : ℕ → A) (list : List A) (y : A) (k : ℕ) {new : List A}
+    → new ≡ list ++ y ∷ [] → y ≡ f k → list ≡ tabulate k f → new ≡ tabulate (k + 1) f
+item_more {A} f list y k {new} pushed same so_far =
+    pushed ∙ ap (λ (xs : List A). xs ++ y ∷ []) so_far ∙ ap (λ (z : A). tabulate k f ++ z ∷ []) same ∙ tabulate_next f k
+
+module _ {A B : Type 0} (g : A → B) (f : ℕ → B) where
+  map_append : (list : List A) (y : A) → map g (list ++ y ∷ []) ≡ map g list ++ g y ∷ []
+  map_append [] y = refl
+  map_append (x ∷ list) y = ap (λ (l : List B). g x ∷ l) (map_append list y)
+
+  -- one item more behind those that were there
+  pub more_behind : (front : List B) (list : List A) (y : A) (k : ℕ) {new : List A} → new ≡ list ++ y ∷ [] → g y ≡ f k
+      → map g list ≡ front ++ tabulate k f → map g new ≡ front ++ tabulate (k + 1) f
+  more_behind front list y k {new} pushed same so_far =
+      ap (λ (l : List A). map g l) pushed
+      ∙ map_append list y
+      ∙ ap (λ (l : List B). l ++ g y ∷ []) so_far
+      ∙ append_assoc front (tabulate k f) (g y ∷ [])
+      ∙ ap (λ (z : B). front ++ (tabulate k f ++ z ∷ [])) same
+      ∙ ap (λ (l : List B). front ++ l) (tabulate_next f k)
+
+  -- one item more
+  pub more : (list : List A) (y : A) (k : ℕ) {new : List A} → new ≡ list ++ y ∷ [] → g y ≡ f k
+      → map g list ≡ tabulate k f → map g new ≡ tabulate (k + 1) f
+  more list y k {new} pushed same so_far = more_behind [] list y k pushed same so_far

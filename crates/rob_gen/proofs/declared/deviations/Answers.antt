@@ -1,0 +1,20 @@
+use Rattle.std.proofs.Common.{◌≡◌, ap, ◌∙◌, arith}
+use Rattle.rob_meaning.specs.Places.{tabulate}
+use Rattle.rob_model.specs.View.{member_of}
+use Rattle.rob_gen.specs.Generated.{centre, deviation}
+use Rattle.rob_gen.proofs.ListLemmas.{more}
+use Rattle.rob_gen.proofs.declared.deviations.Goals as goal
+
+pub loop-place-preserved : goal.loop-place-preserved
+loop-place-preserved g c =
+    record {
+      made = more (member_of g.N.Exact.value) (deviation (centre c.args.n)) c.loop-place.list c.deviation-item.result
+          c.loop-place.place c.in_ok-push.ensures.appended c.deviation-item.ensures.made c.loop-place.invariant.made;
+      ops = omega (arith, c.loop-place.invariant.ops, c.deviation-item.ensures.ops);
+      wides = c.loop-place.invariant.wides ∙ c.deviation-item.ensures.wides;
+    }
+
+pub returns-clause-made : goal.returns-clause-made
+returns-clause-made g c =
+    c.loop-place.invariant.made ∙ ap (λ k. tabulate k (deviation (centre c.args.n)))
+    (let e : c.loop-place.place ≡ c.args.count = omega arith in e)

@@ -1,0 +1,13 @@
+-- The members so far, and what was counted.
+use Rattle.std.proofs.Common.{◌≡◌, ◌≤◌, map}
+use Rattle.rob_meaning.specs.Places.{tabulate}
+use Rattle.rob_model.specs.View.{member_of}
+use Rattle.rob_gen.specs.Generated.{centre, deviation}
+use Rattle.rob_gen.proofs.declared.deviations.Given as goal
+
+abbrev pub invariant-loop-place : goal.invariant-loop-place
+invariant-loop-place g l = record {
+  made : map (member_of g.N.Exact.value) l.list ≡ tabulate l.place (deviation (centre l.n));
+  ops : g.L.Ledger.ops l.fn.ledger ≤ g.L.Ledger.ops l.ledger;
+  wides : g.L.Ledger.wides l.fn.ledger ≡ g.L.Ledger.wides l.ledger;
+}

@@ -1,0 +1,15 @@
+// What the model of a number is, for every number.
+
+ghost use Rattle.std.specs.Prelude.{◌≡◌, ℕ, ◌%◌};
+ghost use Rattle.rob_meaning.specs.Named.{IsNamed};
+ghost use Rattle.rob_meaning.specs.WellFormed.{IsModel};
+ghost use Rattle.rob_model.specs.Limits.{IsWithinLimits};
+ghost use Rattle.rob_gen.specs.Generated.{generated};
+
+/// The model of a number is well formed, within the limits and well named, and is that of the number's remainder by 12.
+pub fn generated_laws()
+    ensures model { (n : ℕ) → IsModel (generated n) }
+    ensures limits { (n : ℕ) → IsWithinLimits (generated n) }
+    ensures named { (n : ℕ) → IsNamed (generated n) }
+    ensures again { (n : ℕ) → generated n ≡ generated (n % 12) }
+{}
