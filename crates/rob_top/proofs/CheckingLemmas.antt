@@ -195,7 +195,7 @@ module _ (limit : ℕ) (m : RobustModel) where
       (record {
         forms = has;
         is_check = here;
-        file = subst (λ (list : List ℕ). HasFile call line own.Certificate list) (sym same) (file_came call line texts own.Certificate came names);
+        file = subst (λ (list : List ℕ). HasFile call line own.Certificate list) (sym same) (file_came call line texts own.Certificate _ refl came names);
       })
 
   pub rule_answers : (wides : Count) (text : List ℕ) (rule number : ℕ) (r : Result Reply Want) → HasCause (naming_of m) limit start text 1 (Rule rule number)

@@ -18,6 +18,7 @@ use Rattle.rob_model.specs.declared.place.Place.{Place}
 use Rattle.rob_top.proofs.AnswerLemmas.{no_command}
 use Rattle.rob_top.proofs.KnownLemmas.{known_again, means_known}
 use Rattle.rob_replay.specs.Outcome.{outcome}
+use Rattle.rob_top.proofs.GeneratedLemmas.{generated_decides}
 use Rattle.rob_top.proofs.ReplayAnswerLemmas.{planless_decides, replay_decides}
 use Rattle.rob_top.proofs.StageLemmas.{broken_answer}
 use Rattle.rob_top.proofs.TrueAnswerLemmas.{empty_decides, missing_decides, rows_decide, rule_decides, solve_decides, status_decides, too_long_decides, verdict_decides, well, wide_decides}
@@ -148,6 +149,7 @@ module _ (call : Call) (known : Known call.source) (ended : Ended) (comes : Come
     replayed = λ line m c bytes rows has file.
         comes_ends call (replay_ended (outcome (limit_of line) m c.plan rows)) ended comes
         (replay_decides call known line m c bytes rows has file ended);
+    generated = λ line spelled is. comes_ends call Printed ended comes (generated_decides call known line spelled is ended);
   }
 
 -- ---- by each part of what is known of the files

@@ -1,9 +1,9 @@
 -- In which order the files are fetched.
-use Rattle.std.proofs.Common.{◌≡◌, ◌≤◌, inl, inr, ℕ, List, [], ◌∷◌, ◌++◌, length, map, slice_index_or, Option, Some, refl, sym, ◌∙◌, ap, subst}
+use Rattle.std.proofs.Common.{◌≡◌, ◌≤◌, inl, inr, ℕ, List, [], ◌∷◌, ◌++◌, length, map, slice_index_or, Option, Some, None, refl, sym, ◌∙◌, ap, subst}
 use Rattle.std.proofs.lemmas.List.{append-nil}
 use Rattle.rob_outside.specs.Fetches.{Fetch, fetch_of}
 use Rattle.rob_outside.specs.Files.{File, whole}
-use Rattle.rob_top.specs.Calls.{AsksInOrder, Fetches, IsFoundIn, Request, answer_to, behind, files_of, later, most_of, requests, source_of}
+use Rattle.rob_top.specs.Calls.{AsksInOrder, Fetches, IsFoundIn, Request, answer_to, behind, files_of, later, most_of, requests, source_of, with_first}
 use Rattle.rob_top.specs.Replies.{Asks, AsksOnce}
 use Rattle.rob_top.proofs.FilesLemmas.{answer_here, behind_grown, first, grown_all, others, split_first}
 use Rattle.rob_words.specs.Answers.{line_of}
@@ -47,28 +47,38 @@ asks_more told request files bytes before middle now one h rest = record {
 }
 
 -- ---- the files of own words: the first came whole, and then those behind it were asked for
-module _ {A : Type 0} (text : A → Word) (kinds : List Own) (names : List A) (d : Own) (e : A) (name : Word) (most : ℕ) (some_kind : 1 ≤ length kinds)
-    (some_name : 1 ≤ length names) (name_is : name ≡ text (slice_index_or names 0 e)) (most_is : most ≡ most_of (slice_index_or kinds 0 d)) where
+module _ {A : Type 0} (text : A → Word) (kinds : List Own) (names : List A) (d : Own) (e : A) (name : Word) (some_kind : 1 ≤ length kinds)
+    (some_name : 1 ≤ length names) (name_is : name ≡ text (slice_index_or names 0 e)) where
   abbrev kind : Own
   kind = slice_index_or kinds 0 d
-
-  abbrev asked : ℕ → Request
-  asked n = record { place = 0; name = name; most = n }
 
   abbrev more : List Request
   more = files_of (others kinds) (map text (others names))
 
-  words-files : files_of kinds (map text names) ≡ asked most ∷ map later more
-  words-files =
+  words-files : (o : Option ℕ) → most_of (slice_index_or kinds 0 d) ≡ o → files_of kinds (map text names) ≡ with_first o name more
+  words-files o bound =
       ap (λ ks. files_of ks (map text names)) (split_first kinds d some_kind)
       ∙ ap (λ ns. files_of (kind ∷ others kinds) ns) (ap (map text) (split_first names e some_name) ∙ ap (λ w. w ∷ map text (others names)) (sym name_is))
-      ∙ ap (λ n. asked n ∷ map later more) (sym most_is)
+      ∙ ap (λ (q : Option ℕ). with_first q name more) bound
 
-  pub words_asked : (told : Option (List File)) (before middle now : List Fetch) → AsksOnce (record { place = 0; name = name; most = most }) before middle
+  -- the first names no file
+  pub words_asked_behind : most_of (slice_index_or kinds 0 d) ≡ None → (before now : List Fetch)
+      → Asks (files_of (others kinds) (map text (others names))) before now → Asks (files_of kinds (map text names)) before now
+  words_asked_behind none before now rest = subst (λ (rs : List Request). Asks rs before now) (sym (words-files None none)) rest
+
+  -- the first alone was asked for
+  pub words_asked_first : (most : ℕ) → most_of (slice_index_or kinds 0 d) ≡ Some most → (before now : List Fetch)
+      → AsksOnce (record { place = 0; name = name; most = most }) before now → Asks (files_of kinds (map text names)) before now
+  words_asked_first most bound before now one =
+      subst (λ (rs : List Request). Asks rs before now) (sym (words-files (Some most) bound))
+      (asks_first (record { place = 0; name = name; most = most }) (map later more) before now one)
+
+  pub words_asked : (most : ℕ) → most_of (slice_index_or kinds 0 d) ≡ Some most → (told : Option (List File)) (before middle now : List Fetch) → AsksOnce (record { place = 0; name = name; most = most }) before middle
       → (bytes : List ℕ) → IsFoundIn (source_of told before middle) (record { place = 0; name = name; most = most }) (whole bytes)
       → Asks (files_of (others kinds) (map text (others names))) middle now → Asks (files_of kinds (map text names)) before now
-  words_asked told before middle now one bytes found rest =
-      subst (λ (rs : List Request). Asks rs before now) (sym words-files) (asks_more told (asked most) more bytes before middle now one found rest)
+  words_asked most bound told before middle now one bytes found rest =
+      subst (λ (rs : List Request). Asks rs before now) (sym (words-files (Some most) bound))
+      (asks_more told (record { place = 0; name = name; most = most }) more bytes before middle now one found rest)
 
 -- no file was asked for
 pub asks_none : (files : List Request) (before now : List Fetch) → now ≡ before → Asks files before now

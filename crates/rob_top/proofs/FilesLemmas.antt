@@ -1,6 +1,5 @@
 -- What came of a command's files, from what came of each.
-use Rattle.std.proofs.Common.{◌≡◌, ◌≤◌, ◌==◌, ◌⊎◌, inl, inr, Bool, true, false, if◌then◌else◌, ℕ, ◌-◌, List, [], ◌∷◌, ◌++◌, length, map, take, drop, append_assoc, slice_index_or, Option, Some, None, Result, Ok, Err, IfOk, IfSome, refl, sym, ◌∙◌, ap, subst, arith, Vec, Global}
-use Rattle.std.specs.Prelude.{option_map}
+use Rattle.std.proofs.Common.{◌≡◌, ◌≤◌, ◌==◌, ◌⊎◌, inl, inr, Bool, true, false, ℕ, ◌-◌, ◌^◌, List, [], ◌∷◌, ◌++◌, length, map, take, drop, append_assoc, slice_index_or, Option, Some, None, Result, Ok, Err, IfOk, IfSome, refl, sym, ◌∙◌, ap, subst, arith, Vec, Global}
 use Rattle.std.specs.Str.{bytes_eq}
 use Rattle.std.proofs.lemmas.Bool.Decides.{nat_tests}
 use Rattle.std.proofs.Math.Seq.{drop-append_seam, take-length}
@@ -11,7 +10,7 @@ use Rattle.rob_number.specs.Counts.{Rose}
 use Rattle.rob_outside.specs.Fetches.{Fetch, fetch_of, logged}
 use Rattle.rob_outside.specs.Files.{File, Finds, Found, whole, missing, too_long, found_at, found_of}
 use Rattle.rob_outside.specs.declared.shelf.Fetched.{Fetched}
-use Rattle.rob_top.specs.Calls.{Call, Came, Count, IsFoundIn, Request, Source, WasRaised, answer_to, behind, count, file_of, files_of, later, most_of, request_of, requests, source_of}
+use Rattle.rob_top.specs.Calls.{Call, Came, Count, IsFoundIn, Request, Source, WasRaised, answer_to, behind, count, file_of, files_of, first_or, later, most_of, request_of, requests, source_of, with_first}
 use Rattle.rob_top.specs.Headline.{Means}
 use Rattle.rob_top.specs.Replies.{AreFound, Asks, AsksOnce, CameIn, IsAbsence, IsAbsentAmong, IsFetched, IsGot, IsNothing, text_of, with_file, with_text}
 use Rattle.rob_top.specs.Work.{IsShortFetch}
@@ -207,25 +206,38 @@ none_fetched source faults kinds names (files.Texts texts) none e = none_found s
 none_fetched source faults kinds names (files.Answer reply) none e = absurd none
 
 -- the first didn't come
-pub first_absent : (kind : Own) (kinds : List Own) (name : Word) (names : List Word) (source : Source) (faults : Count) (reply : Reply)
-    → IsAbsence source (file_of kind name) faults reply.ended reply.text
+pub first_absent : (kind : Own) (most : ℕ) → most_of kind ≡ Some most → (kinds : List Own) (name : Word) (names : List Word)
+    (source : Source) (faults : Count) (reply : Reply) → IsAbsence source (file_of most name) faults reply.ended reply.text
     → IsFetched (kind ∷ kinds) (name ∷ names) source faults (files.Answer reply)
-first_absent kind kinds name names source faults reply h = record {
+first_absent kind most bound kinds name names source faults reply h = record {
   before = [];
-  request = file_of kind name;
+  request = file_of most name;
   behind = map later (files_of kinds names);
-  order = refl;
+  order = ap (λ (o : Option ℕ). with_first o name (files_of kinds names)) bound;
   came = tt;
   absent = h;
 }
 
+-- the first names no file
+pub passed_over : (kind : Own) → most_of kind ≡ None → (kinds : List Own) (name : Word) (names : List Word) (source : Source) (faults : Count)
+    (found_files : Files) → IsFetched kinds names source faults found_files → IsFetched (kind ∷ kinds) (name ∷ names) source faults found_files
+passed_over kind none kinds name names source faults (files.Texts texts) h = record {
+  came = subst (λ (o : Option ℕ). Each (CameIn source) (with_first o name (files_of kinds names))) (sym none) h.came;
+  found = λ other r named.
+      h.found other r
+      (subst (λ (o : Option ℕ). first_or o (sameb the_type kind other) name (request_of other kinds names) ≡ Some r) none named);
+}
+passed_over kind none kinds name names source faults (files.Answer reply) h =
+    subst (λ (o : Option ℕ). IsAbsentAmong source (with_first o name (files_of kinds names)) faults reply.ended reply.text) (sym none) h
+
 -- the first came, and then those behind it were asked for
-module _ (told later_told : Option (List File)) (same : later_told ≡ told) (kind : Own) (kinds : List Own) (name : Word) (names : List Word)
-    (before middle now : List Fetch) (one : AsksOnce (file_of kind name) before middle)
+module _ (told later_told : Option (List File)) (same : later_told ≡ told) (kind : Own) (most : ℕ) (bound : most_of kind ≡ Some most)
+    (kinds : List Own) (name : Word) (names : List Word)
+    (before middle now : List Fetch) (one : AsksOnce (file_of most name) before middle)
     (rest : Asks (files_of kinds names) middle now) (bytes : Vec ℕ Global)
-    (found : IsFoundIn (source_of told before middle) (file_of kind name) (whole bytes.items)) (start between end : ℕ) (rose : start ≤ between) where
+    (found : IsFoundIn (source_of told before middle) (file_of most name) (whole bytes.items)) (start between end : ℕ) (rose : start ≤ between) where
   abbrev request : Request
-  request = file_of kind name
+  request = file_of most name
 
   abbrev earlier : Source
   earlier = source_of told before now
@@ -238,21 +250,23 @@ module _ (told later_told : Option (List File)) (same : later_told ≡ told) (ki
 
   all_found : (texts : Texts) → AreFound behind_it kinds names texts → AreFound earlier (kind ∷ kinds) (name ∷ names) (with_text kind bytes texts)
   all_found texts h = record {
-    came = (
+    came = subst (λ (o : Option ℕ). Each (CameIn earlier) (with_first o name (files_of kinds names))) (sym bound) (
       (bytes.items, first_came),
       came_behind told request (files_of kinds names) before middle now one rest (files_of kinds names) h.came,
     );
-    found = λ other r named. by other r (sameb the_type kind other) refl named;
+    found = λ other r named.
+        by other r (sameb the_type kind other) refl
+        (subst (λ (o : Option ℕ). first_or o (sameb the_type kind other) name (request_of other kinds names) ≡ Some r) bound named);
   }
     where
       by : (other : Own) (r : Request) (b : Bool) → sameb the_type kind other ≡ b
-          → (if b then Some request else option_map later (request_of other kinds names)) ≡ Some r
+          → first_or (Some most) b name (request_of other kinds names) ≡ Some r
           → IsFoundIn earlier r (whole (text_of other (with_text kind bytes texts)))
       by other r true e named =
           let alike : request ≡ r = cc in
           subst (λ (o : Own). IsFoundIn earlier r (whole (text_of o (with_text kind bytes texts)))) (same_true the_type tt kind other e)
           (subst (λ (q : Request). IsFoundIn earlier q (whole (text_of kind (with_text kind bytes texts)))) alike
-          (subst (λ (list : List ℕ). IsFoundIn earlier request (whole list)) (sym (text_of-same kind bytes texts)) first_came))
+          (subst (λ (list : List ℕ). IsFoundIn earlier request (whole list)) (sym (text_of-same kind most bound bytes texts)) first_came))
       by other r false e named =
           let s = later_request (request_of other kinds names) r named in
           subst (λ (q : Request). IsFoundIn earlier q (whole (text_of other (with_text kind bytes texts)))) (sym s.2)
@@ -281,8 +295,9 @@ module _ (told later_told : Option (List File)) (same : later_told ≡ told) (ki
   more_fetched (files.Texts texts) h =
       all_found texts (subst (λ (t : Option (List File)). AreFound (source_of t middle now) kinds names texts) same h)
   more_fetched (files.Answer reply) h =
-      one_absent reply
-      (subst (λ (t : Option (List File)). IsAbsentAmong (source_of t middle now) (files_of kinds names) (count between end) reply.ended reply.text) same h)
+      subst (λ (o : Option ℕ). IsAbsentAmong earlier (with_first o name (files_of kinds names)) (count start end) reply.ended reply.text) (sym bound)
+      (one_absent reply
+      (subst (λ (t : Option (List File)). IsAbsentAmong (source_of t middle now) (files_of kinds names) (count between end) reply.ended reply.text) same h))
 
 -- ---- texts are short
 
@@ -294,14 +309,32 @@ none_short (files.Texts texts) none = record {
 }
 none_short (files.Answer reply) none = absurd none
 
-pub more_short : (kind : Own) (bytes : Vec ℕ Global) (found_files : Files) → length bytes.items ≤ most_of kind → IsShortFetch found_files
+-- a file of a kind has at most 2^30 bytes
+few_bytes : (kind : Own) (most : ℕ) → most_of kind ≡ Some most → most ≤ 2 ^ 30
+few_bytes own.Model most bound = let e : 65536 ≡ most = cc in omega (arith, e)
+few_bytes own.Certificate most bound = let e : 4194304 ≡ most = cc in omega (arith, e)
+few_bytes own.Scenarios most bound = let e : 4194304 ≡ most = cc in omega (arith, e)
+few_bytes own.Number most bound = absurd (let no : None ≡ Some most = bound in cc)
+
+short_with : (kind : Own) (bytes : Vec ℕ Global) (found_files : Files) → length bytes.items ≤ 2 ^ 30 → IsShortFetch found_files
     → IsShortFetch (with_file kind bytes found_files)
-more_short own.Model bytes (files.Texts texts) few h = record { model = omega (arith, few); certificate = h.certificate; scenarios = h.scenarios }
-more_short own.Certificate bytes (files.Texts texts) few h = record { model = h.model; certificate = omega (arith, few); scenarios = h.scenarios }
-more_short own.Scenarios bytes (files.Texts texts) few h = record { model = h.model; certificate = h.certificate; scenarios = omega (arith, few) }
-more_short kind bytes (files.Answer reply) few h = tt
+short_with own.Model bytes (files.Texts texts) few h = record { model = few; certificate = h.certificate; scenarios = h.scenarios }
+short_with own.Certificate bytes (files.Texts texts) few h = record { model = h.model; certificate = few; scenarios = h.scenarios }
+short_with own.Scenarios bytes (files.Texts texts) few h = record { model = h.model; certificate = h.certificate; scenarios = few }
+short_with own.Number bytes (files.Texts texts) few h = h
+short_with kind bytes (files.Answer reply) few h = tt
+
+pub more_short : (kind : Own) (most : ℕ) → most_of kind ≡ Some most → (bytes : Vec ℕ Global) (found_files : Files)
+    → length bytes.items ≤ most → IsShortFetch found_files → IsShortFetch (with_file kind bytes found_files)
+more_short kind most bound bytes found_files few h =
+    short_with kind bytes found_files (omega (arith, few, few_bytes kind most bound)) h
 
 -- ---- the first of own words, and those behind it
+
+-- what is no number is none
+pub none_of : (o : Option ℕ) → ((n : ℕ) → o ≡ Some n → ⊥) → o ≡ None
+none_of None h = refl
+none_of (Some n) h = absurd (h n refl)
 
 -- the items behind the first
 abbrev pub others : {A : Type 0} → List A → List A
@@ -314,19 +347,13 @@ split_first (x ∷ xs) d some =
     let behind_it : length (x ∷ xs) - 1 ≡ length xs = omega arith in
     ap (λ list. x ∷ list) (sym (ap (λ n. take n xs) behind_it ∙ take-length xs))
 
-module _ {A : Type 0} (text : A → Word) (kinds : List Own) (names : List A) (d : Own) (e : A) (name : Word) (most : ℕ) (some_kind : 1 ≤ length kinds)
-    (some_name : 1 ≤ length names) (name_is : name ≡ text (slice_index_or names 0 e)) (most_is : most ≡ most_of (slice_index_or kinds 0 d)) where
+module _ {A : Type 0} (text : A → Word) (kinds : List Own) (names : List A) (d : Own) (e : A) (name : Word) (some_kind : 1 ≤ length kinds)
+    (some_name : 1 ≤ length names) (name_is : name ≡ text (slice_index_or names 0 e)) where
   abbrev kind : Own
   kind = slice_index_or kinds 0 d
 
   words-split : map text names ≡ name ∷ map text (others names)
   words-split = ap (map text) (split_first names e some_name) ∙ ap (λ w. w ∷ map text (others names)) (sym name_is)
-
-  abbrev asked : ℕ → Request
-  asked n = record { place = 0; name = name; most = n }
-
-  file-is : asked most ≡ file_of kind name
-  file-is = ap asked most_is
 
   -- of the whole lists, where it is so of the first and the rest
   whole_lists : (source : Source) (faults : Count) (found_files : Files) → IsFetched (kind ∷ others kinds) (name ∷ map text (others names)) source faults found_files
@@ -335,22 +362,27 @@ module _ {A : Type 0} (text : A → Word) (kinds : List Own) (names : List A) (d
       subst (λ ks. IsFetched ks (map text names) source faults found_files) (sym (split_first kinds d some_kind))
       (subst (λ ns. IsFetched (kind ∷ others kinds) ns source faults found_files) (sym words-split) h)
 
-  pub words_absent : (source : Source) (faults : Count) (reply : Reply) → IsAbsence source (record { place = 0; name = name; most = most }) faults reply.ended reply.text
-      → IsFetched kinds (map text names) source faults (files.Answer reply)
-  words_absent source faults reply h =
-      whole_lists source faults (files.Answer reply)
-      (first_absent kind (others kinds) name (map text (others names)) source faults reply
-      (subst (λ r. IsAbsence source r faults reply.ended reply.text) file-is h))
+  pub words_passed : {E : Type 0} → most_of (slice_index_or kinds 0 d) ≡ None → (source : Source) (faults : Count) (result : Result Files E)
+      → IfOk result (IsFetched (others kinds) (map text (others names)) source faults) → IfOk result (IsFetched kinds (map text names) source faults)
+  words_passed none source faults (Err error) h = tt
+  words_passed none source faults (Ok found_files) h =
+      whole_lists source faults found_files (passed_over kind none (others kinds) name (map text (others names)) source faults found_files h)
 
-  pub words_fetched : (told later_told : Option (List File)) → later_told ≡ told → (before middle now : List Fetch)
+  pub words_absent : (most : ℕ) → most_of (slice_index_or kinds 0 d) ≡ Some most → (source : Source) (faults : Count) (reply : Reply)
+      → IsAbsence source (record { place = 0; name = name; most = most }) faults reply.ended reply.text
+      → IsFetched kinds (map text names) source faults (files.Answer reply)
+  words_absent most bound source faults reply h =
+      whole_lists source faults (files.Answer reply)
+      (first_absent kind most bound (others kinds) name (map text (others names)) source faults reply h)
+
+  pub words_fetched : (most : ℕ) → most_of (slice_index_or kinds 0 d) ≡ Some most → (told later_told : Option (List File)) → later_told ≡ told → (before middle now : List Fetch)
       → AsksOnce (record { place = 0; name = name; most = most }) before middle → Asks (files_of (others kinds) (map text (others names))) middle now
       → (bytes : Vec ℕ Global) → IsFoundIn (source_of told before middle) (record { place = 0; name = name; most = most }) (whole bytes.items)
       → (start between end : ℕ) → start ≤ between → (found_files result : Files)
       → IsFetched (others kinds) (map text (others names)) (source_of later_told middle now) (count between end) found_files
       → result ≡ with_file kind bytes found_files → IsFetched kinds (map text names) (source_of told before now) (count start end) result
-  words_fetched told later_told same before middle now one rest bytes found start between end rose found_files result h is =
+  words_fetched most bound told later_told same before middle now one rest bytes found start between end rose found_files result h is =
       whole_lists (source_of told before now) (count start end) result
       (subst (λ r. IsFetched (kind ∷ others kinds) (name ∷ map text (others names)) (source_of told before now) (count start end) r) (sym is)
-      (more_fetched told later_told same kind (others kinds) name (map text (others names)) before middle now
-      (subst (λ r. AsksOnce r before middle) file-is one) rest bytes
-      (subst (λ r. IsFoundIn (source_of told before middle) r (whole bytes.items)) file-is found) start between end rose found_files h))
+      (more_fetched told later_told same kind most bound (others kinds) name (map text (others names)) before middle now one rest bytes found
+      start between end rose found_files h))

@@ -32,20 +32,19 @@ module _ (line : CommandLine) (source : Source) (faults wides : Count) where
 
   -- the files came, and the work on them answers
   pub texts_answer : (files : Files) (texts : Texts) (r : Result Reply Want) → files ≡ fetch.Texts texts → LineFetched files
-      → IfOk r (λ reply. (call : Call) (l : Line) → HasTexts call l texts → l.verb ≡ line.verb → l.width ≡ line.width → call.wides ≡ wides
-      → Means call reply.ended reply.text)
+      → IfOk r (λ reply. (call : Call) → HasTexts call (line_of line) texts → call.wides ≡ wides → Means call reply.ended reply.text)
       → IfOk r AnswersLine
   texts_answer files texts (Err want) e came h = tt
   texts_answer files texts (Ok reply) e came h = λ call spelled source_is faults_is wides_is.
       let found : AreFound source (own_of line.verb) (line_of line).own texts = subst (λ (f : Files). LineFetched f) e came in
-      h call (line_of line)
+      h call
       (record {
         spelled = spelled;
         came = subst (λ (s : Source). Each (CameIn s) (requests (line_of line))) (sym source_is) found.came;
         found = λ kind r named.
             subst (λ (s : Source). IsFoundIn s r (whole (text_of kind texts))) (sym source_is) (found.found kind r named);
       })
-      refl refl wides_is
+      wides_is
 
   -- a file didn't come
   pub absence_answers : (files : Files) (reply : Reply) → files ≡ fetch.Answer reply → LineFetched files → AnswersLine reply
@@ -61,6 +60,14 @@ module _ (line : CommandLine) (source : Source) (faults wides : Count) where
       → IfOk r (λ reply. Means (call_of words source faults wides) reply.ended reply.text)
   line_answers words (Err want) spelled h = tt
   line_answers words (Ok reply) spelled h = h (call_of words source faults wides) spelled refl refl refl
+
+-- what a command's work at its width answers, it answers each call of the line
+pub width_answers_line : (line : CommandLine) (texts : Texts) (wides : Count) (r : Result Reply Want)
+    → IfOk r (λ reply. (call : Call) (l : Line) → HasTexts call l texts → l.verb ≡ line.verb → l.width ≡ line.width → call.wides ≡ wides
+    → Means call reply.ended reply.text)
+    → IfOk r (λ reply. (call : Call) → HasTexts call (line_of line) texts → call.wides ≡ wides → Means call reply.ended reply.text)
+width_answers_line line texts wides (Err want) h = tt
+width_answers_line line texts wides (Ok reply) h = λ call came wides_is. h call (line_of line) came refl refl wides_is
 
 -- the words are no command line
 pub wordless_answers : (words : List Word) (source : Source) (faults wides : Count) (r : Result Reply Want) → (IsCommandLine words → ⊥)

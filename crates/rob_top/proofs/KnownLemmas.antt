@@ -152,7 +152,15 @@ module _ (call : Call) (known : Known call.source) where
     is_rows = h.is_rows;
     printed = h.printed;
   })
-  means_known Printed text (inr h) = inr (replayed_known text h)
+  means_known Printed text (inr (inl h)) = inr (inl (replayed_known text h))
+  means_known Printed text (inr (inr h)) = inr (inr (record {
+    line = h.line;
+    spelled = h.spelled;
+    is_text = h.is_text;
+    number = h.number;
+    told = h.told;
+    printed = h.printed;
+  }))
   means_known Accepted text h = record {
     line = h.line;
     m = h.m;

@@ -14,6 +14,7 @@ pub mod SolvingLemmas
 pub mod StageLemmas
 pub mod TrueAnswerLemmas
 pub mod ReplayAnswerLemmas
+pub mod GeneratedLemmas
 pub mod ReplayingLemmas
 pub mod WorkLemmas
 pub mod KnownLemmas
@@ -22,3 +23,5 @@ pub mod WorkedCalls
 pub mod WorkedSetCalls
 pub mod WorkedChecks
 pub mod WorkedReplays
+pub mod WorkedNumbers
+pub mod GeneratedTexts

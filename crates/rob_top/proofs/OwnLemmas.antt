@@ -1,8 +1,8 @@
 -- Which files a command line names, by the kinds of its own words.
-use Rattle.std.proofs.Common.{◌≡◌, ◌||◌, ℕ, Bool, true, false, refl, sym, ap, arith, List, [], ◌∷◌, length, Option, Some, None, Vec, Global, rules}
-use Rattle.std.specs.Prelude.{if◌then◌else◌, option_map}
+use Rattle.std.proofs.Common.{◌≡◌, ◌||◌, ℕ, Bool, true, false, not, refl, sym, ◌∙◌, ap, subst, arith, List, [], ◌∷◌, length, Option, Some, None, Vec, Global, rules}
+use Rattle.std.specs.Prelude.{option_map}
 use denote.Enum.Bare.{same_true, sameb}
-use Rattle.rob_top.specs.Calls.{Call, HasFile, Request, elaborates, file_of, later, request_of}
+use Rattle.rob_top.specs.Calls.{Call, HasFile, IsOnModel, Request, elaborates, file_of, files_of, first_or, later, most_of, reads_model, request_of, requests}
 use Rattle.rob_top.specs.Replies.{HasTexts, text_of, with_text}
 use Rattle.rob_top.specs.declared.files.Texts.{Texts}
 use Rattle.rob_words.specs.Commands.{Line}
@@ -11,9 +11,9 @@ use Rattle.rob_words.specs.Verbs.{own_of}
 use Rattle.rob_words.specs.contracts.verb.Own.{the_type}
 use Rattle.rob_words.specs.contracts.verb.Verb.{enum, the_type as verb_type}
 use Rattle.rob_words.specs.declared.verb.Own.{Own}
-use Rattle.rob_words.specs.declared.verb.Own.TheVariants.{Model, Certificate, Scenarios}
+use Rattle.rob_words.specs.declared.verb.Own.TheVariants.{Model, Certificate, Scenarios, Number}
 use Rattle.rob_words.specs.declared.verb.Verb.{Verb}
-use Rattle.rob_words.specs.declared.verb.Verb.TheVariants.{Replay}
+use Rattle.rob_words.specs.declared.verb.Verb.TheVariants.{Replay, Text}
 use Rattle.rob_words.proofs.EachValue.{each_value}
 
 -- ---- facts of the table of commands
@@ -23,42 +23,83 @@ abbrev pub has_kind : Own → List Own → Bool
 has_kind kind [] = false
 has_kind kind (other ∷ kinds) = sameb the_type other kind || has_kind kind kinds
 
--- each command names a model
-pub names_model : (verb : Verb) → has_kind Model (own_of verb) ≡ true
-names_model verb = each_value enum (λ v. has_kind Model (own_of v)) refl verb
+-- one of two tests holds, and the first doesn't
+second_of : (a b : Bool) → (a || b) ≡ true → a ≡ false → b ≡ true
+second_of true b h unmet = absurd (search (unmet, rules))
+second_of false b h unmet = h
 
--- a command that makes no set rows and forms is `replay`
+-- a command that reads a model names one
+abbrev is_named : Verb → Bool
+is_named v = not (reads_model v) || has_kind Model (own_of v)
+
+pub has_model : (verb : Verb) → IsOnModel verb → has_kind Model (own_of verb) ≡ true
+has_model verb reads =
+    second_of (not (reads_model verb)) (has_kind Model (own_of verb)) (each_value enum is_named refl verb) (ap not reads)
+
+-- one that makes no set rows and forms of it is `replay`
 abbrev is_elaborated : Verb → Bool
-is_elaborated v = elaborates v || sameb verb_type v Replay
+is_elaborated v = not (reads_model v) || (elaborates v || sameb verb_type v Replay)
 
-pub replay_alone : (verb : Verb) → elaborates verb ≡ false → verb ≡ Replay
-replay_alone verb e =
-    same_true verb_type tt verb Replay (second (elaborates verb) (each_value enum is_elaborated refl verb) e)
-  where
-    second : (a : Bool) → (a || sameb verb_type verb Replay) ≡ true → a ≡ false → sameb verb_type verb Replay ≡ true
-    second true h not_made = absurd (search (not_made, rules))
-    second false h not_made = h
+pub replay_alone : (verb : Verb) → IsOnModel verb → elaborates verb ≡ false → verb ≡ Replay
+replay_alone verb reads e =
+    same_true verb_type tt verb Replay
+    (second_of (elaborates verb) (sameb verb_type verb Replay)
+    (second_of (not (reads_model verb)) (elaborates verb || sameb verb_type verb Replay)
+    (each_value enum is_elaborated refl verb) (ap not reads)) e)
+
+-- one that reads none is `text`
+abbrev is_read : Verb → Bool
+is_read v = reads_model v || sameb verb_type v Text
+
+pub text_alone : (verb : Verb) → reads_model verb ≡ false → verb ≡ Text
+text_alone verb e =
+    same_true verb_type tt verb Text (second_of (reads_model verb) (sameb verb_type verb Text) (each_value enum is_read refl verb) e)
+
+-- ---- `text` names no file
+no_request : (words : List Word) → request_of Model (Number ∷ []) words ≡ None
+no_request [] = refl
+no_request (word ∷ words) = refl
+
+pub text_no_file : (call : Call) (line : Line) (bytes : List ℕ) → line.verb ≡ Text → HasFile call line Model bytes → ⊥
+text_no_file call line bytes is_text h =
+    let named : request_of Model (own_of Text) line.own ≡ Some h.request =
+    subst (λ (v : Verb). request_of Model (own_of v) line.own ≡ Some h.request) is_text h.named
+    in
+    let clash : None ≡ Some h.request = sym (no_request line.own) ∙ named in
+    cc
+
+no_files : (words : List Word) → files_of (Number ∷ []) words ≡ []
+no_files [] = refl
+no_files (word ∷ words) = refl
+
+pub text_no_files : (line : Line) → line.verb ≡ Text → requests line ≡ []
+text_no_files line is_text = ap (λ (v : Verb). files_of (own_of v) line.own) is_text ∙ no_files line.own
 
 -- ---- the word of a kind
 
-request_there : (kind : Own) (kinds : List Own) (names : List Word) → length names ≡ length kinds → has_kind kind kinds ≡ true
-    → (r : Request) × (request_of kind kinds names ≡ Some r)
-request_there kind [] names count has = absurd (search (has, rules))
-request_there kind (other ∷ kinds) [] count has = absurd (omega (arith, count))
-request_there kind (other ∷ kinds) (name ∷ names) count has =
-    by (sameb the_type other kind) has (request_there kind kinds names (omega (arith, count)))
+request_there : (kind : Own) (most : ℕ) → most_of kind ≡ Some most → (kinds : List Own) (names : List Word)
+    → length names ≡ length kinds → has_kind kind kinds ≡ true → (r : Request) × (request_of kind kinds names ≡ Some r)
+request_there kind most bound [] names count has = absurd (search (has, rules))
+request_there kind most bound (other ∷ kinds) [] count has = absurd (omega (arith, count))
+request_there kind most bound (other ∷ kinds) (name ∷ names) count has =
+    by (sameb the_type other kind) refl (most_of other) refl has
+    (request_there kind most bound kinds names (omega (arith, count)))
   where
-    by : (same : Bool) → (same || has_kind kind kinds) ≡ true
+    by : (same : Bool) → sameb the_type other kind ≡ same → (o : Option ℕ) → most_of other ≡ o
+        → (same || has_kind kind kinds) ≡ true
         → (has_kind kind kinds ≡ true → (r : Request) × (request_of kind kinds names ≡ Some r))
-        → (r : Request) × ((if same then Some (file_of other name) else option_map later (request_of kind kinds names)) ≡ Some r)
-    by true h behind = (file_of other name, refl)
-    by false h behind = let r = behind h in (later r.0, ap (option_map later) r.1)
+        → (r : Request) × (first_or o same name (request_of kind kinds names) ≡ Some r)
+    by true alike None none h behind =
+        absurd (let no : None ≡ Some most = sym none ∙ ap most_of (same_true the_type tt other kind alike) ∙ bound in cc)
+    by true alike (Some n) is h behind = (file_of n name, refl)
+    by false alike None none h behind = behind h
+    by false alike (Some n) is h behind = let r = behind h in (later r.0, ap (option_map later) r.1)
 
 -- the file of a kind that the line names came with the text of that kind
-pub file_came : (call : Call) (line : Line) (texts : Texts) (kind : Own) → HasTexts call line texts → has_kind kind (own_of line.verb) ≡ true
-    → HasFile call line kind (text_of kind texts)
-file_came call line texts kind came has =
-    let r = request_there kind (own_of line.verb) line.own came.spelled.1.count has in
+pub file_came : (call : Call) (line : Line) (texts : Texts) (kind : Own) (most : ℕ) → most_of kind ≡ Some most → HasTexts call line texts
+    → has_kind kind (own_of line.verb) ≡ true → HasFile call line kind (text_of kind texts)
+file_came call line texts kind most bound came has =
+    let r = request_there kind most bound (own_of line.verb) line.own came.spelled.1.count has in
     record { request = r.0; named = r.1; found = came.found kind r.0 r.1 }
 
 -- a file behind the first stands among those behind it
@@ -68,10 +109,12 @@ later_request (Some s) r e = let same : later s ≡ r = cc in (s, refl, sym same
 
 -- ---- texts by kinds
 
-pub text_of-same : (kind : Own) (bytes : Vec ℕ Global) (texts : Texts) → text_of kind (with_text kind bytes texts) ≡ bytes.items
-text_of-same Model bytes texts = refl
-text_of-same Certificate bytes texts = refl
-text_of-same Scenarios bytes texts = refl
+pub text_of-same : (kind : Own) (most : ℕ) → most_of kind ≡ Some most → (bytes : Vec ℕ Global) (texts : Texts)
+    → text_of kind (with_text kind bytes texts) ≡ bytes.items
+text_of-same Model most bound bytes texts = refl
+text_of-same Certificate most bound bytes texts = refl
+text_of-same Scenarios most bound bytes texts = refl
+text_of-same Number most bound bytes texts = absurd (let no : None ≡ Some most = bound in cc)
 
 pub text_of-other : (kind other : Own) (bytes : Vec ℕ Global) (texts : Texts) → sameb the_type kind other ≡ false
     → text_of other (with_text kind bytes texts) ≡ text_of other texts
@@ -84,3 +127,7 @@ text_of-other Certificate Scenarios bytes texts apart = refl
 text_of-other Scenarios Model bytes texts apart = refl
 text_of-other Scenarios Certificate bytes texts apart = refl
 text_of-other Scenarios Scenarios bytes texts apart = absurd (search (apart, rules))
+text_of-other Number other bytes texts apart = refl
+text_of-other Model Number bytes texts apart = refl
+text_of-other Certificate Number bytes texts apart = refl
+text_of-other Scenarios Number bytes texts apart = refl

@@ -1,5 +1,5 @@
 -- The answers of `replay`, from what the reading of a certificate and the replaying of a scenario file answer.
-use Rattle.std.proofs.Common.{◌≡◌, ◌≢◌, ℕ, ◌≤◌, true, false, List, Result, Ok, Err, IfOk, inr, refl, subst, sym, ap, ◌∙◌}
+use Rattle.std.proofs.Common.{◌≡◌, ◌≢◌, ℕ, ◌≤◌, true, false, List, Result, Ok, Err, IfOk, inl, inr, refl, subst, sym, ap, ◌∙◌}
 use Rattle.rob_cert.specs.Apart.{FitsLines}
 use Rattle.rob_cert.specs.Causes.{HasCause}
 use Rattle.rob_cert.specs.Reading.{start}
@@ -25,7 +25,7 @@ use Rattle.rob_replay.specs.View.{Gives}
 use Rattle.rob_report.specs.Spots.{too_wide_line}
 use Rattle.rob_report.specs.Tables.{table_of}
 use Rattle.rob_top.specs.Answers.{certificate_text, scenarios_text}
-use Rattle.rob_top.specs.Calls.{Count, HasFile, count, elaborates}
+use Rattle.rob_top.specs.Calls.{Count, HasFile, IsOnModel, count, elaborates}
 use Rattle.rob_top.specs.Headline.{Means}
 use Rattle.rob_top.specs.Refused.{replaying}
 use Rattle.rob_top.specs.Replayed.{planless, unread}
@@ -61,7 +61,7 @@ module _ (limit : ℕ) (m : RobustModel) where
     table_answers wides lines (Err want) table gives bounded is = tt
     table_answers wides lines (Ok reply) table gives bounded is = λ call line at has.
         subst (λ (ended : Ended). Means call ended reply.text) (sym is.0)
-        (inr (record {
+        (inr (inl (record {
           line = line;
           m = m;
           c = c;
@@ -75,7 +75,7 @@ module _ (limit : ℕ) (m : RobustModel) where
               (ap (λ (rows : List (List (List ℕ))). outcome limit m c.plan rows) (one_file text table.0 gives.0 table.1 gives.1) ∙ gives.2);
           bounded = bounded;
           printed = is.1;
-        }))
+        })))
 
     pub record_answers : (wides : Count) (rule number : ℕ) (r : Result Reply Want) → Gives (outcome limit m c.plan) text (Err (breaks rule number))
         → IfOk r (Replies (Scenarios rule number) (scenarios_text rule number)) → IfOk r (AnswersScenarios limit wides m c text)
@@ -143,12 +143,12 @@ module _ (limit : ℕ) (m : RobustModel) where
       scenarios
 
   -- ---- the command is `replay`, so the files of the certificate and of scenarios came
-  pub replay_answers : (wides : Count) (verb : Verb) (texts : Texts) (certificate text : List ℕ) (r : Result Reply Want) → elaborates verb ≡ false
+  pub replay_answers : (wides : Count) (verb : Verb) (texts : Texts) (certificate text : List ℕ) (r : Result Reply Want) → IsOnModel verb → elaborates verb ≡ false
       → certificate ≡ texts.certificate.items → text ≡ texts.scenarios.items → IfOk r (AnswersReplay limit wides m certificate text)
       → IfOk r (AnswersModel limit wides m verb texts)
-  replay_answers wides verb texts certificate text (Err want) unmade same alike h = tt
-  replay_answers wides verb texts certificate text (Ok reply) unmade same alike h = λ call line at came has.
-      let e : verb ≡ Replay = replay_alone verb unmade in
+  replay_answers wides verb texts certificate text (Err want) reads unmade same alike h = tt
+  replay_answers wides verb texts certificate text (Ok reply) reads unmade same alike h = λ call line at came has.
+      let e : verb ≡ Replay = replay_alone verb reads unmade in
       let here : line.verb ≡ Replay = at.verb_is ∙ e in
       let names : (kind : Own) → has_kind kind (own_of Replay) ≡ true → has_kind kind (own_of line.verb) ≡ true =
       λ kind is. subst (λ (v : Verb). has_kind kind (own_of v) ≡ true) (sym here) is
@@ -158,6 +158,6 @@ module _ (limit : ℕ) (m : RobustModel) where
         model = has;
         is_replay = here;
         file = subst (λ (list : List ℕ). HasFile call line own.Certificate list) (sym same)
-            (file_came call line texts own.Certificate came (names own.Certificate refl));
+            (file_came call line texts own.Certificate _ refl came (names own.Certificate refl));
       })
-      (subst (λ (list : List ℕ). HasFile call line own.Scenarios list) (sym alike) (file_came call line texts own.Scenarios came (names own.Scenarios refl)))
+      (subst (λ (list : List ℕ). HasFile call line own.Scenarios list) (sym alike) (file_came call line texts own.Scenarios _ refl came (names own.Scenarios refl)))

@@ -15,6 +15,7 @@ use Rattle.rob_parse.proofs.Building.OneModel.{not_both, one_model}
 use Rattle.rob_rules.proofs.OneReading.{one_rule}
 use Rattle.rob_model.specs.declared.place.Spot.{Spot}
 use Rattle.rob_top.proofs.CourseLemmas.{Course, accepted_course, cert_course, empty_course, inside_admitted, rejected_course, lacking_course, replayed_course, rows_course, scenarios_course, solved_course, wide_course}
+use Rattle.rob_top.proofs.OwnLemmas.{text_no_file, text_no_files}
 use Rattle.rob_top.specs.Calls.{Call, Came, HasFile, IsFirstAbsent, IsFound, Known, Request, answer_to, by_fetches, by_files, limit_of, requests}
 use Rattle.rob_top.specs.Headline.{Means}
 use Rattle.rob_top.specs.Inputs.{HasModel}
@@ -28,6 +29,7 @@ use Rattle.rob_words.specs.Commands.{Line, IsCommandLine, IsSpelled}
 use Rattle.rob_words.specs.Values.{Word}
 use Rattle.rob_words.specs.declared.verb.Own.{Own}
 use Rattle.rob_words.specs.declared.verb.Own.TheVariants as own
+use Rattle.rob_words.specs.declared.verb.Verb.TheVariants.{Text}
 use Rattle.rob_words.proofs.Spellings.{one_line}
 
 -- how far the call came
@@ -37,6 +39,7 @@ pub data Stage (call : Call) (ended : Ended) : Type 0 where
   over : (name : Word) → IsFirstAbsent call too_long name → ended ≡ TooLong → Stage call ended
   broken : (rule number : ℕ) (text : List ℕ) → IsNoModel call rule number text → ended ≡ Model rule number → Stage call ended
   read : (line : Line) (m : RobustModel) → HasModel call line m → Course call line m ended → Stage call ended
+  generates : (line : Line) → IsSpelled call.words line → line.verb ≡ Text → ended ≡ Printed → Stage call ended
   failed : ended ≡ ReadFault → Stage call ended
   wanting : ended ≡ Memory → Stage call ended
 
@@ -55,7 +58,8 @@ stage_of call Optimal text h = read h.line h.m h.forms.model (solved_course call
 stage_of call Infeasible text h = read h.line h.m h.forms.model (solved_course call infeasible text h)
 stage_of call Unbounded text h = read h.line h.m h.forms.model (solved_course call unbounded text h)
 stage_of call Printed text (inl h) = read h.line h.m h.forms.model (rows_course call text h)
-stage_of call Printed text (inr h) = read h.line h.m h.has.certificate.file.model (replayed_course call text h)
+stage_of call Printed text (inr (inl h)) = read h.line h.m h.has.certificate.file.model (replayed_course call text h)
+stage_of call Printed text (inr (inr h)) = generates h.line h.spelled h.is_text refl
 stage_of call Accepted text h = read h.line h.m h.read.file.forms.model (accepted_course call text h)
 stage_of call (Rejected place) text h = read h.line h.m h.read.file.forms.model (rejected_course call place text h)
 stage_of call Words text h = wordless h.0
@@ -92,6 +96,11 @@ file_once call line kind a b known h k =
     let wholes : whole a ≡ whole b = found_once call k.request (whole a) (whole b) known found k.found in
     cc
 
+-- an empty list has no first item
+empty_split : {A : Type 0} (xs : List A) (y : A) (ys : List A) → [] ≡ xs ++ y ∷ ys → ⊥
+empty_split [] y ys e = cc
+empty_split (x ∷ xs) y ys e = cc
+
 came_at : (call : Call) (before behind : List Request) (request : Request) → Each (Came call) (before ++ request ∷ behind) → Came call request
 came_at call [] behind request h = h.0
 came_at call (r ∷ before) behind request h = came_at call before behind request h.1
@@ -109,6 +118,17 @@ module _ (call : Call) (known : Known call.source) (line : Line) (spelled : IsSp
         subst (λ (x : Line). HasFile call x own.Model h.bytes) same h.file,
         subst (λ (x : Line). Breaks (limit_of x) h.bytes rule number) same h.breaks,
       )
+
+  -- the words of `text` name no file, that of a model neither
+  pub text_here : (l : Line) → IsSpelled call.words l → l.verb ≡ Text → (bytes : List ℕ) → HasFile call line own.Model bytes → ⊥
+  text_here l sp is bytes f =
+      text_no_file call line bytes (ap (λ (x : Line). x.verb) (one_line call.words line l spelled sp) ∙ is) f
+
+  pub text_none_absent : (l : Line) → IsSpelled call.words l → l.verb ≡ Text → (before : List Request) (request : Request) (behind : List Request)
+      → requests line ≡ before ++ request ∷ behind → ⊥
+  text_none_absent l sp is before request behind order =
+      empty_split before request behind
+      (sym (text_no_files line (ap (λ (x : Line). x.verb) (one_line call.words line l spelled sp) ∙ is)) ∙ order)
 
   -- where all come, none is the first that doesn't
   pub none_absent : (found : Found) (name : Word) → Each (Came call) (requests line) → ((bytes : List ℕ) → found ≡ whole bytes → ⊥) → IsFirstAbsent call found name → ⊥
@@ -143,6 +163,7 @@ module _ (call : Call) (known : Known call.source) (line : Line) (spelled : IsSp
           absurd
           (not_both (limit_of line) r.bytes m rule number r.reads
           (subst (λ (list : List ℕ). Breaks (limit_of line) list rule number) (sym (same_bytes r.bytes r.file)) breaks))
+      by (generates l sp is e) = absurd (text_here l sp is bytes f)
       by (failed e) = inr (inl e)
       by (wanting e) = inr (inr e)
 

@@ -18,7 +18,7 @@ use Rattle.rob_sets.specs.declared.error.ElabErr.TheVariants as refused
 use Rattle.rob_sets.proofs.JudgedLemmas.{first_left, first_right}
 use Rattle.rob_sets.proofs.SubexpressionLemmas.{each_both}
 use Rattle.rob_top.specs.Answers.{model_text}
-use Rattle.rob_top.specs.Calls.{Call, Count, IsElaborating, count, WasRaised}
+use Rattle.rob_top.specs.Calls.{Call, Count, IsElaborating, IsOnModel, count, reads_model, WasRaised}
 use Rattle.rob_top.specs.Headline.{Means}
 use Rattle.rob_top.specs.Refused.{elaborating}
 use Rattle.rob_top.specs.Replies.{HasTexts, Replies}
@@ -27,7 +27,7 @@ use Rattle.rob_top.specs.declared.ended.Ended.{Ended}
 use Rattle.rob_top.specs.declared.ended.Ended.TheVariants.{Printed, Model}
 use Rattle.rob_top.specs.declared.files.Texts.{Texts}
 use Rattle.rob_top.specs.declared.reply.Reply.{Reply}
-use Rattle.rob_top.proofs.OwnLemmas.{file_came, names_model}
+use Rattle.rob_top.proofs.OwnLemmas.{file_came, has_model}
 use Rattle.rob_words.specs.Commands.{Line}
 use Rattle.rob_words.specs.Values.{bits_of}
 use Rattle.rob_words.specs.declared.verb.Own.TheVariants as own
@@ -80,38 +80,38 @@ width_answers verb width same before now texts (Ok reply) e h = λ call line cam
 
 -- ---- a text that breaks a rule, and one that is read
 
-rule_answers : (limit : ℕ) (wides : Count) (verb : Verb) (texts : Texts) (rule number : ℕ) (reply : Reply) → Breaks limit texts.model.items rule number
+rule_answers : (limit : ℕ) (wides : Count) (verb : Verb) (texts : Texts) (rule number : ℕ) (reply : Reply) → IsOnModel verb → Breaks limit texts.model.items rule number
     → Replies (Model rule number) (model_text rule number) reply → AnswersTexts limit wides verb texts reply
-rule_answers limit wides verb texts rule number reply broken is = λ call line at came.
+rule_answers limit wides verb texts rule number reply reads broken is = λ call line at came.
     subst (λ (ended : Ended). Means call ended reply.text) (sym is.0)
     (record {
       line = line;
       spelled = came.spelled;
       came = came.came;
       bytes = texts.model.items;
-      file = file_came call line texts own.Model came (names_model line.verb);
+      file = file_came call line texts own.Model _ refl came (has_model line.verb (ap reads_model at.verb_is ∙ reads));
       breaks = subst (λ (l : ℕ). Breaks l texts.model.items rule number) (sym at.limit_is) broken;
       printed = is.1;
     })
 
 pub unread_answers : (limit : ℕ) (wides : Count) (verb : Verb) (texts : Texts) (text : List ℕ) (e : ModelErr) (r : Result Reply Want)
-    → text ≡ texts.model.items → HasModelCause limit text e → IfOk r (RepliesUnread e) → IfOk r (AnswersTexts limit wides verb texts)
-unread_answers limit wides verb texts text e (Err want) same cause is = tt
-unread_answers limit wides verb texts text (unread.Rule rule number) (Ok reply) same cause is =
-    rule_answers limit wides verb texts rule number reply (subst (λ (bytes : List ℕ). Breaks limit bytes rule number) same cause) is
-unread_answers limit wides verb texts text unread.Memory (Ok reply) same cause is = absurd is
+    → IsOnModel verb → text ≡ texts.model.items → HasModelCause limit text e → IfOk r (RepliesUnread e) → IfOk r (AnswersTexts limit wides verb texts)
+unread_answers limit wides verb texts text e (Err want) reads same cause is = tt
+unread_answers limit wides verb texts text (unread.Rule rule number) (Ok reply) reads same cause is =
+    rule_answers limit wides verb texts rule number reply reads (subst (λ (bytes : List ℕ). Breaks limit bytes rule number) same cause) is
+unread_answers limit wides verb texts text unread.Memory (Ok reply) reads same cause is = absurd is
 
 pub model_answers : (limit before middle now : ℕ) (verb : Verb) (texts : Texts) (text : List ℕ) (m : RobustModel) (r : Result Reply Want)
-    → text ≡ texts.model.items → ReadsModel limit text m → before ≡ middle → IfOk r (AnswersModel limit (count middle now) m verb texts)
+    → IsOnModel verb → text ≡ texts.model.items → ReadsModel limit text m → before ≡ middle → IfOk r (AnswersModel limit (count middle now) m verb texts)
     → IfOk r (AnswersTexts limit (count before now) verb texts)
-model_answers limit before middle now verb texts text m (Err want) same read e h = tt
-model_answers limit before middle now verb texts text m (Ok reply) same read e h = λ call line at came.
+model_answers limit before middle now verb texts text m (Err want) reads same read e h = tt
+model_answers limit before middle now verb texts text m (Ok reply) reads same read e h = λ call line at came.
     h call line (call_within limit (count middle now) (count before now) verb call line (λ rose. subst (λ (n : ℕ). Rose n now) (sym e) rose) at) came
     (record {
       spelled = came.spelled;
       came = came.came;
       bytes = texts.model.items;
-      file = file_came call line texts own.Model came (names_model line.verb);
+      file = file_came call line texts own.Model _ refl came (has_model line.verb (ap reads_model at.verb_is ∙ reads));
       reads = subst (λ (l : ℕ). ReadsModel l texts.model.items m) (sym at.limit_is) (subst (λ (bytes : List ℕ). ReadsModel limit bytes m) same read);
     })
 

@@ -56,6 +56,7 @@ line_spelled = (
     own = refl;
     count = refl;
     names = ((λ e. cc), tt);
+    kinds = (tt, tt);
     width = inr (refl, refl);
     route = inr (refl, refl);
   },

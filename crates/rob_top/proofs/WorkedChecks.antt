@@ -47,6 +47,7 @@ line_spelled = (
     own = refl;
     count = refl;
     names = ((λ e. cc), ((λ e. cc), tt));
+    kinds = (tt, (tt, tt));
     width = inr (refl, refl);
     route = (refl, refl);
   },

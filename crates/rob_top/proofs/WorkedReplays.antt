@@ -35,6 +35,7 @@ line_spelled = (
     own = refl;
     count = refl;
     names = ((λ e. cc), ((λ e. cc), ((λ e. cc), tt)));
+    kinds = (tt, (tt, (tt, tt)));
     width = inr (refl, refl);
     route = (refl, refl);
   },

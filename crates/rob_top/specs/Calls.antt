@@ -12,9 +12,9 @@ use Rattle.rob_words.specs.Values.{Word, bits_of}
 use Rattle.rob_words.specs.Verbs.{own_of, takes_route}
 use Rattle.rob_words.specs.contracts.verb.Own.{the_type}
 use Rattle.rob_words.specs.declared.verb.Own.{Own}
-use Rattle.rob_words.specs.declared.verb.Own.TheVariants.{Model, Certificate, Scenarios}
+use Rattle.rob_words.specs.declared.verb.Own.TheVariants.{Model, Certificate, Scenarios, Number}
 use Rattle.rob_words.specs.declared.verb.Verb.{Verb}
-use Rattle.rob_words.specs.declared.verb.Verb.TheVariants.{Replay}
+use Rattle.rob_words.specs.declared.verb.Verb.TheVariants.{Replay, Text}
 
 -- a count before and after the call
 pub record Count : Type 0 where
@@ -116,30 +116,48 @@ IsFoundIn source request found =
     IfSome source.told (λ files. found_at request.name request.most files ≡ found)
     × IfSome source.came (λ fetches. answer_to request fetches ≡ Some found)
 
--- how many bytes a file of this kind may have
-abbrev pub most_of : Own → ℕ
-most_of Model = 65536
-most_of Certificate = 4194304
-most_of Scenarios = 4194304
+-- how many bytes a file of this kind may have; nothing where the kind names no file
+abbrev pub most_of : Own → Option ℕ
+most_of Model = Some 65536
+most_of Certificate = Some 4194304
+most_of Scenarios = Some 4194304
+most_of Number = None
 
--- the file that an own word of this kind names, where it is the first
-abbrev pub file_of : Own → Word → Request
-file_of kind name = record { place = 0; name = name; most = most_of kind }
+-- the file of this name, of at most so many bytes, where it is the first
+abbrev pub file_of : ℕ → Word → Request
+file_of most name = record { place = 0; name = name; most = most }
+
+-- the files that words name, with one word more in front of them, where that names a file
+abbrev pub with_first : Option ℕ → Word → List Request → List Request
+with_first None name files = files
+with_first (Some most) name files = file_of most name ∷ map later files
 
 -- the files that own words of these kinds name, in their order
 abbrev pub files_of : List Own → List Word → List Request
-files_of (kind ∷ kinds) (name ∷ names) = file_of kind name ∷ map later (files_of kinds names)
+files_of (kind ∷ kinds) (name ∷ names) = with_first (most_of kind) name (files_of kinds names)
 files_of _ _ = []
 
 -- the files that a command line names, in the order of its words
 abbrev pub requests : Line → List Request
 requests line = files_of (own_of line.verb) line.own
 
+-- the file that is asked for among words, with one word more in front of them, which is of its kind or isn't
+abbrev pub first_or : Option ℕ → Bool → Word → Option Request → Option Request
+first_or None same name request = request
+first_or (Some most) true name request = Some (file_of most name)
+first_or (Some most) false name request = option_map later request
+
 -- the file that the first own word of this kind names, among own words of these kinds
 abbrev pub request_of : Own → List Own → List Word → Option Request
 request_of kind (other ∷ kinds) (name ∷ names) =
-    if sameb the_type other kind then Some (file_of other name) else option_map later (request_of kind kinds names)
+    first_or (most_of other) (sameb the_type other kind) name (request_of kind kinds names)
 request_of kind _ _ = None
+
+-- the first own word of this kind, among own words of these kinds
+abbrev pub word_of : Own → List Own → List Word → Option Word
+word_of kind (other ∷ kinds) (word ∷ words) =
+    if sameb the_type other kind then Some word else word_of kind kinds words
+word_of kind _ _ = None
 
 -- the fetch asks for this file
 abbrev pub IsFetchOf : Request → Fetch → Type 0
@@ -166,9 +184,18 @@ pub record Fetches (words : List Word) (before now : List Fetch) : Type 0 where
 abbrev pub IsSolving : Verb → Type 0
 IsSolving verb = takes_route verb ≡ true
 
+-- the command works on a model that it reads; `text` reads none
+abbrev pub reads_model : Verb → Bool
+reads_model Text = false
+reads_model _ = true
+
+abbrev pub IsOnModel : Verb → Type 0
+IsOnModel verb = reads_model verb ≡ true
+
 -- the command works with the set rows and the forms of its model; `replay` works with the model as it is written
 abbrev pub elaborates : Verb → Bool
 elaborates Replay = false
+elaborates Text = false
 elaborates _ = true
 
 abbrev pub IsElaborating : Verb → Type 0

@@ -35,7 +35,7 @@ use Rattle.rob_top.specs.declared.ended.Ended.TheVariants.{Optimal, Infeasible, 
 use Rattle.rob_words.specs.Commands.{Line, IsCommandLine, IsSpelled}
 use Rattle.rob_words.specs.Values.{Word}
 use Rattle.rob_words.specs.declared.verb.Own.TheVariants as own
-use Rattle.rob_words.specs.declared.verb.Verb.TheVariants.{Rows}
+use Rattle.rob_words.specs.declared.verb.Verb.TheVariants.{Rows, Text}
 
 -- ---- how a call may end
 
@@ -128,6 +128,8 @@ module _ (call : Call) (result : Ended) where
     pub replayed : (line : Line) (m : RobustModel) (c : Certificate) (bytes : List ℕ) (rows : List (List (List ℕ)))
         → HasScenarios call line m c bytes → IsFile bytes rows
         → EndsAs (replay_ended (outcome (limit_of line) m c.plan rows)) result
+    -- `text`: the model of the number is printed
+    pub generated : (line : Line) → IsSpelled call.words line → line.verb ≡ Text → EndsAs Printed result
 
 -- the call ends so by each part of what is known of its files: the files that the shelf tells, where it tells them, or the
 -- answers of the fetches in the call, which every shelf gives

@@ -19,6 +19,7 @@ use Rattle.rob_outside.specs.Taken.{Took, TookPrefix}
 use Rattle.rob_top.specs.Answers.{missing_text, too_long_text, words_text, read_text, memory_text}
 use Rattle.rob_top.specs.Calls.{Call, Output, WasRaised, IsFirstAbsent}
 use Rattle.rob_top.specs.Checked.{IsAccepted, IsRejected}
+use Rattle.rob_top.specs.Generated.{IsGenerated}
 use Rattle.rob_top.specs.Lines.{text_lines}
 use Rattle.rob_top.specs.Refused.{IsNoCertificate, IsNoModel, IsTooWide}
 use Rattle.rob_top.specs.Replayed.{IsNoPlan, IsNoScenarios, IsReplayed}
@@ -41,7 +42,7 @@ module _ (call : Call) where
   Means Optimal text = IsSolved call optimal text
   Means Infeasible text = IsSolved call infeasible text
   Means Unbounded text = IsSolved call unbounded text
-  Means Printed text = IsRows call text ⊎ IsReplayed call text
+  Means Printed text = IsRows call text ⊎ (IsReplayed call text ⊎ IsGenerated call text)
   Means Accepted text = IsAccepted call text
   Means (Rejected place) text = IsRejected call place text
   Means Words text = (IsCommandLine call.words → ⊥) × (text ≡ words_text)

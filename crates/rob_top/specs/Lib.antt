@@ -6,6 +6,7 @@ pub mod Inputs
 pub mod Solved
 pub mod Checked
 pub mod Replayed
+pub mod Generated
 pub mod Refused
 pub mod Headline
 pub mod Codes

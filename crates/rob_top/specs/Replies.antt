@@ -26,6 +26,10 @@ use Rattle.rob_top.specs.declared.reply.Reply.{Reply}
 abbrev pub Replies : Ended → List ℕ → Reply → Type 0
 Replies ended text reply = (reply.ended ≡ ended) × (reply.text ≡ text)
 
+-- some words are the command line
+abbrev pub IsRead : CommandLine → Type 0
+IsRead line = (words : List Word) × IsSpelled words (line_of line)
+
 -- the words of the call are this command line
 abbrev pub IsLine : Call → CommandLine → Type 0
 IsLine call line = IsSpelled call.words (line_of line)
@@ -62,17 +66,19 @@ abbrev pub IsGotWithin : ℕ → Got → Type 0
 IsGotWithin most (Bytes bytes) = length bytes.items ≤ most
 IsGotWithin most (Answer reply) = Unit {0}
 
--- the text of the file of this kind
+-- the text of the file of this kind; none where the kind names no file
 abbrev pub text_of : Own → Texts → List ℕ
 text_of own.Model texts = texts.model.items
 text_of own.Certificate texts = texts.certificate.items
 text_of own.Scenarios texts = texts.scenarios.items
+text_of own.Number texts = []
 
 -- the texts with these bytes for the file of this kind
 abbrev pub with_text : Own → Vec ℕ Global → Texts → Texts
 with_text own.Model bytes texts = record texts { model = bytes }
 with_text own.Certificate bytes texts = record texts { certificate = bytes }
 with_text own.Scenarios bytes texts = record texts { scenarios = bytes }
+with_text own.Number bytes texts = texts
 
 -- what came of files, with these bytes of one more
 abbrev pub with_file : Own → Vec ℕ Global → Files → Files

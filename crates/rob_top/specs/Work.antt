@@ -15,13 +15,15 @@ use Rattle.rob_report.specs.Places.{IsSpotOf}
 use Rattle.rob_report.specs.Spots.{too_wide_line, empty_set_lines}
 use Rattle.rob_sets.specs.declared.error.ElabErr.{ElabErr}
 use Rattle.rob_sets.specs.declared.error.ElabErr.TheVariants as refused
+use Rattle.rob_gen.specs.Generated.{generated}
 use Rattle.rob_top.specs.Answers.{model_text}
 use Rattle.rob_top.specs.Calls.{Call, Count, HasFile, WasRaised, limit_of}
+use Rattle.rob_top.specs.Generated.{TellsNumber}
 use Rattle.rob_top.specs.Headline.{Means}
 use Rattle.rob_top.specs.Inputs.{HasModel, HasForms, HasCertificateFile, HasCertificate, HasReplayCertificate, HasReplayFile, HasScenarios}
 use Rattle.rob_top.specs.Replies.{HasTexts, Replies}
 use Rattle.rob_top.specs.declared.ended.Ended.{Ended}
-use Rattle.rob_top.specs.declared.ended.Ended.TheVariants.{Optimal, Infeasible, Unbounded, Accepted, Rejected, Model, EmptySet, TooWide}
+use Rattle.rob_top.specs.declared.ended.Ended.TheVariants.{Optimal, Infeasible, Unbounded, Printed, Accepted, Rejected, Model, EmptySet, TooWide}
 use Rattle.rob_top.specs.declared.files.Files.{Files}
 use Rattle.rob_top.specs.declared.files.Files.TheVariants as fetch
 use Rattle.rob_top.specs.declared.files.Texts.{Texts}
@@ -30,6 +32,7 @@ use Rattle.rob_words.specs.Commands.{Line}
 use Rattle.rob_words.specs.declared.verb.Own.TheVariants as own
 use Rattle.rob_words.specs.declared.verb.Verb.{Verb}
 use Rattle.rob_words.specs.declared.verb.Verb.TheVariants.{Check, Replay}
+use Rattle.rob_write.specs.Canonical.{model_text as generated_text}
 
 -- ---- texts that are short enough to read
 
@@ -117,6 +120,10 @@ abbrev pub verdict_ended : Verdict → Ended
 verdict_ended verdict.Accepted = Accepted
 verdict_ended (verdict.Rejected place) = Rejected place
 verdict_ended (verdict.TooWide place) = TooWide (spots.Check place)
+
+-- the reply to `text`: the model of the number that the line tells is printed
+abbrev pub RepliesGenerated : Line → Reply → Type 0
+RepliesGenerated line reply = (number : ℕ) × TellsNumber line number × Replies Printed (generated_text (generated number)) reply
 
 -- ---- refusals
 

@@ -1,5 +1,5 @@
 -- Calls worked by hand, of which the laws say how they must end: `solve one.rob`, `check one.rob one.cert` and
--- `replay one.rob one.cert one.csv`, where the shelf tells files of these names.
+-- `replay one.rob one.cert one.csv`, where the shelf tells files of these names; and `text N`.
 use Rattle.std.specs.Prelude.{ℕ, ◌-◌, ◌^◌, pos, false, List, [], ◌∷◌, ◌++◌, Some, None, codes}
 use Rattle.rob_algebra.specs.Fraction.{of_int}
 use Rattle.rob_cert.specs.Spelling.{cert_text}
@@ -49,6 +49,21 @@ replay_call c bytes =
     file_of model_name (model_text one_demand)
     ∷ file_of certificate_name (cert_text one_demand c) ∷ file_of scenarios_name bytes ∷ []
     )
+
+-- `text` with a word, where there are no files
+abbrev pub text_call : Word → Call
+text_call word = call_over (codes "text" ∷ word ∷ []) []
+
+-- what `text 0` prints
+abbrev pub first_text : List ℕ
+first_text =
+    line_of (codes "uncertain d1 in [9, 13]")
+    ++ (line_of (codes "uncertain d2 in [10, 14]")
+    ++ (line_of (codes "budget 1: d1 at 11 by 2, d2 at 12 by 2")
+    ++ (line_of (codes "var x >= 0")
+    ++ (line_of (codes "adaptive y2(d1) >= 0")
+    ++ (line_of (codes "minimise x + y2 + (x - d1) + (x + y2 - d1 - d2)")
+    ++ (line_of (codes "row need1: x >= d1") ++ line_of (codes "row need2: x + y2 >= d1 + d2")))))))
 
 -- the demands 9, and 13, which is not admitted, each on its line
 abbrev pub two_demands : List ℕ

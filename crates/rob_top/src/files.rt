@@ -50,7 +50,7 @@ pub fn fetch<S: Shelf>(alloc: Global, line: &CommandLine, shelf: &mut S) -> Resu
     fetch_all(alloc, line.verb.own(), line.own.as_slice(), shelf)
 }
 
-/// Fetches the files that own words of these kinds name, in their order.
+/// Fetches the files that own words of these kinds name, in their order. A word that names none is passed over.
 fn fetch_all<S: Shelf>(
     alloc: Global,
     kinds: &[Own],
@@ -66,13 +66,18 @@ fn fetch_all<S: Shelf>(
 {
     match kinds {
         [kind, kinds @ ..] => match names {
-            [name, names @ ..] => match get(alloc, name.as_str(), most_bytes(*kind), shelf)? {
-                Got::Bytes(bytes) => {
-                    let rest = fetch_all(alloc, kinds, names, shelf)?;
-                    Ok(with_bytes(*kind, bytes, rest))
+            [name, names @ ..] => {
+                let Some(most) = most_bytes(*kind) else {
+                    return fetch_all(alloc, kinds, names, shelf);
+                };
+                match get(alloc, name.as_str(), most, shelf)? {
+                    Got::Bytes(bytes) => {
+                        let rest = fetch_all(alloc, kinds, names, shelf)?;
+                        Ok(with_bytes(*kind, bytes, rest))
+                    }
+                    Got::Answer(reply) => Ok(Files::Answer(reply)),
                 }
-                Got::Answer(reply) => Ok(Files::Answer(reply)),
-            },
+            }
             [] => Ok(no_files(alloc)),
         },
         [] => Ok(no_files(alloc)),
@@ -90,14 +95,15 @@ fn no_files(alloc: Global) -> Files
     })
 }
 
-/// How many bytes a file of the kind may have.
-fn most_bytes(kind: Own) -> usize
+/// How many bytes a file of the kind may have; `None` where the kind names no file.
+fn most_bytes(kind: Own) -> Option<usize>
     ensures most { result ≡ most_of kind }
 {
     match kind {
-        Own::Model => 65_536,
-        Own::Certificate => 4_194_304,
-        Own::Scenarios => 4_194_304,
+        Own::Model => Some(65_536),
+        Own::Certificate => Some(4_194_304),
+        Own::Scenarios => Some(4_194_304),
+        Own::Number => None,
     }
 }
 
@@ -122,6 +128,7 @@ fn with_bytes(kind: Own, bytes: Vec<u8>, files: Files) -> Files
                 certificate: texts.certificate,
                 scenarios: bytes,
             },
+            Own::Number => texts,
         }),
         Files::Answer(reply) => Files::Answer(reply),
     }

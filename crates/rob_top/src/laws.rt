@@ -2,14 +2,16 @@
 // `replay` shows of what `check` accepts. What is known of a call's files (`Known`) are the told files, or the answers
 // that came in the call, which every shelf gives. The functions do nothing; their clauses are the claims.
 
-ghost use Rattle.std.specs.Prelude.{◌≡◌, ◌⊎◌, ℕ, ℤ, List};
+ghost use Rattle.std.specs.Prelude.{◌≡◌, ◌≤◌, ◌<◌, ◌^◌, ◌⊎◌, ℕ, ℤ, List};
 ghost use Rattle.rob_check.specs.Narrow.{IsFirstFailing};
 ghost use Rattle.rob_dualize.specs.SmallestModel.{one_demand};
 ghost use Rattle.rob_dualize.specs.Solving.{IsWideOnPath};
+ghost use Rattle.rob_gen.specs.Generated.{generated};
 ghost use Rattle.rob_meaning.specs.Certificates.{Status};
 ghost use Rattle.rob_meaning.specs.Places.{Each};
 ghost use Rattle.rob_model.specs.declared.place.Place.{Place};
 ghost use Rattle.rob_model.specs.declared.place.Spot.{Spot};
+ghost use Rattle.rob_parse.specs.Modelled.{ReadsModel};
 ghost use Rattle.rob_replay.specs.Replayed.{ShowsBound};
 ghost use Rattle.rob_top.specs.Calls.{Call, Known, known_call, limit_of};
 ghost use Rattle.rob_top.specs.Checked.{IsAccepted};
@@ -19,11 +21,14 @@ ghost use Rattle.rob_top.specs.Inputs.{HasCertificateFile};
 ghost use Rattle.rob_top.specs.Replayed.{IsReplayed};
 ghost use Rattle.rob_top.specs.Solved.{IsSolved};
 ghost use Rattle.rob_top.specs.Work.{ended_of};
-ghost use Rattle.rob_top.specs.WorkedCalls.{check_call, empty_interval, greatest, hard_and_soft, never_calm, no_demand, order_11, order_12, replay_call, solve_call, two_demands};
+ghost use Rattle.rob_top.specs.WorkedCalls.{check_call, empty_interval, first_text, greatest, hard_and_soft, never_calm, no_demand, order_11, order_12, replay_call, solve_call, text_call, two_demands};
 ghost use Rattle.rob_top.specs.declared.ended.Ended.{Ended};
 ghost use Rattle.rob_top.specs.declared.ended.Ended.TheVariants.{Accepted, EmptySet, Optimal, Printed, Rejected, Scenarios, TooWide};
 ghost use Rattle.rob_words.specs.Commands.{Line};
+ghost use Rattle.rob_words.specs.Kinds.{IsNumber};
+ghost use Rattle.rob_words.specs.Values.{Word};
 ghost use Rattle.rob_words.specs.declared.verb.Verb.TheVariants.{Prove};
+ghost use Rattle.rob_write.specs.Canonical.{model_text};
 
 /// How a call must end, by its words and files: `specs/Completeness.antt`.
 pub fn completeness()
@@ -46,6 +51,14 @@ pub fn check_then_replay()
     ensures shown { (checking replaying : Call) (text shown : List ℕ) (accepted : IsAccepted checking text)
         (replayed : IsReplayed replaying shown) → replayed.m ≡ accepted.m → replayed.c ≡ accepted.c
         → Each (ShowsBound replayed.m replayed.c.value) replayed.lines }
+{}
+
+/// What `text` prints for a number.
+pub fn generated_texts()
+    // It is read as the number's model, at each width.
+    ensures read { (n limit : ℕ) → 14 ≤ limit → limit < 2 ^ 62 → ReadsModel limit (model_text (generated n)) (generated n) }
+    // For 0 it is these lines.
+    ensures first { model_text (generated 0) ≡ first_text }
 {}
 
 /// A model has one status.
@@ -82,4 +95,7 @@ pub fn worked_calls()
     // and of a file whose header names no parameter it names the rule.
     ensures unread { (result : Ended) → MustEnd (replay_call order_12 no_demand) result
         → EndsAs (Scenarios 41 1) result }
+    // `text` prints a model, whichever number its word spells.
+    ensures generated { (word : Word) → IsNumber word → (result : Ended) → MustEnd (text_call word) result
+        → EndsAs Printed result }
 {}

@@ -5,6 +5,7 @@
 mod checking;
 mod ended;
 mod files;
+mod generating;
 pub mod laws;
 pub mod machine;
 mod put;

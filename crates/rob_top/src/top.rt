@@ -4,20 +4,22 @@
 // that doesn't come whole decides; the texts are worked on; the whole output is assembled; it is put, line by line.
 
 ghost use Rattle.std.specs.Prelude.{◌≡◌, ◌≤◌, ℕ, List, IfOk, map, string_bytes};
-ghost use Rattle.rob_top.specs.Calls.{Call, Fetches, call_of, count, output_of, requests, source_of};
+ghost use Rattle.rob_top.specs.Calls.{Call, Fetches, call_of, count, output_of, reads_model as is_reading, requests, source_of};
 ghost use Rattle.rob_top.specs.Completeness.{IsComplete};
 ghost use Rattle.rob_top.specs.Headline.{Ends, Means, PutMemory};
-ghost use Rattle.rob_top.specs.Replies.{Asks, IsLine};
+ghost use Rattle.rob_top.specs.Replies.{Asks, HasTexts, IsLine, IsRead};
+ghost use Rattle.rob_top.specs.Work.{IsShort};
 ghost use Rattle.rob_words.specs.Answers.{line_of};
 
 use crate::ended::Ended;
-use crate::files::{Files, fetch};
+use crate::files::{Files, Texts, fetch};
+use crate::generating::print_generated;
 use crate::put::put_lines;
 use crate::reply::{Reply, fault};
 use crate::work::work_at;
 use rob_number::{Ledger, Memory};
 use rob_outside::{Shelf, Sink, SinkErr};
-use rob_words::{CommandLine, WordsErr, read_words};
+use rob_words::{CommandLine, Verb, WordsErr, read_words};
 use std::alloc::Global;
 
 /// Does what the words say: reads the files that they name from the shelf, and puts its answer into the sink, one put for
@@ -92,6 +94,7 @@ fn on_line<S: Shelf, L: Ledger>(
     shelf: &mut S,
     ledger: &mut L,
 ) -> Result<Reply, Memory>
+    requires read { IsRead line.now }
     ensures means { IfOk result (λ reply. (call : Call) → IsLine call line.now → call.source ≡ source_of (S.files shelf.old) (S.log shelf.old) (S.log shelf.new)
         → call.read_faults ≡ count (S.faults shelf.old) (S.faults shelf.new)
         → call.wides ≡ count (L.wides ledger.old) (L.wides ledger.new)
@@ -101,8 +104,42 @@ fn on_line<S: Shelf, L: Ledger>(
     ensures counted { (S.faults shelf.old ≤ S.faults shelf.new) × (L.wides ledger.old ≤ L.wides ledger.new) }
 {
     match fetch(alloc, line, shelf)? {
-        Files::Texts(texts) => work_at(alloc, line.verb, line.width, &texts, ledger),
+        Files::Texts(texts) => on_texts(alloc, line, &texts, ledger),
         Files::Answer(reply) => Ok(reply),
+    }
+}
+
+/// The answer of a command line whose files came with the texts.
+fn on_texts<L: Ledger>(
+    alloc: Global,
+    line: &CommandLine,
+    texts: &Texts,
+    ledger: &mut L,
+) -> Result<Reply, Memory>
+    requires read { IsRead line.now }
+    requires short { IsShort texts.now }
+    ensures means { IfOk result (λ reply. (call : Call) → HasTexts call (line_of line.now) texts.now
+        → call.wides ≡ count (L.wides ledger.old) (L.wides ledger.new) → Means call reply.ended reply.text) }
+    ensures counted { L.wides ledger.old ≤ L.wides ledger.new }
+{
+    if reads_model(line.verb) {
+        work_at(alloc, line.verb, line.width, texts, ledger)
+    } else {
+        print_generated(alloc, line, ledger)
+    }
+}
+
+/// Whether the command works on a model that it reads.
+fn reads_model(verb: Verb) -> bool
+    ensures reads { result ≡ is_reading verb }
+{
+    match verb {
+        Verb::Rows => true,
+        Verb::Solve => true,
+        Verb::Prove => true,
+        Verb::Check => true,
+        Verb::Replay => true,
+        Verb::Text => false,
     }
 }
 

@@ -9,7 +9,7 @@ ghost use Rattle.rob_report.specs.Places.{IsSpotOf};
 ghost use Rattle.rob_report.specs.Rows.{rows_of};
 ghost use Rattle.rob_report.specs.Spots.{too_wide_line};
 ghost use Rattle.rob_sets.specs.SetForm.{IsSetForm, SetFits, judged_set};
-ghost use Rattle.rob_top.specs.Calls.{Call, IsElaborating, count, elaborates as is_elaborating};
+ghost use Rattle.rob_top.specs.Calls.{Call, IsElaborating, IsOnModel, count, elaborates as is_elaborating};
 ghost use Rattle.rob_top.specs.Headline.{Means};
 ghost use Rattle.rob_top.specs.Replies.{HasTexts, Replies};
 ghost use Rattle.rob_top.specs.Work.{AnswersModel, AnswersTexts, AnswersWhole, IsRefusedOf, IsShort, RepliesRefused, RepliesUnread};
@@ -32,7 +32,7 @@ use rob_sets::{ElabErr, SetForm, clear_set};
 use rob_words::{Verb, Width};
 use std::alloc::Global;
 
-/// Does what a command says at a width.
+/// Does what a command that reads a model says at a width.
 pub fn work_at<L: Ledger>(
     alloc: Global,
     verb: Verb,
@@ -40,6 +40,7 @@ pub fn work_at<L: Ledger>(
     texts: &Texts,
     ledger: &mut L,
 ) -> Result<Reply, Memory>
+    requires on_model { IsOnModel verb }
     requires short { IsShort texts.now }
     // The reply is the answer of each call whose words say the command and the width, and whose files came with the texts.
     ensures means { IfOk result (λ reply. (call : Call) (line : Line) → HasTexts call line texts.now → line.verb ≡ verb
@@ -61,6 +62,7 @@ fn work<N: Exact + Drop, L: Ledger>(
     texts: &Texts,
     ledger: &mut L,
 ) -> Result<Reply, Memory>
+    requires on_model { IsOnModel verb }
     requires short { IsShort texts.now }
     ensures answers { IfOk result (AnswersTexts N.limit (count (L.wides ledger.old) (L.wides ledger.new)) verb texts.now) }
     ensures counted { L.wides ledger.old ≤ L.wides ledger.new }
@@ -93,10 +95,11 @@ fn elaborates(verb: Verb) -> bool
         Verb::Prove => true,
         Verb::Check => true,
         Verb::Replay => false,
+        Verb::Text => false,
     }
 }
 
-/// The answer for a model. `replay` alone works with it as it is written.
+/// The answer for a model. Of the commands that read one, `replay` alone works with it as it is written.
 fn on_model<N: Exact + Drop, L: Ledger>(
     alloc: Global,
     model: &Model<N>,
@@ -106,6 +109,7 @@ fn on_model<N: Exact + Drop, L: Ledger>(
 ) -> Result<Reply, Memory>
     requires valid { IsValid N.value model.now }
     requires named { IsNamed (robust N.value model.now) }
+    requires on_model { IsOnModel verb }
     requires short { IsShort texts.now }
     ensures answers { IfOk result (AnswersModel N.limit (count (L.wides ledger.old) (L.wides ledger.new))
         (robust N.value model.now) verb texts.now) }
@@ -177,6 +181,7 @@ fn on_forms<N: Exact + Drop, L: Ledger>(
             check_text(alloc, model, forms, set, text, ledger)
         }
         Verb::Replay => unreachable!(),
+        Verb::Text => unreachable!(),
     }
 }
 

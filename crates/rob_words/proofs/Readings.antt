@@ -1,7 +1,8 @@
 -- The texts that words hold, judged, are a command line; and no other words are one.
-use Rattle.std.proofs.Common.{◌≡◌, ◌∙◌, inl, inr, Bool, true, false, refl, sym, ap, subst, List, [], ◌∷◌, ◌++◌, length, Option, Some, None, Result, Ok, Err, IfErr, IsErrAnd, rules}
+use Rattle.std.proofs.Common.{◌≡◌, ◌∙◌, inl, inr, Bool, true, false, refl, sym, ap, subst, List, [], ◌∷◌, ◌++◌, length, map, Option, Some, None, Result, Ok, Err, IfErr, IsErrAnd, rules}
+use Rattle.rob_words.specs.Kinds.{AreOfKinds}
 use Rattle.rob_words.specs.Values.{Word, route_text, width_text}
-use Rattle.rob_words.specs.Commands.{ArePlain, HasParts, IsCommandLine, IsPlain, IsSpelled, Line, Part, Says, Setting, TellsRoute, apart, bits, bits_values, joined, own, route, route_values, setting_word, words_of}
+use Rattle.rob_words.specs.Commands.{ArePlain, HasParts, IsCommandLine, IsPlain, IsSpelled, Line, Part, Says, Setting, TellsRoute, apart, bits, bits_values, joined, own, own_words, route, route_values, setting_word, words_of}
 use Rattle.rob_words.specs.Answers.{HasCause}
 use Rattle.rob_words.specs.Texts.{AreAdmitted, HasNoTexts, Hold, Holding, Holds, HoldsBehind, IsAdmitted, TakesRoute, bare_words, listed}
 use Rattle.rob_words.specs.Verbs.{own_of, takes_route, verb_word}
@@ -10,6 +11,7 @@ use Rattle.rob_words.specs.declared.error.WordsErr.TheVariants.{NoCommandLine, M
 use Rattle.rob_words.specs.declared.line.CommandLine.{CommandLine}
 use Rattle.rob_words.specs.declared.route.Route.{Route}
 use Rattle.rob_words.specs.declared.route.Route.TheVariants.{Dual}
+use Rattle.rob_words.specs.declared.verb.Own.{Own}
 use Rattle.rob_words.specs.declared.verb.Verb.{Verb}
 use Rattle.rob_words.specs.declared.width.Width.{Width}
 use Rattle.rob_words.specs.declared.width.Width.TheVariants.{SixtyTwo}
@@ -17,6 +19,13 @@ use Rattle.rob_words.proofs.Spellings.{heads, line-plain, one_parts, own-plain, 
 use Rattle.rob_words.proofs.VerbLemmas.{verb_word-one, verb_word-plain}
 
 -- ---- words that are judged
+
+-- the same kinds and words
+pub of_kinds_again : {A : Type 0} (text : A → Word) (ks ls : List Own) (xs ys : List A) → ks ≡ ls → xs ≡ ys
+    → AreOfKinds ls (map text ys) → AreOfKinds ks (map text xs)
+of_kinds_again {A} text ks ls xs ys e d h =
+    subst (λ kinds. AreOfKinds kinds (map text xs)) (sym e)
+    (subst (λ (words : List A). AreOfKinds ls (map text words)) (sym d) h)
 
 -- a route that isn't told is the default
 dual-said : (way : Route) → Says route_text Dual [] way → way ≡ Dual
@@ -32,10 +41,11 @@ tells false value way takes_it said =
 
 pub spelled-line : (verb : Verb) (words more : List Word) (found : Holding) (width : Width) (way : Route)
     → words ≡ verb_word verb ∷ more
-    → HoldsBehind verb words found → Says width_text SixtyTwo (listed found.bits) width
+    → HoldsBehind verb words found → AreOfKinds (own_of verb) found.own
+    → Says width_text SixtyTwo (listed found.bits) width
     → Says route_text Dual (listed found.way) way
     → IsSpelled words (record { verb = verb; own = found.own; way = way; width = width })
-spelled-line verb words more found width way named holds says_width says_way =
+spelled-line verb words more found width way named holds kinds says_width says_way =
     let held = subst (λ ws. HoldsBehind verb ws found) named holds in
     let hold = held.2 in (
       held.0,
@@ -44,6 +54,7 @@ spelled-line verb words more found width way named holds says_width says_way =
         own = hold.own;
         count = hold.all;
         names = subst ArePlain hold.own (own-plain held.0 hold.plain);
+        kinds = kinds;
         width = subst (λ vs. Says width_text SixtyTwo vs width) (sym hold.bits) says_width;
         route = subst (λ vs. TellsRoute (takes_route verb) vs way) (sym hold.way)
             (tells (takes_route verb) found.way way hold.takes_route says_way);
@@ -106,6 +117,13 @@ module _ (verb : Verb) (words more : List Word) (named : words ≡ verb_word ver
     same_parts =
         one_parts held.0 line.1.0 held.2.plain (line-plain words line.0 line.1.0 line.1.1)
         (sym held.1 ∙ ap rest_of spelling)
+
+    -- its own words are of their kinds
+    pub line-kinds : AreOfKinds (own_of verb) found.own
+    line-kinds =
+        subst (λ v. AreOfKinds (own_of v) found.own) (sym same_verb)
+        (subst (AreOfKinds (own_of line.0.verb)) (sym line.1.1.own ∙ ap own_words (sym same_parts) ∙ held.2.own)
+        line.1.1.kinds)
 
     pub line-width : Says width_text SixtyTwo (listed found.bits) line.0.width
     line-width =

@@ -1,5 +1,6 @@
 pub mod Values
 pub mod Verbs
+pub mod Kinds
 pub mod Commands
 pub mod Answers
 pub mod Texts

@@ -6,6 +6,7 @@ mod error;
 mod grammar;
 pub mod laws;
 mod line;
+mod own_words;
 mod reader;
 mod route;
 mod verb;
@@ -13,6 +14,7 @@ mod width;
 
 pub use error::WordsErr;
 pub use line::CommandLine;
+pub use own_words::number;
 pub use reader::read_words;
 pub use route::Route;
 pub use verb::{Own, Verb};

@@ -11,6 +11,7 @@ ghost use Rattle.rob_words.specs.declared.width.Width.TheVariants.{SixtyTwo};
 
 use crate::admission::are_admitted;
 use crate::grammar::read_texts;
+use crate::own_words::are_of_kinds;
 use crate::{CommandLine, Route, Verb, Width, WordsErr};
 use std::alloc::Global;
 
@@ -26,6 +27,9 @@ pub fn read_words(alloc: Global, words: &[String]) -> Result<CommandLine, WordsE
         return Err(WordsErr::NoCommandLine);
     }
     let texts = read_texts(alloc, verb, words)?;
+    if !are_of_kinds(verb.own(), texts.own.as_slice()) {
+        return Err(WordsErr::NoCommandLine);
+    }
     let width = width(texts.bits)?;
     let route = route(texts.route)?;
     Ok(CommandLine {

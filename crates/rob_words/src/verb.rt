@@ -20,6 +20,8 @@ pub enum Verb {
     Check,
     /// Print the values of a certificate's plan in each scenario of a file.
     Replay,
+    /// Print the model of a number.
+    Text,
 }
 
 /// What one of a command's own words names.
@@ -31,6 +33,8 @@ pub enum Own {
     Certificate,
     /// The file of scenarios.
     Scenarios,
+    /// A number, and no file.
+    Number,
 }
 
 impl Verb {
@@ -46,6 +50,7 @@ impl Verb {
             "prove" => Some(Verb::Prove),
             "check" => Some(Verb::Check),
             "replay" => Some(Verb::Replay),
+            "text" => Some(Verb::Text),
             _ => None,
         }
     }
@@ -60,6 +65,7 @@ impl Verb {
             Verb::Prove => &[Own::Model],
             Verb::Check => &[Own::Model, Own::Certificate],
             Verb::Replay => &[Own::Model, Own::Certificate, Own::Scenarios],
+            Verb::Text => &[Own::Number],
         }
     }
 
@@ -73,6 +79,7 @@ impl Verb {
             Verb::Prove => true,
             Verb::Check => false,
             Verb::Replay => false,
+            Verb::Text => false,
         }
     }
 }

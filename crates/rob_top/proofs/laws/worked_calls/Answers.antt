@@ -2,6 +2,7 @@ use Rattle.rob_top.proofs.WorkedCalls.{empty_interval_is_shown, one_demand_is_so
 use Rattle.rob_top.proofs.WorkedSetCalls.{hard_and_soft_is_solved, never_calm_is_shown}
 use Rattle.rob_top.proofs.WorkedChecks.{order_11_is_rejected, order_12_is_accepted}
 use Rattle.rob_top.proofs.WorkedReplays.{no_demand_is_refused, two_demands_are_replayed}
+use Rattle.rob_top.proofs.WorkedNumbers.{number_is_answered}
 use Rattle.rob_top.proofs.laws.worked_calls.Goals as goal
 
 pub returns : goal.returns
@@ -14,4 +15,5 @@ returns c = record {
   rejected = order_11_is_rejected;
   replayed = two_demands_are_replayed;
   unread = no_demand_is_refused;
+  generated = number_is_answered;
 }

@@ -2,7 +2,7 @@ use Rattle.rob_top.proofs.FrameLemmas.{absence_answers, texts_answer}
 use Rattle.rob_top.proofs.top.on_line.Goals as goal
 
 pub returns-in-Texts-clause-means : goal.returns-in-Texts-clause-means
-returns-in-Texts-clause-means g c = texts_answer c.args.line.now _ _ _ c.in_ok-texts.field-0 c.in-Texts.texts c.work_at.result c.in-Texts.is c.in_ok-texts.ensures.fetched c.work_at.ensures.means
+returns-in-Texts-clause-means g c = texts_answer c.args.line.now _ _ _ c.in_ok-texts.field-0 c.in-Texts.texts c.on_texts.result c.in-Texts.is c.in_ok-texts.ensures.fetched c.on_texts.ensures.means
 
 pub returns-in-Answer-clause-means : goal.returns-in-Answer-clause-means
 returns-in-Answer-clause-means g c = absence_answers c.args.line.now _ _ _ c.in_ok-texts.field-0 c.in-Answer.reply c.in-Answer.is c.in_ok-texts.ensures.fetched

@@ -1,5 +1,6 @@
-use Rattle.std.proofs.Common.{rules, map, string_bytes}
-use Rattle.rob_words.proofs.Readings.{line-admitted, line-route, line-width, passed-no_line, passed-texts, spelled-line}
+use Rattle.std.proofs.Common.{rules, map, refl, string_bytes, sym}
+use Rattle.rob_words.specs.Verbs.{own_of}
+use Rattle.rob_words.proofs.Readings.{line-admitted, line-kinds, line-route, line-width, of_kinds_again, passed-no_line, passed-texts, spelled-line}
 use Rattle.rob_words.proofs.reader.read_words.Goals as goal
 
 pub returns-then-not-are_admitted-clause-cause : goal.returns-then-not-are_admitted-clause-cause
@@ -12,6 +13,17 @@ returns-in_err-texts-clause-cause c =
     passed-texts (map string_bytes c.args.words.now) c.in_ok-verb.verb c.in_ok-verb.ensures.named.0
     c.in_ok-verb.ensures.named.1 c.from_residual-in_err-texts.result c.in_err-texts.field-0.0
     c.from_residual-in_err-texts.ensures.1 c.in_err-texts.ensures.cause
+
+pub returns-then-not-are_of_kinds-clause-cause : goal.returns-then-not-are_of_kinds-clause-cause
+returns-then-not-are_of_kinds-clause-cause c = λ line.
+    let told =
+    c.are_of_kinds.ensures.kinds.1
+    (of_kinds_again string_bytes c.own.result.now (own_of c.in_ok-verb.verb) c.as_slice.result.now c.in_ok-texts.texts.own.items
+    c.own.ensures.own c.as_slice.ensures.value
+    (line-kinds c.in_ok-verb.verb (map string_bytes c.args.words.now) c.in_ok-verb.ensures.named.0
+    c.in_ok-verb.ensures.named.1 line _ c.in_ok-texts.ensures.texts))
+    in
+    search (told, c.if-not-are_of_kinds.true, rules)
 
 pub returns-in_err-width-clause-cause : goal.returns-in_err-width-clause-cause
 returns-in_err-width-clause-cause c =
@@ -32,4 +44,7 @@ pub returns-clause-line : goal.returns-clause-line
 returns-clause-line c =
     spelled-line c.in_ok-verb.verb (map string_bytes c.args.words.now) c.in_ok-verb.ensures.named.0 _
     c.in_ok-width.width c.in_ok-route.route
-    c.in_ok-verb.ensures.named.1 c.in_ok-texts.ensures.texts c.in_ok-width.ensures.judged c.in_ok-route.ensures.judged
+    c.in_ok-verb.ensures.named.1 c.in_ok-texts.ensures.texts
+    (of_kinds_again string_bytes (own_of c.in_ok-verb.verb) c.own.result.now c.in_ok-texts.texts.own.items c.as_slice.result.now
+    (sym c.own.ensures.own) (sym c.as_slice.ensures.value) (c.if-not-are_of_kinds.ensures.kinds.0 refl))
+    c.in_ok-width.ensures.judged c.in_ok-route.ensures.judged

@@ -1,0 +1,61 @@
+// `text`: the model of a number.
+
+ghost use Rattle.std.specs.Prelude.{◌≡◌, ◌≤◌, IfOk};
+ghost use Rattle.rob_gen.specs.Generated.{generated};
+ghost use Rattle.rob_top.specs.Generated.{TellsNumber};
+ghost use Rattle.rob_top.specs.Replies.{IsRead, Replies};
+ghost use Rattle.rob_top.specs.Work.{RepliesGenerated};
+ghost use Rattle.rob_words.specs.Answers.{line_of};
+ghost use Rattle.rob_words.specs.declared.verb.Verb.TheVariants.{Text as TextVerb};
+ghost use Rattle.rob_write.specs.Canonical.{model_text};
+
+use crate::ended::Ended;
+use crate::reply::Reply;
+use rob_gen::generate;
+use rob_number::{Ledger, Memory};
+use rob_quick::Quick;
+use rob_words::{CommandLine, number};
+use rob_write::write_model;
+use std::alloc::Global;
+
+/// The answer of `text`. The model's numbers fit each width, so it is the same at each.
+pub fn print_generated<L: Ledger>(
+    alloc: Global,
+    line: &CommandLine,
+    ledger: &mut L,
+) -> Result<Reply, Memory>
+    requires read { IsRead line.now }
+    requires is_text { line.now.verb ≡ TextVerb }
+    ensures generated { IfOk result (RepliesGenerated (line_of line.now)) }
+    ensures counted { L.wides ledger.old ≤ L.wides ledger.new }
+{
+    print_model(alloc, told_number(line), ledger)
+}
+
+/// The number that the command line tells.
+fn told_number(line: &CommandLine) -> u32
+    requires read { IsRead line.now }
+    requires is_text { line.now.verb ≡ TextVerb }
+    ensures told { TellsNumber (line_of line.now) result }
+{
+    match line.own.as_slice() {
+        [word, ..] => match number(word.as_str()) {
+            Some(number) => number,
+            None => unreachable!(),
+        },
+        [] => unreachable!(),
+    }
+}
+
+/// The answer with the canonical text of the number's model.
+fn print_model<L: Ledger>(alloc: Global, number: u32, ledger: &mut L) -> Result<Reply, Memory>
+    ensures printed { IfOk result (Replies Ended.Printed (model_text (generated number))) }
+    ensures counted { L.wides ledger.old ≤ L.wides ledger.new }
+{
+    let model = generate::<Quick<62>, L>(alloc, number, ledger)?;
+    let text = write_model(alloc, &model)?;
+    Ok(Reply {
+        ended: Ended::Printed,
+        text,
+    })
+}
