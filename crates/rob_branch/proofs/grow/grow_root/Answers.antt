@@ -1,0 +1,70 @@
+use Rattle.std.proofs.Common.{◌≡◌, arith, ap, subst}
+use Rattle.rob_model.specs.View.{robust}
+use Rattle.rob_reach.proofs.GrownLemmas.{grown_true}
+use Rattle.rob_reach.proofs.RuleLemmas.{rules_kept}
+use Rattle.rob_reach.specs.Growing as growing
+use Rattle.rob_tree.specs.View.{node_of, tree_of}
+use Rattle.rob_branch.proofs.GrowSteps.{cause_at_root, cause_of_root}
+use Rattle.rob_branch.proofs.GrownTreeLemmas.{tree_grown, tree_shaped}
+use Rattle.rob_branch.specs.View.{search_of}
+use Rattle.rob_branch.proofs.grow.grow_root.Goals as goal
+
+-- ---- what is asked of the root
+pub grow_from-requires-clause-bounded : goal.grow_from-requires-clause-bounded
+grow_from-requires-clause-bounded g c = ((rules_kept (robust g.N.Exact.value c.args.model.now) c.args.names.now).0 c.requires.kept).0
+
+pub grow_from-requires-clause-room : goal.grow_from-requires-clause-room
+grow_from-requires-clause-room g c =
+    let none : c.start.result.count ≡ 0 = ap (λ (s : growing.Search). s.count) c.start.ensures.start in
+    omega (arith, none, ((rules_kept (robust g.N.Exact.value c.args.model.now) c.args.names.now).0 c.requires.kept).1)
+
+pub grow_from-requires-clause-going : goal.grow_from-requires-clause-going
+grow_from-requires-clause-going g c = ap (λ (s : growing.Search). s.endless) c.start.ensures.start
+
+pub grow_from-requires-clause-proves : goal.grow_from-requires-clause-proves
+grow_from-requires-clause-proves g c = c.in-Ok.ensures.solved.proves
+
+pub grow_from-requires-clause-shape : goal.grow_from-requires-clause-shape
+grow_from-requires-clause-shape g c = c.in-Ok.ensures.solved.shape
+
+-- ---- why no tree grows
+pub returns-in-Err-clause-cause : goal.returns-in-Err-clause-cause
+returns-in-Err-clause-cause g c =
+    cause_at_root g.N.Exact.limit (robust g.N.Exact.value c.args.model.now) c.args.names.now c.in-Err.stop c.stopped.result c.in-Err.ensures.cause c.stopped.ensures.told
+
+pub returns-in-Err-grow_from-clause-cause : goal.returns-in-Err-grow_from-clause-cause
+returns-in-Err-grow_from-clause-cause g c =
+    cause_of_root g.N.Exact.limit (robust g.N.Exact.value c.args.model.now) c.args.names.now c.in-Err-grow_from.stop c.in-Err-grow_from.ensures.cause
+
+-- ---- the tree
+pub returns-in-Ok-grow_from-clause-grown : goal.returns-in-Ok-grow_from-clause-grown
+returns-in-Ok-grow_from-clause-grown g c =
+    let value = g.N.Exact.value in
+    let m = robust value c.args.model.now in
+    let grown = c.in-Ok-grow_from.grown in
+    let grows = subst (λ s. growing.Grows m c.args.names.now s (node_of value grown.node) (search_of value grown.after)) c.start.ensures.start
+    c.in-Ok-grow_from.ensures.grown.grows in
+    tree_grown g.N.Exact.limit m c.args.names.now (tree_of value c.tree_by.result) (search_of value grown.after) (node_of value grown.node)
+    c.tree_by.ensures.tree grows
+
+pub returns-in-Ok-grow_from-clause-true_of : goal.returns-in-Ok-grow_from-clause-true_of
+returns-in-Ok-grow_from-clause-true_of g c =
+    let value = g.N.Exact.value in
+    let m = robust value c.args.model.now in
+    let grown = c.in-Ok-grow_from.grown in
+    let grows = subst (λ s. growing.Grows m c.args.names.now s (node_of value grown.node) (search_of value grown.after)) c.start.ensures.start
+    c.in-Ok-grow_from.ensures.grown.grows in
+    let tree = tree_of value c.tree_by.result in
+    grown_true m c.args.names.now tree
+    (tree_grown g.N.Exact.limit m c.args.names.now tree (search_of value grown.after) (node_of value grown.node) c.tree_by.ensures.tree grows)
+    c.requires.valid.well_formed ((rules_kept m c.args.names.now).0 c.requires.kept).0
+
+pub returns-in-Ok-grow_from-clause-shape : goal.returns-in-Ok-grow_from-clause-shape
+returns-in-Ok-grow_from-clause-shape g c =
+    let value = g.N.Exact.value in
+    let m = robust value c.args.model.now in
+    let grown = c.in-Ok-grow_from.grown in
+    let known = c.in-Ok-grow_from.ensures.grown in
+    let grows = subst (λ s. growing.Grows m c.args.names.now s (node_of value grown.node) (search_of value grown.after)) c.start.ensures.start known.grows in
+    tree_shaped g.N.Exact.limit m c.args.names.now (tree_of value c.tree_by.result) (search_of value grown.after) (node_of value grown.node)
+    c.tree_by.ensures.tree c.requires.valid.well_formed c.requires.kept grows known.shaped known.numbers

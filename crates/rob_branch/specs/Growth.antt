@@ -1,0 +1,71 @@
+-- What growing answers: the node of a box and how far the search is behind it, or why there is none.
+use Rattle.std.specs.Prelude.{◌≡◌, ℕ, List, ◌++◌, map, Some, Result, IfErr, ◌⊎◌}
+use Rattle.rob_algebra.specs.Fraction.{Fraction, of_int}
+use Rattle.rob_dualize.specs.Solving.{IsShownEmpty}
+use Rattle.rob_meaning.specs.Places.{Each}
+use Rattle.rob_meaning.specs.RobustModel.{RobustModel}
+use Rattle.rob_meaning.specs.UncertaintySet.{Admits}
+use Rattle.rob_number.specs.Counts.{NeverFell, Rose}
+use Rattle.rob_reach.specs.Boxes as boxes
+use Rattle.rob_reach.specs.Growing.{Search, Grows, IsAllowedPath}
+use Rattle.rob_reach.specs.Ranges.{whole_rule}
+use Rattle.rob_reach.specs.Trees.{leaves}
+use Rattle.rob_tree.specs.Shape.{IsShaped, BranchesFit}
+use Rattle.rob_tree.specs.View.{branch_of, node_of}
+use Rattle.rob_tree.specs.declared.tree.Branch.{Branch}
+use Rattle.rob_tree.specs.declared.error.TreeStop.{TreeStop}
+use Rattle.rob_tree.specs.declared.error.TreeStop.TheVariants.{Rule, EmptySet, Wide, Memory}
+use Rattle.rob_branch.specs.Boxes.{IsWideIn}
+use Rattle.rob_branch.specs.View.{search_of}
+use Rattle.rob_branch.specs.declared.solve.BoxStop.{BoxStop}
+use Rattle.rob_branch.specs.declared.solve.BoxStop.TheVariants as box
+use Rattle.rob_branch.specs.declared.grow.Grown.{Grown}
+
+-- some scenario is admitted
+abbrev pub HasScenario : RobustModel → Type 0
+HasScenario m = (u : List Fraction) × Admits m u
+
+-- the box has grown into the node, and the search is as far as told; its certificates have the shape of their boxes
+pub record IsGrownTo {N : Type 0} (value : N → Fraction) (limit : ℕ) (m : RobustModel) (names : List ℕ)
+    (before : Search) (grown : Grown N) : Type 0 where
+  pub grows : Grows m names before (node_of value grown.node) (search_of value grown.after)
+  pub shaped : Each IsShaped (leaves m (node_of value grown.node))
+  pub numbers : BranchesFit limit (node_of value grown.node)
+
+-- why a box behind a path has not grown: a number is wide in a box behind it, each branch on the way there being one
+-- that a certificate allows; memory is free
+abbrev pub HasCauseBehind : ℕ → RobustModel → List ℕ → List boxes.Branch → TreeStop → Type 0
+HasCauseBehind limit m names front (Rule rule) = ⊥
+HasCauseBehind limit m names front (EmptySet weights) = ⊥
+HasCauseBehind limit m names front (Wide path spot) =
+    (tail : List boxes.Branch) × (map branch_of path ≡ front ++ tail) × IsAllowedPath m names tail
+    × IsWideIn limit (boxes.box m tail) spot
+HasCauseBehind limit m names front Memory = Unit {0}
+
+-- the stop of the box behind a path, told of the search; memory for the path may be refused
+abbrev pub TellsStop : List Branch → BoxStop → TreeStop → Type 0
+TellsStop path (box.EmptySet weights) told = told ≡ EmptySet weights
+TellsStop path (box.Wide spot) told = (told ≡ Wide path spot) ⊎ (told ≡ Memory)
+TellsStop path box.Memory told = told ≡ Memory
+
+-- why no tree grows: the first rule that the names break; no scenario is admitted, as the weights show; a number is
+-- wide in the box behind the path; memory is free
+abbrev pub HasCause : ℕ → RobustModel → List ℕ → TreeStop → Type 0
+HasCause limit m names (Rule rule) = whole_rule m names ≡ Some rule
+HasCause limit m names (EmptySet weights) = IsShownEmpty m (map of_int weights)
+HasCause limit m names (Wide path spot) =
+    IsAllowedPath m names (map branch_of path) × IsWideIn limit (boxes.box m (map branch_of path)) spot
+HasCause limit m names Memory = Unit {0}
+
+-- a stop for width has raised the count of wide numbers
+abbrev pub RoseIfWide : ℕ → ℕ → TreeStop → Type 0
+RoseIfWide before now (Rule rule) = Unit {0}
+RoseIfWide before now (EmptySet weights) = Unit {0}
+RoseIfWide before now (Wide path spot) = Rose before now
+RoseIfWide before now Memory = Unit {0}
+
+-- neither count fell, and that of wide numbers rose where the search stopped for width
+pub record CountsGrowth {S T : Type 0} (ops_of wides_of : S → ℕ) (before now : S) (result : Result T TreeStop)
+    : Type 0 where
+  pub never_fell : NeverFell ops_of wides_of before now
+  pub refused : IfErr result (RoseIfWide (wides_of before) (wides_of now))

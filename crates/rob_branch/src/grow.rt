@@ -1,0 +1,319 @@
+//! How a tree grows: depth first, the box with the upper bound before the other. (Land, Doig, An automatic method of
+//! solving discrete programming problems.)
+
+ghost use Rattle.std.specs.Prelude.{◌≡◌, ◌≢◌, ◌+◌, ◌≤◌, pos, map, nat_abs, ℕ, None, Some, Err as Error, IfOk, IfErr};
+ghost use Rattle.rob_cert.specs.Shape.{HasShape};
+ghost use Rattle.rob_cert.specs.View.{certificate_of};
+ghost use Rattle.rob_meaning.specs.Certificates.{Certificate};
+ghost use Rattle.rob_meaning.specs.Proves.{Proves};
+ghost use Rattle.rob_model.specs.Valid.{IsValid};
+ghost use Rattle.rob_model.specs.View.{robust};
+ghost use Rattle.rob_reach.specs.Growing as growing;
+ghost use Rattle.rob_reach.specs.Boxes as boxes;
+ghost use Rattle.rob_reach.specs.Ranges.{KeepsBothBounds, product_of_ranges, whole_rule as first_rule};
+ghost use Rattle.rob_reach.specs.Trees as trees;
+ghost use Rattle.rob_reach.specs.WholeStatus.{HasWholeStatus};
+ghost use Rattle.rob_tree.specs.Shape.{HasTreeShape};
+ghost use Rattle.rob_tree.specs.View.{branch_of, node_of, tree_of};
+ghost use Rattle.rob_tree.specs.declared.error.TreeStop.TheVariants as Stop;
+ghost use Rattle.rob_branch.specs.Growth.{CountsGrowth, HasCause, HasCauseBehind, HasScenario, IsGrownTo, TellsStop};
+ghost use Rattle.rob_branch.specs.View.{search_of};
+
+use crate::path::{branch_above, branch_below, longer};
+use crate::search::{Outcome, Search, comes_of, counted};
+use crate::solve::{BoxStop, solve_box};
+use rob_cert::{Cert, Status};
+use rob_model::Model;
+use rob_model::numbers::zero;
+use rob_number::{Exact, Ledger, Tally};
+use rob_tree::copy::copy_list;
+use rob_tree::{Branch, Node, Tree, TreeStop, behind, whole_rule};
+use std::alloc::Global;
+
+/// A box: its model, the named variables, and the branches that lead to it.
+#[derive(Clone, Copy, Debug)]
+pub struct Area<'a, N> {
+    pub model: &'a Model<N>,
+    pub names: &'a [u32],
+    pub path: &'a [Branch],
+}
+
+/// A node that has grown, and how far the search is behind it.
+#[derive(Debug, Drop)]
+pub struct Grown<N> {
+    pub node: Node<N>,
+    pub after: Search<N>,
+}
+
+/// Why a search stops in the box behind a path.
+fn stopped(alloc: Global, path: &[Branch], stop: BoxStop) -> TreeStop
+    ensures told { TellsStop path.now stop result }
+{
+    match stop {
+        BoxStop::EmptySet(weights) => TreeStop::EmptySet(weights),
+        BoxStop::Wide(spot) => match copy_list(alloc, path) {
+            Ok(path) => TreeStop::Wide(path, spot),
+            Err(_) => TreeStop::Memory,
+        },
+        BoxStop::Memory => TreeStop::Memory,
+    }
+}
+
+/// Grows a box: once the model is shown to be unbounded it is left open, else it is solved.
+#[cycle(grow)]
+fn grow<N: Exact, L: Ledger>(
+    alloc: Global,
+    area: Area<'_, N>,
+    before: Search<N>,
+    ledger: &mut L,
+) -> Result<Grown<N>, TreeStop>
+    requires valid { IsValid N.value area.model.now }
+    requires bounded { KeepsBothBounds (robust N.value area.model.now) area.names.now }
+    requires room { before.count + product_of_ranges (robust N.value area.model.now).variables area.names.now ≤ 1000 }
+    requires admitted { HasScenario (robust N.value area.model.now) }
+    ensures grown { IfOk result (IsGrownTo N.value N.limit (robust N.value area.entry.model.now) area.entry.names.now
+        (search_of N.value before)) }
+    ensures cause { IfErr result (HasCauseBehind N.limit (robust N.value area.entry.model.now) area.entry.names.now
+        (map branch_of area.entry.path.now)) }
+    ensures counted { CountsGrowth L.ops L.wides ledger.old ledger.new result }
+{
+    if before.endless.is_some() {
+        return Ok(Grown {
+            node: Node::Open,
+            after: counted(before),
+        });
+    }
+    match solve_box(alloc, area.model, ledger) {
+        Ok(cert) => grow_from(alloc, area, before, cert, ledger),
+        Err(stop) => Err(stopped(alloc, area.path, stop)),
+    }
+}
+
+/// Grows a box with its certificate: a leaf, or a branch.
+#[cycle(grow)]
+fn grow_from<N: Exact, L: Ledger>(
+    alloc: Global,
+    area: Area<'_, N>,
+    before: Search<N>,
+    cert: Cert<N>,
+    ledger: &mut L,
+) -> Result<Grown<N>, TreeStop>
+    requires valid { IsValid N.value area.model.now }
+    requires bounded { KeepsBothBounds (robust N.value area.model.now) area.names.now }
+    requires room { before.count + product_of_ranges (robust N.value area.model.now).variables area.names.now ≤ 1000 }
+    requires going { before.endless ≡ None }
+    requires proves { Proves (robust N.value area.model.now) (certificate_of N.value cert) }
+    requires shape { HasShape (robust N.value area.model.now) (certificate_of N.value cert) }
+    ensures grown { IfOk result (IsGrownTo N.value N.limit (robust N.value area.entry.model.now) area.entry.names.now
+        (search_of N.value before)) }
+    ensures cause { IfErr result (HasCauseBehind N.limit (robust N.value area.entry.model.now) area.entry.names.now
+        (map branch_of area.entry.path.now)) }
+    ensures counted { CountsGrowth L.ops L.wides ledger.old ledger.new result }
+{
+    match comes_of(area.names, area.model.sense, before, &cert) {
+        Outcome::Ends(after) => Ok(Grown {
+            node: Node::Leaf(cert),
+            after,
+        }),
+        Outcome::Branches(column, k) => grow_branch(alloc, area, before, column, k, ledger),
+    }
+}
+
+/// Grows a box that is branched at K on a variable, as a certificate of it asks.
+#[cycle(grow)]
+fn grow_branch<N: Exact, L: Ledger>(
+    alloc: Global,
+    area: Area<'_, N>,
+    before: Search<N>,
+    column: u32,
+    k: i64,
+    ledger: &mut L,
+) -> Result<Grown<N>, TreeStop>
+    requires valid { IsValid N.value area.model.now }
+    requires bounded { KeepsBothBounds (robust N.value area.model.now) area.names.now }
+    requires room { before.count + product_of_ranges (robust N.value area.model.now).variables area.names.now ≤ 1000 }
+    requires decides { (c : Certificate) × growing.Decides (robust N.value area.model.now) area.names.now
+        (search_of N.value before) c (growing.branches column k) }
+    requires within { (nat_abs k ≤ N.limit) × (k ≢ pos N.limit) }
+    ensures grown { IfOk result (IsGrownTo N.value N.limit (robust N.value area.entry.model.now) area.entry.names.now
+        (search_of N.value before)) }
+    ensures cause { IfErr result (HasCauseBehind N.limit (robust N.value area.entry.model.now) area.entry.names.now
+        (map branch_of area.entry.path.now)) }
+    ensures counted { CountsGrowth L.ops L.wides ledger.old ledger.new result }
+{
+    let at_most = branch_below(column, k);
+    let at_least = branch_above(column, k);
+    match grow_side(alloc, area, before, at_most, ledger) {
+        Err(stop) => Err(stop),
+        Ok(below) => match grow_side(alloc, area, below.after, at_least, ledger) {
+            Err(stop) => Err(stop),
+            Ok(above) => joined(alloc, column, k, below.node, above),
+        },
+    }
+}
+
+/// The node of a branch.
+fn joined<N: Exact>(
+    alloc: Global,
+    column: u32,
+    k: i64,
+    below: Node<N>,
+    above: Grown<N>,
+) -> Result<Grown<N>, TreeStop>
+    ensures joined { IfOk result (λ grown. (grown.after ≡ above.after)
+        × (node_of N.value grown.node ≡ trees.split column k (node_of N.value below) (node_of N.value above.node))) }
+    ensures memory { IfErr result (λ stop. stop ≡ Stop.Memory) }
+{
+    let below = match Box::new(alloc, below) {
+        Ok(below) => below,
+        Err(_) => return Err(TreeStop::Memory),
+    };
+    match Box::new(alloc, above.node) {
+        Ok(node) => Ok(Grown {
+            node: Node::Split(column, k, below, node),
+            after: above.after,
+        }),
+        Err(_) => Err(TreeStop::Memory),
+    }
+}
+
+/// Grows the box behind a branch that a certificate of the area allows.
+#[cycle(grow)]
+fn grow_side<N: Exact, L: Ledger>(
+    alloc: Global,
+    area: Area<'_, N>,
+    before: Search<N>,
+    branch: Branch,
+    ledger: &mut L,
+) -> Result<Grown<N>, TreeStop>
+    requires valid { IsValid N.value area.model.now }
+    requires bounded { KeepsBothBounds (robust N.value area.model.now) area.names.now }
+    requires admitted { HasScenario (robust N.value area.model.now) }
+    requires allowed { growing.IsAllowed (robust N.value area.model.now) area.names.now (branch_of branch) }
+    requires within { nat_abs branch.k ≤ N.limit }
+    requires room { before.count
+        + product_of_ranges (boxes.behind (robust N.value area.model.now) (branch_of branch)).variables area.names.now
+        ≤ 1000 }
+    ensures grown { IfOk result (IsGrownTo N.value N.limit
+        (boxes.behind (robust N.value area.entry.model.now) (branch_of branch)) area.entry.names.now
+        (search_of N.value before)) }
+    ensures cause { IfErr result (HasCauseBehind N.limit (robust N.value area.entry.model.now) area.entry.names.now
+        (map branch_of area.entry.path.now)) }
+    ensures counted { CountsGrowth L.ops L.wides ledger.old ledger.new result }
+{
+    let model = match behind(alloc, area.model, branch) {
+        Ok(model) => model,
+        Err(_) => return Err(TreeStop::Memory),
+    };
+    let path = match longer(alloc, area.path, branch) {
+        Ok(path) => path,
+        Err(_) => return Err(TreeStop::Memory),
+    };
+    let side = Area {
+        model: &model,
+        names: area.names,
+        path: path.items(),
+    };
+    grow(alloc, side, before, ledger)
+}
+
+/// Where a search begins.
+fn start<N: Exact>() -> Search<N>
+    ensures start { search_of N.value result ≡ growing.start }
+{
+    Search {
+        count: 0,
+        best: None,
+        endless: None,
+    }
+}
+
+/// The tree of a search that is over.
+fn tree_by<N: Exact>(grown: Grown<N>) -> Tree<N>
+    ensures tree { tree_of N.value result ≡ growing.tree_by (search_of N.value grown.after).endless
+        (search_of N.value grown.after).best (node_of N.value grown.node) }
+{
+    let nothing = zero(&mut Tally::new());
+    match (grown.after.endless, grown.after.best) {
+        (Some(best), _) => Tree {
+            status: Status::Unbounded,
+            value: nothing,
+            best,
+            root: grown.node,
+        },
+        (None, Some(best)) => Tree {
+            status: Status::Optimal,
+            value: best.value,
+            best: best.number,
+            root: grown.node,
+        },
+        (None, None) => Tree {
+            status: Status::Infeasible,
+            value: nothing,
+            best: 0,
+            root: grown.node,
+        },
+    }
+}
+
+/// The tree of a model whose named variables take whole numbers, by branch and bound: a certificate for each leaf. A
+/// search branches on the first named variable whose number isn't whole, at its floor K, and goes to the box where it
+/// is at most K before that where it is at least K + 1; a box whose optimum is no better than the best whole plan so
+/// far is a leaf, and once a whole plan with an improving direction is found the boxes that are left stay open.
+/// `names` holds the numbers of different variables. `Rule` comes exactly where `whole_rule` gives that number;
+/// `EmptySet` where the model admits no scenario; `Wide` where a number is wide in the box behind that path.
+pub fn grow_tree<N: Exact, L: Ledger>(
+    alloc: Global,
+    model: &Model<N>,
+    names: &[u32],
+    ledger: &mut L,
+) -> Result<Tree<N>, TreeStop>
+    requires valid { IsValid N.value model.now }
+    // The tree is what the model grows into; so it proves, and its status is true over plans with whole numbers.
+    ensures grown { IfOk result (λ tree. growing.IsGrown (robust N.value model.now) names.now (tree_of N.value tree)) }
+    ensures true_of { IfOk result (λ tree. HasWholeStatus (robust N.value model.now) names.now
+        (tree_of N.value tree).status (tree_of N.value tree).value) }
+    ensures shape { IfOk result (λ tree. HasTreeShape N.limit (robust N.value model.now) names.now
+        (tree_of N.value tree)) }
+    ensures cause { IfErr result (HasCause N.limit (robust N.value model.now) names.now) }
+    // A broken rule is always told.
+    ensures rule { (rule : ℕ) → first_rule (robust N.value model.now) names.now ≡ Some rule
+        → result ≡ Error (Stop.Rule rule) }
+    ensures counted { CountsGrowth L.ops L.wides ledger.old ledger.new result }
+{
+    match whole_rule(model, names) {
+        Some(rule) => Err(TreeStop::Rule(rule)),
+        None => grow_root(alloc, model, names, ledger),
+    }
+}
+
+/// The tree of a model whose names break no rule.
+fn grow_root<N: Exact, L: Ledger>(
+    alloc: Global,
+    model: &Model<N>,
+    names: &[u32],
+    ledger: &mut L,
+) -> Result<Tree<N>, TreeStop>
+    requires valid { IsValid N.value model.now }
+    requires kept { first_rule (robust N.value model.now) names.now ≡ None }
+    ensures grown { IfOk result (λ tree. growing.IsGrown (robust N.value model.now) names.now (tree_of N.value tree)) }
+    ensures true_of { IfOk result (λ tree. HasWholeStatus (robust N.value model.now) names.now
+        (tree_of N.value tree).status (tree_of N.value tree).value) }
+    ensures shape { IfOk result (λ tree. HasTreeShape N.limit (robust N.value model.now) names.now
+        (tree_of N.value tree)) }
+    ensures cause { IfErr result (HasCause N.limit (robust N.value model.now) names.now) }
+    ensures counted { CountsGrowth L.ops L.wides ledger.old ledger.new result }
+{
+    let area = Area {
+        model,
+        names,
+        path: &[],
+    };
+    match solve_box(alloc, model, ledger) {
+        Err(stop) => Err(stopped(alloc, &[], stop)),
+        Ok(cert) => match grow_from(alloc, area, start(), cert, ledger) {
+            Err(stop) => Err(stop),
+            Ok(grown) => Ok(tree_by(grown)),
+        },
+    }
+}

@@ -1,0 +1,5 @@
+pub mod View
+pub mod Shape
+pub mod TreeText
+pub mod Reading
+pub mod Parts

@@ -1,0 +1,26 @@
+//! Branch trees: what shows a status over plans with whole numbers; the boxes that branches make; and the text of a
+//! tree, written and read.
+#![tactic(auto)]
+
+pub mod boxes;
+pub mod copy;
+pub mod error;
+pub mod laws;
+mod lines;
+mod nodes;
+mod part;
+pub mod reader;
+pub mod rules;
+pub mod tree;
+pub mod verdict;
+pub mod whole_number;
+pub mod writer;
+
+pub use boxes::behind;
+pub use copy::copy_model;
+pub use error::{TreeErr, TreeStop};
+pub use reader::read_tree;
+pub use rules::whole_rule;
+pub use tree::{Branch, Node, Tree};
+pub use verdict::{LeafFault, TreeVerdict};
+pub use writer::write_tree;

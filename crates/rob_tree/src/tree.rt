@@ -1,0 +1,37 @@
+//! Branch trees. (Land, Doig, An automatic method of solving discrete programming problems; Nemhauser, Wolsey, Integer
+//! and Combinatorial Optimization, chapter II.4.)
+
+use rob_cert::{Cert, Status};
+
+/// A branch: a bound of a variable that a box has beyond the model's own.
+#[derive(Clone, Copy, Debug, PartialEq, Eq)]
+pub struct Branch {
+    /// The variable's number, which is that of its decision column.
+    pub column: u32,
+    /// Whether the variable is at most `k`; else it is at least `k`.
+    pub at_most: bool,
+    pub k: i64,
+}
+
+/// A node of a branch tree, which stands for a box.
+#[derive(Debug, Drop)]
+pub enum Node<N> {
+    /// A certificate of the box.
+    Leaf(Cert<N>),
+    /// A branch on a variable at K: the node of the box where it is at most K, and that of the box where it is at least
+    /// K + 1.
+    Split(u32, i64, Box<Node<N>>, Box<Node<N>>),
+    /// A box that is left open, since the model is shown to be unbounded without it.
+    Open,
+}
+
+/// A branch tree, and what it claims of the model over plans with whole numbers.
+#[derive(Debug, Drop)]
+pub struct Tree<N> {
+    pub status: Status,
+    /// The optimum; 0 where the status is another.
+    pub value: N,
+    /// The number of the leaf that shows the status, from 1; 0 in an infeasible tree.
+    pub best: u32,
+    pub root: Node<N>,
+}
