@@ -1,0 +1,4 @@
+pub mod BudgetLemmas
+pub mod LimitLemmas
+pub mod AnswerLemmas
+pub mod SweepLemmas
