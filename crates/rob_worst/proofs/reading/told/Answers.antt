@@ -1,0 +1,7 @@
+use Rattle.std.proofs.Common.{subst}
+use Rattle.rob_number.specs.declared.lp_kind.LpKind.{LpKind}
+use Rattle.rob_worst.specs.Finders.{program_of_set, HasSearched}
+use Rattle.rob_worst.proofs.reading.told.Goals as goal
+
+pub greatest-requires-clause-searched : goal.greatest-requires-clause-searched
+greatest-requires-clause-searched g c = subst (λ (k : LpKind). HasSearched (program_of_set c.args.set.now) c.args.task.now.cost k c.args.work.now) c.in-Optimal.is c.requires.searched

@@ -1,0 +1,20 @@
+use Rattle.std.proofs.Common.{suc, map, List, true, ap, ◌∙◌, subst}
+use Rattle.std.specs.Prelude.{MatchResult}
+use Rattle.rob_algebra.specs.Fraction.{Fraction}
+use Rattle.rob_worst.specs.Finding.{HasSearchCause}
+use Rattle.rob_worst.specs.Tasks.{IsTaskOf}
+use Rattle.rob_worst.specs.Vectors.{step_of}
+use Rattle.rob_worst.proofs.VectorLemmas.{step_count, count_back}
+use Rattle.rob_worst.proofs.task.step_task.Goals as goal
+
+pub task_at-requires-clause-size : goal.task_at-requires-clause-size
+task_at-requires-clause-size g c =
+    let value = g.N.Exact.value in
+    count_back value c.items.result.now (step_of value c.args.step.now) (suc (suc c.args.forms.now.columns)) (ap (map value) c.items.ensures.list ∙ c.in-Ok.ensures.vector)
+    (step_count value c.args.step.now c.args.forms.now.columns c.requires.size)
+
+pub returns-in-Ok-clause-task : goal.returns-in-Ok-clause-task
+returns-in-Ok-clause-task g c = λ m f s.
+    let value = g.N.Exact.value in
+    subst (λ (z : List Fraction). MatchResult c.task_at.result (IsTaskOf m true c.args.form z) (HasSearchCause g.N.Exact.limit m true c.args.form z))
+    (ap (map value) c.items.ensures.list ∙ c.in-Ok.ensures.vector) (c.task_at.ensures.task m f s)

@@ -1,0 +1,94 @@
+use Rattle.std.proofs.Common.{◌≡◌, ◌≤◌, ◌-◌, ◌^◌, suc, map, refl, ap, ◌∙◌, subst, sym, arith, to_z, of_z, w64, List}
+use lib.IntN.{ℤ, pos, nat_abs}
+use Rattle.rob_algebra.specs.Fraction.{Fraction}
+use Rattle.rob_algebra.specs.Width.{IsWideWhole}
+use Rattle.rob_meaning.specs.Clearing.{whole_at}
+use Rattle.rob_meaning.specs.Places.{Each}
+use Rattle.rob_model.specs.declared.place.Spot.TheVariants.{Clearing}
+use Rattle.rob_model.specs.declared.place.Where.{Where}
+use Rattle.rob_runs.specs.Cuts.{wholes}
+use Rattle.rob_sets.specs.FirstWide.{Some_of}
+use Rattle.rob_sets.specs.Stops.{StopsFor}
+use Rattle.rob_sets.specs.declared.error.Stop.{Stop as Refusal}
+use Rattle.rob_dualize.proofs.MakingLemmas.{parameters_low}
+use Rattle.rob_dualize.proofs.Soundness.{forms_sound, elaborated_weaker}
+use Rattle.rob_worst.specs.Costs.{IsWidePart, StopsAtPart}
+use Rattle.rob_worst.specs.Refusals.{IsWideStop}
+use Rattle.rob_worst.proofs.CostLemmas.{held}
+use Rattle.rob_worst.proofs.StopLemmas.{cleared_cause, constant_cause, costs_cause}
+use Rattle.rob_worst.proofs.TaskLemmas.{fits_set, common_seen, constant_told, costs_told}
+use Rattle.rob_worst.proofs.VectorLemmas.{cleared_count}
+use Rattle.rob_worst.proofs.task.task_at.Goals as goal
+
+pub part-requires : goal.part-requires
+part-requires g c = record {
+  sound = forms_sound c.args.forms.now c.args.set.now (elaborated_weaker 4611686018427387903 c.args.forms.now c.args.set.now g.met.N.Exact.limit_high c.requires.model);
+  form_in = c.requires.form_in;
+  row_in = omega arith;
+  size = cleared_count g.N.Exact.value c.args.vector.now c.in-Some.common c.items.result.now (suc (suc c.args.forms.now.columns)) (c.items.ensures.list ∙ c.in-Ok.ensures.cleared) c.requires.size;
+  fits = subst (λ (xs : List ℤ). Each (λ a. nat_abs a ≤ g.N.Exact.limit) xs) (sym c.items.ensures.list) c.in-Ok.ensures.fits;
+}
+
+pub costs-requires : goal.costs-requires
+costs-requires g c = record {
+  sound = forms_sound c.args.forms.now c.args.set.now (elaborated_weaker 4611686018427387903 c.args.forms.now c.args.set.now g.met.N.Exact.limit_high c.requires.model);
+  form_in = c.requires.form_in;
+  size = cleared_count g.N.Exact.value c.args.vector.now c.in-Some.common c.items-2.result.now (suc (suc c.args.forms.now.columns)) (c.items-2.ensures.list ∙ c.in-Ok.ensures.cleared) c.requires.size;
+  fits = subst (λ (xs : List ℤ). Each (λ a. nat_abs a ≤ g.N.Exact.limit) xs) (sym c.items-2.ensures.list) c.in-Ok.ensures.fits;
+}
+
+pub returns-in-Err-Wide-clause-task : goal.returns-in-Err-Wide-clause-task
+returns-in-Err-Wide-clause-task g c = λ m f s.
+    let z : List Fraction = map g.N.Exact.value c.args.vector.now in
+    cleared_cause g.N.Exact.limit m c.args.by_step c.args.form z c.wide_at-in-Err-Wide.result c.in-Some.common
+    (subst (λ (p : Where). IsWideStop (Clearing p) c.wide_at-in-Err-Wide.result) c.place-in-Err-Wide.ensures.place c.wide_at-in-Err-Wide.ensures.stop)
+    c.in-Some.ensures.least.0
+    (subst (λ (r : Refusal). StopsFor (Some_of (λ q. IsWideWhole g.N.Exact.limit (whole_at c.in-Some.common q)) z) r) c.in-Err-Wide.field-0-is c.in-Err-Wide.ensures.wide)
+
+pub returns-in-None-part-clause-task : goal.returns-in-None-part-clause-task
+returns-in-None-part-clause-task g c = λ m f s.
+    let z : List Fraction = map g.N.Exact.value c.args.vector.now in
+    let is : c.items.result.now ≡ wholes z = c.items.ensures.list ∙ c.in-Ok.ensures.cleared ∙ ap (λ d. map (whole_at d) z) c.in-Some.ensures.least.0 in
+    constant_cause g.N.Exact.limit m c.args.by_step c.args.form z c.args.forms.now f c.wide_at-in-None-part.result c.wide_at-in-None-part.ensures.stop
+    (subst (λ (xs : List ℤ). IsWidePart c.args.forms.now c.args.form g.N.Exact.limit 0 xs) is c.in-None-part.ensures.number)
+
+pub returns-in-Ok-costs-clause-fits : goal.returns-in-Ok-costs-clause-fits
+returns-in-Ok-costs-clause-fits g c =
+    let n : nat_abs c.in-Some-part.constant ≤ 2 ^ 62 - 1 = omega (arith, c.in-Some-part.ensures.number.1, g.met.N.Exact.limit_high) in
+    let d : to_z w64 c.in-Some.common ≡ pos c.in-Some.common = common_seen g.N.Exact.limit c.in-Some.common g.met.N.Exact.limit_high c.in-Some.ensures.least.1 in
+    fits_set g.N.Exact.limit c.args.set.now.columns c.args.forms.now c.items-2.result.now
+    (record {
+      form = c.args.form;
+      by_step = c.args.by_step;
+      params = c.args.forms.now.params;
+      common = to_z w64 c.in-Some.common;
+      constant = to_z w64 (of_z w64 c.in-Some-part.constant);
+      cost = c.in-Ok-costs.cost;
+    })
+    (parameters_low c.args.forms.now c.args.set.now c.requires.model)
+    c.in-Ok-costs.ensures.costs c.in-Ok-costs.ensures.within
+    (subst (λ v. nat_abs v ≤ g.N.Exact.limit) (sym d) c.in-Some.ensures.least.1)
+    (subst (λ v. nat_abs v ≤ g.N.Exact.limit) (sym (held c.in-Some-part.constant n)) c.in-Some-part.ensures.number.1)
+
+pub returns-in-Ok-costs-clause-task : goal.returns-in-Ok-costs-clause-task
+returns-in-Ok-costs-clause-task g c = λ m f s.
+    let z : List Fraction = map g.N.Exact.value c.args.vector.now in
+    let n : nat_abs c.in-Some-part.constant ≤ 2 ^ 62 - 1 = omega (arith, c.in-Some-part.ensures.number.1, g.met.N.Exact.limit_high) in
+    let first : c.items.result.now ≡ wholes z = c.items.ensures.list ∙ c.in-Ok.ensures.cleared ∙ ap (λ d. map (whole_at d) z) c.in-Some.ensures.least.0 in
+    let second : c.items-2.result.now ≡ wholes z = c.items-2.ensures.list ∙ c.in-Ok.ensures.cleared ∙ ap (λ d. map (whole_at d) z) c.in-Some.ensures.least.0 in
+    record {
+      form = refl;
+      step = refl;
+      parameters = f.params;
+      common = common_seen g.N.Exact.limit c.in-Some.common g.met.N.Exact.limit_high c.in-Some.ensures.least.1 ∙ ap pos c.in-Some.ensures.least.0;
+      constant = constant_told m c.args.forms.now f c.args.form z c.items.result.now first (to_z w64 (of_z w64 c.in-Some-part.constant))
+          (held c.in-Some-part.constant n ∙ c.in-Some-part.ensures.number.0);
+      costs = costs_told m c.args.forms.now f c.args.form z c.items-2.result.now second c.args.set.now.columns s.columns c.in-Ok-costs.cost c.in-Ok-costs.ensures.costs;
+    }
+
+pub returns-clause-task : goal.returns-clause-task
+returns-clause-task g c = λ m f s.
+    let z : List Fraction = map g.N.Exact.value c.args.vector.now in
+    let is : c.items-2.result.now ≡ wholes z = c.items-2.ensures.list ∙ c.in-Ok.ensures.cleared ∙ ap (λ d. map (whole_at d) z) c.in-Some.ensures.least.0 in
+    costs_cause g.N.Exact.limit m c.args.by_step c.args.form z c.args.forms.now f c.in-Err.stop
+    (subst (λ (xs : List ℤ). StopsAtPart c.args.forms.now c.args.form g.N.Exact.limit xs c.in-Err.stop) is c.in-Err.ensures.costs)

@@ -1,0 +1,89 @@
+-- What a search for the worst case of a form answers: the greatest value with a scenario that has it and amounts that
+-- show it, or a ray along which there is none; or why it has no answer.
+-- Bertsimas, Dunning, Lubin, Reformulation versus cutting-planes for robust optimization (2016).
+use Rattle.std.specs.Prelude.{◌≡◌, ◌⊎◌, ◌≤◌, ℕ, nat_abs, Bool, true, false, List, [], map, Result, MatchResult, IfOk, IfErr, ⊤}
+use Rattle.rob_algebra.specs.Fraction.{Fraction, of_int}
+use Rattle.rob_meaning.specs.RobustModel.{RobustModel}
+use Rattle.rob_meaning.specs.UncertaintySet.{Admits}
+use Rattle.rob_counterpart.specs.Counterpart.{set_program}
+use Rattle.rob_runs.specs.Searches.{FindsRay}
+use Rattle.rob_runs.specs.Told.{TellsWorst}
+use Rattle.rob_runs.specs.Spots.{TellsWideRow, IsWideSearch, search_row, clearing, cost}
+use Rattle.rob_model.specs.declared.place.Spot.{Spot}
+use Rattle.rob_model.specs.declared.place.Spot.TheVariants as spot
+use Rattle.rob_model.specs.declared.place.Program.TheVariants as program
+use Rattle.rob_model.specs.declared.place.Where.TheVariants as where_at
+use Rattle.rob_model.specs.View.{scenario_of}
+use Rattle.rob_cert.specs.declared.ending.Stop.{Stop}
+use Rattle.rob_cert.specs.declared.ending.Stop.TheVariants.{EmptySet, Wide, Memory}
+use Rattle.rob_cert.specs.declared.ending.Worst.{Worst}
+use Rattle.rob_cert.specs.declared.ending.Worst.TheVariants.{At, Along}
+use Rattle.rob_dualize.specs.Solving.{IsShownEmpty, CountsStop}
+
+-- ---- the answer
+
+-- it is read off the last basis of the search for form i at z: its scenario and its amounts, or its ray
+abbrev pub Tells : {N : Type 0} → (N → Fraction) → RobustModel → ℕ → List Fraction → Worst N → Type 0
+Tells value m i z (At denominator peak constant scenario basis amounts) =
+    TellsWorst m i z (value denominator) (value peak) (of_int constant) (scenario_of value scenario) basis
+    (map value amounts)
+Tells value m i z (Along ray basis column) = FindsRay m i z basis column (map value ray)
+
+-- the constant part that it tells is within the limit
+abbrev pub HasConstantWithin : {N : Type 0} → ℕ → Worst N → Type 0
+HasConstantWithin limit (At denominator peak constant scenario basis amounts) = nat_abs constant ≤ limit
+HasConstantWithin limit (Along ray basis column) = ⊤
+
+-- ---- refusals
+
+-- the number at the spot is wide in the search for form i at the plan z, or by step at the direction z
+abbrev pub IsWideAt : ℕ → RobustModel → Bool → ℕ → List Fraction → Spot → Type 0
+IsWideAt limit m by_step i z (spot.Dictionary (program.SearchPlan f) basis p) =
+    IsWideSearch limit m by_step i z (search_row false f basis p)
+IsWideAt limit m by_step i z (spot.Dictionary (program.SearchMove f) basis p) =
+    IsWideSearch limit m by_step i z (search_row true f basis p)
+IsWideAt limit m by_step i z (spot.Clearing where_at.Plan) = IsWideSearch limit m by_step i z (clearing false)
+IsWideAt limit m by_step i z (spot.Clearing where_at.Move) = IsWideSearch limit m by_step i z (clearing true)
+IsWideAt limit m by_step i z (spot.Sum (where_at.Cost f) k) = IsWideSearch limit m by_step i z (cost f k)
+IsWideAt limit m by_step i z other = ⊥
+
+-- why a search on the solved program of the set has no answer: a number is wide; memory is free
+abbrev pub HasSearchCause : ℕ → RobustModel → Bool → ℕ → List Fraction → Stop → Type 0
+HasSearchCause limit m by_step i z (EmptySet weights) = ⊥
+HasSearchCause limit m by_step i z (Wide place trace) = IsWideAt limit m by_step i z place × (trace.rounds ≡ [])
+HasSearchCause limit m by_step i z Memory = ⊤
+
+-- the row at the spot is wide on the path of the set's program
+abbrev pub IsWideInSet : ℕ → RobustModel → Spot → Type 0
+IsWideInSet limit m (spot.Dictionary program.Set basis p) = TellsWideRow limit (set_program m) basis p
+IsWideInSet limit m other = ⊥
+
+-- why the set's program is not solved to a scenario: none is admitted, as the weights show; or a row is wide
+abbrev pub HasSetCause : ℕ → RobustModel → Stop → Type 0
+HasSetCause limit m (EmptySet weights) = IsShownEmpty m (map of_int weights)
+HasSetCause limit m (Wide place trace) = IsWideInSet limit m place × (trace.rounds ≡ [])
+HasSetCause limit m Memory = ⊤
+
+-- some scenario is admitted
+abbrev pub IsNonempty : RobustModel → Type 0
+IsNonempty m = (scenario : List Fraction) × Admits m scenario
+
+-- the cause of the set's program, or, where some scenario is admitted, the search's
+abbrev pub HasCause : ℕ → RobustModel → Bool → ℕ → List Fraction → Stop → Type 0
+HasCause limit m by_step i z stop = HasSetCause limit m stop ⊎ (IsNonempty m × HasSearchCause limit m by_step i z stop)
+
+-- ---- both
+
+-- the answer of a search on the solved program of the set; and how often wide results were counted
+pub record Searches {N : Type 0} (value : N → Fraction) (limit : ℕ) (m : RobustModel) (by_step : Bool) (i : ℕ)
+    (z : List Fraction) (before now : ℕ) (result : Result (Worst N) Stop) : Type 0 where
+  pub found : IfOk result (Tells value m i z)
+  pub stopped : IfErr result (HasSearchCause limit m by_step i z)
+  pub counted : MatchResult result (λ _. now ≡ before) (CountsStop before now)
+
+-- the same where the set's program is solved first
+pub record FindsWorst {N : Type 0} (value : N → Fraction) (limit : ℕ) (m : RobustModel) (by_step : Bool) (i : ℕ)
+    (z : List Fraction) (before now : ℕ) (result : Result (Worst N) Stop) : Type 0 where
+  pub found : IfOk result (λ worst. IsNonempty m × Tells value m i z worst)
+  pub stopped : IfErr result (HasCause limit m by_step i z)
+  pub counted : MatchResult result (λ _. now ≡ before) (CountsStop before now)

@@ -1,0 +1,170 @@
+// Searches on one solved program of the set.
+
+ghost use Rattle.std.specs.Prelude.{◌≡◌, ◌<◌, suc, ℕ, Bool, true, false, List, length, IfOk, IfErr, MatchResult};
+ghost use Rattle.rob_algebra.specs.Fraction.{Fraction};
+ghost use Rattle.rob_meaning.specs.Forms.{matrices, form_columns};
+ghost use Rattle.rob_meaning.specs.RobustModel.{RobustModel};
+ghost use Rattle.rob_meaning.specs.UncertaintySet.{Admits};
+ghost use Rattle.rob_meaning.specs.WellFormed.{IsModel};
+ghost use Rattle.rob_model.specs.View.{scenario_of};
+ghost use Rattle.rob_number.specs.Counts.{NeverFell};
+ghost use Rattle.rob_sets.specs.SetForm.{IsSetForm};
+ghost use Rattle.rob_sets.specs.declared.set_form.SetForm.{SetForm as SetRows};
+ghost use Rattle.rob_elab.specs.Elaborated.{AreElaborated};
+ghost use Rattle.rob_elab.specs.Forms.{IsForms};
+ghost use Rattle.rob_dualize.specs.Solving.{CountsStop, IsLastScenario};
+ghost use Rattle.rob_worst.specs.Finders.{IsSetOfModel, IsFewSet, IsFinder};
+ghost use Rattle.rob_worst.specs.Finding.{HasConstantWithin, HasSetCause, HasSearchCause, IsNonempty, Searches};
+ghost use Rattle.rob_worst.specs.Tasks.{FitsSet, IsTaskOf};
+ghost use Rattle.rob_worst.specs.Vectors.{plan_of, step_of};
+
+use crate::reading::{parameters, told};
+use crate::refusal::{count, program};
+use crate::start::{set_work, solved};
+use crate::task::{Task, plan_task, step_task};
+use rob_cert::{Stop, Worst};
+use rob_dualize::stop::{or_stop, position, wide};
+use rob_elab::Forms;
+use rob_model::{Plan, Scenario};
+use rob_number::{Exact, Ledger, Memory};
+use rob_sets::SetForm;
+use rob_simplex::Work;
+use std::alloc::Global;
+
+/// Finds worst scenarios over one uncertainty set. The set's program is solved once; each search goes on from there
+/// with its own cost, so that what it finds doesn't depend on the searches before it. (The pessimisation problem of
+/// robust optimisation.)
+#[derive(Drop)]
+pub struct Finder<N: Exact> {
+    /// Stands at the last basis of the set's program.
+    solved: Work<N>,
+    /// Is set to it, and goes on.
+    search: Work<N>,
+}
+
+impl<N: Exact> Finder<N> {
+    /// Solves the set's program. `EmptySet` comes where no scenario is admitted, with the weights of the set rows that
+    /// show it; `Wide` where a row of a basis on the program's path has a number over the limit.
+    pub fn new<L: Ledger>(alloc: Global, set: &SetForm, ledger: &mut L) -> Result<Finder<N>, Stop>
+        requires model { IsSetOfModel N.limit set.now }
+        requires few { IsFewSet set.now }
+        ensures finder { IfOk result (λ finder. IsFinder set.now finder) }
+        ensures answer { (m : RobustModel) → IsModel m → IsSetForm m set.now
+            → MatchResult result (λ _. IsNonempty m) (HasSetCause N.limit m) }
+        ensures wides { MatchResult result (λ _. L.wides ledger.new ≡ L.wides ledger.old)
+            (CountsStop (L.wides ledger.old) (L.wides ledger.new)) }
+        ensures counted { NeverFell L.ops L.wides ledger.old ledger.new }
+    {
+        let search = match set_work::<N>(alloc, set) {
+            Ok(search) => search,
+            Err(Memory) => return Err(Stop::Memory),
+        };
+        match solved(alloc, set, ledger) {
+            Ok(solved) => Ok(Finder { solved, search }),
+            Err(stop) => Err(stop),
+        }
+    }
+
+    /// The worst scenario of a form at a plan with its bound. `Wide` comes where a number on the way is over the limit:
+    /// the plan's least common denominator or a number of the plan times it, a prefix of a sum that makes the search's
+    /// costs, or a number of a row on the search's path.
+    pub fn at_plan<L: Ledger>(
+        &mut self,
+        alloc: Global,
+        forms: &Forms,
+        set: &SetForm,
+        form: u32,
+        plan: &Plan<N>,
+        ledger: &mut L,
+    ) -> Result<Worst<N>, Stop>
+        requires model { AreElaborated N.limit forms.now set.now }
+        requires few { IsFewSet set.now }
+        requires finder { IsFinder set.now self.old }
+        requires form_in { form < length forms.now.matrices }
+        requires size { length plan.now.columns ≡ forms.now.columns }
+        ensures answer { (m : RobustModel) → IsModel m → IsForms m forms.now → IsSetForm m set.now
+            → Searches N.value N.limit m false form (plan_of N.value plan.now)
+            (L.wides ledger.old) (L.wides ledger.new) result }
+        ensures within { IfOk result (HasConstantWithin N.limit) }
+        ensures finder { IsFinder set.now self.new }
+        ensures counted { NeverFell L.ops L.wides ledger.old ledger.new }
+    {
+        let task = plan_task(alloc, forms, set, form, plan);
+        self.search(alloc, set, task, ledger)
+    }
+
+    /// The same along a direction: a number for each decision column, and last the one for the bound. The constant
+    /// column counts 0.
+    pub fn at_step<L: Ledger>(
+        &mut self,
+        alloc: Global,
+        forms: &Forms,
+        set: &SetForm,
+        form: u32,
+        step: &[N],
+        ledger: &mut L,
+    ) -> Result<Worst<N>, Stop>
+        requires model { AreElaborated N.limit forms.now set.now }
+        requires few { IsFewSet set.now }
+        requires finder { IsFinder set.now self.old }
+        requires form_in { form < length forms.now.matrices }
+        requires size { length step.now ≡ suc forms.now.columns }
+        ensures answer { (m : RobustModel) → IsModel m → IsForms m forms.now → IsSetForm m set.now
+            → Searches N.value N.limit m true form (step_of N.value step.now)
+            (L.wides ledger.old) (L.wides ledger.new) result }
+        ensures within { IfOk result (HasConstantWithin N.limit) }
+        ensures finder { IsFinder set.now self.new }
+        ensures counted { NeverFell L.ops L.wides ledger.old ledger.new }
+    {
+        let task = step_task(alloc, forms, set, form, step);
+        self.search(alloc, set, task, ledger)
+    }
+
+    /// The search: from the set's last basis, with the task's cost.
+    fn search<L: Ledger>(
+        &mut self,
+        alloc: Global,
+        set: &SetForm,
+        task: Result<Task, Stop>,
+        ledger: &mut L,
+    ) -> Result<Worst<N>, Stop>
+        requires few { IsFewSet set.now }
+        requires finder { IsFinder set.now self.old }
+        requires task { IfOk task (λ task. FitsSet N.limit set.now.columns task) }
+        ensures answer { (m : RobustModel) → IsModel m → IsSetForm m set.now
+            → (step : Bool) (i : ℕ) → i < length (matrices m) → (z : List Fraction) → length z ≡ form_columns m
+            → MatchResult task (IsTaskOf m step i z) (HasSearchCause N.limit m step i z)
+            → Searches N.value N.limit m step i z (L.wides ledger.old) (L.wides ledger.new) result }
+        ensures within { IfOk result (HasConstantWithin N.limit) }
+        ensures finder { IsFinder set.now self.new }
+        ensures counted { NeverFell L.ops L.wides ledger.old ledger.new }
+    {
+        let task = match task {
+            Ok(task) => task,
+            Err(stop) => {
+                count(&stop, ledger);
+                return Err(stop);
+            }
+        };
+        self.search.set_to(&self.solved);
+        match self.search.resume(task.cost.items(), ledger) {
+            Ok(kind) => or_stop(told(alloc, set, &task, kind, &self.search)),
+            Err(stop) => {
+                let rows = set.rows.items().len() as u32;
+                let program = program(task.by_step, task.form);
+                Err(wide(alloc, &self.search, program, rows, position(stop)))
+            }
+        }
+    }
+
+    /// An admitted scenario: the parameters of the basic solution of the last basis of the set's program.
+    pub fn inside(&self, alloc: Global, forms: &Forms) -> Result<Scenario<N>, Memory>
+        requires finder { (set : SetRows) × AreElaborated N.limit forms.now set × IsFewSet set × IsFinder set self.now }
+        ensures scenario { IfOk result (λ scenario. (m : RobustModel) (set : SetRows) → IsModel m → IsForms m forms.now
+            → IsSetForm m set → IsFinder set self.now
+            → Admits m (scenario_of N.value scenario) × IsLastScenario m (scenario_of N.value scenario)) }
+    {
+        let values = parameters(alloc, &self.solved, forms.params)?;
+        Ok(Scenario { values })
+    }
+}

@@ -1,0 +1,125 @@
+// What a search tells, read off the solver's last dictionary.
+
+ghost use Rattle.std.specs.Prelude.{◌≡◌, ◌<◌, ◌≤◌, ◌+◌, ◌^◌, ℕ, Bool, List, map, length, IfOk};
+ghost use Rattle.rob_algebra.specs.Fraction.{Fraction};
+ghost use Rattle.rob_meaning.specs.Forms.{matrices, form_columns};
+ghost use Rattle.rob_meaning.specs.RobustModel.{RobustModel};
+ghost use Rattle.rob_counterpart.specs.ReadNumbers.{differences};
+ghost use Rattle.rob_counterpart.specs.Splitting.{plus, minus, OneIsZero};
+ghost use Rattle.rob_number.specs.declared.lp_kind.LpKind.TheVariants as kinds;
+ghost use Rattle.rob_sets.specs.SetForm.{IsSetForm};
+ghost use Rattle.rob_simplex.specs.Solvers.{HasPoint, HasRay};
+ghost use Rattle.rob_simplex.specs.Solutions.{point_of, ray_of};
+ghost use Rattle.rob_worst.specs.Finders.{program_of_set, IsFewSet, HasSearched};
+ghost use Rattle.rob_worst.specs.Finding.{HasConstantWithin, Tells};
+ghost use Rattle.rob_worst.specs.Tasks.{FitsSet, IsTaskOf};
+
+use crate::task::Task;
+use rob_cert::Worst;
+use rob_dualize::reading::pair_differences;
+use rob_dualize::told::{basis, dual_values, point, ray, whole};
+use rob_model::Scenario;
+use rob_number::{Exact, List, LpKind, Memory};
+use rob_sets::SetForm;
+use rob_simplex::Work;
+use std::alloc::Global;
+
+/// What the search tells: the worst scenario, or a ray.
+pub fn told<N: Exact>(
+    alloc: Global,
+    set: &SetForm,
+    task: &Task,
+    kind: LpKind,
+    work: &Work<N>,
+) -> Result<Worst<N>, Memory>
+    requires few { IsFewSet set.now }
+    requires task { FitsSet N.limit set.now.columns task.now }
+    requires searched { HasSearched (program_of_set set.now) task.now.cost kind work.now }
+    ensures told { IfOk result (λ worst. (m : RobustModel) → IsSetForm m set.now
+        → (step : Bool) (i : ℕ) → i < length (matrices m) → (z : List Fraction) → length z ≡ form_columns m
+        → IsTaskOf m step i z task.now → Tells N.value m i z worst) }
+    ensures within { IfOk result (HasConstantWithin N.limit) }
+{
+    match kind {
+        LpKind::Optimal => greatest(alloc, set, task, work),
+        LpKind::Infeasible | LpKind::Unbounded => along(alloc, set, task, work),
+    }
+}
+
+/// The worst scenario: the parameters of the solver's point. The amounts are the dual values.
+fn greatest<N: Exact>(
+    alloc: Global,
+    set: &SetForm,
+    task: &Task,
+    work: &Work<N>,
+) -> Result<Worst<N>, Memory>
+    requires few { IsFewSet set.now }
+    requires task { FitsSet N.limit set.now.columns task.now }
+    requires searched { HasSearched (program_of_set set.now) task.now.cost kinds.Optimal work.now }
+    ensures told { IfOk result (λ worst. (m : RobustModel) → IsSetForm m set.now
+        → (step : Bool) (i : ℕ) → i < length (matrices m) → (z : List Fraction) → length z ≡ form_columns m
+        → IsTaskOf m step i z task.now → Tells N.value m i z worst) }
+    ensures within { IfOk result (HasConstantWithin N.limit) }
+{
+    let rows = set.rows.items().len() as u32;
+    let values = parameters(alloc, work, task.params)?;
+    let basis = basis(alloc, work, rows)?;
+    let amounts = dual_values(alloc, work, rows)?;
+    Ok(Worst::At {
+        scale: whole(task.common),
+        peak: work.value(),
+        constant: task.constant,
+        scenario: Scenario { values },
+        basis,
+        amounts,
+    })
+}
+
+/// The ray: the parameters of the solver's ray.
+fn along<N: Exact>(
+    alloc: Global,
+    set: &SetForm,
+    task: &Task,
+    work: &Work<N>,
+) -> Result<Worst<N>, Memory>
+    requires few { IsFewSet set.now }
+    requires task { FitsSet N.limit set.now.columns task.now }
+    requires searched { HasSearched (program_of_set set.now) task.now.cost kinds.Unbounded work.now }
+    ensures told { IfOk result (λ worst. (m : RobustModel) → IsSetForm m set.now
+        → (step : Bool) (i : ℕ) → i < length (matrices m) → (z : List Fraction) → length z ≡ form_columns m
+        → IsTaskOf m step i z task.now → Tells N.value m i z worst) }
+    ensures within { IfOk result (HasConstantWithin N.limit) }
+{
+    let rows = set.rows.items().len() as u32;
+    let ray = direction(alloc, work, task.params)?;
+    let basis = basis(alloc, work, rows)?;
+    Ok(Worst::Along {
+        ray,
+        basis,
+        column: work.column(),
+    })
+}
+
+/// The differences of the first pairs of the solver's point.
+pub fn parameters<N: Exact>(alloc: Global, work: &Work<N>, count: u32) -> Result<List<N>, Memory>
+    requires point { HasPoint work.now }
+    requires few { count < 2 ^ 31 }
+    requires inside { count + count ≤ work.now.columns }
+    requires pairs { (c : ℕ) → c < count → OneIsZero (point_of work.now (plus c)) (point_of work.now (minus c)) }
+    ensures parameters { IfOk result (λ list. map N.value list ≡ differences count (point_of work.now)) }
+{
+    let numbers = point(alloc, work, 2 * count)?;
+    pair_differences(alloc, numbers.items(), count as usize)
+}
+
+/// Those of its ray.
+fn direction<N: Exact>(alloc: Global, work: &Work<N>, count: u32) -> Result<List<N>, Memory>
+    requires ray { HasRay work.now }
+    requires few { count < 2 ^ 31 }
+    requires inside { count + count ≤ work.now.columns }
+    requires pairs { (c : ℕ) → c < count → OneIsZero (ray_of work.now (plus c)) (ray_of work.now (minus c)) }
+    ensures parameters { IfOk result (λ list. map N.value list ≡ differences count (ray_of work.now)) }
+{
+    let numbers = ray(alloc, work, 2 * count)?;
+    pair_differences(alloc, numbers.items(), count as usize)
+}

@@ -1,0 +1,126 @@
+// What a search is set: a form at a vector, in whole numbers.
+
+ghost use Rattle.std.specs.Prelude.{◌≡◌, ◌<◌, suc, true, false, map, length, IfOk, MatchResult};
+ghost use Rattle.rob_meaning.specs.RobustModel.{RobustModel};
+ghost use Rattle.rob_sets.specs.SetForm.{IsSetForm};
+ghost use Rattle.rob_elab.specs.Elaborated.{AreElaborated};
+ghost use Rattle.rob_elab.specs.Forms.{IsForms};
+ghost use Rattle.rob_worst.specs.Finding.{HasSearchCause};
+ghost use Rattle.rob_worst.specs.Tasks.{FitsSet, IsTaskOf};
+ghost use Rattle.rob_worst.specs.Vectors.{plan_of, step_of};
+
+use crate::cost::{costs, part};
+use crate::refusal::{place, wide_at};
+use crate::vector::{cleared, plan_vector, step_vector};
+use rob_cert::Stop;
+use rob_elab::Forms;
+use rob_model::{Plan, Spot, Where};
+use rob_number::{Exact, List, Memory};
+use rob_sets::SetForm;
+use rob_sets::clearing::denominator;
+use rob_sets::error::Stop as Refusal;
+use std::alloc::Global;
+
+/// The search for the worst case of a form, in whole numbers.
+#[derive(Drop)]
+pub struct Task {
+    /// The form, by its number.
+    pub form: u32,
+    /// Whether it is taken at a direction, and not at a plan.
+    pub by_step: bool,
+    /// The number of parameters, which are the first columns of the set.
+    pub params: u32,
+    /// The least common denominator of the plan with its bound, or of the direction.
+    pub common: i64,
+    /// The form's constant part at the cleared vector.
+    pub constant: i64,
+    /// The costs of the set's program: for each set column the form's number, and behind it its negation.
+    pub cost: List<i64>,
+}
+
+/// The search for a form at a plan with its bound.
+pub fn plan_task<N: Exact>(
+    alloc: Global,
+    forms: &Forms,
+    set: &SetForm,
+    form: u32,
+    plan: &Plan<N>,
+) -> Result<Task, Stop>
+    requires model { AreElaborated N.limit forms.now set.now }
+    requires form_in { form < length forms.now.matrices }
+    requires size { length plan.now.columns ≡ forms.now.columns }
+    ensures fits { IfOk result (λ task. FitsSet N.limit set.now.columns task) }
+    ensures task { (m : RobustModel) → IsForms m forms.now → IsSetForm m set.now → MatchResult result
+        (IsTaskOf m false form (plan_of N.value plan.now))
+        (HasSearchCause N.limit m false form (plan_of N.value plan.now)) }
+{
+    match plan_vector(alloc, plan) {
+        Ok(vector) => task_at(alloc, forms, set, form, false, vector.items()),
+        Err(Memory) => Err(Stop::Memory),
+    }
+}
+
+/// The search for a form at a direction with its bound.
+pub fn step_task<N: Exact>(
+    alloc: Global,
+    forms: &Forms,
+    set: &SetForm,
+    form: u32,
+    step: &[N],
+) -> Result<Task, Stop>
+    requires model { AreElaborated N.limit forms.now set.now }
+    requires form_in { form < length forms.now.matrices }
+    requires size { length step.now ≡ suc forms.now.columns }
+    ensures fits { IfOk result (λ task. FitsSet N.limit set.now.columns task) }
+    ensures task { (m : RobustModel) → IsForms m forms.now → IsSetForm m set.now → MatchResult result
+        (IsTaskOf m true form (step_of N.value step.now))
+        (HasSearchCause N.limit m true form (step_of N.value step.now)) }
+{
+    match step_vector(alloc, step) {
+        Ok(vector) => task_at(alloc, forms, set, form, true, vector.items()),
+        Err(Memory) => Err(Stop::Memory),
+    }
+}
+
+/// The search for a form at a vector, which is a plan's or, by step, a direction's.
+fn task_at<N: Exact>(
+    alloc: Global,
+    forms: &Forms,
+    set: &SetForm,
+    form: u32,
+    by_step: bool,
+    vector: &[N],
+) -> Result<Task, Stop>
+    requires model { AreElaborated N.limit forms.now set.now }
+    requires form_in { form < length forms.now.matrices }
+    requires size { length vector.now ≡ suc (suc forms.now.columns) }
+    ensures fits { IfOk result (λ task. FitsSet N.limit set.now.columns task) }
+    ensures task { (m : RobustModel) → IsForms m forms.now → IsSetForm m set.now → MatchResult result
+        (IsTaskOf m by_step form (map N.value vector.now))
+        (HasSearchCause N.limit m by_step form (map N.value vector.now)) }
+{
+    let common = match denominator(vector) {
+        Some(common) => common,
+        None => return Err(wide_at(alloc, Spot::Clearing(place(by_step)))),
+    };
+    let whole = match cleared(alloc, vector, common) {
+        Ok(whole) => whole,
+        Err(Refusal::Wide) => return Err(wide_at(alloc, Spot::Clearing(place(by_step)))),
+        Err(Refusal::Memory) => return Err(Stop::Memory),
+    };
+    let constant = match part::<N>(forms, form as usize, 0, whole.items()) {
+        Some(constant) => constant,
+        None => return Err(wide_at(alloc, Spot::Sum(Where::Cost(form), 0))),
+    };
+    match costs::<N>(alloc, forms, set.columns, form, whole.items()) {
+        Ok(cost) => Ok(Task {
+            form,
+            by_step,
+            params: forms.params,
+            common: common as i64,
+            constant,
+            cost,
+        }),
+        Err(stop) => Err(stop),
+    }
+}
