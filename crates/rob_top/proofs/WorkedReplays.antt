@@ -90,7 +90,7 @@ one_field field behind unquoted begins within = record {
   fields = (10 ∷ behind, inl (record { split = refl; unquoted = unquoted; within = within; ended = refl }), (refl, refl));
 }
 
--- ---- the demands 9 and 13
+-- ---- a file with two records, one of them outside the set
 abbrev demands : List (List (List ℕ))
 demands = (codes "d" ∷ []) ∷ (codes "9" ∷ []) ∷ (codes "13" ∷ []) ∷ []
 

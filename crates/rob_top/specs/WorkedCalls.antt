@@ -65,7 +65,7 @@ first_text =
     ++ (line_of (codes "minimise x + y2 + (x - d1) + (x + y2 - d1 - d2)")
     ++ (line_of (codes "row need1: x >= d1") ++ line_of (codes "row need2: x + y2 >= d1 + d2")))))))
 
--- the demands 9, and 13, which is not admitted, each on its line
+-- a scenario file with two records: in the first the set admits `d`, which is 9; in the second, where it is 13, it does not
 abbrev pub two_demands : List ℕ
 two_demands = line_of (codes "d") ++ (line_of (codes "9") ++ line_of (codes "13"))
 
