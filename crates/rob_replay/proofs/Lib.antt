@@ -6,6 +6,7 @@ pub mod StopLemmas
 pub mod LineLemmas
 pub mod ReplayedLemmas
 pub mod RowLemmas
+pub mod ByteLemmas
 pub mod FileLemmas
 pub mod OneFileLemmas
 pub mod OutcomeLemmas

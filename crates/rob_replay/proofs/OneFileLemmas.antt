@@ -7,7 +7,8 @@ use Rattle.csv.specs.Reading.{default_config, strip_bom}
 use Rattle.csv.specs.declared.parser.Action.TheVariants as act
 use Rattle.csv.specs.declared.parser.State.{State}
 use Rattle.csv.specs.declared.parser.State.TheVariants as st
-use Rattle.rob_replay.proofs.FileLemmas.{from_record, is_it, no_record, Byte, IsFresh, byte, ends_all, ends_it, ends_step, field_step, goes_step, joins, line_step, same_step}
+use Rattle.rob_replay.proofs.ByteLemmas.{Byte, IsFresh, byte, ends_all, ends_it, ends_step, field_step, goes_step, is_it, joins, line_step, same_step}
+use Rattle.rob_replay.proofs.FileLemmas.{from_record, no_record}
 use Rattle.rob_replay.specs.Files.{AreFields, AreLineEnds, AreRecords, BeginsRecord, EndsRecord, IsField, IsFile, IsUnquoted, IsWithin, NextRecord, doubled, ends_field, is_line_end, quote}
 
 -- ---- bytes that join the field
