@@ -15,7 +15,7 @@ use Rattle.rob_reach.proofs.CertificateLemmas.{optimal_bound, unbounded_bound}
 use Rattle.rob_reach.proofs.RangeLemmas.{bounded_in, number_between, lower_at, upper_at, changes_bounded}
 use Rattle.rob_reach.proofs.SplitLemmas.{products_split, product_positive}
 use Rattle.rob_reach.specs.Boxes.{Branch, behind, box_below, box_above, at_most_branch, at_least_branch}
-use Rattle.rob_reach.specs.Growing.{Search, is_beaten, first_broken, Outcome, ends, branches, outcome_by, outcome, Decides, AllowsBranch, IsAllowedPath, Grows}
+use Rattle.rob_reach.specs.Growing.{Search, is_beaten, first_broken, Outcome, ends, branches, outcome_by, outcome, Decides, AllowsBranch, IsAllowed, IsAllowedPath, ComesTo, Grows}
 use Rattle.rob_reach.specs.Ranges.{are_bounded, product_of_ranges}
 use Rattle.rob_reach.specs.Trees.{Node, leaf, split, left_open, leaves, leaf_count, branch_count, node_count, IsIn, BranchesOn}
 use Rattle.rob_reach.specs.WholeNumbers.{IsWhole, floor}
@@ -103,6 +103,30 @@ allows_branch m names s c j k h = by (asks_branch names m.sense s c j k h.decide
     by a =
         let broken = broken_is names c.plan j a.broken in
         record { proves = h.proves; planned = a.planned; named = broken.0; broken = broken.1; at_floor = a.at_floor }
+
+-- the two branches that a certificate asks for are allowed
+module _ (m : RobustModel) (names : List ℕ) (s : Search) (c : Certificate) (j : ℕ) (k : ℤ)
+    (h : Decides m names s c (branches j k)) where
+  pub allowed_below : IsAllowed m names (at_most_branch j k)
+  allowed_below =
+      record { certificate = c; variable = j; k = k; allows = allows_branch m names s c j k h; side = inl refl }
+
+  pub allowed_above : IsAllowed m names (at_least_branch j k)
+  allowed_above =
+      record { certificate = c; variable = j; k = k; allows = allows_branch m names s c j k h; side = inr refl }
+
+-- what a search comes to is behind an allowed path
+pub comes_allowed : (m : RobustModel) (names : List ℕ) (before there : Search) (path : List Branch)
+    → ComesTo m names before path there → IsAllowedPath m names path
+comes_allowed m names before there [] h = tt
+comes_allowed m names before there (b ∷ path) (c, j, k, decides, inl h) = (
+  subst (IsAllowed m names) (sym h.0) (allowed_below m names before c j k decides),
+  comes_allowed (behind m b) names before there path h.1,
+)
+comes_allowed m names before there (b ∷ path) (c, j, k, decides, inr h) = (
+  subst (IsAllowed m names) (sym h.0) (allowed_above m names before c j k decides),
+  comes_allowed (behind m b) names h.1.1 there path h.1.3,
+)
 
 -- ---- the measure
 module _ (m : RobustModel) (model : IsModel m) (names : List ℕ)

@@ -13,6 +13,6 @@ pub mod SweepLemmas
 pub mod NameLemmas
 pub mod VerdictLemmas
 pub mod GrownTreeLemmas
-mod WorkedTests
+pub mod WorkedTests
 mod WorkedTrees
 mod WorkedSweeps
