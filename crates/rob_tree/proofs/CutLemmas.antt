@@ -1,18 +1,11 @@
 -- A text is cut behind each of its lines in turn.
 use Rattle.std.proofs.Common.{◌≡◌, ◌≢◌, ℕ, ◌+◌, ◌≤◌, List, [], ◌∷◌, ◌++◌, length, take, drop, arith, refl, ap, sym, ◌∙◌, subst, append_assoc, length-append}
+use Rattle.std.proofs.Math.Seq.{drop-append_seam, take-append_seam}
 use Rattle.std.proofs.lemmas.List.{length-take-le, take-append-drop}
 use Rattle.std.specs.Prelude.{codes}
 use Rattle.rob_cert.specs.Reading.{BeginsWithLine, Lacks}
 use Rattle.rob_tree.proofs.ReadingLemmas.{line_ends-append, line_ends_within, no_ends, one_end}
 use Rattle.rob_tree.specs.Reading.{IsCertificatePart, line_ends, of_end, of_line, of_rest}
-
-take_front : (xs ys : List ℕ) → take (length xs) (xs ++ ys) ≡ xs
-take_front [] ys = refl
-take_front (x ∷ xs) ys = ap (λ l. x ∷ l) (take_front xs ys)
-
-drop_front : (xs ys : List ℕ) → drop (length xs) (xs ++ ys) ≡ ys
-drop_front [] ys = refl
-drop_front (x ∷ xs) ys = drop_front xs ys
 
 module _ (text front back : List ℕ) (at to : ℕ) (within : at ≤ length text) (is : drop at text ≡ front ++ 10 ∷ back)
     (to_is : to ≡ at + length front + 1) where
@@ -32,12 +25,12 @@ module _ (text front back : List ℕ) (at to : ℕ) (within : at ≤ length text
   pub cut_before : take to text ≡ take at text ++ (front ++ 10 ∷ [])
   cut_before =
       ap (λ n. take n text) (to_is ∙ sym size) ∙ ap (take (length (take at text ++ (front ++ 10 ∷ [])))) whole
-      ∙ take_front (take at text ++ (front ++ 10 ∷ [])) back
+      ∙ take-append_seam (take at text ++ (front ++ 10 ∷ [])) back
 
   pub cut_behind : drop to text ≡ back
   cut_behind =
       ap (λ n. drop n text) (to_is ∙ sym size) ∙ ap (drop (length (take at text ++ (front ++ 10 ∷ [])))) whole
-      ∙ drop_front (take at text ++ (front ++ 10 ∷ [])) back
+      ∙ drop-append_seam (take at text ++ (front ++ 10 ∷ [])) back
 
   pub cut_within : to ≤ length text
   cut_within = omega (arith, size, to_is, ap length whole, length-append (take at text ++ (front ++ 10 ∷ [])) back)

@@ -10,6 +10,8 @@ pub mod PieceLemmas
 pub mod NodeLaws
 pub mod MovedShapes
 pub mod GoodNodes
+pub mod FitLemmas
+pub mod FirstLineLaws
 pub mod TreeLaws
 pub mod NodeSteps
 pub mod ReaderLemmas

@@ -22,7 +22,7 @@ use Rattle.rob_meaning.specs.RobustModel.{RobustModel}
 use Rattle.rob_cert.proofs.NumberLemmas.{mag_small}
 use Rattle.rob_tree.proofs.ReadingLemmas.{one_end_of_words, text_of_words}
 use Rattle.rob_tree.specs.Parts.{IsBestRead, IsHead, IsHeadRead, head_words}
-use Rattle.rob_tree.specs.Reading.{HasBest, IsBestCause, IsBestFault, IsBestLineOf, IsBranchWord, IsClaimCause, IsClaimFault, IsClaimLine, IsNodeCause, IsNodeFault, IsNodeLine, IsWholeWord, first_node, of_branch, of_leaf, of_open}
+use Rattle.rob_tree.specs.Reading.{HasBest, IsBestCause, IsBestFault, IsBestLineOf, IsBranchWord, IsClaimCause, IsClaimFault, IsClaimLine, IsNodeCause, IsNodeFault, IsNodeLine, IsWholeWord, first_node, greatest_leaf, of_branch, of_leaf, of_open}
 use Rattle.rob_tree.specs.declared.nodes.Head.{Head}
 use Rattle.rob_tree.specs.declared.error.Offence.{Offence}
 use Rattle.rob_tree.specs.declared.error.Offence.TheVariants.{NoLine, NoName, NoNumber}
@@ -76,39 +76,39 @@ module _ (limit : ℕ) where
   claim_cause text front back NoName is whole h = h
   claim_cause text front back NoNumber is whole h = (front, back, record { split = is; whole = whole }, h)
 
-  -- ---- the leaf that shows it
-  pub best_missing : (text : List ℕ) → Lacks 10 text → IsBestCause limit text NoLine
-  best_missing text h line after b word c = no_line text line after h b
+-- ---- the leaf that shows it
+pub best_missing : (text : List ℕ) → Lacks 10 text → IsBestCause text NoLine
+best_missing text h line after b word c = no_line text line after h b
 
-  pub best_cause : (text front back : List ℕ) (o : Offence) → text ≡ front ++ 10 ∷ back → Lacks 10 front
-      → IsBestFault limit (words_in front) o
-      → IsBestCause limit text o
-  best_cause text front back NoLine is whole h = λ line after b word c.
-      h word (ap words_in (one_line text front back line after (record { split = is; whole = whole }) b).0 ∙ c)
-  best_cause text front back NoName is whole h = h
-  best_cause text front back NoNumber is whole h = (front, back, record { split = is; whole = whole }, h)
+pub best_cause : (text front back : List ℕ) (o : Offence) → text ≡ front ++ 10 ∷ back → Lacks 10 front
+    → IsBestFault (words_in front) o
+    → IsBestCause text o
+best_cause text front back NoLine is whole h = λ line after b word c.
+    h word (ap words_in (one_line text front back line after (record { split = is; whole = whole }) b).0 ∙ c)
+best_cause text front back NoName is whole h = h
+best_cause text front back NoNumber is whole h = (front, back, record { split = is; whole = whole }, h)
 
 -- the line of a whole number, where the status has one
-pub best_line_of : (limit : ℕ) (s : Status) → HasBest s → (z : ℤ) → nat_abs z ≤ limit
-    → IsBestLineOf limit s (spaced (codes "best" ∷ (signed_decimal z ∷ []))) z
-best_line_of limit optimal has z h = (h, refl)
-best_line_of limit infeasible has z h = absurd has
-best_line_of limit unbounded has z h = (h, refl)
+pub best_line_of : (s : Status) → HasBest s → (z : ℤ) → nat_abs z ≤ greatest_leaf
+    → IsBestLineOf s (spaced (codes "best" ∷ (signed_decimal z ∷ []))) z
+best_line_of optimal has z h = (h, refl)
+best_line_of infeasible has z h = absurd has
+best_line_of unbounded has z h = (h, refl)
 
 third_line : (s : Status) → HasBest s → 3 ≡ first_node s
 third_line optimal has = refl
 third_line infeasible has = absurd has
 third_line unbounded has = refl
 
-pub best_read : (limit : ℕ) (s : Status) → HasBest s → (text front back : List ℕ) (z told : ℤ) → told ≡ z
+pub best_read : (s : Status) → HasBest s → (text front back : List ℕ) (z told : ℤ) → told ≡ z
     → text ≡ front ++ 10 ∷ back
-    → nat_abs z ≤ limit → words_in front ≡ codes "best" ∷ (signed_decimal z ∷ []) → IsBestRead limit s text told back 3
-best_read limit s has text front back z told same is small e =
-    subst (λ y. IsBestRead limit s text y back 3) (sym same)
+    → nat_abs z ≤ greatest_leaf → words_in front ≡ codes "best" ∷ (signed_decimal z ∷ []) → IsBestRead s text told back 3
+best_read s has text front back z told same is small e =
+    subst (λ y. IsBestRead s text y back 3) (sym same)
     (record {
       shown = spaced (codes "best" ∷ (signed_decimal z ∷ []));
       split = text_of_words text front back (codes "best" ∷ (signed_decimal z ∷ [])) is e;
-      is_best = best_line_of limit s has z small;
+      is_best = best_line_of s has z small;
       line_is = third_line s has;
     })
 

@@ -15,7 +15,7 @@ use Rattle.rob_meaning.specs.RobustModel.{RobustModel}
 use Rattle.rob_meaning.specs.WellFormed.{IsModel}
 use Rattle.rob_reach.specs.Trees.{Node, leaf, split, left_open, branch_count}
 use Rattle.rob_tree.proofs.PieceLemmas.{no_breach_here, one_breach_here, one_piece}
-use Rattle.rob_tree.proofs.ReadingLemmas.{root_leads, stage}
+use Rattle.rob_tree.proofs.ReadingLemmas.{pending_some, root_leads, stage}
 use Rattle.rob_tree.specs.Parts.{IsGoodNode}
 use Rattle.rob_tree.specs.Reading.{BreaksNodes, IsBreach, Leads, MayStand, Stage, advanced, at_root, in_certificate, in_node, in_rest, line_ends}
 use Rattle.rob_tree.specs.TreeText.{Piece, branch_piece, leaf_piece, open_piece, piece_text, pieces, pieces_text}
@@ -105,15 +105,10 @@ module _ (m : RobustModel) (limit : ℕ) (names : List ℕ) (model : IsModel m) 
   leads_split s [] qs b h = (s, refl, h)
   leads_split s (p ∷ ps) qs b h = let (c, k, l) = leads_split (advanced s p) ps qs b h.1 in (c, (h.0, k), l)
 
-  pending_some : (s : Stage) (p : Piece) → MayStand limit m names status s p → 0 < s.pending
-  pending_some s (leaf_piece c) h = h.0
-  pending_some s (branch_piece j k) h = h.0
-  pending_some s open_piece h = h.0
-
   -- nothing more may stand where no node is to come
   none_behind : (s : Stage) (ps : List Piece) (b : Stage) → s.pending ≡ 0 → Leads limit m names status s ps b → ps ≡ []
   none_behind s [] b e h = refl
-  none_behind s (p ∷ ps) b e h = absurd (omega (arith, e, pending_some s p h.0))
+  none_behind s (p ∷ ps) b e h = absurd (omega (arith, e, pending_some limit m names status s p h.0))
 
   -- ---- a text is that of one root
   pub one_root : (n k : Node) → IsGoodNode limit m names status n → IsGoodNode limit m names status k

@@ -1,6 +1,7 @@
 -- The lines of a leaf's certificate stand at the front of a text in one way,
 -- and the text of a certificate is such lines.
 use Rattle.std.proofs.Common.{◌≡◌, ◌≢◌, ℕ, ◌-◌, ◌^◌, ◌≤◌, List, [], ◌∷◌, ◌++◌, arith, refl, ap, sym, ◌∙◌, subst, append_assoc, append-nil}
+use Rattle.std.proofs.lemmas.List.{append_cancel_left, append_cancel_right}
 use Rattle.std.specs.Prelude.{codes}
 use Rattle.rob_algebra.specs.Fraction.{Fraction}
 use Rattle.rob_cert.proofs.ApartLemmas.{TellsApart, begins_with, line_has_words, line_of, spaced-line}
@@ -20,7 +21,6 @@ use Rattle.rob_meaning.specs.Named.{IsNamed}
 use Rattle.rob_meaning.specs.Names.{Name}
 use Rattle.rob_meaning.specs.RobustModel.{RobustModel}
 use Rattle.rob_meaning.specs.WellFormed.{IsModel}
-use Rattle.rob_tree.proofs.ReadingLemmas.{push_same}
 use Rattle.rob_tree.specs.Reading.{IsCertificatePart, of_end, of_line, of_rest}
 
 -- the front of a text up to the next line `end` is one
@@ -43,7 +43,7 @@ part_once text part other (of_rest none e) (of_rest also d) = e ∙ sym d
 
 -- a line of one word is the word
 word_line : (w : Name) → line_of (w ∷ []) ≡ w
-word_line w = sym (push_same w (line_of (w ∷ [])) 10 (spaced-line (w ∷ [])))
+word_line w = sym (append_cancel_right w (line_of (w ∷ [])) (10 ∷ []) (spaced-line (w ∷ [])))
 
 -- the first letter of a line of words
 abbrev first_letter : List Name → ℕ
@@ -170,9 +170,5 @@ module _ (m : RobustModel) (limit : ℕ) (model : IsModel m) (named : IsNamed m)
       (lines_text (naming_of m) (lines_of d)) first second in (
         read_once m limit c d (lines_text (naming_of m) (lines_of c)) model named words low
             (record { shape = sc; spelled = refl }) (record { shape = sd; spelled = same }) fc fd,
-        rests_same (lines_text (naming_of m) (lines_of c)) r t (e ∙ ap (λ l. l ++ t) (sym same)),
+        append_cancel_left (lines_text (naming_of m) (lines_of c)) r t (e ∙ ap (λ l. l ++ t) (sym same)),
       )
-    where
-      rests_same : (xs r t : List ℕ) → xs ++ r ≡ xs ++ t → r ≡ t
-      rests_same [] r t e = e
-      rests_same (x ∷ xs) r t e = rests_same xs r t (let p : xs ++ r ≡ xs ++ t = cc in p)

@@ -27,6 +27,7 @@ use Rattle.rob_meaning.specs.RobustModel.{RobustModel}
 use Rattle.rob_meaning.specs.WellFormed.{IsModel}
 use Rattle.rob_reach.specs.Trees.{IsIn}
 use Rattle.rob_tree.proofs.PartLemmas.{certificate_lines, one_certificate, part_once}
+use Rattle.rob_tree.proofs.ReadingLemmas.{pending_some}
 use Rattle.rob_tree.specs.Reading.{IsBranchWord, IsBreach, IsCertificatePart, IsNamedOne, IsNodeCause, IsNodeLine, MayStand, Stage, in_certificate, in_node, in_rest, of_branch, of_leaf, of_open, rule_of}
 use Rattle.rob_tree.specs.TreeText.{Piece, branch_piece, leaf_piece, open_piece, piece_text}
 use Rattle.rob_tree.specs.declared.error.Offence.{Offence}
@@ -239,12 +240,7 @@ module _ (m : RobustModel) (limit : ℕ) (names : List ℕ) (model : IsModel m) 
     no_breach_here s p r text n rule line h is (in_node o some cause e d) = no_cause s p r text o h is cause
     no_breach_here s p r text n rule line h is (in_certificate after part some e is_part cause) =
         no_certificate_breach s p r text after part (suc n) rule line h is e is_part cause
-    no_breach_here s p r text n rule line h is (in_rest none some e d) = omega (arith, none, pending s p h)
-      where
-        pending : (s : Stage) (p : Piece) → MayStand limit m names status s p → 0 < s.pending
-        pending s (leaf_piece c) h = h.0
-        pending s (branch_piece j k) h = h.0
-        pending s open_piece h = h.0
+    no_breach_here s p r text n rule line h is (in_rest none some e d) = omega (arith, none, pending_some limit m names status s p h)
 
     -- ---- a text breaks one rule at a stage
     one_offence : (branches : ℕ) (text : List ℕ) (a b : Offence) → IsNodeCause limit m names status branches text a

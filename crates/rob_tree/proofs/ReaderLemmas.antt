@@ -2,6 +2,7 @@
 use Rattle.std.proofs.Common.{◌≡◌, ℕ, suc, ◌-◌, ◌^◌, ◌<◌, ◌≤◌, List, [], ◌∷◌, ◌++◌, T, arith, refl, ap, sym, ◌∙◌, subst, append-nil, inl, inr}
 use Rattle.std.proofs.lemmas.Fmt.{signed_decimal_injective}
 use Rattle.std.proofs.lemmas.Int.{ints}
+use Rattle.std.proofs.lemmas.List.{append_cancel_right}
 use Rattle.std.specs.Fmt.{decimal, signed_decimal}
 use Rattle.std.specs.Prelude.{codes, ℤ, pos, negsuc, nat_abs, ◌<ℤ◌, ◌≤ℤ◌, Result, Ok, Err, IfOk, IfErr}
 use Rattle.rob_algebra.specs.Fraction.{Fraction}
@@ -18,12 +19,13 @@ use Rattle.rob_reach.proofs.GrowingLemmas.{leaves-branches}
 use Rattle.rob_reach.specs.Ranges.{are_bounded}
 use Rattle.rob_reach.specs.Trees.{Node, Tree, branch_count, leaf_count}
 use Rattle.rob_reach.specs.Verdicts.{KeepsBest}
+use Rattle.rob_tree.proofs.FirstLineLaws.{claim_line}
 use Rattle.rob_tree.proofs.GoodNodes.{node_fits, tree_of_good}
 use Rattle.rob_tree.proofs.NodeSteps.{if_err}
-use Rattle.rob_tree.proofs.ReadingLemmas.{push_same, root_leads, stage}
+use Rattle.rob_tree.proofs.ReadingLemmas.{root_leads, stage}
 use Rattle.rob_tree.proofs.TreeLaws as laws
-use Rattle.rob_tree.specs.Parts.{HasBestCause, HasEndCause, HasNodeCause, HasRootCause, IsBestRead, IsClaimRead, IsEnded, IsGoodNode, IsLeafNumber, IsNodeRead, IsRootRead, KeepsNothing, claim_words, tree_with}
-use Rattle.rob_tree.specs.Reading.{Breaks, BreaksNodes, HasBest, HasCause, IsBestLineOf, IsClaimCause, Reads, TreeFits, at_root, in_best, in_claim, in_nodes, in_rest, no_leaf, rule_of}
+use Rattle.rob_tree.specs.Parts.{HasBestCause, HasEndCause, HasNodeCause, HasRootCause, IsBestRead, IsClaimRead, IsEnded, IsGoodNode, IsLeafNumber, IsNodeRead, IsRootRead, KeepsNothing, tree_with}
+use Rattle.rob_tree.specs.Reading.{Breaks, BreaksNodes, HasBest, HasCause, IsBestLineOf, IsClaimCause, Reads, TreeFits, at_root, greatest_leaf, in_best, in_claim, in_nodes, in_rest, no_leaf, rule_of}
 use Rattle.rob_tree.specs.Shape.{KeepsParts}
 use Rattle.rob_tree.specs.TreeText.{IsTextOfTree, best_text, claim_text, pieces, pieces_text}
 use Rattle.rob_tree.specs.View.{tree_of}
@@ -31,11 +33,6 @@ use Rattle.rob_tree.specs.declared.error.Offence.{Offence}
 use Rattle.rob_tree.specs.declared.error.TreeErr.{TreeErr}
 use Rattle.rob_tree.specs.declared.error.TreeErr.TheVariants.{Rule, Memory}
 use Rattle.rob_tree.specs.declared.tree.Tree as declared
-
-claim_line : (s : Status) (v : Fraction) → claim_text s v ≡ spaced (claim_words s v)
-claim_line optimal v = refl
-claim_line infeasible v = refl
-claim_line unbounded v = refl
 
 -- ---- the root
 module _ (limit : ℕ) (m : RobustModel) (names : List ℕ) (status : Status) (best : ℤ) where
@@ -115,24 +112,23 @@ module _ {N : Type 0} (value : N → Fraction) (limit : ℕ) (m : RobustModel) (
 
 -- ---- the line of the leaf
 best_word : (v w : Name) → spaced (codes "best" ∷ (v ∷ [])) ≡ spaced (codes "best" ∷ (w ∷ [])) → v ≡ w
-best_word v w e = push_same v w 10 (let p : v ++ 10 ∷ [] ≡ w ++ 10 ∷ [] = cc in p)
+best_word v w e = append_cancel_right v w (10 ∷ []) (let p : v ++ 10 ∷ [] ≡ w ++ 10 ∷ [] = cc in p)
 
 -- a number above 0 is spelled without a sign
 positive_text : (z : ℤ) → pos 0 <ℤ z → signed_decimal z ≡ decimal (nat_abs z)
 positive_text (pos n) h = refl
 positive_text (negsuc n) h = absurd (omega (arith, ints, h))
 
-module _ (limit : ℕ) where
-  shown_text : (s : Status) (shown : List ℕ) (best : ℤ) (n : ℕ) → IsBestLineOf limit s shown best
-      → IsLeafNumber s best n → shown ≡ best_text s (nat_abs best)
-  shown_text optimal shown best n h k = h.1 ∙ ap (λ w. spaced (codes "best" ∷ (w ∷ []))) (positive_text best k.0)
-  shown_text infeasible shown best n h k = h.0
-  shown_text unbounded shown best n h k = h.1 ∙ ap (λ w. spaced (codes "best" ∷ (w ∷ []))) (positive_text best k.0)
+shown_text : (s : Status) (shown : List ℕ) (best : ℤ) (n : ℕ) → IsBestLineOf s shown best
+    → IsLeafNumber s best n → shown ≡ best_text s (nat_abs best)
+shown_text optimal shown best n h k = h.1 ∙ ap (λ w. spaced (codes "best" ∷ (w ∷ []))) (positive_text best k.0)
+shown_text infeasible shown best n h k = h.0
+shown_text unbounded shown best n h k = h.1 ∙ ap (λ w. spaced (codes "best" ∷ (w ∷ []))) (positive_text best k.0)
 
-  pub best_fits : (s : Status) (shown : List ℕ) (best : ℤ) → IsBestLineOf limit s shown best → nat_abs best ≤ limit
-  best_fits optimal shown best h = h.0
-  best_fits infeasible shown best h = omega (arith, ap nat_abs h.1)
-  best_fits unbounded shown best h = h.0
+pub best_fits : (s : Status) (shown : List ℕ) (best : ℤ) → IsBestLineOf s shown best → nat_abs best ≤ greatest_leaf
+best_fits optimal shown best h = h.0
+best_fits infeasible shown best h = omega (arith, ap nat_abs h.1)
+best_fits unbounded shown best h = h.0
 
 keeps_number : (z : ℤ) (n count : ℕ) → count ≡ suc n → pos 0 <ℤ z → z ≤ℤ pos (suc n)
     → (0 < nat_abs z) × (nat_abs z ≤ count)
@@ -154,7 +150,7 @@ keeps_parts unbounded v best n h k = h
 -- ---- the whole text
 module _ (limit : ℕ) (m : RobustModel) (names : List ℕ) (s : Status) (v : Fraction) (text rest last : List ℕ) (best : ℤ)
     (line : ℕ) (fits : Fits limit v)
-    (claim : IsClaimRead text s v rest) (shown : IsBestRead limit s rest best last line) where
+    (claim : IsClaimRead text s v rest) (shown : IsBestRead s rest best last line) where
   split_text : text ≡ claim_text s v ++ (shown.shown ++ last)
   split_text = claim.split ∙ ap (λ t. t ++ rest) (sym (claim_line s v)) ∙ ap (λ r. claim_text s v ++ r) shown.split
 
@@ -169,12 +165,12 @@ module _ (limit : ℕ) (m : RobustModel) (names : List ℕ) (s : Status) (v : Fr
           (keeps_parts s v best (branch_count root) claim.nothing number);
       spelled = split_text
           ∙ ap (λ r. claim_text s v ++ (r ++ last))
-          (shown_text limit s shown.shown best (branch_count root) shown.is_best number)
+          (shown_text s shown.shown best (branch_count root) shown.is_best number)
           ∙ ap (λ r. claim_text s v ++ (best_text s (nat_abs best) ++ r)) is;
     },
     record {
       value = fits;
-      best = best_fits limit s shown.shown best shown.is_best;
+      best = best_fits s shown.shown best shown.is_best;
       root = node_fits limit m names s root good;
     },
   )
@@ -185,10 +181,10 @@ module _ (limit : ℕ) (m : RobustModel) (names : List ℕ) (s : Status) (v : Fr
       subst (λ t. IsTextOfTree limit m names t text × TreeFits limit m t) (sym h.is)
       (made h.root bounded h.spelled h.good h.few h.number)
 
-  by_word : (shown : List ℕ) (b n count : ℕ) → limit ≤ 2 ^ 62 - 1 → count ≡ suc n → n < 1000 → nat_abs best ≤ limit
+  by_word : (shown : List ℕ) (b n count : ℕ) → count ≡ suc n → n < 1000 → nat_abs best ≤ greatest_leaf
       → shown ≡ spaced (codes "best" ∷ (signed_decimal best ∷ [])) → shown ≡ spaced (codes "best" ∷ (decimal b ∷ []))
       → (0 < b) × (b ≤ count) → (pos 0 <ℤ best) × (best ≤ℤ pos (suc n))
-  by_word shown b n count low e less small h is keeps =
+  by_word shown b n count e less small h is keeps =
       let word : signed_decimal best ≡ decimal b = best_word (signed_decimal best) (decimal b) (sym h ∙ is) in
       let same : best ≡ pos b =
       signed_decimal_injective best (pos b) (omega (arith, mag_small best (omega arith)))
@@ -196,38 +192,38 @@ module _ (limit : ℕ) (m : RobustModel) (names : List ℕ) (s : Status) (v : Fr
       subst (λ z. (pos 0 <ℤ z) × (z ≤ℤ pos (suc n))) (sym same)
       (omega (arith, ints, keeps.0), omega (arith, ints, keeps.1, e))
 
-  number_of : (s : Status) (shown : List ℕ) (b n count : ℕ) → limit ≤ 2 ^ 62 - 1 → count ≡ suc n → n < 1000 → HasBest s
-      → IsBestLineOf limit s shown best → shown ≡ best_text s b
+  number_of : (s : Status) (shown : List ℕ) (b n count : ℕ) → count ≡ suc n → n < 1000 → HasBest s
+      → IsBestLineOf s shown best → shown ≡ best_text s b
       → KeepsBest s b count → IsLeafNumber s best n
-  number_of infeasible shown b n count low e less has h is keeps = absurd has
-  number_of optimal shown b n count low e less has h is keeps = by_word shown b n count low e less h.0 h.1 is keeps
-  number_of unbounded shown b n count low e less has h is keeps = by_word shown b n count low e less h.0 h.1 is keeps
+  number_of infeasible shown b n count e less has h is keeps = absurd has
+  number_of optimal shown b n count e less has h is keeps = by_word shown b n count e less h.0 h.1 is keeps
+  number_of unbounded shown b n count e less has h is keeps = by_word shown b n count e less h.0 h.1 is keeps
 
-  has_best : (s : Status) (shown : List ℕ) (n : ℕ) → IsBestLineOf limit s shown best
+  has_best : (s : Status) (shown : List ℕ) (n : ℕ) → IsBestLineOf s shown best
       → (IsLeafNumber s best n → ⊥) → HasBest s
   has_best optimal shown n h f = tt
   has_best infeasible shown n h f = f h.1
   has_best unbounded shown n h f = tt
 
-  pub text_cause : limit ≤ 2 ^ 62 - 1 → (e : TreeErr) → HasRootCause limit m names s best last line e
+  pub text_cause : (e : TreeErr) → HasRootCause limit m names s best last line e
       → HasCause limit m names text e
-  text_cause low (Rule rule at) (inl h) =
+  text_cause (Rule rule at) (inl h) =
       in_nodes s v shown.shown last fits split_text (best, shown.is_best)
       (subst (λ n. BreaksNodes limit m names s at_root last n rule at) shown.line_is h)
-  text_cause low (Rule rule at) (inr h) =
+  text_cause (Rule rule at) (inr h) =
       let has = has_best s shown.shown (branch_count h.root) shown.is_best h.number in
       no_leaf s v shown.shown h.root (stage 0 (branch_count h.root)) has fits (best, shown.is_best)
       (split_text ∙ ap (λ r. claim_text s v ++ (shown.shown ++ r)) h.spelled)
       (root_leads limit m names s h.root h.good h.few)
       (λ b is keeps.
-      h.number (number_of s shown.shown b (branch_count h.root) (leaf_count h.root) low (leaves-branches h.root)
+      h.number (number_of s shown.shown b (branch_count h.root) (leaf_count h.root) (leaves-branches h.root)
       h.few has shown.is_best is keeps))
       h.rule_is h.at_is
-  text_cause low Memory h = tt
+  text_cause Memory h = tt
 
 pub text_best_cause : (limit : ℕ) (m : RobustModel) (names : List ℕ) (s : Status) (v : Fraction) (text rest : List ℕ)
     (o : Offence) → Fits limit v → IsClaimRead text s v rest
-    → HasBestCause limit s rest o → Breaks limit m names text (rule_of o) 2
+    → HasBestCause s rest o → Breaks limit m names text (rule_of o) 2
 text_best_cause limit m names s v text rest o fits claim h =
     in_best o s v rest h.has fits (claim.split ∙ ap (λ t. t ++ rest) (sym (claim_line s v))) h.cause refl refl
 
@@ -239,7 +235,7 @@ text_claim_cause limit m names text o h = in_claim o h refl refl
 module _ {N : Type 0} (value : N → Fraction) (limit : ℕ) (m : RobustModel) (names : List ℕ) (s : Status) (v : Fraction)
     (text rest last : List ℕ)
     (best : ℤ) (line : ℕ) (fits : Fits limit v) (claim : IsClaimRead text s v rest)
-    (shown : IsBestRead limit s rest best last line) where
+    (shown : IsBestRead s rest best last line) where
   pub texts_read : (r : Result (declared.Tree N) TreeErr) → T (are_bounded m.variables names)
       → IfOk r (λ t. IsRootRead limit m names s best v last (tree_of value t))
       → IfOk r (λ t. IsTextOfTree limit m names (tree_of value t) text)
@@ -254,11 +250,11 @@ module _ {N : Type 0} (value : N → Fraction) (limit : ℕ) (m : RobustModel) (
       (text_read limit m names s v text rest last best line fits claim shown (tree_of value t) bounded h).1
   texts_fit (Err e) bounded h = tt
 
-  pub texts_cause : (r : Result (declared.Tree N) TreeErr) → limit ≤ 2 ^ 62 - 1
+  pub texts_cause : (r : Result (declared.Tree N) TreeErr)
       → IfErr r (HasRootCause limit m names s best last line)
       → IfErr r (HasCause limit m names text)
-  texts_cause (Ok t) low h = tt
-  texts_cause (Err e) low h = text_cause limit m names s v text rest last best line fits claim shown low e h
+  texts_cause (Ok t) h = tt
+  texts_cause (Err e) h = text_cause limit m names s v text rest last best line fits claim shown e h
 
 -- ---- a text of a tree is read as that tree
 module _ {N : Type 0} (value : N → Fraction) (m : RobustModel) (limit : ℕ) (names text : List ℕ) (model : IsModel m)

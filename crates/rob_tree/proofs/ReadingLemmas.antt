@@ -11,22 +11,10 @@ use Rattle.rob_meaning.specs.Names.{Name}
 use Rattle.rob_meaning.specs.RobustModel.{RobustModel}
 use Rattle.rob_reach.specs.Trees.{Node, leaf, split, left_open, branch_count}
 use Rattle.rob_tree.specs.Parts.{IsGoodNode}
-use Rattle.rob_tree.specs.Reading.{BreaksNodes, IsBreach, Leads, Stage, advanced, at_root, line_ends}
-use Rattle.rob_tree.specs.TreeText.{Piece, piece_text, pieces, pieces_text}
+use Rattle.rob_tree.specs.Reading.{BreaksNodes, IsBreach, Leads, MayStand, Stage, advanced, at_root, line_ends}
+use Rattle.rob_tree.specs.TreeText.{Piece, branch_piece, leaf_piece, open_piece, piece_text, pieces, pieces_text}
 
 -- ---- lines
--- what stands before a last byte
-pub push_same : (xs ys : List ℕ) (x : ℕ) → xs ++ x ∷ [] ≡ ys ++ x ∷ [] → xs ≡ ys
-push_same [] [] x e = refl
-push_same [] (b ∷ []) x e = absurd (cc)
-push_same [] (b ∷ (c ∷ ys)) x e = absurd (cc)
-push_same (a ∷ []) [] x e = absurd (cc)
-push_same (a ∷ (c ∷ xs)) [] x e = absurd (cc)
-push_same (a ∷ xs) (b ∷ ys) x e =
-    let p : a ≡ b = cc in
-    let q : xs ++ x ∷ [] ≡ ys ++ x ∷ [] = cc in
-    ap (λ c. c ∷ xs) p ∙ ap (λ l. b ∷ l) (push_same xs ys x q)
-
 -- a text whose first line has the words is their line and the rest
 pub text_of_words : (text front back : List ℕ) (ws : List Name) → text ≡ front ++ 10 ∷ back → words_in front ≡ ws
     → text ≡ spaced ws ++ back
@@ -86,6 +74,12 @@ stage_same : (a p b c : ℕ) → a ≡ p → b ≡ c → stage a b ≡ stage p c
 stage_same a p b c e f = ap (λ n. stage n b) e ∙ ap (λ n. stage p n) f
 
 module _ (limit : ℕ) (m : RobustModel) (names : List ℕ) (status : Status) where
+  -- a piece may stand where a node is still to come
+  pub pending_some : (s : Stage) (p : Piece) → MayStand limit m names status s p → 0 < s.pending
+  pending_some s (leaf_piece c) h = h.0
+  pending_some s (branch_piece j k) h = h.0
+  pending_some s open_piece h = h.0
+
   pub Leads-append : (a : Stage) (ps qs : List Piece) (b c : Stage) → Leads limit m names status a ps b
       → Leads limit m names status b qs c
       → Leads limit m names status a (ps ++ qs) c

@@ -21,6 +21,9 @@ use Rattle.rob_tree.specs.TreeText.{Piece, branch_piece, open_piece, piece_text,
 use Rattle.rob_tree.specs.declared.error.Offence.{Offence}
 use Rattle.rob_tree.specs.declared.error.Offence.TheVariants.{NoLine, NoName, NoNumber}
 
+pub first_same : (v w : Name) (vs ws : List Name) → v ∷ vs ≡ w ∷ ws → v ≡ w
+first_same v w vs ws e = cc
+
 -- ---- words of whole numbers and names
 module _ (limit : ℕ) (word : Name) where
   -- the whole number is within the limit and spelled by the word, and is another than a given one
@@ -193,9 +196,6 @@ module _ (m : RobustModel) (limit : ℕ) (names : List ℕ) (status : Status) wh
         by s t u e (inl same) =
             of_named t u few (e ∙ ap (λ x. x ∷ (t ∷ (u ∷ []))) same) (named_one limit m names t) (branch_word limit u)
         by s t u e (inr ne) = no_line_here l o (λ name word f d. ne (first_same s (codes "branch") _ _ (sym e ∙ d)))
-          where
-            first_same : (v w : Name) (vs ws : List Name) → v ∷ vs ≡ w ∷ ws → v ≡ w
-            first_same v w vs ws e = cc
 
     of_other_line : front ≢ codes "leaf" → Decided ((status ≡ unbounded) × (front ≡ codes "open")) → SomeHead b text
     of_other_line l (inl (s, e)) = an_open back s (begins.split ∙ ap (λ x. x ++ 10 ∷ back) e)

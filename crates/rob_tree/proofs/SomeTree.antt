@@ -19,16 +19,13 @@ use Rattle.rob_reach.specs.Trees.{Tree, branch_count}
 use Rattle.rob_tree.proofs.LineLemmas.{best_cause, best_line_of, best_missing, claim_cause, claim_missing, no_claim}
 use Rattle.rob_tree.proofs.ReaderLemmas.{root_cause_end, root_cause_node, root_read, text_best_cause, text_cause, text_claim_cause, text_read}
 use Rattle.rob_tree.proofs.ReadingLemmas.{text_of_words}
-use Rattle.rob_tree.proofs.SomeNode.{Node_of, SomeNode, some_node, whole_word}
+use Rattle.rob_tree.proofs.SomeNode.{Node_of, SomeNode, first_same, some_node, whole_word}
 use Rattle.rob_tree.specs.Parts.{HasRootCause, IsBestRead, IsClaimRead, IsLeafNumber, IsNodeRead, claim_words, tree_with}
-use Rattle.rob_tree.specs.Reading.{Breaks, HasBest, IsBestCause, IsClaimCause, IsWholeWord, TreeFits, first_node, line_ends, rule_of}
+use Rattle.rob_tree.specs.Reading.{Breaks, HasBest, IsBestCause, IsClaimCause, IsWholeWord, TreeFits, first_node, greatest_leaf, line_ends, rule_of}
 use Rattle.rob_tree.specs.TreeText.{IsTextOfTree, pieces, pieces_text}
 use Rattle.rob_tree.specs.declared.error.Offence.{Offence}
 use Rattle.rob_tree.specs.declared.error.Offence.TheVariants.{NoLine, NoNumber}
 use Rattle.rob_tree.specs.declared.error.TreeErr.TheVariants.{Rule}
-
-first_same : {A : Type 0} (v w : A) (vs ws : List A) → v ∷ vs ≡ w ∷ ws → v ≡ w
-first_same v w vs ws e = cc
 
 second_same : {A : Type 0} (u v w x : A) (vs ws : List A) → u ∷ (v ∷ vs) ≡ w ∷ (x ∷ ws) → v ≡ x
 second_same u v w x vs ws e = cc
@@ -97,27 +94,27 @@ module _ (limit : ℕ) (one : 1 ≤ limit) where
   ]
 
 -- ---- the leaf that shows it
-module _ (limit : ℕ) (s : Status) where
+module _ (s : Status) where
   pub data SomeBest (text : List ℕ) : Type 0 where
-    a_best : (best : ℤ) (rest : List ℕ) → IsBestRead limit s text best rest (first_node s) → SomeBest text
-    no_best : HasBest s → (o : Offence) → IsBestCause limit text o → SomeBest text
+    a_best : (best : ℤ) (rest : List ℕ) → IsBestRead s text best rest (first_node s) → SomeBest text
+    no_best : HasBest s → (o : Offence) → IsBestCause text o → SomeBest text
 
   module _ (has : HasBest s) (text front back : List ℕ) (begins : BeginsWithLine text front back) where
     shows_nothing : ((word : Name) → words_in front ≡ codes "best" ∷ (word ∷ []) → ⊥) → SomeBest text
-    shows_nothing f = no_best has NoLine (best_cause limit text front back NoLine begins.split begins.whole f)
+    shows_nothing f = no_best has NoLine (best_cause text front back NoLine begins.split begins.whole f)
 
-    of_whole : (u : Name) → words_in front ≡ codes "best" ∷ (u ∷ []) → Decided (IsWholeWord limit u) → SomeBest text
+    of_whole : (u : Name) → words_in front ≡ codes "best" ∷ (u ∷ []) → Decided (IsWholeWord greatest_leaf u) → SomeBest text
     of_whole u e (inr n) = no_best has NoNumber (front, back, begins, (u, e, n))
     of_whole u e (inl (z, small, w)) = a_best z back record {
       shown = spaced (codes "best" ∷ (signed_decimal z ∷ []));
       split = text_of_words text front back (codes "best" ∷ (signed_decimal z ∷ [])) begins.split
           (e ∙ ap (λ x. codes "best" ∷ (x ∷ [])) w);
-      is_best = best_line_of limit s has z small;
+      is_best = best_line_of s has z small;
       line_is = refl;
     }
 
     of_first : (u v : Name) → words_in front ≡ u ∷ (v ∷ []) → Decided (u ≡ codes "best") → SomeBest text
-    of_first u v e (inl p) = of_whole v (e ∙ ap (λ x. x ∷ (v ∷ [])) p) (whole_word limit v)
+    of_first u v e (inl p) = of_whole v (e ∙ ap (λ x. x ∷ (v ∷ [])) p) (whole_word greatest_leaf v)
     of_first u v e (inr n) = shows_nothing (λ word d. n (first_same u (codes "best") _ _ (sym e ∙ d)))
 
     of_two : Decided (length (words_in front) ≡ 2) → SomeBest text
@@ -128,18 +125,18 @@ module _ (limit : ℕ) (s : Status) where
   best_line : HasBest s → (text : List ℕ) → SomeBest text
   best_line has text = elim (first_line text) [
     | inl (line, after, h) ↦ of_two has text line after h (same_number (length (words_in line)) 2)
-    | inr h ↦ no_best has NoLine (best_missing limit text h)
+    | inr h ↦ no_best has NoLine (best_missing text h)
   ]
 
-some_best : (limit : ℕ) (s : Status) (text : List ℕ) → SomeBest limit s text
-some_best limit optimal text = best_line limit optimal tt text
-some_best limit infeasible text = a_best (pos 0) text record {
+some_best : (s : Status) (text : List ℕ) → SomeBest s text
+some_best optimal text = best_line optimal tt text
+some_best infeasible text = a_best (pos 0) text record {
   shown = [];
   split = refl;
   is_best = (refl, refl);
   line_is = refl;
 }
-some_best limit unbounded text = best_line limit unbounded tt text
+some_best unbounded text = best_line unbounded tt text
 
 -- ---- the end
 is_leaf : (z : ℤ) (n : ℕ) → Decided ((pos 0 <ℤ z) × (z ≤ℤ pos (suc n)))
@@ -169,14 +166,14 @@ module _ (limit : ℕ) (m : RobustModel) (names : List ℕ) (one : 1 ≤ limit) 
     (bounded : T (are_bounded m.variables names)) (text : List ℕ) (small : length text < 2 ^ 32) where
   module _ (s : Status) (v : Fraction) (rest last : List ℕ) (best : ℤ) (fits : Fits limit v)
       (claim : IsClaimRead text s v rest)
-      (shown : IsBestRead limit s rest best last (first_node s)) where
+      (shown : IsBestRead s rest best last (first_node s)) where
     broken : (rule line : ℕ) → HasRootCause limit m names s best last (first_node s) (Rule rule line)
         → SomeTree limit m names text
     broken rule line h =
         inr (
           rule,
           line,
-          text_cause limit m names s v text rest last best (first_node s) fits claim shown low (Rule rule line) h,
+          text_cause limit m names s v text rest last best (first_node s) fits claim shown (Rule rule line) h,
         )
 
     module _ (h : SomeNode m limit names s 0 last) where
@@ -207,7 +204,7 @@ module _ (limit : ℕ) (m : RobustModel) (names : List ℕ) (one : 1 ≤ limit) 
         broken h.rule h.line (root_cause_node limit m names s best last (first_node s) (Rule h.rule h.line) h.breaks)
 
   of_best : (s : Status) (v : Fraction) (rest : List ℕ) → Fits limit v → IsClaimRead text s v rest
-      → SomeBest limit s rest → SomeTree limit m names text
+      → SomeBest s rest → SomeTree limit m names text
   of_best s v rest fits claim (no_best has o h) =
       inr (rule_of o, 2, text_best_cause limit m names s v text rest o fits claim (record { has = has; cause = h }))
   of_best s v rest fits claim (a_best best last shown) =
@@ -224,7 +221,7 @@ module _ (limit : ℕ) (m : RobustModel) (names : List ℕ) (one : 1 ≤ limit) 
 
   of_claim : SomeClaim limit one text → SomeTree limit m names text
   of_claim (none o h) = inr (rule_of o, 1, text_claim_cause limit m names text o h)
-  of_claim (a_claim s v rest fits claim) = of_best s v rest fits claim (some_best limit s rest)
+  of_claim (a_claim s v rest fits claim) = of_best s v rest fits claim (some_best s rest)
 
 -- each text of fewer than 2^32 bytes is that of a tree with numbers that fit, or breaks a rule at a line
 pub some_tree : (limit : ℕ) (m : RobustModel) (names : List ℕ) → 1 ≤ limit → limit ≤ 2 ^ 62 - 1

@@ -1,7 +1,8 @@
 -- A certificate of a box has the shape of the model, so a tree's text is written with the names of the model.
-use Rattle.std.proofs.Common.{ℕ, ◌<◌, ◌≤◌, List, [], ◌∷◌, ◌++◌, length, T, sym, subst, arith, inl, inr}
+use Rattle.std.proofs.Common.{ℕ, ◌<◌, ◌≤◌, List, [], ◌∷◌, length, T, sym, subst, arith, inl, inr}
 use Rattle.std.specs.Prelude.{pos, ◌+ℤ◌, true, false}
 use Rattle.rob_cert.specs.Shape.{HasShape}
+use Rattle.rob_meaning.proofs.EachLemmas.{each_left, each_right}
 use Rattle.rob_meaning.proofs.NameLemmas.{length-column_names}
 use Rattle.rob_meaning.proofs.TauLemmas.{column_grows}
 use Rattle.rob_meaning.specs.Certificates.{Certificate}
@@ -28,14 +29,6 @@ module _ (m : RobustModel) (b : Branch) (bounded : T (is_bounded m.variables b.v
   spelled_out limit (split j k below above) h =
       (subst (λ names. j < length names) (column_names-behind m b) h.0, h.1, spelled_out limit below h.2, spelled_out limit above h.3)
   spelled_out limit left_open h = tt
-
-each_left : {A : Type 0} (P : A → Type 0) (xs ys : List A) → Each P (xs ++ ys) → Each P xs
-each_left P [] ys h = tt
-each_left P (x ∷ xs) ys h = (h.0, each_left P xs ys h.1)
-
-each_right : {A : Type 0} (P : A → Type 0) (xs ys : List A) → Each P (xs ++ ys) → Each P ys
-each_right P [] ys h = h
-each_right P (x ∷ xs) ys h = each_right P xs ys h.1
 
 in_each : (P : ℕ → Type 0) (names : List ℕ) (j : ℕ) → IsIn j names → Each P names → P j
 in_each P [] j h all = absurd h

@@ -45,16 +45,16 @@ pub record IsClaimRead (text : List ℕ) (status : Status) (value : Fraction) (r
   pub nothing : KeepsNothing status value
 
 -- the text is the line of the leaf that shows what the tree claims, and the rest; the number of the next line
-pub record IsBestRead (limit : ℕ) (status : Status) (text : List ℕ) (best : ℤ) (rest : List ℕ) (line : ℕ) : Type 0 where
+pub record IsBestRead (status : Status) (text : List ℕ) (best : ℤ) (rest : List ℕ) (line : ℕ) : Type 0 where
   pub shown : List ℕ
   pub split : text ≡ shown ++ rest
-  pub is_best : IsBestLineOf limit status shown best
+  pub is_best : IsBestLineOf status shown best
   pub line_is : line ≡ first_node status
 
 -- why there is no such line
-pub record HasBestCause (limit : ℕ) (status : Status) (text : List ℕ) (offence : Offence) : Type 0 where
+pub record HasBestCause (status : Status) (text : List ℕ) (offence : Offence) : Type 0 where
   pub has : HasBest status
-  pub cause : IsBestCause limit text offence
+  pub cause : IsBestCause text offence
 
 -- the words of a line of a node
 abbrev pub head_words : List Name → Head → List Name

@@ -1,7 +1,7 @@
 -- How the text of a tree is read line by line, and which line breaks which rule: the first bad line decides, and on it
 -- the lowest rule.
 use Rattle.std.specs.Fmt.{signed_decimal}
-use Rattle.std.specs.Prelude.{◌≡◌, ◌≢◌, ◌+◌, ◌-◌, ◌<◌, ◌≤◌, ℕ, suc, ℤ, pos, nat_abs, List, [], ◌∷◌, ◌++◌, codes, if◌then◌else◌, ◌==◌, Result, Ok, Err}
+use Rattle.std.specs.Prelude.{◌≡◌, ◌≢◌, ◌+◌, ◌-◌, ◌^◌, ◌<◌, ◌≤◌, ℕ, suc, ℤ, pos, nat_abs, List, [], ◌∷◌, ◌++◌, codes, if◌then◌else◌, ◌==◌, Result, Ok, Err}
 use Rattle.rob_algebra.specs.Fraction.{Fraction}
 use Rattle.rob_algebra.specs.Width.{Fits}
 use Rattle.rob_cert.specs.Apart.{FitsLines}
@@ -32,6 +32,10 @@ rule_of NoNumber = 73
 -- the word spells a whole number within the limit
 abbrev pub IsWholeWord : ℕ → Name → Type 0
 IsWholeWord limit word = (z : ℤ) × (nat_abs z ≤ limit) × (word ≡ signed_decimal z)
+
+-- the greatest number that is told for a leaf, at any width
+abbrev pub greatest_leaf : ℕ
+greatest_leaf = 2 ^ 32 - 1
 
 -- the word spells a K for which K + 1 is within the limit too
 abbrev pub IsBranchWord : ℕ → Name → Type 0
@@ -67,29 +71,31 @@ HasBest infeasible = ⊥
 HasBest unbounded = Unit {0}
 
 -- why words are no such line
-abbrev pub IsBestFault : ℕ → List Name → Offence → Type 0
-IsBestFault limit words NoLine = (word : Name) → words ≡ codes "best" ∷ (word ∷ []) → ⊥
-IsBestFault limit words NoName = ⊥
-IsBestFault limit words NoNumber =
-    (word : Name) × (words ≡ codes "best" ∷ (word ∷ [])) × (IsWholeWord limit word → ⊥)
+abbrev pub IsBestFault : List Name → Offence → Type 0
+IsBestFault words NoLine = (word : Name) → words ≡ codes "best" ∷ (word ∷ []) → ⊥
+IsBestFault words NoName = ⊥
+IsBestFault words NoNumber =
+    (word : Name) × (words ≡ codes "best" ∷ (word ∷ [])) × (IsWholeWord greatest_leaf word → ⊥)
 
 -- why the text does not begin with such a line
-abbrev pub IsBestCause : ℕ → List ℕ → Offence → Type 0
-IsBestCause limit text NoLine = (line after : List ℕ) → BeginsWithLine text line after
+abbrev pub IsBestCause : List ℕ → Offence → Type 0
+IsBestCause text NoLine = (line after : List ℕ) → BeginsWithLine text line after
     → (word : Name) → words_in line ≡ codes "best" ∷ (word ∷ []) → ⊥
-IsBestCause limit text NoName = ⊥
-IsBestCause limit text NoNumber =
-    (line after : List ℕ) × BeginsWithLine text line after × IsBestFault limit (words_in line) NoNumber
+IsBestCause text NoName = ⊥
+IsBestCause text NoNumber =
+    (line after : List ℕ) × BeginsWithLine text line after × IsBestFault (words_in line) NoNumber
 
 -- the bytes are the line of that whole number, which need not be a leaf's; or none where the status has none
-abbrev pub IsBestLineOf : ℕ → Status → List ℕ → ℤ → Type 0
-IsBestLineOf limit optimal shown z = (nat_abs z ≤ limit) × (shown ≡ spaced (codes "best" ∷ (signed_decimal z ∷ [])))
-IsBestLineOf limit infeasible shown z = (shown ≡ []) × (z ≡ pos 0)
-IsBestLineOf limit unbounded shown z = (nat_abs z ≤ limit) × (shown ≡ spaced (codes "best" ∷ (signed_decimal z ∷ [])))
+abbrev pub IsBestLineOf : Status → List ℕ → ℤ → Type 0
+IsBestLineOf optimal shown z =
+    (nat_abs z ≤ greatest_leaf) × (shown ≡ spaced (codes "best" ∷ (signed_decimal z ∷ [])))
+IsBestLineOf infeasible shown z = (shown ≡ []) × (z ≡ pos 0)
+IsBestLineOf unbounded shown z =
+    (nat_abs z ≤ greatest_leaf) × (shown ≡ spaced (codes "best" ∷ (signed_decimal z ∷ [])))
 
 -- the bytes are that of some whole number
-abbrev pub IsBestLine : ℕ → Status → List ℕ → Type 0
-IsBestLine limit status shown = (z : ℤ) × IsBestLineOf limit status shown z
+abbrev pub IsBestLine : Status → List ℕ → Type 0
+IsBestLine status shown = (z : ℤ) × IsBestLineOf status shown z
 
 -- the number of the line of the root
 abbrev pub first_node : Status → ℕ
@@ -196,13 +202,13 @@ module _ (limit : ℕ) (m : RobustModel) (names : List ℕ) where
     in_claim : (offence : Offence) → IsClaimCause limit text offence → rule ≡ rule_of offence → line ≡ 1
         → Breaks text rule line
     in_best : (offence : Offence) (status : Status) (value : Fraction) (rest : List ℕ) → HasBest status
-        → Fits limit value → text ≡ claim_text status value ++ rest → IsBestCause limit rest offence
+        → Fits limit value → text ≡ claim_text status value ++ rest → IsBestCause rest offence
         → rule ≡ rule_of offence → line ≡ 2 → Breaks text rule line
     in_nodes : (status : Status) (value : Fraction) (shown : List ℕ) (rest : List ℕ) → Fits limit value
-        → text ≡ claim_text status value ++ (shown ++ rest) → IsBestLine limit status shown
+        → text ≡ claim_text status value ++ (shown ++ rest) → IsBestLine status shown
         → BreaksNodes status at_root rest (first_node status) rule line → Breaks text rule line
     no_leaf : (status : Status) (value : Fraction) (shown : List ℕ) (root : Node) (last : Stage) → HasBest status
-        → Fits limit value → IsBestLine limit status shown
+        → Fits limit value → IsBestLine status shown
         → text ≡ claim_text status value ++ (shown ++ pieces_text (naming_of m) (pieces root))
         → Leads status at_root (pieces root) last
         → ((best : ℕ) → shown ≡ best_text status best → KeepsBest status best (leaf_count root) → ⊥)
@@ -221,10 +227,10 @@ module _ (limit : ℕ) (m : RobustModel) where
   NodeFits (split j k below above) = NodeFits below × NodeFits above
   NodeFits left_open = Unit {0}
 
-  -- and so do the tree's value and the number of its best leaf
+  -- and so does the tree's value; the number of its best leaf is one that may be told
   pub record TreeFits (t : Tree) : Type 0 where
     pub value : Fits limit t.value
-    pub best : t.best ≤ limit
+    pub best : t.best ≤ greatest_leaf
     pub root : NodeFits t.root
 
 -- the call answers the tree, unless memory is refused

@@ -17,7 +17,8 @@ use rob_number::{Exact, List, Memory};
 use std::alloc::Global;
 
 /// The box behind a branch: the model whose variable has as its upper bound the lesser of its own and the branch's, or
-/// as its lower bound the greater of the two.
+/// as its lower bound the greater of the two. Columns count from 0, and the variable has both bounds. The one error is
+/// want of memory.
 pub fn behind<N: Exact>(alloc: Global, model: &Model<N>, branch: Branch) -> Result<Model<N>, Memory>
     requires valid { IsValid N.value model.now }
     requires bounded { T (is_bounded (robust N.value model.now).variables branch.column) }

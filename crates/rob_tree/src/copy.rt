@@ -6,7 +6,7 @@ use rob_model::{Adaptive, Expr, Model, Param, RowDef, SetLine, Term, Var};
 use rob_number::{Exact, List, Memory, Text};
 use std::alloc::Global;
 
-/// A model equal to the given one.
+/// A model equal to the given one. The one error is want of memory.
 pub fn copy_model<N: Exact>(alloc: Global, model: &Model<N>) -> Result<Model<N>, Memory>
     ensures equal { IfOk result (λ copy. copy ≡ model.now) }
 {

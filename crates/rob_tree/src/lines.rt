@@ -6,14 +6,14 @@ ghost use Rattle.rob_cert.specs.Reading.{words_in};
 ghost use Rattle.rob_cert.specs.View.{status_of};
 ghost use Rattle.rob_number.specs.Counts.{NeverFell};
 ghost use Rattle.rob_tree.specs.Parts.{HasBestCause, IsBestRead, IsClaim, IsClaimRead};
-ghost use Rattle.rob_tree.specs.Reading.{HasBest, IsBestFault, IsClaimCause, IsClaimFault, IsWholeWord};
+ghost use Rattle.rob_tree.specs.Reading.{HasBest, IsBestFault, IsClaimCause, IsClaimFault, IsWholeWord, greatest_leaf};
 
 use crate::error::Offence;
 use rob_cert::Status;
 use rob_cert::cursor::{split_byte, three_words, two_words};
 use rob_cert::number::read_number;
 use rob_model::numbers::zero;
-use rob_number::{Exact, Ledger};
+use rob_number::{Exact, Frac, Ledger};
 
 /// What a tree claims.
 #[derive(Clone, Copy, Debug)]
@@ -126,11 +126,20 @@ pub fn read_claim<'a, N: Exact, L: Ledger>(
     }
 }
 
+/// The number that a word tells for a leaf: a whole number of at most 32 bits, at any width.
+fn read_leaf<L: Ledger>(word: &[u8], ledger: &mut L) -> Option<i64>
+    ensures whole { MatchOption result (IsWholeWord greatest_leaf word.now → ⊥)
+        (λ z. (nat_abs z ≤ greatest_leaf) × (word.now ≡ signed_decimal z)) }
+    ensures counted { NeverFell L.ops L.wides ledger.old ledger.new }
+{
+    read_whole::<Frac<32>, L>(word, ledger)
+}
+
 /// The number that a line of the leaf that shows the status tells.
-fn best_of<N: Exact, L: Ledger>(line: &[u8], ledger: &mut L) -> Result<i64, Offence>
+fn best_of<L: Ledger>(line: &[u8], ledger: &mut L) -> Result<i64, Offence>
     ensures best { MatchResult result
-        (λ z. (nat_abs z ≤ N.limit) × (words_in line.now ≡ codes "best" ∷ (signed_decimal z ∷ [])))
-        (λ o. IsBestFault N.limit (words_in line.now) o) }
+        (λ z. (nat_abs z ≤ greatest_leaf) × (words_in line.now ≡ codes "best" ∷ (signed_decimal z ∷ [])))
+        (λ o. IsBestFault (words_in line.now) o) }
     ensures counted { NeverFell L.ops L.wides ledger.old ledger.new }
 {
     match two_words(line) {
@@ -139,7 +148,7 @@ fn best_of<N: Exact, L: Ledger>(line: &[u8], ledger: &mut L) -> Result<i64, Offe
             if words.first != b"best".as_slice() {
                 return Err(Offence::NoLine);
             }
-            match read_whole::<N, L>(words.second, ledger) {
+            match read_leaf(words.second, ledger) {
                 None => Err(Offence::NoNumber),
                 Some(best) => Ok(best),
             }
@@ -148,20 +157,20 @@ fn best_of<N: Exact, L: Ledger>(line: &[u8], ledger: &mut L) -> Result<i64, Offe
 }
 
 /// The number that the first line of a text tells for the leaf that shows the status.
-fn read_shown<'a, N: Exact, L: Ledger>(
+fn read_shown<'a, L: Ledger>(
     status: Status,
     text: &'a [u8],
     ledger: &mut L,
 ) -> Result<Shown<'a>, Offence>
     requires has { HasBest (status_of status) }
     ensures shown { MatchResult result
-        (λ s. IsBestRead N.limit (status_of status) text.now s.best s.rest.now s.line)
-        (λ o. HasBestCause N.limit (status_of status) text.now o) }
+        (λ s. IsBestRead (status_of status) text.now s.best s.rest.now s.line)
+        (λ o. HasBestCause (status_of status) text.now o) }
     ensures counted { NeverFell L.ops L.wides ledger.old ledger.new }
 {
     match split_byte(text, b'\n') {
         None => Err(Offence::NoLine),
-        Some(split) => match best_of::<N, L>(split.front, ledger) {
+        Some(split) => match best_of(split.front, ledger) {
             Err(offence) => Err(offence),
             Ok(best) => Ok(Shown {
                 best,
@@ -173,23 +182,23 @@ fn read_shown<'a, N: Exact, L: Ledger>(
 }
 
 /// The line of the leaf that shows the status, where the status has one.
-pub fn read_best<'a, N: Exact, L: Ledger>(
+pub fn read_best<'a, L: Ledger>(
     status: Status,
     text: &'a [u8],
     ledger: &mut L,
 ) -> Result<Shown<'a>, Offence>
     ensures shown { MatchResult result
-        (λ s. IsBestRead N.limit (status_of status) text.now s.best s.rest.now s.line)
-        (λ o. HasBestCause N.limit (status_of status) text.now o) }
+        (λ s. IsBestRead (status_of status) text.now s.best s.rest.now s.line)
+        (λ o. HasBestCause (status_of status) text.now o) }
     ensures counted { NeverFell L.ops L.wides ledger.old ledger.new }
 {
     match status {
-        Status::Optimal => read_shown::<N, L>(status, text, ledger),
+        Status::Optimal => read_shown(status, text, ledger),
         Status::Infeasible => Ok(Shown {
             best: 0,
             rest: text,
             line: 2,
         }),
-        Status::Unbounded => read_shown::<N, L>(status, text, ledger),
+        Status::Unbounded => read_shown(status, text, ledger),
     }
 }

@@ -11,7 +11,7 @@ ghost use Rattle.rob_number.specs.Counts.{NeverFell};
 ghost use Rattle.rob_reach.specs.Ranges.{KeepsBothBounds, whole_rule};
 ghost use Rattle.rob_reach.specs.Trees as trees;
 ghost use Rattle.rob_tree.specs.Parts.{HasEndCause, HasRootCause, IsEnded, IsLeafNumber, IsRootRead, IsSceneOf, tree_with};
-ghost use Rattle.rob_tree.specs.Reading.{HasCause, Reads, TreeFits};
+ghost use Rattle.rob_tree.specs.Reading.{HasCause, Reads, TreeFits, greatest_leaf};
 ghost use Rattle.rob_tree.specs.TreeText.{IsTextOfTree};
 ghost use Rattle.rob_tree.specs.View.{node_of, tree_of};
 
@@ -73,7 +73,7 @@ fn read_root<N: Exact, L: Ledger>(
     requires scene { IsSceneOf (robust N.value scene.model.now) scene.named.now (naming scene.names.now) }
     requires same { scene.status ≡ claim.status }
     requires small { shown.line + length shown.rest.now ≤ 2 ^ 30 + 1 }
-    requires best { nat_abs shown.best ≤ N.limit }
+    requires best { nat_abs shown.best ≤ greatest_leaf }
     ensures read { IfOk result (λ tree. IsRootRead N.limit (robust N.value scene.entry.model.now) scene.entry.named.now
         (status_of claim.status) shown.entry.best (N.value claim.value) shown.entry.rest.now (tree_of N.value tree)) }
     ensures fault { IfErr result (HasRootCause N.limit (robust N.value scene.entry.model.now) scene.entry.named.now
@@ -113,7 +113,7 @@ fn read_text<N: Exact, L: Ledger>(
 {
     match read_claim(text, ledger) {
         Err(offence) => Err(TreeErr::Rule(offence.rule(), 1)),
-        Ok(read) => match read_best::<N, L>(read.claim.status, read.rest, ledger) {
+        Ok(read) => match read_best(read.claim.status, read.rest, ledger) {
             Err(offence) => Err(TreeErr::Rule(offence.rule(), 2)),
             Ok(shown) => {
                 let scene = Scene {
@@ -130,6 +130,8 @@ fn read_text<N: Exact, L: Ledger>(
 
 /// The tree for the model and its named variables that a text is: each text is that of one tree at most. The first bad
 /// line decides, and on it the lowest rule; that `best` names a leaf is judged last. A text is at most 2^30 bytes long.
+/// `names` are the numbers of the variables that take whole numbers, from 0. `Rule` has the rule, 31 to 33 or 71 to 73,
+/// and the line, from 1; `Memory` may come at any text.
 pub fn read_tree<N: Exact, L: Ledger>(
     alloc: Global,
     text: &[u8],

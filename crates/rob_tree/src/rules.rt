@@ -10,7 +10,8 @@ use rob_number::Exact;
 
 /// The number of the first rule that the names break, or none where they keep both: 62 where a named variable lacks a
 /// bound, 63 where the product, over the named variables, of the size of the range from the floor of the lower bound to
-/// the ceiling of the upper one, or 1 where that is less, is over 1,000. It takes no memory.
+/// the ceiling of the upper one, or 1 where that is less, is over 1,000. `names` are numbers of variables, from 0. It
+/// takes no memory.
 pub fn whole_rule<N: Exact>(model: &Model<N>, names: &[u32]) -> Option<u8>
     ensures rule { result ≡ ranges.whole_rule (robust N.value model.now) names.now }
 {

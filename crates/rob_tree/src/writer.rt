@@ -21,7 +21,7 @@ use rob_number::{Exact, Memory, Text};
 use std::alloc::Global;
 
 /// The text of a tree: what it claims, the leaf that shows it, and its nodes, a branch before the nodes of its two
-/// boxes.
+/// boxes. The one error is want of memory.
 pub fn write_tree<N: Exact>(alloc: Global, model: &Model<N>, tree: &Tree<N>) -> Result<Text, Memory>
     requires valid { IsValid N.value model.now }
     requires shape { IsTreeOf N.limit (robust N.value model.now) (tree_of N.value tree.now) }

@@ -64,10 +64,10 @@ returns-in-Ok-read_best-clause-fault g c =
     let shown = c.in-Ok-read_best.shown in
     texts_cause g.N.Exact.value limit m names (status_of claim.status) (g.N.Exact.value claim.value) text
     c.in-Ok.read.rest.now shown.rest.now shown.best shown.line fits c.in-Ok.ensures.claim
-    c.in-Ok-read_best.ensures.shown c.read_root.result g.met.N.Exact.limit_high c.read_root.ensures.fault
+    c.in-Ok-read_best.ensures.shown c.read_root.result c.read_root.ensures.fault
 
 pub read_root-requires-clause-best : goal.read_root-requires-clause-best
 read_root-requires-clause-best g c =
     let shown = c.in-Ok-read_best.ensures.shown in
-    best_fits g.N.Exact.limit (status_of c.in-Ok.read.claim.status) shown.shown
+    best_fits (status_of c.in-Ok.read.claim.status) shown.shown
     c.in-Ok-read_best.shown.best shown.is_best
