@@ -8,5 +8,7 @@ pub mod SolvingLemmas
 pub mod EntryLemmas
 pub mod CertificateLemmas
 pub mod MakingLemmas
+pub mod SetLemmas
 pub mod SizeLemmas
 pub mod NarrowModels
+pub mod ModelLemmas

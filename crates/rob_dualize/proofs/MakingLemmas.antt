@@ -1,33 +1,28 @@
 -- Solvers that are made for the set's program and for the counterpart.
-use Rattle.std.proofs.Common.{◌≡◌, ℕ, zero, suc, ◌+◌, ◌*◌, ◌^◌, ◌<◌, ◌≤◌, List, length, sym, ap, ◌∙◌, subst, arith, Result, Ok, Err}
+use Rattle.std.proofs.Common.{◌≡◌, ℕ, zero, suc, ◌+◌, ◌*◌, ◌<◌, ◌≤◌, List, length, sym, ap, ◌∙◌, subst, arith, Result, Ok, Err}
 use Rattle.std.specs.Prelude.{IfOk}
-use Rattle.std.proofs.lemmas.List.{length-map}
 use Rattle.rob_counterpart.proofs.SamePaths.{wide_row_same}
 use lib.IntN.{pos}
 use Rattle.rob_algebra.specs.Fraction.{Fraction}
 use Rattle.rob_linear.specs.Programs.{Program, system_of}
 use Rattle.rob_linear.specs.Turns.{own_of}
 use Rattle.rob_meaning.specs.RobustModel.{RobustModel}
-use Rattle.rob_meaning.specs.SetRows.{set_rows}
 use Rattle.rob_rows.specs.declared.program.Lp.{Lp}
 use Rattle.rob_rows.specs.LinearPrograms.{program_of}
 use Rattle.rob_simplex.specs.Dictionaries.{columns_of}
 use Rattle.rob_linear.specs.WideRows.{HasWideRow}
 use Rattle.rob_number.specs.declared.lp_kind.LpKind.{LpKind}
-use Rattle.rob_number.specs.declared.lp_kind.LpKind.TheVariants as kind
-use Rattle.rob_simplex.specs.Endings.{HasSolved, HasStopped, HasAnswered, IsOptimumOf, IsRayOf}
+use Rattle.rob_simplex.specs.Endings.{HasSolved, HasStopped, HasAnswered}
 use Rattle.rob_simplex.specs.declared.state.LpStop.{LpStop}
 use Rattle.rob_simplex.specs.declared.state.LpStop.TheVariants.{Wide}
 use Rattle.rob_simplex.specs.Solvers.{Solver, positions, entries}
 use Rattle.rob_simplex.specs.Solutions.{point_of}
-use Rattle.rob_sets.specs.SetForm.{IsSetForm, cleared_row}
-use Rattle.rob_sets.specs.SetProgram.{IsOverRobust, robust_set}
+use Rattle.rob_sets.specs.SetForm.{IsSetForm}
 use Rattle.rob_sets.specs.declared.set_form.SetForm.{SetForm}
-use Rattle.rob_sets.proofs.SetProgramLemmas.{same_program}
 use Rattle.rob_elab.specs.Forms.{IsForms}
 use Rattle.rob_elab.specs.declared.forms.Forms.{Forms}
 use Rattle.rob_counterpart.specs.RobustProgram.{RobustProgram}
-use Rattle.rob_counterpart.specs.Counterpart.{counterpart, robust_of, set_program}
+use Rattle.rob_counterpart.specs.Counterpart.{counterpart, robust_of}
 use Rattle.rob_counterpart.specs.Reform.{reform, block}
 use Rattle.rob_counterpart.specs.SamePrograms.{AreSame}
 use Rattle.rob_counterpart.specs.SetPrograms.{set_of}
@@ -37,7 +32,8 @@ use Rattle.rob_counterpart.proofs.SplitLemmas.{point_opposite, set_pair}
 use Rattle.rob_dualize.specs.Ending.{HasLastPoint, HasEnded, IsMadeAs, read_from, position_of}
 use Rattle.rob_dualize.specs.Solving.{TellsWideRow}
 use Rattle.rob_elab.specs.Elaborated.{AreElaborated}
-use Rattle.rob_dualize.specs.Wholes.{wholes, counterpart_of, set_of_wholes, IsFew}
+use Rattle.rob_dualize.specs.SetSolving.{IsFewSet, IsSetOfModel}
+use Rattle.rob_dualize.specs.Wholes.{wholes, counterpart_of, IsFew}
 use Rattle.rob_dualize.proofs.Soundness.{wholes_are}
 use Rattle.rob_dualize.proofs.SolvingLemmas.{last_basis, last_point}
 
@@ -57,25 +53,16 @@ module _ {limit : ℕ} (forms : Forms) (set : SetForm) (one : AreElaborated limi
   pub parameters_low : forms.params ≤ set.columns
   parameters_low = omega (arith, one.are_forms.params, one.is_set.columns)
 
-  -- the set's program has as few rows and columns
-  pub set_few : IsFew (counterpart_of forms set) → (lp : Lp) → IsOverRobust (robust_set set) (program_of lp) → length lp.c + length lp.b < 2 ^ 31
-  set_few few lp h =
-      let b : length lp.b ≡ length set.rows = h.over_set.height in
-      let w : length lp.c ≡ set.columns + set.columns = h.over_set.width in
-      let u : block (wholes forms set) ≤ length forms.matrices * block (wholes forms set) = one_block (length forms.matrices) (block (wholes forms set)) some_form in
-      let v : length set.rows ≤ length forms.matrices * length set.rows = one_block (length forms.matrices) (length set.rows) some_form in
-      omega (arith, few)
+  -- the set is that of a model
+  pub set_of_one : IsSetOfModel limit set
+  set_of_one = record { model = one.model; is_set = one.is_set; fits = one.set_fits }
 
-  pub set_of_few : IsFew (counterpart_of forms set) → IsFew (set_of_wholes forms set)
+  -- its program has as few rows and columns
+  pub set_of_few : IsFew (counterpart_of forms set) → IsFewSet set
   set_of_few few =
       let u : block (wholes forms set) ≤ length forms.matrices * block (wholes forms set) = one_block (length forms.matrices) (block (wholes forms set)) some_form in
       let v : length set.rows ≤ length forms.matrices * length set.rows = one_block (length forms.matrices) (length set.rows) some_form in
       omega (arith, few)
-
-  pub set_same : (lp : Lp) → IsOverRobust (robust_set set) (program_of lp) → AreSame (program_of lp) (set_of_wholes forms set)
-  set_same lp h =
-      subst (λ (q : RobustProgram). AreSame (program_of lp) (set_of q)) (sym (wholes_are one.model forms set one.are_forms one.is_set))
-      (same_program one.model set one.is_set (program_of lp) h)
 
   pub counterpart_same : (lp : Lp) → AreSame (program_of lp) (counterpart one.model) → AreSame (program_of lp) (counterpart_of forms set)
   counterpart_same lp h =
@@ -93,12 +80,6 @@ pub has_ended : (Q : Program) (before now : Solver) (h : IsMadeAs Q before) (kin
 has_ended Q before now h kind ec ep solved answered =
     record { program = h.program; same = h.same; rows = h.made.rows ∙ sym ep; columns = h.made.columns ∙ sym ec; solved = solved; answered = answered }
 
-pub optimal_last : (Q : Program) (s : Solver) → HasEnded Q kind.Optimal s → HasLastPoint Q s
-optimal_last Q s h = let o : IsOptimumOf h.program s = h.solved in record { program = h.program; same = h.same; point = o.point; feasible = o.ends.feasible }
-
-pub unbounded_last : (Q : Program) (s : Solver) → HasEnded Q kind.Unbounded s → HasLastPoint Q s
-unbounded_last Q s h = let o : IsRayOf h.program s = h.solved in record { program = h.program; same = h.same; point = o.point; feasible = o.ends.feasible }
-
 pub stopped_row : (limit : ℕ) (P : Program) (stop : LpStop) (s : Solver) → HasStopped limit P stop s → HasWideRow limit P (columns_of s.basis) (position_of stop)
 stopped_row limit P (Wide i) s h = h.1
 
@@ -111,15 +92,6 @@ module _ (forms : Forms) (set : SetForm) (m : RobustModel) (f : IsForms m forms)
   same_wholes : wholes forms set ≡ robust_of m
   same_wholes = wholes_are m forms set f st
 
-  pub set_rows_count : length set.rows ≡ length (set_rows m)
-  set_rows_count = ap length st.rows ∙ length-map (set_rows m) (cleared_row m)
-
-  pub set_ended : (k : LpKind) (s : Solver) → HasEnded (set_of_wholes forms set) k s → HasEnded (set_program m) k s
-  set_ended k s = subst (λ (q : RobustProgram). HasEnded (set_of q) k s) same_wholes
-
-  pub set_last : (s : Solver) → HasLastPoint (set_of_wholes forms set) s → HasLastPoint (set_program m) s
-  set_last s = subst (λ (q : RobustProgram). HasLastPoint (set_of q) s) same_wholes
-
   pub counterpart_ended : (k : LpKind) (s : Solver) → HasEnded (counterpart_of forms set) k s → HasEnded (counterpart m) k s
   counterpart_ended k s = subst (λ (q : RobustProgram). HasEnded (reform q) k s) same_wholes
 
@@ -128,10 +100,6 @@ module _ (forms : Forms) (set : SetForm) (m : RobustModel) (f : IsForms m forms)
 
   pub read_same : (inside : List Fraction) (k : LpKind) (s : Solver) → read_from (wholes forms set) inside k s ≡ read_from (robust_of m) inside k s
   read_same inside k s = ap (λ (q : RobustProgram). read_from q inside k s) same_wholes
-
-  pub set_wide : (limit : ℕ) (before now : Solver) (h : IsMadeAs (set_of_wholes forms set) before) → positions now ≡ positions before → (i : ℕ)
-      → HasWideRow limit h.program (columns_of now.basis) i → TellsWideRow limit (set_program m) now.basis i
-  set_wide limit before now h e i w = wide_told limit h.program (set_program m) (subst (λ (q : RobustProgram). AreSame h.program (set_of q)) same_wholes h.same) now.basis i (e ∙ sym h.made.rows) w
 
   pub counterpart_wide : (limit : ℕ) (before now : Solver) (h : IsMadeAs (counterpart_of forms set) before) → positions now ≡ positions before → (i : ℕ)
       → HasWideRow limit h.program (columns_of now.basis) i → TellsWideRow limit (counterpart m) now.basis i

@@ -21,11 +21,9 @@ use Rattle.rob_meaning.specs.UncertaintySet.{Admits}
 use Rattle.rob_meaning.specs.WellFormed.{IsModel}
 use Rattle.rob_meaning.proofs.EmptyInLemmas.{shows_empty_in}
 use Rattle.rob_meaning.proofs.EmptyLemmas.{shows_empty}
-use Rattle.rob_model.specs.View.{scenario_of}
 use Rattle.rob_model.specs.declared.place.Spot.{Spot}
 use Rattle.rob_model.specs.declared.place.Program.{Program as Named}
 use Rattle.rob_model.specs.declared.place.Program.TheVariants as named
-use Rattle.rob_model.specs.declared.plan.Scenario.{Scenario}
 use Rattle.rob_number.specs.Counts.{raised}
 use Rattle.rob_number.specs.declared.lp_kind.LpKind.TheVariants as kind
 use Rattle.rob_number.specs.declared.memory.Memory.{Memory as NoMemory}
@@ -45,8 +43,7 @@ use Rattle.rob_counterpart.proofs.SameSystems.{systems_same}
 use Rattle.rob_counterpart.proofs.OwnSetLemmas.{weights_in}
 use Rattle.rob_counterpart.proofs.ScenarioLemmas.{set_weights, basis_admitted}
 use Rattle.rob_counterpart.proofs.TabulateLemmas.{tabulate-same}
-use Rattle.rob_dualize.specs.Ending.{HasEnded, HasLastPoint, StopsAt, IsTold}
-use Rattle.rob_counterpart.specs.ReadNumbers.{differences}
+use Rattle.rob_dualize.specs.Ending.{HasEnded, HasLastPoint, IsWideStop, StopsAt}
 use Rattle.rob_dualize.specs.Solving.{IsLastScenario, IsSolution, IsShownEmpty, TellsWideRow, IsWideOnPath, HasCause, CountsStop, Finds, IsNarrowModel, IsNotWide, Solves}
 use Rattle.rob_dualize.proofs.EndingLemmas.{infeasible_end}
 use Rattle.rob_dualize.proofs.TabulateLemmas.{map-tabulate}
@@ -55,12 +52,14 @@ rises : (n : ℕ) → n ≤ raised n
 rises n = omega arith
 
 -- ---- a wide row
-module _ (limit : ℕ) (m : RobustModel) where
-  pub wide_in_set : (basis : List ℕ) (i : ℕ) (stop : Stop) → TellsWideRow limit (set_program m) basis i → StopsAt basis named.Set i stop → HasCause limit m stop
-  wide_in_set basis i (EmptySet weights) w h = absurd h
-  wide_in_set basis i (Wide place trace) w h = (subst (λ (p : Spot). IsWideOnPath limit m p) (sym h.0) w, h.1)
-  wide_in_set basis i Memory w h = tt
+-- the stop names a row of the basis
+pub stops_at : (basis columns : List ℕ) (program : Named) (i : ℕ) (stop : Stop) → columns ≡ basis → IsWideStop (spot.Dictionary program columns i) stop
+    → StopsAt basis program i stop
+stops_at basis columns program i (EmptySet weights) e h = absurd h
+stops_at basis columns program i (Wide place trace) e h = (h.0 ∙ ap (λ b. spot.Dictionary program b i) e, h.1)
+stops_at basis columns program i Memory e h = tt
 
+module _ (limit : ℕ) (m : RobustModel) where
   pub wide_in_counterpart : (basis : List ℕ) (i : ℕ) (stop : Stop) (scenario : List Fraction) → Admits m scenario → TellsWideRow limit (counterpart m) basis i
       → StopsAt basis named.Reform i stop → HasCause limit m stop
   wide_in_counterpart basis i (EmptySet weights) u a w h = absurd h
@@ -184,28 +183,3 @@ module _ (m : RobustModel) (model : IsModel m) (s : Solver) where
 module _ {N : Type 0} (value : N → Fraction) (limit : ℕ) (m : RobustModel) where
   pub not_found : (before now : ℕ) (stop : Stop) → HasCause limit m stop → CountsStop before now stop → Finds value limit m before now (Err stop)
   not_found before now stop h k = record { found = tt; stopped = h; counted = k }
-
-  pub counted_found : (before now : ℕ) (result : Result (Scenario N) Stop) → now ≡ before → Finds value limit m before before result → Finds value limit m before now result
-  counted_found before now result e h = subst (λ n. Finds value limit m before n result) (sym e) h
-
-  module _ (model : IsModel m) (s : Solver) where
-    pub point_found : (params : ℕ) → params ≡ length m.parameters → HasLastPoint (set_program m) s → (answer : Result (Scenario N) NoMemory)
-        → IfOk answer (λ scenario. scenario_of value scenario ≡ differences params (point_of s)) → (result : Result (Scenario N) Stop)
-        → MatchResult result (λ x. answer ≡ Ok x) (λ stop. stop ≡ Memory) → (n : ℕ) → Finds value limit m n n result
-    point_found params e h answer ok (Ok x) is n =
-        let read : scenario_of value x ≡ scenario_read m (point_of s) =
-        subst (λ (r : Result (Scenario N) NoMemory). IfOk r (λ scenario. scenario_of value scenario ≡ differences params (point_of s))) is ok ∙ ap (λ k. differences k (point_of s)) e in
-        let found = scenario_found m model s h in
-        record {
-          found = (subst (Admits m) (sym read) found.0, subst (IsLastScenario m) (sym read) found.1);
-          stopped = tt;
-          counted = refl;
-        }
-    point_found params e h answer ok (Err stop) is n = not_found n n stop (refused_cause limit m stop is) (refused_counted n n stop (omega arith) is)
-
-    pub empty_found : HasEnded (set_program m) kind.Infeasible s → (count : ℕ) → count ≡ length (set_rows m) → (result : Result (Scenario N) Stop) → IsTold count (weights_of s) result
-        → (n : ℕ) → Finds value limit m n n result
-    empty_found h count e (Ok x) is n = absurd is
-    empty_found h count e (Err (EmptySet weights)) is n = not_found n n (EmptySet weights) (weights_told m model s h weights count is e) refl
-    empty_found h count e (Err (Wide place trace)) is n = absurd is
-    empty_found h count e (Err Memory) is n = not_found n n Memory tt (omega arith)

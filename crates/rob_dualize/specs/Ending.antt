@@ -1,5 +1,5 @@
 -- How a solver ends on the counterpart, and what is read there.
-use Rattle.std.specs.Prelude.{◌≡◌, ℕ, List, [], Result, Ok, Err, ⊤}
+use Rattle.std.specs.Prelude.{◌≡◌, ℕ, List, [], ⊤}
 use Rattle.rob_algebra.specs.Fraction.{Fraction, of_int}
 use Rattle.rob_linear.specs.Vectors.{Vector}
 use Rattle.rob_linear.specs.Systems.{Feasible}
@@ -8,6 +8,7 @@ use Rattle.rob_meaning.specs.Certificates.{Certificate}
 use Rattle.rob_meaning.specs.Places.{tabulate}
 use Rattle.rob_number.specs.declared.lp_kind.LpKind.{LpKind}
 use Rattle.rob_number.specs.declared.lp_kind.LpKind.TheVariants as kind
+use Rattle.rob_model.specs.declared.place.Spot.{Spot}
 use Rattle.rob_model.specs.declared.place.Spot.TheVariants.{Dictionary}
 use Rattle.rob_model.specs.declared.place.Program.{Program as Named}
 use Rattle.rob_simplex.specs.Solvers.{Solver, positions, entries, IsMadeFor}
@@ -53,15 +54,20 @@ read_from d inside kind.Unbounded s = unbounded_from d inside (point_of s) (ray_
 abbrev pub position_of : LpStop → ℕ
 position_of (At i) = i
 
+-- the stop names the spot, and no rounds
+abbrev pub IsWideStop : Spot → Stop → Type 0
+IsWideStop spot (EmptySet weights) = ⊥
+IsWideStop spot (Wide place trace) = (place ≡ spot) × (trace.rounds ≡ [])
+IsWideStop spot Memory = ⊥
+
 -- the stop names that program, that basis and that position, and no rounds; or memory was refused
 abbrev pub StopsAt : List ℕ → Named → ℕ → Stop → Type 0
 StopsAt basis program i (EmptySet weights) = ⊥
 StopsAt basis program i (Wide place trace) = (place ≡ Dictionary program basis i) × (trace.rounds ≡ [])
 StopsAt basis program i Memory = ⊤
 
--- the stop is the first n weights, or memory was refused
-abbrev pub IsTold : {T : Type 0} → ℕ → Vector → Result T Stop → Type 0
-IsTold n w (Ok x) = ⊥
-IsTold n w (Err (EmptySet weights)) = weights ≡ tabulate n w
-IsTold n w (Err (Wide place trace)) = ⊥
-IsTold n w (Err Memory) = ⊤
+-- the stop tells the first n weights, or memory was refused
+abbrev pub TellsWeights : ℕ → Vector → Stop → Type 0
+TellsWeights n w (EmptySet weights) = weights ≡ tabulate n w
+TellsWeights n w (Wide place trace) = ⊥
+TellsWeights n w Memory = ⊤

@@ -32,6 +32,10 @@ use Rattle.rob_cert.specs.declared.certificate.Cert.{Cert}
 use Rattle.rob_cert.specs.declared.ending.Stop.{Stop}
 use Rattle.rob_cert.specs.declared.ending.Stop.TheVariants.{EmptySet, Wide, Memory}
 
+-- some scenario is admitted
+abbrev pub HasScenario : RobustModel → Type 0
+HasScenario m = (u : List Fraction) × Admits m u
+
 -- the certificate is read off the rows of the counterpart at this basis, in the entering column where they are unbounded
 abbrev pub IsReadAt : RobustModel → Columns → Matrix → Status → Certificate → Type 0
 IsReadAt m basis rows optimal c =

@@ -10,7 +10,6 @@ use Rattle.rob_elab.specs.declared.forms.Forms.{Forms}
 use Rattle.rob_counterpart.specs.RobustProgram.{RobustProgram}
 use Rattle.rob_counterpart.specs.Counterpart.{cell, sign_of}
 use Rattle.rob_counterpart.specs.Reform.{reform}
-use Rattle.rob_counterpart.specs.SetPrograms.{set_of}
 
 -- the whole numbers of the forms and the set rows
 abbrev pub wholes : Forms → SetForm → RobustProgram
@@ -29,10 +28,6 @@ wholes forms set = record {
 -- their counterpart
 abbrev pub counterpart_of : Forms → SetForm → Program
 counterpart_of forms set = reform (wholes forms set)
-
--- the program of the set
-abbrev pub set_of_wholes : Forms → SetForm → Program
-set_of_wholes forms set = set_of (wholes forms set)
 
 -- the program's rows and columns together are as few as a solver takes
 abbrev pub IsFew : Program → Type 0

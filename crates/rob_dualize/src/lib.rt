@@ -6,11 +6,14 @@ mod certificate;
 mod counterpart;
 pub mod entries;
 pub mod laws;
+mod model;
 pub mod reading;
 mod route;
 mod scenario;
+pub mod set_program;
 pub mod stop;
 pub mod told;
 
 pub use counterpart::reform;
+pub use model::solve_model;
 pub use route::solve_dual;

@@ -3,7 +3,7 @@
 ghost use Rattle.std.specs.Prelude.{◌≡◌, IsOk, IsErr, MatchResult, Ok};
 ghost use Rattle.rob_cert.specs.declared.ending.Stop.TheVariants.{Memory as OutOfMemory};
 ghost use Rattle.rob_simplex.specs.Solvers.{positions};
-ghost use Rattle.rob_dualize.specs.Ending.{StopsAt, position_of};
+ghost use Rattle.rob_dualize.specs.Ending.{IsWideStop, StopsAt, position_of};
 
 use crate::told::basis;
 use rob_cert::{Stop, Trace};
@@ -27,12 +27,17 @@ pub fn wide<N: Exact>(alloc: Global, work: &Work<N>, program: Program, count: u3
     ensures stop { StopsAt work.now.basis program i result }
 {
     match basis(alloc, work, count) {
-        Ok(columns) => {
-            let rounds = List::new(alloc);
-            Stop::Wide(Spot::Dictionary(program, columns, i), Trace { rounds })
-        }
+        Ok(columns) => wide_at(alloc, Spot::Dictionary(program, columns, i)),
         Err(Memory) => Stop::Memory,
     }
+}
+
+/// A number is wide at this spot, with no rounds before it.
+pub fn wide_at(alloc: Global, spot: Spot) -> Stop
+    ensures stop { IsWideStop spot result }
+{
+    let rounds = List::new(alloc);
+    Stop::Wide(spot, Trace { rounds })
 }
 
 /// The answer, a want of memory being a stop.

@@ -1,43 +1,42 @@
-use Rattle.std.proofs.Common.{ℕ, subst, ◌∙◌, sym, ap, arith, length}
-use Rattle.rob_linear.specs.WideRows.{HasWideRow}
-use Rattle.rob_simplex.specs.Dictionaries.{columns_of}
-use Rattle.rob_dualize.specs.Wholes.{set_of_wholes}
-use Rattle.rob_model.specs.declared.place.Program.TheVariants as named
-use Rattle.rob_dualize.proofs.MakingLemmas.{has_ended, set_wide, stopped_row}
-use Rattle.rob_dualize.proofs.SolvingLemmas.{not_found, counted_found, wide_in_set, wide_counted}
+use Rattle.std.proofs.Common.{◌≡◌, map, sym, ap, ◌∙◌, subst, arith}
+use Rattle.rob_meaning.specs.UncertaintySet.{Admits}
+use Rattle.rob_simplex.specs.Solutions.{point_of}
+use Rattle.rob_counterpart.specs.ReadCertificates.{scenario_read}
+use Rattle.rob_counterpart.specs.ReadNumbers.{differences}
+use Rattle.rob_dualize.specs.Solving.{IsLastScenario}
+use Rattle.rob_dualize.proofs.MakingLemmas.{parameters_low, set_of_few, set_of_one}
+use Rattle.rob_dualize.proofs.SetLemmas.{set_cause, solved_pairs, solved_scenario}
+use Rattle.rob_dualize.proofs.SolvingLemmas.{not_found}
 use Rattle.rob_dualize.proofs.scenario.scenario.Goals as goal
 
+pub solved_set-requires : goal.solved_set-requires
+solved_set-requires g c = record {
+  model = set_of_one c.args.forms.now c.args.set.now c.requires.model;
+  few = set_of_few c.args.forms.now c.args.set.now c.requires.model c.requires.few;
+}
+
 pub returns-in-Err-clause-found : goal.returns-in-Err-clause-found
-returns-in-Err-clause-found g c = λ m model f st. not_found g.N.Exact.value g.N.Exact.limit m (g.L.Ledger.wides c.args.ledger.now) (g.L.Ledger.wides c.args.ledger.now) _ tt (omega arith)
+returns-in-Err-clause-found g c = λ m model f st.
+    not_found g.N.Exact.value g.N.Exact.limit m (g.L.Ledger.wides c.args.ledger.now) (g.L.Ledger.wides c.solved_set.new.ledger) c.in-Err.stop
+    (set_cause g.N.Exact.limit m c.in-Err.stop (c.in-Err.ensures.stopped m model st)) c.in-Err.ensures.wides
 
-pub solve-requires : goal.solve-requires
-solve-requires g c = record { fresh = (c.in-Ok.ensures.made.program, c.in-Ok.ensures.made.made) }
+pub parameters-requires-clause-pairs : goal.parameters-requires-clause-pairs
+parameters-requires-clause-pairs g c = λ k l.
+    solved_pairs c.args.set.now c.in-Ok.work c.in-Ok.ensures.solved.last k (omega (arith, parameters_low c.args.forms.now c.args.set.now c.requires.model))
 
-pub read_scenario-requires-clause-ended : goal.read_scenario-requires-clause-ended
-read_scenario-requires-clause-ended g c =
-    has_ended (set_of_wholes c.args.forms.now c.args.set.now) c.in-Ok.work c.solve.new.self c.in-Ok.ensures.made c.in-Ok-solve.kind c.solve.ensures.columns c.solve.ensures.positions
-    (c.in-Ok-solve.ensures.solved c.in-Ok.ensures.made.program c.in-Ok.ensures.made.made) c.in-Ok-solve.ensures.answered
-
-pub returns-in-Ok-solve : goal.returns-in-Ok-solve
-returns-in-Ok-solve g c = record {
-  found = λ m model f st.
-      counted_found g.N.Exact.value g.N.Exact.limit m (g.L.Ledger.wides c.args.ledger.now) (g.L.Ledger.wides c.solve.new.ledger) c.read_scenario.result c.in-Ok-solve.ensures.counted.wides
-      (c.read_scenario.ensures.found m (g.L.Ledger.wides c.args.ledger.now) model f st);
-  counted = record { ops = c.solve.ensures.counted.ops; wides = omega (arith, c.in-Ok-solve.ensures.counted.wides) };
-}
-
-pub wide-requires : goal.wide-requires
-wide-requires g c = record {
-  positions = ap length c.items.ensures.list ∙ sym c.in-Ok.ensures.made.same.height ∙ c.in-Ok.ensures.made.made.rows ∙ sym c.solve.ensures.positions;
-}
+pub returns-in-Ok-parameters-clause-found : goal.returns-in-Ok-parameters-clause-found
+returns-in-Ok-parameters-clause-found g c = λ m model f st.
+    let s = c.in-Ok.work in
+    let e : map g.N.Exact.value c.in-Ok-parameters.values ≡ scenario_read m (point_of s) =
+    c.in-Ok-parameters.ensures.parameters ∙ ap (λ k. differences k (point_of s)) f.params in
+    let found = solved_scenario m c.args.set.now st model s c.in-Ok.ensures.solved in
+    record {
+      found = (subst (Admits m) (sym e) found.0, subst (IsLastScenario m) (sym e) found.1);
+      stopped = tt;
+      counted = c.in-Ok.ensures.wides;
+    }
 
 pub returns-clause-found : goal.returns-clause-found
 returns-clause-found g c = λ m model f st.
-    not_found g.N.Exact.value g.N.Exact.limit m (g.L.Ledger.wides c.args.ledger.now) (g.L.Ledger.wides c.solve.new.ledger) c.wide.result
-    (wide_in_set g.N.Exact.limit m c.solve.new.self.basis c.position.result c.wide.result
-    (set_wide c.args.forms.now c.args.set.now m f st g.N.Exact.limit c.in-Ok.work c.solve.new.self c.in-Ok.ensures.made c.solve.ensures.positions c.position.result (subst (λ (i : ℕ). HasWideRow g.N.Exact.limit c.in-Ok.ensures.made.program (columns_of c.solve.new.self.basis) i) (sym c.position.ensures.position) (stopped_row g.N.Exact.limit c.in-Ok.ensures.made.program c.in-Err-solve.stop c.solve.new.self (c.in-Err-solve.ensures.solved c.in-Ok.ensures.made.program c.in-Ok.ensures.made.made))))
-    c.wide.ensures.stop)
-    (wide_counted (g.L.Ledger.wides c.args.ledger.now) (g.L.Ledger.wides c.solve.new.ledger) c.solve.new.self.basis named.Set c.position.result c.wide.result c.in-Err-solve.ensures.counted.wides c.wide.ensures.stop)
-
-pub returns-clause-counted : goal.returns-clause-counted
-returns-clause-counted g c = record { ops = c.solve.ensures.counted.ops; wides = omega (arith, c.in-Err-solve.ensures.counted.wides) }
+    not_found g.N.Exact.value g.N.Exact.limit m (g.L.Ledger.wides c.args.ledger.now) (g.L.Ledger.wides c.solved_set.new.ledger) _ tt
+    (omega (arith, c.in-Ok.ensures.wides))
