@@ -1,6 +1,6 @@
 -- How a tree grows, one step at a time: what is asked of the two boxes of a branch, and what is answered of both together.
-use Rattle.std.proofs.Common.{◌≡◌, ◌≢◌, ℕ, ◌+◌, ◌<◌, ◌≤◌, suc, List, [], ◌∷◌, ◌++◌, T, Bool, true, false, refl, ap, sym, ◌∙◌, subst, arith, append_assoc, ◌⊎◌, ◌-◌, ◌^◌, min, max, inl, inr}
-use Rattle.std.specs.Prelude.{ℤ, ◌+ℤ◌, Option, Some, None}
+use Rattle.std.proofs.Common.{◌≡◌, ℕ, ◌+◌, ◌<◌, ◌≤◌, suc, List, [], ◌∷◌, ◌++◌, T, Bool, true, false, ap, sym, ◌∙◌, subst, arith, append_assoc, ◌⊎◌, ◌-◌, ◌^◌, min, max, inl, inr}
+use Rattle.std.specs.Prelude.{ℤ, Option, Some, None}
 use Rattle.rob_meaning.proofs.EachLemmas.{each_append}
 use Rattle.rob_meaning.specs.Certificates.{Certificate, Status, optimal, infeasible, unbounded}
 use Rattle.rob_meaning.specs.Places.{Each}
@@ -16,14 +16,8 @@ use Rattle.rob_tree.specs.declared.error.TreeStop.{TreeStop}
 use Rattle.rob_tree.specs.declared.error.TreeStop.TheVariants.{Rule, EmptySet, Wide, Memory}
 use Rattle.rob_branch.specs.Growth.{HasCauseBehind, RoseIfWide}
 
--- ---- the two branches that a certificate asks for are allowed
+-- ---- there is room for both boxes of a branch
 module _ (m : RobustModel) (names : List ℕ) (before : Search) (c : Certificate) (j : ℕ) (k : ℤ) (h : Decides m names before c (branches j k)) where
-  pub allowed_below : IsAllowed m names (at_most_branch j k)
-  allowed_below = record { certificate = c; variable = j; k = k; allows = allows_branch m names before c j k h; side = inl refl }
-
-  pub allowed_above : IsAllowed m names (at_least_branch j k)
-  allowed_above = record { certificate = c; variable = j; k = k; allows = allows_branch m names before c j k h; side = inr refl }
-
   module _ (model : IsModel m) (bounded : T (are_bounded m.variables names)) where
     -- there is room for both
     pub room_below : (n : ℕ) → n + product_of_ranges m.variables names ≤ 1000 → n + product_of_ranges (box_below m j k).variables names ≤ 1000
@@ -85,14 +79,26 @@ pub shaped_both : (m : RobustModel) (j : ℕ) (k : ℤ) (below above : Node) →
 shaped_both m j k below above h g = each_append IsShaped (leaves (box_below m j k) below) (leaves (box_above m j k) above) h g
 
 -- ---- why a box has not grown
-module _ (limit : ℕ) (m : RobustModel) (names : List ℕ) (front : List Branch) where
-  -- a cause behind a box of the box is one behind the box
-  pub cause_beside : (b : Branch) (stop : TreeStop) → IsAllowed m names b → HasCauseBehind limit (behind m b) names (front ++ b ∷ []) stop
-      → HasCauseBehind limit m names front stop
-  cause_beside b (Rule rule) allowed h = h
-  cause_beside b (EmptySet weights) allowed h = h
-  cause_beside b (Wide path spot) allowed h = (b ∷ h.0, h.1 ∙ append_assoc front (b ∷ []) h.0, (allowed, h.2), h.3)
-  cause_beside b Memory allowed h = h
+-- a cause behind one of the two boxes of a branch is one behind the box
+module _ (limit : ℕ) (m : RobustModel) (names : List ℕ) (before : Search) (front : List Branch) (c : Certificate) (j : ℕ) (k : ℤ)
+    (decides : Decides m names before c (branches j k)) where
+  pub cause_below : (b : Branch) (stop : TreeStop) → b ≡ at_most_branch j k → HasCauseBehind limit (behind m b) names before (front ++ b ∷ []) stop
+      → HasCauseBehind limit m names before front stop
+  cause_below b (Rule rule) is h = h
+  cause_below b (EmptySet weights) is h = h
+  cause_below b (Wide path spot) is h =
+      (b ∷ h.0, h.1 ∙ append_assoc front (b ∷ []) h.0, (h.2.0, (c, j, k, decides, inl (is, h.2.1))), h.3)
+  cause_below b Memory is h = h
+
+  pub cause_above : (a b : Branch) (stop : TreeStop) (below : Node) (middle : Search) → a ≡ at_most_branch j k → b ≡ at_least_branch j k
+      → Grows (behind m a) names before below middle → HasCauseBehind limit (behind m b) names middle (front ++ b ∷ []) stop
+      → HasCauseBehind limit m names before front stop
+  cause_above a b (Rule rule) below middle first is grows h = h
+  cause_above a b (EmptySet weights) below middle first is grows h = h
+  cause_above a b (Wide path spot) below middle first is grows h =
+      let grown : Grows (box_below m j k) names before below middle = subst (λ (a : Branch). Grows (behind m a) names before below middle) first grows in
+      (b ∷ h.0, h.1 ∙ append_assoc front (b ∷ []) h.0, (h.2.0, (c, j, k, decides, inr (is, (below, middle, grown, h.2.1)))), h.3)
+  cause_above a b Memory below middle first is grows h = h
 
 -- a rise stays where the count never falls before and behind it
 pub rose_wider : (old before now : ℕ) (told : TreeStop) → old ≤ before → RoseIfWide before now told → RoseIfWide old now told

@@ -1,7 +1,6 @@
 pub mod OutcomeLemmas
-pub mod SpotLemmas
 pub mod GrowthLemmas
 pub mod GrownTreeLemmas
 pub mod GrowSteps
 pub mod SideLemmas
-pub mod SolveLemmas
+pub mod GrownTextLemmas

@@ -8,6 +8,7 @@ use Rattle.rob_meaning.specs.RobustModel.{RobustModel}
 use Rattle.rob_meaning.specs.WellFormed.{IsModel}
 use Rattle.rob_number.proofs.CastLemmas.{seen}
 use Rattle.rob_reach.proofs.BoxLemmas.{model_behind}
+use Rattle.rob_reach.proofs.GrowingLemmas.{allowed_above, allowed_below}
 use Rattle.rob_reach.proofs.RangeLemmas.{changes_bounded}
 use Rattle.rob_reach.specs.Boxes.{Branch, behind, box_below, at_most_branch, at_least_branch}
 use Rattle.rob_reach.specs.Growing.{Search, branches, Decides, IsAllowed}
@@ -15,7 +16,7 @@ use Rattle.rob_reach.specs.Ranges.{are_bounded, product_of_ranges}
 use Rattle.rob_reach.specs.Trees.{split}
 use Rattle.rob_tree.specs.View.{node_of}
 use Rattle.rob_tree.specs.declared.error.TreeStop.{TreeStop}
-use Rattle.rob_branch.proofs.GrowthLemmas.{allowed_above, allowed_below, count_within, room_above, room_below}
+use Rattle.rob_branch.proofs.GrowthLemmas.{count_within, room_above, room_below}
 use Rattle.rob_branch.proofs.GrownTreeLemmas.{grown_joined}
 use Rattle.rob_branch.specs.Growth.{IsGrownTo}
 use Rattle.rob_branch.specs.View.{search_of}

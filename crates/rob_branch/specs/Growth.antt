@@ -1,13 +1,15 @@
 -- What growing answers: the node of a box and how far the search is behind it, or why there is none.
 use Rattle.std.specs.Prelude.{◌≡◌, ℕ, List, ◌++◌, map, Some, Result, IfErr, ◌⊎◌}
 use Rattle.rob_algebra.specs.Fraction.{Fraction, of_int}
+use Rattle.rob_cert.specs.declared.ending.Stop.{Stop}
+use Rattle.rob_cert.specs.declared.ending.Stop.TheVariants as route
+use Rattle.rob_dualize.specs.Models.{IsWideIn}
 use Rattle.rob_dualize.specs.Solving.{IsShownEmpty}
 use Rattle.rob_meaning.specs.Places.{Each}
 use Rattle.rob_meaning.specs.RobustModel.{RobustModel}
-use Rattle.rob_meaning.specs.UncertaintySet.{Admits}
 use Rattle.rob_number.specs.Counts.{NeverFell, Rose}
 use Rattle.rob_reach.specs.Boxes as boxes
-use Rattle.rob_reach.specs.Growing.{Search, Grows, IsAllowedPath}
+use Rattle.rob_reach.specs.Growing.{Search, Grows, Visits, start}
 use Rattle.rob_reach.specs.Ranges.{whole_rule}
 use Rattle.rob_reach.specs.Trees.{leaves}
 use Rattle.rob_tree.specs.Shape.{IsShaped, BranchesFit}
@@ -15,15 +17,8 @@ use Rattle.rob_tree.specs.View.{branch_of, node_of}
 use Rattle.rob_tree.specs.declared.tree.Branch.{Branch}
 use Rattle.rob_tree.specs.declared.error.TreeStop.{TreeStop}
 use Rattle.rob_tree.specs.declared.error.TreeStop.TheVariants.{Rule, EmptySet, Wide, Memory}
-use Rattle.rob_branch.specs.Boxes.{IsWideIn}
 use Rattle.rob_branch.specs.View.{search_of}
-use Rattle.rob_branch.specs.declared.solve.BoxStop.{BoxStop}
-use Rattle.rob_branch.specs.declared.solve.BoxStop.TheVariants as box
 use Rattle.rob_branch.specs.declared.grow.Grown.{Grown}
-
--- some scenario is admitted
-abbrev pub HasScenario : RobustModel → Type 0
-HasScenario m = (u : List Fraction) × Admits m u
 
 -- the box has grown into the node, and the search is as far as told; its certificates have the shape of their boxes
 pub record IsGrownTo {N : Type 0} (value : N → Fraction) (limit : ℕ) (m : RobustModel) (names : List ℕ)
@@ -32,29 +27,29 @@ pub record IsGrownTo {N : Type 0} (value : N → Fraction) (limit : ℕ) (m : Ro
   pub shaped : Each IsShaped (leaves m (node_of value grown.node))
   pub numbers : BranchesFit limit (node_of value grown.node)
 
--- why a box behind a path has not grown: a number is wide in a box behind it, each branch on the way there being one
--- that a certificate allows; memory is free
-abbrev pub HasCauseBehind : ℕ → RobustModel → List ℕ → List boxes.Branch → TreeStop → Type 0
-HasCauseBehind limit m names front (Rule rule) = ⊥
-HasCauseBehind limit m names front (EmptySet weights) = ⊥
-HasCauseBehind limit m names front (Wide path spot) =
-    (tail : List boxes.Branch) × (map branch_of path ≡ front ++ tail) × IsAllowedPath m names tail
+-- why a box behind a path has not grown, where the search stands at `before`: a number is wide in a box behind it that
+-- the search comes to; memory is free
+abbrev pub HasCauseBehind : ℕ → RobustModel → List ℕ → Search → List boxes.Branch → TreeStop → Type 0
+HasCauseBehind limit m names before front (Rule rule) = ⊥
+HasCauseBehind limit m names before front (EmptySet weights) = ⊥
+HasCauseBehind limit m names before front (Wide path spot) =
+    (tail : List boxes.Branch) × (map branch_of path ≡ front ++ tail) × Visits m names before tail
     × IsWideIn limit (boxes.box m tail) spot
-HasCauseBehind limit m names front Memory = Unit {0}
+HasCauseBehind limit m names before front Memory = Unit {0}
 
 -- the stop of the box behind a path, told of the search; memory for the path may be refused
-abbrev pub TellsStop : List Branch → BoxStop → TreeStop → Type 0
-TellsStop path (box.EmptySet weights) told = told ≡ EmptySet weights
-TellsStop path (box.Wide spot) told = (told ≡ Wide path spot) ⊎ (told ≡ Memory)
-TellsStop path box.Memory told = told ≡ Memory
+abbrev pub TellsStop : List Branch → Stop → TreeStop → Type 0
+TellsStop path (route.EmptySet weights) told = told ≡ EmptySet weights
+TellsStop path (route.Wide spot trace) told = (told ≡ Wide path spot) ⊎ (told ≡ Memory)
+TellsStop path route.Memory told = told ≡ Memory
 
 -- why no tree grows: the first rule that the names break; no scenario is admitted, as the weights show; a number is
--- wide in the box behind the path; memory is free
+-- wide in the box behind the path, which the search comes to; memory is free
 abbrev pub HasCause : ℕ → RobustModel → List ℕ → TreeStop → Type 0
 HasCause limit m names (Rule rule) = whole_rule m names ≡ Some rule
 HasCause limit m names (EmptySet weights) = IsShownEmpty m (map of_int weights)
 HasCause limit m names (Wide path spot) =
-    IsAllowedPath m names (map branch_of path) × IsWideIn limit (boxes.box m (map branch_of path)) spot
+    Visits m names start (map branch_of path) × IsWideIn limit (boxes.box m (map branch_of path)) spot
 HasCause limit m names Memory = Unit {0}
 
 -- a stop for width has raised the count of wide numbers

@@ -1,3 +1,3 @@
 pub mod View
-pub mod Boxes
 pub mod Growth
+pub mod GrownText

@@ -1,7 +1,7 @@
 //! How a tree grows: depth first, the box with the upper bound before the other. (Land, Doig, An automatic method of
 //! solving discrete programming problems.)
 
-ghost use Rattle.std.specs.Prelude.{◌≡◌, ◌≢◌, ◌+◌, ◌≤◌, pos, map, nat_abs, ℕ, None, Some, Err as Error, IfOk, IfErr};
+ghost use Rattle.std.specs.Prelude.{◌≡◌, ◌≢◌, ◌+◌, ◌++◌, ◌∷◌, [], ◌≤◌, pos, map, nat_abs, ℕ, None, Some, Err as Error, IfOk, IfErr};
 ghost use Rattle.rob_cert.specs.Shape.{HasShape};
 ghost use Rattle.rob_cert.specs.View.{certificate_of};
 ghost use Rattle.rob_meaning.specs.Certificates.{Certificate};
@@ -13,16 +13,18 @@ ghost use Rattle.rob_reach.specs.Boxes as boxes;
 ghost use Rattle.rob_reach.specs.Ranges.{KeepsBothBounds, product_of_ranges, whole_rule as first_rule};
 ghost use Rattle.rob_reach.specs.Trees as trees;
 ghost use Rattle.rob_reach.specs.WholeStatus.{HasWholeStatus};
+ghost use Rattle.rob_tree.specs.Reading.{TreeFits};
 ghost use Rattle.rob_tree.specs.Shape.{HasTreeShape};
 ghost use Rattle.rob_tree.specs.View.{branch_of, node_of, tree_of};
-ghost use Rattle.rob_tree.specs.declared.error.TreeStop.TheVariants as Stop;
-ghost use Rattle.rob_branch.specs.Growth.{CountsGrowth, HasCause, HasCauseBehind, HasScenario, IsGrownTo, TellsStop};
+ghost use Rattle.rob_tree.specs.declared.error.TreeStop.TheVariants as Refused;
+ghost use Rattle.rob_dualize.specs.Solving.{HasScenario};
+ghost use Rattle.rob_branch.specs.Growth.{CountsGrowth, HasCause, HasCauseBehind, IsGrownTo, TellsStop};
 ghost use Rattle.rob_branch.specs.View.{search_of};
 
 use crate::path::{branch_above, branch_below, longer};
 use crate::search::{Outcome, Search, comes_of, counted};
-use crate::solve::{BoxStop, solve_box};
-use rob_cert::{Cert, Status};
+use rob_cert::{Cert, Status, Stop};
+use rob_dualize::solve_model;
 use rob_model::Model;
 use rob_model::numbers::zero;
 use rob_number::{Exact, Ledger, Tally};
@@ -46,16 +48,16 @@ pub struct Grown<N> {
 }
 
 /// Why a search stops in the box behind a path.
-fn stopped(alloc: Global, path: &[Branch], stop: BoxStop) -> TreeStop
+fn stopped(alloc: Global, path: &[Branch], stop: Stop) -> TreeStop
     ensures told { TellsStop path.now stop result }
 {
     match stop {
-        BoxStop::EmptySet(weights) => TreeStop::EmptySet(weights),
-        BoxStop::Wide(spot) => match copy_list(alloc, path) {
+        Stop::EmptySet(weights) => TreeStop::EmptySet(weights),
+        Stop::Wide(spot, _) => match copy_list(alloc, path) {
             Ok(path) => TreeStop::Wide(path, spot),
             Err(_) => TreeStop::Memory,
         },
-        BoxStop::Memory => TreeStop::Memory,
+        Stop::Memory => TreeStop::Memory,
     }
 }
 
@@ -74,7 +76,7 @@ fn grow<N: Exact, L: Ledger>(
     ensures grown { IfOk result (IsGrownTo N.value N.limit (robust N.value area.entry.model.now) area.entry.names.now
         (search_of N.value before)) }
     ensures cause { IfErr result (HasCauseBehind N.limit (robust N.value area.entry.model.now) area.entry.names.now
-        (map branch_of area.entry.path.now)) }
+        (search_of N.value before) (map branch_of area.entry.path.now)) }
     ensures counted { CountsGrowth L.ops L.wides ledger.old ledger.new result }
 {
     if before.endless.is_some() {
@@ -83,7 +85,7 @@ fn grow<N: Exact, L: Ledger>(
             after: counted(before),
         });
     }
-    match solve_box(alloc, area.model, ledger) {
+    match solve_model(alloc, area.model, ledger) {
         Ok(cert) => grow_from(alloc, area, before, cert, ledger),
         Err(stop) => Err(stopped(alloc, area.path, stop)),
     }
@@ -107,7 +109,7 @@ fn grow_from<N: Exact, L: Ledger>(
     ensures grown { IfOk result (IsGrownTo N.value N.limit (robust N.value area.entry.model.now) area.entry.names.now
         (search_of N.value before)) }
     ensures cause { IfErr result (HasCauseBehind N.limit (robust N.value area.entry.model.now) area.entry.names.now
-        (map branch_of area.entry.path.now)) }
+        (search_of N.value before) (map branch_of area.entry.path.now)) }
     ensures counted { CountsGrowth L.ops L.wides ledger.old ledger.new result }
 {
     match comes_of(area.names, area.model.sense, before, &cert) {
@@ -138,7 +140,7 @@ fn grow_branch<N: Exact, L: Ledger>(
     ensures grown { IfOk result (IsGrownTo N.value N.limit (robust N.value area.entry.model.now) area.entry.names.now
         (search_of N.value before)) }
     ensures cause { IfErr result (HasCauseBehind N.limit (robust N.value area.entry.model.now) area.entry.names.now
-        (map branch_of area.entry.path.now)) }
+        (search_of N.value before) (map branch_of area.entry.path.now)) }
     ensures counted { CountsGrowth L.ops L.wides ledger.old ledger.new result }
 {
     let at_most = branch_below(column, k);
@@ -162,7 +164,7 @@ fn joined<N: Exact>(
 ) -> Result<Grown<N>, TreeStop>
     ensures joined { IfOk result (λ grown. (grown.after ≡ above.after)
         × (node_of N.value grown.node ≡ trees.split column k (node_of N.value below) (node_of N.value above.node))) }
-    ensures memory { IfErr result (λ stop. stop ≡ Stop.Memory) }
+    ensures memory { IfErr result (λ stop. stop ≡ Refused.Memory) }
 {
     let below = match Box::new(alloc, below) {
         Ok(below) => below,
@@ -197,8 +199,9 @@ fn grow_side<N: Exact, L: Ledger>(
     ensures grown { IfOk result (IsGrownTo N.value N.limit
         (boxes.behind (robust N.value area.entry.model.now) (branch_of branch)) area.entry.names.now
         (search_of N.value before)) }
-    ensures cause { IfErr result (HasCauseBehind N.limit (robust N.value area.entry.model.now) area.entry.names.now
-        (map branch_of area.entry.path.now)) }
+    ensures cause { IfErr result (HasCauseBehind N.limit
+        (boxes.behind (robust N.value area.entry.model.now) (branch_of branch)) area.entry.names.now
+        (search_of N.value before) (map branch_of area.entry.path.now ++ branch_of branch ∷ [])) }
     ensures counted { CountsGrowth L.ops L.wides ledger.old ledger.new result }
 {
     let model = match behind(alloc, area.model, branch) {
@@ -256,12 +259,14 @@ fn tree_by<N: Exact>(grown: Grown<N>) -> Tree<N>
     }
 }
 
-/// The tree of a model whose named variables take whole numbers, by branch and bound: a certificate for each leaf. A
-/// search branches on the first named variable whose number isn't whole, at its floor K, and goes to the box where it
-/// is at most K before that where it is at least K + 1; a box whose optimum is no better than the best whole plan so
-/// far is a leaf, and once a whole plan with an improving direction is found the boxes that are left stay open.
-/// `names` holds the numbers of different variables. `Rule` comes exactly where `whole_rule` gives that number;
-/// `EmptySet` where the model admits no scenario; `Wide` where a number is wide in the box behind that path.
+/// The tree of a model whose named variables take whole numbers, by branch and bound: one solve for each node that
+/// isn't open. A search branches on the first named variable whose number isn't whole, at its floor K, and goes to the
+/// box where it is at most K before that where it is at least K + 1; a box whose optimum is no better than the best
+/// whole plan so far is a leaf, and once a whole plan with an improving direction is found the boxes that are left stay
+/// open. `names` has the numbers of variables; one that stands there twice is no other variable, but its range counts
+/// twice in the product that rule 63 bounds. `Rule` comes exactly where `whole_rule` gives that number; `EmptySet`
+/// where the model admits no scenario; `Wide` where a number is wide in the box behind that path, to which the search
+/// comes; `Memory` comes only where no rule is broken.
 pub fn grow_tree<N: Exact, L: Ledger>(
     alloc: Global,
     model: &Model<N>,
@@ -275,10 +280,13 @@ pub fn grow_tree<N: Exact, L: Ledger>(
         (tree_of N.value tree).status (tree_of N.value tree).value) }
     ensures shape { IfOk result (λ tree. HasTreeShape N.limit (robust N.value model.now) names.now
         (tree_of N.value tree)) }
+    ensures fits { IfOk result (λ tree. TreeFits N.limit (robust N.value model.now) (tree_of N.value tree)) }
     ensures cause { IfErr result (HasCause N.limit (robust N.value model.now) names.now) }
-    // A broken rule is always told.
+    // A broken rule is always told, and nothing is counted then.
     ensures rule { (rule : ℕ) → first_rule (robust N.value model.now) names.now ≡ Some rule
-        → result ≡ Error (Stop.Rule rule) }
+        → result ≡ Error (Refused.Rule rule) }
+    ensures unchanged { (rule : ℕ) → first_rule (robust N.value model.now) names.now ≡ Some rule
+        → ledger.new ≡ ledger.old }
     ensures counted { CountsGrowth L.ops L.wides ledger.old ledger.new result }
 {
     match whole_rule(model, names) {
@@ -301,6 +309,7 @@ fn grow_root<N: Exact, L: Ledger>(
         (tree_of N.value tree).status (tree_of N.value tree).value) }
     ensures shape { IfOk result (λ tree. HasTreeShape N.limit (robust N.value model.now) names.now
         (tree_of N.value tree)) }
+    ensures fits { IfOk result (λ tree. TreeFits N.limit (robust N.value model.now) (tree_of N.value tree)) }
     ensures cause { IfErr result (HasCause N.limit (robust N.value model.now) names.now) }
     ensures counted { CountsGrowth L.ops L.wides ledger.old ledger.new result }
 {
@@ -309,7 +318,7 @@ fn grow_root<N: Exact, L: Ledger>(
         names,
         path: &[],
     };
-    match solve_box(alloc, model, ledger) {
+    match solve_model(alloc, model, ledger) {
         Err(stop) => Err(stopped(alloc, &[], stop)),
         Ok(cert) => match grow_from(alloc, area, start(), cert, ledger) {
             Err(stop) => Err(stop),

@@ -1,9 +1,9 @@
-//! Branch and bound with whole numbers: a tree is grown, one solve for each leaf that isn't open.
+//! Branch and bound with whole numbers: a tree is grown, one solve for each node that isn't open.
 #![tactic(auto)]
 
-pub mod grow;
-pub mod path;
-pub mod search;
-pub mod solve;
+mod grow;
+pub mod laws;
+mod path;
+mod search;
 
 pub use grow::grow_tree;

@@ -1,5 +1,6 @@
-use Rattle.std.proofs.Common.{◌≡◌, ◌≢◌, ◌+◌, ◌<◌, ◌≤◌, ◌^◌, ◌∷◌, [], pos, nat_abs, rules, arith, map, ap, sym, subst, ◌∙◌, to_z, of_z, w64}
+use Rattle.std.proofs.Common.{◌≡◌, ◌≢◌, ◌+◌, ◌++◌, ◌<◌, ◌≤◌, ◌^◌, ◌∷◌, [], pos, nat_abs, rules, arith, map, ap, sym, subst, ◌∙◌, to_z, of_z, w64}
 use Rattle.std.proofs.lemmas.List.{map-append}
+use Rattle.std.specs.Prelude.{None}
 use Rattle.rob_cert.specs.View.{certificate_of}
 use Rattle.rob_meaning.specs.Certificates.{Certificate}
 use Rattle.rob_meaning.specs.RobustModel.{RobustModel}
@@ -11,11 +12,11 @@ use Rattle.rob_reach.proofs.SplitLemmas.{product_positive}
 use Rattle.rob_reach.specs.Boxes.{behind}
 use Rattle.rob_reach.specs.Growing.{Decides, branches}
 use Rattle.rob_reach.specs.Ranges.{KeepsBothBounds, product_of_ranges}
-use Rattle.rob_tree.specs.View.{branch_of}
-use Rattle.rob_branch.proofs.GrowSteps.{allowed_named, cause_of_side, counts_behind, scenario_of}
-use Rattle.rob_branch.proofs.GrowthLemmas.{falls_behind}
+use Rattle.rob_tree.specs.View.{branch_of, node_of}
+use Rattle.rob_branch.proofs.GrowSteps.{allowed_named, cause_here, cause_told, counts_behind, scenario_of}
+use Rattle.rob_branch.proofs.GrowthLemmas.{cause_above, cause_below, falls_behind}
 use Rattle.rob_branch.proofs.SideLemmas.{above_may, above_read, below_may, below_read, joined_grown}
-use Rattle.rob_branch.specs.Growth.{HasScenario}
+use Rattle.rob_dualize.specs.Solving.{HasScenario}
 use Rattle.rob_branch.specs.View.{search_of}
 use Rattle.rob_branch.proofs.grow.+grow.Goals as goal
 
@@ -31,9 +32,16 @@ grow-grow_from-requires g t c κs within =
     let s = c.in-Ok.ensures.solved in
     (omega (arith, c.decreases), (within.0, (within.1, (r.valid, (r.bounded, (r.room, (search rules, (s.proves, s.shape))))))))
 
+pub grow-returns-in-Err-clause-cause : goal.grow-returns-in-Err-clause-cause
+grow-returns-in-Err-clause-cause g t c =
+    let value = g.N.Exact.value in
+    let going : c.args.before.endless ≡ None = search rules in
+    cause_here g.N.Exact.limit (robust value c.args.area.model.now) c.args.area.names.now (search_of value c.args.before) c.args.area.path.now
+    c.in-Err.stop c.stopped.result going c.requires.admitted c.in-Err.ensures.cause c.stopped.ensures.told
+
 pub grow-returns-in-Ok-clause-counted : goal.grow-returns-in-Ok-clause-counted
 grow-returns-in-Ok-clause-counted g t c =
-    counts_behind g.L.Ledger.ops g.L.Ledger.wides c.args.ledger.now c.solve_box.new.ledger c.grow_from.new.ledger
+    counts_behind g.L.Ledger.ops g.L.Ledger.wides c.args.ledger.now c.solve_model.new.ledger c.grow_from.new.ledger
     c.grow_from.result c.in-Ok.ensures.counted.never_fell c.grow_from.ensures.counted
 
 -- ---- a box with its certificate
@@ -121,6 +129,32 @@ grow_branch-returns-in-Ok-grow_side-clause-grown g t c =
     (above_read column k above small c.branch_above-at_least.ensures.branch) (seen k small)
     c.in-Ok.ensures.grown c.in-Ok-grow_side.ensures.grown c.joined.ensures.joined
 
+pub grow_branch-returns-in-Err-clause-cause : goal.grow_branch-returns-in-Err-clause-cause
+grow_branch-returns-in-Err-clause-cause g t c =
+    let value = g.N.Exact.value in
+    let m = robust value c.args.area.model.now in
+    let column = c.args.column in
+    let k = c.args.k in
+    let below = branch_of c.branch_below-at_most.result in
+    let small : nat_abs k < 2 ^ 62 = omega (arith, c.requires.within.0, g.met.N.Exact.limit_high) in
+    cause_below g.N.Exact.limit m c.args.area.names.now (search_of value c.args.before) (map branch_of c.args.area.path.now) c.requires.decides.0
+    column k c.requires.decides.1 below c.in-Err.stop (below_read column k below small c.branch_below-at_most.ensures.branch)
+    c.in-Err.ensures.cause
+
+pub grow_branch-returns-in-Err-grow_side-clause-cause : goal.grow_branch-returns-in-Err-grow_side-clause-cause
+grow_branch-returns-in-Err-grow_side-clause-cause g t c =
+    let value = g.N.Exact.value in
+    let m = robust value c.args.area.model.now in
+    let column = c.args.column in
+    let k = c.args.k in
+    let below = branch_of c.branch_below-at_most.result in
+    let above = branch_of c.branch_above-at_least.result in
+    let small : nat_abs k < 2 ^ 62 = omega (arith, c.requires.within.0, g.met.N.Exact.limit_high) in
+    cause_above g.N.Exact.limit m c.args.area.names.now (search_of value c.args.before) (map branch_of c.args.area.path.now) c.requires.decides.0
+    column k c.requires.decides.1 below above c.in-Err-grow_side.stop (node_of value c.in-Ok.below.node) (search_of value c.in-Ok.below.after)
+    (below_read column k below small c.branch_below-at_most.ensures.branch)
+    (above_read column k above small c.branch_above-at_least.ensures.branch) c.in-Ok.ensures.grown.grows c.in-Err-grow_side.ensures.cause
+
 -- ---- one side of it
 pub grow_side-behind-requires-clause-bounded : goal.grow_side-behind-requires-clause-bounded
 grow_side-behind-requires-clause-bounded g t c =
@@ -158,9 +192,8 @@ grow_side-returns-clause-cause g t c =
     let value = g.N.Exact.value in
     let path = c.args.area.path.now in
     let b = c.args.branch in
-    let names = c.args.area.names.now in
-    cause_of_side g.N.Exact.limit (robust value c.args.area.model.now) (robust value c.in-Ok.model) names
-    (map branch_of path) (map branch_of c.items.result.now) (branch_of b) c.grow.result
-    c.in-Ok.ensures.tightened
+    let m = robust value c.args.area.model.now in
+    cause_told g.N.Exact.limit (robust value c.in-Ok.model) (behind m (branch_of b)) c.args.area.names.now (search_of value c.args.before)
+    (map branch_of c.items.result.now) (map branch_of path ++ branch_of b ∷ []) c.grow.result c.in-Ok.ensures.tightened
     (ap (map branch_of) (c.items.ensures.list ∙ c.in-Ok-longer.ensures.path) ∙ map-append branch_of path (b ∷ []))
-    c.requires.allowed c.grow.ensures.cause
+    c.grow.ensures.cause

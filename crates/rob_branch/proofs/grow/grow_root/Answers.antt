@@ -1,11 +1,13 @@
-use Rattle.std.proofs.Common.{◌≡◌, arith, ap, subst}
+use Rattle.std.proofs.Common.{◌≡◌, [], arith, ap, subst}
 use Rattle.rob_model.specs.View.{robust}
 use Rattle.rob_reach.proofs.GrownLemmas.{grown_true}
 use Rattle.rob_reach.proofs.RuleLemmas.{rules_kept}
 use Rattle.rob_reach.specs.Growing as growing
+use Rattle.rob_tree.proofs.FitLemmas.{tree_fits}
 use Rattle.rob_tree.specs.View.{node_of, tree_of}
 use Rattle.rob_branch.proofs.GrowSteps.{cause_at_root, cause_of_root}
 use Rattle.rob_branch.proofs.GrownTreeLemmas.{tree_grown, tree_shaped}
+use Rattle.rob_branch.specs.Growth.{HasCauseBehind}
 use Rattle.rob_branch.specs.View.{search_of}
 use Rattle.rob_branch.proofs.grow.grow_root.Goals as goal
 
@@ -34,7 +36,10 @@ returns-in-Err-clause-cause g c =
 
 pub returns-in-Err-grow_from-clause-cause : goal.returns-in-Err-grow_from-clause-cause
 returns-in-Err-grow_from-clause-cause g c =
-    cause_of_root g.N.Exact.limit (robust g.N.Exact.value c.args.model.now) c.args.names.now c.in-Err-grow_from.stop c.in-Err-grow_from.ensures.cause
+    let m = robust g.N.Exact.value c.args.model.now in
+    let names = c.args.names.now in
+    cause_of_root g.N.Exact.limit m names c.in-Err-grow_from.stop
+    (subst (λ s. HasCauseBehind g.N.Exact.limit m names s [] c.in-Err-grow_from.stop) c.start.ensures.start c.in-Err-grow_from.ensures.cause)
 
 -- ---- the tree
 pub returns-in-Ok-grow_from-clause-grown : goal.returns-in-Ok-grow_from-clause-grown
@@ -68,3 +73,14 @@ returns-in-Ok-grow_from-clause-shape g c =
     let grows = subst (λ s. growing.Grows m c.args.names.now s (node_of value grown.node) (search_of value grown.after)) c.start.ensures.start known.grows in
     tree_shaped g.N.Exact.limit m c.args.names.now (tree_of value c.tree_by.result) (search_of value grown.after) (node_of value grown.node)
     c.tree_by.ensures.tree c.requires.valid.well_formed c.requires.kept grows known.shaped known.numbers
+
+pub returns-in-Ok-grow_from-clause-fits : goal.returns-in-Ok-grow_from-clause-fits
+returns-in-Ok-grow_from-clause-fits g c =
+    let value = g.N.Exact.value in
+    let m = robust value c.args.model.now in
+    let grown = c.in-Ok-grow_from.grown in
+    let known = c.in-Ok-grow_from.ensures.grown in
+    let grows = subst (λ s. growing.Grows m c.args.names.now s (node_of value grown.node) (search_of value grown.after)) c.start.ensures.start known.grows in
+    tree_fits value g.N.Exact.limit g.met.N.Exact.fits m c.args.names.now c.tree_by.result
+    (tree_shaped g.N.Exact.limit m c.args.names.now (tree_of value c.tree_by.result) (search_of value grown.after) (node_of value grown.node)
+    c.tree_by.ensures.tree c.requires.valid.well_formed c.requires.kept grows known.shaped known.numbers)
