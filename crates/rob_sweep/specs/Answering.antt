@@ -1,14 +1,11 @@
 -- What is answered for one model, and for the models of a sweep.
-use Rattle.std.specs.Prelude.{◌≡◌, ◌<◌, ◌++◌, ◌⊎◌, ℕ, List, [], ◌∷◌, slice_get, Some}
+use Rattle.std.specs.Prelude.{◌≡◌, ◌<◌, ℕ, List, [], ◌∷◌, slice_get, Some}
 use Rattle.rob_algebra.specs.Fraction.{Fraction}
-use Rattle.rob_dualize.specs.Solving.{IsWideOnPath}
-use Rattle.rob_elab.specs.Forms.{judged_forms}
+use Rattle.rob_dualize.specs.Models.{IsWideIn, IsWritten}
+use Rattle.rob_meaning.specs.Places.{Each}
 use Rattle.rob_meaning.specs.RobustModel.{Sense, RobustModel, set_count}
 use Rattle.rob_meaning.specs.UncertaintySet.{IsEmptyIn}
-use Rattle.rob_model.specs.declared.place.Spot.{Spot}
 use Rattle.rob_reach.specs.Sweeps.{SweepAnswer, is_optimal, is_infeasible, is_unbounded, is_empty, GrowsHarder, with_budget}
-use Rattle.rob_sets.specs.FirstWide.{IsFirstWide, Judged, NothingWide}
-use Rattle.rob_sets.specs.SetForm.{judged_set}
 use Rattle.rob_sets.specs.declared.error.ElabErr.{ElabErr}
 use Rattle.rob_sets.specs.declared.error.ElabErr.TheVariants.{Wide, Memory}
 
@@ -37,18 +34,11 @@ EachGrowsHarder sense answers =
     (i j : ℕ) → i < j → (a b : SweepAnswer) → slice_get answers i ≡ Some a → slice_get answers j ≡ Some b
     → GrowsHarder sense a b
 
+-- nothing is wide when the models with these limits are written in whole numbers
+abbrev pub AreWritten : ℕ → RobustModel → ℕ → List Fraction → Type 0
+AreWritten limit m n limits = Each (λ g. IsWritten limit (with_budget m n g)) limits
+
 -- ---- refusals
-
--- what is judged when the model is written in whole numbers, in order: its sets before its forms
-abbrev pub judged : RobustModel → List Judged
-judged m = judged_set m ++ judged_forms m
-
--- the spot is wide for the model by the reformulation route: where its set rows and forms are written in whole numbers
--- it is the first; or nothing is wide there, and it is a row of a basis on the path of the set's program or of the
--- counterpart
-abbrev pub IsWideIn : ℕ → RobustModel → Spot → Type 0
-IsWideIn limit m spot =
-    IsFirstWide limit m (judged m) spot ⊎ (NothingWide limit m (judged m) × IsWideOnPath limit m spot)
 
 -- why a model has no answer: a number is wide; memory is free
 abbrev pub HasCause : ℕ → RobustModel → ElabErr → Type 0

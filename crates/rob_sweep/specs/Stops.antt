@@ -1,11 +1,12 @@
 -- Why a sweep stops, and what its ledger counts.
 use Rattle.std.specs.Prelude.{◌≡◌, ◌⊎◌, ◌++◌, ℕ, suc, List, ◌∷◌, length, Option, Some, None, Result, IfErr}
 use Rattle.rob_algebra.specs.Fraction.{Fraction}
+use Rattle.rob_dualize.specs.Models.{IsWideIn}
 use Rattle.rob_meaning.specs.RobustModel.{SetLine, RobustModel}
 use Rattle.rob_model.specs.declared.place.Spot.{Spot}
 use Rattle.rob_number.specs.Counts.{NeverFell, Rose}
-use Rattle.rob_reach.specs.Sweeps.{IsBudgetAt, Rises, SweepAnswer, Swept, with_budget}
-use Rattle.rob_sweep.specs.Answering.{IsWideIn}
+use Rattle.rob_reach.specs.Sweeps.{IsBudgetAt, Rises, with_budget}
+use Rattle.rob_sweep.specs.Answering.{AreWritten}
 use Rattle.rob_sweep.specs.declared.answer.SweepStop.{SweepStop}
 use Rattle.rob_sweep.specs.declared.answer.SweepStop.TheVariants.{Rule, Wide, Memory}
 
@@ -35,7 +36,8 @@ IsBudgetStop lines n Memory = IsBudgetAt lines n
 
 -- ---- wide numbers
 
--- the spot is wide for the model with that limit of the list, counted from 1, and those before it have answers
+-- the spot is wide for the model with that limit of the list, counted from 1; nothing is wide when the models with the
+-- limits before it are written in whole numbers
 pub record IsWideAt (limit : ℕ) (m : RobustModel) (n : ℕ) (limits : List Fraction) (number : ℕ) (spot : Spot)
     : Type 0 where
   pub before : List Fraction
@@ -43,8 +45,7 @@ pub record IsWideAt (limit : ℕ) (m : RobustModel) (n : ℕ) (limits : List Fra
   pub after : List Fraction
   pub order : limits ≡ before ++ here ∷ after
   pub counted : number ≡ suc (length before)
-  pub answers : List SweepAnswer
-  pub swept : Swept m n before answers
+  pub written_before : AreWritten limit m n before
   pub wide : IsWideIn limit (with_budget m n here) spot
 
 -- why the model with the limit of that number has no answer: a number is wide; memory is free

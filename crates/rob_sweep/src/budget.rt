@@ -18,7 +18,9 @@ use rob_tree::copy::{copy_expr, copy_list, copy_model};
 use std::alloc::Global;
 
 /// The model whose statement `n` on the uncertainty sets, counted from 1, has that limit. Rule 81 comes exactly where
-/// that statement doesn't exist or isn't a budget.
+/// that statement doesn't exist or isn't a budget. The limit may be below 0, which no model text says: then the set
+/// admits no scenario, and the canonical text of the result isn't read again. `Memory` comes only where
+/// the rule is kept.
 pub fn with_budget<N: Exact>(
     alloc: Global,
     model: &Model<N>,

@@ -1,7 +1,8 @@
 //! The answer for one model, by one solve of its robust counterpart.
 
-ghost use Rattle.std.specs.Prelude.{◌≡◌, IfOk, IfErr};
+ghost use Rattle.std.specs.Prelude.{◌≡◌, IfOk, IfErr, OnOk};
 ghost use Rattle.rob_cert.specs.View.{status_of};
+ghost use Rattle.rob_dualize.specs.Models.{IsWritten};
 ghost use Rattle.rob_model.specs.Valid.{IsValid};
 ghost use Rattle.rob_model.specs.View.{robust};
 ghost use Rattle.rob_number.specs.Counts.{NeverFell};
@@ -12,11 +13,10 @@ ghost use Rattle.rob_sweep.specs.View.{answer_of, status_answer};
 
 use crate::answer::SweepAnswer;
 use rob_cert::{Cert, Status, Stop};
-use rob_dualize::solve_dual;
-use rob_elab::elaborate;
+use rob_dualize::solve_model;
 use rob_model::Model;
 use rob_number::{Exact, Ledger};
-use rob_sets::{ElabErr, clear_set};
+use rob_sets::ElabErr;
 use std::alloc::Global;
 
 /// The model's status, or that one of its sets admits no scenario. `Wide` names the first number of its set rows and
@@ -27,23 +27,19 @@ pub fn answer<N: Exact, L: Ledger>(
     ledger: &mut L,
 ) -> Result<SweepAnswer<N>, ElabErr>
     requires valid { IsValid N.value model.now }
+    // An answer comes only where nothing is wide when the model is written in whole numbers.
+    ensures written { OnOk result (IsWritten N.limit (robust N.value model.now)) }
     ensures answers { IfOk result (λ answer. Answers (robust N.value model.now) (answer_of N.value answer)) }
     ensures empty { IfOk result (λ answer. NamesEmpty (robust N.value model.now) (answer_of N.value answer)) }
     ensures cause { IfErr result (HasCause N.limit (robust N.value model.now)) }
     ensures rose { IfErr result (RoseIfWide (L.wides ledger.old) (L.wides ledger.new)) }
     ensures counted { NeverFell L.ops L.wides ledger.old ledger.new }
 {
-    match clear_set(alloc, model, ledger) {
-        Err(error) => Err(error),
-        Ok(set) => match elaborate(alloc, model, &set, ledger) {
-            Err(error) => Err(error),
-            Ok(forms) => match solve_dual(alloc, &forms, &set, ledger) {
-                Ok(cert) => Ok(claimed(&cert)),
-                Err(Stop::EmptySet(_)) => Ok(SweepAnswer::Empty),
-                Err(Stop::Wide(spot, _)) => Err(ElabErr::Wide(spot)),
-                Err(Stop::Memory) => Err(ElabErr::Memory),
-            },
-        },
+    match solve_model(alloc, model, ledger) {
+        Ok(cert) => Ok(claimed(&cert)),
+        Err(Stop::EmptySet(_)) => Ok(SweepAnswer::Empty),
+        Err(Stop::Wide(spot, _)) => Err(ElabErr::Wide(spot)),
+        Err(Stop::Memory) => Err(ElabErr::Memory),
     }
 }
 

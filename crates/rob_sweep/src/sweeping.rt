@@ -1,10 +1,11 @@
 //! The sweep: one model at each limit of a list.
 
-ghost use Rattle.std.specs.Prelude.{◌<◌, ◌^◌, length, map, IfOk, IfErr, MatchResult};
+ghost use Rattle.std.specs.Prelude.{◌<◌, ◌^◌, length, map, IfOk, IfErr, MatchResult, OnOk};
+ghost use Rattle.rob_dualize.specs.Models.{IsWritten};
 ghost use Rattle.rob_model.specs.Valid.{IsValid};
 ghost use Rattle.rob_model.specs.View.{robust};
 ghost use Rattle.rob_reach.specs.Sweeps.{Answers, IsBudgetAt, Swept, with_budget as model_with};
-ghost use Rattle.rob_sweep.specs.Answering.{EachAnswer, EachGrowsHarder, NamesEmpty};
+ghost use Rattle.rob_sweep.specs.Answering.{AreWritten, EachAnswer, EachGrowsHarder, NamesEmpty};
 ghost use Rattle.rob_sweep.specs.Stops.{CountsSweep, HasCause, IsLimitStop, KeepsRules};
 ghost use Rattle.rob_sweep.specs.View.{answer_of};
 
@@ -19,8 +20,9 @@ use std::alloc::Global;
 
 /// The answers for the model whose statement `n`, counted from 1, has each limit of the list in turn, in the list's
 /// order: one solve a limit. Rule 81 comes exactly where that statement doesn't exist or isn't a budget; rule 82
-/// exactly where it is one and the limits don't rise strictly; else `Wide` names the first limit, counted from 1, whose
-/// model has a wide number, and a spot of it.
+/// exactly where it is one and the limits don't rise strictly; else `Wide` names a limit, counted from 1, whose model
+/// has a wide number, and a spot of it. The set rows and forms of the models at the limits before it have none.
+/// `Memory` comes only where the rules are kept.
 pub fn sweep<N: Exact, L: Ledger>(
     alloc: Global,
     model: &Model<N>,
@@ -30,6 +32,8 @@ pub fn sweep<N: Exact, L: Ledger>(
 ) -> Result<List<SweepAnswer<N>>, SweepStop>
     requires valid { IsValid N.value model.now }
     requires few { length limits.now < 2 ^ 32 }
+    // Answers come only where nothing is wide when the models are written in whole numbers.
+    ensures written { OnOk result (AreWritten N.limit (robust N.value model.now) n (map N.value limits.now)) }
     // Each answer is that of the model with its limit: the status, or that the set is empty, exactly where it is.
     ensures swept { IfOk result (λ answers. Swept (robust N.value model.now) n (map N.value limits.now)
         (map (answer_of N.value) answers)) }
@@ -70,6 +74,7 @@ fn at_limit<N: Exact, L: Ledger>(
 ) -> Result<SweepAnswer<N>, SweepStop>
     requires valid { IsValid N.value model.now }
     requires budget { IsBudgetAt (robust N.value model.now).set_lines n }
+    ensures written { OnOk result (IsWritten N.limit (model_with (robust N.value model.now) n (N.value limit))) }
     ensures answers { IfOk result (λ answer.
         Answers (model_with (robust N.value model.now) n (N.value limit)) (answer_of N.value answer)) }
     ensures empty { IfOk result (λ answer.

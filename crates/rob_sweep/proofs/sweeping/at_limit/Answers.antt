@@ -1,9 +1,13 @@
 use Rattle.std.proofs.Common.{refl, subst}
+use Rattle.rob_dualize.specs.Models.{IsWideIn, IsWritten}
 use Rattle.rob_reach.specs.Sweeps.{Answers}
-use Rattle.rob_sweep.specs.Answering.{HasCause, IsWideIn, NamesEmpty}
+use Rattle.rob_sweep.specs.Answering.{HasCause, NamesEmpty}
 use Rattle.rob_sweep.specs.View.{answer_of}
 use Rattle.rob_model.specs.View.{robust}
 use Rattle.rob_sweep.proofs.sweeping.at_limit.Goals as goal
+
+pub returns-in-Ok-answer-clause-written : goal.returns-in-Ok-answer-clause-written
+returns-in-Ok-answer-clause-written g c = subst (IsWritten g.N.Exact.limit) c.in-Ok.ensures.replaced c.in-Ok-answer.ensures.written
 
 pub returns-in-Ok-answer-clause-answers : goal.returns-in-Ok-answer-clause-answers
 returns-in-Ok-answer-clause-answers g c =
