@@ -29,7 +29,7 @@ use Rattle.rob_model.specs.declared.place.Where.TheVariants.{Cost}
 use Rattle.rob_cert.specs.declared.ending.Stop.{Stop}
 use Rattle.rob_cert.specs.declared.ending.Stop.TheVariants.{EmptySet, Wide, Memory}
 use Rattle.rob_worst.specs.Costs.{product_at, part_at, column_part, IsWidePart, StopsAtPart}
-use Rattle.rob_worst.specs.Refusals.{IsWideStop}
+use Rattle.rob_dualize.specs.Ending.{IsWideStop}
 
 -- a number of a list within a limit, as the machine holds it
 pub held_small : (limit : ℕ) (xs : List ℤ) (j : ℕ) → limit ≤ 2 ^ 62 - 1 → Each (λ a. nat_abs a ≤ limit) xs → j < length xs → nat_abs (get_or xs j (pos 0)) ≤ 2 ^ 62 - 1

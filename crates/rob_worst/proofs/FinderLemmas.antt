@@ -34,15 +34,17 @@ use Rattle.rob_runs.proofs.SumLemmas.{constant_is_sum}
 use Rattle.rob_sets.specs.SetForm.{IsSetForm}
 use Rattle.rob_sets.specs.declared.set_form.SetForm.{SetForm}
 use Rattle.rob_dualize.specs.Ending.{StopsAt, IsMadeAs, position_of}
-use Rattle.rob_dualize.specs.Solving.{CountsStop}
+use Rattle.rob_dualize.specs.Solving.{CountsStop, HasScenario}
 use Rattle.rob_dualize.proofs.SolvingLemmas.{refused_counted}
-use Rattle.rob_worst.specs.Finders.{program_of_set, IsSolved, HasSearched}
-use Rattle.rob_worst.specs.Finding.{Tells, HasSearchCause, HasSetCause, IsNonempty, Searches, FindsWorst}
+use Rattle.rob_dualize.specs.SetSolving.{program_of_set, IsSolved}
+use Rattle.rob_worst.specs.Finders.{HasSearched}
+use Rattle.rob_dualize.specs.SetSolving.{HasSetCause}
+use Rattle.rob_worst.specs.Finding.{Tells, HasSearchCause, Searches, FindsWorst}
 use Rattle.rob_worst.specs.Refusals.{program_for}
 use Rattle.rob_worst.specs.Tasks.{IsTaskOf}
 use Rattle.rob_worst.specs.declared.task.Task.{Task}
 use Rattle.rob_worst.proofs.SearchLemmas.{scenario_found, ray_found, peak_found, wide_found}
-use Rattle.rob_worst.proofs.SetLemmas.{of_model, rows_count}
+use Rattle.rob_dualize.proofs.SetLemmas.{of_model, rows_count}
 use Rattle.rob_worst.proofs.StopLemmas.{memory_cause, row_cause}
 
 -- ---- going on from the set's last basis
@@ -144,7 +146,7 @@ module _ {N : Type 0} (value : N → Fraction) (limit : ℕ) (m : RobustModel) (
   pub set_stopped : (stop : Stop) → HasSetCause limit m stop → CountsStop before now stop → FindsWorst value limit m step i z before now (Err stop)
   set_stopped stop h k = record { found = tt; stopped = inl h; counted = k }
 
-  pub then_searched : (middle : ℕ) (result : Result (Worst N) Stop) → middle ≡ before → IsNonempty m → Searches value limit m step i z middle now result → FindsWorst value limit m step i z before now result
+  pub then_searched : (middle : ℕ) (result : Result (Worst N) Stop) → middle ≡ before → HasScenario m → Searches value limit m step i z middle now result → FindsWorst value limit m step i z before now result
   then_searched middle (Ok x) e some h = record { found = (some, h.found); stopped = tt; counted = h.counted ∙ e }
   then_searched middle (Err stop) e some h = record { found = tt; stopped = inr (some, h.stopped); counted = subst (λ n. CountsStop n now stop) e h.counted }
 

@@ -2,7 +2,6 @@ pub mod VectorLemmas
 pub mod CostLemmas
 pub mod TaskLemmas
 pub mod StopLemmas
-pub mod SetLemmas
 pub mod SearchLemmas
 pub mod ReadingLemmas
 pub mod FinderLemmas

@@ -18,7 +18,8 @@ use Rattle.rob_runs.specs.Spots.{SomeWide, IsWideCleared, TellsWideRow}
 use Rattle.rob_sets.specs.FirstWide.{Some_of}
 use Rattle.rob_worst.specs.Costs.{IsWidePart, StopsAtPart}
 use Rattle.rob_worst.specs.Finding.{IsWideAt, HasSearchCause}
-use Rattle.rob_worst.specs.Refusals.{IsWideStop, program_for, place_for}
+use Rattle.rob_dualize.specs.Ending.{IsWideStop}
+use Rattle.rob_worst.specs.Refusals.{program_for, place_for}
 use Rattle.rob_worst.proofs.CostLemmas.{part_wide}
 
 some_at : (limit d : ℕ) (qs : List Fraction) → Some_of (λ q. IsWideWhole limit (whole_at d q)) qs → SomeWide limit (map (whole_at d) qs)

@@ -4,11 +4,9 @@
 use Rattle.std.specs.Prelude.{◌≡◌, ◌⊎◌, ◌≤◌, ℕ, nat_abs, Bool, true, false, List, [], map, Result, MatchResult, IfOk, IfErr, ⊤}
 use Rattle.rob_algebra.specs.Fraction.{Fraction, of_int}
 use Rattle.rob_meaning.specs.RobustModel.{RobustModel}
-use Rattle.rob_meaning.specs.UncertaintySet.{Admits}
-use Rattle.rob_counterpart.specs.Counterpart.{set_program}
 use Rattle.rob_runs.specs.Searches.{FindsRay}
 use Rattle.rob_runs.specs.Told.{TellsWorst}
-use Rattle.rob_runs.specs.Spots.{TellsWideRow, IsWideSearch, search_row, clearing, cost}
+use Rattle.rob_runs.specs.Spots.{IsWideSearch, search_row, clearing, cost}
 use Rattle.rob_model.specs.declared.place.Spot.{Spot}
 use Rattle.rob_model.specs.declared.place.Spot.TheVariants as spot
 use Rattle.rob_model.specs.declared.place.Program.TheVariants as program
@@ -18,7 +16,8 @@ use Rattle.rob_cert.specs.declared.ending.Stop.{Stop}
 use Rattle.rob_cert.specs.declared.ending.Stop.TheVariants.{EmptySet, Wide, Memory}
 use Rattle.rob_cert.specs.declared.ending.Worst.{Worst}
 use Rattle.rob_cert.specs.declared.ending.Worst.TheVariants.{At, Along}
-use Rattle.rob_dualize.specs.Solving.{IsShownEmpty, CountsStop}
+use Rattle.rob_dualize.specs.SetSolving.{HasSetCause}
+use Rattle.rob_dualize.specs.Solving.{CountsStop, HasScenario}
 
 -- ---- the answer
 
@@ -53,24 +52,9 @@ HasSearchCause limit m by_step i z (EmptySet weights) = ⊥
 HasSearchCause limit m by_step i z (Wide place trace) = IsWideAt limit m by_step i z place × (trace.rounds ≡ [])
 HasSearchCause limit m by_step i z Memory = ⊤
 
--- the row at the spot is wide on the path of the set's program
-abbrev pub IsWideInSet : ℕ → RobustModel → Spot → Type 0
-IsWideInSet limit m (spot.Dictionary program.Set basis p) = TellsWideRow limit (set_program m) basis p
-IsWideInSet limit m other = ⊥
-
--- why the set's program is not solved to a scenario: none is admitted, as the weights show; or a row is wide
-abbrev pub HasSetCause : ℕ → RobustModel → Stop → Type 0
-HasSetCause limit m (EmptySet weights) = IsShownEmpty m (map of_int weights)
-HasSetCause limit m (Wide place trace) = IsWideInSet limit m place × (trace.rounds ≡ [])
-HasSetCause limit m Memory = ⊤
-
--- some scenario is admitted
-abbrev pub IsNonempty : RobustModel → Type 0
-IsNonempty m = (scenario : List Fraction) × Admits m scenario
-
 -- the cause of the set's program, or, where some scenario is admitted, the search's
 abbrev pub HasCause : ℕ → RobustModel → Bool → ℕ → List Fraction → Stop → Type 0
-HasCause limit m by_step i z stop = HasSetCause limit m stop ⊎ (IsNonempty m × HasSearchCause limit m by_step i z stop)
+HasCause limit m by_step i z stop = HasSetCause limit m stop ⊎ (HasScenario m × HasSearchCause limit m by_step i z stop)
 
 -- ---- both
 
@@ -84,6 +68,6 @@ pub record Searches {N : Type 0} (value : N → Fraction) (limit : ℕ) (m : Rob
 -- the same where the set's program is solved first
 pub record FindsWorst {N : Type 0} (value : N → Fraction) (limit : ℕ) (m : RobustModel) (by_step : Bool) (i : ℕ)
     (z : List Fraction) (before now : ℕ) (result : Result (Worst N) Stop) : Type 0 where
-  pub found : IfOk result (λ worst. IsNonempty m × Tells value m i z worst)
+  pub found : IfOk result (λ worst. HasScenario m × Tells value m i z worst)
   pub stopped : IfErr result (HasCause limit m by_step i z)
   pub counted : MatchResult result (λ _. now ≡ before) (CountsStop before now)

@@ -7,9 +7,9 @@ ghost use Rattle.rob_sets.specs.SetProgram.{in_pairs};
 ghost use Rattle.rob_dualize.specs.Wholes.{AreSound};
 ghost use Rattle.rob_worst.specs.Costs.{part_at, column_part, IsWidePart, StopsAtPart};
 
-use crate::refusal::wide_at;
 use rob_cert::Stop;
 use rob_dualize::entries::form_number;
+use rob_dualize::stop::wide_at;
 use rob_elab::Forms;
 use rob_model::{Spot, Where};
 use rob_number::{Exact, List, Memory};

@@ -12,17 +12,19 @@ ghost use Rattle.rob_sets.specs.SetForm.{IsSetForm};
 ghost use Rattle.rob_sets.specs.declared.set_form.SetForm.{SetForm as SetRows};
 ghost use Rattle.rob_elab.specs.Elaborated.{AreElaborated};
 ghost use Rattle.rob_elab.specs.Forms.{IsForms};
-ghost use Rattle.rob_dualize.specs.Solving.{CountsStop, IsLastScenario};
-ghost use Rattle.rob_worst.specs.Finders.{IsSetOfModel, IsFewSet, IsFinder};
-ghost use Rattle.rob_worst.specs.Finding.{HasConstantWithin, HasSetCause, HasSearchCause, IsNonempty, Searches};
+ghost use Rattle.rob_dualize.specs.Solving.{CountsStop, HasScenario, IsLastScenario};
+ghost use Rattle.rob_dualize.specs.SetSolving.{IsSetOfModel, IsFewSet};
+ghost use Rattle.rob_worst.specs.Finders.{IsFinder};
+ghost use Rattle.rob_dualize.specs.SetSolving.{HasSetCause};
+ghost use Rattle.rob_worst.specs.Finding.{HasConstantWithin, HasSearchCause, Searches};
 ghost use Rattle.rob_worst.specs.Tasks.{FitsSet, IsTaskOf};
 ghost use Rattle.rob_worst.specs.Vectors.{plan_of, step_of};
 
-use crate::reading::{parameters, told};
+use crate::reading::told;
 use crate::refusal::{count, program};
-use crate::start::{set_work, solved};
 use crate::task::{Task, plan_task, step_task};
 use rob_cert::{Stop, Worst};
+use rob_dualize::set_program::{parameters, set_work, solved_set};
 use rob_dualize::stop::{or_stop, position, wide};
 use rob_elab::Forms;
 use rob_model::{Plan, Scenario};
@@ -44,13 +46,14 @@ pub struct Finder<N: Exact> {
 
 impl<N: Exact> Finder<N> {
     /// Solves the set's program. `EmptySet` comes where no scenario is admitted, with the weights of the set rows that
-    /// show it; `Wide` where a row of a basis on the program's path has a number over the limit.
+    /// show it; `Wide` where a row of a basis on the program's path has a number over the limit; `Memory` where memory
+    /// is refused.
     pub fn new<L: Ledger>(alloc: Global, set: &SetForm, ledger: &mut L) -> Result<Finder<N>, Stop>
         requires model { IsSetOfModel N.limit set.now }
         requires few { IsFewSet set.now }
         ensures finder { IfOk result (λ finder. IsFinder set.now finder) }
         ensures answer { (m : RobustModel) → IsModel m → IsSetForm m set.now
-            → MatchResult result (λ _. IsNonempty m) (HasSetCause N.limit m) }
+            → MatchResult result (λ _. HasScenario m) (HasSetCause N.limit m) }
         ensures wides { MatchResult result (λ _. L.wides ledger.new ≡ L.wides ledger.old)
             (CountsStop (L.wides ledger.old) (L.wides ledger.new)) }
         ensures counted { NeverFell L.ops L.wides ledger.old ledger.new }
@@ -59,7 +62,7 @@ impl<N: Exact> Finder<N> {
             Ok(search) => search,
             Err(Memory) => return Err(Stop::Memory),
         };
-        match solved(alloc, set, ledger) {
+        match solved_set(alloc, set, ledger) {
             Ok(solved) => Ok(Finder { solved, search }),
             Err(stop) => Err(stop),
         }
@@ -67,7 +70,9 @@ impl<N: Exact> Finder<N> {
 
     /// The worst scenario of a form at a plan with its bound. `Wide` comes where a number on the way is over the limit:
     /// the plan's least common denominator or a number of the plan times it, a prefix of a sum that makes the search's
-    /// costs, or a number of a row on the search's path.
+    /// costs, or a number of a row on the search's path. `form` counts from 0, and the plan has a number for each
+    /// decision column; `forms` and `set` are those of one model, the set that of `new`. `Memory` comes where memory is
+    /// refused, `EmptySet` never; after each answer the finder can search again.
     pub fn at_plan<L: Ledger>(
         &mut self,
         alloc: Global,

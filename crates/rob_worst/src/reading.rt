@@ -8,16 +8,18 @@ ghost use Rattle.rob_counterpart.specs.ReadNumbers.{differences};
 ghost use Rattle.rob_counterpart.specs.Splitting.{plus, minus, OneIsZero};
 ghost use Rattle.rob_number.specs.declared.lp_kind.LpKind.TheVariants as kinds;
 ghost use Rattle.rob_sets.specs.SetForm.{IsSetForm};
-ghost use Rattle.rob_simplex.specs.Solvers.{HasPoint, HasRay};
-ghost use Rattle.rob_simplex.specs.Solutions.{point_of, ray_of};
-ghost use Rattle.rob_worst.specs.Finders.{program_of_set, IsFewSet, HasSearched};
+ghost use Rattle.rob_simplex.specs.Solvers.{HasRay};
+ghost use Rattle.rob_simplex.specs.Solutions.{ray_of};
+ghost use Rattle.rob_dualize.specs.SetSolving.{program_of_set, IsFewSet};
+ghost use Rattle.rob_worst.specs.Finders.{HasSearched};
 ghost use Rattle.rob_worst.specs.Finding.{HasConstantWithin, Tells};
 ghost use Rattle.rob_worst.specs.Tasks.{FitsSet, IsTaskOf};
 
 use crate::task::Task;
 use rob_cert::Worst;
 use rob_dualize::reading::pair_differences;
-use rob_dualize::told::{basis, dual_values, point, ray, whole};
+use rob_dualize::set_program::parameters;
+use rob_dualize::told::{basis, dual_values, ray, whole};
 use rob_model::Scenario;
 use rob_number::{Exact, List, LpKind, Memory};
 use rob_sets::SetForm;
@@ -100,19 +102,7 @@ fn along<N: Exact>(
     })
 }
 
-/// The differences of the first pairs of the solver's point.
-pub fn parameters<N: Exact>(alloc: Global, work: &Work<N>, count: u32) -> Result<List<N>, Memory>
-    requires point { HasPoint work.now }
-    requires few { count < 2 ^ 31 }
-    requires inside { count + count ≤ work.now.columns }
-    requires pairs { (c : ℕ) → c < count → OneIsZero (point_of work.now (plus c)) (point_of work.now (minus c)) }
-    ensures parameters { IfOk result (λ list. map N.value list ≡ differences count (point_of work.now)) }
-{
-    let numbers = point(alloc, work, 2 * count)?;
-    pair_differences(alloc, numbers.items(), count as usize)
-}
-
-/// Those of its ray.
+/// The differences of the first pairs of the solver's ray.
 fn direction<N: Exact>(alloc: Global, work: &Work<N>, count: u32) -> Result<List<N>, Memory>
     requires ray { HasRay work.now }
     requires few { count < 2 ^ 31 }

@@ -1,23 +1,12 @@
-// Why a search stops before it begins, and how that is counted.
+// How a stop before a search is counted, and what its places are called.
 
-ghost use Rattle.std.specs.Prelude.{◌≡◌, ℕ, [], Bool};
-ghost use Rattle.rob_number.specs.Counts.{raised};
-ghost use Rattle.rob_cert.specs.declared.ending.Stop.TheVariants as stop;
+ghost use Rattle.std.specs.Prelude.{◌≡◌};
 ghost use Rattle.rob_dualize.specs.Solving.{CountsStop};
-ghost use Rattle.rob_worst.specs.Refusals.{IsWideStop, program_for, place_for};
+ghost use Rattle.rob_worst.specs.Refusals.{program_for, place_for};
 
-use rob_cert::{Stop, Trace};
-use rob_model::{Program, Spot, Where};
-use rob_number::{Ledger, List};
-use std::alloc::Global;
-
-/// A wide number at this spot, with no rounds before it.
-pub fn wide_at(alloc: Global, spot: Spot) -> Stop
-    ensures stop { IsWideStop spot result }
-{
-    let rounds = List::new(alloc);
-    Stop::Wide(spot, Trace { rounds })
-}
+use rob_cert::Stop;
+use rob_model::{Program, Where};
+use rob_number::Ledger;
 
 /// Counts the stop, where it is a wide number.
 pub fn count<L: Ledger>(stop: &Stop, ledger: &mut L)

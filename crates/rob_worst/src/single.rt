@@ -7,7 +7,7 @@ ghost use Rattle.rob_number.specs.Counts.{NeverFell};
 ghost use Rattle.rob_sets.specs.SetForm.{IsSetForm};
 ghost use Rattle.rob_elab.specs.Elaborated.{AreElaborated};
 ghost use Rattle.rob_elab.specs.Forms.{IsForms};
-ghost use Rattle.rob_worst.specs.Finders.{IsFewSet};
+ghost use Rattle.rob_dualize.specs.SetSolving.{IsFewSet};
 ghost use Rattle.rob_worst.specs.Finding.{FindsWorst, HasConstantWithin};
 ghost use Rattle.rob_worst.specs.Vectors.{plan_of, step_of};
 
@@ -21,7 +21,8 @@ use std::alloc::Global;
 
 /// The worst scenario of a form at a plan with its bound: the greatest value of the form's parameter part over the set,
 /// times the plan's least common denominator, with a scenario that has it, and amounts of the set rows that show it; or
-/// a ray of the set along which the form grows. `EmptySet` comes where no scenario is admitted.
+/// a ray of the set along which the form grows. `form` counts from 0. `EmptySet` comes where no scenario is admitted,
+/// `Wide` where a number of the set's program or of the search is over the limit, `Memory` where memory is refused.
 pub fn worst<N: Exact, L: Ledger>(
     alloc: Global,
     forms: &Forms,
@@ -48,7 +49,7 @@ pub fn worst<N: Exact, L: Ledger>(
 }
 
 /// The same along a direction: a number for each decision column, and last the one for the bound. The constant column
-/// counts 0.
+/// counts 0. Errors are those of `worst`.
 pub fn worst_step<N: Exact, L: Ledger>(
     alloc: Global,
     forms: &Forms,

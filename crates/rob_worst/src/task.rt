@@ -10,9 +10,10 @@ ghost use Rattle.rob_worst.specs.Tasks.{FitsSet, IsTaskOf};
 ghost use Rattle.rob_worst.specs.Vectors.{plan_of, step_of};
 
 use crate::cost::{costs, part};
-use crate::refusal::{place, wide_at};
+use crate::refusal::place;
 use crate::vector::{cleared, plan_vector, step_vector};
 use rob_cert::Stop;
+use rob_dualize::stop::wide_at;
 use rob_elab::Forms;
 use rob_model::{Plan, Spot, Where};
 use rob_number::{Exact, List, Memory};

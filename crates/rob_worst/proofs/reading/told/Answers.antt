@@ -1,6 +1,7 @@
 use Rattle.std.proofs.Common.{subst}
 use Rattle.rob_number.specs.declared.lp_kind.LpKind.{LpKind}
-use Rattle.rob_worst.specs.Finders.{program_of_set, HasSearched}
+use Rattle.rob_dualize.specs.SetSolving.{program_of_set}
+use Rattle.rob_worst.specs.Finders.{HasSearched}
 use Rattle.rob_worst.proofs.reading.told.Goals as goal
 
 pub greatest-requires-clause-searched : goal.greatest-requires-clause-searched

@@ -13,7 +13,7 @@ use Rattle.rob_sets.specs.declared.error.Stop.{Stop as Refusal}
 use Rattle.rob_dualize.proofs.MakingLemmas.{parameters_low}
 use Rattle.rob_dualize.proofs.Soundness.{forms_sound, elaborated_weaker}
 use Rattle.rob_worst.specs.Costs.{IsWidePart, StopsAtPart}
-use Rattle.rob_worst.specs.Refusals.{IsWideStop}
+use Rattle.rob_dualize.specs.Ending.{IsWideStop}
 use Rattle.rob_worst.proofs.CostLemmas.{held}
 use Rattle.rob_worst.proofs.StopLemmas.{cleared_cause, constant_cause, costs_cause}
 use Rattle.rob_worst.proofs.TaskLemmas.{fits_set, common_seen, constant_told, costs_told}

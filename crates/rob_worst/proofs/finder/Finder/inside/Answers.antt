@@ -5,7 +5,7 @@ use Rattle.rob_counterpart.specs.ReadCertificates.{scenario_read}
 use Rattle.rob_counterpart.specs.ReadNumbers.{differences}
 use Rattle.rob_dualize.specs.Solving.{IsLastScenario}
 use Rattle.rob_dualize.proofs.MakingLemmas.{parameters_low}
-use Rattle.rob_worst.proofs.SetLemmas.{solved_pairs, solved_scenario}
+use Rattle.rob_dualize.proofs.SetLemmas.{solved_pairs, solved_scenario}
 use Rattle.rob_worst.proofs.finder.Finder.inside.Goals as goal
 
 pub parameters-requires-clause-pairs : goal.parameters-requires-clause-pairs

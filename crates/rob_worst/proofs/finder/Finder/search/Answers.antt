@@ -12,7 +12,7 @@ use Rattle.rob_dualize.specs.Ending.{StopsAt}
 use Rattle.rob_dualize.proofs.MakingLemmas.{ok_weaker}
 use Rattle.rob_dualize.proofs.SolvingLemmas.{wide_counted}
 use Rattle.rob_worst.specs.Refusals.{program_for}
-use Rattle.rob_worst.specs.Finders.{program_of_set, IsSolved}
+use Rattle.rob_dualize.specs.SetSolving.{program_of_set, IsSolved}
 use Rattle.rob_worst.specs.Finding.{HasSearchCause}
 use Rattle.rob_worst.specs.Tasks.{FitsSet, IsTaskOf}
 use Rattle.rob_worst.specs.declared.task.Task.{Task}
