@@ -25,7 +25,7 @@ use Rattle.rob_rows.specs.Updates.{IsWideCleared}
 use Rattle.rob_simplex.specs.Dictionaries.{Table, positions, width_of, columns_of, spare_column, rows_of, IsFree, IsAlone, IsOpen}
 use Rattle.rob_simplex.specs.Lowering.{IsLowered, amount_of, HasCleared, HasRefusedCost}
 use Rattle.rob_simplex.specs.Phases.{StandsFor}
-use Rattle.rob_simplex.proofs.FreeColumns.{way_free}
+use Rattle.rob_simplex.proofs.FreeColumns.{basic_column_low, way_free}
 use Rattle.rob_simplex.proofs.CostStages.{narrowed, cleared_parallel, equal_parallel, rows_is, columns_is, width_is, half, auxiliary_zero, spare_zero, half_wide, next_stands}
 use Rattle.rob_simplex.proofs.PivotLemmas.{set_twice, cleared_by_times, zero_stays, free_opened}
 use Rattle.rob_simplex.proofs.Replacing.{basic_low, basic_high}
@@ -66,9 +66,6 @@ module _ (P : Program) (j : ℕ) (jl : j < P.n) (t : Table) (h : StandsFor (trun
       ap (rows_of t i) (sym (ap (auxiliary_place P) o ∙ place_low P j (omega (arith, jl)))) ∙ (h.stands.multiples.rows_of i im_low).along.zeros k kk d in
       let p : pos 0 <ℤ rows_of t i j = own_positive in
       omega (arith, ints)
-
-  column_low : (k : ℕ) → k < P.m → columns_of t.basis k < P.n + P.m
-  column_low k kl = subst (λ c. c < P.n + P.m) (own_low (system_of P) (columns_of t.basis) k kl) (h.stands.multiples.inside k kl)
 
   -- ---- the next stage
   module _ (factor : ℤ) (ef : P.c j ≡ factor) where
@@ -140,7 +137,7 @@ module _ (P : Program) (j : ℕ) (jl : j < P.n) (t : Table) (h : StandsFor (trun
               let s : suc j ≡ P.n = omega (arith, jl) in
               let row : IsMultipleRow (system_of P) (own_of (system_of P) (columns_of t.basis)) P.m (λ k. v.0 (auxiliary_place P k)) =
               multiple_last P (own_of (system_of P) (columns_of t.basis)) (λ k. v.0 (auxiliary_place P k)) (subst (λ k. IsMultipleStage P (own_of (system_of P) (columns_of t.basis)) k (λ k. v.0 (auxiliary_place P k))) s stage) in
-              inl (λ k. v.0 (auxiliary_place P k), column_low, record { along = row.along; positive = row.positive; primitive = x.0 }, x.1)
+              inl (λ k. v.0 (auxiliary_place P k), basic_column_low (truncated P j) t h, record { along = row.along; positive = row.positive; primitive = x.0 }, x.1)
         ]
 
     pub refused_wide : (limit : ℕ) → HasRefusedCost limit t i j factor → IsOwnWideAt limit P (columns_of t.basis) P.m

@@ -1,5 +1,5 @@
 -- At which position a column is basic, as its place tells.
-use Rattle.std.proofs.Common.{◌≡◌, ◌≢◌, ℕ, suc, ◌+◌, ◌-◌, ◌^◌, ◌<◌, ◌≤◌, sym, ap, ◌∙◌, arith, inl, inr, List, length, get_or, Some, None}
+use Rattle.std.proofs.Common.{◌≡◌, ℕ, suc, ◌+◌, ◌-◌, ◌^◌, ◌<◌, ◌≤◌, sym, ap, ◌∙◌, arith, inl, inr, List, length, get_or, Some, None}
 use Rattle.std.proofs.lemmas.Bool.{cases_lt}
 use lib.IntN.{ℤ}
 use Rattle.rob_simplex.specs.Dictionaries.{columns_of, basic_columns, IsSound}

@@ -36,6 +36,9 @@ module _ (limit n : ℕ) (basis places near : List ℕ) (table : List ℤ) (boun
   pub column_in : (column : ℕ) → IsFree n basis column → column < length places
   column_in column free = let l : column < n + length basis + 4 = free.inside in omega (arith, sound.places_size)
 
+  pub objective_place : columns_of places (suc (n + length basis)) ≡ n + 3 + length basis
+  objective_place = ap (columns_of places) (sym (basic_high n basis (length basis) (omega arith))) ∙ sound.placed.basic_at (length basis) (omega arith)
+
   -- ---- a column emptied
   module _ (column : ℕ) (free : IsFree n basis column) (x : ℕ) (ex : x ≡ columns_of places column) (new : List ℤ) (zero : (i : ℕ) → i < length basis + 1 → row_at new (n + 4) i x ≡ pos 0)
       (others : (i k : ℕ) → k < n + 4 → (length basis + 1 ≤ i) ⊎ (k ≢ x) → row_at new (n + 4) i k ≡ row_at table (n + 4) i k) where
@@ -88,14 +91,11 @@ module _ (limit n : ℕ) (basis places near : List ℕ) (table : List ℤ) (boun
   -- ---- the auxiliary objective
   module _ (free : IsFree n basis (n + length basis)) (x : ℕ) (ex : x ≡ columns_of places (n + length basis)) (new : List ℤ) (there : row_at new (n + 4) (length basis) x ≡ pos 1) (own : (w : ℕ) → w + 1 ≡ n + 4 → row_at new (n + 4) (length basis) w ≡ pos 1)
       (zero : (k : ℕ) → k + 1 < n + 4 → k ≢ x → row_at new (n + 4) (length basis) k ≡ pos 0) where
-    objective_at : columns_of places (suc (n + length basis)) ≡ n + 3 + length basis
-    objective_at = ap (columns_of places) (sym (basic_high n basis (length basis) (omega arith))) ∙ sound.placed.basic_at (length basis) (omega arith)
-
     pub unit_auxiliary : rows_of (table_with new) (length basis) (n + length basis) ≡ pos 1
     unit_auxiliary = read_near (n + 3) (columns_of places) (length basis) (row_at new (n + 4) (length basis)) (n + length basis) (free_place (n + length basis) free) ∙ ap (row_at new (n + 4) (length basis)) (sym ex) ∙ there
 
     pub unit_objective : rows_of (table_with new) (length basis) (suc (n + length basis)) ≡ pos 1
-    unit_objective = read_own (n + 3) (columns_of places) (length basis) (row_at new (n + 4) (length basis)) (suc (n + length basis)) objective_at ∙ own (n + 3) (omega arith)
+    unit_objective = read_own (n + 3) (columns_of places) (length basis) (row_at new (n + 4) (length basis)) (suc (n + length basis)) objective_place ∙ own (n + 3) (omega arith)
 
     pub unit_else : (c : ℕ) → c < n + length basis + 4 → c ≢ n + length basis → c ≢ suc (n + length basis) → rows_of (table_with new) (length basis) c ≡ pos 0
     unit_else c cl d o = elim (cases_lt (columns_of places c) (n + 3)) [

@@ -25,7 +25,7 @@ step_one one place number = grind (arith, nat_tests)
 step_place : (one place : ℕ) (number : ℤ) → place ≢ one → step_row one place number place ≡ number
 step_place one place number d = grind (arith, nat_tests)
 
-step_else : (one place : ℕ) (number : ℤ) (k : ℕ) → k ≢ one → k ≢ place → step_row one place number k ≡ pos 0
+pub step_else : (one place : ℕ) (number : ℤ) (k : ℕ) → k ≢ one → k ≢ place → step_row one place number k ≡ pos 0
 step_else one place number k d e = grind (arith, nat_tests)
 
 -- ---- nothing is subtracted

@@ -10,7 +10,7 @@ use Rattle.rob_linear.proofs.Stages.{unit_one, unit_zero}
 use Rattle.rob_simplex.specs.Tables.{row_at, bound_at, HasBounds}
 use Rattle.rob_simplex.specs.Lowering.{IsLowered, IsWideLowered, step_row, amount_of}
 use Rattle.rob_simplex.specs.Dictionaries.{columns_of, basic_columns, rows_of, IsSound, IsFree}
-use Rattle.rob_simplex.proofs.EditLemmas.{table_with, free_place}
+use Rattle.rob_simplex.proofs.EditLemmas.{table_with, free_place, objective_place}
 use Rattle.rob_simplex.proofs.LoweredRows.{lowered_read, wide_lowered_read}
 use Rattle.rob_simplex.proofs.Places.{seen_within}
 use Rattle.rob_simplex.proofs.Replacing.{basic_high}
@@ -25,12 +25,9 @@ entry_seen limit width rows bounds h high i k il kl =
     seen_within limit (row_at rows width i k) (omega arith) (omega arith)
 
 module _ (limit n : ℕ) (basis places near : List ℕ) (table : List ℤ) (bounds : List ℕ) (room : ℕ) (sound : IsSound limit n basis places near table bounds room) where
-  objective_at : columns_of places (suc (n + length basis)) ≡ n + 3 + length basis
-  objective_at = ap (columns_of places) (sym (basic_high n basis (length basis) (omega arith))) ∙ sound.placed.basic_at (length basis) (omega arith)
-
   -- the objective's own entry
   pub own_entry : rows_of (table_with limit n basis places near table bounds room sound table) (length basis) (suc (n + length basis)) ≡ row_at table (n + 4) (length basis) (n + 3)
-  own_entry = read_own (n + 3) (columns_of places) (length basis) (row_at table (n + 4) (length basis)) (suc (n + length basis)) objective_at
+  own_entry = read_own (n + 3) (columns_of places) (length basis) (row_at table (n + 4) (length basis)) (suc (n + length basis)) (objective_place limit n basis places near table bounds room sound)
 
   -- ---- two columns stand at two places
   pub places_apart : (c d : ℕ) → IsFree n basis c → IsFree n basis d → c ≢ d → columns_of places c ≢ columns_of places d
@@ -84,7 +81,7 @@ module _ (limit n : ℕ) (basis places near : List ℕ) (table : List ℤ) (boun
   dropped_objective t h c cl = elim (cases_eq c (suc (n + length basis))) [
     | inl e ↦
         ap (rows_of (table_with limit n basis places near table bounds room sound t) (length basis)) e
-        ∙ read_own (n + 3) (columns_of places) (length basis) (row_at t (n + 4) (length basis)) (suc (n + length basis)) objective_at ∙ h (n + 3) (omega arith) ∙ step_own (n + 3) (n + 3) refl
+        ∙ read_own (n + 3) (columns_of places) (length basis) (row_at t (n + 4) (length basis)) (suc (n + length basis)) (objective_place limit n basis places near table bounds room sound) ∙ h (n + 3) (omega arith) ∙ step_own (n + 3) (n + 3) refl
         ∙ sym (ap (unit_row (suc (n + length basis))) e ∙ unit_one (suc (n + length basis)))
     | inr d ↦ elim (cases_lt (columns_of places c) (n + 3)) [
       | inl l ↦

@@ -25,17 +25,12 @@ use Rattle.rob_linear.proofs.WithoutColumn.{enters_without, leaves_without, clea
 use Rattle.rob_linear.proofs.CondensedNumbers.{primitive_without}
 use Rattle.rob_linear.proofs.Measure.{rank_rises, rank_below}
 use Rattle.rob_linear.proofs.Multiples.{factors_clear, pivot_wide, multiple_turn}
+use Rattle.rob_linear.proofs.Phases.{place_low, place_high}
 use Rattle.rob_rows.specs.Updates.{IsWideCleared}
 use Rattle.rob_simplex.specs.Dictionaries.{Table, positions, width_of, columns_of, basic_columns, spare_column, shape, rows_of, IsFree, IsClosed, IsPivoted, FirstNegative}
 use Rattle.rob_simplex.specs.Phases.{StandsFor, TurnsOn, HasRefused, EndsIn, rank_left, turns_left}
 use Rattle.rob_simplex.proofs.Replacing.{basic_low, basic_high}
 use Rattle.rob_simplex.proofs.PivotLemmas.{zero_stays}
-
-place_low : (P : Program) (k : ℕ) → k < P.n + P.m → auxiliary_place P k ≡ k
-place_low P k l = grind (arith, nat_tests)
-
-place_high : (P : Program) (k : ℕ) → P.n + P.m ≤ k → auxiliary_place P k ≡ suc k
-place_high P k l = grind (arith, nat_tests)
 
 own_last : (P : Program) (basis : Columns) → own_of (system_of P) basis P.m ≡ P.n + P.m
 own_last P basis = grind (arith, nat_tests)

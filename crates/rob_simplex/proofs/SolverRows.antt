@@ -1,7 +1,7 @@
 -- The rows that a solver shows are its dictionary's, in lowest terms: the same quotients, and the rows of a basis.
-use Rattle.std.proofs.Common.{◌≡◌, ◌≢◌, ℕ, suc, ◌+◌, ◌<◌, ◌≤◌, ◌∙◌, arith}
-use lib.IntN.{ℤ, pos, neg_ℤ, nat_abs}
-use lib.Signed.{◌<ℤ◌, ◌≤ℤ◌}
+use Rattle.std.proofs.Common.{◌≡◌, ℕ, suc, ◌+◌, ◌<◌, ◌≤◌, arith}
+use lib.IntN.{pos, neg_ℤ, nat_abs}
+use lib.Signed.{◌<ℤ◌}
 use Rattle.rob_algebra.specs.Fraction.{of_pair}
 use Rattle.rob_linear.specs.Vectors.{Matrix, Vector}
 use Rattle.rob_linear.specs.Systems.{IsPrimitive}

@@ -1,7 +1,7 @@
 -- The numbers that a solver tells.
-use Rattle.std.proofs.Common.{◌≡◌, ◌≢◌, ℕ, suc, sym, refl, ap, ap₂, subst, ◌∙◌, ◌+◌, ◌<◌, ◌≤◌, arith, Some, None}
+use Rattle.std.proofs.Common.{◌≡◌, ◌≢◌, ℕ, suc, sym, refl, ap, ap₂, subst, ◌∙◌, ◌+◌, ◌<◌, arith, Some, None}
 use Rattle.std.proofs.lemmas.Bool.Decides.{nat_tests}
-use lib.IntN.{ℤ, pos, neg_ℤ, nat_abs}
+use lib.IntN.{pos, neg_ℤ, nat_abs}
 use lib.Signed.{◌<ℤ◌}
 use Rattle.rob_algebra.specs.Fraction.{of_int, of_pair}
 use Rattle.rob_algebra.proofs.Parts.{of_int-one}

@@ -26,8 +26,8 @@ HasResumed P start kind.Optimal s = IsOptimumAt (LastFrom P start) P s
 HasResumed P start kind.Infeasible s = ⊥
 HasResumed P start kind.Unbounded s = IsRayAt (LastFrom P start) P s
 
--- the solver stands at a basis on that path, where the row of that position is wide; where the cost was being put on,
--- this is the start, and a stage of the objective's row is wide
+-- the solver stands at a basis on that path, where the row of that position is wide, or, at the objective's position, a
+-- stage of putting the cost on it
 abbrev pub HasStoppedFrom : ℕ → Program → Columns → LpStop → Solver → Type 0
 HasStoppedFrom limit P start (Wide position) s =
     (s.state ≡ Stopped) × HasWideRowFrom limit P start (columns_of s.basis) position

@@ -1,5 +1,5 @@
 -- What contracts see of a solver: its state, its dictionary and its weights.
-use Rattle.std.specs.Prelude.{◌≡◌, ℕ, suc, ◌<◌, ◌≤◌, ◌+◌, ◌^◌, ℤ, pos, ◌<ℤ◌, List, length, ⊤}
+use Rattle.std.specs.Prelude.{◌≡◌, ℕ, suc, ◌<◌, ◌+◌, ◌^◌, ℤ, pos, ◌<ℤ◌, List, length, ⊤}
 use Rattle.rob_linear.specs.Vectors.{Matrix}
 use Rattle.rob_linear.specs.Programs.{Program}
 use Rattle.rob_linear.specs.Beside.{without_column}

@@ -195,8 +195,8 @@ impl Dictionary {
     }
 
     /// Puts the cost on the dictionary, and turns until the path from the basis that stands ends: with `None` where no
-    /// column improves the objective, else with the column that improves it without limit. An `Err` names the first row
-    /// that would be wide at the basis that is then told, where the cost was being put on the objective's.
+    /// column improves the objective, else with the column that improves it without limit. An `Err` names a row that is
+    /// wide at the basis that is then told: its own, or a stage of the objective's.
     pub fn go_on<L: Ledger>(&mut self, cost: &[i64], ledger: &mut L) -> Result<Option<usize>, usize>
         requires stands { (P : Program) × StandsFor P self.old }
         requires size { length cost.now ≡ self.old.columns }

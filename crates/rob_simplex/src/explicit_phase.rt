@@ -25,8 +25,8 @@ pub enum ExplicitTurn {
 }
 
 impl Dictionary {
-    /// Goes on in the explicit form, where position q is open, to the end of the first phase. An `Err` names the
-    /// first row that would be wide at the basis that is then told.
+    /// Goes on in the explicit form, where position q is open, to the end of the first phase. An `Err` names a
+    /// row that is wide at the basis that is then told.
     pub fn explicit_turns<L: Ledger>(
         &mut self,
         q: usize,
@@ -109,8 +109,8 @@ impl Dictionary {
         }
     }
 
-    // Makes the next turn, if there is one. After an `Err`, which names the first row that would be wide, the basis
-    // is the next one and the rows are open.
+    // Makes the next turn, if there is one. After an `Err`, which names a row that is wide there, the basis is the
+    // next one and the rows are open.
     fn turn_explicit<L: Ledger>(&mut self, ledger: &mut L) -> Result<ExplicitTurn, usize>
         requires stands { (P : Program) × InExplicit P self.old }
         ensures turned { IfOk result (λ turn. (P : Program) → InExplicit P self.old

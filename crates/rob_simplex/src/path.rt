@@ -25,8 +25,8 @@ pub enum Ending {
 }
 
 impl Dictionary {
-    /// Follows the path from the slack columns and the starting rows to its last basis. An `Err` names the first row
-    /// that would be wide at the basis that is then told.
+    /// Follows the path from the slack columns and the starting rows to its last basis. An `Err` names a row that is
+    /// wide at the basis that is then told.
     pub fn follow<L: Ledger>(&mut self, ledger: &mut L) -> Result<Ending, usize>
         requires starts { (P : Program) × IsStartingTable self.old.limit P self.old }
         ensures told { (P : Program) → IsStartingTable self.old.limit P self.old

@@ -22,8 +22,8 @@ pub enum Turn {
 }
 
 impl Dictionary {
-    // Makes the next turn, if there is one. After an `Err`, which names the first row that would be wide, the basis is the
-    // next one and the rows are open.
+    // Makes the next turn, if there is one. After an `Err`, which names a row that is wide there, the basis is the next
+    // one and the rows are open.
     fn advance<L: Ledger>(&mut self, ledger: &mut L) -> Result<Turn, usize>
         requires stands { (P : Program) × StandsFor P self.old }
         ensures turned { IfOk result (λ turn. (P : Program) → StandsFor P self.old → HasTurned P turn self.old self.new) }
@@ -50,8 +50,8 @@ impl Dictionary {
     }
 
     /// Turns until the path from the basis that stands ends: with `None` where no column improves the objective, else
-    /// with the column that improves it without limit. An `Err` names the first row that would be wide at the basis
-    /// that is then told.
+    /// with the column that improves it without limit. An `Err` names a row that is wide at the basis that is then
+    /// told.
     pub fn improve<L: Ledger>(&mut self, ledger: &mut L) -> Result<Option<usize>, usize>
         requires stands { (P : Program) × StandsFor P self.old }
         ensures told { (P : Program) → StandsFor P self.old

@@ -61,7 +61,7 @@ impl<N: Exact> Work<N> {
     }
 
     /// Solves the program: its true status, with the point, the dual values, the weights or the ray that show it. It is
-    /// called once. After a stop only `basis` may be called.
+    /// called once. After a stop only `basis` and `set_to` may be called.
     pub fn solve<L: Ledger>(&mut self, ledger: &mut L) -> Result<LpKind, LpStop>
         requires fresh { IsFresh self.old }
         ensures solved { (P : Program) → IsMadeFor P self.old
@@ -97,8 +97,8 @@ impl<N: Exact> Work<N> {
 
     /// The status with `cost` in place of the program's cost, from the dictionary that stands: one number for each
     /// structural column, in their order. The last call answered `Optimal` or `Unbounded`, or was `set_to` a solver
-    /// whose last call did. It takes no memory. After a stop only `basis` may be called; its cause may be a stage of
-    /// the objective's row, which is made as the cost is put on.
+    /// whose last call did. It takes no memory. After a stop only `basis` and `set_to` may be called; what is wide may
+    /// be a stage of the objective's row, which is made as the cost is put on.
     pub fn resume<L: Ledger>(&mut self, cost: &[i64], ledger: &mut L) -> Result<LpKind, LpStop>
         requires stands { (P : Program) × CanResume P self.old }
         requires size { length cost.now ≡ self.old.columns }

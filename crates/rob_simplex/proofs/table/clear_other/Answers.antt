@@ -1,4 +1,4 @@
-use Rattle.std.proofs.Common.{◌≡◌, ◌≤◌, arith, nat_abs, ◌+◌, ◌*◌}
+use Rattle.std.proofs.Common.{◌≤◌, arith, nat_abs}
 use Rattle.rob_linear.specs.Vectors.{at}
 use Rattle.rob_simplex.specs.Tables.{row_at, bound_at}
 use Rattle.rob_simplex.proofs.Clearing.{keep_row, clear_more, zero_read}

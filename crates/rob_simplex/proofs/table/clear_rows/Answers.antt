@@ -1,4 +1,4 @@
-use Rattle.std.proofs.Common.{◌≡◌, subst, sym, List}
+use Rattle.std.proofs.Common.{subst, sym, List}
 use lib.IntN.{ℤ}
 use Rattle.rob_linear.specs.Vectors.{at}
 use Rattle.rob_rows.specs.Updates.{Clearing, IsWideCleared}

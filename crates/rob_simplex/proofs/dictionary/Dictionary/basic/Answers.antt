@@ -1,4 +1,4 @@
-use Rattle.std.proofs.Common.{◌≡◌, ◌<◌, ◌^◌, ◌∙◌, ap, sym, subst, length}
+use Rattle.std.proofs.Common.{◌<◌, ◌^◌, ◌∙◌, ap, sym, subst, length}
 use Rattle.rob_simplex.specs.Dictionaries.{Table, positions, columns_of}
 use Rattle.rob_simplex.proofs.WrittenBack.{read_at}
 use Rattle.rob_simplex.proofs.ColumnLemmas.{basic_few}

@@ -1,4 +1,4 @@
-use Rattle.std.proofs.Common.{◌≡◌, ◌≤◌, ◌<◌, ℕ, ◌∙◌, subst, arith, ap, inr}
+use Rattle.std.proofs.Common.{◌∙◌, subst, arith, ap, inr}
 use Rattle.rob_linear.specs.WideRows.{HasWideRow}
 use Rattle.rob_simplex.specs.Dictionaries.{Table, positions, columns_of}
 use Rattle.rob_simplex.specs.Explicit.{HasTurnedExplicit}

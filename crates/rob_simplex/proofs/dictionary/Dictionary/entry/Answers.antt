@@ -1,4 +1,4 @@
-use Rattle.std.proofs.Common.{◌≡◌, ◌<◌, ◌≤◌, ◌+◌, ◌∙◌, ap, sym, subst, arith, length, nat_abs, to_z, of_z, w64}
+use Rattle.std.proofs.Common.{◌<◌, ◌≤◌, ◌+◌, ◌∙◌, ap, sym, subst, arith, length, nat_abs, to_z, of_z, w64}
 use Rattle.rob_simplex.specs.Dictionaries.{Table, positions, width_of, rows_of}
 use Rattle.rob_simplex.proofs.WrittenBack.{read_at}
 use Rattle.rob_simplex.proofs.EntryLemmas.{near_value, own_value}

@@ -1,4 +1,4 @@
-use Rattle.std.proofs.Common.{◌≡◌, ℕ, ◌<◌, ◌≤◌, ◌+◌, ◌∙◌, sym, subst, arith, length, List, pos}
+use Rattle.std.proofs.Common.{◌≡◌, ℕ, ◌<◌, ◌≤◌, ◌+◌, sym, subst, arith, length, List, pos}
 use lib.IntN.{ℤ}
 use lib.Signed.{◌≤ℤ◌}
 use Rattle.rob_linear.specs.Vectors.{at}

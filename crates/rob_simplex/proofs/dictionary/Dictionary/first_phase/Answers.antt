@@ -1,4 +1,4 @@
-use Rattle.std.proofs.Common.{◌≡◌, ℕ, ◌+◌, ◌∙◌, ap, subst, arith}
+use Rattle.std.proofs.Common.{◌≡◌, ◌+◌, ◌∙◌, ap, subst, arith}
 use Rattle.rob_simplex.specs.Dictionaries.{Table, positions, IsFree}
 use Rattle.rob_simplex.specs.Explicit.{FirstTurns}
 use Rattle.rob_simplex.proofs.FirstTurns.{auxiliary_out, second_begins}

@@ -1,4 +1,4 @@
-use Rattle.std.proofs.Common.{◌≡◌, ℕ, ◌≤◌, IfErr, MatchResult, subst, inl}
+use Rattle.std.proofs.Common.{ℕ, ◌≤◌, IfErr, MatchResult, subst, inl}
 use Rattle.rob_linear.specs.WideRows.{HasWideRow}
 use Rattle.rob_simplex.specs.Dictionaries.{columns_of}
 use Rattle.rob_simplex.specs.Explicit.{FirstTurns}

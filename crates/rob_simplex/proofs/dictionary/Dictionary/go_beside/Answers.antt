@@ -1,4 +1,4 @@
-use Rattle.std.proofs.Common.{◌≡◌, ◌≤◌, ◌<◌, ℕ, ◌∙◌, subst, arith}
+use Rattle.std.proofs.Common.{◌∙◌, subst, arith}
 use Rattle.rob_simplex.specs.Phases.{HasTurnedBeside}
 use Rattle.rob_simplex.proofs.FirstPhase.{row_own}
 use Rattle.rob_simplex.proofs.dictionary.Dictionary.go_beside.Goals as goal

@@ -1,4 +1,4 @@
-use Rattle.std.proofs.Common.{◌≡◌, ℕ, ◌+◌, ◌<◌, ◌∙◌, sym, subst, ap, arith, to_z, of_z, w64, pos, neg_ℤ}
+use Rattle.std.proofs.Common.{◌≡◌, ◌+◌, ◌∙◌, sym, subst, ap, arith, to_z, of_z, w64, pos, neg_ℤ}
 use Rattle.std.proofs.lemmas.Int.{ints}
 use lib.IntN.{ℤ}
 use Rattle.rob_simplex.specs.Dictionaries.{Table, positions, rows_of, Decided}
