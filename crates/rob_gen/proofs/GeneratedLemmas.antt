@@ -21,7 +21,7 @@ generated_again n =
     ∙ ap (λ (centres : ℕ → ℕ). model_over (periods (n % 12)) centres) (λ i period. centre_again n period i)
 
 -- what holds of twelve models holds of all
-by_twelve : (P : RobustModel → Type 0) → ((r : ℕ) → r < 12 → P (generated r)) → (n : ℕ) → P (generated n)
+pub by_twelve : (P : RobustModel → Type 0) → ((r : ℕ) → r < 12 → P (generated r)) → (n : ℕ) → P (generated n)
 by_twelve P h n = subst P (sym (generated_again n)) (h (n % 12) (let l : n % 12 < 12 = omega arith in l))
 
 -- what holds of a model over 2 to 5 periods, whatever the centres are, holds of the model of each number

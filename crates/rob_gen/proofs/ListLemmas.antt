@@ -1,5 +1,6 @@
 -- Loops that make the items of the first places, one after another.
 use Rattle.std.proofs.Common.{◌≡◌, ℕ, ◌+◌, List, [], ◌∷◌, ◌++◌, map, refl, ap, sym, ◌∙◌, add-one, append_assoc}
+use Rattle.std.proofs.lemmas.List.{map-append}
 use Rattle.rob_meaning.specs.Places.{tabulate}
 use Rattle.rob_meaning.proofs.TabulateLemmas.{tabulate-more}
 
@@ -14,16 +15,12 @@ item_more {A} f list y k {new} pushed same so_far =
     pushed ∙ ap (λ (xs : List A). xs ++ y ∷ []) so_far ∙ ap (λ (z : A). tabulate k f ++ z ∷ []) same ∙ tabulate_next f k
 
 module _ {A B : Type 0} (g : A → B) (f : ℕ → B) where
-  map_append : (list : List A) (y : A) → map g (list ++ y ∷ []) ≡ map g list ++ g y ∷ []
-  map_append [] y = refl
-  map_append (x ∷ list) y = ap (λ (l : List B). g x ∷ l) (map_append list y)
-
   -- one item more behind those that were there
   pub more_behind : (front : List B) (list : List A) (y : A) (k : ℕ) {new : List A} → new ≡ list ++ y ∷ [] → g y ≡ f k
       → map g list ≡ front ++ tabulate k f → map g new ≡ front ++ tabulate (k + 1) f
   more_behind front list y k {new} pushed same so_far =
       ap (λ (l : List A). map g l) pushed
-      ∙ map_append list y
+      ∙ map-append g list (y ∷ [])
       ∙ ap (λ (l : List B). l ++ g y ∷ []) so_far
       ∙ append_assoc front (tabulate k f) (g y ∷ [])
       ∙ ap (λ (z : B). front ++ (tabulate k f ++ z ∷ [])) same

@@ -4,7 +4,7 @@ ghost use Rattle.std.specs.Prelude.{◌≡◌, ◌≤◌, ◌<◌, ◌^◌, ◌+
 ghost use Rattle.rob_meaning.specs.Places.{tabulate};
 ghost use Rattle.rob_meaning.specs.RobustModel.{budget};
 ghost use Rattle.rob_model.specs.View.{parameter_of, member_of, set_line_of, variable_of, adaptive_of};
-ghost use Rattle.rob_gen.specs.Generated.{centre as centre_lem, demand as demand_lem, deviation as deviation_lem, first_order as first_order_lem, later_order as later_order_lem, whole as whole_lem};
+ghost use Rattle.rob_gen.specs.Generated as defined;
 
 use crate::numbers::{centre, numbered, places, whole};
 use rob_model::{Adaptive, Member, Param, SetLine, Var};
@@ -20,7 +20,7 @@ fn demand<N: Exact, L: Ledger>(
 ) -> Result<Param<N>, Memory>
     requires limit { 14 ≤ N.limit }
     requires place { place < 5 }
-    ensures made { IfOk result (λ p. parameter_of N.value p ≡ demand_lem (centre_lem n) place) }
+    ensures made { IfOk result (λ p. parameter_of N.value p ≡ defined.demand (defined.centre n) place) }
     ensures ops { L.ops ledger.old ≤ L.ops ledger.new }
     ensures wides { L.wides ledger.old ≡ L.wides ledger.new }
 {
@@ -44,7 +44,8 @@ pub fn demands<N: Exact, L: Ledger>(
 ) -> Result<List<Param<N>>, Memory>
     requires limit { 14 ≤ N.limit }
     requires count { count ≤ 5 }
-    ensures made { IfOk result (λ ps. map (parameter_of N.value) ps ≡ tabulate count (demand_lem (centre_lem n))) }
+    ensures made { IfOk result (λ ps. map (parameter_of N.value) ps
+        ≡ tabulate count (defined.demand (defined.centre n))) }
     ensures ops { L.ops ledger.old ≤ L.ops ledger.new }
     ensures wides { L.wides ledger.old ≡ L.wides ledger.new }
 {
@@ -60,7 +61,7 @@ pub fn demands<N: Exact, L: Ledger>(
 fn deviation<N: Exact, L: Ledger>(n: u32, place: u32, ledger: &mut L) -> Member<N>
     requires limit { 14 ≤ N.limit }
     requires place { place < 5 }
-    ensures made { member_of N.value result ≡ deviation_lem (centre_lem n) place }
+    ensures made { member_of N.value result ≡ defined.deviation (defined.centre n) place }
     ensures ops { L.ops ledger.old ≤ L.ops ledger.new }
     ensures wides { L.wides ledger.old ≡ L.wides ledger.new }
 {
@@ -83,7 +84,8 @@ fn deviations<N: Exact, L: Ledger>(
 ) -> Result<List<Member<N>>, Memory>
     requires limit { 14 ≤ N.limit }
     requires count { count ≤ 5 }
-    ensures made { IfOk result (λ hs. map (member_of N.value) hs ≡ tabulate count (deviation_lem (centre_lem n))) }
+    ensures made { IfOk result (λ hs. map (member_of N.value) hs
+        ≡ tabulate count (defined.deviation (defined.centre n))) }
     ensures ops { L.ops ledger.old ≤ L.ops ledger.new }
     ensures wides { L.wides ledger.old ≡ L.wides ledger.new }
 {
@@ -105,7 +107,7 @@ pub fn budgets<N: Exact, L: Ledger>(
     requires limit { 14 ≤ N.limit }
     requires count { count ≤ 5 }
     ensures made { IfOk result (λ cs. map (set_line_of N.value) cs
-        ≡ budget (whole_lem 1) (tabulate count (deviation_lem (centre_lem n))) ∷ []) }
+        ≡ budget (defined.whole 1) (tabulate count (defined.deviation (defined.centre n))) ∷ []) }
     ensures ops { L.ops ledger.old ≤ L.ops ledger.new }
     ensures wides { L.wides ledger.old ≡ L.wides ledger.new }
 {
@@ -122,7 +124,7 @@ pub fn first_orders<N: Exact, L: Ledger>(
     ledger: &mut L,
 ) -> Result<List<Var<N>>, Memory>
     requires limit { 14 ≤ N.limit }
-    ensures made { IfOk result (λ xs. map (variable_of N.value) xs ≡ first_order_lem ∷ []) }
+    ensures made { IfOk result (λ xs. map (variable_of N.value) xs ≡ defined.first_order ∷ []) }
     ensures ops { L.ops ledger.old ≤ L.ops ledger.new }
     ensures wides { L.wides ledger.old ≡ L.wides ledger.new }
 {
@@ -146,7 +148,7 @@ fn later_order<N: Exact, L: Ledger>(
 ) -> Result<Adaptive<N>, Memory>
     requires limit { 14 ≤ N.limit }
     requires later { later < 4 }
-    ensures made { IfOk result (λ y. adaptive_of N.value y ≡ later_order_lem later) }
+    ensures made { IfOk result (λ y. adaptive_of N.value y ≡ defined.later_order later) }
     ensures ops { L.ops ledger.old ≤ L.ops ledger.new }
     ensures wides { L.wides ledger.old ≡ L.wides ledger.new }
 {
@@ -169,7 +171,7 @@ pub fn later_orders<N: Exact, L: Ledger>(
 ) -> Result<List<Adaptive<N>>, Memory>
     requires limit { 14 ≤ N.limit }
     requires count { count ≤ 4 }
-    ensures made { IfOk result (λ ys. map (adaptive_of N.value) ys ≡ tabulate count later_order_lem) }
+    ensures made { IfOk result (λ ys. map (adaptive_of N.value) ys ≡ tabulate count defined.later_order) }
     ensures ops { L.ops ledger.old ≤ L.ops ledger.new }
     ensures wides { L.wides ledger.old ≡ L.wides ledger.new }
 {

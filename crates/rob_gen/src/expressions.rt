@@ -4,7 +4,8 @@ ghost use Rattle.std.specs.Prelude.{◌≡◌, ◌≤◌, ◌<◌, ◌^◌, ◌-
 ghost use Rattle.rob_meaning.specs.Expressions.{parameter};
 ghost use Rattle.rob_meaning.specs.Places.{tabulate};
 ghost use Rattle.rob_model.specs.View.{expression_of, signed_of};
-ghost use Rattle.rob_gen.specs.Generated.{added, order as order_lem, total, stock as stock_lem, cost as cost_lem};
+ghost use Rattle.rob_gen.specs.Generated as defined;
+ghost use Rattle.rob_gen.specs.Generated.{added, total};
 
 use rob_model::{Expr, Term};
 use rob_number::{Exact, List, Memory};
@@ -12,7 +13,7 @@ use std::alloc::Global;
 
 /// The order of a place.
 fn order<N: Exact>(place: u32) -> Expr<N>
-    ensures made { expression_of N.value result ≡ order_lem place }
+    ensures made { expression_of N.value result ≡ defined.order place }
 {
     if place == 0 {
         Expr::Var(0)
@@ -24,7 +25,7 @@ fn order<N: Exact>(place: u32) -> Expr<N>
 /// Appends the orders of the first places.
 fn add_orders<N: Exact>(terms: &mut List<Term<N>>, count: u32) -> Result<(), Memory>
     ensures made { OnOk result (map (signed_of N.value) terms.new
-        ≡ map (signed_of N.value) terms.old ++ tabulate count (λ place. added (order_lem place))) }
+        ≡ map (signed_of N.value) terms.old ++ tabulate count (λ place. added (defined.order place))) }
 {
     for place in 0..count {
         terms.push(Term {
@@ -52,7 +53,7 @@ fn add_demands<N: Exact>(terms: &mut List<Term<N>>, minus: bool, count: u32) -> 
 /// The orders of the first places together.
 pub fn all_orders<N: Exact>(alloc: Global, count: u32) -> Result<Expr<N>, Memory>
     requires some { 0 < count }
-    ensures made { IfOk result (λ e. expression_of N.value e ≡ total count order_lem) }
+    ensures made { IfOk result (λ e. expression_of N.value e ≡ total count defined.order) }
 {
     if count == 1 {
         return Ok(order(0));
@@ -77,7 +78,7 @@ pub fn all_demands<N: Exact>(alloc: Global, count: u32) -> Result<Expr<N>, Memor
 
 /// The stock behind the first periods.
 fn stock<N: Exact>(alloc: Global, count: u32) -> Result<Expr<N>, Memory>
-    ensures made { IfOk result (λ e. expression_of N.value e ≡ stock_lem count) }
+    ensures made { IfOk result (λ e. expression_of N.value e ≡ defined.stock count) }
 {
     let mut terms = List::new(alloc);
     add_orders(&mut terms, count)?;
@@ -88,7 +89,7 @@ fn stock<N: Exact>(alloc: Global, count: u32) -> Result<Expr<N>, Memory>
 /// Appends the stock behind each of the first periods.
 fn add_stocks<N: Exact>(alloc: Global, terms: &mut List<Term<N>>, count: u32) -> Result<(), Memory>
     ensures made { OnOk result (map (signed_of N.value) terms.new
-        ≡ map (signed_of N.value) terms.old ++ tabulate count (λ place. added (stock_lem (suc place)))) }
+        ≡ map (signed_of N.value) terms.old ++ tabulate count (λ place. added (defined.stock (suc place)))) }
 {
     for place in 0..count {
         let inner = stock(alloc, place + 1)?;
@@ -102,7 +103,7 @@ fn add_stocks<N: Exact>(alloc: Global, terms: &mut List<Term<N>>, count: u32) ->
 
 /// The cost over so many periods.
 pub fn cost<N: Exact>(alloc: Global, count: u32) -> Result<Expr<N>, Memory>
-    ensures made { IfOk result (λ e. expression_of N.value e ≡ cost_lem count) }
+    ensures made { IfOk result (λ e. expression_of N.value e ≡ defined.cost count) }
 {
     let mut terms = List::new(alloc);
     add_orders(&mut terms, count)?;

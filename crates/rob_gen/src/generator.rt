@@ -15,7 +15,8 @@ use rob_number::{Exact, Ledger, List, Memory};
 use std::alloc::Global;
 
 /// The model of a number: orders over `n % 4 + 2` periods for demands around 10, 11 or 12, with a row for each period
-/// and a budget of 1. Numbers that leave the same remainder by 12 have the same model. The one error is want of memory.
+/// and a budget of 1. Numbers that leave the same remainder by 12 have the same model. Each number in it is at most 14.
+/// The one error is want of memory.
 pub fn generate<N: Exact, L: Ledger>(
     alloc: Global,
     n: u32,
@@ -25,7 +26,7 @@ pub fn generate<N: Exact, L: Ledger>(
     ensures model { IfOk result (λ model. robust N.value model ≡ generated n) }
     ensures valid { IfOk result (λ model. IsValid N.value model) }
     ensures counted { NeverFell L.ops L.wides ledger.old ledger.new }
-    // No number is wide, since each is at most 14.
+    // No number is wide.
     ensures told { L.wides ledger.old ≡ L.wides ledger.new }
 {
     let count = n % 4 + 2;

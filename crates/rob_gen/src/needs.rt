@@ -3,7 +3,7 @@
 ghost use Rattle.std.specs.Prelude.{◌≡◌, ◌≤◌, ◌<◌, map, IfOk};
 ghost use Rattle.rob_meaning.specs.Places.{tabulate};
 ghost use Rattle.rob_model.specs.View.{row_of};
-ghost use Rattle.rob_gen.specs.Generated.{need as need_lem};
+ghost use Rattle.rob_gen.specs.Generated as defined;
 
 use crate::expressions::{all_demands, all_orders};
 use crate::numbers::numbered;
@@ -14,7 +14,7 @@ use std::alloc::Global;
 /// The row of a place.
 fn need<N: Exact>(alloc: Global, place: u32) -> Result<RowDef<N>, Memory>
     requires place { place < 5 }
-    ensures made { IfOk result (λ r. row_of N.value r ≡ need_lem place) }
+    ensures made { IfOk result (λ r. row_of N.value r ≡ defined.need place) }
 {
     let name = numbered(alloc, b"need", place + 1)?;
     let left = all_orders(alloc, place + 1)?;
@@ -31,7 +31,7 @@ fn need<N: Exact>(alloc: Global, place: u32) -> Result<RowDef<N>, Memory>
 /// The rows of the first places.
 pub fn needs<N: Exact>(alloc: Global, count: u32) -> Result<List<RowDef<N>>, Memory>
     requires count { count ≤ 5 }
-    ensures made { IfOk result (λ rs. map (row_of N.value) rs ≡ tabulate count need_lem) }
+    ensures made { IfOk result (λ rs. map (row_of N.value) rs ≡ tabulate count defined.need) }
 {
     let mut list = List::new(alloc);
     for place in 0..count {

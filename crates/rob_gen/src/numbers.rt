@@ -2,7 +2,7 @@
 
 ghost use Rattle.std.specs.Prelude.{◌≡◌, ◌≤◌, ◌<◌, ◌^◌, ◌+◌, ◌++◌, IfOk};
 ghost use Rattle.rob_meaning.specs.Places.{tabulate};
-ghost use Rattle.rob_gen.specs.Generated.{whole as whole_lem, centre as centre_lem, numbered as numbered_lem, places as places_lem};
+ghost use Rattle.rob_gen.specs.Generated as defined;
 
 use itoa::Buffer;
 use rob_number::{Exact, Ledger, List, Memory, Text};
@@ -11,7 +11,7 @@ use std::alloc::Global;
 /// A whole number, which fits.
 pub fn whole<N: Exact, L: Ledger>(number: u32, ledger: &mut L) -> N
     requires fits { number ≤ N.limit }
-    ensures value { N.value result ≡ whole_lem number }
+    ensures value { N.value result ≡ defined.whole number }
     ensures ops { L.ops ledger.old ≤ L.ops ledger.new }
     ensures wides { L.wides ledger.old ≡ L.wides ledger.new }
 {
@@ -23,7 +23,7 @@ pub fn whole<N: Exact, L: Ledger>(number: u32, ledger: &mut L) -> N
 
 /// The centre of a period's demand; periods count from 1.
 pub fn centre(n: u32, period: u32) -> u32
-    ensures centre { result ≡ centre_lem n period }
+    ensures centre { result ≡ defined.centre n period }
     ensures within { (10 ≤ result) × (result ≤ 12) }
 {
     10 + ((n as u64 + period as u64) % 3) as u32
@@ -31,7 +31,7 @@ pub fn centre(n: u32, period: u32) -> u32
 
 /// A word with a number in decimal digits behind it.
 pub fn numbered(alloc: Global, word: &[u8], number: u32) -> Result<Text, Memory>
-    ensures name { IfOk result (λ name. name ≡ numbered_lem word.now number) }
+    ensures name { IfOk result (λ name. name ≡ defined.numbered word.now number) }
 {
     let mut name = Text::new(alloc);
     let mut buffer = Buffer::new();
@@ -42,7 +42,7 @@ pub fn numbered(alloc: Global, word: &[u8], number: u32) -> Result<Text, Memory>
 
 /// The first places, from 0.
 pub fn places(alloc: Global, count: u32) -> Result<List<u32>, Memory>
-    ensures list { IfOk result (λ list. list ≡ places_lem count) }
+    ensures list { IfOk result (λ list. list ≡ defined.places count) }
 {
     let mut list = List::new(alloc);
     for place in 0..count {
