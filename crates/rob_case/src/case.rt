@@ -1,13 +1,20 @@
 // A case: what is given to the calls, and what they answered.
 
-use crate::text::unescape;
-use crate::trouble::Trouble;
-use std::alloc::Global;
+ghost use Rattle.std.specs.Prelude.{◌≡◌, []};
+ghost use Rattle.rob_case.specs.Answers.{Answers};
+ghost use Rattle.rob_case.specs.Cases.{answered, empty_case, ended, given};
 
-/// A case as it is read and run.
+use crate::bytes::{append_line, append_lines, append_times};
+use crate::numbers::wholes;
+use crate::text::{join, unescape};
+use crate::trouble::Trouble;
+use crate::word::Word;
+use std::alloc::Global;
+use std::marker::Model;
+
+/// A case as it is read and run. Contracts see what stands in it.
 #[derive(Drop)]
 pub struct Case {
-    alloc: Global,
     name: String,
     /// The answers so far.
     answer: String,
@@ -19,11 +26,27 @@ pub struct Case {
     plan: Vec<i64>,
 }
 
+impl Model for Case {
+    ghost use Rattle.std.specs.Prelude.{string_bytes};
+    ghost use Rattle.rob_case.specs.Cases.{CaseState};
+
+    ghost Value = { CaseState };
+
+    ghost view = { λ case. record {
+      name = string_bytes case.name;
+      answer = string_bytes case.answer;
+      bytes = case.bytes.items;
+      model = case.model.items;
+      plan = case.plan.items;
+    } };
+}
+
 impl Case {
     /// A case with nothing in it.
-    pub fn new(alloc: Global) -> Case {
+    pub fn new(alloc: Global) -> Case
+        ensures empty { result ≡ empty_case }
+    {
         Case {
-            alloc,
             name: String::new(alloc),
             answer: String::new(alloc),
             bytes: Vec::new(alloc),
@@ -32,63 +55,106 @@ impl Case {
         }
     }
 
-    pub fn name(&self) -> &str {
+    /// The name.
+    pub fn name(&self) -> &str
+        ensures name { result.now ≡ self.now.name }
+    {
         self.name.as_str()
     }
 
-    pub fn answer(&self) -> &str {
+    /// The answers so far, with `; ` between them.
+    pub fn answer(&self) -> &str
+        ensures answer { result.now ≡ self.now.answer }
+    {
         self.answer.as_str()
     }
 
-    pub fn bytes(&self) -> &[u8] {
+    /// The bytes that the next calls are given.
+    pub fn bytes(&self) -> &[u8]
+        ensures bytes { result.now ≡ self.now.bytes }
+    {
         self.bytes.as_slice()
     }
 
-    pub fn model(&self) -> &[u8] {
+    /// The text of the model that calls speak of.
+    pub fn model(&self) -> &[u8]
+        ensures model { result.now ≡ self.now.model }
+    {
         self.model.as_slice()
     }
 
-    pub fn plan(&self) -> &[i64] {
+    /// The columns of the plan that calls speak of.
+    pub fn plan(&self) -> &[i64]
+        ensures plan { result.now ≡ self.now.plan }
+    {
         self.plan.as_slice()
     }
 
     /// Ends the case; the model and the plan stay.
-    pub fn end(&mut self) {
+    pub fn end(&mut self)
+        ensures ended { self.new ≡ ended self.old }
+    {
         self.name.clear();
         self.answer.clear();
         self.bytes.clear();
     }
 
+    /// Takes what a line gives. After an error the case is open.
+    pub(crate) fn take(&mut self, alloc: Global, word: Word, rest: &str) -> Result<(), Trouble>
+        ensures given { Answers (given word rest.now self.old) (λ _. self.new) result }
+    {
+        match word {
+            Word::Nothing | Word::Remark => Ok(()),
+            Word::Case => self.begin(rest),
+            Word::Text => self.take_text(rest),
+            Word::Line => self.take_line(rest),
+            Word::Times => self.take_times(alloc, rest),
+            Word::Lines => self.take_lines(alloc, rest),
+            Word::Model => self.keep_model(),
+            Word::Plan => self.keep_plan(alloc, rest),
+        }
+    }
+
     /// Names the case.
-    pub fn begin(&mut self, name: &str) -> Result<(), Trouble> {
+    fn begin(&mut self, name: &str) -> Result<(), Trouble>
+        ensures named { Answers (given Word.Case name.now self.old) (λ _. self.new) result }
+    {
         self.name.push_str(name)?;
         Ok(())
     }
 
-    /// Appends a text in which `\` and two hexadecimal digits stand for any byte.
-    pub fn append(&mut self, text: &str) -> Result<(), Trouble> {
-        unescape(&mut self.bytes, text.as_bytes())
+    /// Takes the bytes that a text spells.
+    fn take_text(&mut self, rest: &str) -> Result<(), Trouble>
+        ensures given { Answers (given Word.Text rest.now self.old) (λ _. self.new) result }
+    {
+        unescape(&mut self.bytes, rest.as_bytes())
     }
 
-    /// Appends a text so many times.
-    pub fn append_times(&mut self, count: u32, text: &str) -> Result<(), Trouble> {
-        for _ in 0..count {
-            self.append(text)?;
-        }
-        Ok(())
+    /// Takes the bytes that a text spells, and a line end.
+    fn take_line(&mut self, rest: &str) -> Result<(), Trouble>
+        ensures given { Answers (given Word.Line rest.now self.old) (λ _. self.new) result }
+    {
+        append_line(&mut self.bytes, rest)
     }
 
-    /// Appends so many lines, each of the two pieces with its number between them, from 0.
-    pub fn append_lines(&mut self, count: u32, before: &str, behind: &str) -> Result<(), Trouble> {
-        for i in 0..count {
-            let line = format!(in self.alloc; "{before}{i}{behind}\n")?;
-            self.bytes.extend_from_slice(line.as_bytes())?;
-        }
-        Ok(())
+    /// Takes the bytes that a text spells so many times.
+    fn take_times(&mut self, alloc: Global, rest: &str) -> Result<(), Trouble>
+        ensures given { Answers (given Word.Times rest.now self.old) (λ _. self.new) result }
+    {
+        append_times(alloc, &mut self.bytes, rest)
+    }
+
+    /// Takes so many numbered lines.
+    fn take_lines(&mut self, alloc: Global, rest: &str) -> Result<(), Trouble>
+        ensures given { Answers (given Word.Lines rest.now self.old) (λ _. self.new) result }
+    {
+        append_lines(alloc, &mut self.bytes, rest)
     }
 
     /// Takes the bytes so far as the model's text.
-    pub fn keep_model(&mut self) -> Result<(), Trouble> {
+    fn keep_model(&mut self) -> Result<(), Trouble>
+        ensures kept { Answers (given Word.Model [] self.old) (λ _. self.new) result }
+    {
         self.model.clear();
         self.model.extend_from_slice(self.bytes.as_slice())?;
         self.bytes.clear();
@@ -96,16 +162,17 @@ impl Case {
     }
 
     /// Takes the columns of a plan.
-    pub fn keep_plan(&mut self, plan: Vec<i64>) {
-        self.plan = plan;
+    fn keep_plan(&mut self, alloc: Global, columns: &str) -> Result<(), Trouble>
+        ensures kept { Answers (given Word.Plan columns.now self.old) (λ _. self.new) result }
+    {
+        self.plan = wholes(alloc, columns)?;
+        Ok(())
     }
 
-    /// Adds an answer behind the ones so far.
-    pub fn add(&mut self, answer: &str) -> Result<(), Trouble> {
-        if !self.answer.is_empty() {
-            self.answer.push_str("; ")?;
-        }
-        self.answer.push_str(answer)?;
-        Ok(())
+    /// Adds an answer behind the ones so far. After an error the case is open.
+    pub fn add(&mut self, answer: &str) -> Result<(), Trouble>
+        ensures added { Answers (Some (answered self.old answer.now)) (λ _. self.new) result }
+    {
+        join(&mut self.answer, "; ", answer)
     }
 }

@@ -1,5 +1,8 @@
 // What is said of a case at its end.
 
+ghost use Rattle.std.specs.Prelude.{◌≡◌, ◌↔◌, IfOk, IsTrue, MatchResult, string_bytes};
+ghost use Rattle.rob_case.specs.Cases.{verdict_text};
+
 use crate::case::Case;
 use crate::trouble::Trouble;
 use std::alloc::Global;
@@ -12,7 +15,12 @@ pub struct Verdict {
 }
 
 /// The verdict on a case of which these answers are wanted.
-pub fn judge(alloc: Global, case: &Case, wanted: &str) -> Result<Verdict, Trouble> {
+pub fn judge(alloc: Global, case: &Case, wanted: &str) -> Result<Verdict, Trouble>
+    ensures same { IfOk result (λ verdict. IsTrue verdict.same ↔ (case.now.answer ≡ wanted.now)) }
+    ensures text { MatchResult result
+        (λ verdict. string_bytes verdict.text ≡ verdict_text verdict.same case.now.name case.now.answer wanted.now)
+        (λ trouble. trouble ≡ Trouble.Memory) }
+{
     let name = case.name();
     let answer = case.answer();
     if answer == wanted {

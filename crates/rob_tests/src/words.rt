@@ -80,6 +80,8 @@ fn name(verb: Verb) -> &'static str {
         Verb::Check => "check",
         Verb::Replay => "replay",
         Verb::Text => "text",
+        Verb::Whole => "whole",
+        Verb::Tree => "tree",
     }
 }
 
