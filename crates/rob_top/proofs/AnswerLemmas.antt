@@ -44,4 +44,4 @@ no_command call (Cert rule line) text none (inr h) = absurd (none (lacking_line 
 no_command call (Scenarios rule number) text none h = absurd (none ((h.line, h.has.certificate.file.model.spelled)))
 no_command call Missing text none h = absurd (none ((h.1.line, h.1.spelled)))
 no_command call TooLong text none h = absurd (none ((h.1.line, h.1.spelled)))
-no_command call ReadFault text none h = absurd (none (h.0))
+no_command call ReadFault text none h = absurd (none ((h.0.line, h.0.spelled)))

@@ -53,6 +53,16 @@ comes_ends : (call : Call) (x ended : Ended) → Comes call ended
 comes_ends call x ended (inl h) decides = allowed_ends x ended (decides h.0 h.1)
 comes_ends call x ended (inr e) decides = inr (inr e)
 
+-- one answer, where no file is read
+comes_printed : (call : Call) (ended : Ended) → Comes call ended
+    → ((text : List ℕ) → Means call ended text → (ended ≡ Printed) ⊎ (ended ≡ Memory)) → (ended ≡ Printed) ⊎ IsUnput ended
+comes_printed call ended (inl h) decides = by (decides h.0 h.1)
+  where
+    by : (ended ≡ Printed) ⊎ (ended ≡ Memory) → (ended ≡ Printed) ⊎ IsUnput ended
+    by (inl e) = inl e
+    by (inr e) = inr (inr e)
+comes_printed call ended (inr e) decides = inr e
+
 -- ---- the verdict on a certificate that proves
 module _ (limit : ℕ) (m : RobustModel) (c : Certificate) where
   proved_outside : (ended : Ended) → IsOutside ended → IsProvedAnswer limit m c ended
@@ -149,7 +159,7 @@ module _ (call : Call) (known : Known call.source) (ended : Ended) (comes : Come
     replayed = λ line m c bytes rows has file.
         comes_ends call (replay_ended (outcome (limit_of line) m c.plan rows)) ended comes
         (replay_decides call known line m c bytes rows has file ended);
-    generated = λ line spelled is. comes_ends call Printed ended comes (generated_decides call known line spelled is ended);
+    generated = λ line spelled is. comes_printed call ended comes (generated_decides call known line spelled is ended);
   }
 
 -- ---- by each part of what is known of the files

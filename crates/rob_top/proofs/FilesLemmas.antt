@@ -29,6 +29,11 @@ use Rattle.rob_words.specs.contracts.verb.Own.{the_type}
 use Rattle.rob_words.specs.declared.verb.Own.{Own}
 use Rattle.rob_words.specs.declared.verb.Own.TheVariants as own
 
+-- an empty list has no first item
+pub empty_split : {A : Type 0} (xs : List A) (y : A) (ys : List A) → [] ≡ xs ++ y ∷ ys → ⊥
+empty_split [] y ys e = cc
+empty_split (x ∷ xs) y ys e = cc
+
 -- the count rose since an earlier time too
 rose_earlier : (before middle now : ℕ) → before ≤ middle → Rose middle now → Rose before now
 rose_earlier before middle now h rose = omega arith
@@ -79,7 +84,11 @@ means_absent call line before request behind faults TooLong text spelled order c
   h.1,
 )
 means_absent call line before request behind faults ReadFault text spelled order came raised h =
-    ((line, spelled), raised h.0, h.1)
+    (
+      record { line = line; spelled = spelled; some = λ none. empty_split before request behind (sym none ∙ order) },
+      raised h.0,
+      h.1,
+    )
 means_absent call line before request behind faults Optimal text spelled order came raised h = absurd h
 means_absent call line before request behind faults Infeasible text spelled order came raised h = absurd h
 means_absent call line before request behind faults Unbounded text spelled order came raised h = absurd h

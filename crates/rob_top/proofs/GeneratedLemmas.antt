@@ -6,10 +6,10 @@ use Rattle.rob_top.specs.Headline.{Means}
 use Rattle.rob_top.specs.Replies.{HasTexts}
 use Rattle.rob_top.specs.Work.{RepliesGenerated}
 use Rattle.rob_top.specs.declared.ended.Ended.{Ended}
-use Rattle.rob_top.specs.declared.ended.Ended.TheVariants.{Printed, ReadFault, Memory}
+use Rattle.rob_top.specs.declared.ended.Ended.TheVariants.{Printed, Memory}
 use Rattle.rob_top.specs.declared.files.Texts.{Texts}
 use Rattle.rob_top.specs.declared.reply.Reply.{Reply}
-use Rattle.rob_top.proofs.StageLemmas.{Stage, absent, broken, failed, generates, over, read, stage_of, text_here, text_none_absent, wanting, wordless}
+use Rattle.rob_top.proofs.StageLemmas.{Stage, absent, broken, failed, generates, over, read, stage_of, text_here, text_names_none, text_none_absent, wanting, wordless}
 use Rattle.rob_words.specs.Commands.{Line, IsSpelled}
 use Rattle.rob_words.specs.declared.verb.Verb.TheVariants.{Text}
 
@@ -31,10 +31,10 @@ generated_answers line texts wides (Ok reply) is h = λ call came wides_is.
 -- ---- no other may come
 module _ (call : Call) (known : Known call.source) (line : Line) (spelled : IsSpelled call.words line) (is_text : line.verb ≡ Text) where
   pub generated_decides : (ended : Ended) (text : List ℕ) → Means call ended text
-      → (ended ≡ Printed) ⊎ ((ended ≡ ReadFault) ⊎ (ended ≡ Memory))
+      → (ended ≡ Printed) ⊎ (ended ≡ Memory)
   generated_decides ended text means = by (stage_of call ended text means)
     where
-      by : Stage call ended → (ended ≡ Printed) ⊎ ((ended ≡ ReadFault) ⊎ (ended ≡ Memory))
+      by : Stage call ended → (ended ≡ Printed) ⊎ (ended ≡ Memory)
       by (wordless none) = absurd (none (line, spelled))
       by (absent name h e) =
           absurd (text_none_absent call known h.line h.spelled line spelled is_text h.before h.request h.behind h.order)
@@ -43,5 +43,5 @@ module _ (call : Call) (known : Known call.source) (line : Line) (spelled : IsSp
       by (broken rule number t h e) = absurd (text_here call known h.line h.spelled line spelled is_text h.bytes h.file)
       by (read l m h course) = absurd (text_here call known l h.spelled line spelled is_text h.bytes h.file)
       by (generates l sp is e) = inl e
-      by (failed e) = inr (inl e)
-      by (wanting e) = inr (inr e)
+      by (failed names e) = absurd (text_names_none call known line spelled line spelled is_text names)
+      by (wanting e) = inr e

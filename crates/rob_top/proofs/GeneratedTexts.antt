@@ -4,7 +4,7 @@ use Rattle.std.specs.Fmt.{digits}
 use Rattle.std.specs.Prelude.{int_lt, nat_abs, pos}
 use Rattle.rob_algebra.specs.Fraction.{Fraction, ratio}
 use Rattle.rob_algebra.specs.Width.{Fits}
-use Rattle.rob_gen.proofs.GeneratedLemmas.{generated_again, test_members, well_named, within_limits}
+use Rattle.rob_gen.proofs.GeneratedLemmas.{by_twelve, test_members, well_named, within_limits}
 use Rattle.rob_gen.specs.Generated.{generated, model_over, centre}
 use Rattle.rob_lex.specs.Bytes.{begins_word, goes_on_word}
 use Rattle.rob_lex.specs.Offences.{most_tokens}
@@ -205,9 +205,6 @@ four_placed centres (suc (suc (suc zero))) h = record {
   of_rows = (omega arith, (omega arith, (omega arith, (omega arith, (omega arith, tt)))));
 }
 four_placed centres (suc (suc (suc (suc r)))) h = absurd (omega (arith, h))
-
-by_twelve : (P : RobustModel → Type 0) → ((r : ℕ) → r < 12 → P (generated r)) → (n : ℕ) → P (generated n)
-by_twelve P h n = subst P (sym (generated_again n)) (h (n % 12) (let l : n % 12 < 12 = omega arith in l))
 
 below_four : (n : ℕ) → n % 4 < 4
 below_four n = omega arith

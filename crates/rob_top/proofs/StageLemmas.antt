@@ -15,8 +15,9 @@ use Rattle.rob_parse.proofs.Building.OneModel.{not_both, one_model}
 use Rattle.rob_rules.proofs.OneReading.{one_rule}
 use Rattle.rob_model.specs.declared.place.Spot.{Spot}
 use Rattle.rob_top.proofs.CourseLemmas.{Course, accepted_course, cert_course, empty_course, inside_admitted, rejected_course, lacking_course, replayed_course, rows_course, scenarios_course, solved_course, wide_course}
+use Rattle.rob_top.proofs.FilesLemmas.{empty_split}
 use Rattle.rob_top.proofs.OwnLemmas.{text_no_file, text_no_files}
-use Rattle.rob_top.specs.Calls.{Call, Came, HasFile, IsFirstAbsent, IsFound, Known, Request, answer_to, by_fetches, by_files, limit_of, requests}
+use Rattle.rob_top.specs.Calls.{Call, Came, HasFile, IsFirstAbsent, IsFound, Known, NamesFile, Request, answer_to, by_fetches, by_files, limit_of, requests}
 use Rattle.rob_top.specs.Headline.{Means}
 use Rattle.rob_top.specs.Inputs.{HasModel}
 use Rattle.rob_top.specs.Refused.{IsNoModel, IsWideSpot, checking, elaborating, replaying, solving}
@@ -40,7 +41,7 @@ pub data Stage (call : Call) (ended : Ended) : Type 0 where
   broken : (rule number : ℕ) (text : List ℕ) → IsNoModel call rule number text → ended ≡ Model rule number → Stage call ended
   read : (line : Line) (m : RobustModel) → HasModel call line m → Course call line m ended → Stage call ended
   generates : (line : Line) → IsSpelled call.words line → line.verb ≡ Text → ended ≡ Printed → Stage call ended
-  failed : ended ≡ ReadFault → Stage call ended
+  failed : NamesFile call.words → ended ≡ ReadFault → Stage call ended
   wanting : ended ≡ Memory → Stage call ended
 
 wide_model : (call : Call) (line : Line) (m : RobustModel) (spot : Spot) → IsWideSpot call line m spot → HasModel call line m
@@ -72,7 +73,7 @@ stage_of call (Cert rule number) text (inl h) = read h.line h.m h.file.forms.mod
 stage_of call (Cert rule number) text (inr h) =
     read h.line h.m (lacking_model call h.line h.m rule number h.lacks) (lacking_course call rule number text h)
 stage_of call (Scenarios rule number) text h = read h.line h.m h.has.certificate.file.model (scenarios_course call rule number text h)
-stage_of call ReadFault text h = failed refl
+stage_of call ReadFault text h = failed h.0 refl
 stage_of call WriteFault text h = absurd h
 stage_of call Memory text h = absurd h
 
@@ -95,11 +96,6 @@ file_once call line kind a b known h k =
     let found : IsFound call k.request (whole a) = subst (λ (r : Request). IsFound call r (whole a)) same h.found in
     let wholes : whole a ≡ whole b = found_once call k.request (whole a) (whole b) known found k.found in
     cc
-
--- an empty list has no first item
-empty_split : {A : Type 0} (xs : List A) (y : A) (ys : List A) → [] ≡ xs ++ y ∷ ys → ⊥
-empty_split [] y ys e = cc
-empty_split (x ∷ xs) y ys e = cc
 
 came_at : (call : Call) (before behind : List Request) (request : Request) → Each (Came call) (before ++ request ∷ behind) → Came call request
 came_at call [] behind request h = h.0
@@ -124,11 +120,18 @@ module _ (call : Call) (known : Known call.source) (line : Line) (spelled : IsSp
   text_here l sp is bytes f =
       text_no_file call line bytes (ap (λ (x : Line). x.verb) (one_line call.words line l spelled sp) ∙ is) f
 
+  text_asks_none : (l : Line) → IsSpelled call.words l → l.verb ≡ Text → requests line ≡ []
+  text_asks_none l sp is = text_no_files line (ap (λ (x : Line). x.verb) (one_line call.words line l spelled sp) ∙ is)
+
   pub text_none_absent : (l : Line) → IsSpelled call.words l → l.verb ≡ Text → (before : List Request) (request : Request) (behind : List Request)
       → requests line ≡ before ++ request ∷ behind → ⊥
   text_none_absent l sp is before request behind order =
-      empty_split before request behind
-      (sym (text_no_files line (ap (λ (x : Line). x.verb) (one_line call.words line l spelled sp) ∙ is)) ∙ order)
+      empty_split before request behind (sym (text_asks_none l sp is) ∙ order)
+
+  -- so no file is named in a call with them
+  pub text_names_none : (l : Line) → IsSpelled call.words l → l.verb ≡ Text → NamesFile call.words → ⊥
+  text_names_none l sp is names =
+      names.some (ap requests (one_line call.words names.line line names.spelled spelled) ∙ text_asks_none l sp is)
 
   -- where all come, none is the first that doesn't
   pub none_absent : (found : Found) (name : Word) → Each (Came call) (requests line) → ((bytes : List ℕ) → found ≡ whole bytes → ⊥) → IsFirstAbsent call found name → ⊥
@@ -164,7 +167,7 @@ module _ (call : Call) (known : Known call.source) (line : Line) (spelled : IsSp
           (not_both (limit_of line) r.bytes m rule number r.reads
           (subst (λ (list : List ℕ). Breaks (limit_of line) list rule number) (sym (same_bytes r.bytes r.file)) breaks))
       by (generates l sp is e) = absurd (text_here l sp is bytes f)
-      by (failed e) = inr (inl e)
+      by (failed names e) = inr (inl e)
       by (wanting e) = inr (inr e)
 
 -- ---- a model has one status

@@ -145,7 +145,7 @@ module _ (call : Call) (known : Known call.source) where
       by (broken rule number t k e) = absurd (none_absent call known k.line k.spelled missing name k.came no_missing h)
       by (read l m k course) = absurd (none_absent call known l k.spelled missing name k.came no_missing h)
       by (generates l sp is e) = absurd (text_none_absent call known h.line h.spelled l sp is h.before h.request h.behind h.order)
-      by (failed e) = inr (inl e)
+      by (failed names e) = inr (inl e)
       by (wanting e) = inr (inr e)
 
   pub too_long_decides : (name : Word) → IsFirstAbsent call too_long name → (ended : Ended) (text : List ℕ) → Means call ended text
@@ -159,7 +159,7 @@ module _ (call : Call) (known : Known call.source) where
       by (broken rule number t k e) = absurd (none_absent call known k.line k.spelled too_long name k.came no_too_long h)
       by (read l m k course) = absurd (none_absent call known l k.spelled too_long name k.came no_too_long h)
       by (generates l sp is e) = absurd (text_none_absent call known h.line h.spelled l sp is h.before h.request h.behind h.order)
-      by (failed e) = inr (inl e)
+      by (failed names e) = inr (inl e)
       by (wanting e) = inr (inr e)
 
   module _ (line : Line) (m : RobustModel) where
@@ -182,7 +182,7 @@ module _ (call : Call) (known : Known call.source) where
         by (read l k h course) =
             inl (course_at call l line k m ended (one_line call.words l line h.spelled has.spelled) (one_model_read call l line k m known h has) course)
         by (generates l sp is e) = absurd (text_here call known line has.spelled l sp is has.bytes has.file)
-        by (failed e) = inr (inl e)
+        by (failed names e) = inr (inl e)
         by (wanting e) = inr (inr e)
 
     -- ---- a number of the set rows and forms is wide

@@ -1,8 +1,8 @@
 -- Calls of `text`: each number is answered.
-use Rattle.std.proofs.Common.{[], ◌∷◌, refl, inr, arith}
+use Rattle.std.proofs.Common.{◌≡◌, ◌⊎◌, [], ◌∷◌, refl, inr, arith}
 use Rattle.std.proofs.lemmas.Str.Parse.{digit_from_value}
 use Rattle.std.specs.Prelude.{codes}
-use Rattle.rob_top.specs.Completeness.{EndsAs, MustEnd}
+use Rattle.rob_top.specs.Completeness.{IsUnput, MustEnd}
 use Rattle.rob_top.specs.WorkedCalls.{text_call}
 use Rattle.rob_top.specs.declared.ended.Ended.{Ended}
 use Rattle.rob_top.specs.declared.ended.Ended.TheVariants.{Printed}
@@ -36,5 +36,6 @@ line_spelled word h = (
   },
 )
 
-pub number_is_answered : (word : Word) → IsNumber word → (result : Ended) → MustEnd (text_call word) result → EndsAs Printed result
+pub number_is_answered : (word : Word) → IsNumber word → (result : Ended) → MustEnd (text_call word) result
+    → (result ≡ Printed) ⊎ IsUnput result
 number_is_answered word h result must = must.generated (line word) (line_spelled word h) refl

@@ -1,5 +1,5 @@
 -- What a call of the program was given, what it did to the output, and what is found of the files that its words name.
-use Rattle.std.specs.Prelude.{◌≡◌, ◌⊎◌, ℕ, zero, suc, ◌-◌, ◌^◌, ◌==◌, ◌&&◌, Bool, true, false, List, [], ◌∷◌, ◌++◌, length, map, drop, Option, Some, None, IfSome, option_map, if◌then◌else◌}
+use Rattle.std.specs.Prelude.{◌≡◌, ◌≢◌, ◌⊎◌, ℕ, zero, suc, ◌-◌, ◌^◌, ◌==◌, ◌&&◌, Bool, true, false, List, [], ◌∷◌, ◌++◌, length, map, drop, Option, Some, None, IfSome, option_map, if◌then◌else◌}
 use Rattle.std.specs.Str.{bytes_eq}
 use denote.Enum.Bare.{sameb}
 use Rattle.rob_meaning.specs.Places.{Each}
@@ -140,6 +140,12 @@ files_of _ _ = []
 -- the files that a command line names, in the order of its words
 abbrev pub requests : Line → List Request
 requests line = files_of (own_of line.verb) line.own
+
+-- the words are a command line that names some file
+pub record NamesFile (words : List Word) : Type 0 where
+  pub line : Line
+  pub spelled : IsSpelled words line
+  pub some : requests line ≢ []
 
 -- the file that is asked for among words, with one word more in front of them, which is of its kind or isn't
 abbrev pub first_or : Option ℕ → Bool → Word → Option Request → Option Request

@@ -128,8 +128,8 @@ module _ (call : Call) (result : Ended) where
     pub replayed : (line : Line) (m : RobustModel) (c : Certificate) (bytes : List ℕ) (rows : List (List (List ℕ)))
         → HasScenarios call line m c bytes → IsFile bytes rows
         → EndsAs (replay_ended (outcome (limit_of line) m c.plan rows)) result
-    -- `text`: the model of the number is printed
-    pub generated : (line : Line) → IsSpelled call.words line → line.verb ≡ Text → EndsAs Printed result
+    -- `text`: the model of the number is printed; no file is asked for, so no read fault comes in the place of that answer
+    pub generated : (line : Line) → IsSpelled call.words line → line.verb ≡ Text → (result ≡ Printed) ⊎ IsUnput result
 
 -- the call ends so by each part of what is known of its files: the files that the shelf tells, where it tells them, or the
 -- answers of the fetches in the call, which every shelf gives

@@ -17,7 +17,7 @@ use Rattle.rob_outside.specs.Files.{missing, too_long}
 use Rattle.rob_outside.specs.Puts.{PutAll, PutUntil, put_as}
 use Rattle.rob_outside.specs.Taken.{Took, TookPrefix}
 use Rattle.rob_top.specs.Answers.{missing_text, too_long_text, words_text, read_text, memory_text}
-use Rattle.rob_top.specs.Calls.{Call, Output, WasRaised, IsFirstAbsent}
+use Rattle.rob_top.specs.Calls.{Call, Output, WasRaised, IsFirstAbsent, NamesFile}
 use Rattle.rob_top.specs.Checked.{IsAccepted, IsRejected}
 use Rattle.rob_top.specs.Generated.{IsGenerated}
 use Rattle.rob_top.specs.Lines.{text_lines}
@@ -53,7 +53,7 @@ module _ (call : Call) where
   Means (TooWide spot) text = IsTooWide call spot text
   Means (Cert rule line) text = IsNoCertificate call rule line text ⊎ IsNoPlan call rule line text
   Means (Scenarios rule number) text = IsNoScenarios call rule number text
-  Means ReadFault text = IsCommandLine call.words × WasRaised call.read_faults × (text ≡ read_text)
+  Means ReadFault text = NamesFile call.words × WasRaised call.read_faults × (text ≡ read_text)
   -- of a refused put and of want of memory `Ends` says what was put
   Means WriteFault text = ⊥
   Means Memory text = ⊥

@@ -15,7 +15,7 @@ ghost use Rattle.rob_parse.specs.Modelled.{ReadsModel};
 ghost use Rattle.rob_replay.specs.Replayed.{ShowsBound};
 ghost use Rattle.rob_top.specs.Calls.{Call, Known, known_call, limit_of};
 ghost use Rattle.rob_top.specs.Checked.{IsAccepted};
-ghost use Rattle.rob_top.specs.Completeness.{EndsAs, IsComplete, IsEmptyAnswer, IsProvedAnswer, MustEnd};
+ghost use Rattle.rob_top.specs.Completeness.{EndsAs, IsComplete, IsEmptyAnswer, IsProvedAnswer, IsUnput, MustEnd};
 ghost use Rattle.rob_top.specs.Headline.{Means};
 ghost use Rattle.rob_top.specs.Inputs.{HasCertificateFile};
 ghost use Rattle.rob_top.specs.Replayed.{IsReplayed};
@@ -72,7 +72,8 @@ pub fn status_laws()
 {}
 
 /// Calls worked by hand: `specs/WorkedCalls.antt`. So what is asked of a call where a status, an empty set or a verdict has to be
-/// answered is met by some call. A fault of the outside and want of memory may come in the place of each answer.
+/// answered is met by some call. A fault of the outside and want of memory may come in the place of each answer; at `text`, which
+/// names no file, a fault of a put alone.
 pub fn worked_calls()
     // `solve` on the smallest model is answered with `optimal`,
     ensures optimal { (result : Ended) → MustEnd (solve_call one_demand) result → EndsAs Optimal result }
@@ -97,5 +98,5 @@ pub fn worked_calls()
         → EndsAs (Scenarios 41 1) result }
     // `text` prints a model, whichever number its word spells.
     ensures generated { (word : Word) → IsNumber word → (result : Ended) → MustEnd (text_call word) result
-        → EndsAs Printed result }
+        → (result ≡ Printed) ⊎ IsUnput result }
 {}
