@@ -11,6 +11,7 @@ use Rattle.rob_cert.specs.Shape.{AreCoversOf, HasShape, IsCoverOf}
 use Rattle.rob_cert.specs.Spelling.{naming_of}
 use Rattle.rob_cert.specs.Whole.{IsTextOf}
 use Rattle.rob_cert.specs.declared.error.CertErr.TheVariants.{Rule}
+use Rattle.rob_check.proofs.SumLaws.{numbers_each}
 use Rattle.rob_check.specs.Conditions.{Covering, base_tests, conditions_as, cover_tests, covering_tests, inside_tests, items_sum_tests, items_tests, item_tests, move_test, plan_covering, set_tests, step_covering, sum_test, verdict_of, column_test, constant_test, column_tests, cover_place, covers_of, form_tests, sign_place, sign_test}
 use Rattle.rob_check.specs.LiftedSet.{lifted}
 use Rattle.rob_check.specs.Sums.{numbers_from}
@@ -19,6 +20,7 @@ use Rattle.rob_check.specs.declared.covering.Covered.{Covered}
 use Rattle.rob_check.specs.declared.covering.Covered.TheVariants.{Plan, Step}
 use Rattle.rob_check.specs.declared.verdict.Verdict.{Verdict}
 use Rattle.rob_check.specs.declared.verdict.Verdict.TheVariants as verdicts
+use Rattle.rob_meaning.proofs.EachLemmas.{each_map}
 use Rattle.rob_meaning.specs.Certificates as meaning
 use Rattle.rob_meaning.specs.Certificates.{Certificate, Item, Status, optimal, infeasible, unbounded}
 use Rattle.rob_meaning.specs.Clearing.{fractions}
@@ -55,10 +57,6 @@ use Rattle.rob_words.specs.declared.verb.Verb.TheVariants.{Check}
 
 -- ---- the places of conditions are the model's
 
-each_weaker : {A : Type 0} (P Q : A → Type 0) → ((x : A) → P x → Q x) → (xs : List A) → Each P xs → Each Q xs
-each_weaker P Q f [] h = tt
-each_weaker P Q f (x ∷ xs) h = (f x h.0, each_weaker P Q f xs h.1)
-
 each_mapped : {A B : Type 0} (P : B → Type 0) (f : A → B) (xs : List A) → Each (λ x. P (f x)) xs → Each P (map f xs)
 each_mapped P f [] h = tt
 each_mapped P f (x ∷ xs) h = (h.0, each_mapped P f xs h.1)
@@ -70,10 +68,6 @@ filtered_more P false x xs h k = k
 each_filtered : {A : Type 0} (P : A → Type 0) (p : A → Bool) (xs : List A) → Each P xs → Each P (filter p xs)
 each_filtered P p [] h = tt
 each_filtered P p (x ∷ xs) h = filtered_more P (p x) x (filter p xs) h.0 (each_filtered P p xs h.1)
-
-each_number : (P : ℕ → Type 0) (k n : ℕ) → ((i : ℕ) → k ≤ i → i < k + n → P i) → Each P (numbers_from k n)
-each_number P k zero h = tt
-each_number P k (suc n) h = (h k (omega arith) (omega arith), each_number P (suc k) n (λ i low high. h i (omega arith) (omega arith)))
 
 module _ (limit : ℕ) (m : RobustModel) where
   abbrev IsNamed : Condition → Type 0
@@ -99,7 +93,7 @@ module _ (limit : ℕ) (m : RobustModel) where
       let n = column_count m in
       let one = sum_test limit (matrices m) m.sense n value c.items in
       each_both IsNamed (map one (numbers_from 1 (suc n))) (one zero ∷ [])
-      (each_mapped IsNamed one (numbers_from 1 (suc n)) (each_number (λ j. IsPlaceOf m (At.Sum j)) 1 (suc n) (λ j low high. omega arith)))
+      (each_mapped IsNamed one (numbers_from 1 (suc n)) (numbers_each (λ j. IsPlaceOf m (At.Sum j)) 1 (suc n) (λ j low high. omega arith)))
       (omega arith, tt)
 
   -- the places of a covering's conditions
@@ -122,10 +116,10 @@ module _ (limit : ℕ) (m : RobustModel) where
       let one = column_test limit set g i form mine in
       each_both IsNamed (map (sign_test g i) mine) (column_tests limit set g i form mine)
       (each_mapped IsNamed (sign_test g i) mine
-      (each_weaker (IsCoverOf m) (λ c. IsNamed (sign_test g i c)) (sign_named g i h) mine (each_filtered (IsCoverOf m) _ g.covers are.each)))
+      (each_map (IsCoverOf m) (λ c. IsNamed (sign_test g i c)) (sign_named g i h) mine (each_filtered (IsCoverOf m) _ g.covers are.each)))
       (each_both IsNamed (map one (numbers_from zero (set_column_count m))) (constant_test limit set g i form mine ∷ [])
       (each_mapped IsNamed one (numbers_from zero (set_column_count m))
-      (each_number (λ k. IsNamed (one k)) zero (set_column_count m) (λ k low high. sum_named g.covered i (suc k) h (omega arith))))
+      (numbers_each (λ k. IsNamed (one k)) zero (set_column_count m) (λ k low high. sum_named g.covered i (suc k) h (omega arith))))
       (sum_named g.covered i zero h (omega arith), tt))
 
   covers_named : (g : Covering) → AreCoversOf m g.covers → (i : ℕ) (all : List (List (List ℤ))) → i + length all ≤ length (forms m)

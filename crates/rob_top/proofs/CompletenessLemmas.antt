@@ -2,6 +2,7 @@
 use Rattle.std.proofs.Common.{◌≡◌, ℕ, ◌-◌, ◌^◌, List, refl, sym, ◌∙◌, ap, subst, inl, inr, ◌⊎◌}
 use Rattle.rob_cert.specs.Apart.{FitsLines}
 use Rattle.rob_cert.specs.Shape.{HasShape}
+use Rattle.rob_cert.specs.Whole.{IsTextOf}
 use Rattle.rob_check.proofs.NarrowLemmas.{narrow_decided}
 use Rattle.rob_check.proofs.ProofLaws.{proves_judged}
 use Rattle.rob_check.specs.Conditions.{verdict_of}
@@ -199,7 +200,18 @@ ends_come call output ReadFault h = inl (h.text, h.means)
 pub ends_complete : (call : Call) (output : Output) (ended : Ended) → Ends call output ended → IsComplete call ended
 ends_complete call output ended ends = comes_complete call ended (ends_come call output ended ends)
 
--- ---- the text that `prove` printed, as the file of a certificate
+-- ---- the text that `prove` printed is that of its certificate, at each line of the same width
+module _ (proving : Call) (status : Status) (text : List ℕ) (solved : IsSolved proving status text) where
+  pub printed_text : solved.line.verb ≡ Prove → IsTextOf solved.m solved.c text
+  printed_text is_prove = record {
+    shape = solved.shape;
+    spelled = subst (λ (v : Verb). IsPrinted proving v solved.m solved.c text) is_prove solved.printed;
+  }
+
+  pub printed_fits : (line : Line) → line.width ≡ solved.line.width → FitsLines (limit_of line) solved.m solved.c
+  printed_fits line width = subst (λ (w : Width). FitsLines (2 ^ bits_of w - 1) solved.m solved.c) (sym width) solved.fits
+
+-- ---- as the file of a certificate
 module _ (proving checking : Call) (known : Known checking.source) (status : Status) (text : List ℕ) (solved : IsSolved proving status text)
     (line : Line) (ended : Ended) where
   printed_certificate : solved.line.verb ≡ Prove → line.width ≡ solved.line.width
@@ -207,11 +219,8 @@ module _ (proving checking : Call) (known : Known checking.source) (status : Sta
   printed_certificate is_prove width file = record {
     bytes = text;
     file = file;
-    text = record {
-      shape = solved.shape;
-      spelled = subst (λ (v : Verb). IsPrinted proving v solved.m solved.c text) is_prove solved.printed;
-    };
-    fits = subst (λ (w : Width). FitsLines (2 ^ bits_of w - 1) solved.m solved.c) (sym width) solved.fits;
+    text = printed_text proving status text solved is_prove;
+    fits = printed_fits proving status text solved line width;
   }
 
   pub proved_then_checked : solved.line.verb ≡ Prove → line.width ≡ solved.line.width

@@ -3,10 +3,10 @@ use Rattle.std.proofs.Common.{◌≡◌, ◌≤◌, ◌==◌, ◌⊎◌, inl, in
 use Rattle.std.specs.Str.{bytes_eq}
 use Rattle.std.proofs.lemmas.Bool.Decides.{nat_tests}
 use Rattle.std.proofs.Math.Seq.{drop-append_seam, take-length}
+use Rattle.std.proofs.lemmas.List.{map-append}
 use Rattle.std.proofs.lemmas.Slice.Eq.{bytes_eq-Decides}
 use denote.Enum.Bare.{same_true, sameb}
 use Rattle.rob_meaning.specs.Places.{Each}
-use Rattle.rob_number.specs.Counts.{Rose}
 use Rattle.rob_outside.specs.Fetches.{Fetch, fetch_of, logged}
 use Rattle.rob_outside.specs.Files.{File, Finds, Found, whole, missing, too_long, found_at, found_of}
 use Rattle.rob_outside.specs.declared.shelf.Fetched.{Fetched}
@@ -23,6 +23,7 @@ use Rattle.rob_top.specs.declared.files.Got.TheVariants.{Bytes, Answer}
 use Rattle.rob_top.specs.declared.files.Texts.{Texts}
 use Rattle.rob_top.specs.declared.reply.Reply.{Reply}
 use Rattle.rob_top.proofs.OwnLemmas.{later_request, text_of-other, text_of-same}
+use Rattle.rob_top.proofs.WorkLemmas.{rose_earlier}
 use Rattle.rob_words.specs.Commands.{Line, IsSpelled}
 use Rattle.rob_words.specs.Values.{Word}
 use Rattle.rob_words.specs.contracts.verb.Own.{the_type}
@@ -33,10 +34,6 @@ use Rattle.rob_words.specs.declared.verb.Own.TheVariants as own
 pub empty_split : {A : Type 0} (xs : List A) (y : A) (ys : List A) → [] ≡ xs ++ y ∷ ys → ⊥
 empty_split [] y ys e = cc
 empty_split (x ∷ xs) y ys e = cc
-
--- the count rose since an earlier time too
-rose_earlier : (before middle now : ℕ) → before ≤ middle → Rose middle now → Rose before now
-rose_earlier before middle now h rose = omega arith
 
 -- what came of a file, where it is a reply, and where it is bytes
 pub got_answer : (source : Source) (request : Request) (faults : Count) (got : Got) (reply : Reply)
@@ -83,12 +80,11 @@ means_absent call line before request behind faults TooLong text spelled order c
   },
   h.1,
 )
-means_absent call line before request behind faults ReadFault text spelled order came raised h =
-    (
-      record { line = line; spelled = spelled; some = λ none. empty_split before request behind (sym none ∙ order) },
-      raised h.0,
-      h.1,
-    )
+means_absent call line before request behind faults ReadFault text spelled order came raised h = (
+  record { line = line; spelled = spelled; some = λ none. empty_split before request behind (sym none ∙ order) },
+  raised h.0,
+  h.1,
+)
 means_absent call line before request behind faults Optimal text spelled order came raised h = absurd h
 means_absent call line before request behind faults Infeasible text spelled order came raised h = absurd h
 means_absent call line before request behind faults Unbounded text spelled order came raised h = absurd h
@@ -194,10 +190,6 @@ module _ (told : Option (List File)) (request : Request) (files : List Request) 
   absence_behind other earlier faults (Scenarios rule number) text raised h = absurd h
   absence_behind other earlier faults WriteFault text raised h = absurd h
   absence_behind other earlier faults Memory text raised h = absurd h
-
-map-append : {A B : Type 0} (f : A → B) (xs ys : List A) → map f (xs ++ ys) ≡ map f xs ++ map f ys
-map-append f [] ys = refl
-map-append f (x ∷ xs) ys = ap (λ list. f x ∷ list) (map-append f xs ys)
 
 -- ---- the files of own words
 

@@ -91,7 +91,7 @@ module _ (call : Call) (known : Known call.source) where
     replay_certificate_known : (c : Certificate) → HasReplayCertificate call line m c → HasReplayCertificate part line m c
     replay_certificate_known c h = record { bytes = h.bytes; file = replay_file_known h.bytes h.file; text = h.text; fits = h.fits }
 
-    scenarios_known : (c : Certificate) (bytes : List ℕ) → HasScenarios call line m c bytes → HasScenarios part line m c bytes
+    pub scenarios_known : (c : Certificate) (bytes : List ℕ) → HasScenarios call line m c bytes → HasScenarios part line m c bytes
     scenarios_known c bytes h = record {
       certificate = replay_certificate_known c h.certificate;
       has_plan = h.has_plan;

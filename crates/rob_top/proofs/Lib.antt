@@ -14,6 +14,8 @@ pub mod SolvingLemmas
 pub mod StageLemmas
 pub mod TrueAnswerLemmas
 pub mod ReplayAnswerLemmas
+pub mod ProvedReplays
+pub mod OneTable
 pub mod GeneratedLemmas
 pub mod ReplayingLemmas
 pub mod WorkLemmas

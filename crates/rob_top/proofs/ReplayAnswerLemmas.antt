@@ -21,11 +21,10 @@ use Rattle.rob_replay.specs.Outcome.{outcome}
 use Rattle.rob_replay.specs.Replayed.{ShowsBound}
 use Rattle.rob_top.proofs.CourseLemmas.{Course, finds, judges, lacks_plan, prints, refuses, replays, shows_empty, wide_number, wide_row}
 use Rattle.rob_top.proofs.SolvingLemmas.{proved_bound}
-use Rattle.rob_top.proofs.StageLemmas.{file_once}
+use Rattle.rob_top.proofs.StageLemmas.{file_once, lacking_model}
 use Rattle.rob_top.proofs.TrueAnswerLemmas.{check_not_replay, course_of, first_of_two, in_words, lacking_verb, most, named, replays_alone, rows_not_replay, solves_no_replay, well}
 use Rattle.rob_top.proofs.WorkLemmas.{limit_is}
 use Rattle.rob_top.specs.Calls.{Call, Known, limit_of}
-use Rattle.rob_top.specs.Checked.{IsAccepted}
 use Rattle.rob_top.specs.Headline.{Means}
 use Rattle.rob_top.specs.Inputs.{HasModel, HasReplayCertificate, HasReplayFile, HasScenarios}
 use Rattle.rob_top.specs.Replayed.{IsReplayed, LacksPlan, planless, replay_ended, unread}
@@ -44,7 +43,7 @@ module _ (call : Call) (known : Known call.source) (line : Line) (m : RobustMode
   Breach bytes rule number = HasCause (naming_of m) (limit_of line) start bytes 1 (Rule rule number)
 
   -- a certificate's text breaks no rule
-  no_breach : (c : Certificate) (bytes : List ℕ) (rule number : ℕ) → HasReplayCertificate call line m c → HasReplayFile call line m bytes
+  pub no_breach : (c : Certificate) (bytes : List ℕ) (rule number : ℕ) → HasReplayCertificate call line m c → HasReplayFile call line m bytes
       → Breach bytes rule number → ⊥
   no_breach c bytes rule number h file breach =
       let same : bytes ≡ h.bytes = same_file bytes h.bytes file h.file in
@@ -53,7 +52,7 @@ module _ (call : Call) (known : Known call.source) (line : Line) (m : RobustMode
       (most call known line m) (subst (λ (b : List ℕ). IsTextOf m c b) (sym same) h.text) h.fits rule number breach
 
   -- and is that of one certificate
-  one_certificate : (c d : Certificate) → HasReplayCertificate call line m c → HasReplayCertificate call line m d → c ≡ d
+  pub one_certificate : (c d : Certificate) → HasReplayCertificate call line m c → HasReplayCertificate call line m d → c ≡ d
   one_certificate c d h k =
       let same : h.bytes ≡ k.bytes = same_file h.bytes k.bytes h.file k.file in
       let has : HasModel call line m = h.file.model in
@@ -116,14 +115,10 @@ module _ (call : Call) (known : Known call.source) (line : Line) (m : RobustMode
 
   pub planless_decides : (rule number : ℕ) → LacksPlan call line m rule number → (ended : Ended) (text : List ℕ) → Means call ended text
       → (ended ≡ Cert rule number) ⊎ ((ended ≡ ReadFault) ⊎ (ended ≡ Memory))
-  planless_decides rule number has ended text means = first_of_two by (course_of call known line m (model_of has) ended text means)
+  planless_decides rule number has ended text means = first_of_two by (course_of call known line m (lacking_model call line m rule number has) ended text means)
     where
       here : line.verb ≡ Replay
       here = lacking_verb call line m rule number has
-
-      model_of : LacksPlan call line m rule number → HasModel call line m
-      model_of (unread bytes h breach) = h.model
-      model_of (planless c h is r n) = h.file.model
 
       by : Course call line m ended → ended ≡ Cert rule number
       by (finds status v u inside forms solves holds e) = absurd (solves_no_replay line.verb here solves)
@@ -138,15 +133,15 @@ module _ (call : Call) (known : Known call.source) (line : Line) (m : RobustMode
           let one = one_lack rule number r n has h in
           e ∙ ap (λ k. Cert k n) one.0 ∙ ap (λ k. Cert rule k) one.1
 
--- ---- the plan of a certificate that was accepted has its bound, and each inside line of its table shows it
+-- ---- the plan of a certificate that proves has its bound, and each inside line of its table shows it
 model_read : (call : Call) (line : Line) (m : RobustModel) → HasModel call line m → IsModel m
 model_read call line m has =
     well_formed (limit_of line) has.bytes m has.reads (subst (λ (l : ℕ). 1 ≤ l) (limit_is line.width) (limit_low (bits_of line.width)))
 
-pub accepted_shows : (checking replaying : Call) (text shown : List ℕ) (a : IsAccepted checking text) (r : IsReplayed replaying shown)
-    → r.m ≡ a.m → r.c ≡ a.c → Each (ShowsBound r.m r.c.value) r.lines
-accepted_shows checking replaying text shown a r same alike =
-    let proves : Proves r.m r.c =
-    subst (λ (m : RobustModel). Proves m r.c) (sym same) (subst (λ (c : Certificate). Proves a.m c) (sym alike) a.proves)
+pub proved_shows : (call : Call) (shown : List ℕ) (r : IsReplayed call shown) (m : RobustModel) (c : Certificate) → r.m ≡ m → r.c ≡ c
+    → Proves m c → Each (ShowsBound r.m r.c.value) r.lines
+proved_shows call shown r m c same alike proves =
+    let proves_here : Proves r.m r.c =
+    subst (λ (x : RobustModel). Proves x r.c) (sym same) (subst (λ (d : Certificate). Proves m d) (sym alike) proves)
     in
-    r.bounded (proved_bound r.m (model_read replaying r.line r.m r.has.certificate.file.model) r.c proves r.has.has_plan)
+    r.bounded (proved_bound r.m (model_read call r.line r.m r.has.certificate.file.model) r.c proves_here r.has.has_plan)

@@ -50,7 +50,7 @@ wide_model call line m spot (solving has solves wide) = has.model
 wide_model call line m spot (checking c place has is verdict) = has.file.forms.model
 wide_model call line m spot (replaying c bytes number has is gives) = has.certificate.file.model
 
-lacking_model : (call : Call) (line : Line) (m : RobustModel) (rule number : ℕ) → LacksPlan call line m rule number → HasModel call line m
+pub lacking_model : (call : Call) (line : Line) (m : RobustModel) (rule number : ℕ) → LacksPlan call line m rule number → HasModel call line m
 lacking_model call line m rule number (unread bytes h breach) = h.model
 lacking_model call line m rule number (planless c h is r n) = h.file.model
 

@@ -49,7 +49,7 @@ use Rattle.rob_words.specs.Commands.{Line}
 use Rattle.rob_words.specs.Values.{Word, bits_of}
 use Rattle.rob_words.specs.declared.verb.Own.TheVariants as own
 use Rattle.rob_words.specs.declared.verb.Verb.{Verb}
-use Rattle.rob_words.specs.declared.verb.Verb.TheVariants.{Rows, Check, Replay}
+use Rattle.rob_words.specs.declared.verb.Verb.TheVariants.{Rows, Check, Replay, Text}
 use Rattle.rob_words.proofs.Spellings.{one_line}
 
 -- ---- the first of a list
@@ -88,6 +88,9 @@ solves_no_replay verb e h = let no : IsSolving Replay = subst (λ (v : Verb). Is
 
 pub rows_not_replay : (verb : Verb) → verb ≡ Rows → verb ≡ Replay → ⊥
 rows_not_replay verb = two_verbs Rows Replay verb (λ e. cc)
+
+pub text_not_replay : (verb : Verb) → verb ≡ Text → verb ≡ Replay → ⊥
+text_not_replay verb = two_verbs Text Replay verb (λ e. cc)
 
 pub check_not_replay : (verb : Verb) → verb ≡ Check → verb ≡ Replay → ⊥
 check_not_replay verb = two_verbs Check Replay verb (λ e. cc)

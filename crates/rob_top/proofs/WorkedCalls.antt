@@ -6,21 +6,20 @@ use Rattle.std.specs.Fmt.{digits}
 use Rattle.std.specs.Prelude.{◌≡◌, ◌≢◌, ℕ, leb, nat_abs, true, [], ◌∷◌, ◌++◌, length, None, codes}
 use Rattle.rob_algebra.specs.Fraction.{Fraction, ratio}
 use Rattle.rob_algebra.specs.Width.{Fits}
-use Rattle.rob_dualize.proofs.NarrowModels.{one_demand_not_wide}
+use Rattle.rob_dualize.proofs.NarrowModels.{one_demand_admitted, one_demand_costs_12, one_demand_not_wide}
 use Rattle.rob_dualize.specs.SmallestModel.{one_demand}
 use Rattle.rob_elab.specs.Forms.{judged_forms}
 use Rattle.rob_meaning.proofs.EmptyLemmas.{shows_empty}
 use Rattle.rob_meaning.proofs.WorkedNotation.{int}
-use Rattle.rob_meaning.proofs.WorkedTests.{Found, found, test_admits, test_certificate, test_differ, test_empty, test_model}
+use Rattle.rob_meaning.proofs.WorkedTests.{Found, found, test_differ, test_empty, test_model}
 use Rattle.rob_meaning.specs.Certificates.{optimal}
 use Rattle.rob_meaning.specs.Expressions.{parameter, variable}
 use Rattle.rob_meaning.specs.Named.{IsFree, IsNamed, declared_names}
 use Rattle.rob_meaning.specs.Names.{Name}
 use Rattle.rob_meaning.specs.Places.{1ℚ, Each}
-use Rattle.rob_meaning.specs.Proves.{HasStatus}
 use Rattle.rob_meaning.specs.RobustModel.{RobustModel, column_count}
 use Rattle.rob_meaning.specs.SetRows.{lift_count}
-use Rattle.rob_meaning.specs.UncertaintySet.{Admits, IsEmptySet}
+use Rattle.rob_meaning.specs.UncertaintySet.{IsEmptySet}
 use Rattle.rob_meaning.specs.WellFormed.{IsModel}
 use Rattle.rob_outside.specs.Files.{file_of, found_at, whole}
 use Rattle.rob_model.specs.Limits.{IsWithinLimits, model_size, most_columns, most_members, most_parameters, most_rows, most_set_lines, most_sets, most_size}
@@ -36,7 +35,7 @@ use Rattle.rob_sets.specs.SetForm.{judged_set}
 use Rattle.rob_top.proofs.NarrowForms.{all_narrow, difference_narrow}
 use Rattle.rob_top.specs.Completeness.{EndsAs, IsEmptyAnswer, MustEnd}
 use Rattle.rob_top.specs.Inputs.{HasForms}
-use Rattle.rob_top.specs.WorkedCalls.{empty_interval, greatest, model_name, order_12, solve_call}
+use Rattle.rob_top.specs.WorkedCalls.{empty_interval, greatest, model_name, solve_call}
 use Rattle.rob_top.specs.declared.ended.Ended.{Ended}
 use Rattle.rob_top.specs.declared.ended.Ended.TheVariants.{Optimal}
 use Rattle.rob_words.specs.Commands.{Line, own, IsSpelled}
@@ -109,18 +108,6 @@ free a objective tau set budget =
     (differ a (codes "objective") objective, differ a (codes "tau") tau, differ a (codes "set") set, differ a (codes "budget") budget)
 
 -- ---- minimise x, where x >= d for each d in [8, 12]
-pub one_demand_model : IsModel one_demand
-unfolding ratio
-one_demand_model = found (test_model one_demand) tt
-
-one_demand_admitted : Admits one_demand (int 8 ∷ [])
-unfolding ratio
-one_demand_admitted = found (test_admits one_demand one_demand_model (int 8 ∷ [])) tt
-
-one_demand_costs_12 : HasStatus one_demand optimal (int 12)
-unfolding ratio
-one_demand_costs_12 = found (test_certificate one_demand order_12) tt
-
 one_demand_spelled : Each IsSpelledName (declared_names one_demand)
 one_demand_spelled = (letter 100 refl refl, (letter 114 refl refl, (letter 120 refl refl, tt)))
 

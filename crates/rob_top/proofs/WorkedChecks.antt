@@ -16,6 +16,7 @@ use Rattle.rob_check.specs.declared.verdict.Verdict.{Verdict}
 use Rattle.rob_check.specs.declared.verdict.Verdict.TheVariants as verdicts
 use Rattle.rob_meaning.proofs.WorkedNotation.{int}
 use Rattle.rob_meaning.proofs.WorkedTests.{found}
+use Rattle.rob_dualize.proofs.NarrowModels.{one_demand_model}
 use Rattle.rob_dualize.specs.SmallestModel.{one_demand}
 use Rattle.rob_meaning.specs.Certificates.{Certificate, optimal}
 use Rattle.rob_meaning.specs.Places.{1ℚ, Each}
@@ -24,7 +25,7 @@ use Rattle.rob_model.specs.declared.place.Place.{Place}
 use Rattle.rob_model.specs.declared.place.Place.TheVariants as At
 use Rattle.rob_outside.specs.Files.{file_of, found_at, whole}
 use Rattle.rob_write.specs.Canonical.{model_text}
-use Rattle.rob_top.proofs.WorkedCalls.{fits_by, one_demand_model, one_demand_narrow, one_demand_reads}
+use Rattle.rob_top.proofs.WorkedCalls.{fits_by, one_demand_narrow, one_demand_reads}
 use Rattle.rob_top.specs.Completeness.{EndsAs, MustEnd}
 use Rattle.rob_top.specs.Inputs.{HasCertificate}
 use Rattle.rob_top.specs.WorkedCalls.{certificate_name, check_call, greatest, model_name, order_11, order_12}

@@ -1,23 +1,38 @@
--- Calls of `replay` worked by hand: a table, and a file whose header names no parameter, and so how each call must end.
+-- Calls of `replay` worked by hand: a table and its text, a wide slack, a certificate without a plan, and a file whose header
+-- names no parameter; and so how each call must end.
 use Rattle.csv.specs.Reading.{strip_bom}
-use Rattle.std.proofs.Common.{◌≡◌, ◌++◌, ℕ, List, [], ◌∷◌, refl, subst, inl, inr}
+use Rattle.std.proofs.Common.{◌≡◌, ◌++◌, ℕ, List, [], ◌∷◌, Ok, true, refl, sym, ◌∙◌, ap, subst, inl, inr, arith}
 use Rattle.std.specs.Fmt.{digits}
-use Rattle.std.specs.Prelude.{codes}
-use Rattle.rob_algebra.specs.Fraction.{ratio}
+use Rattle.std.specs.Prelude.{◌≢◌, codes}
+use Rattle.rob_algebra.specs.Fraction.{neg_ℚ, ratio}
+use Rattle.rob_cert.specs.Apart.{FitsLines}
+use Rattle.rob_cert.specs.Shape.{HasShape}
 use Rattle.rob_cert.specs.Spelling.{cert_text}
 use Rattle.rob_dualize.specs.SmallestModel.{one_demand}
-use Rattle.rob_outside.specs.Files.{file_of, found_at, whole}
+use Rattle.rob_meaning.proofs.WorkedNotation.{int}
+use Rattle.rob_meaning.specs.Certificates.{Certificate, infeasible}
+use Rattle.rob_meaning.specs.Places.{1ℚ}
+use Rattle.rob_model.specs.declared.place.Spot.TheVariants.{Replay as ReplaySpot}
+use Rattle.rob_outside.specs.Files.{File, file_of, found_at, whole}
 use Rattle.rob_write.specs.Canonical.{model_text}
 use Rattle.rob_replay.specs.Files.{BeginsRecord, IsFile, IsUnquoted, IsWithin, NextRecord}
+use Rattle.rob_replay.specs.Lines as replay
+use Rattle.rob_replay.specs.Lines.{line_outside}
 use Rattle.rob_replay.specs.Outcome.{outcome}
-use Rattle.rob_top.proofs.WorkedCalls.{one_demand_reads}
+use Rattle.rob_report.specs.Tables.{table_of}
+use Rattle.rob_top.proofs.OneTable.{lines_are, text_is}
+use Rattle.rob_top.proofs.TrueAnswerLemmas.{rows_not_replay, text_not_replay}
+use Rattle.rob_top.proofs.WorkedCalls.{fits_by, one_demand_reads}
 use Rattle.rob_top.proofs.WorkedChecks.{order_12_fits, order_12_shape}
+use Rattle.rob_top.specs.Calls.{Call, Known, by_files}
 use Rattle.rob_top.specs.Completeness.{EndsAs, MustEnd}
-use Rattle.rob_top.specs.Inputs.{HasScenarios}
-use Rattle.rob_top.specs.Replayed.{replay_ended}
-use Rattle.rob_top.specs.WorkedCalls.{certificate_name, greatest, model_name, no_demand, order_12, replay_call, scenarios_name, two_demands}
+use Rattle.rob_top.specs.Headline.{Means}
+use Rattle.rob_top.specs.Inputs.{HasReplayCertificate, HasScenarios}
+use Rattle.rob_top.specs.Replayed.{planless, replay_ended}
+use Rattle.rob_top.specs.WorkedCalls.{certificate_name, greatest, model_name, no_demand, no_order, order_12, order_least, replay_call, scenarios_name, two_demands, two_demands_table}
 use Rattle.rob_top.specs.declared.ended.Ended.{Ended}
-use Rattle.rob_top.specs.declared.ended.Ended.TheVariants.{Printed, Scenarios}
+use Rattle.rob_top.specs.declared.ended.Ended.TheVariants.{Cert, Printed, Scenarios, TooWide}
+use Rattle.rob_words.proofs.Spellings.{one_line}
 use Rattle.rob_words.specs.Commands.{Line, own, IsSpelled}
 use Rattle.rob_words.specs.declared.route.Route.TheVariants.{Dual}
 use Rattle.rob_words.specs.declared.verb.Verb.TheVariants.{Replay}
@@ -41,42 +56,49 @@ line_spelled = (
   },
 )
 
--- each of them comes whole
-record Come (bytes : List ℕ) : Type 0 where
-  model : found_at model_name 65536
-      (file_of model_name (model_text one_demand) ∷ file_of certificate_name (cert_text one_demand order_12) ∷ file_of scenarios_name bytes ∷ [])
-      ≡ whole (model_text one_demand)
-  certificate : found_at certificate_name 4194304
-      (file_of model_name (model_text one_demand) ∷ file_of certificate_name (cert_text one_demand order_12) ∷ file_of scenarios_name bytes ∷ [])
-      ≡ whole (cert_text one_demand order_12)
-  scenarios : found_at scenarios_name 4194304
-      (file_of model_name (model_text one_demand) ∷ file_of certificate_name (cert_text one_demand order_12) ∷ file_of scenarios_name bytes ∷ [])
-      ≡ whole bytes
+abbrev files_of : Certificate → List ℕ → List File
+files_of c bytes =
+    file_of model_name (model_text one_demand) ∷ file_of certificate_name (cert_text one_demand c) ∷ file_of scenarios_name bytes ∷ []
 
-scenarios_on : (bytes : List ℕ) → Come bytes → HasScenarios (replay_call order_12 bytes) line one_demand order_12 bytes
-scenarios_on bytes come = record {
-  certificate = record {
-    bytes = cert_text one_demand order_12;
-    file = record {
-      model = record {
-        spelled = line_spelled;
-        came = (
-          (model_text one_demand, (come.model, tt)),
-          ((cert_text one_demand order_12, (come.certificate, tt)), ((bytes, (come.scenarios, tt)), tt)),
-        );
-        bytes = model_text one_demand;
-        file = record { request = record { place = 0; name = model_name; most = 65536 }; named = refl; found = (come.model, tt) };
-        reads = one_demand_reads;
-      };
-      is_replay = refl;
-      file = record { request = record { place = 1; name = certificate_name; most = 4194304 }; named = refl; found = (come.certificate, tt) };
+-- each of them comes whole
+record Come (c : Certificate) (bytes : List ℕ) : Type 0 where
+  model : found_at model_name 65536 (files_of c bytes) ≡ whole (model_text one_demand)
+  certificate : found_at certificate_name 4194304 (files_of c bytes) ≡ whole (cert_text one_demand c)
+  scenarios : found_at scenarios_name 4194304 (files_of c bytes) ≡ whole bytes
+
+certificate_on : (c : Certificate) (bytes : List ℕ) → Come c bytes → HasShape one_demand c → FitsLines greatest one_demand c
+    → HasReplayCertificate (replay_call c bytes) line one_demand c
+certificate_on c bytes come shape fits = record {
+  bytes = cert_text one_demand c;
+  file = record {
+    model = record {
+      spelled = line_spelled;
+      came = (
+        (model_text one_demand, (come.model, tt)),
+        ((cert_text one_demand c, (come.certificate, tt)), ((bytes, (come.scenarios, tt)), tt)),
+      );
+      bytes = model_text one_demand;
+      file = record { request = record { place = 0; name = model_name; most = 65536 }; named = refl; found = (come.model, tt) };
+      reads = one_demand_reads;
     };
-    text = record { shape = order_12_shape; spelled = refl };
-    fits = order_12_fits;
+    is_replay = refl;
+    file = record { request = record { place = 1; name = certificate_name; most = 4194304 }; named = refl; found = (come.certificate, tt) };
   };
-  has_plan = λ e. cc;
+  text = record { shape = shape; spelled = refl };
+  fits = fits;
+}
+
+scenarios_on : (c : Certificate) (bytes : List ℕ) → Come c bytes → HasShape one_demand c → FitsLines greatest one_demand c
+    → c.status ≢ infeasible → HasScenarios (replay_call c bytes) line one_demand c bytes
+scenarios_on c bytes come shape fits planned = record {
+  certificate = certificate_on c bytes come shape fits;
+  has_plan = planned;
   file = record { request = record { place = 2; name = scenarios_name; most = 4194304 }; named = refl; found = (come.scenarios, tt) };
 }
+
+-- of an order of 12
+order_12_on : (bytes : List ℕ) → Come order_12 bytes → HasScenarios (replay_call order_12 bytes) line one_demand order_12 bytes
+order_12_on bytes come = scenarios_on order_12 bytes come order_12_shape order_12_fits (λ e. cc)
 
 -- ---- records of one field
 one_field : (field behind : List ℕ) → IsUnquoted (field ++ 10 ∷ behind) → BeginsRecord (field ++ 10 ∷ behind) → IsWithin field
@@ -94,7 +116,7 @@ one_field field behind unquoted begins within = record {
 abbrev demands : List (List (List ℕ))
 demands = (codes "d" ∷ []) ∷ (codes "9" ∷ []) ∷ (codes "13" ∷ []) ∷ []
 
-two_demands_come : Come two_demands
+two_demands_come : Come order_12 two_demands
 unfolding ratio digits
 two_demands_come = record { model = refl; certificate = refl; scenarios = refl }
 
@@ -124,10 +146,121 @@ two_demands_ended = refl
 pub two_demands_are_replayed : (result : Ended) → MustEnd (replay_call order_12 two_demands) result → EndsAs Printed result
 two_demands_are_replayed result must =
     subst (λ (ended : Ended). EndsAs ended result) two_demands_ended
-    (must.replayed line one_demand order_12 two_demands demands (scenarios_on two_demands two_demands_come) two_demands_file)
+    (must.replayed line one_demand order_12 two_demands demands (order_12_on two_demands two_demands_come) two_demands_file)
+
+-- its lines
+abbrev two_demands_lines : List replay.Line
+two_demands_lines =
+    record { number = 2; inside = true; values = record { adaptives = []; objective = int 12; slacks = int 3 ∷ [] } }
+    ∷ line_outside 3 ∷ []
+
+two_demands_outcome : outcome greatest one_demand order_12.plan demands ≡ Ok two_demands_lines
+unfolding ratio
+two_demands_outcome = refl
+
+two_demands_text : table_of one_demand two_demands_lines ≡ two_demands_table
+unfolding ratio digits
+two_demands_text = refl
+
+abbrev table_call : Call
+table_call = replay_call order_12 two_demands
+
+table_line : (l : Line) → IsSpelled table_call.words l → l ≡ line
+table_line l spelled = one_line table_call.words l line spelled line_spelled
+
+-- and what it prints is that table
+pub two_demands_are_printed : (text : List ℕ) → Means (replay_call order_12 two_demands) Printed text → text ≡ two_demands_table
+two_demands_are_printed text means = by means
+  where
+    by : Means table_call Printed text → text ≡ two_demands_table
+    by (inl h) = absurd (rows_not_replay h.line.verb h.is_rows (ap (λ (l : Line). l.verb) (table_line h.line h.forms.model.spelled)))
+    by (inr (inr h)) = absurd (text_not_replay h.line.verb h.is_text (ap (λ (l : Line). l.verb) (table_line h.line h.spelled)))
+    by (inr (inl h)) =
+        let has = order_12_on two_demands two_demands_come in
+        let known : Known table_call.source = by_files (files_of order_12 two_demands) refl in
+        let lines : Ok h.lines ≡ Ok two_demands_lines =
+        sym (lines_are table_call known line one_demand order_12 two_demands demands has two_demands_file text h) ∙ two_demands_outcome
+        in
+        let same : h.lines ≡ two_demands_lines = cc in
+        text_is table_call known line one_demand order_12 two_demands demands has two_demands_file text h
+        ∙ ap (table_of one_demand) same
+        ∙ two_demands_text
+
+-- ---- a plan of which a slack is wide
+order_least_comes : Come order_least two_demands
+unfolding ratio digits
+order_least_comes = record { model = refl; certificate = refl; scenarios = refl }
+
+order_least_shape : HasShape one_demand order_least
+unfolding ratio
+order_least_shape = record {
+  inside = refl;
+  parts = record { plan = refl; step = refl; step_bound = refl; holds = refl };
+  covers = order_12_shape.covers;
+  holds = order_12_shape.holds;
+  items = order_12_shape.items;
+}
+
+order_least_fits : FitsLines greatest one_demand order_least
+unfolding ratio
+order_least_fits = (
+  tt,
+  (
+    fits_by (int 12) refl refl,
+    (
+      fits_by 1ℚ refl refl,
+      (
+        fits_by (int 8) refl refl,
+        (
+          fits_by (neg_ℚ (int greatest)) refl refl,
+          (
+            fits_by 1ℚ refl refl,
+            ((fits_by 1ℚ refl refl, fits_by 1ℚ refl refl), (fits_by (int 12) refl refl, ((fits_by 1ℚ refl refl, fits_by 1ℚ refl refl), (fits_by (int 12) refl refl, (tt, tt))))),
+          ),
+        ),
+      ),
+    ),
+  ),
+)
+
+order_least_ended : replay_ended (outcome greatest one_demand order_least.plan demands) ≡ TooWide (ReplaySpot 2)
+unfolding ratio
+order_least_ended = refl
+
+-- this call has to name the record
+pub order_least_is_wide : (result : Ended) → MustEnd (replay_call order_least two_demands) result → EndsAs (TooWide (ReplaySpot 2)) result
+order_least_is_wide result must =
+    subst (λ (ended : Ended). EndsAs ended result) order_least_ended
+    (must.replayed line one_demand order_least two_demands demands
+    (scenarios_on order_least two_demands order_least_comes order_least_shape order_least_fits (λ e. cc)) two_demands_file)
+
+-- ---- a certificate without a plan
+no_order_comes : Come no_order two_demands
+unfolding ratio digits
+no_order_comes = record { model = refl; certificate = refl; scenarios = refl }
+
+no_order_shape : HasShape one_demand no_order
+unfolding ratio
+no_order_shape = record {
+  inside = refl;
+  parts = record { value = refl; scale = refl; plan = refl; step = refl; step_bound = refl; covers = refl; holds = refl };
+  covers = record { each = tt; ordered = tt };
+  holds = record { each = tt; ordered = tt };
+  items = record { each = tt; ordered = tt; few = omega arith };
+}
+
+no_order_fits : FitsLines greatest one_demand no_order
+unfolding ratio
+no_order_fits = (tt, (fits_by (int 8) refl refl, (tt, tt)))
+
+-- this call has to say so
+pub no_order_is_planless : (result : Ended) → MustEnd (replay_call no_order two_demands) result → EndsAs (Cert 34 1) result
+no_order_is_planless result must =
+    must.planless line one_demand 34 1
+    (planless no_order (certificate_on no_order two_demands no_order_comes no_order_shape no_order_fits) refl refl refl)
 
 -- ---- a header that names no parameter
-no_demand_comes : Come no_demand
+no_demand_comes : Come order_12 no_demand
 unfolding ratio digits
 no_demand_comes = record { model = refl; certificate = refl; scenarios = refl }
 
@@ -138,4 +271,4 @@ no_demand_file = ([], one_field (codes "e") [] refl refl (refl, tt), tt)
 -- this call has to name the header's rule
 pub no_demand_is_refused : (result : Ended) → MustEnd (replay_call order_12 no_demand) result → EndsAs (Scenarios 41 1) result
 no_demand_is_refused result must =
-    must.replayed line one_demand order_12 no_demand ((codes "e" ∷ []) ∷ []) (scenarios_on no_demand no_demand_comes) no_demand_file
+    must.replayed line one_demand order_12 no_demand ((codes "e" ∷ []) ∷ []) (order_12_on no_demand no_demand_comes) no_demand_file

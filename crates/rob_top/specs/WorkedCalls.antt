@@ -1,10 +1,10 @@
 -- Calls worked by hand, of which the laws say how they must end: `solve one.rob`, `check one.rob one.cert` and
 -- `replay one.rob one.cert one.csv`, where the shelf tells files of these names; and `text N`.
 use Rattle.std.specs.Prelude.{ℕ, ◌-◌, ◌^◌, pos, false, List, [], ◌∷◌, ◌++◌, Some, None, codes}
-use Rattle.rob_algebra.specs.Fraction.{of_int}
+use Rattle.rob_algebra.specs.Fraction.{neg_ℚ, of_int}
 use Rattle.rob_cert.specs.Spelling.{cert_text}
 use Rattle.rob_dualize.specs.SmallestModel.{one_demand}
-use Rattle.rob_meaning.specs.Certificates.{Certificate, optimal}
+use Rattle.rob_meaning.specs.Certificates.{Certificate, infeasible, optimal}
 use Rattle.rob_meaning.specs.Places.{0ℚ, 1ℚ}
 use Rattle.rob_meaning.specs.Expressions.{number, parameter, variable, sum, no_terms, term}
 use Rattle.rob_meaning.specs.RobustModel.{RobustModel, at_least, at_most, line, minimise}
@@ -69,6 +69,10 @@ first_text =
 abbrev pub two_demands : List ℕ
 two_demands = line_of (codes "d") ++ (line_of (codes "9") ++ line_of (codes "13"))
 
+-- the lines that `replay` prints of it for an order of 12: the cost, and how much more than `d` is ordered
+abbrev pub two_demands_table : List ℕ
+two_demands_table = line_of (codes "2 inside objective 12 r 3") ++ line_of (codes "3 outside")
+
 -- a header that names no parameter
 abbrev pub no_demand : List ℕ
 no_demand = line_of (codes "e")
@@ -126,3 +130,11 @@ order_12 = record {
 -- 11 is claimed, and the items show 12
 abbrev pub order_11 : Certificate
 order_11 = record order_12 { value = of_int (pos 11); plan = of_int (pos 11) ∷ [] }
+
+-- that there is no plan is claimed, and no item shows it
+abbrev pub no_order : Certificate
+no_order = record order_12 { status = infeasible; value = 0ℚ; plan = []; covers = []; items = [] }
+
+-- the plan is the least number of 62 bits: 9 less is wide
+abbrev pub order_least : Certificate
+order_least = record order_12 { plan = neg_ℚ (of_int (pos greatest)) ∷ [] }

@@ -1,5 +1,8 @@
-use Rattle.rob_top.proofs.ReplayAnswerLemmas.{accepted_shows}
+use Rattle.rob_top.proofs.ReplayAnswerLemmas.{proved_shows}
 use Rattle.rob_top.proofs.laws.check_then_replay.Goals as goal
 
 pub returns : goal.returns
-returns c = record { shown = accepted_shows }
+returns c = record {
+  shown = λ checking replaying text shown accepted replayed same alike.
+      proved_shows replaying shown replayed accepted.m accepted.c same alike accepted.proves;
+}

@@ -1,7 +1,7 @@
 use Rattle.rob_top.proofs.WorkedCalls.{empty_interval_is_shown, one_demand_is_solved}
 use Rattle.rob_top.proofs.WorkedSetCalls.{hard_and_soft_is_solved, never_calm_is_shown}
 use Rattle.rob_top.proofs.WorkedChecks.{order_11_is_rejected, order_12_is_accepted}
-use Rattle.rob_top.proofs.WorkedReplays.{no_demand_is_refused, two_demands_are_replayed}
+use Rattle.rob_top.proofs.WorkedReplays.{no_demand_is_refused, no_order_is_planless, order_least_is_wide, two_demands_are_printed, two_demands_are_replayed}
 use Rattle.rob_top.proofs.WorkedNumbers.{number_is_answered}
 use Rattle.rob_top.proofs.laws.worked_calls.Goals as goal
 
@@ -14,6 +14,9 @@ returns c = record {
   accepted = order_12_is_accepted;
   rejected = order_11_is_rejected;
   replayed = two_demands_are_replayed;
+  table = two_demands_are_printed;
+  wide = order_least_is_wide;
+  planless = no_order_is_planless;
   unread = no_demand_is_refused;
   generated = number_is_answered;
 }
