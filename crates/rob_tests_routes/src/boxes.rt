@@ -1,0 +1,86 @@
+// Rules on named variables, copies of models, and boxes.
+
+ghost use Rattle.std.specs.Prelude.{◌≡◌, ◌≤◌, nat_abs, None, IfOk};
+ghost use Rattle.rob_model.specs.Valid.{IsValid};
+ghost use Rattle.rob_model.specs.View.{robust};
+ghost use Rattle.rob_reach.specs.Ranges.{KeepsBothBounds, whole_rule as first_rule};
+
+use crate::given;
+use rob_case::numbers::{small, whole};
+use rob_case::text::{keyword, said, shown};
+use rob_case::{Case, Trouble};
+use rob_model::Model;
+use rob_number::Exact;
+use rob_tree::{Branch, behind, copy_model, whole_rule};
+use rob_write::write_model;
+use std::alloc::Global;
+
+/// The canonical text of the model's copy.
+pub(crate) fn copied<N: Exact>(alloc: Global, case: &Case) -> Result<String, Trouble> {
+    let model: Model<N> = given::model(alloc, case)?;
+    let copy = copy_model(alloc, &model)?;
+    let text = write_model(alloc, &copy)?;
+    shown(alloc, text.bytes())
+}
+
+/// The first rule that the columns of a line break.
+pub(crate) fn rule<N: Exact>(alloc: Global, case: &Case, line: &str) -> Result<String, Trouble> {
+    let model: Model<N> = given::model(alloc, case)?;
+    let columns = given::columns(alloc, line)?;
+    match whole_rule(&model, columns.as_slice()) {
+        Some(rule) => Ok(format!(in alloc; "rule {rule}")?),
+        None => said(alloc, "kept"),
+    }
+}
+
+/// Goes on where the columns keep both rules.
+pub(crate) fn keeps_rules<N: Exact>(model: &Model<N>, columns: &[u32]) -> Result<(), Trouble>
+    ensures rule { IfOk result (λ _. first_rule (robust N.value model.now) columns.now ≡ None) }
+    ensures bounded { IfOk result (λ _. KeepsBothBounds (robust N.value model.now) columns.now) }
+{
+    match whole_rule(model, columns) {
+        None => Ok(()),
+        Some(_) => Err(Trouble::Line),
+    }
+}
+
+/// The canonical text of the box where a column is at most a number.
+pub(crate) fn below<N: Exact>(alloc: Global, case: &Case, line: &str) -> Result<String, Trouble> {
+    boxed::<N>(alloc, case, line, true)
+}
+
+/// The canonical text of the box where a column is at least a number.
+pub(crate) fn above<N: Exact>(alloc: Global, case: &Case, line: &str) -> Result<String, Trouble> {
+    boxed::<N>(alloc, case, line, false)
+}
+
+/// The canonical text of the box of a line's column and number.
+fn boxed<N: Exact>(
+    alloc: Global,
+    case: &Case,
+    line: &str,
+    at_most: bool,
+) -> Result<String, Trouble> {
+    let model: Model<N> = given::model(alloc, case)?;
+    let (column, k) = keyword(line);
+    let branch = Branch {
+        column: small(column)?,
+        at_most,
+        k: whole(k)?,
+    };
+    if branch.k > N::LIMIT || branch.k < -N::LIMIT {
+        return Err(Trouble::Line);
+    }
+    box_text(alloc, &model, branch)
+}
+
+/// The canonical text of the box behind a branch on a variable that has both bounds.
+fn box_text<N: Exact>(alloc: Global, model: &Model<N>, branch: Branch) -> Result<String, Trouble>
+    requires valid { IsValid N.value model.now }
+    requires within { nat_abs branch.k ≤ N.limit }
+{
+    keeps_rules(model, &[branch.column])?;
+    let boxed = behind(alloc, model, branch)?;
+    let text = write_model(alloc, &boxed)?;
+    shown(alloc, text.bytes())
+}

@@ -1,0 +1,285 @@
+// The worst scenario of a form at a plan and along a direction.
+
+ghost use Rattle.std.specs.Prelude.{◌≤◌, nat_abs, IfOk};
+ghost use Rattle.rob_elab.specs.Elaborated.{AreElaborated};
+ghost use Rattle.rob_model.specs.Valid.{IsValid};
+ghost use Rattle.rob_dualize.specs.SetSolving.{IsFewSet, IsSetOfModel};
+ghost use Rattle.rob_worst.specs.Finders.{IsFinder};
+ghost use Rattle.rob_worst.specs.Finding.{HasConstantWithin};
+
+use crate::given;
+use rob_case::numbers::{put_all, shown, small};
+use rob_case::text::{keyword, said};
+use rob_case::{Case, Trouble};
+use rob_cert::{Stop, Worst};
+use rob_elab::{Forms, elaborate};
+use rob_model::{Model, Plan};
+use rob_number::{Exact, Tally, Wide};
+use rob_sets::{ElabErr, SetForm, clear_set};
+use rob_tree::copy::copy_list;
+use rob_worst::slack::slack;
+use rob_worst::{Finder, worst, worst_step};
+use std::alloc::Global;
+
+/// A model in whole numbers.
+#[derive(Drop)]
+struct Written {
+    set: SetForm,
+    forms: Forms,
+}
+
+/// A model in whole numbers, of which a solver takes the set.
+fn whole_numbers<N: Exact>(alloc: Global, model: &Model<N>) -> Result<Written, Trouble>
+    requires valid { IsValid N.value model.now }
+    ensures elaborated { IfOk result (λ whole. AreElaborated N.limit whole.forms whole.set) }
+    ensures set { IfOk result (λ whole. IsSetOfModel N.limit whole.set) }
+    ensures few { IfOk result (λ whole. IsFewSet whole.set) }
+{
+    let set = match clear_set(alloc, model, &mut Tally::new()) {
+        Ok(set) => set,
+        Err(error) => return Err(refused(&error)),
+    };
+    let forms = match elaborate(alloc, model, &set, &mut Tally::new()) {
+        Ok(forms) => forms,
+        Err(error) => return Err(refused(&error)),
+    };
+    if set.columns > 1 << 20 || set.rows.items().len() > 1 << 20 {
+        return Err(Trouble::Line);
+    }
+    Ok(Written { set, forms })
+}
+
+/// Why a model isn't written in whole numbers.
+fn refused(error: &ElabErr) -> Trouble {
+    match error {
+        ElabErr::Wide(_) => Trouble::Line,
+        ElabErr::Memory => Trouble::Memory,
+    }
+}
+
+/// The plan of some columns and, behind them, their bound.
+fn plan<N: Exact>(alloc: Global, numbers: &[N]) -> Result<Plan<N>, Trouble> {
+    match numbers {
+        [columns @ .., bound] => Ok(Plan {
+            columns: copy_list(alloc, columns)?,
+            bound: *bound,
+        }),
+        [] => Err(Trouble::Line),
+    }
+}
+
+/// The worst scenario of the form of a line at its plan.
+pub(crate) fn at_plan<N: Exact>(alloc: Global, case: &Case, line: &str) -> Result<String, Trouble> {
+    let model: Model<N> = given::model(alloc, case)?;
+    let whole = whole_numbers(alloc, &model)?;
+    let (form, numbers) = keyword(line);
+    let numbers = given::fractions::<N>(alloc, numbers)?;
+    let plan = plan(alloc, numbers.as_slice())?;
+    found_at_plan(alloc, &whole, small(form)?, &plan)
+}
+
+fn found_at_plan<N: Exact>(
+    alloc: Global,
+    whole: &Written,
+    form: u32,
+    plan: &Plan<N>,
+) -> Result<String, Trouble>
+    requires model { AreElaborated N.limit whole.now.forms whole.now.set }
+    requires few { IsFewSet whole.now.set }
+{
+    let forms = &whole.forms;
+    if form as usize >= forms.matrices.items().len()
+        || plan.columns.items().len() != forms.columns as usize
+    {
+        return Err(Trouble::Line);
+    }
+    let found = worst(alloc, forms, &whole.set, form, plan, &mut Tally::new());
+    told(alloc, &found)
+}
+
+/// The worst scenario of the form of a line along its direction.
+pub(crate) fn at_step<N: Exact>(alloc: Global, case: &Case, line: &str) -> Result<String, Trouble> {
+    let model: Model<N> = given::model(alloc, case)?;
+    let whole = whole_numbers(alloc, &model)?;
+    let (form, step) = keyword(line);
+    let step = given::fractions::<N>(alloc, step)?;
+    found_at_step(alloc, &whole, small(form)?, step.as_slice())
+}
+
+fn found_at_step<N: Exact>(
+    alloc: Global,
+    whole: &Written,
+    form: u32,
+    step: &[N],
+) -> Result<String, Trouble>
+    requires model { AreElaborated N.limit whole.now.forms whole.now.set }
+    requires few { IsFewSet whole.now.set }
+{
+    let forms = &whole.forms;
+    if form as usize >= forms.matrices.items().len() || step.len() != forms.columns as usize + 1 {
+        return Err(Trouble::Line);
+    }
+    let found = worst_step(alloc, forms, &whole.set, form, step, &mut Tally::new());
+    told(alloc, &found)
+}
+
+/// What one finder tells of the form of a line at its plan, along the same numbers, and at the plan again.
+pub(crate) fn searches<N: Exact>(
+    alloc: Global,
+    case: &Case,
+    line: &str,
+) -> Result<String, Trouble> {
+    let model: Model<N> = given::model(alloc, case)?;
+    let whole = whole_numbers(alloc, &model)?;
+    let (form, numbers) = keyword(line);
+    let numbers = given::fractions::<N>(alloc, numbers)?;
+    let plan = plan(alloc, numbers.as_slice())?;
+    match Finder::new(alloc, &whole.set, &mut Tally::new()) {
+        Ok(mut finder) => found_in_turn(
+            alloc,
+            &mut finder,
+            &whole,
+            small(form)?,
+            &plan,
+            numbers.as_slice(),
+        ),
+        Err(stop) => stopped(alloc, &stop),
+    }
+}
+
+/// What a finder tells at a plan, along a direction, and at the plan again.
+fn found_in_turn<N: Exact>(
+    alloc: Global,
+    finder: &mut Finder<N>,
+    whole: &Written,
+    form: u32,
+    plan: &Plan<N>,
+    step: &[N],
+) -> Result<String, Trouble>
+    requires model { AreElaborated N.limit whole.now.forms whole.now.set }
+    requires few { IsFewSet whole.now.set }
+    requires finder { IsFinder whole.now.set finder.old }
+{
+    let first = next_at_plan(alloc, finder, whole, form, plan)?;
+    let second = next_at_step(alloc, finder, whole, form, step)?;
+    let third = next_at_plan(alloc, finder, whole, form, plan)?;
+    Ok(format!(in alloc; "{first}, then {second}, then {third}")?)
+}
+
+/// What a finder tells next, at a plan.
+fn next_at_plan<N: Exact>(
+    alloc: Global,
+    finder: &mut Finder<N>,
+    whole: &Written,
+    form: u32,
+    plan: &Plan<N>,
+) -> Result<String, Trouble>
+    requires model { AreElaborated N.limit whole.now.forms whole.now.set }
+    requires few { IsFewSet whole.now.set }
+    requires finder { IsFinder whole.now.set finder.old }
+    ensures finder { IsFinder whole.now.set finder.new }
+{
+    let forms = &whole.forms;
+    if form as usize >= forms.matrices.items().len()
+        || plan.columns.items().len() != forms.columns as usize
+    {
+        return Err(Trouble::Line);
+    }
+    let found = finder.at_plan(alloc, forms, &whole.set, form, plan, &mut Tally::new());
+    told(alloc, &found)
+}
+
+/// What a finder tells next, along a direction.
+fn next_at_step<N: Exact>(
+    alloc: Global,
+    finder: &mut Finder<N>,
+    whole: &Written,
+    form: u32,
+    step: &[N],
+) -> Result<String, Trouble>
+    requires model { AreElaborated N.limit whole.now.forms whole.now.set }
+    requires few { IsFewSet whole.now.set }
+    requires finder { IsFinder whole.now.set finder.old }
+    ensures finder { IsFinder whole.now.set finder.new }
+{
+    let forms = &whole.forms;
+    if form as usize >= forms.matrices.items().len() || step.len() != forms.columns as usize + 1 {
+        return Err(Trouble::Line);
+    }
+    let found = finder.at_step(alloc, forms, &whole.set, form, step, &mut Tally::new());
+    told(alloc, &found)
+}
+
+/// An admitted scenario.
+pub(crate) fn inside<N: Exact>(alloc: Global, case: &Case) -> Result<String, Trouble> {
+    let model: Model<N> = given::model(alloc, case)?;
+    let whole = whole_numbers(alloc, &model)?;
+    match Finder::<N>::new(alloc, &whole.set, &mut Tally::new()) {
+        Ok(finder) => {
+            let scenario = finder.inside(alloc, &whole.forms)?;
+            let mut answer = String::from_str(alloc, "inside")?;
+            put_all(alloc, &mut answer, scenario.values.items())?;
+            Ok(answer)
+        }
+        Err(stop) => stopped(alloc, &stop),
+    }
+}
+
+/// What a search tells, or why it tells nothing.
+fn told<N: Exact>(alloc: Global, found: &Result<Worst<N>, Stop>) -> Result<String, Trouble>
+    requires within { IfOk found.now (HasConstantWithin N.limit) }
+{
+    match found {
+        Ok(
+            Worst::At {
+                scale,
+                peak,
+                constant,
+                scenario,
+                amounts,
+                ..
+            },
+        ) => {
+            let slack = slack_word(alloc, *scale, *peak, *constant)?;
+            let scale = shown(alloc, *scale)?;
+            let peak = shown(alloc, *peak)?;
+            let mut answer = format!(in alloc; "{scale} times {peak} and {constant} at")?;
+            put_all(alloc, &mut answer, scenario.values.items())?;
+            answer.push_str(" by")?;
+            put_all(alloc, &mut answer, amounts.items())?;
+            answer.push_str(slack.as_str())?;
+            Ok(answer)
+        }
+        Ok(Worst::Along { ray, .. }) => {
+            let mut answer = String::from_str(alloc, "along")?;
+            put_all(alloc, &mut answer, ray.items())?;
+            Ok(answer)
+        }
+        Err(stop) => stopped(alloc, stop),
+    }
+}
+
+/// The slack that a search shows.
+fn slack_word<N: Exact>(alloc: Global, scale: N, peak: N, constant: i64) -> Result<String, Trouble>
+    requires constant { nat_abs constant ≤ N.limit }
+{
+    if scale.sign() == 0 {
+        return Err(Trouble::Line);
+    }
+    match slack(scale, peak, constant, &mut Tally::new()) {
+        Ok(slack) => {
+            let slack = shown(alloc, slack)?;
+            Ok(format!(in alloc; " slack {slack}")?)
+        }
+        Err(Wide) => said(alloc, " slack wide"),
+    }
+}
+
+/// Why a search tells nothing.
+fn stopped(alloc: Global, stop: &Stop) -> Result<String, Trouble> {
+    match stop {
+        Stop::EmptySet(weights) => given::empty(alloc, weights.items()),
+        Stop::Wide(spot, _) => given::wide(alloc, spot),
+        Stop::Memory => Err(Trouble::Memory),
+    }
+}
