@@ -1,51 +1,15 @@
 // A case.
 
-ghost use Rattle.std.specs.Prelude.{◌<◌, IfOk, length};
-
 use crate::line::Line;
-use rob_number::{Memory, Tally};
+use rob_case::Trouble;
+use rob_case::text::unescape;
+use rob_number::Tally;
 use rob_outside::{MemShelf, MemSink};
 use rob_top::run;
-use std::alloc::{AllocError, AllocFailed, Global};
-use std::io;
+use std::alloc::Global;
 
 /// How many bytes the output of a case may have.
 const ROOM: usize = 1 << 20;
-
-/// Why the cases can't be run.
-#[derive(Debug, Drop)]
-pub enum Trouble {
-    /// Memory was refused.
-    Memory,
-    /// Standard input can't be read, or standard output not written.
-    Stream,
-    /// A line is none of the format.
-    Line,
-}
-
-impl From<Memory> for Trouble {
-    fn from(_memory: Memory) -> Trouble {
-        Trouble::Memory
-    }
-}
-
-impl From<AllocError> for Trouble {
-    fn from(_error: AllocError) -> Trouble {
-        Trouble::Memory
-    }
-}
-
-impl<T: Drop> From<AllocFailed<T>> for Trouble {
-    fn from(_error: AllocFailed<T>) -> Trouble {
-        Trouble::Memory
-    }
-}
-
-impl From<io::Error> for Trouble {
-    fn from(_error: io::Error) -> Trouble {
-        Trouble::Stream
-    }
-}
 
 /// A case as it is read: the files come onto the shelf when the next block begins.
 #[derive(Drop)]
@@ -154,62 +118,5 @@ impl Case {
             put,
             wanted: bytes,
         })
-    }
-}
-
-/// Appends bytes in which `\` and two hexadecimal digits stand for any byte.
-fn unescape(bytes: &mut Vec<u8>, text: &[u8]) -> Result<(), Trouble> {
-    let mut rest = text;
-    while !rest.is_empty() {
-        let (byte, behind) = first_byte(rest)?;
-        bytes.push(byte)?;
-        rest = behind;
-    }
-    Ok(())
-}
-
-/// The byte that stands first, and what is behind it.
-fn first_byte(text: &[u8]) -> Result<(u8, &[u8]), Trouble>
-    ensures shorter { IfOk result (λ r. length r.1.now < length text.now) }
-{
-    match text {
-        [b'\\', high, low, behind @ ..] => Ok((hex(*high)? * 16 + hex(*low)?, behind)),
-        [byte, behind @ ..] => Ok((*byte, behind)),
-        [] => Err(Trouble::Line),
-    }
-}
-
-/// The value of a hexadecimal digit, below 16.
-fn hex(digit: u8) -> Result<u8, Trouble>
-    ensures small { IfOk result (λ value. value < 16) }
-{
-    match digit {
-        b'0'..=b'9' => Ok(digit - b'0'),
-        b'a'..=b'f' => Ok(digit - b'a' + 10),
-        _ => Err(Trouble::Line),
-    }
-}
-
-/// Bytes as a text: each that is no visible letter stands as `\` and two hexadecimal digits.
-pub(crate) fn shown(alloc: Global, bytes: &[u8]) -> Result<String, Trouble> {
-    let mut text = String::new(alloc);
-    for byte in bytes {
-        if (b' '..=b'~').contains(byte) && *byte != b'\\' {
-            text.push(char::from(*byte))?;
-        } else {
-            text.push('\\')?;
-            text.push(digit(*byte / 16))?;
-            text.push(digit(*byte % 16))?;
-        }
-    }
-    Ok(text)
-}
-
-/// A hexadecimal digit.
-fn digit(value: u8) -> char {
-    match value {
-        0..=9 => char::from(b'0' + value),
-        10..=15 => char::from(b'a' + (value - 10)),
-        _ => '?',
     }
 }

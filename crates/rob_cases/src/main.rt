@@ -4,8 +4,10 @@
 mod case;
 mod line;
 
-use case::{Case, Outcome, Trouble};
+use case::{Case, Outcome};
 use line::{Line, read_line};
+use rob_case::Trouble;
+use rob_case::text::shown;
 use std::process::ExitCode;
 
 fn main(rt: HostRuntime) -> ExitCode {
@@ -54,9 +56,9 @@ fn report(rt: &HostRuntime, outcome: &Outcome, status: u8) -> Result<bool, Troub
     let got = outcome.status;
     println!(rt; "DIFFERS {name}")?;
     println!(rt; "  status {got}, wanted {status}")?;
-    let put = case::shown(rt.alloc(), outcome.put.as_slice())?;
+    let put = shown(rt.alloc(), outcome.put.as_slice())?;
     println!(rt; "  put    {put}")?;
-    let wanted = case::shown(rt.alloc(), outcome.wanted.as_slice())?;
+    let wanted = shown(rt.alloc(), outcome.wanted.as_slice())?;
     println!(rt; "  wanted {wanted}")?;
     Ok(false)
 }
