@@ -12,3 +12,4 @@ pub mod Levels
 pub mod Takings
 pub mod Spellings
 pub mod Readings
+pub mod CommaLemmas

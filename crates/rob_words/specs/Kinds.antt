@@ -1,9 +1,10 @@
 -- What a command's own words have to be, by their kinds.
 use Rattle.std.specs.Prelude.{ℕ, ◌<◌, ◌≤◌, ◌^◌, List, ◌∷◌, length}
 use Rattle.std.specs.Str.Parse.{IsNumeral, digits_value}
+use Rattle.rob_words.specs.Names.{IsNameList}
 use Rattle.rob_words.specs.Values.{Word}
 use Rattle.rob_words.specs.declared.verb.Own.{Own}
-use Rattle.rob_words.specs.declared.verb.Own.TheVariants.{Number}
+use Rattle.rob_words.specs.declared.verb.Own.TheVariants.{Number, Names}
 
 -- the number that decimal digits spell
 abbrev pub number_of : Word → ℕ
@@ -18,6 +19,7 @@ pub record IsNumber (word : Word) : Type 0 where
 -- the word is one of the kind: where that names a file, any plain word is
 abbrev pub IsOfKind : Own → Word → Type 0
 IsOfKind Number word = IsNumber word
+IsOfKind Names word = IsNameList word
 IsOfKind _ word = Unit {0}
 
 -- each word is one of its kind

@@ -1,5 +1,6 @@
 pub mod Values
 pub mod Verbs
+pub mod Names
 pub mod Kinds
 pub mod Commands
 pub mod Answers

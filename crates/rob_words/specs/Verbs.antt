@@ -2,9 +2,9 @@
 use Rattle.std.specs.Prelude.{Bool, true, false, List, [], ◌∷◌, codes}
 use Rattle.rob_words.specs.Values.{Word}
 use Rattle.rob_words.specs.declared.verb.Own.{Own}
-use Rattle.rob_words.specs.declared.verb.Own.TheVariants.{Model, Certificate, Scenarios, Number}
+use Rattle.rob_words.specs.declared.verb.Own.TheVariants.{Model, Certificate, Scenarios, Number, Names}
 use Rattle.rob_words.specs.declared.verb.Verb.{Verb}
-use Rattle.rob_words.specs.declared.verb.Verb.TheVariants.{Rows, Solve, Prove, Check, Replay, Text}
+use Rattle.rob_words.specs.declared.verb.Verb.TheVariants.{Rows, Solve, Prove, Check, Replay, Text, Whole, Tree}
 
 -- the name of a command
 abbrev pub verb_word : Verb → Word
@@ -14,6 +14,8 @@ verb_word Prove = codes "prove"
 verb_word Check = codes "check"
 verb_word Replay = codes "replay"
 verb_word Text = codes "text"
+verb_word Whole = codes "whole"
+verb_word Tree = codes "tree"
 
 -- what a command's own words name, in their order
 abbrev pub own_of : Verb → List Own
@@ -23,6 +25,8 @@ own_of Prove = Model ∷ []
 own_of Check = Model ∷ Certificate ∷ []
 own_of Replay = Model ∷ Certificate ∷ Scenarios ∷ []
 own_of Text = Number ∷ []
+own_of Whole = Model ∷ Names ∷ []
+own_of Tree = Model ∷ Names ∷ []
 
 -- the command takes the option `route`
 abbrev pub takes_route : Verb → Bool
@@ -32,3 +36,5 @@ takes_route Prove = true
 takes_route Check = false
 takes_route Replay = false
 takes_route Text = false
+takes_route Whole = false
+takes_route Tree = false

@@ -6,6 +6,7 @@ mod error;
 mod grammar;
 pub mod laws;
 mod line;
+mod names;
 mod own_words;
 mod reader;
 mod route;
@@ -14,6 +15,7 @@ mod width;
 
 pub use error::WordsErr;
 pub use line::CommandLine;
+pub use names::first_part;
 pub use own_words::number;
 pub use reader::read_words;
 pub use route::Route;

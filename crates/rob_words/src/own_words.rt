@@ -3,6 +3,7 @@
 ghost use Rattle.std.specs.Prelude.{◌≡◌, ◌↔◌, IsTrue, MatchOption, map, string_bytes};
 ghost use Rattle.rob_words.specs.Kinds.{AreOfKinds, IsNumber, IsOfKind, number_of};
 
+use crate::names::is_name_list;
 use crate::verb::Own;
 
 /// Whether each word is one of its kind.
@@ -27,6 +28,7 @@ fn is_of_kind(kind: Own, word: &str) -> bool
         Own::Certificate => true,
         Own::Scenarios => true,
         Own::Number => number(word).is_some(),
+        Own::Names => is_name_list(word.as_bytes()),
     }
 }
 

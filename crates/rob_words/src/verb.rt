@@ -22,6 +22,10 @@ pub enum Verb {
     Replay,
     /// Print the model of a number.
     Text,
+    /// Solve a model some of whose variables take whole numbers.
+    Whole,
+    /// Solve such a model and print the branch tree of its answer.
+    Tree,
 }
 
 /// What one of a command's own words names.
@@ -35,6 +39,8 @@ pub enum Own {
     Scenarios,
     /// A number, and no file.
     Number,
+    /// Names of variables, with `,` between them, and no file.
+    Names,
 }
 
 impl Verb {
@@ -51,6 +57,8 @@ impl Verb {
             "check" => Some(Verb::Check),
             "replay" => Some(Verb::Replay),
             "text" => Some(Verb::Text),
+            "whole" => Some(Verb::Whole),
+            "tree" => Some(Verb::Tree),
             _ => None,
         }
     }
@@ -66,6 +74,8 @@ impl Verb {
             Verb::Check => &[Own::Model, Own::Certificate],
             Verb::Replay => &[Own::Model, Own::Certificate, Own::Scenarios],
             Verb::Text => &[Own::Number],
+            Verb::Whole => &[Own::Model, Own::Names],
+            Verb::Tree => &[Own::Model, Own::Names],
         }
     }
 
@@ -80,6 +90,8 @@ impl Verb {
             Verb::Check => false,
             Verb::Replay => false,
             Verb::Text => false,
+            Verb::Whole => false,
+            Verb::Tree => false,
         }
     }
 }

@@ -1,0 +1,134 @@
+//! Lists of names in one word, with `,` between them.
+
+ghost use Rattle.std.specs.Prelude.{◌≡◌, ◌↔◌, ◌∷◌, ◌<◌, IfSome, IsTrue, drop, is_some, length, option_map, position};
+ghost use Rattle.rob_lex.specs.Bytes as classes;
+ghost use Rattle.rob_syntax.specs.Names.{GoesOn, IsWord};
+ghost use Rattle.rob_syntax.specs.Symbols.{keyword_among, keywords};
+ghost use Rattle.rob_words.specs.Names.{IsListOf, IsName, IsNameList, is_comma, parts_behind, parts_of};
+
+/// The part of a word in front of its first comma, and what stands behind that comma, where there is one.
+pub fn first_part(word: &[u8]) -> (&[u8], Option<&[u8]>)
+    ensures parts { parts_of word.now ≡ result.0.now ∷ parts_behind (option_map (λ rest. rest.now) result.1) }
+    ensures shorter { IfSome result.1 (λ rest. length rest.now < length word.now) }
+{
+    match comma(word) {
+        Some(before) => (&word[..before], Some(&word[before + 1..])),
+        None => (word, None),
+    }
+}
+
+// How many bytes stand in front of the first comma, if there is one.
+fn comma(word: &[u8]) -> Option<usize>
+    ensures first { result ≡ position is_comma word.now }
+{
+    word.iter().position(|byte| *byte == b',')
+}
+
+/// Whether the word is 1 to 20 names with `,` between them.
+pub(crate) fn is_name_list(word: &[u8]) -> bool
+    ensures names { IsTrue result ↔ IsNameList word.now }
+{
+    is_list_of(20, word)
+}
+
+// Whether the word is at most so many names, and one at least.
+fn is_list_of(most: usize, word: &[u8]) -> bool
+    ensures names { IsTrue result ↔ IsListOf most word.now }
+{
+    let (name, rest) = first_part(word);
+    if most == 0 || !is_name(name) {
+        return false;
+    }
+    match rest {
+        Some(rest) => is_list_of(most - 1, rest),
+        None => true,
+    }
+}
+
+// Whether the word is a name.
+fn is_name(word: &[u8]) -> bool
+    ensures name { IsTrue result ↔ IsName word.now }
+{
+    is_word(word) && !is_keyword(word)
+}
+
+// Whether the word is a letter or `_`, and then letters, digits and `_`.
+fn is_word(word: &[u8]) -> bool
+    ensures word { IsTrue result ↔ IsWord word.now }
+{
+    match word {
+        [first, rest @ ..] => begins_word(*first) && go_on(rest),
+        [] => false,
+    }
+}
+
+// Whether each byte goes on a word.
+fn go_on(bytes: &[u8]) -> bool
+    ensures all { IsTrue result ↔ GoesOn bytes.now }
+{
+    match bytes {
+        [byte, bytes @ ..] => goes_on_word(*byte) && go_on(bytes),
+        [] => true,
+    }
+}
+
+// Whether a word begins with the byte.
+fn begins_word(byte: u8) -> bool
+    ensures class { result ≡ classes.begins_word byte }
+{
+    matches!(byte, b'a'..=b'z' | b'A'..=b'Z' | b'_')
+}
+
+// Whether a word goes on with the byte.
+fn goes_on_word(byte: u8) -> bool
+    ensures class { result ≡ classes.goes_on_word byte }
+{
+    begins_word(byte) || matches!(byte, b'0'..=b'9')
+}
+
+// Whether the word is a keyword of model texts: the names of parts first.
+fn is_keyword(word: &[u8]) -> bool
+    ensures keyword { result ≡ is_some (keyword_among keywords word.now) }
+{
+    word == b"uncertain".as_slice()
+        || word == b"set".as_slice()
+        || word == b"budget".as_slice()
+        || word == b"var".as_slice()
+        || word == b"adaptive".as_slice()
+        || is_goal_or_row(word)
+}
+
+// Whether it is one of the goals, `row`, or one behind these.
+fn is_goal_or_row(word: &[u8]) -> bool
+    ensures keyword { result ≡ is_some (keyword_among (drop 5 keywords) word.now) }
+{
+    word == b"minimise".as_slice()
+        || word == b"minimize".as_slice()
+        || word == b"maximise".as_slice()
+        || word == b"maximize".as_slice()
+        || word == b"row".as_slice()
+        || is_inside(word)
+}
+
+// Whether it is one that stands inside a statement, or one behind these.
+fn is_inside(word: &[u8]) -> bool
+    ensures keyword { result ≡ is_some (keyword_among (drop 10 keywords) word.now) }
+{
+    word == b"in".as_slice()
+        || word == b"at".as_slice()
+        || word == b"by".as_slice()
+        || word == b"over".as_slice()
+        || is_unused(word)
+}
+
+// Whether it is one that no statement has.
+fn is_unused(word: &[u8]) -> bool
+    ensures keyword { result ≡ is_some (keyword_among (drop 14 keywords) word.now) }
+{
+    word == b"objective".as_slice()
+        || word == b"tau".as_slice()
+        || word == b"model".as_slice()
+        || word == b"sum".as_slice()
+        || word == b"for".as_slice()
+        || word == b"to".as_slice()
+}
