@@ -2,12 +2,13 @@
 use Rattle.std.proofs.Common.{◌≡◌, ℕ, List, inl, inr, refl}
 use Rattle.rob_meaning.specs.RobustModel.{RobustModel}
 use Rattle.rob_model.specs.declared.place.Spot.{Spot}
+use Rattle.rob_top.specs.Branched.{BreaksWhole, no_ranges, no_variables}
 use Rattle.rob_top.specs.Calls.{Call}
 use Rattle.rob_top.specs.Headline.{Means}
 use Rattle.rob_top.specs.Refused.{IsWideSpot, elaborating, solving, checking, replaying}
 use Rattle.rob_top.specs.Replayed.{LacksPlan, planless, unread}
 use Rattle.rob_top.specs.declared.ended.Ended.{Ended}
-use Rattle.rob_top.specs.declared.ended.Ended.TheVariants.{Optimal, Infeasible, Unbounded, Printed, Accepted, Rejected, Words, Missing, TooLong, Model, EmptySet, TooWide, Cert, Scenarios, ReadFault, WriteFault, Memory}
+use Rattle.rob_top.specs.declared.ended.Ended.TheVariants.{Optimal, Infeasible, Unbounded, Printed, Accepted, Rejected, Words, Missing, TooLong, Model, EmptySet, TooWide, WideNode, Cert, Scenarios, Whole, ReadFault, WriteFault, Memory}
 use Rattle.rob_words.specs.Commands.{Line, IsCommandLine}
 
 -- a wide number's words are a command line
@@ -22,23 +23,34 @@ lacking_line : (call : Call) (line : Line) (m : RobustModel) (rule number : ℕ)
 lacking_line call line m rule number (unread bytes h breach) = (line, h.model.spelled)
 lacking_line call line m rule number (planless c h is r n) = (line, h.file.model.spelled)
 
+-- and of variables that break a rule
+breaking_line : (call : Call) (line : Line) (m : RobustModel) (rule : ℕ) → BreaksWhole call line m rule → IsCommandLine call.words
+breaking_line call line m rule (no_variables names h told none e) = (line, h.spelled)
+breaking_line call line m rule (no_ranges numbers h e) = (line, h.model.spelled)
+
 -- words that are no command line have no other answer
 pub no_command : (call : Call) (ended : Ended) (text : List ℕ) → (IsCommandLine call.words → ⊥) → Means call ended text
     → ended ≡ Words
 no_command call Words text none h = refl
 no_command call Memory text none h = absurd h
 no_command call WriteFault text none h = absurd h
-no_command call Optimal text none h = absurd (none ((h.line, h.forms.model.spelled)))
-no_command call Infeasible text none h = absurd (none ((h.line, h.forms.model.spelled)))
-no_command call Unbounded text none h = absurd (none ((h.line, h.forms.model.spelled)))
+no_command call Optimal text none (inl h) = absurd (none ((h.line, h.forms.model.spelled)))
+no_command call Optimal text none (inr h) = absurd (none ((h.line, h.has.named.model.spelled)))
+no_command call Infeasible text none (inl h) = absurd (none ((h.line, h.forms.model.spelled)))
+no_command call Infeasible text none (inr h) = absurd (none ((h.line, h.has.named.model.spelled)))
+no_command call Unbounded text none (inl h) = absurd (none ((h.line, h.forms.model.spelled)))
+no_command call Unbounded text none (inr h) = absurd (none ((h.line, h.has.named.model.spelled)))
 no_command call Printed text none (inl h) = absurd (none ((h.line, h.forms.model.spelled)))
 no_command call Printed text none (inr (inl h)) = absurd (none ((h.line, h.has.certificate.file.model.spelled)))
 no_command call Printed text none (inr (inr h)) = absurd (none ((h.line, h.spelled)))
 no_command call Accepted text none h = absurd (none ((h.line, h.read.file.forms.model.spelled)))
 no_command call (Rejected place) text none h = absurd (none ((h.line, h.read.file.forms.model.spelled)))
 no_command call (Model rule line) text none h = absurd (none ((h.line, h.spelled)))
-no_command call (EmptySet weights) text none h = absurd (none ((h.line, h.forms.model.spelled)))
+no_command call (EmptySet weights) text none (inl h) = absurd (none ((h.line, h.forms.model.spelled)))
+no_command call (EmptySet weights) text none (inr h) = absurd (none ((h.line, h.has.named.model.spelled)))
 no_command call (TooWide spot) text none h = absurd (none (wide_line call h.line h.m spot h.wide))
+no_command call (WideNode path spot) text none h = absurd (none ((h.line, h.has.named.model.spelled)))
+no_command call (Whole rule) text none h = absurd (none (breaking_line call h.line h.m rule h.breaks))
 no_command call (Cert rule line) text none (inl h) = absurd (none ((h.line, h.file.forms.model.spelled)))
 no_command call (Cert rule line) text none (inr h) = absurd (none (lacking_line call h.line h.m rule line h.lacks))
 no_command call (Scenarios rule number) text none h = absurd (none ((h.line, h.has.certificate.file.model.spelled)))

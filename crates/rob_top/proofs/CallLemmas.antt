@@ -8,7 +8,7 @@ use Rattle.rob_top.specs.Calls.{Call, Output}
 use Rattle.rob_top.specs.Headline.{Means, Ends, PutMemory, PutRefused}
 use Rattle.rob_top.specs.Lines.{text_lines}
 use Rattle.rob_top.specs.declared.ended.Ended.{Ended}
-use Rattle.rob_top.specs.declared.ended.Ended.TheVariants.{Optimal, Infeasible, Unbounded, Printed, Accepted, Rejected, Words, Missing, TooLong, Model, EmptySet, TooWide, Cert, Scenarios, ReadFault, WriteFault, Memory}
+use Rattle.rob_top.specs.declared.ended.Ended.TheVariants.{Optimal, Infeasible, Unbounded, Printed, Accepted, Rejected, Words, Missing, TooLong, Model, EmptySet, TooWide, WideNode, Cert, Scenarios, Whole, ReadFault, WriteFault, Memory}
 
 -- the text of an answer was put whole
 pub ends_whole : (call : Call) (output : Output) (ended : Ended) (text : List ℕ)
@@ -28,8 +28,10 @@ ends_whole call output TooLong text means took puts = record { text = text; mean
 ends_whole call output (Model rule line) text means took puts = record { text = text; means = means; took = took; puts = puts }
 ends_whole call output (EmptySet weights) text means took puts = record { text = text; means = means; took = took; puts = puts }
 ends_whole call output (TooWide spot) text means took puts = record { text = text; means = means; took = took; puts = puts }
+ends_whole call output (WideNode path spot) text means took puts = record { text = text; means = means; took = took; puts = puts }
 ends_whole call output (Cert rule line) text means took puts = record { text = text; means = means; took = took; puts = puts }
 ends_whole call output (Scenarios rule number) text means took puts = record { text = text; means = means; took = took; puts = puts }
+ends_whole call output (Whole rule) text means took puts = record { text = text; means = means; took = took; puts = puts }
 ends_whole call output ReadFault text means took puts = record { text = text; means = means; took = took; puts = puts }
 
 -- a put of the text was refused

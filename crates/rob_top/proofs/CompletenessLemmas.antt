@@ -13,9 +13,11 @@ use Rattle.rob_check.specs.declared.verdict.Verdict.TheVariants as verdicts
 use Rattle.rob_meaning.specs.Certificates.{Certificate, Status}
 use Rattle.rob_meaning.specs.Proves.{Proves}
 use Rattle.rob_meaning.specs.RobustModel.{RobustModel}
-use Rattle.rob_meaning.specs.UncertaintySet.{IsEmptySet}
+use Rattle.rob_meaning.specs.UncertaintySet.{Admits, IsEmptySet}
 use Rattle.rob_meaning.specs.WellFormed.{IsModel}
 use Rattle.rob_model.specs.declared.place.Place.{Place}
+use Rattle.rob_algebra.specs.Fraction.{Fraction}
+use Rattle.rob_reach.specs.WholeStatus.{HasWholeStatus}
 use Rattle.rob_top.proofs.AnswerLemmas.{no_command}
 use Rattle.rob_top.proofs.KnownLemmas.{known_again, means_known}
 use Rattle.rob_replay.specs.Outcome.{outcome}
@@ -23,15 +25,16 @@ use Rattle.rob_top.proofs.GeneratedLemmas.{generated_decides}
 use Rattle.rob_top.proofs.ReplayAnswerLemmas.{planless_decides, replay_decides}
 use Rattle.rob_top.proofs.StageLemmas.{broken_answer}
 use Rattle.rob_top.proofs.TrueAnswerLemmas.{empty_decides, missing_decides, rows_decide, rule_decides, solve_decides, status_decides, too_long_decides, verdict_decides, well, wide_decides}
-use Rattle.rob_top.specs.Calls.{Call, IsSolving, Known, Output, known_call, limit_of}
-use Rattle.rob_top.specs.Completeness.{EndsAs, IsComplete, IsEmptyAnswer, IsOutside, IsProvedAnswer, IsSolveAnswer, IsUnput, MustEnd}
+use Rattle.rob_top.proofs.WholeAnswerLemmas.{breaking_decides, some_whole_status, whole_decides, whole_empty_decides, whole_status_decides}
+use Rattle.rob_top.specs.Calls.{Call, IsBranching, IsSolving, Known, Output, known_call, limit_of}
+use Rattle.rob_top.specs.Completeness.{EndsAs, IsComplete, IsEmptyAnswer, IsEmptyWholeAnswer, IsNarrowBelow, IsOutside, IsProvedAnswer, IsSolveAnswer, IsUnput, IsWholeAnswer, MustEnd}
 use Rattle.rob_top.specs.Headline.{Ends, Means}
-use Rattle.rob_top.specs.Inputs.{HasCertificate, HasCertificateFile, HasForms}
+use Rattle.rob_top.specs.Inputs.{HasCertificate, HasCertificateFile, HasForms, HasWholeVariables}
 use Rattle.rob_top.specs.Replayed.{replay_ended}
 use Rattle.rob_top.specs.Solved.{IsPrinted, IsSolved}
-use Rattle.rob_top.specs.Work.{verdict_ended}
+use Rattle.rob_top.specs.Work.{ended_of, verdict_ended}
 use Rattle.rob_top.specs.declared.ended.Ended.{Ended}
-use Rattle.rob_top.specs.declared.ended.Ended.TheVariants.{Optimal, Infeasible, Unbounded, Printed, Accepted, Rejected, Words, Missing, TooLong, Model, EmptySet, TooWide, Cert, Scenarios, ReadFault, WriteFault, Memory}
+use Rattle.rob_top.specs.declared.ended.Ended.TheVariants.{Optimal, Infeasible, Unbounded, Printed, Accepted, Rejected, Words, Missing, TooLong, Model, EmptySet, TooWide, WideNode, Cert, Scenarios, Whole, ReadFault, WriteFault, Memory}
 use Rattle.rob_words.specs.Commands.{Line, IsCommandLine}
 use Rattle.rob_words.specs.Values.{bits_of}
 use Rattle.rob_words.specs.declared.verb.Verb.{Verb}
@@ -113,6 +116,35 @@ module _ (call : Call) (known : Known call.source) (ended : Ended) (comes : Come
         by (inr (inl e)) = subst (λ (x : Ended). IsEmptyAnswer (limit_of line) m x) (sym e) (inr (inl refl))
         by (inr (inr e)) = subst (λ (x : Ended). IsEmptyAnswer (limit_of line) m x) (sym e) (inr (inr refl))
 
+    module _ (names : List ℕ) (has : HasWholeVariables call line m names) (is : IsBranching line.verb) where
+      whole_ends : IsWholeAnswer (limit_of line) m names ended
+      whole_ends = by comes
+        where
+          by : Comes call ended → IsWholeAnswer (limit_of line) m names ended
+          by (inl h) = whole_decides call known line m names has is ended h.0 h.1
+          by (inr (inl e)) = subst (λ (x : Ended). IsWholeAnswer (limit_of line) m names x) (sym e) (inr (inl refl))
+          by (inr (inr e)) = subst (λ (x : Ended). IsWholeAnswer (limit_of line) m names x) (sym e) (inr (inr refl))
+
+      whole_empty_ends : IsEmptySet m → IsEmptyWholeAnswer (limit_of line) m ended
+      whole_empty_ends none = by comes
+        where
+          by : Comes call ended → IsEmptyWholeAnswer (limit_of line) m ended
+          by (inl h) = whole_empty_decides call known line m names has is none ended h.0 h.1
+          by (inr (inl e)) = subst (λ (x : Ended). IsEmptyWholeAnswer (limit_of line) m x) (sym e) (inr (inl refl))
+          by (inr (inr e)) = subst (λ (x : Ended). IsEmptyWholeAnswer (limit_of line) m x) (sym e) (inr (inr refl))
+
+    whole_status_ends : (names : List ℕ) (u : List Fraction) → HasWholeVariables call line m names → IsBranching line.verb → Admits m u
+        → IsNarrowBelow (limit_of line) m names
+        → (status : Status) × (v : Fraction) × HasWholeStatus m names status v × EndsAs (ended_of status) ended
+    whole_status_ends names u has is admitted narrow =
+        let s = some_whole_status call known line m names has is u admitted in (
+          s.0,
+          s.1,
+          s.2,
+          comes_ends call (ended_of s.0) ended comes
+              (whole_status_decides call known line m names has is u admitted narrow s.0 s.1 s.2 ended),
+        )
+
     module _ (c : Certificate) (has : HasCertificate call line m c) where
       read_model : IsModel m
       read_model = well call known line m has.file.forms.model
@@ -160,6 +192,11 @@ module _ (call : Call) (known : Known call.source) (ended : Ended) (comes : Come
     replayed = λ line m c bytes rows has file.
         comes_ends call (replay_ended (outcome (limit_of line) m c.plan rows)) ended comes
         (replay_decides call known line m c bytes rows has file ended);
+    whole_rule = λ line m rule is breaks.
+        comes_ends call (Whole rule) ended comes (breaking_decides call known line m rule is breaks ended);
+    whole = whole_ends;
+    whole_empty = whole_empty_ends;
+    whole_status = whole_status_ends;
     generated = λ line spelled is. comes_printed call ended comes (generated_decides call known line spelled is ended);
   }
 
@@ -193,8 +230,10 @@ ends_come call output TooLong h = inl (h.text, h.means)
 ends_come call output (Model rule line) h = inl (h.text, h.means)
 ends_come call output (EmptySet weights) h = inl (h.text, h.means)
 ends_come call output (TooWide spot) h = inl (h.text, h.means)
+ends_come call output (WideNode path spot) h = inl (h.text, h.means)
 ends_come call output (Cert rule line) h = inl (h.text, h.means)
 ends_come call output (Scenarios rule number) h = inl (h.text, h.means)
+ends_come call output (Whole rule) h = inl (h.text, h.means)
 ends_come call output ReadFault h = inl (h.text, h.means)
 
 pub ends_complete : (call : Call) (output : Output) (ended : Ended) → Ends call output ended → IsComplete call ended

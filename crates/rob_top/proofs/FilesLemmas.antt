@@ -15,7 +15,7 @@ use Rattle.rob_top.specs.Headline.{Means}
 use Rattle.rob_top.specs.Replies.{AreFound, Asks, AsksOnce, CameIn, IsAbsence, IsAbsentAmong, IsFetched, IsGot, IsNothing, text_of, with_file, with_text}
 use Rattle.rob_top.specs.Work.{IsShortFetch}
 use Rattle.rob_top.specs.declared.ended.Ended.{Ended}
-use Rattle.rob_top.specs.declared.ended.Ended.TheVariants.{Optimal, Infeasible, Unbounded, Printed, Accepted, Rejected, Words, Missing, TooLong, Model, EmptySet, TooWide, Cert, Scenarios, ReadFault, WriteFault, Memory}
+use Rattle.rob_top.specs.declared.ended.Ended.TheVariants.{Optimal, Infeasible, Unbounded, Printed, Accepted, Rejected, Words, Missing, TooLong, Model, EmptySet, TooWide, WideNode, Cert, Scenarios, Whole, ReadFault, WriteFault, Memory}
 use Rattle.rob_top.specs.declared.files.Files.{Files}
 use Rattle.rob_top.specs.declared.files.Files.TheVariants as files
 use Rattle.rob_top.specs.declared.files.Got.{Got}
@@ -95,8 +95,10 @@ means_absent call line before request behind faults Words text spelled order cam
 means_absent call line before request behind faults (Model rule number) text spelled order came raised h = absurd h
 means_absent call line before request behind faults (EmptySet weights) text spelled order came raised h = absurd h
 means_absent call line before request behind faults (TooWide spot) text spelled order came raised h = absurd h
+means_absent call line before request behind faults (WideNode path spot) text spelled order came raised h = absurd h
 means_absent call line before request behind faults (Cert rule number) text spelled order came raised h = absurd h
 means_absent call line before request behind faults (Scenarios rule number) text spelled order came raised h = absurd h
+means_absent call line before request behind faults (Whole rule) text spelled order came raised h = absurd h
 means_absent call line before request behind faults WriteFault text spelled order came raised h = absurd h
 means_absent call line before request behind faults Memory text spelled order came raised h = absurd h
 
@@ -186,8 +188,10 @@ module _ (told : Option (List File)) (request : Request) (files : List Request) 
   absence_behind other earlier faults (Model rule number) text raised h = absurd h
   absence_behind other earlier faults (EmptySet weights) text raised h = absurd h
   absence_behind other earlier faults (TooWide spot) text raised h = absurd h
+  absence_behind other earlier faults (WideNode path spot) text raised h = absurd h
   absence_behind other earlier faults (Cert rule number) text raised h = absurd h
   absence_behind other earlier faults (Scenarios rule number) text raised h = absurd h
+  absence_behind other earlier faults (Whole rule) text raised h = absurd h
   absence_behind other earlier faults WriteFault text raised h = absurd h
   absence_behind other earlier faults Memory text raised h = absurd h
 
@@ -316,6 +320,7 @@ few_bytes own.Model most bound = let e : 65536 ≡ most = cc in omega (arith, e)
 few_bytes own.Certificate most bound = let e : 4194304 ≡ most = cc in omega (arith, e)
 few_bytes own.Scenarios most bound = let e : 4194304 ≡ most = cc in omega (arith, e)
 few_bytes own.Number most bound = absurd (let no : None ≡ Some most = bound in cc)
+few_bytes own.Names most bound = absurd (let no : None ≡ Some most = bound in cc)
 
 short_with : (kind : Own) (bytes : Vec ℕ Global) (found_files : Files) → length bytes.items ≤ 2 ^ 30 → IsShortFetch found_files
     → IsShortFetch (with_file kind bytes found_files)
@@ -323,6 +328,7 @@ short_with own.Model bytes (files.Texts texts) few h = record { model = few; cer
 short_with own.Certificate bytes (files.Texts texts) few h = record { model = h.model; certificate = few; scenarios = h.scenarios }
 short_with own.Scenarios bytes (files.Texts texts) few h = record { model = h.model; certificate = h.certificate; scenarios = few }
 short_with own.Number bytes (files.Texts texts) few h = h
+short_with own.Names bytes (files.Texts texts) few h = h
 short_with kind bytes (files.Answer reply) few h = tt
 
 pub more_short : (kind : Own) (most : ℕ) → most_of kind ≡ Some most → (bytes : Vec ℕ Global) (found_files : Files)
@@ -333,7 +339,7 @@ more_short kind most bound bytes found_files few h =
 -- ---- the first of own words, and those behind it
 
 -- what is no number is none
-pub none_of : (o : Option ℕ) → ((n : ℕ) → o ≡ Some n → ⊥) → o ≡ None
+pub none_of : {A : Type 0} (o : Option A) → ((n : A) → o ≡ Some n → ⊥) → o ≡ None
 none_of None h = refl
 none_of (Some n) h = absurd (h n refl)
 

@@ -1,12 +1,13 @@
 -- What a call answers, from what came of its files and what the work on them answers.
-use Rattle.std.proofs.Common.{◌≡◌, List, Result, Ok, Err, IfOk, refl, subst, sym}
+use Rattle.std.proofs.Common.{◌≡◌, ◌≤◌, ◌^◌, ℕ, List, length, Some, Vec, Global, Result, Ok, Err, IfOk, ap, refl, subst, sym}
 use Rattle.rob_meaning.specs.Places.{Each}
 use Rattle.rob_number.specs.declared.memory.Memory.{Memory as Want}
 use Rattle.rob_outside.specs.Files.{whole}
 use Rattle.rob_top.specs.Answers.{words_text}
-use Rattle.rob_top.specs.Calls.{Call, Count, IsFoundIn, Source, WasRaised, call_of, requests}
+use Rattle.rob_top.specs.Calls.{Call, Count, IsFoundIn, Source, WasRaised, call_of, requests, word_of}
 use Rattle.rob_top.specs.Headline.{Means}
 use Rattle.rob_top.specs.Replies.{AreFound, CameIn, HasTexts, IsAbsence, IsAbsentAmong, IsFetched, IsLine, Replies, text_of}
+use Rattle.rob_top.specs.Work.{IsShort}
 use Rattle.rob_top.specs.declared.ended.Ended.{Ended}
 use Rattle.rob_top.specs.declared.ended.Ended.TheVariants.{Words}
 use Rattle.rob_top.specs.declared.files.Files.{Files}
@@ -19,8 +20,34 @@ use Rattle.rob_words.specs.Commands.{Line, IsCommandLine, IsSpelled}
 use Rattle.rob_words.specs.Values.{Word}
 use Rattle.rob_words.specs.Verbs.{own_of}
 use Rattle.rob_words.specs.declared.line.CommandLine.{CommandLine}
+use Rattle.rob_words.specs.declared.verb.Own.{Own}
+use Rattle.rob_words.specs.declared.verb.Own.TheVariants as own
+
+-- the same files
+abbrev pub SameFiles : Texts → Texts → Type 0
+SameFiles texts with =
+    (with.model ≡ texts.model) × (with.certificate ≡ texts.certificate) × (with.scenarios ≡ texts.scenarios)
+
+text_kept : (kind : Own) (texts with : Texts) → SameFiles texts with → text_of kind with ≡ text_of kind texts
+text_kept own.Model texts with same = ap (λ (v : Vec ℕ Global). v.items) same.0
+text_kept own.Certificate texts with same = ap (λ (v : Vec ℕ Global). v.items) same.1
+text_kept own.Scenarios texts with same = ap (λ (v : Vec ℕ Global). v.items) same.2
+text_kept own.Number texts with same = refl
+text_kept own.Names texts with same = refl
+
+-- so they are short enough
+pub short_kept : (texts with : Texts) → SameFiles texts with → IsShort texts → IsShort with
+short_kept texts with same short = record {
+  model = subst (λ (v : Vec ℕ Global). length v.items ≤ 2 ^ 30) (sym same.0) short.model;
+  certificate = subst (λ (v : Vec ℕ Global). length v.items ≤ 2 ^ 30) (sym same.1) short.certificate;
+  scenarios = subst (λ (v : Vec ℕ Global). length v.items ≤ 2 ^ 30) (sym same.2) short.scenarios;
+}
 
 module _ (line : CommandLine) (source : Source) (faults wides : Count) where
+  -- the list of names is the line's
+  abbrev pub TakesNames : Texts → Type 0
+  TakesNames with = (word : Word) → word_of own.Names (own_of line.verb) (line_of line).own ≡ Some word → with.names.items ≡ word
+
   -- the reply answers each call of the line
   abbrev pub AnswersLine : Reply → Type 0
   AnswersLine reply =
@@ -30,19 +57,22 @@ module _ (line : CommandLine) (source : Source) (faults wides : Count) where
   abbrev LineFetched : Files → Type 0
   LineFetched files = IsFetched (own_of line.verb) (line_of line).own source faults files
 
-  -- the files came, and the work on them answers
-  pub texts_answer : (files : Files) (texts : Texts) (r : Result Reply Want) → files ≡ fetch.Texts texts → LineFetched files
-      → IfOk r (λ reply. (call : Call) → HasTexts call (line_of line) texts → call.wides ≡ wides → Means call reply.ended reply.text)
+  -- the files came, and the work on them, with the line's list of names, answers
+  pub texts_answer : (files : Files) (texts with : Texts) (r : Result Reply Want) → files ≡ fetch.Texts texts → LineFetched files
+      → SameFiles texts with → TakesNames with
+      → IfOk r (λ reply. (call : Call) → HasTexts call (line_of line) with → call.wides ≡ wides → Means call reply.ended reply.text)
       → IfOk r AnswersLine
-  texts_answer files texts (Err want) e came h = tt
-  texts_answer files texts (Ok reply) e came h = λ call spelled source_is faults_is wides_is.
+  texts_answer files texts with (Err want) e came same names h = tt
+  texts_answer files texts with (Ok reply) e came same names h = λ call spelled source_is faults_is wides_is.
       let found : AreFound source (own_of line.verb) (line_of line).own texts = subst (λ (f : Files). LineFetched f) e came in
       h call
       (record {
         spelled = spelled;
         came = subst (λ (s : Source). Each (CameIn s) (requests (line_of line))) (sym source_is) found.came;
         found = λ kind r named.
-            subst (λ (s : Source). IsFoundIn s r (whole (text_of kind texts))) (sym source_is) (found.found kind r named);
+            subst (λ (s : Source). IsFoundIn s r (whole (text_of kind with))) (sym source_is)
+            (subst (λ (text : List ℕ). IsFoundIn source r (whole text)) (sym (text_kept kind texts with same)) (found.found kind r named));
+        names = names;
       })
       wides_is
 

@@ -6,14 +6,15 @@ use Rattle.rob_meaning.specs.RobustModel.{RobustModel}
 use Rattle.rob_model.specs.declared.place.Spot.{Spot}
 use Rattle.rob_outside.specs.Fetches.{Fetch}
 use Rattle.rob_outside.specs.Files.{File, Found, whole, missing, too_long, found_at}
+use Rattle.rob_top.specs.Branched.{BreaksWhole, IsBranched, no_ranges, no_variables}
 use Rattle.rob_top.specs.Calls.{Call, Came, HasFile, IsFirstAbsent, IsFoundIn, Known, Request, Source, answer_to, by_fetches, by_files, known_call, known_source, requests}
 use Rattle.rob_top.specs.Headline.{Means}
-use Rattle.rob_top.specs.Inputs.{HasCertificate, HasCertificateFile, HasForms, HasModel, HasReplayCertificate, HasReplayFile, HasScenarios}
+use Rattle.rob_top.specs.Inputs.{HasCertificate, HasCertificateFile, HasForms, HasModel, HasReplayCertificate, HasReplayFile, HasScenarios, HasVariables, HasWholeVariables}
 use Rattle.rob_top.specs.Refused.{IsWideSpot, checking, elaborating, replaying, solving}
 use Rattle.rob_top.specs.Replayed.{IsReplayed, LacksPlan, planless, unread}
 use Rattle.rob_top.specs.Solved.{IsSolved}
 use Rattle.rob_top.specs.declared.ended.Ended.{Ended}
-use Rattle.rob_top.specs.declared.ended.Ended.TheVariants.{Optimal, Infeasible, Unbounded, Printed, Accepted, Rejected, Words, Missing, TooLong, Model, EmptySet, TooWide, Cert, Scenarios, ReadFault, WriteFault, Memory}
+use Rattle.rob_top.specs.declared.ended.Ended.TheVariants.{Optimal, Infeasible, Unbounded, Printed, Accepted, Rejected, Words, Missing, TooLong, Model, EmptySet, TooWide, WideNode, Cert, Scenarios, Whole, ReadFault, WriteFault, Memory}
 use Rattle.rob_words.specs.Commands.{Line}
 use Rattle.rob_words.specs.declared.verb.Own.{Own}
 use Rattle.rob_words.specs.declared.verb.Own.TheVariants as own
@@ -102,6 +103,21 @@ module _ (call : Call) (known : Known call.source) where
     lacking_known rule number (unread bytes h breach) = unread bytes (replay_file_known bytes h) breach
     lacking_known rule number (planless c h is r n) = planless c (replay_certificate_known c h) is r n
 
+    variables_known : (numbers : List ℕ) → HasVariables call line m numbers → HasVariables part line m numbers
+    variables_known numbers h = record {
+      model = model_known h.model;
+      names = h.names;
+      told = h.told;
+      variables = h.variables;
+    }
+
+    whole_known : (numbers : List ℕ) → HasWholeVariables call line m numbers → HasWholeVariables part line m numbers
+    whole_known numbers h = record { named = variables_known numbers h.named; keeps = h.keeps }
+
+    pub breaking_known : (rule : ℕ) → BreaksWhole call line m rule → BreaksWhole part line m rule
+    breaking_known rule (no_variables names h told none e) = no_variables names (model_known h) told none e
+    breaking_known rule (no_ranges numbers h e) = no_ranges numbers (variables_known numbers h) e
+
     spot_known : (spot : Spot) → IsWideSpot call line m spot → IsWideSpot part line m spot
     spot_known spot (elaborating h makes first) = elaborating (model_known h) makes first
     spot_known spot (solving h is_solving wide) = solving (forms_known h) is_solving wide
@@ -125,6 +141,23 @@ module _ (call : Call) (known : Known call.source) where
     printed = h.printed;
   }
 
+  branched_known : (status : Status) (text : List ℕ) → IsBranched call status text → IsBranched part status text
+  branched_known status text h = record {
+    line = h.line;
+    m = h.m;
+    names = h.names;
+    has = whole_known h.line h.m h.names h.has;
+    branches = h.branches;
+    t = h.t;
+    status_is = h.status_is;
+    holds = h.holds;
+    proves = h.proves;
+    grown = h.grown;
+    shape = h.shape;
+    fits = h.fits;
+    printed = h.printed;
+  }
+
   replayed_known : (text : List ℕ) → IsReplayed call text → IsReplayed part text
   replayed_known text h = record {
     line = h.line;
@@ -142,9 +175,12 @@ module _ (call : Call) (known : Known call.source) where
   }
 
   pub means_known : (ended : Ended) (text : List ℕ) → Means call ended text → Means part ended text
-  means_known Optimal text h = solved_known optimal text h
-  means_known Infeasible text h = solved_known infeasible text h
-  means_known Unbounded text h = solved_known unbounded text h
+  means_known Optimal text (inl h) = inl (solved_known optimal text h)
+  means_known Optimal text (inr h) = inr (branched_known optimal text h)
+  means_known Infeasible text (inl h) = inl (solved_known infeasible text h)
+  means_known Infeasible text (inr h) = inr (branched_known infeasible text h)
+  means_known Unbounded text (inl h) = inl (solved_known unbounded text h)
+  means_known Unbounded text (inr h) = inr (branched_known unbounded text h)
   means_known Printed text (inl h) = inl (record {
     line = h.line;
     m = h.m;
@@ -192,7 +228,7 @@ module _ (call : Call) (known : Known call.source) where
     breaks = h.breaks;
     printed = h.printed;
   }
-  means_known (EmptySet weights) text h = record {
+  means_known (EmptySet weights) text (inl h) = inl (record {
     line = h.line;
     m = h.m;
     forms = forms_known h.line h.m h.forms;
@@ -203,6 +239,33 @@ module _ (call : Call) (known : Known call.source) where
     is_set = h.is_set;
     own = h.own;
     none_in_set = h.none_in_set;
+    printed = h.printed;
+  })
+  means_known (EmptySet weights) text (inr h) = inr (record {
+    line = h.line;
+    m = h.m;
+    names = h.names;
+    has = whole_known h.line h.m h.names h.has;
+    branches = h.branches;
+    shown = h.shown;
+    printed = h.printed;
+  })
+  means_known (WideNode path spot) text h = record {
+    line = h.line;
+    m = h.m;
+    names = h.names;
+    has = whole_known h.line h.m h.names h.has;
+    branches = h.branches;
+    comes = h.comes;
+    wide = h.wide;
+    raised = h.raised;
+    printed = h.printed;
+  }
+  means_known (Whole rule) text h = record {
+    line = h.line;
+    m = h.m;
+    branches = h.branches;
+    breaks = breaking_known h.line h.m rule h.breaks;
     printed = h.printed;
   }
   means_known (TooWide spot) text h = record {

@@ -1,8 +1,8 @@
 -- Which files a command line names, by the kinds of its own words.
 use Rattle.std.proofs.Common.{◌≡◌, ◌||◌, ℕ, Bool, true, false, not, refl, sym, ◌∙◌, ap, subst, arith, List, [], ◌∷◌, length, Option, Some, None, Vec, Global, rules}
-use Rattle.std.specs.Prelude.{option_map}
+use Rattle.std.specs.Prelude.{if◌then◌else◌, option_map}
 use denote.Enum.Bare.{same_true, sameb}
-use Rattle.rob_top.specs.Calls.{Call, HasFile, IsOnModel, Request, elaborates, file_of, files_of, first_or, later, most_of, reads_model, request_of, requests}
+use Rattle.rob_top.specs.Calls.{Call, HasFile, IsBranching, IsOnModel, Request, branches, file_of, files_of, first_or, later, most_of, reads_model, request_of, requests, word_of}
 use Rattle.rob_top.specs.Replies.{HasTexts, text_of, with_text}
 use Rattle.rob_top.specs.declared.files.Texts.{Texts}
 use Rattle.rob_words.specs.Commands.{Line}
@@ -11,9 +11,9 @@ use Rattle.rob_words.specs.Verbs.{own_of}
 use Rattle.rob_words.specs.contracts.verb.Own.{the_type}
 use Rattle.rob_words.specs.contracts.verb.Verb.{enum, the_type as verb_type}
 use Rattle.rob_words.specs.declared.verb.Own.{Own}
-use Rattle.rob_words.specs.declared.verb.Own.TheVariants.{Model, Certificate, Scenarios, Number}
+use Rattle.rob_words.specs.declared.verb.Own.TheVariants.{Model, Certificate, Scenarios, Number, Names}
 use Rattle.rob_words.specs.declared.verb.Verb.{Verb}
-use Rattle.rob_words.specs.declared.verb.Verb.TheVariants.{Replay, Text}
+use Rattle.rob_words.specs.declared.verb.Verb.TheVariants.{Text}
 use Rattle.rob_words.proofs.EachValue.{each_value}
 
 -- ---- facts of the table of commands
@@ -36,16 +36,13 @@ pub has_model : (verb : Verb) → IsOnModel verb → has_kind Model (own_of verb
 has_model verb reads =
     second_of (not (reads_model verb)) (has_kind Model (own_of verb)) (each_value enum is_named refl verb) (ap not reads)
 
--- one that makes no set rows and forms of it is `replay`
-abbrev is_elaborated : Verb → Bool
-is_elaborated v = not (reads_model v) || (elaborates v || sameb verb_type v Replay)
+-- one that grows a tree has a list of names
+abbrev is_naming : Verb → Bool
+is_naming v = not (branches v) || has_kind Names (own_of v)
 
-pub replay_alone : (verb : Verb) → IsOnModel verb → elaborates verb ≡ false → verb ≡ Replay
-replay_alone verb reads e =
-    same_true verb_type tt verb Replay
-    (second_of (elaborates verb) (sameb verb_type verb Replay)
-    (second_of (not (reads_model verb)) (elaborates verb || sameb verb_type verb Replay)
-    (each_value enum is_elaborated refl verb) (ap not reads)) e)
+pub has_names : (verb : Verb) → IsBranching verb → has_kind Names (own_of verb) ≡ true
+has_names verb is =
+    second_of (not (branches verb)) (has_kind Names (own_of verb)) (each_value enum is_naming refl verb) (ap not is)
 
 -- one that reads none is `text`
 abbrev is_read : Verb → Bool
@@ -95,6 +92,20 @@ request_there kind most bound (other ∷ kinds) (name ∷ names) count has =
     by false alike None none h behind = behind h
     by false alike (Some n) is h behind = let r = behind h in (later r.0, ap (option_map later) r.1)
 
+-- words of which one is of a kind have a word of that kind
+pub word_there : (kind : Own) (kinds : List Own) (words : List Word) → length words ≡ length kinds → has_kind kind kinds ≡ true
+    → (w : Word) × (word_of kind kinds words ≡ Some w)
+word_there kind [] words count has = absurd (search (has, rules))
+word_there kind (other ∷ kinds) [] count has = absurd (omega (arith, count))
+word_there kind (other ∷ kinds) (word ∷ words) count has =
+    by (sameb the_type other kind) has (word_there kind kinds words (omega (arith, count)))
+  where
+    by : (same : Bool) → (same || has_kind kind kinds) ≡ true
+        → (has_kind kind kinds ≡ true → (w : Word) × (word_of kind kinds words ≡ Some w))
+        → (w : Word) × ((if same then Some word else word_of kind kinds words) ≡ Some w)
+    by true h behind = (word, refl)
+    by false h behind = behind h
+
 -- the file of a kind that the line names came with the text of that kind
 pub file_came : (call : Call) (line : Line) (texts : Texts) (kind : Own) (most : ℕ) → most_of kind ≡ Some most → HasTexts call line texts
     → has_kind kind (own_of line.verb) ≡ true → HasFile call line kind (text_of kind texts)
@@ -115,6 +126,7 @@ text_of-same Model most bound bytes texts = refl
 text_of-same Certificate most bound bytes texts = refl
 text_of-same Scenarios most bound bytes texts = refl
 text_of-same Number most bound bytes texts = absurd (let no : None ≡ Some most = bound in cc)
+text_of-same Names most bound bytes texts = absurd (let no : None ≡ Some most = bound in cc)
 
 pub text_of-other : (kind other : Own) (bytes : Vec ℕ Global) (texts : Texts) → sameb the_type kind other ≡ false
     → text_of other (with_text kind bytes texts) ≡ text_of other texts
@@ -131,3 +143,7 @@ text_of-other Number other bytes texts apart = refl
 text_of-other Model Number bytes texts apart = refl
 text_of-other Certificate Number bytes texts apart = refl
 text_of-other Scenarios Number bytes texts apart = refl
+text_of-other Names other bytes texts apart = refl
+text_of-other Model Names bytes texts apart = refl
+text_of-other Certificate Names bytes texts apart = refl
+text_of-other Scenarios Names bytes texts apart = refl

@@ -4,11 +4,11 @@ use Rattle.rob_meaning.specs.Certificates.{Certificate, Status, infeasible}
 use Rattle.rob_meaning.specs.Places.{Each}
 use Rattle.rob_meaning.specs.RobustModel.{RobustModel}
 use Rattle.rob_replay.specs.Replayed.{ShowsBound}
+use Rattle.rob_top.proofs.CommandLemmas.{check_not_replay}
 use Rattle.rob_top.proofs.CompletenessLemmas.{printed_fits, printed_text}
 use Rattle.rob_top.proofs.KnownLemmas.{known_again, means_known, scenarios_known}
 use Rattle.rob_top.proofs.ReplayAnswerLemmas.{no_breach, one_certificate, proved_shows}
 use Rattle.rob_top.proofs.StageLemmas.{lacking_model, one_model_read}
-use Rattle.rob_top.proofs.TrueAnswerLemmas.{check_not_replay}
 use Rattle.rob_top.specs.Calls.{Call, Known, known_call}
 use Rattle.rob_top.specs.Headline.{Means}
 use Rattle.rob_top.specs.Inputs.{HasModel, HasReplayCertificate, HasReplayFile, HasScenarios}

@@ -19,10 +19,11 @@ use Rattle.rob_replay.proofs.OneFileLemmas.{one_file}
 use Rattle.rob_replay.specs.Files.{IsFile}
 use Rattle.rob_replay.specs.Outcome.{outcome}
 use Rattle.rob_replay.specs.Replayed.{ShowsBound}
-use Rattle.rob_top.proofs.CourseLemmas.{Course, finds, judges, lacks_plan, prints, refuses, replays, shows_empty, wide_number, wide_row}
+use Rattle.rob_top.proofs.CommandLemmas.{check_not_replay, replay_no_branch, replays_alone, rows_not_replay, solves_no_replay}
+use Rattle.rob_top.proofs.CourseLemmas.{Course, branching, finds, judges, lacks_plan, prints, refuses, replays, shows_empty, wide_number, wide_row}
 use Rattle.rob_top.proofs.SolvingLemmas.{proved_bound}
 use Rattle.rob_top.proofs.StageLemmas.{file_once, lacking_model}
-use Rattle.rob_top.proofs.TrueAnswerLemmas.{check_not_replay, course_of, first_of_two, in_words, lacking_verb, most, named, replays_alone, rows_not_replay, solves_no_replay, well}
+use Rattle.rob_top.proofs.TrueAnswerLemmas.{course_of, first_of_two, in_words, lacking_verb, most, named, well}
 use Rattle.rob_top.proofs.WorkLemmas.{limit_is}
 use Rattle.rob_top.specs.Calls.{Call, Known, limit_of}
 use Rattle.rob_top.specs.Headline.{Means}
@@ -112,6 +113,7 @@ module _ (call : Call) (known : Known call.source) (line : Line) (m : RobustMode
       by (wide_row spot forms solves wide e) = absurd (solves_no_replay line.verb here solves)
       by (replays d list others h other e) = e ∙ same_records c d bytes list rows others has h file other
       by (lacks_plan rule number h e) = absurd (lacks_no_plan rule number c bytes h has)
+      by (branching is course) = absurd (replay_no_branch line.verb here is)
 
   pub planless_decides : (rule number : ℕ) → LacksPlan call line m rule number → (ended : Ended) (text : List ℕ) → Means call ended text
       → (ended ≡ Cert rule number) ⊎ ((ended ≡ ReadFault) ⊎ (ended ≡ Memory))
@@ -132,6 +134,7 @@ module _ (call : Call) (known : Known call.source) (line : Line) (m : RobustMode
       by (lacks_plan r n h e) =
           let one = one_lack rule number r n has h in
           e ∙ ap (λ k. Cert k n) one.0 ∙ ap (λ k. Cert rule k) one.1
+      by (branching is course) = absurd (replay_no_branch line.verb here is)
 
 -- ---- the plan of a certificate that proves has its bound, and each inside line of its table shows it
 model_read : (call : Call) (line : Line) (m : RobustModel) → HasModel call line m → IsModel m

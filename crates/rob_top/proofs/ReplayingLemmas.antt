@@ -1,5 +1,5 @@
 -- The answers of `replay`, from what the reading of a certificate and the replaying of a scenario file answer.
-use Rattle.std.proofs.Common.{◌≡◌, ◌≢◌, ℕ, ◌≤◌, true, false, List, Result, Ok, Err, IfOk, inl, inr, refl, subst, sym, ap, ◌∙◌}
+use Rattle.std.proofs.Common.{◌≡◌, ◌≢◌, ℕ, ◌≤◌, true, List, Result, Ok, Err, IfOk, inl, inr, refl, subst, sym, ap, ◌∙◌}
 use Rattle.rob_cert.specs.Apart.{FitsLines}
 use Rattle.rob_cert.specs.Causes.{HasCause}
 use Rattle.rob_cert.specs.Reading.{start}
@@ -25,7 +25,7 @@ use Rattle.rob_replay.specs.View.{Gives}
 use Rattle.rob_report.specs.Spots.{too_wide_line}
 use Rattle.rob_report.specs.Tables.{table_of}
 use Rattle.rob_top.specs.Answers.{certificate_text, scenarios_text}
-use Rattle.rob_top.specs.Calls.{Count, HasFile, IsOnModel, count, elaborates}
+use Rattle.rob_top.specs.Calls.{Count, HasFile, count}
 use Rattle.rob_top.specs.Headline.{Means}
 use Rattle.rob_top.specs.Refused.{replaying}
 use Rattle.rob_top.specs.Replayed.{planless, unread}
@@ -35,7 +35,7 @@ use Rattle.rob_top.specs.declared.ended.Ended.{Ended}
 use Rattle.rob_top.specs.declared.ended.Ended.TheVariants.{Printed, TooWide, Cert, Scenarios}
 use Rattle.rob_top.specs.declared.files.Texts.{Texts}
 use Rattle.rob_top.specs.declared.reply.Reply.{Reply}
-use Rattle.rob_top.proofs.OwnLemmas.{file_came, has_kind, replay_alone}
+use Rattle.rob_top.proofs.OwnLemmas.{file_came, has_kind}
 use Rattle.rob_top.proofs.WorkLemmas.{call_of_verb, call_within, rose_earlier}
 use Rattle.rob_words.specs.Verbs.{own_of}
 use Rattle.rob_words.specs.declared.verb.Own.{Own}
@@ -143,12 +143,11 @@ module _ (limit : ℕ) (m : RobustModel) where
       scenarios
 
   -- ---- the command is `replay`, so the files of the certificate and of scenarios came
-  pub replay_answers : (wides : Count) (verb : Verb) (texts : Texts) (certificate text : List ℕ) (r : Result Reply Want) → IsOnModel verb → elaborates verb ≡ false
+  pub replay_answers : (wides : Count) (verb : Verb) (texts : Texts) (certificate text : List ℕ) (r : Result Reply Want) → verb ≡ Replay
       → certificate ≡ texts.certificate.items → text ≡ texts.scenarios.items → IfOk r (AnswersReplay limit wides m certificate text)
       → IfOk r (AnswersModel limit wides m verb texts)
-  replay_answers wides verb texts certificate text (Err want) reads unmade same alike h = tt
-  replay_answers wides verb texts certificate text (Ok reply) reads unmade same alike h = λ call line at came has.
-      let e : verb ≡ Replay = replay_alone verb reads unmade in
+  replay_answers wides verb texts certificate text (Err want) e same alike h = tt
+  replay_answers wides verb texts certificate text (Ok reply) e same alike h = λ call line at came has.
       let here : line.verb ≡ Replay = at.verb_is ∙ e in
       let names : (kind : Own) → has_kind kind (own_of Replay) ≡ true → has_kind kind (own_of line.verb) ≡ true =
       λ kind is. subst (λ (v : Verb). has_kind kind (own_of v) ≡ true) (sym here) is

@@ -1,5 +1,5 @@
 -- The answers of `solve` and `prove`, from what the route answers.
-use Rattle.std.proofs.Common.{◌≡◌, ◌≢◌, ℕ, suc, ◌+◌, ◌*◌, ◌^◌, ◌<◌, ◌≤◌, List, length, Result, Ok, Err, IfOk, refl, subst, sym, ap, ◌∙◌, arith}
+use Rattle.std.proofs.Common.{◌≡◌, ◌≢◌, ℕ, suc, ◌+◌, ◌*◌, ◌^◌, ◌<◌, ◌≤◌, List, length, Result, Ok, Err, IfOk, refl, subst, sym, ap, ◌∙◌, arith, inl}
 use Rattle.std.proofs.Math.Nat.{mul-le-mul}
 use Rattle.std.proofs.lemmas.List.{length-map}
 use Rattle.std.specs.Prelude.{MatchResult}
@@ -146,9 +146,9 @@ module _ (limit : ℕ) (m : RobustModel) (model : IsModel m) (c : Certificate) (
       })
     where
       by : (s : Status) → IsSolved call s text → Means call (ended_of s) text
-      by optimal h = h
-      by infeasible h = h
-      by unbounded h = h
+      by optimal h = inl h
+      by infeasible h = inl h
+      by unbounded h = inl h
 
   is_report : (call : Call) (verb : Verb) (text : List ℕ) → verb ≡ Solve → text ≡ report_of m c → IsPrinted call verb m c text
   is_report call verb text e h = subst (λ (v : Verb). IsPrinted call v m c text) (sym e) h
@@ -193,7 +193,7 @@ module _ (limit : ℕ) (m : RobustModel) where
       → HasCause limit m s → CountsStop before now s → RepliesStop m s reply → AnswersForms limit (count before now) m verb reply
   stop_answers before now verb (stop.EmptySet weights) reply solves cause counts is = λ call line at has.
       subst (λ (ended : Ended). Means call ended reply.text) (sym is.0)
-      (record {
+      (inl (record {
         line = line;
         m = m;
         forms = has;
@@ -205,7 +205,7 @@ module _ (limit : ℕ) (m : RobustModel) where
         own = cause.shows_in.own;
         none_in_set = cause.empty_in;
         printed = is.1;
-      })
+      }))
   stop_answers before now verb (stop.Wide place trace) reply solves cause counts is = λ call line at has.
       let rose : Rose before now = omega (arith, counts) in
       subst (λ (ended : Ended). Means call ended reply.text) (sym is.0)

@@ -1,11 +1,10 @@
 -- How far a call came, by its answer; and so which answers a model's file allows.
-use Rattle.std.proofs.Common.{◌≡◌, ℕ, ℤ, List, [], ◌∷◌, ◌++◌, Option, Some, IfSome, refl, sym, ◌∙◌, ap, subst, inl, inr, ◌⊎◌}
+use Rattle.std.proofs.Common.{◌≡◌, ℕ, List, [], ◌∷◌, ◌++◌, Option, Some, IfSome, refl, sym, ◌∙◌, ap, subst, inl, inr, ◌⊎◌}
 use Rattle.rob_meaning.specs.Places.{Each}
 use Rattle.rob_algebra.specs.Fraction.{Fraction}
 use Rattle.rob_meaning.specs.Certificates.{Status, optimal, infeasible, unbounded}
 use Rattle.rob_meaning.specs.Proves.{HasStatus}
 use Rattle.rob_meaning.specs.RobustModel.{RobustModel}
-use Rattle.rob_meaning.specs.UncertaintySet.{Admits}
 use Rattle.rob_meaning.proofs.StatusLemmas.{optimal_not_infeasible, optimal_not_unbounded, infeasible_not_unbounded}
 use Rattle.rob_parse.specs.Modelled.{ReadsModel}
 use Rattle.rob_outside.specs.Fetches.{Fetch}
@@ -14,18 +13,17 @@ use Rattle.rob_rules.specs.Reading.{Breaks}
 use Rattle.rob_parse.proofs.Building.OneModel.{not_both, one_model}
 use Rattle.rob_rules.proofs.OneReading.{one_rule}
 use Rattle.rob_model.specs.declared.place.Spot.{Spot}
-use Rattle.rob_top.proofs.CourseLemmas.{Course, accepted_course, cert_course, empty_course, inside_admitted, rejected_course, lacking_course, replayed_course, rows_course, scenarios_course, solved_course, wide_course}
+use Rattle.rob_top.proofs.CourseLemmas.{Course, accepted_course, branched_course, cert_course, empty_branched_course, empty_course, no_whole_course, rejected_course, lacking_course, replayed_course, rows_course, scenarios_course, solved_course, wide_course, wide_node_course}
 use Rattle.rob_top.proofs.FilesLemmas.{empty_split}
 use Rattle.rob_top.proofs.OwnLemmas.{text_no_file, text_no_files}
+use Rattle.rob_top.specs.Branched.{BreaksWhole, no_ranges, no_variables}
 use Rattle.rob_top.specs.Calls.{Call, Came, HasFile, IsFirstAbsent, IsFound, Known, NamesFile, Request, answer_to, by_fetches, by_files, limit_of, requests}
 use Rattle.rob_top.specs.Headline.{Means}
 use Rattle.rob_top.specs.Inputs.{HasModel}
 use Rattle.rob_top.specs.Refused.{IsNoModel, IsWideSpot, checking, elaborating, replaying, solving}
 use Rattle.rob_top.specs.Replayed.{LacksPlan, planless, unread}
-use Rattle.rob_top.specs.Solved.{IsSolved}
-use Rattle.rob_top.specs.Work.{ended_of}
 use Rattle.rob_top.specs.declared.ended.Ended.{Ended}
-use Rattle.rob_top.specs.declared.ended.Ended.TheVariants.{Optimal, Infeasible, Unbounded, Printed, Accepted, Rejected, Words, Missing, TooLong, Model, EmptySet, TooWide, Cert, Scenarios, ReadFault, WriteFault, Memory}
+use Rattle.rob_top.specs.declared.ended.Ended.TheVariants.{Optimal, Infeasible, Unbounded, Printed, Accepted, Rejected, Words, Missing, TooLong, Model, EmptySet, TooWide, WideNode, Cert, Scenarios, Whole, ReadFault, WriteFault, Memory}
 use Rattle.rob_words.specs.Commands.{Line, IsCommandLine, IsSpelled}
 use Rattle.rob_words.specs.Values.{Word}
 use Rattle.rob_words.specs.declared.verb.Own.{Own}
@@ -54,10 +52,17 @@ pub lacking_model : (call : Call) (line : Line) (m : RobustModel) (rule number :
 lacking_model call line m rule number (unread bytes h breach) = h.model
 lacking_model call line m rule number (planless c h is r n) = h.file.model
 
+breaking_model : (call : Call) (line : Line) (m : RobustModel) (rule : ℕ) → BreaksWhole call line m rule → HasModel call line m
+breaking_model call line m rule (no_variables names h told none e) = h
+breaking_model call line m rule (no_ranges numbers h e) = h.model
+
 pub stage_of : (call : Call) (ended : Ended) (text : List ℕ) → Means call ended text → Stage call ended
-stage_of call Optimal text h = read h.line h.m h.forms.model (solved_course call optimal text h)
-stage_of call Infeasible text h = read h.line h.m h.forms.model (solved_course call infeasible text h)
-stage_of call Unbounded text h = read h.line h.m h.forms.model (solved_course call unbounded text h)
+stage_of call Optimal text (inl h) = read h.line h.m h.forms.model (solved_course call optimal text h)
+stage_of call Optimal text (inr h) = read h.line h.m h.has.named.model (branched_course call optimal text h)
+stage_of call Infeasible text (inl h) = read h.line h.m h.forms.model (solved_course call infeasible text h)
+stage_of call Infeasible text (inr h) = read h.line h.m h.has.named.model (branched_course call infeasible text h)
+stage_of call Unbounded text (inl h) = read h.line h.m h.forms.model (solved_course call unbounded text h)
+stage_of call Unbounded text (inr h) = read h.line h.m h.has.named.model (branched_course call unbounded text h)
 stage_of call Printed text (inl h) = read h.line h.m h.forms.model (rows_course call text h)
 stage_of call Printed text (inr (inl h)) = read h.line h.m h.has.certificate.file.model (replayed_course call text h)
 stage_of call Printed text (inr (inr h)) = generates h.line h.spelled h.is_text refl
@@ -67,7 +72,10 @@ stage_of call Words text h = wordless h.0
 stage_of call Missing text h = absent h.0 h.1 refl
 stage_of call TooLong text h = over h.0 h.1 refl
 stage_of call (Model rule number) text h = broken rule number text h refl
-stage_of call (EmptySet weights) text h = read h.line h.m h.forms.model (empty_course call weights text h)
+stage_of call (EmptySet weights) text (inl h) = read h.line h.m h.forms.model (empty_course call weights text h)
+stage_of call (EmptySet weights) text (inr h) = read h.line h.m h.has.named.model (empty_branched_course call weights text h)
+stage_of call (WideNode path spot) text h = read h.line h.m h.has.named.model (wide_node_course call path spot text h)
+stage_of call (Whole rule) text h = read h.line h.m (breaking_model call h.line h.m rule h.breaks) (no_whole_course call rule text h)
 stage_of call (TooWide spot) text h = read h.line h.m (wide_model call h.line h.m spot h.wide) (wide_course call h.line h.m spot h.wide)
 stage_of call (Cert rule number) text (inl h) = read h.line h.m h.file.forms.model (cert_course call rule number text h)
 stage_of call (Cert rule number) text (inr h) =
@@ -177,11 +185,6 @@ one_model_read call k l a b known h other =
     let same : h.bytes ≡ here.bytes = file_once call k own.Model h.bytes here.bytes known h.file here.file in
     one_model (limit_of k) here.bytes a b (subst (λ (list : List ℕ). ReadsModel (limit_of k) list a) same h.reads) here.reads
 
-solved_by : (call : Call) (status : Status) (text : List ℕ) → Means call (ended_of status) text → IsSolved call status text
-solved_by call optimal text h = h
-solved_by call infeasible text h = h
-solved_by call unbounded text h = h
-
 pub same_status : (m : RobustModel) (a b : Status) (v w : Fraction) → HasStatus m a v → HasStatus m b w → a ≡ b
 same_status m optimal optimal v w h k = refl
 same_status m optimal infeasible v w h k = absurd (optimal_not_infeasible m v h k)
@@ -192,19 +195,3 @@ same_status m infeasible unbounded v w h k = absurd (infeasible_not_unbounded m 
 same_status m unbounded optimal v w h k = absurd (optimal_not_unbounded m w k h)
 same_status m unbounded infeasible v w h k = absurd (infeasible_not_unbounded m k h)
 same_status m unbounded unbounded v w h k = refl
-
-pub one_status : (call : Call) (a b : Status) (text other : List ℕ) → Known call.source
-    → Means call (ended_of a) text → Means call (ended_of b) other → a ≡ b
-one_status call a b text other known h k =
-    let first : IsSolved call a text = solved_by call a text h in
-    let second : IsSolved call b other = solved_by call b other k in
-    let same : first.m ≡ second.m = one_model_read call first.line second.line first.m second.m known first.forms.model second.forms.model in
-    same_status second.m a b first.c.value second.c.value (subst (λ (m : RobustModel). HasStatus m a first.c.value) same first.holds) second.holds
-
-pub not_empty : (call : Call) (status : Status) (weights : List ℤ) (text other : List ℕ) → Known call.source
-    → Means call (ended_of status) text → Means call (EmptySet weights) other → ⊥
-not_empty call status weights text other known h empty =
-    let solved : IsSolved call status text = solved_by call status text h in
-    let same : solved.m ≡ empty.m = one_model_read call solved.line empty.line solved.m empty.m known solved.forms.model empty.forms.model in
-    empty.none_admitted solved.c.inside
-    (subst (λ (m : RobustModel). Admits m solved.c.inside) same (inside_admitted solved.m solved.c solved.c.status solved.proves))

@@ -1,6 +1,6 @@
 -- Which answer has to come, where what is known of the files decides: the first file that doesn't come decides; then the model's text; then the
 -- first wide number; and then the command.
-use Rattle.std.proofs.Common.{◌≡◌, ◌≢◌, ℕ, ◌-◌, ◌^◌, ◌≤◌, List, [], ◌∷◌, ◌++◌, refl, sym, ◌∙◌, ap, subst, inl, inr, ◌⊎◌, rules}
+use Rattle.std.proofs.Common.{◌≡◌, ℕ, ◌-◌, ◌^◌, ◌≤◌, List, [], ◌∷◌, ◌++◌, refl, sym, ◌∙◌, ap, subst, inl, inr, ◌⊎◌}
 use Rattle.rob_algebra.specs.Fraction.{Fraction}
 use Rattle.rob_cert.specs.Apart.{IsNamedInWords}
 use Rattle.rob_cert.specs.Causes.{HasCause}
@@ -34,7 +34,8 @@ use Rattle.rob_sets.specs.FirstWide.{IsFirstWide, IsWideThere, Judged, NothingWi
 use Rattle.rob_sets.specs.SetForm.{judged_set}
 use Rattle.rob_cert.proofs.OneBreach.{one_cause}
 use Rattle.rob_top.proofs.CertificateNameLemmas.{named_in_words}
-use Rattle.rob_top.proofs.CourseLemmas.{Course, course_at, finds, judges, lacks_plan, prints, refuses, replays, shows_empty, wide_number, wide_row}
+use Rattle.rob_top.proofs.CommandLemmas.{check_no_branch, check_not_replay, makes_no_branch, not_rows, replays_alone, rows_no_branch, rows_not_replay, solves_no_branch, solves_no_check, solves_no_replay, solves_no_rows}
+use Rattle.rob_top.proofs.CourseLemmas.{Course, branching, course_at, finds, judges, lacks_plan, prints, refuses, replays, shows_empty, wide_number, wide_row}
 use Rattle.rob_top.proofs.StageLemmas.{Stage, absent, broken, broken_here, failed, file_once, found_once, generates, none_absent, one_model_read, over, read, same_status, stage_of, text_here, text_none_absent, wanting, wordless}
 use Rattle.rob_top.proofs.WorkLemmas.{limit_is}
 use Rattle.rob_top.specs.Calls.{Call, Came, HasFile, IsElaborating, IsFirstAbsent, IsFound, IsSolving, Known, Request, limit_of, requests}
@@ -48,8 +49,7 @@ use Rattle.rob_top.specs.declared.ended.Ended.TheVariants.{Printed, Missing, Too
 use Rattle.rob_words.specs.Commands.{Line}
 use Rattle.rob_words.specs.Values.{Word, bits_of}
 use Rattle.rob_words.specs.declared.verb.Own.TheVariants as own
-use Rattle.rob_words.specs.declared.verb.Verb.{Verb}
-use Rattle.rob_words.specs.declared.verb.Verb.TheVariants.{Rows, Check, Replay, Text}
+use Rattle.rob_words.specs.declared.verb.Verb.TheVariants.{Rows, Replay}
 use Rattle.rob_words.proofs.Spellings.{one_line}
 
 -- ---- the first of a list
@@ -76,38 +76,10 @@ module _ (limit : ℕ) (m : RobustModel) (all : List Judged) where
   none_first a none h =
       (each_right (λ j. IsWideThere limit m j → ⊥) h.before (h.here ∷ h.after) (subst (λ (js : List Judged). NothingWide limit m js) h.order none)).0 h.wide
 
--- ---- commands
-pub two_verbs : (a b verb : Verb) → a ≢ b → verb ≡ a → verb ≡ b → ⊥
-two_verbs a b verb differ e d = differ (sym e ∙ d)
-
-pub replays_alone : (verb : Verb) → verb ≡ Replay → IsElaborating verb → ⊥
-replays_alone verb e h = let no : IsElaborating Replay = subst (λ (v : Verb). IsElaborating v) e h in search (no, rules)
-
-pub solves_no_replay : (verb : Verb) → verb ≡ Replay → IsSolving verb → ⊥
-solves_no_replay verb e h = let no : IsSolving Replay = subst (λ (v : Verb). IsSolving v) e h in search (no, rules)
-
-pub rows_not_replay : (verb : Verb) → verb ≡ Rows → verb ≡ Replay → ⊥
-rows_not_replay verb = two_verbs Rows Replay verb (λ e. cc)
-
-pub text_not_replay : (verb : Verb) → verb ≡ Text → verb ≡ Replay → ⊥
-text_not_replay verb = two_verbs Text Replay verb (λ e. cc)
-
-pub check_not_replay : (verb : Verb) → verb ≡ Check → verb ≡ Replay → ⊥
-check_not_replay verb = two_verbs Check Replay verb (λ e. cc)
-
 -- a certificate that gives no plan stands in the words of `replay`
 pub lacking_verb : (call : Call) (line : Line) (m : RobustModel) (rule number : ℕ) → LacksPlan call line m rule number → line.verb ≡ Replay
 lacking_verb call line m rule number (unread bytes h breach) = h.is_replay
 lacking_verb call line m rule number (planless c h is r n) = h.file.is_replay
-
-not_rows : (verb : Verb) → verb ≡ Rows → verb ≡ Check → ⊥
-not_rows verb e d = let same : Rows ≡ Check = sym e ∙ d in cc
-
-solves_no_rows : (verb : Verb) → verb ≡ Rows → IsSolving verb → ⊥
-solves_no_rows verb e h = let no : IsSolving Rows = subst (λ (v : Verb). IsSolving v) e h in search (no, rules)
-
-solves_no_check : (verb : Verb) → verb ≡ Check → IsSolving verb → ⊥
-solves_no_check verb e h = let no : IsSolving Check = subst (λ (v : Verb). IsSolving v) e h in search (no, rules)
 
 -- ---- answers
 pub first_of_two : {A B C : Type 0} → (A → B) → A ⊎ C → B ⊎ C
@@ -206,6 +178,7 @@ module _ (call : Call) (known : Known call.source) where
         by (wide_row other forms solves wide e) = absurd (no_forms forms)
         by (replays c bytes rows h file e) = absurd (replays_alone line.verb h.certificate.file.is_replay makes)
         by (lacks_plan rule number h e) = absurd (replays_alone line.verb (lacking_verb call line m rule number h) makes)
+        by (branching is course) = absurd (makes_no_branch line.verb makes is)
 
     -- ---- none is
     pub no_first : HasForms call line m → (spot : Spot) → IsFirstWide (limit_of line) m (judged_set m ++ judged_forms m) spot → ⊥
@@ -225,6 +198,7 @@ module _ (call : Call) (known : Known call.source) where
         by (wide_row spot forms solves wide e) = absurd (solves_no_rows line.verb is_rows solves)
         by (replays c bytes rows h file e) = absurd (rows_not_replay line.verb is_rows h.certificate.file.is_replay)
         by (lacks_plan rule number h e) = absurd (rows_not_replay line.verb is_rows (lacking_verb call line m rule number h))
+        by (branching took course) = absurd (rows_no_branch line.verb is_rows took)
 
     -- ---- `solve` and `prove`
     status_answer : (status : Status) (v : Fraction) → HasStatus m status v → IsSolveAnswer (limit_of line) m (ended_of status)
@@ -248,6 +222,7 @@ module _ (call : Call) (known : Known call.source) where
         by (wide_row spot forms solves wide e) = answer_is ended (TooWide spot) e wide
         by (replays c bytes rows h file e) = absurd (solves_no_replay line.verb h.certificate.file.is_replay is_solving)
         by (lacks_plan rule number h e) = absurd (solves_no_replay line.verb (lacking_verb call line m rule number h) is_solving)
+        by (branching is course) = absurd (solves_no_branch line.verb is_solving is)
 
         all : Course call line m ended ⊎ ((ended ≡ ReadFault) ⊎ (ended ≡ Memory)) → IsSolveAnswer (limit_of line) m ended
         all (inl course) = by course
@@ -284,6 +259,7 @@ module _ (call : Call) (known : Known call.source) where
         by (wide_row spot forms solves wide e) = empty_is ended (TooWide spot) e (empty_spot none spot wide)
         by (replays c bytes rows h file e) = absurd (solves_no_replay line.verb h.certificate.file.is_replay is_solving)
         by (lacks_plan rule number h e) = absurd (solves_no_replay line.verb (lacking_verb call line m rule number h) is_solving)
+        by (branching is course) = absurd (solves_no_branch line.verb is_solving is)
 
         all : Course call line m ended ⊎ ((ended ≡ ReadFault) ⊎ (ended ≡ Memory)) → IsEmptyAnswer (limit_of line) m ended
         all (inl course) = by course
@@ -305,6 +281,7 @@ module _ (call : Call) (known : Known call.source) where
         by (wide_row spot forms solves wide e) = absurd (narrow spot wide)
         by (replays c bytes rows h file e) = absurd (solves_no_replay line.verb h.certificate.file.is_replay is_solving)
         by (lacks_plan rule number h e) = absurd (solves_no_replay line.verb (lacking_verb call line m rule number h) is_solving)
+        by (branching is course) = absurd (solves_no_branch line.verb is_solving is)
 
     -- ---- `check`
     same_file : (bytes other : List ℕ) → HasCertificateFile call line m bytes → HasCertificateFile call line m other → bytes ≡ other
@@ -357,6 +334,7 @@ module _ (call : Call) (known : Known call.source) where
         by (wide_row spot forms solves wide e) = absurd (no_solving solves)
         by (replays d bytes rows h file e) = absurd (check_not_replay line.verb has.file.is_check h.certificate.file.is_replay)
         by (lacks_plan rule number h e) = absurd (check_not_replay line.verb has.file.is_check (lacking_verb call line m rule number h))
+        by (branching is course) = absurd (check_no_branch line.verb has.file.is_check is)
 
     pub rule_decides : (bytes : List ℕ) (rule number : ℕ) → HasCertificateFile call line m bytes → HasCause (naming_of m) (limit_of line) start bytes 1 (Rule rule number)
         → (ended : Ended) (text : List ℕ) → Means call ended text → (ended ≡ Cert rule number) ⊎ ((ended ≡ ReadFault) ⊎ (ended ≡ Memory))
@@ -383,3 +361,4 @@ module _ (call : Call) (known : Known call.source) where
         by (wide_row spot forms solves wide e) = absurd (no_solving solves)
         by (replays d list rows h file e) = absurd (check_not_replay line.verb has.is_check h.certificate.file.is_replay)
         by (lacks_plan r n h e) = absurd (check_not_replay line.verb has.is_check (lacking_verb call line m r n h))
+        by (branching is course) = absurd (check_no_branch line.verb has.is_check is)

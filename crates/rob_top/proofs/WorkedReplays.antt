@@ -20,8 +20,8 @@ use Rattle.rob_replay.specs.Lines as replay
 use Rattle.rob_replay.specs.Lines.{line_outside}
 use Rattle.rob_replay.specs.Outcome.{outcome}
 use Rattle.rob_report.specs.Tables.{table_of}
+use Rattle.rob_top.proofs.CommandLemmas.{rows_not_replay, text_not_replay}
 use Rattle.rob_top.proofs.OneTable.{lines_are, text_is}
-use Rattle.rob_top.proofs.TrueAnswerLemmas.{rows_not_replay, text_not_replay}
 use Rattle.rob_top.proofs.WorkedCalls.{fits_by, one_demand_reads}
 use Rattle.rob_top.proofs.WorkedChecks.{order_12_fits, order_12_shape}
 use Rattle.rob_top.specs.Calls.{Call, Known, by_files}

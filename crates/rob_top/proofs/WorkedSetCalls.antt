@@ -38,7 +38,7 @@ use Rattle.rob_top.specs.Completeness.{EndsAs, IsEmptyAnswer, IsSolveAnswer, Mus
 use Rattle.rob_top.specs.Inputs.{HasForms}
 use Rattle.rob_top.specs.WorkedCalls.{greatest, hard_and_soft, never_calm, solve_call}
 use Rattle.rob_top.specs.declared.ended.Ended.{Ended}
-use Rattle.rob_top.specs.declared.ended.Ended.TheVariants.{Optimal, Infeasible, Unbounded, Printed, Accepted, Rejected, Words, Missing, TooLong, Model, EmptySet, TooWide, Cert, Scenarios, ReadFault, WriteFault, Memory}
+use Rattle.rob_top.specs.declared.ended.Ended.TheVariants.{Optimal, Infeasible, Unbounded, Printed, Accepted, Rejected, Words, Missing, TooLong, Model, EmptySet, TooWide, WideNode, Cert, Scenarios, Whole, ReadFault, WriteFault, Memory}
 
 -- ---- coefficients of an expression over 2 joint parameters and 3 decision columns
 -- both facts, where both tests find them
@@ -269,8 +269,7 @@ its_forms = forms_on hard_and_soft it_comes it_reads it_is_narrow
 
 -- the status, or a wide row on the path
 abbrev IsSolvedOrWide : Ended → Type 0
-IsSolvedOrWide result =
-    EndsAs Optimal result ⊎ ((spot : Spot) × IsWideOnPath greatest hard_and_soft spot × (result ≡ TooWide spot))
+IsSolvedOrWide result = EndsAs Optimal result ⊎ ((spot : Spot) × IsWideOnPath greatest hard_and_soft spot × (result ≡ TooWide spot))
 
 its_answer : (result : Ended) → IsSolveAnswer greatest hard_and_soft result → IsSolvedOrWide result
 its_answer Optimal h = inl (inl refl)
@@ -278,6 +277,7 @@ its_answer Infeasible h = absurd (optimal_not_infeasible hard_and_soft (int 22) 
 its_answer Unbounded h = absurd (optimal_not_unbounded hard_and_soft (int 22) hard_and_soft_costs_22 h.1)
 its_answer (EmptySet weights) h = absurd (h (int 8 ∷ int 8 ∷ []) hard_and_soft_admitted)
 its_answer (TooWide spot) h = inr (spot, h, refl)
+its_answer (WideNode path spot) h = inl (inr h)
 its_answer Printed h = inl (inr h)
 its_answer Accepted h = inl (inr h)
 its_answer (Rejected place) h = inl (inr h)
@@ -287,6 +287,7 @@ its_answer TooLong h = inl (inr h)
 its_answer (Model rule place) h = inl (inr h)
 its_answer (Cert rule place) h = inl (inr h)
 its_answer (Scenarios rule place) h = inl (inr h)
+its_answer (Whole rule) h = inl (inr h)
 its_answer ReadFault h = inl (inr h)
 its_answer WriteFault h = inl (inr h)
 its_answer Memory h = inl (inr h)

@@ -1,10 +1,15 @@
--- The texts of answers. Each is one line, where no name in it has a line end.
-use Rattle.std.specs.Fmt.{decimal}
-use Rattle.std.specs.Prelude.{ℕ, List, ◌++◌, codes}
+-- The texts of answers. Each is one line, where no name in it has a line end; but a path of branches has one for each.
+use Rattle.std.specs.Fmt.{decimal, signed_decimal}
+use Rattle.std.specs.Prelude.{ℕ, Bool, true, false, List, ◌++◌, codes, flat_map}
 use Rattle.rob_algebra.specs.Fraction.{Fraction}
-use Rattle.rob_cert.specs.Spelling.{number_text}
+use Rattle.rob_cert.specs.Spelling.{name_at, number_text}
 use Rattle.rob_meaning.specs.Certificates.{Status, optimal, infeasible, unbounded, Certificate}
+use Rattle.rob_meaning.specs.Names.{column_names}
+use Rattle.rob_meaning.specs.RobustModel.{RobustModel}
+use Rattle.rob_model.specs.declared.place.Spot.{Spot}
 use Rattle.rob_report.specs.Lines.{line}
+use Rattle.rob_report.specs.Spots.{too_wide_line}
+use Rattle.rob_tree.specs.declared.tree.Branch.{Branch}
 use Rattle.rob_words.specs.Values.{Word}
 
 -- the line of a fault
@@ -47,3 +52,26 @@ read_text = fault_text (codes "read")
 
 abbrev pub memory_text : List ℕ
 memory_text = fault_text (codes "memory")
+
+-- the named variables break a rule
+abbrev pub whole_text : ℕ → List ℕ
+whole_text rule = fault_text (codes "whole " ++ decimal rule)
+
+-- how a branch bounds its variable
+abbrev pub relation_word : Bool → List ℕ
+relation_word true = codes " <= "
+relation_word false = codes " >= "
+
+module _ (m : RobustModel) where
+  -- a branch of a path: `where VARIABLE <= K` or `where VARIABLE >= K`
+  abbrev pub branch_line : Branch → List ℕ
+  branch_line b =
+      codes "where " ++ (name_at (column_names m) b.column ++ (relation_word b.at_most ++ line (signed_decimal b.k)))
+
+  -- the branches of a path
+  abbrev pub path_lines : List Branch → List ℕ
+  path_lines path = flat_map branch_line path
+
+  -- a number is wide in the box behind a path
+  abbrev pub wide_node_text : List Branch → Spot → List ℕ
+  wide_node_text path spot = too_wide_line m spot ++ path_lines path

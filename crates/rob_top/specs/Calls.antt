@@ -12,9 +12,9 @@ use Rattle.rob_words.specs.Values.{Word, bits_of}
 use Rattle.rob_words.specs.Verbs.{own_of, takes_route}
 use Rattle.rob_words.specs.contracts.verb.Own.{the_type}
 use Rattle.rob_words.specs.declared.verb.Own.{Own}
-use Rattle.rob_words.specs.declared.verb.Own.TheVariants.{Model, Certificate, Scenarios, Number}
+use Rattle.rob_words.specs.declared.verb.Own.TheVariants.{Model, Certificate, Scenarios, Number, Names}
 use Rattle.rob_words.specs.declared.verb.Verb.{Verb}
-use Rattle.rob_words.specs.declared.verb.Verb.TheVariants.{Replay, Text}
+use Rattle.rob_words.specs.declared.verb.Verb.TheVariants.{Replay, Text, Whole, Tree}
 
 -- a count before and after the call
 pub record Count : Type 0 where
@@ -28,8 +28,8 @@ count before now = record { before = before; now = now }
 abbrev pub WasRaised : Count → Type 0
 WasRaised count = Rose count.before count.now
 
--- what is known of a call's files: those that the shelf tells, where it tells them; and the fetches of the call with what each
--- answered, in their order, where they are told. Every shelf tells the second
+-- what is known of a call's files: those that the shelf tells, where it does; and the fetches of the call in their order, with
+-- what each answered, which every shelf tells
 pub record Source : Type 0 where
   pub told : Option (List File)
   pub came : Option (List Fetch)
@@ -42,8 +42,7 @@ behind before now = drop (length before) now
 abbrev pub source_of : Option (List File) → List Fetch → List Fetch → Source
 source_of told before now = record { told = told; came = Some (behind before now) }
 
--- what a call was given: its words, and what is known of the files; and two counts, of the shelf's faults and of the wide
--- results in the ledger
+-- what a call was given: its words, what is known of the files, and two counts: the shelf's faults, the ledger's wide results
 pub record Call : Type 0 where
   pub words : List Word
   pub source : Source
@@ -67,8 +66,7 @@ known_source (by_fetches fetches e) = record { told = None; came = Some fetches 
 abbrev pub known_call : (call : Call) → Known call.source → Call
 known_call call known = record call { source = known_source known }
 
--- what a call did to the output: the bytes that the sink took before and after it, its puts before and after it, and the count
--- of the sink's faults
+-- what a call did to the output: the bytes that the sink took before it and now, its puts, and the count of the sink's faults
 pub record Output : Type 0 where
   pub before : List ℕ
   pub now : List ℕ
@@ -122,6 +120,7 @@ most_of Model = Some 65536
 most_of Certificate = Some 4194304
 most_of Scenarios = Some 4194304
 most_of Number = None
+most_of Names = None
 
 -- the file of this name, of at most so many bytes, where it is the first
 abbrev pub file_of : ℕ → Word → Request
@@ -198,10 +197,21 @@ reads_model _ = true
 abbrev pub IsOnModel : Verb → Type 0
 IsOnModel verb = reads_model verb ≡ true
 
--- the command works with the set rows and the forms of its model; `replay` works with the model as it is written
+-- the command grows a branch tree: some variables of its model take whole numbers
+abbrev pub branches : Verb → Bool
+branches Whole = true
+branches Tree = true
+branches _ = false
+
+abbrev pub IsBranching : Verb → Type 0
+IsBranching verb = branches verb ≡ true
+
+-- the command makes the set rows and the forms of its model as it is written; one that grows a tree makes those of boxes
 abbrev pub elaborates : Verb → Bool
 elaborates Replay = false
 elaborates Text = false
+elaborates Whole = false
+elaborates Tree = false
 elaborates _ = true
 
 abbrev pub IsElaborating : Verb → Type 0

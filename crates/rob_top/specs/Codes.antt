@@ -1,7 +1,7 @@
 -- The exit statuses.
 use Rattle.std.specs.Prelude.{ℕ}
 use Rattle.rob_top.specs.declared.ended.Ended.{Ended}
-use Rattle.rob_top.specs.declared.ended.Ended.TheVariants.{Optimal, Infeasible, Unbounded, Printed, Accepted, Rejected, Words, Missing, TooLong, Model, EmptySet, TooWide, Cert, Scenarios, ReadFault, WriteFault, Memory}
+use Rattle.rob_top.specs.declared.ended.Ended.TheVariants.{Optimal, Infeasible, Unbounded, Printed, Accepted, Rejected, Words, Missing, TooLong, Model, EmptySet, TooWide, WideNode, Cert, Scenarios, Whole, ReadFault, WriteFault, Memory}
 
 -- the exit status of an answer: 0 for what was asked, 10 and 11 for a model without an optimum, 12 for a certificate that doesn't prove, from 20 on for refusals
 abbrev pub code_of : Ended → ℕ
@@ -17,8 +17,10 @@ code_of TooLong = 22
 code_of (Model rule line) = 23
 code_of (EmptySet weights) = 24
 code_of (TooWide spot) = 25
+code_of (WideNode path spot) = 25
 code_of (Cert rule line) = 26
 code_of (Scenarios rule number) = 27
+code_of (Whole rule) = 33
 code_of ReadFault = 30
 code_of WriteFault = 31
 code_of Memory = 40

@@ -1,7 +1,8 @@
 -- Which answer has to come. The words and the files decide it, and a number that is wide is named; a fault of the outside and
 -- want of memory may come in its place, which say nothing of the model.
-use Rattle.std.specs.Prelude.{◌≡◌, ◌⊎◌, ◌++◌, ℕ, List, map}
+use Rattle.std.specs.Prelude.{◌≡◌, ◌⊎◌, ◌++◌, ℕ, List, [], map}
 use Rattle.rob_algebra.specs.Fraction.{Fraction, of_int}
+use Rattle.rob_dualize.specs.Models.{IsWideIn, judged}
 use Rattle.rob_cert.specs.Causes.{HasCause}
 use Rattle.rob_cert.specs.Reading.{start}
 use Rattle.rob_cert.specs.Spelling.{naming_of}
@@ -22,16 +23,22 @@ use Rattle.rob_model.specs.declared.place.Spot.{Spot}
 use Rattle.rob_model.specs.declared.place.Spot.TheVariants.{Check, Dictionary}
 use Rattle.rob_outside.specs.Files.{missing, too_long}
 use Rattle.rob_rules.specs.Reading.{Breaks}
+use Rattle.rob_reach.specs.Boxes.{box}
+use Rattle.rob_reach.specs.Boxes as boxes
+use Rattle.rob_reach.specs.Growing.{Visits, start as first_search}
+use Rattle.rob_reach.specs.WholeStatus.{HasWholeStatus}
 use Rattle.rob_replay.specs.Files.{IsFile}
 use Rattle.rob_replay.specs.Outcome.{outcome}
 use Rattle.rob_sets.specs.FirstWide.{IsFirstWide}
 use Rattle.rob_sets.specs.SetForm.{judged_set}
-use Rattle.rob_top.specs.Calls.{Call, Came, HasFile, IsElaborating, IsFirstAbsent, IsSolving, Known, known_call, limit_of, requests}
-use Rattle.rob_top.specs.Inputs.{HasCertificate, HasCertificateFile, HasForms, HasModel, HasScenarios}
+use Rattle.rob_tree.specs.View.{branch_of}
+use Rattle.rob_top.specs.Branched.{BreaksWhole}
+use Rattle.rob_top.specs.Calls.{Call, Came, HasFile, IsBranching, IsElaborating, IsFirstAbsent, IsSolving, Known, known_call, limit_of, requests}
+use Rattle.rob_top.specs.Inputs.{HasCertificate, HasCertificateFile, HasForms, HasModel, HasScenarios, HasWholeVariables}
 use Rattle.rob_top.specs.Replayed.{LacksPlan, replay_ended}
 use Rattle.rob_top.specs.Work.{ended_of, verdict_ended}
 use Rattle.rob_top.specs.declared.ended.Ended.{Ended}
-use Rattle.rob_top.specs.declared.ended.Ended.TheVariants.{Optimal, Infeasible, Unbounded, Printed, Accepted, Rejected, Words, Missing, TooLong, Model, EmptySet, TooWide, Cert, ReadFault, WriteFault, Memory}
+use Rattle.rob_top.specs.declared.ended.Ended.TheVariants.{Optimal, Infeasible, Unbounded, Printed, Accepted, Rejected, Words, Missing, TooLong, Model, EmptySet, TooWide, WideNode, Cert, Whole, ReadFault, WriteFault, Memory}
 use Rattle.rob_words.specs.Commands.{Line, IsCommandLine, IsSpelled}
 use Rattle.rob_words.specs.Values.{Word}
 use Rattle.rob_words.specs.declared.verb.Own.TheVariants as own
@@ -73,6 +80,35 @@ abbrev pub IsProvedAnswer : ℕ → RobustModel → Certificate → Ended → Ty
 IsProvedAnswer limit m c Accepted = Unit {0}
 IsProvedAnswer limit m c (TooWide (Check place)) = verdict_of limit m c ≡ verdict.TooWide place
 IsProvedAnswer limit m c ended = IsOutside ended
+
+-- an answer of `whole` and `tree`: a status that the model has over plans whose named variables are whole; or an empty set; or a
+-- number that is wide in the box behind a path of branches, to which the search for a tree comes. No other is
+abbrev pub IsWholeAnswer : ℕ → RobustModel → List ℕ → Ended → Type 0
+IsWholeAnswer limit m names Optimal = (v : Fraction) × HasWholeStatus m names optimal v
+IsWholeAnswer limit m names Infeasible = (v : Fraction) × HasWholeStatus m names infeasible v
+IsWholeAnswer limit m names Unbounded = (v : Fraction) × HasWholeStatus m names unbounded v
+IsWholeAnswer limit m names (EmptySet weights) = IsEmptySet m
+IsWholeAnswer limit m names (WideNode path spot) =
+    Visits m names first_search (map branch_of path) × IsWideIn limit (box m (map branch_of path)) spot
+IsWholeAnswer limit m names ended = IsOutside ended
+
+-- the number is wide before it is known whether some joint scenario is admitted: the first of the set rows and forms, or of a row of
+-- a basis on the path of the set's program
+pub data IsWideBefore (limit : ℕ) (m : RobustModel) (spot : Spot) : Type 0 where
+  writing : IsFirstWide limit m (judged m) spot → IsWideBefore limit m spot
+  admitting : (basis : List ℕ) (i : ℕ) → spot ≡ Dictionary program.Set basis i → IsWideOnPath limit m spot → IsWideBefore limit m spot
+
+-- one of them for an empty set: its weights show that it is empty, or such a number is wide. So no status is answered, and
+-- no other box is named
+abbrev pub IsEmptyWholeAnswer : ℕ → RobustModel → Ended → Type 0
+IsEmptyWholeAnswer limit m (EmptySet weights) = IsShownEmpty m (map of_int weights)
+IsEmptyWholeAnswer limit m (WideNode path spot) = (map branch_of path ≡ []) × IsWideBefore limit m spot
+IsEmptyWholeAnswer limit m ended = IsOutside ended
+
+-- no number is wide in a box to which that search comes
+abbrev pub IsNarrowBelow : ℕ → RobustModel → List ℕ → Type 0
+IsNarrowBelow limit m names =
+    (path : List boxes.Branch) (spot : Spot) → Visits m names first_search path → IsWideIn limit (box m path) spot → ⊥
 
 -- ---- how a call must end, by its words and by what is found of its files
 
@@ -128,6 +164,21 @@ module _ (call : Call) (result : Ended) where
     pub replayed : (line : Line) (m : RobustModel) (c : Certificate) (bytes : List ℕ) (rows : List (List (List ℕ)))
         → HasScenarios call line m c bytes → IsFile bytes rows
         → EndsAs (replay_ended (outcome (limit_of line) m c.plan rows)) result
+    -- `whole` and `tree`: the named variables break a rule, so the first is named
+    pub whole_rule : (line : Line) (m : RobustModel) (rule : ℕ) → IsBranching line.verb → BreaksWhole call line m rule
+        → EndsAs (Whole rule) result
+    -- they break none: the answer is a status that the model has over plans whose named variables are whole, or an empty set, or a
+    -- number that is wide in a box
+    pub whole : (line : Line) (m : RobustModel) (names : List ℕ) → HasWholeVariables call line m names → IsBranching line.verb
+        → IsWholeAnswer (limit_of line) m names result
+    -- no joint scenario is admitted, so it is that, with the weights that show it, or a wide number of the set rows and forms, or of the
+    -- set's program
+    pub whole_empty : (line : Line) (m : RobustModel) (names : List ℕ) → HasWholeVariables call line m names
+        → IsBranching line.verb → IsEmptySet m → IsEmptyWholeAnswer (limit_of line) m result
+    -- some joint scenario is admitted, and no number is wide in a box, so it is the model's status, which it has
+    pub whole_status : (line : Line) (m : RobustModel) (names : List ℕ) (u : List Fraction) → HasWholeVariables call line m names
+        → IsBranching line.verb → Admits m u → IsNarrowBelow (limit_of line) m names
+        → (status : Status) × (v : Fraction) × HasWholeStatus m names status v × EndsAs (ended_of status) result
     -- `text`: the model of the number is printed; no file is asked for, so no read fault comes in the place of that answer
     pub generated : (line : Line) → IsSpelled call.words line → line.verb ≡ Text → (result ≡ Printed) ⊎ IsUnput result
 

@@ -17,6 +17,7 @@ use Rattle.rob_outside.specs.Files.{missing, too_long}
 use Rattle.rob_outside.specs.Puts.{PutAll, PutUntil, put_as}
 use Rattle.rob_outside.specs.Taken.{Took, TookPrefix}
 use Rattle.rob_top.specs.Answers.{missing_text, too_long_text, words_text, read_text, memory_text}
+use Rattle.rob_top.specs.Branched.{IsBranched, IsEmptyBranched, IsNoWhole, IsWideNode}
 use Rattle.rob_top.specs.Calls.{Call, Output, WasRaised, IsFirstAbsent, NamesFile}
 use Rattle.rob_top.specs.Checked.{IsAccepted, IsRejected}
 use Rattle.rob_top.specs.Generated.{IsGenerated}
@@ -25,7 +26,7 @@ use Rattle.rob_top.specs.Refused.{IsNoCertificate, IsNoModel, IsTooWide}
 use Rattle.rob_top.specs.Replayed.{IsNoPlan, IsNoScenarios, IsReplayed}
 use Rattle.rob_top.specs.Solved.{IsEmptySet, IsRows, IsSolved}
 use Rattle.rob_top.specs.declared.ended.Ended.{Ended}
-use Rattle.rob_top.specs.declared.ended.Ended.TheVariants.{Optimal, Infeasible, Unbounded, Printed, Accepted, Rejected, Words, Missing, TooLong, Model, EmptySet, TooWide, Cert, Scenarios, ReadFault, WriteFault, Memory}
+use Rattle.rob_top.specs.declared.ended.Ended.TheVariants.{Optimal, Infeasible, Unbounded, Printed, Accepted, Rejected, Words, Missing, TooLong, Model, EmptySet, TooWide, WideNode, Cert, Scenarios, Whole, ReadFault, WriteFault, Memory}
 use Rattle.rob_words.specs.Commands.{IsCommandLine}
 use Rattle.rob_words.specs.Values.{Word}
 
@@ -39,9 +40,9 @@ module _ (call : Call) where
   -- what each answer means, and its text. An answer comes only where this holds; where it must come, because no other may, is
   -- said by specs/Completeness.antt
   abbrev pub Means : Ended → List ℕ → Type 0
-  Means Optimal text = IsSolved call optimal text
-  Means Infeasible text = IsSolved call infeasible text
-  Means Unbounded text = IsSolved call unbounded text
+  Means Optimal text = IsSolved call optimal text ⊎ IsBranched call optimal text
+  Means Infeasible text = IsSolved call infeasible text ⊎ IsBranched call infeasible text
+  Means Unbounded text = IsSolved call unbounded text ⊎ IsBranched call unbounded text
   Means Printed text = IsRows call text ⊎ (IsReplayed call text ⊎ IsGenerated call text)
   Means Accepted text = IsAccepted call text
   Means (Rejected place) text = IsRejected call place text
@@ -49,10 +50,12 @@ module _ (call : Call) where
   Means Missing text = (name : Word) × IsFirstAbsent call missing name × (text ≡ missing_text name)
   Means TooLong text = (name : Word) × IsFirstAbsent call too_long name × (text ≡ too_long_text name)
   Means (Model rule line) text = IsNoModel call rule line text
-  Means (EmptySet weights) text = IsEmptySet call weights text
+  Means (EmptySet weights) text = IsEmptySet call weights text ⊎ IsEmptyBranched call weights text
   Means (TooWide spot) text = IsTooWide call spot text
+  Means (WideNode path spot) text = IsWideNode call path spot text
   Means (Cert rule line) text = IsNoCertificate call rule line text ⊎ IsNoPlan call rule line text
   Means (Scenarios rule number) text = IsNoScenarios call rule number text
+  Means (Whole rule) text = IsNoWhole call rule text
   Means ReadFault text = NamesFile call.words × WasRaised call.read_faults × (text ≡ read_text)
   -- of a refused put and of want of memory `Ends` says what was put
   Means WriteFault text = ⊥

@@ -1,18 +1,36 @@
--- What was read: the model, its whole numbers, the certificate, the scenario file, by a call's words and its files.
-use Rattle.std.specs.Prelude.{◌≡◌, ◌≢◌, ◌++◌, ℕ, List}
+-- What was read: the model, its whole numbers, the certificate, the scenario file, the variables that are named, by a call's
+-- words and its files.
+use Rattle.std.specs.Prelude.{◌≡◌, ◌≢◌, ◌++◌, ℕ, List, Some, None, map}
 use Rattle.rob_cert.specs.Apart.{FitsLines}
+use Rattle.rob_cert.specs.Spelling.{name_at}
 use Rattle.rob_cert.specs.Whole.{IsTextOf}
 use Rattle.rob_elab.specs.Forms.{judged_forms}
 use Rattle.rob_meaning.specs.Certificates.{Certificate, infeasible}
+use Rattle.rob_meaning.specs.Names.{column_names}
 use Rattle.rob_meaning.specs.Places.{Each}
 use Rattle.rob_meaning.specs.RobustModel.{RobustModel}
 use Rattle.rob_parse.specs.Modelled.{ReadsModel}
+use Rattle.rob_reach.specs.Ranges.{KeepsNames, whole_rule}
 use Rattle.rob_sets.specs.FirstWide.{NothingWide}
 use Rattle.rob_sets.specs.SetForm.{judged_set}
-use Rattle.rob_top.specs.Calls.{Call, Came, HasFile, limit_of, requests}
+use Rattle.rob_top.specs.Calls.{Call, Came, HasFile, limit_of, requests, word_of}
 use Rattle.rob_words.specs.Commands.{Line, IsSpelled}
+use Rattle.rob_words.specs.Names.{parts_of}
+use Rattle.rob_words.specs.Values.{Word}
+use Rattle.rob_words.specs.Verbs.{own_of}
 use Rattle.rob_words.specs.declared.verb.Own.TheVariants as own
 use Rattle.rob_words.specs.declared.verb.Verb.TheVariants.{Check, Replay}
+
+-- the command line's own word that is a list of names has these
+pub record TellsNames (line : Line) (names : List Word) : Type 0 where
+  pub word : Word
+  pub told : word_of own.Names (own_of line.verb) line.own ≡ Some word
+  pub parts : names ≡ parts_of word
+
+-- these are the names of different variables of the model, which have these numbers: a variable has that of its column
+pub record AreVariables (m : RobustModel) (names : List Word) (numbers : List ℕ) : Type 0 where
+  pub named : map (name_at (column_names m)) numbers ≡ names
+  pub kept : KeepsNames m numbers
 
 module _ (call : Call) where
   -- the words are this command line, the files that it names came, and that of its model reads, at the line's width, as this
@@ -63,3 +81,17 @@ module _ (call : Call) where
     pub certificate : HasReplayCertificate line m c
     pub has_plan : c.status ≢ infeasible
     pub file : HasFile call line own.Scenarios bytes
+
+  -- ---- variables that take whole numbers
+
+  -- the model was read, and the names in the words are those of different variables, with these numbers
+  pub record HasVariables (line : Line) (m : RobustModel) (numbers : List ℕ) : Type 0 where
+    pub model : HasModel line m
+    pub names : List Word
+    pub told : TellsNames line names
+    pub variables : AreVariables m names numbers
+
+  -- and each of them has both bounds, and the product of their ranges is at most 1,000
+  pub record HasWholeVariables (line : Line) (m : RobustModel) (numbers : List ℕ) : Type 0 where
+    pub named : HasVariables line m numbers
+    pub keeps : whole_rule m numbers ≡ None

@@ -7,6 +7,8 @@ pub mod Solved
 pub mod Checked
 pub mod Replayed
 pub mod Generated
+pub mod Branched
+pub mod Walks
 pub mod Refused
 pub mod Headline
 pub mod Codes

@@ -12,7 +12,7 @@ use Rattle.rob_words.specs.declared.verb.Own.{Own}
 use Rattle.rob_words.specs.declared.verb.Own.TheVariants as own
 use Rattle.rob_words.specs.declared.line.CommandLine.{CommandLine}
 use Rattle.rob_top.specs.Answers.{missing_text, too_long_text, read_text}
-use Rattle.rob_top.specs.Calls.{Call, Came, Count, Request, Source, WasRaised, AsksInOrder, IsFound, IsFoundIn, files_of, requests, request_of}
+use Rattle.rob_top.specs.Calls.{Call, Came, Count, Request, Source, WasRaised, AsksInOrder, IsFound, IsFoundIn, files_of, requests, request_of, word_of}
 use Rattle.rob_top.specs.declared.ended.Ended.{Ended}
 use Rattle.rob_top.specs.declared.ended.Ended.TheVariants.{Missing, TooLong, ReadFault}
 use Rattle.rob_top.specs.declared.files.Files.{Files}
@@ -72,6 +72,7 @@ text_of own.Model texts = texts.model.items
 text_of own.Certificate texts = texts.certificate.items
 text_of own.Scenarios texts = texts.scenarios.items
 text_of own.Number texts = []
+text_of own.Names texts = []
 
 -- the texts with these bytes for the file of this kind
 abbrev pub with_text : Own → Vec ℕ Global → Texts → Texts
@@ -79,6 +80,7 @@ with_text own.Model bytes texts = record texts { model = bytes }
 with_text own.Certificate bytes texts = record texts { certificate = bytes }
 with_text own.Scenarios bytes texts = record texts { scenarios = bytes }
 with_text own.Number bytes texts = texts
+with_text own.Names bytes texts = texts
 
 -- what came of files, with these bytes of one more
 abbrev pub with_file : Own → Vec ℕ Global → Files → Files
@@ -91,12 +93,13 @@ IsNothing (fetch.Texts texts) =
     (texts.model.items ≡ []) × (texts.certificate.items ≡ []) × (texts.scenarios.items ≡ [])
 IsNothing (fetch.Answer reply) = ⊥
 
--- the words are the command line, and the files that it names came with these texts
+-- the words are the command line, the files that it names came with these texts, and its list of names is theirs
 pub record HasTexts (call : Call) (line : Line) (texts : Texts) : Type 0 where
   pub spelled : IsSpelled call.words line
   pub came : Each (Came call) (requests line)
   pub found : (kind : Own) (request : Request) → request_of kind (own_of line.verb) line.own ≡ Some request
       → IsFound call request (whole (text_of kind texts))
+  pub names : (word : Word) → word_of own.Names (own_of line.verb) line.own ≡ Some word → texts.names.items ≡ word
 
 -- the file came whole
 abbrev pub CameIn : Source → Request → Type 0

@@ -1,11 +1,13 @@
 -- What the work on a model answers, whichever call it is done for.
-use Rattle.std.specs.Prelude.{◌≡◌, ℕ, ◌^◌, ◌≤◌, List, length}
+use Rattle.std.specs.Prelude.{◌≡◌, ℕ, ◌^◌, ◌≤◌, ◌<◌, List, length}
 use Rattle.rob_cert.specs.declared.ending.Stop.{Stop}
 use Rattle.rob_cert.specs.declared.ending.Stop.TheVariants as stop
 use Rattle.rob_meaning.specs.Certificates as meaning
 use Rattle.rob_meaning.specs.Certificates.{Certificate}
 use Rattle.rob_check.specs.declared.verdict.Verdict.{Verdict}
 use Rattle.rob_check.specs.declared.verdict.Verdict.TheVariants as verdict
+use Rattle.rob_meaning.specs.Names.{column_names}
+use Rattle.rob_meaning.specs.Places.{Each}
 use Rattle.rob_meaning.specs.RobustModel.{RobustModel}
 use Rattle.rob_meaning.specs.SetRows.{set_rows}
 use Rattle.rob_model.specs.declared.place.Spot.TheVariants as spots
@@ -16,19 +18,23 @@ use Rattle.rob_report.specs.Spots.{too_wide_line, empty_set_lines}
 use Rattle.rob_sets.specs.declared.error.ElabErr.{ElabErr}
 use Rattle.rob_sets.specs.declared.error.ElabErr.TheVariants as refused
 use Rattle.rob_gen.specs.Generated.{generated}
-use Rattle.rob_top.specs.Answers.{model_text}
+use Rattle.rob_tree.specs.declared.error.TreeStop.{TreeStop}
+use Rattle.rob_tree.specs.declared.error.TreeStop.TheVariants as ungrown
+use Rattle.rob_tree.specs.declared.tree.Branch.{Branch}
+use Rattle.rob_top.specs.Answers.{model_text, whole_text, wide_node_text}
 use Rattle.rob_top.specs.Calls.{Call, Count, HasFile, WasRaised, limit_of}
 use Rattle.rob_top.specs.Generated.{TellsNumber}
 use Rattle.rob_top.specs.Headline.{Means}
-use Rattle.rob_top.specs.Inputs.{HasModel, HasForms, HasCertificateFile, HasCertificate, HasReplayCertificate, HasReplayFile, HasScenarios}
+use Rattle.rob_top.specs.Inputs.{HasModel, HasForms, HasCertificateFile, HasCertificate, HasReplayCertificate, HasReplayFile, HasScenarios, HasVariables, TellsNames}
 use Rattle.rob_top.specs.Replies.{HasTexts, Replies}
 use Rattle.rob_top.specs.declared.ended.Ended.{Ended}
-use Rattle.rob_top.specs.declared.ended.Ended.TheVariants.{Optimal, Infeasible, Unbounded, Printed, Accepted, Rejected, Model, EmptySet, TooWide}
+use Rattle.rob_top.specs.declared.ended.Ended.TheVariants.{Optimal, Infeasible, Unbounded, Printed, Accepted, Rejected, Model, EmptySet, TooWide, WideNode, Whole}
 use Rattle.rob_top.specs.declared.files.Files.{Files}
 use Rattle.rob_top.specs.declared.files.Files.TheVariants as fetch
 use Rattle.rob_top.specs.declared.files.Texts.{Texts}
 use Rattle.rob_top.specs.declared.reply.Reply.{Reply}
 use Rattle.rob_words.specs.Commands.{Line}
+use Rattle.rob_words.specs.Names.{parts_of}
 use Rattle.rob_words.specs.declared.verb.Own.TheVariants as own
 use Rattle.rob_words.specs.declared.verb.Verb.{Verb}
 use Rattle.rob_words.specs.declared.verb.Verb.TheVariants.{Check, Replay}
@@ -109,6 +115,18 @@ module _ (limit : ℕ) (wides : Count) where
         (call : Call) (line : Line) → IsCallAt limit wides Replay call line → HasScenarios call line m c bytes
         → Means call reply.ended reply.text
 
+    -- that of each one whose list of names has this text
+    abbrev pub AnswersNames : Verb → List ℕ → Reply → Type 0
+    AnswersNames verb names reply =
+        (call : Call) (line : Line) → IsCallAt limit wides verb call line → HasModel call line m → TellsNames line (parts_of names)
+        → Means call reply.ended reply.text
+
+    -- whose names are those of the variables with these numbers
+    abbrev pub AnswersVariables : Verb → List ℕ → Reply → Type 0
+    AnswersVariables verb numbers reply =
+        (call : Call) (line : Line) → IsCallAt limit wides verb call line → HasVariables call line m numbers
+        → Means call reply.ended reply.text
+
 -- the answer for a status
 abbrev pub ended_of : meaning.Status → Ended
 ended_of meaning.optimal = Optimal
@@ -126,6 +144,21 @@ abbrev pub RepliesGenerated : Line → Reply → Type 0
 RepliesGenerated line reply = (number : ℕ) × TellsNumber line number × Replies Printed (generated_text (generated number)) reply
 
 -- ---- refusals
+
+-- why no tree grows, where the names are those of different variables: a number in it is one of the model's
+abbrev pub IsUngrownOf : RobustModel → TreeStop → Type 0
+IsUngrownOf m (ungrown.Rule rule) = Unit {0}
+IsUngrownOf m (ungrown.EmptySet weights) = length weights ≡ length (set_rows m)
+IsUngrownOf m (ungrown.Wide path spot) =
+    IsSpotOf m spot × Each (λ (b : Branch). b.column < length (column_names m)) path
+IsUngrownOf m ungrown.Memory = Unit {0}
+
+-- the reply to it; memory has none
+abbrev pub RepliesUngrown : RobustModel → TreeStop → Reply → Type 0
+RepliesUngrown m (ungrown.Rule rule) reply = Replies (Whole rule) (whole_text rule) reply
+RepliesUngrown m (ungrown.EmptySet weights) reply = Replies (EmptySet weights) (empty_set_lines m weights) reply
+RepliesUngrown m (ungrown.Wide path spot) reply = Replies (WideNode path spot) (wide_node_text m path spot) reply
+RepliesUngrown m ungrown.Memory reply = ⊥
 
 -- the reply where the model's text breaks a rule; memory has none
 abbrev pub RepliesUnread : ModelErr → Reply → Type 0

@@ -1,4 +1,4 @@
--- Calls worked by hand, of which the laws say how they must end: `solve one.rob`, `check one.rob one.cert` and
+-- Calls worked by hand, of which the laws say how they must end: `solve one.rob`, `whole one.rob x`, `check one.rob one.cert` and
 -- `replay one.rob one.cert one.csv`, where the shelf tells files of these names; and `text N`.
 use Rattle.std.specs.Prelude.{ℕ, ◌-◌, ◌^◌, pos, false, List, [], ◌∷◌, ◌++◌, Some, None, codes}
 use Rattle.rob_algebra.specs.Fraction.{neg_ℚ, of_int}
@@ -6,7 +6,7 @@ use Rattle.rob_cert.specs.Spelling.{cert_text}
 use Rattle.rob_dualize.specs.SmallestModel.{one_demand}
 use Rattle.rob_meaning.specs.Certificates.{Certificate, infeasible, optimal}
 use Rattle.rob_meaning.specs.Places.{0ℚ, 1ℚ}
-use Rattle.rob_meaning.specs.Expressions.{number, parameter, variable, sum, no_terms, term}
+use Rattle.rob_meaning.specs.Expressions.{number, parameter, variable, sum, no_terms, term, product, factor, no_factors}
 use Rattle.rob_meaning.specs.RobustModel.{RobustModel, at_least, at_most, line, minimise}
 use Rattle.rob_outside.specs.Files.{File, file_of}
 use Rattle.rob_write.specs.Canonical.{model_text}
@@ -65,6 +65,10 @@ first_text =
     ++ (line_of (codes "minimise x + y2 + (x - d1) + (x + y2 - d1 - d2)")
     ++ (line_of (codes "row need1: x >= d1") ++ line_of (codes "row need2: x + y2 >= d1 + d2")))))))
 
+-- `whole` on the canonical text of a model, where these names are to take whole numbers
+abbrev pub whole_call : RobustModel → Word → Call
+whole_call m names = call_over (codes "whole" ∷ model_name ∷ names ∷ []) (file_of model_name (model_text m) ∷ [])
+
 -- a scenario file with two records: in the first the set admits `d`, which is 9; in the second, where it is 13, it does not
 abbrev pub two_demands : List ℕ
 two_demands = line_of (codes "d") ++ (line_of (codes "9") ++ line_of (codes "13"))
@@ -76,6 +80,19 @@ two_demands_table = line_of (codes "2 inside objective 12 r 3") ++ line_of (code
 -- a header that names no parameter
 abbrev pub no_demand : List ℕ
 no_demand = line_of (codes "e")
+
+-- minimise x, where 2 x >= d for each d in [8, 13], and x lies in [0, 10]
+abbrev pub half_a_demand : RobustModel
+half_a_demand = record one_demand {
+  parameters = record { name = codes "d"; lower = Some (of_int (pos 8)); upper = Some (of_int (pos 13)) } ∷ [];
+  variables = record { name = codes "x"; lower = Some (of_int (pos 0)); upper = Some (of_int (pos 10)) } ∷ [];
+  rows = record {
+    name = codes "r";
+    left = product (factor (number (of_int (pos 2))) (factor (variable 0) no_factors));
+    relation = at_least;
+    right = parameter 0;
+  } ∷ [];
+}
 
 -- minimise x, where d lies in [12, 8], so no scenario is admitted
 abbrev pub empty_interval : RobustModel

@@ -5,6 +5,7 @@ ghost use Rattle.rob_top.specs.Codes.{code_of};
 
 use rob_model::{Place, Spot};
 use rob_number::List;
+use rob_tree::Branch;
 
 /// How a run ended. `Model`, `Cert` and `Scenarios` hold the number of the rule that the text breaks, and its line or
 /// record, from 1.
@@ -35,10 +36,14 @@ pub enum Ended {
     EmptySet(List<i64>),
     /// A number is wider than the program computes with.
     TooWide(Spot),
+    /// It is, in the box behind these branches.
+    WideNode(List<Branch>, Spot),
     /// The certificate's text can't be read, or it claims that its model is infeasible, and a plan is asked for.
     Cert(u8, u32),
     /// The scenario file can't be read.
     Scenarios(u8, u32),
+    /// The variables that are to take whole numbers break that rule.
+    Whole(u8),
     /// The outside failed while a file was read.
     ReadFault,
     /// The outside failed while the output was put.
@@ -65,8 +70,10 @@ impl Ended {
             Ended::Model(_, _) => 23,
             Ended::EmptySet(_) => 24,
             Ended::TooWide(_) => 25,
+            Ended::WideNode(_, _) => 25,
             Ended::Cert(_, _) => 26,
             Ended::Scenarios(_, _) => 27,
+            Ended::Whole(_) => 33,
             Ended::ReadFault => 30,
             Ended::WriteFault => 31,
             Ended::Memory => 40,

@@ -16,12 +16,14 @@ use rob_outside::{Fetched, Shelf, ShelfErr};
 use rob_words::{CommandLine, Own};
 use std::alloc::Global;
 
-/// The texts of a command's files, by their kinds. One that the command doesn't name is empty.
+/// The texts of a command's files, by their kinds, and its list of names. One that the command doesn't have is empty.
 #[derive(Debug, Drop)]
 pub struct Texts {
     pub model: Vec<u8>,
     pub certificate: Vec<u8>,
     pub scenarios: Vec<u8>,
+    /// The list of names among the command's own words.
+    pub names: Vec<u8>,
 }
 
 /// What came of a command's files: the texts of all of them, or the answer that ends the call.
@@ -92,6 +94,7 @@ fn no_files(alloc: Global) -> Files
         model: Vec::new(alloc),
         certificate: Vec::new(alloc),
         scenarios: Vec::new(alloc),
+        names: Vec::new(alloc),
     })
 }
 
@@ -104,6 +107,7 @@ fn most_bytes(kind: Own) -> Option<usize>
         Own::Certificate => Some(4_194_304),
         Own::Scenarios => Some(4_194_304),
         Own::Number => None,
+        Own::Names => None,
     }
 }
 
@@ -117,18 +121,22 @@ fn with_bytes(kind: Own, bytes: Vec<u8>, files: Files) -> Files
                 model: bytes,
                 certificate: texts.certificate,
                 scenarios: texts.scenarios,
+                names: texts.names,
             },
             Own::Certificate => Texts {
                 model: texts.model,
                 certificate: bytes,
                 scenarios: texts.scenarios,
+                names: texts.names,
             },
             Own::Scenarios => Texts {
                 model: texts.model,
                 certificate: texts.certificate,
                 scenarios: bytes,
+                names: texts.names,
             },
             Own::Number => texts,
+            Own::Names => texts,
         }),
         Files::Answer(reply) => Files::Answer(reply),
     }

@@ -1,8 +1,9 @@
 // Which answer has to come, what two answers say of each other, what `check` says of what `prove` prints, and what
-// `replay` shows of what `check` accepts and of what `prove` prints. What is known of a call's files (`Known`) are the told files, or the answers
-// that came in the call, which every shelf gives. The functions do nothing; their clauses are the claims.
+// `replay` shows of what `check` accepts and of what `prove` prints. What is known of a call's files (`Known`) are the
+// told files, or the answers that came in the call, which every shelf gives. The functions do nothing; their clauses
+// are the claims.
 
-ghost use Rattle.std.specs.Prelude.{◌≡◌, ◌≤◌, ◌<◌, ◌^◌, ◌⊎◌, ℕ, ℤ, List};
+ghost use Rattle.std.specs.Prelude.{◌≡◌, ◌≤◌, ◌<◌, ◌^◌, ◌⊎◌, ℕ, ℤ, List, codes};
 ghost use Rattle.rob_cert.specs.Apart.{IsNamedInWords};
 ghost use Rattle.rob_check.specs.Narrow.{IsFirstFailing};
 ghost use Rattle.rob_dualize.specs.SmallestModel.{one_demand};
@@ -24,9 +25,10 @@ ghost use Rattle.rob_top.specs.Inputs.{HasCertificateFile, HasReplayFile};
 ghost use Rattle.rob_top.specs.Replayed.{IsReplayed};
 ghost use Rattle.rob_top.specs.Solved.{IsSolved};
 ghost use Rattle.rob_top.specs.Work.{ended_of};
-ghost use Rattle.rob_top.specs.WorkedCalls.{check_call, empty_interval, first_text, greatest, hard_and_soft, never_calm, no_demand, no_order, order_11, order_12, order_least, replay_call, solve_call, text_call, two_demands, two_demands_table};
+ghost use Rattle.rob_top.specs.WorkedCalls.{check_call, empty_interval, first_text, greatest, half_a_demand, hard_and_soft, never_calm, no_demand, no_order, order_11, order_12, order_least, replay_call, solve_call, text_call, two_demands, two_demands_table, whole_call};
 ghost use Rattle.rob_top.specs.declared.ended.Ended.{Ended};
-ghost use Rattle.rob_top.specs.declared.ended.Ended.TheVariants.{Accepted, Cert, EmptySet, Optimal, Printed, Rejected, Scenarios, TooWide};
+ghost use Rattle.rob_top.specs.declared.ended.Ended.TheVariants.{Accepted, Cert, EmptySet, Optimal, Printed, Rejected, Scenarios, TooWide, Whole, WideNode};
+ghost use Rattle.rob_tree.specs.declared.tree.Branch.{Branch};
 ghost use Rattle.rob_words.specs.Commands.{Line};
 ghost use Rattle.rob_words.specs.Kinds.{IsNumber};
 ghost use Rattle.rob_words.specs.Values.{Word};
@@ -127,6 +129,14 @@ pub fn worked_calls()
     // and of a file whose header names no parameter the rule.
     ensures unread { (result : Ended) → MustEnd (replay_call order_12 no_demand) result
         → EndsAs (Scenarios 41 1) result }
+    // `whole` names rule 62 for a variable without bounds, and 61 for a name of no variable.
+    ensures boundless { (result : Ended) → MustEnd (whole_call one_demand (codes "x")) result
+        → EndsAs (Whole 62) result }
+    ensures nameless { (result : Ended) → MustEnd (whole_call one_demand (codes "y")) result
+        → EndsAs (Whole 61) result }
+    // On a model whose optimum in fractions isn't whole it is answered with `optimal`, or a wide number of a box.
+    ensures halves { (result : Ended) → MustEnd (whole_call half_a_demand (codes "x")) result
+        → EndsAs Optimal result ⊎ ((path : List Branch) × (spot : Spot) × (result ≡ WideNode path spot)) }
     // `text` prints a model, whichever number its word spells.
     ensures generated { (word : Word) → IsNumber word → (result : Ended) → MustEnd (text_call word) result
         → (result ≡ Printed) ⊎ IsUnput result }

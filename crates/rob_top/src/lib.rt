@@ -2,12 +2,16 @@
 //! has to come.
 #![tactic(auto)]
 
+mod branching;
 mod checking;
 mod ended;
 mod files;
 mod generating;
 pub mod laws;
 pub mod machine;
+mod names;
+mod nodes;
+mod paths;
 mod put;
 mod replaying;
 mod reply;

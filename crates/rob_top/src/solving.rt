@@ -103,7 +103,7 @@ fn proved<N: Exact>(alloc: Global, model: &Model<N>, cert: &Cert<N>) -> Result<R
 }
 
 /// The answer for a status.
-fn ended_by(status: Status) -> Ended
+pub fn ended_by(status: Status) -> Ended
     ensures status { result ≡ ended_of (status_of status) }
 {
     match status {
@@ -127,7 +127,11 @@ fn stopped<N: Exact>(alloc: Global, model: &Model<N>, stop: Stop) -> Result<Repl
 }
 
 /// The answer where no scenario is admitted.
-fn empty_set<N: Exact>(alloc: Global, model: &Model<N>, weights: List<i64>) -> Result<Reply, Memory>
+pub fn empty_set<N: Exact>(
+    alloc: Global,
+    model: &Model<N>,
+    weights: List<i64>,
+) -> Result<Reply, Memory>
     requires valid { IsValid N.value model.now }
     requires count { length weights ≡ length (set_rows (robust N.value model.now)) }
     ensures weights { IfOk result (Replies (Ended.EmptySet weights) (empty_set_lines (robust N.value model.now) weights)) }

@@ -14,6 +14,7 @@ ghost use Rattle.rob_words.specs.Answers.{line_of};
 use crate::ended::Ended;
 use crate::files::{Files, Texts, fetch};
 use crate::generating::print_generated;
+use crate::names::with_names;
 use crate::put::put_lines;
 use crate::reply::{Reply, fault};
 use crate::work::work_at;
@@ -103,8 +104,12 @@ fn on_line<S: Shelf, L: Ledger>(
     ensures asked { Asks (requests (line_of line.now)) (S.log shelf.old) (S.log shelf.new) }
     ensures counted { (S.faults shelf.old ≤ S.faults shelf.new) × (L.wides ledger.old ≤ L.wides ledger.new) }
 {
-    match fetch(alloc, line, shelf)? {
-        Files::Texts(texts) => on_texts(alloc, line, &texts, ledger),
+    let files = fetch(alloc, line, shelf)?;
+    match files {
+        Files::Texts(texts) => {
+            let with = with_names(alloc, line, texts)?;
+            on_texts(alloc, line, &with, ledger)
+        }
         Files::Answer(reply) => Ok(reply),
     }
 }
@@ -140,6 +145,8 @@ fn reads_model(verb: Verb) -> bool
         Verb::Check => true,
         Verb::Replay => true,
         Verb::Text => false,
+        Verb::Whole => true,
+        Verb::Tree => true,
     }
 }
 

@@ -1,6 +1,6 @@
 // The work of a command on its texts, at a width.
 
-ghost use Rattle.std.specs.Prelude.{◌≡◌, ◌≤◌, IfOk};
+ghost use Rattle.std.specs.Prelude.{◌≡◌, ◌≤◌, IfOk, false};
 ghost use Rattle.rob_elab.specs.Forms.{FormsFit, IsForms, judged_forms};
 ghost use Rattle.rob_meaning.specs.Named.{IsNamed};
 ghost use Rattle.rob_model.specs.Valid.{IsValid};
@@ -15,6 +15,7 @@ ghost use Rattle.rob_top.specs.Replies.{HasTexts, Replies};
 ghost use Rattle.rob_top.specs.Work.{AnswersModel, AnswersTexts, AnswersWhole, IsRefusedOf, IsShort, RepliesRefused, RepliesUnread};
 ghost use Rattle.rob_words.specs.Commands.{Line};
 
+use crate::branching::branch_text;
 use crate::checking::check_text;
 use crate::ended::Ended;
 use crate::files::Texts;
@@ -96,10 +97,12 @@ fn elaborates(verb: Verb) -> bool
         Verb::Check => true,
         Verb::Replay => false,
         Verb::Text => false,
+        Verb::Whole => false,
+        Verb::Tree => false,
     }
 }
 
-/// The answer for a model. Of the commands that read one, `replay` alone works with it as it is written.
+/// The answer for a model.
 fn on_model<N: Exact + Drop, L: Ledger>(
     alloc: Global,
     model: &Model<N>,
@@ -118,9 +121,37 @@ fn on_model<N: Exact + Drop, L: Ledger>(
     if elaborates(verb) {
         elaborated(alloc, model, verb, texts, ledger)
     } else {
-        let certificate = texts.certificate.as_slice();
-        let scenarios = texts.scenarios.as_slice();
-        replay_text(alloc, model, certificate, scenarios, ledger)
+        unelaborated(alloc, model, verb, texts, ledger)
+    }
+}
+
+/// The answer of a command that doesn't elaborate the model as it is written.
+fn unelaborated<N: Exact + Drop, L: Ledger>(
+    alloc: Global,
+    model: &Model<N>,
+    verb: Verb,
+    texts: &Texts,
+    ledger: &mut L,
+) -> Result<Reply, Memory>
+    requires valid { IsValid N.value model.now }
+    requires named { IsNamed (robust N.value model.now) }
+    requires on_model { IsOnModel verb }
+    requires short { IsShort texts.now }
+    requires unmade { is_elaborating verb ≡ false }
+    ensures answers { IfOk result (AnswersModel N.limit (count (L.wides ledger.old) (L.wides ledger.new))
+        (robust N.value model.now) verb texts.now) }
+    ensures counted { L.wides ledger.old ≤ L.wides ledger.new }
+{
+    let names = texts.names.as_slice();
+    match verb {
+        Verb::Replay => {
+            let certificate = texts.certificate.as_slice();
+            let scenarios = texts.scenarios.as_slice();
+            replay_text(alloc, model, certificate, scenarios, ledger)
+        }
+        Verb::Whole => branch_text(alloc, model, verb, names, ledger),
+        Verb::Tree => branch_text(alloc, model, verb, names, ledger),
+        _ => unreachable!(),
     }
 }
 
@@ -180,8 +211,7 @@ fn on_forms<N: Exact + Drop, L: Ledger>(
             let text = texts.certificate.as_slice();
             check_text(alloc, model, forms, set, text, ledger)
         }
-        Verb::Replay => unreachable!(),
-        Verb::Text => unreachable!(),
+        _ => unreachable!(),
     }
 }
 

@@ -3,6 +3,7 @@ use Rattle.rob_top.proofs.WorkedSetCalls.{hard_and_soft_is_solved, never_calm_is
 use Rattle.rob_top.proofs.WorkedChecks.{order_11_is_rejected, order_12_is_accepted}
 use Rattle.rob_top.proofs.WorkedReplays.{no_demand_is_refused, no_order_is_planless, order_least_is_wide, two_demands_are_printed, two_demands_are_replayed}
 use Rattle.rob_top.proofs.WorkedNumbers.{number_is_answered}
+use Rattle.rob_top.proofs.WorkedWholes.{half_a_demand_is_solved, x_is_boundless, y_is_no_variable}
 use Rattle.rob_top.proofs.laws.worked_calls.Goals as goal
 
 pub returns : goal.returns
@@ -14,6 +15,9 @@ returns c = record {
   accepted = order_12_is_accepted;
   rejected = order_11_is_rejected;
   replayed = two_demands_are_replayed;
+  boundless = x_is_boundless;
+  nameless = y_is_no_variable;
+  halves = half_a_demand_is_solved;
   table = two_demands_are_printed;
   wide = order_least_is_wide;
   planless = no_order_is_planless;

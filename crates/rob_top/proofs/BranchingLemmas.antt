@@ -1,0 +1,214 @@
+-- The answers of `whole` and `tree`, from what the search for names and the growing of a tree answer.
+use Rattle.std.proofs.Common.{◌≡◌, ℕ, List, map, Option, Some, None, Result, Ok, Err, IfOk, inr, refl, subst, sym, ap, ◌∙◌}
+use Rattle.std.proofs.lemmas.List.{length-map}
+use Rattle.std.specs.Prelude.{MatchOption}
+use Rattle.rob_algebra.specs.Fraction.{of_int}
+use Rattle.rob_dualize.specs.Models.{IsWideIn}
+use Rattle.rob_branch.specs.Growth.{HasCause, RoseIfWide}
+use Rattle.rob_meaning.specs.Certificates.{Status, optimal, infeasible, unbounded}
+use Rattle.rob_meaning.specs.RobustModel.{RobustModel}
+use Rattle.rob_number.specs.declared.memory.Memory.{Memory as Want}
+use Rattle.rob_reach.proofs.GrowingLemmas.{comes_allowed}
+use Rattle.rob_reach.proofs.GrownLemmas.{grown_proves}
+use Rattle.rob_reach.proofs.RuleLemmas.{rules_kept}
+use Rattle.rob_reach.specs.Boxes.{box}
+use Rattle.rob_reach.specs.Growing.{IsAllowedPath, IsGrown, start}
+use Rattle.rob_reach.specs.Ranges.{KeepsBothBounds, whole_rule}
+use Rattle.rob_reach.specs.Trees.{Tree}
+use Rattle.rob_reach.specs.WholeStatus.{HasWholeStatus}
+use Rattle.rob_tree.specs.Reading.{TreeFits}
+use Rattle.rob_tree.specs.Shape.{HasTreeShape}
+use Rattle.rob_tree.specs.View.{branch_of}
+use Rattle.rob_tree.specs.declared.error.TreeStop.{TreeStop}
+use Rattle.rob_tree.specs.declared.error.TreeStop.TheVariants as ungrown
+use Rattle.rob_top.specs.Answers.{whole_text}
+use Rattle.rob_top.specs.Branched.{IsBranched, IsPrintedTree, no_ranges, no_variables}
+use Rattle.rob_top.specs.Calls.{Call, Count, IsBranching, count}
+use Rattle.rob_top.specs.Headline.{Means}
+use Rattle.rob_top.specs.Inputs.{AreVariables}
+use Rattle.rob_top.specs.Replies.{Replies}
+use Rattle.rob_top.specs.Work.{AnswersModel, AnswersNames, AnswersVariables, IsCallAt, IsUngrownOf, RepliesUngrown, ended_of}
+use Rattle.rob_top.specs.declared.ended.Ended.{Ended}
+use Rattle.rob_top.specs.declared.ended.Ended.TheVariants.{Whole}
+use Rattle.rob_top.specs.declared.files.Texts.{Texts}
+use Rattle.rob_top.specs.declared.reply.Reply.{Reply}
+use Rattle.rob_top.proofs.BoxPathLemmas.{box_spot, path_columns}
+use Rattle.rob_top.proofs.OwnLemmas.{has_names, word_there}
+use Rattle.rob_words.specs.Commands.{Line}
+use Rattle.rob_words.specs.Names.{parts_of}
+use Rattle.rob_words.specs.Verbs.{own_of}
+use Rattle.rob_words.specs.declared.verb.Own.TheVariants as own
+use Rattle.rob_words.specs.declared.verb.Verb.{Verb}
+
+-- a status is an answer of a tree
+means_branched : (call : Call) (status : Status) (text : List ℕ) → IsBranched call status text → Means call (ended_of status) text
+means_branched call optimal text h = inr h
+means_branched call infeasible text h = inr h
+means_branched call unbounded text h = inr h
+
+-- what is said of the numbers that were found, or of none
+module _ (m : RobustModel) (names : List ℕ) where
+  abbrev AreTheirs : List ℕ → Type 0
+  AreTheirs numbers = AreVariables m (parts_of names) numbers
+
+  abbrev IsNobody : Type 0
+  IsNobody = (numbers : List ℕ) → AreTheirs numbers → ⊥
+
+  pub numbers_found : (o : Option (List ℕ)) (found numbers : List ℕ) → o ≡ Some found → numbers ≡ found → MatchOption o IsNobody AreTheirs
+      → AreTheirs numbers
+  numbers_found None found numbers e same h = absurd (let no : None ≡ Some found = e in cc)
+  numbers_found (Some others) found numbers e same h =
+      let both : others ≡ numbers = cc in subst AreTheirs both h
+
+  pub nobody_found : (o : Option (List ℕ)) → o ≡ None → MatchOption o IsNobody AreTheirs → IsNobody
+  nobody_found None e h = h
+  nobody_found (Some others) e h = absurd (let no : Some others ≡ None = e in cc)
+
+-- ---- rules of named variables
+-- no rule is broken where a broken one is told and another answer came
+pub no_rule : (m : RobustModel) (numbers : List ℕ) → ((rule : ℕ) → whole_rule m numbers ≡ Some rule → ⊥) → whole_rule m numbers ≡ None
+no_rule m numbers none = by (whole_rule m numbers) refl
+  where
+    by : (o : Option ℕ) → whole_rule m numbers ≡ o → whole_rule m numbers ≡ None
+    by None e = e
+    by (Some rule) e = absurd (none rule e)
+
+-- so a tree that has grown says that none is
+pub grown_keeps : {X : Type 0} (m : RobustModel) (numbers : List ℕ) (r : Result X TreeStop) (t : X) → r ≡ Ok t
+    → ((rule : ℕ) → whole_rule m numbers ≡ Some rule → r ≡ Err (ungrown.Rule rule)) → whole_rule m numbers ≡ None
+grown_keeps m numbers r t is told = no_rule m numbers (λ rule e. let clash : Ok t ≡ Err (ungrown.Rule rule) = sym is ∙ told rule e in cc)
+
+-- and a stop is that of a broken rule, where one is
+pub stop_told : {X : Type 0} (m : RobustModel) (numbers : List ℕ) (r : Result X TreeStop) (s : TreeStop) → r ≡ Err s
+    → ((rule : ℕ) → whole_rule m numbers ≡ Some rule → r ≡ Err (ungrown.Rule rule))
+    → (rule : ℕ) → whole_rule m numbers ≡ Some rule → s ≡ ungrown.Rule rule
+stop_told m numbers r s is told rule e = let same : Err s ≡ Err (ungrown.Rule rule) = sym is ∙ told rule e in cc
+
+pub kept_bounds : (m : RobustModel) (numbers : List ℕ) → whole_rule m numbers ≡ None → KeepsBothBounds m numbers
+kept_bounds m numbers e = ((rules_kept m numbers).0 e).0
+
+module _ (limit : ℕ) (m : RobustModel) where
+  module _ (verb : Verb) (numbers : List ℕ) (is_branching : IsBranching verb) where
+    is_here : (wides : Count) (call : Call) (line : Line) → IsCallAt limit wides verb call line → IsBranching line.verb
+    is_here wides call line at = subst (λ (v : Verb). IsBranching v) (sym at.verb_is) is_branching
+
+    -- ---- a tree that has grown
+    pub tree_answers : (wides : Count) (t : Tree) (r : Result Reply Want) → whole_rule m numbers ≡ None → IsGrown m numbers t
+        → HasWholeStatus m numbers t.status t.value → HasTreeShape limit m numbers t → TreeFits limit m t
+        → IfOk r (λ reply. reply.ended ≡ ended_of t.status) → IfOk r (λ reply. IsPrintedTree verb m numbers t reply.text)
+        → IfOk r (AnswersVariables limit wides m verb numbers)
+    tree_answers wides t (Err want) keeps grown holds shape fits is printed = tt
+    tree_answers wides t (Ok reply) keeps grown holds shape fits is printed = λ call line at has.
+        subst (λ (ended : Ended). Means call ended reply.text) (sym is)
+        (means_branched call t.status reply.text (record {
+          line = line;
+          m = m;
+          names = numbers;
+          has = record { named = has; keeps = keeps };
+          branches = is_here wides call line at;
+          t = t;
+          status_is = refl;
+          holds = holds;
+          proves = grown_proves m numbers t grown;
+          grown = grown;
+          shape = subst (λ (l : ℕ). HasTreeShape l m numbers t) (sym at.limit_is) shape;
+          fits = subst (λ (l : ℕ). TreeFits l m t) (sym at.limit_is) fits;
+          printed = subst (λ (v : Verb). IsPrintedTree v m numbers t reply.text) (sym at.verb_is) printed;
+        }))
+
+    -- ---- no tree has grown
+    stop_answers : (before now : ℕ) (s : TreeStop) (reply : Reply) → HasCause limit m numbers s → RoseIfWide before now s
+        → ((rule : ℕ) → whole_rule m numbers ≡ Some rule → s ≡ ungrown.Rule rule) → RepliesUngrown m s reply
+        → AnswersVariables limit (count before now) m verb numbers reply
+    stop_answers before now (ungrown.Rule rule) reply cause rose told is = λ call line at has.
+        subst (λ (ended : Ended). Means call ended reply.text) (sym is.0)
+        (record {
+          line = line;
+          m = m;
+          branches = is_here (count before now) call line at;
+          breaks = no_ranges numbers has cause;
+          printed = is.1;
+        })
+    stop_answers before now (ungrown.EmptySet weights) reply cause rose told is = λ call line at has.
+        subst (λ (ended : Ended). Means call ended reply.text) (sym is.0)
+        (inr (record {
+          line = line;
+          m = m;
+          names = numbers;
+          has = record {
+            named = has;
+            keeps = no_rule m numbers (λ rule e. let no : ungrown.EmptySet weights ≡ ungrown.Rule rule = told rule e in cc);
+          };
+          branches = is_here (count before now) call line at;
+          shown = cause;
+          printed = is.1;
+        }))
+    stop_answers before now (ungrown.Wide path spot) reply cause rose told is = λ call line at has.
+        subst (λ (ended : Ended). Means call ended reply.text) (sym is.0)
+        (record {
+          line = line;
+          m = m;
+          names = numbers;
+          has = record {
+            named = has;
+            keeps = no_rule m numbers (λ rule e. let no : ungrown.Wide path spot ≡ ungrown.Rule rule = told rule e in cc);
+          };
+          branches = is_here (count before now) call line at;
+          comes = cause.0;
+          wide = subst (λ (l : ℕ). IsWideIn l (box m (map branch_of path)) spot) (sym at.limit_is) cause.1;
+          raised = at.raised rose;
+          printed = is.1;
+        })
+    stop_answers before now ungrown.Memory reply cause rose told is = absurd is
+
+    pub stopped_answers : (before now : ℕ) (s : TreeStop) (r : Result Reply Want) → HasCause limit m numbers s → RoseIfWide before now s
+        → ((rule : ℕ) → whole_rule m numbers ≡ Some rule → s ≡ ungrown.Rule rule) → IfOk r (RepliesUngrown m s)
+        → IfOk r (AnswersVariables limit (count before now) m verb numbers)
+    stopped_answers before now s (Err want) cause rose told is = tt
+    stopped_answers before now s (Ok reply) cause rose told is = stop_answers before now s reply cause rose told is
+
+  -- what a stop names is the model's
+  pub stop_named : (numbers : List ℕ) (s : TreeStop) → ((rule : ℕ) → whole_rule m numbers ≡ Some rule → s ≡ ungrown.Rule rule)
+      → HasCause limit m numbers s → IsUngrownOf m s
+  stop_named numbers (ungrown.Rule rule) told cause = tt
+  stop_named numbers (ungrown.EmptySet weights) told cause = sym (length-map weights of_int) ∙ cause.shows.count
+  stop_named numbers (ungrown.Wide path spot) told cause =
+      let keeps : whole_rule m numbers ≡ None =
+      no_rule m numbers (λ rule e. let no : ungrown.Wide path spot ≡ ungrown.Rule rule = told rule e in cc)
+      in
+      let bounded : KeepsBothBounds m numbers = kept_bounds m numbers keeps in
+      let allowed : IsAllowedPath m numbers (map branch_of path) = comes_allowed m numbers start cause.0.0 (map branch_of path) cause.0.1 in
+      (box_spot limit m numbers (map branch_of path) spot bounded allowed cause.1, path_columns numbers m m path bounded allowed)
+  stop_named numbers ungrown.Memory told cause = tt
+
+  -- ---- a list of names
+  pub variables_answer : (wides : Count) (verb : Verb) (names : List ℕ) (numbers : List ℕ) (r : Result Reply Want)
+      → AreVariables m (parts_of names) numbers → IfOk r (AnswersVariables limit wides m verb numbers)
+      → IfOk r (AnswersNames limit wides m verb names)
+  variables_answer wides verb names numbers (Err want) are h = tt
+  variables_answer wides verb names numbers (Ok reply) are h = λ call line at has told.
+      h call line at (record { model = has; names = parts_of names; told = told; variables = are })
+
+  pub no_variables_answer : (wides : Count) (verb : Verb) (names : List ℕ) (r : Result Reply Want) → IsBranching verb
+      → ((numbers : List ℕ) → AreVariables m (parts_of names) numbers → ⊥) → IfOk r (Replies (Whole 61) (whole_text 61))
+      → IfOk r (AnswersNames limit wides m verb names)
+  no_variables_answer wides verb names (Err want) is_branching none is = tt
+  no_variables_answer wides verb names (Ok reply) is_branching none is = λ call line at has told.
+      subst (λ (ended : Ended). Means call ended reply.text) (sym is.0)
+      (record {
+        line = line;
+        m = m;
+        branches = subst (λ (v : Verb). IsBranching v) (sym at.verb_is) is_branching;
+        breaks = no_variables (parts_of names) has told none refl;
+        printed = is.1;
+      })
+
+  -- the command has such a list among its own words
+  pub names_answer : (wides : Count) (verb : Verb) (texts : Texts) (names : List ℕ) (r : Result Reply Want) → IsBranching verb
+      → names ≡ texts.names.items → IfOk r (AnswersNames limit wides m verb names) → IfOk r (AnswersModel limit wides m verb texts)
+  names_answer wides verb texts names (Err want) is_branching same h = tt
+  names_answer wides verb texts names (Ok reply) is_branching same h = λ call line at came has.
+      let here : IsBranching line.verb = subst (λ (v : Verb). IsBranching v) (sym at.verb_is) is_branching in
+      let word = word_there own.Names (own_of line.verb) line.own came.spelled.1.count (has_names line.verb here) in
+      h call line at has
+      (record { word = word.0; told = word.1; parts = ap parts_of (same ∙ came.names word.0 word.1) })

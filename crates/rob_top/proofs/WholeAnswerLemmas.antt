@@ -1,0 +1,222 @@
+-- Which answer has to come at `whole` and `tree`, where what is known of the files decides.
+use Rattle.std.proofs.Common.{◌≡◌, ℕ, pos, List, [], ◌∷◌, map, Some, None, inl, inr, refl, sym, ◌∙◌, ap, subst, ◌⊎◌}
+use Rattle.rob_algebra.specs.Fraction.{Fraction, of_int}
+use Rattle.rob_dualize.specs.Models.{IsWideIn}
+use Rattle.rob_dualize.specs.Solving.{IsWideOnPath}
+use Rattle.rob_meaning.specs.Certificates.{Status, optimal, infeasible, unbounded}
+use Rattle.rob_meaning.specs.RobustModel.{RobustModel}
+use Rattle.rob_meaning.specs.UncertaintySet.{Admits, IsEmptySet}
+use Rattle.rob_model.specs.declared.place.Program.TheVariants as programs
+use Rattle.rob_model.specs.declared.place.Spot.{Spot}
+use Rattle.rob_model.specs.declared.place.Spot.TheVariants as spots
+use Rattle.rob_reach.proofs.StatusLemmas.{infeasible_not_unbounded, optimal_not_infeasible, optimal_not_unbounded}
+use Rattle.rob_reach.specs.Boxes.{Branch, box}
+use Rattle.rob_reach.specs.Growing.{Visits, start}
+use Rattle.rob_reach.specs.Ranges.{whole_rule}
+use Rattle.rob_reach.specs.WholeStatus.{HasWholeStatus}
+use Rattle.rob_reach_ends.proofs.EndingLemmas.{whole_status}
+use Rattle.rob_tree.specs.View.{branch_of}
+use Rattle.rob_tree.specs.declared.tree.Branch as declared
+use Rattle.rob_top.proofs.CommandLemmas.{check_no_branch, makes_no_branch, replay_no_branch, rows_no_branch, solves_no_branch}
+use Rattle.rob_top.proofs.BranchingLemmas.{kept_bounds}
+use Rattle.rob_top.proofs.CourseLemmas.{Course, WholeCourse, branching, breaks, finds, grows, inside_admitted, judges, lacks_plan, prints, refuses, replays, shows_empty, shows_none, wide_box, wide_number, wide_row}
+use Rattle.rob_top.proofs.NumberingLemmas.{one_numbering}
+use Rattle.rob_top.proofs.TrueAnswerLemmas.{course_of, first_of_two, lacking_verb, named, well}
+use Rattle.rob_top.specs.Branched.{BreaksWhole, no_ranges, no_variables}
+use Rattle.rob_top.specs.Calls.{Call, IsBranching, Known, limit_of}
+use Rattle.rob_top.specs.Completeness.{IsEmptyWholeAnswer, IsNarrowBelow, IsWholeAnswer, IsWideBefore, admitting, writing as before_writing}
+use Rattle.rob_top.specs.Headline.{Means}
+use Rattle.rob_top.specs.Inputs.{AreVariables, HasModel, HasVariables, HasWholeVariables, TellsNames}
+use Rattle.rob_top.specs.Work.{ended_of}
+use Rattle.rob_top.specs.declared.ended.Ended.{Ended}
+use Rattle.rob_top.specs.declared.ended.Ended.TheVariants.{EmptySet, WideNode, Whole, ReadFault, Memory}
+use Rattle.rob_words.specs.Commands.{Line}
+use Rattle.rob_words.specs.Names.{parts_of}
+use Rattle.rob_words.specs.Values.{Word}
+
+-- a model has one status over plans with whole numbers
+pub same_whole_status : (m : RobustModel) (names : List ℕ) (a b : Status) (v w : Fraction) → HasWholeStatus m names a v
+    → HasWholeStatus m names b w → a ≡ b
+same_whole_status m names optimal optimal v w h k = refl
+same_whole_status m names optimal infeasible v w h k = absurd (optimal_not_infeasible m names v h k)
+same_whole_status m names optimal unbounded v w h k = absurd (optimal_not_unbounded m names v h k)
+same_whole_status m names infeasible optimal v w h k = absurd (optimal_not_infeasible m names w k h)
+same_whole_status m names infeasible infeasible v w h k = refl
+same_whole_status m names infeasible unbounded v w h k = absurd (infeasible_not_unbounded m names h k)
+same_whole_status m names unbounded optimal v w h k = absurd (optimal_not_unbounded m names w k h)
+same_whole_status m names unbounded infeasible v w h k = absurd (infeasible_not_unbounded m names k h)
+same_whole_status m names unbounded unbounded v w h k = refl
+
+-- the words tell one list of names
+one_list : (line : Line) (a b : List Word) → TellsNames line a → TellsNames line b → a ≡ b
+one_list line a b h k =
+    let both : Some h.word ≡ Some k.word = sym h.told ∙ k.told in
+    let same : h.word ≡ k.word = cc in
+    h.parts ∙ ap parts_of same ∙ sym k.parts
+
+-- a search that goes on behind a branch has a certificate, so some scenario is admitted
+path_admits : (m : RobustModel) (names : List ℕ) (b : Branch) (path : List Branch) → Visits m names start (b ∷ path)
+    → (u : List Fraction) × Admits m u
+path_admits m names b path h =
+    let c = h.1.0 in (c.inside, inside_admitted m c c.status h.1.3.proves)
+
+module _ (call : Call) (known : Known call.source) (line : Line) (m : RobustModel) where
+  variables_once : (a b : List ℕ) → HasVariables call line m a → HasVariables call line m b → a ≡ b
+  variables_once a b h k =
+      let list : h.names ≡ k.names = one_list line h.names k.names h.told k.told in
+      one_numbering m (well call known line m h.model) (named call known line m h.model) k.names a b
+      (subst (λ (names : List Word). AreVariables m names a) list h.variables) k.variables
+
+  pub whole_once : (a b : List ℕ) → HasWholeVariables call line m a → HasWholeVariables call line m b → a ≡ b
+  whole_once a b h k = variables_once a b h.named k.named
+
+  -- one rule is broken first
+  named_not : (names : List Word) (numbers : List ℕ) → TellsNames line names → ((ns : List ℕ) → AreVariables m names ns → ⊥)
+      → HasVariables call line m numbers → ⊥
+  named_not names numbers told none h =
+      none numbers (subst (λ (list : List Word). AreVariables m list numbers) (one_list line h.names names h.told told) h.variables)
+
+  one_rule : (rule other : ℕ) → BreaksWhole call line m rule → BreaksWhole call line m other → rule ≡ other
+  one_rule rule other (no_variables names has told none e) (no_variables list has_too told_too none_too d) = e ∙ sym d
+  one_rule rule other (no_variables names has told none e) (no_ranges numbers h d) = absurd (named_not names numbers told none h)
+  one_rule rule other (no_ranges numbers h e) (no_variables names has told none d) = absurd (named_not names numbers told none h)
+  one_rule rule other (no_ranges a h e) (no_ranges b k d) =
+      let both : Some rule ≡ Some other =
+      sym e ∙ ap (λ (ns : List ℕ). whole_rule m ns) (variables_once a b h k) ∙ d
+      in
+      cc
+
+  -- and none where they keep them
+  no_break : (rule : ℕ) (numbers : List ℕ) → BreaksWhole call line m rule → HasWholeVariables call line m numbers → ⊥
+  no_break rule numbers (no_variables names has told none e) h = named_not names numbers told none h.named
+  no_break rule numbers (no_ranges other k e) h =
+      let no : Some rule ≡ None = sym e ∙ ap (λ (ns : List ℕ). whole_rule m ns) (variables_once other numbers k h.named) ∙ h.keeps in cc
+
+  -- the command grows a tree, so that stands behind its answer
+  pub whole_course : HasModel call line m → IsBranching line.verb → (ended : Ended) (text : List ℕ) → Means call ended text
+      → WholeCourse call line m ended ⊎ ((ended ≡ ReadFault) ⊎ (ended ≡ Memory))
+  whole_course has is ended text means = first_of_two by (course_of call known line m has ended text means)
+    where
+      by : Course call line m ended → WholeCourse call line m ended
+      by (finds status v u inside forms solves holds e) = absurd (solves_no_branch line.verb solves is)
+      by (shows_empty weights forms solves shown e) = absurd (solves_no_branch line.verb solves is)
+      by (prints forms rows e) = absurd (rows_no_branch line.verb rows is)
+      by (judges c h e) = absurd (check_no_branch line.verb h.file.is_check is)
+      by (refuses bytes rule number h breach e) = absurd (check_no_branch line.verb h.is_check is)
+      by (wide_number spot makes h e) = absurd (makes_no_branch line.verb makes is)
+      by (wide_row spot forms solves wide e) = absurd (solves_no_branch line.verb solves is)
+      by (replays c bytes rows h file e) = absurd (replay_no_branch line.verb h.certificate.file.is_replay is)
+      by (lacks_plan rule number h e) = absurd (replay_no_branch line.verb (lacking_verb call line m rule number h) is)
+      by (branching too course) = course
+
+  model_of : (rule : ℕ) → BreaksWhole call line m rule → HasModel call line m
+  model_of rule (no_variables names has told none e) = has
+  model_of rule (no_ranges numbers h e) = h.model
+
+  -- ---- a broken rule
+  pub breaking_decides : (rule : ℕ) → IsBranching line.verb → BreaksWhole call line m rule → (ended : Ended) (text : List ℕ)
+      → Means call ended text → (ended ≡ Whole rule) ⊎ ((ended ≡ ReadFault) ⊎ (ended ≡ Memory))
+  breaking_decides rule is broken ended text means = first_of_two by (whole_course (model_of rule broken) is ended text means)
+    where
+      by : WholeCourse call line m ended → ended ≡ Whole rule
+      by (breaks other h e) = e ∙ ap (λ r. Whole r) (one_rule other rule h broken)
+      by (grows names status v u has admitted holds e) = absurd (no_break rule names broken has)
+      by (shows_none names weights has shown e) = absurd (no_break rule names broken has)
+      by (wide_box names path spot has comes wide e) = absurd (no_break rule names broken has)
+
+  module _ (names : List ℕ) (has : HasWholeVariables call line m names) (is : IsBranching line.verb) where
+    -- ---- none is broken
+    status_answer : (status : Status) (v : Fraction) → HasWholeStatus m names status v → IsWholeAnswer (limit_of line) m names (ended_of status)
+    status_answer optimal v h = (v, h)
+    status_answer infeasible v h = (v, h)
+    status_answer unbounded v h = (v, h)
+
+    answer_is : (ended other : Ended) → ended ≡ other → IsWholeAnswer (limit_of line) m names other → IsWholeAnswer (limit_of line) m names ended
+    answer_is ended other e h = subst (λ (x : Ended). IsWholeAnswer (limit_of line) m names x) (sym e) h
+
+    pub whole_decides : (ended : Ended) (text : List ℕ) → Means call ended text → IsWholeAnswer (limit_of line) m names ended
+    whole_decides ended text means = all (whole_course has.named.model is ended text means)
+      where
+        by : WholeCourse call line m ended → IsWholeAnswer (limit_of line) m names ended
+        by (breaks rule h e) = absurd (no_break rule names h has)
+        by (grows others status v u other admitted holds e) =
+            answer_is ended (ended_of status) e
+            (status_answer status v (subst (λ (ns : List ℕ). HasWholeStatus m ns status v) (whole_once others names other has) holds))
+        by (shows_none others weights other shown e) = answer_is ended (EmptySet weights) e shown.empty
+        by (wide_box others path spot other comes wide e) =
+            answer_is ended (WideNode path spot) e
+            (subst (λ (ns : List ℕ). Visits m ns start (map branch_of path)) (whole_once others names other has) comes, wide)
+
+        all : WholeCourse call line m ended ⊎ ((ended ≡ ReadFault) ⊎ (ended ≡ Memory)) → IsWholeAnswer (limit_of line) m names ended
+        all (inl course) = by course
+        all (inr (inl e)) = answer_is ended ReadFault e (inl refl)
+        all (inr (inr e)) = answer_is ended Memory e (inr (inr refl))
+
+    -- ---- no scenario is admitted
+    empty_is : (ended other : Ended) → ended ≡ other → IsEmptyWholeAnswer (limit_of line) m other → IsEmptyWholeAnswer (limit_of line) m ended
+    empty_is ended other e h = subst (λ (x : Ended). IsEmptyWholeAnswer (limit_of line) m x) (sym e) h
+
+    before_admitting : IsEmptySet m → (spot : Spot) → IsWideOnPath (limit_of line) m spot → IsWideBefore (limit_of line) m spot
+    before_admitting none (spots.Dictionary programs.Set basis i) h = admitting basis i refl h
+    before_admitting none (spots.Dictionary programs.Reform basis i) h = absurd (none h.0.0 h.0.1)
+    before_admitting none (spots.Dictionary programs.Master basis i) h = absurd h
+    before_admitting none (spots.Dictionary (programs.SearchPlan form) basis i) h = absurd h
+    before_admitting none (spots.Dictionary (programs.SearchMove form) basis i) h = absurd h
+    before_admitting none (spots.Coefficient where_it_is) h = absurd h
+    before_admitting none (spots.Clearing where_it_is) h = absurd h
+    before_admitting none (spots.Sum where_it_is j) h = absurd h
+    before_admitting none (spots.Check place) h = absurd h
+    before_admitting none (spots.Replay number) h = absurd h
+
+    before_it : IsEmptySet m → (spot : Spot) → IsWideIn (limit_of line) m spot → IsWideBefore (limit_of line) m spot
+    before_it none spot (inl first) = before_writing first
+    before_it none spot (inr wide) = before_admitting none spot wide.1
+
+    empty_box : IsEmptySet m → (others : List ℕ) (path : List declared.Branch) (spot : Spot) → Visits m others start (map branch_of path)
+        → IsWideIn (limit_of line) (box m (map branch_of path)) spot → IsEmptyWholeAnswer (limit_of line) m (WideNode path spot)
+    empty_box none others [] spot comes wide = (refl, before_it none spot wide)
+    empty_box none others (b ∷ path) spot comes wide =
+        let u = path_admits m others (branch_of b) (map branch_of path) comes in absurd (none u.0 u.1)
+
+    pub whole_empty_decides : IsEmptySet m → (ended : Ended) (text : List ℕ) → Means call ended text → IsEmptyWholeAnswer (limit_of line) m ended
+    whole_empty_decides none ended text means = all (whole_course has.named.model is ended text means)
+      where
+        by : WholeCourse call line m ended → IsEmptyWholeAnswer (limit_of line) m ended
+        by (breaks rule h e) = absurd (no_break rule names h has)
+        by (grows others status v u other admitted holds e) = absurd (none u admitted)
+        by (shows_none others weights other shown e) = empty_is ended (EmptySet weights) e shown
+        by (wide_box others path spot other comes wide e) = empty_is ended (WideNode path spot) e (empty_box none others path spot comes wide)
+
+        all : WholeCourse call line m ended ⊎ ((ended ≡ ReadFault) ⊎ (ended ≡ Memory)) → IsEmptyWholeAnswer (limit_of line) m ended
+        all (inl course) = by course
+        all (inr (inl e)) = empty_is ended ReadFault e (inl refl)
+        all (inr (inr e)) = empty_is ended Memory e (inr (inr refl))
+
+    -- ---- some scenario is, and no number is wide
+    pub whole_status_decides : (u : List Fraction) → Admits m u → IsNarrowBelow (limit_of line) m names
+        → (status : Status) (v : Fraction) → HasWholeStatus m names status v → (ended : Ended) (text : List ℕ) → Means call ended text
+        → (ended ≡ ended_of status) ⊎ ((ended ≡ ReadFault) ⊎ (ended ≡ Memory))
+    whole_status_decides u admitted narrow status v true_of ended text means =
+        first_of_two by (whole_course has.named.model is ended text means)
+      where
+        by : WholeCourse call line m ended → ended ≡ ended_of status
+        by (breaks rule h e) = absurd (no_break rule names h has)
+        by (grows others other w inner same inside holds e) =
+            e ∙ ap ended_of (same_whole_status m names other status w v
+            (subst (λ (ns : List ℕ). HasWholeStatus m ns other w) (whole_once others names same has) holds) true_of)
+        by (shows_none others weights other shown e) = absurd (shown.empty u admitted)
+        by (wide_box others path spot other comes wide e) =
+            absurd (narrow (map branch_of path) spot
+            (subst (λ (ns : List ℕ). Visits m ns start (map branch_of path)) (whole_once others names other has) comes) wide)
+
+    -- the model has one
+    pub some_whole_status : (u : List Fraction) → Admits m u → (status : Status) × (v : Fraction) × HasWholeStatus m names status v
+    some_whole_status u admitted =
+        by (whole_status m (well call known line m has.named.model) u admitted names (kept_bounds m names has.keeps))
+      where
+        by : ((v : Fraction) × HasWholeStatus m names optimal v)
+            ⊎ (HasWholeStatus m names infeasible (of_int (pos 0)) ⊎ HasWholeStatus m names unbounded (of_int (pos 0)))
+            → (status : Status) × (v : Fraction) × HasWholeStatus m names status v
+        by (inl h) = (optimal, h.0, h.1)
+        by (inr (inl h)) = (infeasible, of_int (pos 0), h)
+        by (inr (inr h)) = (unbounded, of_int (pos 0), h)

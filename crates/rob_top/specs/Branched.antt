@@ -1,0 +1,119 @@
+-- The answers of `whole` and `tree`: the status over plans whose named variables take whole numbers.
+use Rattle.std.specs.Fmt.{decimal}
+use Rattle.std.specs.Prelude.{◌≡◌, ◌++◌, ℕ, ℤ, List, Some, codes, map}
+use Rattle.rob_algebra.specs.Fraction.{of_int}
+use Rattle.rob_dualize.specs.Models.{IsWideIn}
+use Rattle.rob_dualize.specs.Solving.{IsShownEmpty}
+use Rattle.rob_meaning.specs.Certificates.{Certificate, Status, infeasible}
+use Rattle.rob_meaning.specs.RobustModel.{RobustModel}
+use Rattle.rob_model.specs.declared.place.Spot.{Spot}
+use Rattle.rob_reach.specs.Boxes.{box}
+use Rattle.rob_reach.specs.Growing.{IsGrown, Visits, start}
+use Rattle.rob_reach.specs.Ranges.{whole_rule}
+use Rattle.rob_reach.specs.Trees.{HasLeaf, ProvesTree, Tree, leaves, node_count}
+use Rattle.rob_reach.specs.Verdicts.{Shows}
+use Rattle.rob_reach.specs.WholeStatus.{HasWholeStatus, WholeBound}
+use Rattle.rob_report.specs.Lines.{line as one_line}
+use Rattle.rob_report.specs.Report.{report_of}
+use Rattle.rob_report.specs.Spots.{empty_set_lines}
+use Rattle.rob_tree.specs.Reading.{TreeFits}
+use Rattle.rob_tree.specs.Shape.{HasTreeShape}
+use Rattle.rob_tree.specs.TreeText.{tree_text}
+use Rattle.rob_tree.specs.View.{branch_of}
+use Rattle.rob_tree.specs.declared.tree.Branch.{Branch}
+use Rattle.rob_top.specs.Answers.{whole_text, wide_node_text}
+use Rattle.rob_top.specs.Calls.{Call, IsBranching, WasRaised, limit_of}
+use Rattle.rob_top.specs.Inputs.{AreVariables, HasModel, HasVariables, HasWholeVariables, TellsNames}
+use Rattle.rob_words.specs.Commands.{Line}
+use Rattle.rob_words.specs.Values.{Word}
+use Rattle.rob_words.specs.declared.verb.Verb.{Verb}
+use Rattle.rob_words.specs.declared.verb.Verb.TheVariants.{Whole, Tree as TreeVerb}
+
+-- ---- what is printed
+
+-- the certificate is that of the leaf which shows the tree's status: its plan has the certificate's value as its bound,
+-- which is the tree's where that is optimal, and whole numbers for the named variables
+pub record IsShownBy (m : RobustModel) (names : List ℕ) (t : Tree) (c : Certificate) : Type 0 where
+  pub here : HasLeaf (λ l. l.certificate ≡ Some c) (leaves m t.root) t.best
+  pub shows : Shows t.status t.value c
+  pub kept : WholeBound m names c.plan c.value
+
+-- `nodes N`
+abbrev pub nodes_line : ℕ → List ℕ
+nodes_line count = one_line (codes "nodes " ++ decimal count)
+
+-- the report of that certificate; or that the model is infeasible, which no leaf shows
+abbrev pub IsPlanText : RobustModel → List ℕ → Tree → Status → List ℕ → Type 0
+IsPlanText m names t infeasible text = text ≡ one_line (codes "infeasible")
+IsPlanText m names t status text = (c : Certificate) × IsShownBy m names t c × (text ≡ report_of m c)
+
+-- what `whole` prints: that, and how many nodes the tree has
+abbrev pub IsReport : RobustModel → List ℕ → Tree → List ℕ → Type 0
+IsReport m names t text =
+    (plan : List ℕ) × IsPlanText m names t t.status plan × (text ≡ plan ++ nodes_line (node_count t.root))
+
+-- what is printed of a tree: that, or the tree itself; other commands print none
+abbrev pub IsPrintedTree : Verb → RobustModel → List ℕ → Tree → List ℕ → Type 0
+IsPrintedTree Whole m names t text = IsReport m names t text
+IsPrintedTree TreeVerb m names t text = text ≡ tree_text m t
+IsPrintedTree _ m names t text = ⊥
+
+module _ (call : Call) where
+  -- the model has the status over plans whose named variables are whole: it has grown into a tree that proves it, and
+  -- that is printed, or the plan of one of its leaves. The tree has its shape, and its numbers
+  -- fit the line's width, so that what `tree` prints is the text of that tree, and of no other whose numbers fit
+  pub record IsBranched (status : Status) (text : List ℕ) : Type 0 where
+    pub line : Line
+    pub m : RobustModel
+    pub names : List ℕ
+    pub has : HasWholeVariables call line m names
+    pub branches : IsBranching line.verb
+    pub t : Tree
+    pub status_is : t.status ≡ status
+    pub holds : HasWholeStatus m names status t.value
+    pub proves : ProvesTree m names t
+    pub grown : IsGrown m names t
+    pub shape : HasTreeShape (limit_of line) m names t
+    pub fits : TreeFits (limit_of line) m t
+    pub printed : IsPrintedTree line.verb m names t text
+
+  -- ---- refusals
+
+  -- the named variables break the rule, the first that they break: 61 where the names are no different variables'; 62
+  -- where one lacks a bound; 63 where the product of their ranges is over 1,000
+  pub data BreaksWhole (line : Line) (m : RobustModel) (rule : ℕ) : Type 0 where
+    no_variables : (names : List Word) → HasModel call line m → TellsNames line names
+        → ((numbers : List ℕ) → AreVariables m names numbers → ⊥) → rule ≡ 61 → BreaksWhole line m rule
+    no_ranges : (numbers : List ℕ) → HasVariables call line m numbers → whole_rule m numbers ≡ Some rule
+        → BreaksWhole line m rule
+
+  -- so it is named
+  pub record IsNoWhole (rule : ℕ) (text : List ℕ) : Type 0 where
+    pub line : Line
+    pub m : RobustModel
+    pub branches : IsBranching line.verb
+    pub breaks : BreaksWhole line m rule
+    pub printed : text ≡ whole_text rule
+
+  -- no joint scenario is admitted, as the weights show
+  pub record IsEmptyBranched (weights : List ℤ) (text : List ℕ) : Type 0 where
+    pub line : Line
+    pub m : RobustModel
+    pub names : List ℕ
+    pub has : HasWholeVariables call line m names
+    pub branches : IsBranching line.verb
+    pub shown : IsShownEmpty m (map of_int weights)
+    pub printed : text ≡ empty_set_lines m weights
+
+  -- a number is wide in the box behind the path, to which the search for a tree comes; and the ledger has counted it in
+  -- this call
+  pub record IsWideNode (path : List Branch) (spot : Spot) (text : List ℕ) : Type 0 where
+    pub line : Line
+    pub m : RobustModel
+    pub names : List ℕ
+    pub has : HasWholeVariables call line m names
+    pub branches : IsBranching line.verb
+    pub comes : Visits m names start (map branch_of path)
+    pub wide : IsWideIn (limit_of line) (box m (map branch_of path)) spot
+    pub raised : WasRaised call.wides
+    pub printed : text ≡ wide_node_text m path spot
