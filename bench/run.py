@@ -4,7 +4,7 @@ the machine has on the robust counterpart of the same models as a linear program
 Markdown, and ends with 1 where an answer isn't the one that is kept beside the model.
 
     python3 bench/run.py                                           # crates/robust/out/robust
-    python3 bench/run.py --robust old=PATH --robust new=PATH       # two builds beside each other
+    python3 bench/run.py --robust first=PATH --robust second=PATH       # two builds beside each other
     python3 bench/run.py --runs 1 --only lot08 --only mix          # a short look
 """
 import argparse
