@@ -21,6 +21,6 @@ pub use copy::copy_model;
 pub use error::{TreeErr, TreeStop};
 pub use reader::read_tree;
 pub use rules::whole_rule;
-pub use tree::{Branch, Node, Tree};
+pub use tree::{Branch, Node, Tree, split_node};
 pub use verdict::{LeafFault, TreeVerdict};
 pub use writer::write_tree;

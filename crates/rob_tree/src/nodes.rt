@@ -21,7 +21,7 @@ ghost use Rattle.rob_tree.specs.declared.error.TreeErr.TheVariants.{Memory};
 use crate::error::{Offence, TreeErr};
 use crate::lines::read_whole;
 use crate::part::certificate_part;
-use crate::tree::Node;
+use crate::tree::{Node, split_node};
 use rob_cert::cursor::{split_byte, three_words};
 use rob_cert::names::{Names, name_in};
 use rob_cert::{CertErr, Status, read_cert};
@@ -241,17 +241,8 @@ fn joined<'a, N: Exact>(
         × (node_of N.value r.node ≡ split column k (node_of N.value below) (node_of N.value above.entry.node))) }
     ensures memory { IfErr result (λ e. e ≡ Memory) }
 {
-    let below = match Box::new(alloc, below) {
-        Ok(below) => below,
-        Err(_) => return Err(TreeErr::Memory),
-    };
-    match Box::new(alloc, above.node) {
-        Ok(node) => Ok(NodeRead {
-            node: Node::Split(column, k, below, node),
-            at: above.at,
-        }),
-        Err(_) => Err(TreeErr::Memory),
-    }
+    let node = split_node(alloc, column, k, below, above.node)?;
+    Ok(NodeRead { node, at: above.at })
 }
 
 /// A node: a leaf with its certificate, a branch with the nodes of its two boxes, or an open leaf.

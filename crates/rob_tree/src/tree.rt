@@ -1,7 +1,13 @@
 //! Branch trees. (Land, Doig, An automatic method of solving discrete programming problems; Nemhauser, Wolsey, Integer
 //! and Combinatorial Optimization, chapter II.4.)
 
+ghost use Rattle.std.specs.Prelude.{◌≡◌, IfOk};
+ghost use Rattle.rob_reach.specs.Trees.{split};
+ghost use Rattle.rob_tree.specs.View.{node_of};
+
 use rob_cert::{Cert, Status};
+use rob_number::{Exact, Memory};
+use std::alloc::Global;
 
 /// A branch: a bound of a variable that a box has beyond the model's own.
 #[derive(Clone, Copy, Debug, PartialEq, Eq)]
@@ -23,6 +29,23 @@ pub enum Node<N> {
     Split(u32, i64, Box<Node<N>>, Box<Node<N>>),
     /// A box that is left open, since the model is shown to be unbounded without it.
     Open,
+}
+
+/// The node of a branch at K on the variable of that number, from 0, with the nodes of its two boxes. The one error is
+/// want of memory.
+pub fn split_node<N: Exact>(
+    alloc: Global,
+    column: u32,
+    k: i64,
+    below: Node<N>,
+    above: Node<N>,
+) -> Result<Node<N>, Memory>
+    ensures split { IfOk result (λ node. node_of N.value node
+        ≡ split column k (node_of N.value below) (node_of N.value above)) }
+{
+    let below = Box::new(alloc, below)?;
+    let above = Box::new(alloc, above)?;
+    Ok(Node::Split(column, k, below, above))
 }
 
 /// A branch tree, and what it claims of the model over plans with whole numbers.
