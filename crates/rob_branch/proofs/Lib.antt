@@ -4,3 +4,11 @@ pub mod GrownTreeLemmas
 pub mod GrowSteps
 pub mod SideLemmas
 pub mod GrownTextLemmas
+pub mod PathLemmas
+pub mod LeafLemmas
+pub mod WalkLemmas
+pub mod VerdictLemmas
+pub mod JudgingLemmas
+pub mod CheckSteps
+pub mod OneSpotLemmas
+pub mod OneVerdictLemmas

@@ -1,3 +1,5 @@
 pub mod View
 pub mod Growth
 pub mod GrownText
+pub mod Verdicts
+pub mod Leaves

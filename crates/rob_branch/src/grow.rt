@@ -29,7 +29,7 @@ use rob_model::Model;
 use rob_model::numbers::zero;
 use rob_number::{Exact, Ledger, Tally};
 use rob_tree::copy::copy_list;
-use rob_tree::{Branch, Node, Tree, TreeStop, behind, whole_rule};
+use rob_tree::{Branch, Node, Tree, TreeStop, behind, split_node, whole_rule};
 use std::alloc::Global;
 
 /// A box: its model, the named variables, and the branches that lead to it.
@@ -166,17 +166,11 @@ fn joined<N: Exact>(
         × (node_of N.value grown.node ≡ trees.split column k (node_of N.value below) (node_of N.value above.node))) }
     ensures memory { IfErr result (λ stop. stop ≡ Refused.Memory) }
 {
-    let below = match Box::new(alloc, below) {
-        Ok(below) => below,
-        Err(_) => return Err(TreeStop::Memory),
-    };
-    match Box::new(alloc, above.node) {
-        Ok(node) => Ok(Grown {
-            node: Node::Split(column, k, below, node),
-            after: above.after,
-        }),
-        Err(_) => Err(TreeStop::Memory),
-    }
+    let node = split_node(alloc, column, k, below, above.node)?;
+    Ok(Grown {
+        node,
+        after: above.after,
+    })
 }
 
 /// Grows the box behind a branch that a certificate of the area allows.
@@ -204,14 +198,8 @@ fn grow_side<N: Exact, L: Ledger>(
         (search_of N.value before) (map branch_of area.entry.path.now ++ branch_of branch ∷ [])) }
     ensures counted { CountsGrowth L.ops L.wides ledger.old ledger.new result }
 {
-    let model = match behind(alloc, area.model, branch) {
-        Ok(model) => model,
-        Err(_) => return Err(TreeStop::Memory),
-    };
-    let path = match longer(alloc, area.path, branch) {
-        Ok(path) => path,
-        Err(_) => return Err(TreeStop::Memory),
-    };
+    let model = behind(alloc, area.model, branch)?;
+    let path = longer(alloc, area.path, branch)?;
     let side = Area {
         model: &model,
         names: area.names,

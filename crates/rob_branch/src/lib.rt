@@ -1,9 +1,14 @@
-//! Branch and bound with whole numbers: a tree is grown, one solve for each node that isn't open.
+//! Branch and bound with whole numbers: a tree is grown, one solve for each node that isn't open, and a tree is
+//! checked, leaf by leaf.
 #![tactic(auto)]
 
+mod check;
 mod grow;
 pub mod laws;
+mod leaf;
 mod path;
 mod search;
+mod walk;
 
+pub use check::check_tree;
 pub use grow::grow_tree;

@@ -167,11 +167,11 @@ pub grow_side-grow-requires : goal.grow_side-grow-requires
 grow_side-grow-requires g t c κs within =
     let value = g.N.Exact.value in
     let m = robust value c.args.area.model.now in
-    let side = robust value c.in-Ok.model in
+    let side = robust value c.in_ok-model.model in
     let names = c.args.area.names.now in
     let b = branch_of c.args.branch in
     let u = c.requires.admitted.0 in
-    let tight : side ≡ behind m b = c.in-Ok.ensures.tightened in
+    let tight : side ≡ behind m b = c.in_ok-model.ensures.tightened in
     let less : product_of_ranges side.variables names < product_of_ranges m.variables names =
     subst (λ (n : RobustModel). product_of_ranges n.variables names < product_of_ranges m.variables names)
     (sym tight) (falls_behind m c.requires.valid.well_formed names c.requires.bounded b c.requires.allowed)
@@ -185,7 +185,7 @@ grow_side-grow-requires g t c κs within =
     c.requires.room
     in
     let some : HasScenario side = subst HasScenario (sym tight) (u, admits_in m b u c.requires.admitted.1) in
-    (omega (arith, c.decreases, less), (within.0, (within.1, (c.in-Ok.ensures.valid, (bounded, (room, some))))))
+    (omega (arith, c.decreases, less), (within.0, (within.1, (c.in_ok-model.ensures.valid, (bounded, (room, some))))))
 
 pub grow_side-returns-clause-cause : goal.grow_side-returns-clause-cause
 grow_side-returns-clause-cause g t c =
@@ -193,7 +193,7 @@ grow_side-returns-clause-cause g t c =
     let path = c.args.area.path.now in
     let b = c.args.branch in
     let m = robust value c.args.area.model.now in
-    cause_told g.N.Exact.limit (robust value c.in-Ok.model) (behind m (branch_of b)) c.args.area.names.now (search_of value c.args.before)
-    (map branch_of c.items.result.now) (map branch_of path ++ branch_of b ∷ []) c.grow.result c.in-Ok.ensures.tightened
-    (ap (map branch_of) (c.items.ensures.list ∙ c.in-Ok-longer.ensures.path) ∙ map-append branch_of path (b ∷ []))
+    cause_told g.N.Exact.limit (robust value c.in_ok-model.model) (behind m (branch_of b)) c.args.area.names.now (search_of value c.args.before)
+    (map branch_of c.items.result.now) (map branch_of path ++ branch_of b ∷ []) c.grow.result c.in_ok-model.ensures.tightened
+    (ap (map branch_of) (c.items.ensures.list ∙ c.in_ok-path.ensures.path) ∙ map-append branch_of path (b ∷ []))
     c.grow.ensures.cause
