@@ -12,3 +12,4 @@ pub mod SetLemmas
 pub mod SizeLemmas
 pub mod NarrowModels
 pub mod ModelLemmas
+pub mod RowBoundLemmas

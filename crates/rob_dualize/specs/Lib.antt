@@ -5,3 +5,4 @@ pub mod Solving
 pub mod SetSolving
 pub mod Models
 pub mod SmallestModel
+pub mod RowBounds

@@ -2,6 +2,7 @@
 //! read off its last basis.
 #![tactic(auto)]
 
+pub mod bounds;
 mod certificate;
 mod counterpart;
 pub mod entries;
@@ -14,6 +15,7 @@ pub mod set_program;
 pub mod stop;
 pub mod told;
 
+pub use bounds::model_bounds;
 pub use counterpart::reform;
 pub use model::solve_model;
 pub use route::solve_dual;

@@ -1,0 +1,110 @@
+//! How large the numbers can become in the rows of the two programs that a model is solved by.
+
+ghost use Rattle.std.specs.Option.{option_map};
+ghost use Rattle.std.specs.Prelude.{◌≡◌, ◌↔◌, nat_abs, IfOk};
+ghost use Rattle.rob_meaning.specs.RobustModel.{RobustModel};
+ghost use Rattle.rob_rows.specs.LinearPrograms.{HasNumbersWithin, IsShaped, program_of};
+ghost use Rattle.rob_sets.specs.SetForm.{IsSetForm};
+ghost use Rattle.rob_elab.specs.Elaborated.{AreElaborated};
+ghost use Rattle.rob_elab.specs.Forms.{IsForms};
+ghost use Rattle.rob_dualize.specs.RowBounds.{AreBothWithin, TellsBound, TellsBounds};
+ghost use Rattle.rob_dualize.specs.SetSolving.{IsSetOfModel, IsFewSet, program_of_set};
+ghost use Rattle.rob_dualize.specs.Solving.{IsNarrowModel};
+ghost use Rattle.rob_dualize.specs.Wholes.{counterpart_of, IsFew};
+
+use crate::counterpart::reform;
+use rob_elab::Forms;
+use rob_narrow::{bound_of, greatest};
+use rob_number::{Exact, Memory};
+use rob_rows::Lp;
+use rob_sets::{SetForm, set_lp};
+use std::alloc::Global;
+
+/// A program's size, and the bound that follows from it.
+#[derive(Debug, Drop)]
+pub struct RowBound {
+    /// How many rows the program has.
+    pub rows: u64,
+    /// The greatest size of its numbers, or 1 where that is less.
+    pub greatest: u64,
+    /// With `m` rows and numbers of size `a`: `((m + 1) * a) ^ (m + 1)`, which no number of a row on the program's path
+    /// exceeds in size; nothing where it is over the width's limit.
+    pub bound: Option<u64>,
+}
+
+/// The bounds of the two programs of a model.
+#[derive(Debug, Drop)]
+pub struct ModelBounds {
+    /// That of the set's program.
+    pub set: RowBound,
+    /// That of the robust counterpart.
+    pub counterpart: RowBound,
+}
+
+/// The bounds of the set's program and of the counterpart, at the width of `N`. Where both are within its limit the
+/// model isn't refused for a wide row.
+pub fn model_bounds<N: Exact>(
+    alloc: Global,
+    forms: &Forms,
+    set: &SetForm,
+) -> Result<ModelBounds, Memory>
+    requires model { AreElaborated N.limit forms.now set.now }
+    requires few { IsFew (counterpart_of forms.now set.now) }
+    ensures bounds { IfOk result (λ told. (m : RobustModel) → IsForms m forms.now → IsSetForm m set.now
+        → TellsBounds N.limit m told) }
+    ensures narrow { IfOk result (λ told. (m : RobustModel) → IsForms m forms.now → IsSetForm m set.now
+        → AreBothWithin told ↔ IsNarrowModel N.limit m) }
+{
+    let of_set = set_bound::<N>(alloc, set)?;
+    let counterpart = counterpart_bound::<N>(alloc, forms, set)?;
+    Ok(ModelBounds {
+        set: of_set,
+        counterpart,
+    })
+}
+
+/// The bound of the set's program. The program itself is let go of.
+fn set_bound<N: Exact>(alloc: Global, set: &SetForm) -> Result<RowBound, Memory>
+    requires model { IsSetOfModel N.limit set.now }
+    ensures bound { IfOk result (TellsBound N.limit (program_of_set set.now)) }
+{
+    let lp = set_lp(alloc, set)?;
+    Ok(row_bound::<N>(&lp))
+}
+
+/// The bound of the counterpart. The program itself is let go of.
+fn counterpart_bound<N: Exact>(
+    alloc: Global,
+    forms: &Forms,
+    set: &SetForm,
+) -> Result<RowBound, Memory>
+    requires model { AreElaborated N.limit forms.now set.now }
+    requires few { IsFew (counterpart_of forms.now set.now) }
+    ensures bound { IfOk result (TellsBound N.limit (counterpart_of forms.now set.now)) }
+{
+    let lp = reform(alloc, forms, set)?;
+    Ok(row_bound::<N>(&lp))
+}
+
+/// The bound of a program.
+fn row_bound<N: Exact>(lp: &Lp) -> RowBound
+    requires shaped { IsShaped lp.now }
+    requires numbers { HasNumbersWithin N.limit lp.now }
+    ensures bound { TellsBound N.limit (program_of lp.now) result }
+{
+    RowBound {
+        rows: lp.b.items().len() as u64,
+        greatest: greatest(lp).unsigned_abs(),
+        bound: size_of(bound_of(lp, N::LIMIT)),
+    }
+}
+
+/// The size of the number, where there is one.
+fn size_of(number: Option<i64>) -> Option<u64>
+    ensures size { result ≡ option_map nat_abs number }
+{
+    match number {
+        Some(number) => Some(number.unsigned_abs()),
+        None => None,
+    }
+}
