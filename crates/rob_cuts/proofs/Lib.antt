@@ -1,0 +1,17 @@
+pub mod MasterLemmas
+pub mod EndingLemmas
+pub mod RunLemmas
+pub mod RayLemmas
+pub mod NumberLemmas
+pub mod ItemLemmas
+pub mod KeptLemmas
+pub mod CertificateLemmas
+pub mod StopLemmas
+pub mod JudgeLemmas
+pub mod LookLemmas
+pub mod ScanLemmas
+pub mod RoundLemmas
+pub mod SolvingLemmas
+pub mod OutcomeLemmas
+pub mod RouteLemmas
+pub mod CutLemmas

@@ -1,0 +1,201 @@
+-- What the ending of a master and what is found at its plan and its direction lead to.
+use Rattle.std.proofs.Common.{◌≡◌, inl, inr, ℕ, suc, ◌+◌, ◌<◌, ◌≤◌, ◌^◌, List, length, refl, sym, ap, ◌∙◌, subst, arith, true, false}
+use Rattle.rob_algebra.specs.Fraction.{Fraction, of_int, ◌*ℚ◌}
+use Rattle.rob_linear.specs.Vectors.{Matrix}
+use Rattle.rob_linear.specs.WideRows.{HasWideRow}
+use Rattle.rob_meaning.specs.Certificates.{Cover}
+use Rattle.rob_meaning.specs.Forms.{matrices}
+use Rattle.rob_meaning.specs.RobustModel.{RobustModel, column_count}
+use Rattle.rob_meaning.specs.UncertaintySet.{Admits}
+use Rattle.rob_meaning.specs.Vectors.{scale}
+use Rattle.rob_meaning.specs.WellFormed.{IsModel}
+use Rattle.rob_number.specs.declared.lp_kind.LpKind.{LpKind}
+use Rattle.rob_number.specs.declared.lp_kind.LpKind.TheVariants as kind
+use Rattle.rob_cert.specs.declared.ending.Stop.{Stop}
+use Rattle.rob_cert.specs.declared.ending.Stop.TheVariants.{EmptySet, Wide, Memory}
+use Rattle.rob_cert.specs.declared.trace.Round.{Round as Told}
+use Rattle.rob_elab.specs.Forms.{IsForms}
+use Rattle.rob_elab.specs.declared.forms.Forms.{Forms}
+use Rattle.rob_rows.specs.LinearPrograms.{program_of}
+use Rattle.rob_rows.specs.declared.program.Lp.{Lp}
+use Rattle.rob_simplex.specs.Solvers.{Solver, column_of, positions}
+use Rattle.rob_simplex.specs.Solutions.{point_of, dual_of, ray_of, weights_of}
+use Rattle.rob_counterpart.specs.ReadCertificates.{plan_read, bound_read, weight_of}
+use Rattle.rob_counterpart.specs.Splitting.{plus, minus, OneIsZero}
+use Rattle.rob_counterpart.proofs.SamePaths.{wide_row_same}
+use Rattle.rob_simplex.specs.Dictionaries.{columns_of}
+use Rattle.rob_dualize.specs.Ending.{HasEnded, IsMadeAs, StopsAt}
+use Rattle.rob_model.specs.declared.place.Program.TheVariants.{Master}
+use Rattle.rob_simplex.specs.Endings.{HasSolved, HasAnswered}
+use Rattle.rob_simplex.specs.Solvers.{IsMadeFor}
+use Rattle.rob_dualize.proofs.MakingLemmas.{has_ended}
+use Rattle.rob_dualize.specs.Solving.{IsLastScenario}
+use Rattle.rob_runs.specs.Cuts.{Cut, master_over}
+use Rattle.rob_runs.specs.Readings.{AreKept, covers_of_amounts, cleared_by}
+use Rattle.rob_runs.specs.Runs.{plan_at, direction_at, best, boundless, KeepsForms, CutsOff, MasterIsOptimal, MasterIsUnbounded, MasterIsInfeasible}
+use Rattle.rob_runs.specs.Spots.{LooksAt, TellsWideRow}
+use Rattle.rob_runs.proofs.FoundLemmas.{found_keeps}
+use Rattle.rob_runs.proofs.RunCertificates.{length-direction_at}
+use Rattle.rob_cuts.specs.Certificates.{CoveredPlan, optimal_with, infeasible_with, unbounded_with, items_told}
+use Rattle.rob_cuts.specs.Master.{IsMasterList}
+use Rattle.rob_cuts.specs.Rounds.{round_told, cut_of, cuts_told, CutFits, TellsRun}
+use Rattle.rob_cuts.specs.Outcomes.{IsEnd, IsNext, IsWideNext}
+use Rattle.rob_cuts.proofs.CertificateLemmas.{IsCoveredAt, optimal_end_is, infeasible_end_is, unbounded_end_is}
+use Rattle.rob_cuts.proofs.EndingLemmas.{optimal_master, unbounded_master, infeasible_master}
+use Rattle.rob_cuts.proofs.LookLemmas.{same_then, best_pairs, boundless_pairs, direction_pairs}
+use Rattle.rob_cuts.proofs.MasterLemmas.{master_same, rights_count}
+use Rattle.rob_cuts.proofs.RunLemmas.{length-cuts}
+use Rattle.rob_cuts.proofs.StopLemmas.{master_place}
+
+module _ (m : RobustModel) (forms : Forms) (f : IsForms m forms) (rounds : List Told) (master : Lp)
+    (list : IsMasterList forms (cuts_told rounds) master) (s : Solver) where
+  pub ended_as : (k : LpKind) → HasEnded (program_of master) k s → HasEnded (master_over m (cuts_told rounds)) k s
+  ended_as k h = record {
+    program = h.program;
+    same = same_then h.program (program_of master) (master_over m (cuts_told rounds)) h.same (master_same forms (cuts_told rounds) master list m f);
+    rows = h.rows;
+    columns = h.columns;
+    solved = h.solved;
+    answered = h.answered;
+  }
+
+  pub rounds_are_rows : (k : LpKind) → HasEnded (program_of master) k s → length rounds ≡ positions s
+  rounds_are_rows k h = let e = ended_as k h in sym (length-cuts rounds) ∙ sym e.same.height ∙ e.rows
+
+  pub rounds_made : (before : Solver) → IsMadeFor (program_of master) before → positions s ≡ positions before → length rounds ≡ positions s
+  rounds_made before h e = sym (length-cuts rounds) ∙ sym (rights_count forms (cuts_told rounds) master list) ∙ h.rows ∙ sym e
+
+  pub columns_are_pairs : (k : LpKind) → HasEnded (program_of master) k s → suc forms.columns + suc forms.columns ≡ s.columns
+  columns_are_pairs k h =
+      let e = ended_as k h in
+      ap (λ (n : ℕ). suc n + suc n) f.columns ∙ sym e.same.width ∙ e.columns
+
+  -- a wide row of the master
+  pub wide_master : (limit : ℕ) (basis : List ℕ) (i : ℕ) → length basis ≡ length rounds → HasWideRow limit (program_of master) (columns_of basis) i
+      → TellsWideRow limit (master_over m (cuts_told rounds)) basis i
+  wide_master limit basis i e w = record {
+    whole = e ∙ sym (length-cuts rounds);
+    row = wide_row_same (program_of master) (master_over m (cuts_told rounds)) (master_same forms (cuts_told rounds) master list m f) limit (columns_of basis) i w;
+  }
+
+  pub master_stops : (limit : ℕ) (basis : List ℕ) (i : ℕ) → TellsWideRow limit (master_over m (cuts_told rounds)) basis i → (stop : Stop) → StopsAt basis Master i stop
+      → IsWideNext limit m rounds stop
+  master_stops limit basis i w (EmptySet weights) h = absurd h
+  master_stops limit basis i w (Wide place trace) h = master_place limit m (cuts_told rounds) place basis i w h.0
+  master_stops limit basis i w Memory h = tt
+
+  -- ---- with a best plan
+  module _ (h : HasEnded (program_of master) kind.Optimal s) where
+    best_master : MasterIsOptimal m (cuts_told rounds) s.basis (point_of s) (dual_of s)
+    best_master = optimal_master m (cuts_told rounds) s (ended_as kind.Optimal h)
+
+    pub best_one : (j : ℕ) → j ≤ forms.columns → OneIsZero (point_of s (plus j)) (point_of s (minus j))
+    best_one j l =
+        let e : forms.columns ≡ column_count m = f.columns in
+        best_pairs m (cuts_told rounds) s.basis (point_of s) (dual_of s) best_master j (omega arith)
+
+    pub best_looks : LooksAt m (cuts_told rounds) false (plan_at m (point_of s))
+    best_looks = inl (record { basis = s.basis; x = point_of s; y = dual_of s; master = best_master; is = refl })
+
+    pub best_next : (limit : ℕ) (c : Cut) → CutsOff m (plan_at m (point_of s)) c → CutFits limit (length m.parameters) c
+        → (round : Told) → round ≡ round_told (record { kind = best; by_step = false; basis = s.basis; cut = c }) → IsNext limit m rounds round
+    best_next limit c o fits round e = record {
+      next = record { kind = best; by_step = false; basis = s.basis; cut = c };
+      is_round = (point_of s, dual_of s, best_master, o);
+      told = e;
+      fits = subst (λ (r : Told). CutFits limit (length m.parameters) (cut_of r)) (sym e) fits;
+    }
+
+    pub best_end : TellsRun m rounds → length rounds < 2 ^ 32 → (inside : List Fraction) → Admits m inside → IsLastScenario m inside
+        → (amounts : ℕ → List Fraction) (p : CoveredPlan) → IsCoveredAt m (point_of s) amounts p
+        → IsEnd m (cuts_told rounds) (optimal_with inside p (items_told (length (matrices m)) rounds (dual_of s)))
+    best_end t few inside admitted last amounts p k =
+        optimal_end_is m rounds t few inside admitted last s.basis (point_of s) (dual_of s) amounts p best_master k
+
+  -- ---- without any plan
+  module _ (h : HasEnded (program_of master) kind.Infeasible s) where
+    pub empty_end : TellsRun m rounds → length rounds < 2 ^ 32 → (inside : List Fraction) → Admits m inside → IsLastScenario m inside
+        → IsEnd m (cuts_told rounds) (infeasible_with inside (items_told (length (matrices m)) rounds (λ q. of_int (weights_of s q))))
+    empty_end t few inside admitted last =
+        let o : (rows : Matrix) × MasterIsInfeasible m (cuts_told rounds) s.basis rows
+        × ((q : ℕ) → q < length (cuts_told rounds) → of_int (weights_of s q) ≡ weight_of (master_over m (cuts_told rounds)) rows q) =
+        infeasible_master m (cuts_told rounds) s (ended_as kind.Infeasible h) in
+        let n : length (cuts_told rounds) ≡ length rounds = length-cuts rounds in
+        infeasible_end_is m rounds t few inside admitted last s.basis o.0 (λ q. of_int (weights_of s q)) o.1 (λ q l. o.2 q (omega arith))
+
+  -- ---- without a best plan
+  module _ (h : HasEnded (program_of master) kind.Unbounded s) where
+    boundless_master : MasterIsUnbounded m (cuts_told rounds) s.basis (column_of s.state) (point_of s) (ray_of s)
+    boundless_master = unbounded_master m (cuts_told rounds) s (ended_as kind.Unbounded h)
+
+    pub boundless_one : (j : ℕ) → j ≤ forms.columns → OneIsZero (point_of s (plus j)) (point_of s (minus j))
+    boundless_one j l =
+        let e : forms.columns ≡ column_count m = f.columns in
+        boundless_pairs m (cuts_told rounds) s.basis (column_of s.state) (point_of s) (ray_of s) boundless_master j (omega arith)
+
+    pub direction_one : (j : ℕ) → j ≤ forms.columns → OneIsZero (ray_of s (plus j)) (ray_of s (minus j))
+    direction_one j l =
+        let e : forms.columns ≡ column_count m = f.columns in
+        direction_pairs m (cuts_told rounds) s.basis (column_of s.state) (point_of s) (ray_of s) boundless_master j (omega arith)
+
+    pub step_looks : LooksAt m (cuts_told rounds) true (direction_at m (ray_of s))
+    step_looks = record { basis = s.basis; column = column_of s.state; x = point_of s; r = ray_of s; master = boundless_master; is = refl }
+
+    pub step_next : (limit : ℕ) (c : Cut) → CutsOff m (direction_at m (ray_of s)) c → CutFits limit (length m.parameters) c → (round : Told)
+        → round ≡ round_told (record { kind = boundless (column_of s.state); by_step = true; basis = s.basis; cut = c }) → IsNext limit m rounds round
+    step_next limit c o fits round e = record {
+      next = record { kind = boundless (column_of s.state); by_step = true; basis = s.basis; cut = c };
+      is_round = (point_of s, ray_of s, boundless_master, o);
+      told = e;
+      fits = subst (λ (r : Told). CutFits limit (length m.parameters) (cut_of r)) (sym e) fits;
+    }
+
+    -- where the direction keeps all forms
+    module _ (model : IsModel m) (step_amounts : ℕ → List Fraction) (held : AreKept m (direction_at m (ray_of s)) step_amounts) where
+      direction_keeps_all : KeepsForms m (direction_at m (ray_of s))
+      direction_keeps_all i l =
+          found_keeps m model i l (direction_at m (ray_of s)) (length-direction_at m (ray_of s))
+          (held i l).basis (held i l).scenario (step_amounts i) (held i l).found (held i l).kept
+
+      pub point_looks : LooksAt m (cuts_told rounds) false (plan_at m (point_of s))
+      point_looks = inr (record {
+        basis = s.basis;
+        column = column_of s.state;
+        x = point_of s;
+        r = ray_of s;
+        master = boundless_master;
+        held = direction_keeps_all;
+        is = refl;
+      })
+
+      pub point_next : (limit : ℕ) (c : Cut) → CutsOff m (plan_at m (point_of s)) c → CutFits limit (length m.parameters) c → (round : Told)
+          → round ≡ round_told (record { kind = boundless (column_of s.state); by_step = false; basis = s.basis; cut = c }) → IsNext limit m rounds round
+      point_next limit c o fits round e = record {
+        next = record { kind = boundless (column_of s.state); by_step = false; basis = s.basis; cut = c };
+        is_round = (point_of s, ray_of s, boundless_master, direction_keeps_all, o);
+        told = e;
+        fits = subst (λ (r : Told). CutFits limit (length m.parameters) (cut_of r)) (sym e) fits;
+      }
+
+      pub boundless_end : TellsRun m rounds → length rounds < 2 ^ 32 → (inside : List Fraction) → Admits m inside → IsLastScenario m inside
+          → (amounts : ℕ → List Fraction) (p : CoveredPlan) (step : List Fraction) (step_bound : Fraction) (holds : List Cover)
+          → IsCoveredAt m (point_of s) amounts p
+          → holds ≡ covers_of_amounts m step_amounts → step ≡ scale (cleared_by (direction_at m (ray_of s))) (plan_read m (ray_of s))
+          → step_bound ≡ cleared_by (direction_at m (ray_of s)) *ℚ bound_read m (ray_of s)
+          → IsEnd m (cuts_told rounds) (unbounded_with inside p step step_bound holds)
+      boundless_end t few inside admitted last amounts p step step_bound holds k hh hs hb =
+          unbounded_end_is m rounds t few inside admitted last s.basis (column_of s.state) (point_of s) (ray_of s) amounts step_amounts p step step_bound holds
+          boundless_master k held hh hs hb
+
+-- ---- how a solver made for a program ends
+abbrev made_as : (lp : Lp) (s : Solver) → IsMadeFor (program_of lp) s → IsMadeAs (program_of lp) s
+made_as lp s h = record {
+  program = program_of lp;
+  same = record { height = refl; width = refl; rows = λ q k ql kl. refl; rights = λ q ql. refl; costs = λ k kl. refl };
+  made = h;
+}
+
+pub ended_so : (lp : Lp) (before now : Solver) → IsMadeFor (program_of lp) before → (k named : LpKind) → k ≡ named → now.columns ≡ before.columns
+    → positions now ≡ positions before → HasSolved (program_of lp) k now → HasAnswered k now → HasEnded (program_of lp) named now
+ended_so lp before now made k named e ec ep solved answered =
+    subst (λ (j : LpKind). HasEnded (program_of lp) j now) e (has_ended (program_of lp) before now (made_as lp before made) k ec ep solved answered)

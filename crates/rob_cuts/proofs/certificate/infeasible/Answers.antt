@@ -1,0 +1,33 @@
+use Rattle.std.proofs.Common.{map, length, ap, ◌∙◌}
+use Rattle.rob_algebra.specs.Fraction.{of_int}
+use Rattle.rob_cert.specs.View.{cover_of}
+use Rattle.rob_meaning.specs.Certificates.{infeasible}
+use Rattle.rob_meaning.specs.Places.{at}
+use Rattle.rob_simplex.specs.Solutions.{weights_of}
+use Rattle.rob_dualize.proofs.CertificateLemmas.{count_told, parts_same}
+use Rattle.rob_dualize.proofs.ReadingLemmas.{told_at}
+use Rattle.rob_cuts.proofs.ItemLemmas.{items_told-same}
+use Rattle.rob_cuts.proofs.certificate.infeasible.Goals as goal
+
+pub items-requires-2-clause-weights : goal.items-requires-2-clause-weights
+items-requires-2-clause-weights g c =
+    count_told g.N.Exact.value c.items.result.now (length c.args.rounds.now) (λ q. of_int (weights_of c.args.work.now q))
+    (ap (map g.N.Exact.value) c.items.ensures.list ∙ c.in_ok-weights.ensures.numbers)
+
+pub returns : goal.returns
+returns g c =
+    let value = g.N.Exact.value in
+    record {
+      certificate = parts_same infeasible _ _ _ _ _ _ _ _ _ _ _ _ _ _ _ _ _
+          c.whole.ensures.value
+          c.whole-2.ensures.value
+          (ap (map value) c.new.ensures.empty)
+          (ap (map value) c.new-2.ensures.empty)
+          c.whole-3.ensures.value
+          (ap (map (cover_of value)) c.new-3.ensures.empty)
+          (ap (map (cover_of value)) c.new-4.ensures.empty)
+          (c.in_ok-items.ensures.items
+          ∙ items_told-same c.args.forms c.args.rounds.now (at (map g.N.Exact.value c.items.result.now)) (λ q. of_int (weights_of c.args.work.now q))
+          (λ q l. told_at value c.items.result.now (length c.args.rounds.now) (λ q. of_int (weights_of c.args.work.now q))
+          (ap (map value) c.items.ensures.list ∙ c.in_ok-weights.ensures.numbers) q l));
+    }

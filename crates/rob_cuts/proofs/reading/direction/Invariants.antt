@@ -1,0 +1,8 @@
+use Rattle.std.specs.Prelude.{◌≡◌, map}
+use Rattle.rob_counterpart.specs.ReadNumbers.{differences}
+use Rattle.rob_simplex.specs.Solutions.{ray_of}
+use Rattle.rob_cuts.proofs.reading.direction.Given as goal
+
+-- the numbers so far
+abbrev pub invariant-loop-j : goal.invariant-loop-j
+invariant-loop-j g l = map g.N.Exact.value l.numbers ≡ differences l.j (ray_of l.work)

@@ -1,0 +1,14 @@
+pub mod Rounds
+pub mod Master
+pub mod Items
+pub mod Stops
+pub mod Made
+pub mod Places
+pub mod Steps
+pub mod Certificates
+pub mod Covered
+pub mod Runs
+pub mod Solving
+pub mod Scans
+pub mod Looks
+pub mod Outcomes

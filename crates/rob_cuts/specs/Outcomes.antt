@@ -1,0 +1,73 @@
+-- What a round leads to.
+use Rattle.std.specs.Prelude.{◌≡◌, ℕ, List, length, ⊤}
+use Rattle.rob_algebra.specs.Fraction.{Fraction}
+use Rattle.rob_meaning.specs.Certificates.{Certificate}
+use Rattle.rob_meaning.specs.RobustModel.{RobustModel}
+use Rattle.rob_meaning.specs.UncertaintySet.{Admits}
+use Rattle.rob_cert.specs.Shape.{HasShape}
+use Rattle.rob_cert.specs.View.{certificate_of}
+use Rattle.rob_cert.specs.declared.trace.Round.{Round as Told}
+use Rattle.rob_cert.specs.declared.ending.Stop.{Stop}
+use Rattle.rob_dualize.specs.Solving.{IsLastScenario}
+use Rattle.rob_runs.specs.Cuts.{Cut}
+use Rattle.rob_runs.specs.Readings.{IsReadOff}
+use Rattle.rob_runs.specs.Runs.{Round, IsRound}
+use Rattle.rob_runs.specs.Spots.{RunSpot, set_row, IsWideAfter}
+use Rattle.rob_elab.specs.Forms.{IsForms}
+use Rattle.rob_elab.specs.declared.forms.Forms.{Forms}
+use Rattle.rob_meaning.specs.WellFormed.{IsModel}
+use Rattle.rob_sets.specs.SetForm.{IsSetForm}
+use Rattle.rob_sets.specs.declared.set_form.SetForm.{SetForm}
+use Rattle.rob_worst.specs.Finders.{IsFinder}
+use Rattle.rob_worst.specs.declared.finder.Finder.{Finder}
+use Rattle.rob_cuts.specs.declared.round.Outcome.{Outcome}
+use Rattle.rob_cuts.specs.declared.round.Outcome.TheVariants as outcome
+use Rattle.rob_cuts.specs.Places.{spot_told}
+use Rattle.rob_cuts.specs.Rounds.{round_told, cut_of, cuts_told, CutFits}
+use Rattle.rob_cuts.specs.Stops.{StopsWith}
+
+-- the certificate is read off where the run over these cuts is finished, and has its shape
+pub record IsEnd (m : RobustModel) (cuts : List Cut) (c : Certificate) : Type 0 where
+  pub basis : List ℕ
+  pub read : IsReadOff m cuts basis c
+  pub shape : HasShape m c
+  pub admitted : Admits m c.inside
+  pub inside : IsLastScenario m c.inside
+
+-- the round comes next after these rounds, and is told; no number of its cut is over the limit
+pub record IsNext (limit : ℕ) (m : RobustModel) (rounds : List Told) (round : Told) : Type 0 where
+  pub next : Round
+  pub is_round : IsRound m (cuts_told rounds) next
+  pub told : round ≡ round_told next
+  pub fits : CutFits limit (length m.parameters) (cut_of round)
+
+-- the place is none of the set's program
+abbrev pub IsOfRound : RunSpot → Type 0
+IsOfRound (set_row basis i) = ⊥
+IsOfRound other = ⊤
+
+-- the number at the place is wide in the round that comes next
+abbrev pub IsWideNext : ℕ → RobustModel → List Told → Stop → Type 0
+IsWideNext limit m rounds stop =
+    StopsWith
+    (λ place. (spot : RunSpot) × IsOfRound spot × (place ≡ spot_told spot)
+    × IsWideAfter limit m (cuts_told rounds) spot)
+    stop
+
+-- a further round, or the end
+abbrev pub IsOutcome : {N : Type 0} → (N → Fraction) → ℕ → RobustModel → List Told → Outcome N → Type 0
+IsOutcome value limit m rounds (outcome.Cut round) = IsNext limit m rounds round
+IsOutcome value limit m rounds (outcome.End cert) = IsEnd m (cuts_told rounds) (certificate_of value cert)
+
+-- the scenario is admitted, and that of the last basis of the set's program
+abbrev pub IsInside : {N : Type 0} → Forms → Finder N → List Fraction → Type 0
+IsInside forms finder inside =
+    (m : RobustModel) (set : SetForm) → IsModel m → IsForms m forms → IsSetForm m set → IsFinder set finder
+    → Admits m inside × IsLastScenario m inside
+
+-- the end of a run, whose certificate is made with such a scenario
+abbrev pub IsEndWith : {N : Type 0} → (N → Fraction) → Forms → Finder N → (List Fraction → Certificate) → Outcome N
+    → Type 0
+IsEndWith value forms finder made (outcome.Cut round) = ⊥
+IsEndWith value forms finder made (outcome.End cert) =
+    (inside : List Fraction) × IsInside forms finder inside × (certificate_of value cert ≡ made inside)

@@ -1,0 +1,114 @@
+// The certificate of each ending of a run.
+
+ghost use Rattle.std.specs.Prelude.{◌≡◌, ◌<◌, ◌^◌, map, length, IfOk};
+ghost use Rattle.rob_algebra.specs.Fraction.{of_int};
+ghost use Rattle.rob_meaning.specs.Places.{Each};
+ghost use Rattle.rob_model.specs.View.{scenario_of};
+ghost use Rattle.rob_cert.specs.View.{certificate_of, cover_of};
+ghost use Rattle.rob_simplex.specs.Solvers.{positions, HasOptimum, HasWeights};
+ghost use Rattle.rob_simplex.specs.Solutions.{dual_of, weights_of};
+ghost use Rattle.rob_cuts.specs.Certificates.{optimal_with, infeasible_with, unbounded_with, items_told};
+ghost use Rattle.rob_cuts.specs.Covered.{covered_plan};
+ghost use Rattle.rob_cuts.specs.Rounds.{RoundFits};
+
+use crate::items::items;
+use crate::kept::Kept;
+use rob_cert::{Cert, Round, Status};
+use rob_dualize::told::{dual_values, exact_weights, whole};
+use rob_model::{Plan, Scenario};
+use rob_number::{Exact, List, Memory};
+use rob_simplex::Work;
+use std::alloc::Global;
+
+/// Optimal: the plan with its covers, and the cuts with the dual values.
+pub fn optimal<N: Exact>(
+    alloc: Global,
+    forms: u32,
+    rounds: &[Round],
+    work: &Work<N>,
+    plan: Plan<N>,
+    kept: Kept<N>,
+    inside: Scenario<N>,
+) -> Result<Cert<N>, Memory>
+    requires optimum { HasOptimum work.now }
+    requires rows { length rounds.now ≡ positions work.now }
+    requires few { positions work.now < 2 ^ 31 }
+    requires fits { Each (RoundFits N.limit) rounds.now }
+    ensures certificate { IfOk result (λ cert. certificate_of N.value cert
+        ≡ optimal_with (scenario_of N.value inside) (covered_plan N.value plan kept)
+        (items_told forms rounds.now (dual_of work.now))) }
+{
+    let weights = dual_values(alloc, work, rounds.len() as u32)?;
+    let items = items(alloc, forms, rounds, weights.items())?;
+    Ok(Cert {
+        status: Status::Optimal,
+        value: plan.bound,
+        scale: kept.scale,
+        inside,
+        plan: plan.columns,
+        step: List::new(alloc),
+        step_bound: whole(0),
+        covers: kept.covers,
+        holds: List::new(alloc),
+        items,
+    })
+}
+
+/// Infeasible: the cuts with the Farkas weights.
+pub fn infeasible<N: Exact>(
+    alloc: Global,
+    forms: u32,
+    rounds: &[Round],
+    work: &Work<N>,
+    inside: Scenario<N>,
+) -> Result<Cert<N>, Memory>
+    requires weights { HasWeights work.now }
+    requires rows { length rounds.now ≡ positions work.now }
+    requires few { positions work.now < 2 ^ 31 }
+    requires fits { Each (RoundFits N.limit) rounds.now }
+    ensures certificate { IfOk result (λ cert. certificate_of N.value cert
+        ≡ infeasible_with (scenario_of N.value inside)
+        (items_told forms rounds.now (λ q. of_int (weights_of work.now q)))) }
+{
+    let weights = exact_weights(alloc, work, rounds.len() as u32)?;
+    let items = items(alloc, forms, rounds, weights.items())?;
+    Ok(Cert {
+        status: Status::Infeasible,
+        value: whole(0),
+        scale: whole(1),
+        inside,
+        plan: List::new(alloc),
+        step: List::new(alloc),
+        step_bound: whole(0),
+        covers: List::new(alloc),
+        holds: List::new(alloc),
+        items,
+    })
+}
+
+/// Unbounded: the plan with its covers, and the direction in whole numbers with its own.
+pub fn unbounded<N: Exact>(
+    alloc: Global,
+    plan: Plan<N>,
+    kept: Kept<N>,
+    step: Plan<N>,
+    held: Kept<N>,
+    inside: Scenario<N>,
+) -> Cert<N>
+    ensures certificate { certificate_of N.value result
+        ≡ unbounded_with (scenario_of N.value inside) (covered_plan N.value plan kept)
+        (map N.value step.columns) (N.value step.bound) (map (cover_of N.value) held.covers) }
+{
+    Cert {
+        status: Status::Unbounded,
+        value: plan.bound,
+        scale: kept.scale,
+        inside,
+        plan: plan.columns,
+        step: step.columns,
+        step_bound: step.bound,
+        covers: kept.covers,
+        holds: held.covers,
+        items: List::new(alloc),
+    }
+}

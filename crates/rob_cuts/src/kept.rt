@@ -1,0 +1,25 @@
+// Whether a form is kept at its worst case, and what shows that all are.
+
+ghost use Rattle.std.specs.Prelude.{◌≤◌, ◌-◌, ◌^◌, nat_abs};
+ghost use Rattle.std.specs.Bool.{Decides};
+ghost use Rattle.rob_algebra.specs.Fraction.{of_int, ◌+ℚ◌, ◌≤ℚ◌};
+ghost use Rattle.rob_meaning.specs.Places.{0ℚ};
+
+use crate::numbers::{long_product, long_sum};
+use rob_cert::Cover;
+use rob_number::{Exact, List};
+
+/// What shows that all forms are kept: covers, as often as the scale says.
+#[derive(Debug, Drop)]
+pub struct Kept<N> {
+    pub scale: N,
+    pub covers: List<Cover<N>>,
+}
+
+/// Whether a peak and a constant part sum to at most 0.
+pub fn is_kept<N: Exact>(peak: N, constant: i64) -> bool
+    requires small { nat_abs constant ≤ 2 ^ 62 - 1 }
+    ensures kept { Decides result ((N.value peak +ℚ of_int constant) ≤ℚ 0ℚ) }
+{
+    long_sum(peak.num(), long_product(constant, peak.den())) <= 0
+}

@@ -1,0 +1,126 @@
+// The plan and the direction of a solved master, and whether all forms are kept there.
+
+ghost use Rattle.std.specs.Prelude.{◌≡◌, ◌≤◌, ◌<◌, ◌+◌, ◌^◌, ℕ, true, false, suc, MatchResult};
+ghost use Rattle.rob_counterpart.specs.Splitting.{OneIsZero, plus, minus};
+ghost use Rattle.rob_elab.specs.Forms.{IsForms};
+ghost use Rattle.rob_meaning.specs.RobustModel.{RobustModel};
+ghost use Rattle.rob_meaning.specs.WellFormed.{IsModel};
+ghost use Rattle.rob_number.specs.Counts.{NeverFell};
+ghost use Rattle.rob_sets.specs.SetForm.{IsSetForm};
+ghost use Rattle.rob_simplex.specs.Solvers.{HasPoint, HasRay};
+ghost use Rattle.rob_simplex.specs.Solutions.{point_of, ray_of};
+ghost use Rattle.rob_dualize.specs.Solving.{CountsStop};
+ghost use Rattle.rob_dualize.specs.Wholes.{counterpart_of, IsFew};
+ghost use Rattle.rob_runs.specs.Runs.{plan_at, direction_at};
+ghost use Rattle.rob_worst.specs.Finders.{IsFinder};
+ghost use Rattle.rob_cuts.specs.Looks.{IsPlanLook, IsStepLook};
+ghost use Rattle.rob_cuts.specs.Scans.{IsScanStopped};
+ghost use Rattle.rob_cuts.specs.Solving.{AreOfModel};
+
+use crate::cut::Cut;
+use crate::kept::Kept;
+use crate::reading::{direction, plan};
+use crate::scan::{Scan, Target, scan_forms};
+use rob_cert::Stop;
+use rob_elab::Forms;
+use rob_model::Plan;
+use rob_number::{Exact, Ledger, List, Memory};
+use rob_sets::SetForm;
+use rob_simplex::Work;
+use rob_worst::Finder;
+use std::alloc::Global;
+
+/// What a look at the plan finds.
+#[derive(Debug, Drop)]
+pub enum PlanLook<N> {
+    /// The first form that it breaks, at its worst case.
+    Broken(Cut),
+    /// The plan, and what shows that it keeps all forms.
+    Kept(Plan<N>, Kept<N>),
+}
+
+/// What a look at the direction finds.
+#[derive(Debug, Drop)]
+pub enum StepLook<N> {
+    /// The first form that it breaks, at its worst case.
+    Broken(Cut),
+    /// The direction, whose last number is that of the bound, and what shows that it keeps all forms.
+    Kept(List<N>, Kept<N>),
+}
+
+/// Looks at the plan of the solver's point.
+pub fn look_at_plan<N: Exact, L: Ledger>(
+    alloc: Global,
+    forms: &Forms,
+    set: &SetForm,
+    finder: &mut Finder<N>,
+    work: &Work<N>,
+    ledger: &mut L,
+) -> Result<PlanLook<N>, Stop>
+    requires model { AreOfModel N.limit forms.now set.now }
+    requires few { IsFew (counterpart_of forms.now set.now) }
+    requires finder { IsFinder set.now finder.old }
+    requires point { HasPoint work.now }
+    requires columns { suc forms.now.columns + suc forms.now.columns ≡ work.now.columns }
+    requires one { (j : ℕ) → j ≤ forms.now.columns
+        → OneIsZero (point_of work.now (plus j)) (point_of work.now (minus j)) }
+    ensures look { (m : RobustModel) → IsModel m → IsForms m forms.now → IsSetForm m set.now
+        → MatchResult result (IsPlanLook N.limit m N.value (point_of work.now))
+        (IsScanStopped N.limit m false (plan_at m (point_of work.now))) }
+    ensures finder { IsFinder set.now finder.new }
+    ensures wides { MatchResult result (λ _. L.wides ledger.new ≡ L.wides ledger.old)
+        (CountsStop (L.wides ledger.old) (L.wides ledger.new)) }
+    ensures counted { NeverFell L.ops L.wides ledger.old ledger.new }
+{
+    let plan = match plan(alloc, work, forms.columns) {
+        Ok(plan) => plan,
+        Err(Memory) => return Err(Stop::Memory),
+    };
+    match scan_forms(alloc, forms, set, finder, Target::Plan(&plan), ledger) {
+        Ok(Scan::Broken(cut)) => Ok(PlanLook::Broken(cut)),
+        Ok(Scan::Kept(kept)) => Ok(PlanLook::Kept(plan, kept)),
+        Err(stop) => Err(stop),
+    }
+}
+
+/// Looks at the direction of the solver's ray.
+pub fn look_at_step<N: Exact, L: Ledger>(
+    alloc: Global,
+    forms: &Forms,
+    set: &SetForm,
+    finder: &mut Finder<N>,
+    work: &Work<N>,
+    ledger: &mut L,
+) -> Result<StepLook<N>, Stop>
+    requires model { AreOfModel N.limit forms.now set.now }
+    requires few { IsFew (counterpart_of forms.now set.now) }
+    requires finder { IsFinder set.now finder.old }
+    requires ray { HasRay work.now }
+    requires columns { suc forms.now.columns + suc forms.now.columns ≡ work.now.columns }
+    requires one { (j : ℕ) → j ≤ forms.now.columns
+        → OneIsZero (ray_of work.now (plus j)) (ray_of work.now (minus j)) }
+    ensures look { (m : RobustModel) → IsModel m → IsForms m forms.now → IsSetForm m set.now
+        → MatchResult result (IsStepLook N.limit m N.value (ray_of work.now))
+        (IsScanStopped N.limit m true (direction_at m (ray_of work.now))) }
+    ensures finder { IsFinder set.now finder.new }
+    ensures wides { MatchResult result (λ _. L.wides ledger.new ≡ L.wides ledger.old)
+        (CountsStop (L.wides ledger.old) (L.wides ledger.new)) }
+    ensures counted { NeverFell L.ops L.wides ledger.old ledger.new }
+{
+    let step = match direction(alloc, work, forms.columns) {
+        Ok(step) => step,
+        Err(Memory) => return Err(Stop::Memory),
+    };
+    match scan_forms(
+        alloc,
+        forms,
+        set,
+        finder,
+        Target::Step(step.items()),
+        ledger,
+    ) {
+        Ok(Scan::Broken(cut)) => Ok(StepLook::Broken(cut)),
+        Ok(Scan::Kept(kept)) => Ok(StepLook::Kept(step, kept)),
+        Err(stop) => Err(stop),
+    }
+}

@@ -1,0 +1,313 @@
+// A round: the master is solved, its direction and its plan are tried, and a cut or the end follows.
+
+ghost use Rattle.std.specs.Prelude.{◌≡◌, ◌≤◌, ◌<◌, ◌^◌, false, nat_abs, length, IfOk, MatchResult};
+ghost use Rattle.rob_algebra.specs.Fraction.{of_int};
+ghost use Rattle.rob_elab.specs.Elaborated.{AreElaborated};
+ghost use Rattle.rob_elab.specs.Forms.{IsForms};
+ghost use Rattle.rob_meaning.specs.Places.{Each};
+ghost use Rattle.rob_meaning.specs.RobustModel.{RobustModel};
+ghost use Rattle.rob_meaning.specs.WellFormed.{IsModel};
+ghost use Rattle.rob_model.specs.declared.place.Spot.TheVariants.{Clearing};
+ghost use Rattle.rob_model.specs.declared.place.Where.TheVariants as of;
+ghost use Rattle.rob_number.specs.Counts.{NeverFell};
+ghost use Rattle.rob_number.specs.declared.lp_kind.LpKind.TheVariants as kinds;
+ghost use Rattle.rob_rows.specs.LinearPrograms.{program_of, IsShaped, HasNumbersWithin};
+ghost use Rattle.rob_runs.specs.Runs.{best as with_best, boundless as without_best};
+ghost use Rattle.rob_sets.specs.SetForm.{IsSetForm};
+ghost use Rattle.rob_sets.specs.declared.set_form.SetForm.{SetForm as SetRows};
+ghost use Rattle.rob_simplex.specs.Solvers.{positions, column_of, HasOptimum, HasRay, HasWeights, IsMadeFor};
+ghost use Rattle.rob_simplex.specs.Solutions.{dual_of, weights_of};
+ghost use Rattle.rob_dualize.specs.Ending.{HasEnded};
+ghost use Rattle.rob_dualize.specs.Solving.{CountsStop};
+ghost use Rattle.rob_dualize.specs.Wholes.{counterpart_of, IsFew};
+ghost use Rattle.rob_dualize.specs.SetSolving.{IsFewSet};
+ghost use Rattle.rob_worst.specs.Finders.{IsFinder};
+ghost use Rattle.rob_cuts.specs.Certificates.{optimal_with, infeasible_with, items_told};
+ghost use Rattle.rob_cuts.specs.Covered.{covered_plan};
+ghost use Rattle.rob_cuts.specs.Made.{cut_made};
+ghost use Rattle.rob_cuts.specs.Rounds.{round_told, RoundFits};
+ghost use Rattle.rob_cuts.specs.Runs.{IsRunSoFar};
+ghost use Rattle.rob_cuts.specs.Solving.{AreOfModel};
+ghost use Rattle.rob_cuts.specs.Stops.{IsRefused};
+ghost use Rattle.rob_cuts.specs.Outcomes.{IsOutcome, IsWideNext, IsEndWith};
+ghost use Rattle.rob_cuts.specs.declared.round.Outcome.TheVariants as Leads;
+
+use crate::certificate::{infeasible, optimal, unbounded};
+use crate::cut::Cut;
+use crate::kept::Kept;
+use crate::look::{PlanLook, StepLook, look_at_plan, look_at_step};
+use crate::run::Run;
+use crate::step::whole_step;
+use crate::stop::wide;
+use rob_cert::{Cert, Round, Stop};
+use rob_dualize::stop::{or_stop, position, wide as wide_row};
+use rob_dualize::told::basis;
+use rob_elab::Forms;
+use rob_model::{Plan, Program, Spot, Where};
+use rob_number::{Exact, Ledger, List, LpKind, Memory};
+use rob_rows::Lp;
+use rob_sets::SetForm;
+use rob_sets::error::Stop as Refusal;
+use rob_simplex::Work;
+use rob_worst::Finder;
+use rob_worst::refusal::count;
+use std::alloc::Global;
+
+/// What a round leads to.
+#[derive(Debug, Drop)]
+pub enum Outcome<N> {
+    /// A further round, with its cut.
+    Cut(Round),
+    /// The end of the run.
+    End(Cert<N>),
+}
+
+/// The next round.
+pub fn next_round<N: Exact, L: Ledger>(
+    alloc: Global,
+    forms: &Forms,
+    set: &SetForm,
+    finder: &mut Finder<N>,
+    run: &Run,
+    ledger: &mut L,
+) -> Result<Outcome<N>, Stop>
+    requires model { AreOfModel N.limit forms.now set.now }
+    requires few { IsFew (counterpart_of forms.now set.now) }
+    requires finder { IsFinder set.now finder.old }
+    requires run { IsRunSoFar N.limit forms.now set.now run.now }
+    ensures outcome { (m : RobustModel) → IsModel m → IsForms m forms.now → IsSetForm m set.now
+        → MatchResult result (IsOutcome N.value N.limit m run.now.rounds) (IsWideNext N.limit m run.now.rounds) }
+    ensures finder { IsFinder set.now finder.new }
+    ensures wides { MatchResult result (λ _. L.wides ledger.new ≡ L.wides ledger.old)
+        (CountsStop (L.wides ledger.old) (L.wides ledger.new)) }
+    ensures counted { NeverFell L.ops L.wides ledger.old ledger.new }
+{
+    let mut work = match master_work::<N>(alloc, &run.master) {
+        Ok(work) => work,
+        Err(Memory) => return Err(Stop::Memory),
+    };
+    let kind = match work.solve(ledger) {
+        Ok(kind) => kind,
+        Err(stop) => {
+            let rows = run.rounds.items().len() as u32;
+            return Err(wide_row(alloc, &work, Program::Master, rows, position(stop)));
+        }
+    };
+    match kind {
+        LpKind::Optimal => best(alloc, forms, set, finder, run, &work, ledger),
+        LpKind::Infeasible => or_stop(without_plan(alloc, forms, finder, run, &work)),
+        LpKind::Unbounded => boundless(alloc, forms, set, finder, run, &work, ledger),
+    }
+}
+
+/// A solver of the master. Memory is refused where the master's rows and columns together reach 2^31.
+fn master_work<N: Exact>(alloc: Global, master: &Lp) -> Result<Work<N>, Memory>
+    requires shaped { IsShaped master.now }
+    requires within { HasNumbersWithin N.limit master.now }
+    ensures made { IfOk result (λ work. IsMadeFor (program_of master.now) work) }
+    ensures few { IfOk result (λ work. positions work < 2 ^ 31) }
+{
+    if master.c.items().len() + master.b.items().len() >= 1 << 31 {
+        return Err(Memory);
+    }
+    Work::new(alloc, master)
+}
+
+/// The master has a best plan: that is cut off, or is the optimum.
+fn best<N: Exact, L: Ledger>(
+    alloc: Global,
+    forms: &Forms,
+    set: &SetForm,
+    finder: &mut Finder<N>,
+    run: &Run,
+    work: &Work<N>,
+    ledger: &mut L,
+) -> Result<Outcome<N>, Stop>
+    requires model { AreOfModel N.limit forms.now set.now }
+    requires few { IsFew (counterpart_of forms.now set.now) }
+    requires finder { IsFinder set.now finder.old }
+    requires run { IsRunSoFar N.limit forms.now set.now run.now }
+    requires few_rows { positions work.now < 2 ^ 31 }
+    requires ended { HasEnded (program_of run.now.master) kinds.Optimal work.now }
+    ensures outcome { (m : RobustModel) → IsModel m → IsForms m forms.now → IsSetForm m set.now
+        → MatchResult result (IsOutcome N.value N.limit m run.now.rounds) (IsWideNext N.limit m run.now.rounds) }
+    ensures finder { IsFinder set.now finder.new }
+    ensures wides { MatchResult result (λ _. L.wides ledger.new ≡ L.wides ledger.old)
+        (CountsStop (L.wides ledger.old) (L.wides ledger.new)) }
+    ensures counted { NeverFell L.ops L.wides ledger.old ledger.new }
+{
+    match look_at_plan(alloc, forms, set, finder, work, ledger) {
+        Ok(PlanLook::Broken(cut)) => or_stop(best_round(alloc, run, work, cut)),
+        Ok(PlanLook::Kept(plan, kept)) => {
+            or_stop(optimum(alloc, forms, finder, run, work, plan, kept))
+        }
+        Err(stop) => Err(stop),
+    }
+}
+
+/// The master has no best plan: its direction is cut off, or its plan is, or the model is unbounded.
+fn boundless<N: Exact, L: Ledger>(
+    alloc: Global,
+    forms: &Forms,
+    set: &SetForm,
+    finder: &mut Finder<N>,
+    run: &Run,
+    work: &Work<N>,
+    ledger: &mut L,
+) -> Result<Outcome<N>, Stop>
+    requires model { AreOfModel N.limit forms.now set.now }
+    requires few { IsFew (counterpart_of forms.now set.now) }
+    requires finder { IsFinder set.now finder.old }
+    requires run { IsRunSoFar N.limit forms.now set.now run.now }
+    requires few_rows { positions work.now < 2 ^ 31 }
+    requires ended { HasEnded (program_of run.now.master) kinds.Unbounded work.now }
+    ensures outcome { (m : RobustModel) → IsModel m → IsForms m forms.now → IsSetForm m set.now
+        → MatchResult result (IsOutcome N.value N.limit m run.now.rounds) (IsWideNext N.limit m run.now.rounds) }
+    ensures finder { IsFinder set.now finder.new }
+    ensures wides { MatchResult result (λ _. L.wides ledger.new ≡ L.wides ledger.old)
+        (CountsStop (L.wides ledger.old) (L.wides ledger.new)) }
+    ensures counted { NeverFell L.ops L.wides ledger.old ledger.new }
+{
+    let (step, held) = match look_at_step(alloc, forms, set, finder, work, ledger) {
+        Ok(StepLook::Broken(cut)) => return or_stop(boundless_round(alloc, run, work, true, cut)),
+        Ok(StepLook::Kept(step, held)) => (step, held),
+        Err(stop) => return Err(stop),
+    };
+    let (plan, kept) = match look_at_plan(alloc, forms, set, finder, work, ledger) {
+        Ok(PlanLook::Broken(cut)) => return or_stop(boundless_round(alloc, run, work, false, cut)),
+        Ok(PlanLook::Kept(plan, kept)) => (plan, kept),
+        Err(stop) => return Err(stop),
+    };
+    let step = match whole_step(alloc, step.items(), held.scale, forms.columns) {
+        Ok(step) => step,
+        Err(refusal) => {
+            let stop = unclear(alloc, refusal);
+            count(&stop, ledger);
+            return Err(stop);
+        }
+    };
+    match finder.inside(alloc, forms) {
+        Ok(inside) => Ok(Outcome::End(unbounded(alloc, plan, kept, step, held, inside))),
+        Err(Memory) => Err(Stop::Memory),
+    }
+}
+
+/// The stop where a cleared number of the direction is wide, or memory was refused.
+fn unclear(alloc: Global, refusal: Refusal) -> Stop
+    ensures stop { IsRefused (Clearing of.Move) refusal result }
+{
+    match refusal {
+        Refusal::Wide => wide(alloc, Spot::Clearing(Where::Move)),
+        Refusal::Memory => Stop::Memory,
+    }
+}
+
+/// The optimum.
+fn optimum<N: Exact>(
+    alloc: Global,
+    forms: &Forms,
+    finder: &Finder<N>,
+    run: &Run,
+    work: &Work<N>,
+    plan: Plan<N>,
+    kept: Kept<N>,
+) -> Result<Outcome<N>, Memory>
+    requires few { length forms.now.matrices < 2 ^ 32 }
+    requires finder { (set : SetRows) × AreElaborated N.limit forms.now set × IsFewSet set × IsFinder set finder.now }
+    requires optimum { HasOptimum work.now }
+    requires rows { length run.now.rounds ≡ positions work.now }
+    requires few_rows { positions work.now < 2 ^ 31 }
+    requires fits { Each (RoundFits N.limit) run.now.rounds }
+    ensures end { IfOk result (λ outcome. IsEndWith N.value forms.now finder.now
+        (λ inside. optimal_with inside (covered_plan N.value plan kept)
+        (items_told (length forms.now.matrices) run.now.rounds (dual_of work.now))) outcome) }
+{
+    let inside = finder.inside(alloc, forms)?;
+    let count = forms.matrices.items().len() as u32;
+    let cert = optimal(alloc, count, run.rounds.items(), work, plan, kept, inside)?;
+    Ok(Outcome::End(cert))
+}
+
+/// No plan keeps the cuts: the model is infeasible.
+fn without_plan<N: Exact>(
+    alloc: Global,
+    forms: &Forms,
+    finder: &Finder<N>,
+    run: &Run,
+    work: &Work<N>,
+) -> Result<Outcome<N>, Memory>
+    requires few { length forms.now.matrices < 2 ^ 32 }
+    requires finder { (set : SetRows) × AreElaborated N.limit forms.now set × IsFewSet set × IsFinder set finder.now }
+    requires weights { HasWeights work.now }
+    requires rows { length run.now.rounds ≡ positions work.now }
+    requires few_rows { positions work.now < 2 ^ 31 }
+    requires fits { Each (RoundFits N.limit) run.now.rounds }
+    ensures end { IfOk result (λ outcome. IsEndWith N.value forms.now finder.now (λ inside. infeasible_with inside
+        (items_told (length forms.now.matrices) run.now.rounds (λ q. of_int (weights_of work.now q)))) outcome) }
+{
+    let inside = finder.inside(alloc, forms)?;
+    let count = forms.matrices.items().len() as u32;
+    let cert = infeasible(alloc, count, run.rounds.items(), work, inside)?;
+    Ok(Outcome::End(cert))
+}
+
+/// The round that cuts off a best plan.
+fn best_round<N: Exact>(
+    alloc: Global,
+    run: &Run,
+    work: &Work<N>,
+    cut: Cut,
+) -> Result<Outcome<N>, Memory>
+    requires rows { length run.now.rounds ≡ positions work.now }
+    requires few { positions work.now < 2 ^ 31 }
+    requires within { nat_abs cut.base ≤ N.limit }
+    ensures round { IfOk result (λ outcome. outcome ≡ Leads.Cut (round_told (record {
+      kind = with_best;
+      by_step = false;
+      basis = work.now.basis;
+      cut = cut_made cut;
+    }))) }
+{
+    let basis = basis(alloc, work, run.rounds.items().len() as u32)?;
+    Ok(Outcome::Cut(Round {
+        kind: LpKind::Optimal,
+        by_step: false,
+        basis,
+        column: None,
+        form: cut.form,
+        base: cut.base,
+        vector: cut.vector,
+    }))
+}
+
+/// The round that cuts off the direction of a master without a best plan, or its plan.
+fn boundless_round<N: Exact>(
+    alloc: Global,
+    run: &Run,
+    work: &Work<N>,
+    by_step: bool,
+    cut: Cut,
+) -> Result<Outcome<N>, Memory>
+    requires ray { HasRay work.now }
+    requires rows { length run.now.rounds ≡ positions work.now }
+    requires few { positions work.now < 2 ^ 31 }
+    requires within { nat_abs cut.base ≤ N.limit }
+    ensures round { IfOk result (λ outcome. outcome
+        ≡ Leads.Cut (round_told (record {
+          kind = without_best (column_of work.now.state);
+          by_step = by_step;
+          basis = work.now.basis;
+          cut = cut_made cut;
+        }))) }
+{
+    let basis = basis(alloc, work, run.rounds.items().len() as u32)?;
+    Ok(Outcome::Cut(Round {
+        kind: LpKind::Unbounded,
+        by_step,
+        basis,
+        column: Some(work.column()),
+        form: cut.form,
+        base: cut.base,
+        vector: cut.vector,
+    }))
+}
