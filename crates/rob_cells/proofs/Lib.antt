@@ -1,0 +1,12 @@
+pub mod ListLemmas
+pub mod CountLemmas
+pub mod BuildingLemmas
+pub mod ExpressionLemmas
+pub mod CellLemmas
+pub mod SizeLemmas
+pub mod SetSizeLemmas
+pub mod SplitSizeLemmas
+pub mod NameLemmas
+pub mod DistinctLemmas
+pub mod MeaningLemmas
+pub mod RuleLemmas

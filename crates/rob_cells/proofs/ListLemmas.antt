@@ -1,0 +1,48 @@
+-- Loops that append what is made of each item of a list, one after another.
+use Rattle.std.proofs.Common.{◌≡◌, ℕ, zero, suc, ◌+◌, ◌<◌, ◌≤◌, List, [], ◌∷◌, ◌++◌, map, length, get_or, drop, ap, sym, ◌∙◌, append_assoc, append-nil, subst, arith}
+use Rattle.std.proofs.lemmas.List.{map-append}
+use Rattle.rob_meaning.specs.Places.{Each}
+use Rattle.rob_model.proofs.PartLemmas.{drop_at, drop_past}
+
+module _ {A : Type 0} where
+  -- what stands behind a list with one item more
+  pub pushed_append : {B : Type 0} (view : A → B) (done next : List A) (y : A) (rest : List B) → next ≡ done ++ y ∷ []
+      → map view next ++ rest ≡ map view done ++ view y ∷ rest
+  pushed_append view done next y rest pushed =
+      ap (λ xs. map view xs ++ rest) pushed
+      ∙ ap (λ xs. xs ++ rest) (map-append view done (y ∷ []))
+      ∙ append_assoc (map view done) (view y ∷ []) rest
+
+module _ {X Y B C : Type 0} (view : Y → B) (of : X → C) (f : C → B) (xs : List X) (all : List B) where
+  -- one item more
+  pub mapped_more : (i : ℕ) (x : X) (y : Y) (done next : List Y) → i < length xs → x ≡ get_or xs i x
+      → view y ≡ f (of x) → next ≡ done ++ y ∷ []
+      → map view done ++ map f (map of (drop i xs)) ≡ all → map view next ++ map f (map of (drop (i + 1) xs)) ≡ all
+  mapped_more i x y done next h e made pushed so_far =
+      pushed_append view done next y (map f (map of (drop (i + 1) xs))) pushed
+      ∙ ap (λ b. map view done ++ b ∷ map f (map of (drop (i + 1) xs))) made
+      ∙ ap (λ l. map view done ++ map f (map of l)) (sym (drop_at xs i x h e))
+      ∙ so_far
+
+  -- no item is left
+  pub mapped_all : (i : ℕ) (done : List Y) → length xs ≤ i
+      → map view done ++ map f (map of (drop i xs)) ≡ all → map view done ≡ all
+  mapped_all i done h so_far =
+      sym (append-nil (map view done))
+      ∙ ap (λ l. map view done ++ map f (map of l)) (sym (drop_past xs i h))
+      ∙ so_far
+
+-- what is true of what each item is, is true of what the item at a number is
+pub each_of : {X C : Type 0} (P : C → Type 0) (of : X → C) (xs : List X) (i : ℕ) (x : X) → i < length xs → x ≡ get_or xs i x
+    → Each P (map of xs) → P (of x)
+each_of P of [] i x h e all = absurd (omega arith)
+each_of P of (y ∷ xs) zero x h e all = subst (λ z. P (of z)) (sym e) all.0
+each_of P of (y ∷ xs) (suc i) x h e all = each_of P of xs i x (omega arith) e all.1
+
+-- an item of the same list
+module _ {X : Type 0} {xs ys : List X} (same : ys ≡ xs) (i : ℕ) where
+  pub inside_of : i < length ys → i < length xs
+  inside_of h = subst (λ l. i < length l) same h
+
+  pub item_of : (x : X) → x ≡ get_or ys i x → x ≡ get_or xs i x
+  item_of x e = subst (λ l. x ≡ get_or l i x) same e

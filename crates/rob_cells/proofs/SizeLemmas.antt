@@ -1,0 +1,160 @@
+-- How large the split model is, by the parts of the model.
+use Rattle.std.proofs.Common.{◌≡◌, ℕ, zero, suc, ◌+◌, ◌*◌, List, [], ◌∷◌, ◌++◌, map, length, refl, ap, ◌∙◌, arith, length-append, suc-mul, zero-mul}
+use Rattle.std.specs.Prelude.{codes, flat_map, Option, Some, None, option_to_list}
+use Rattle.std.proofs.lemmas.List.{length-map}
+use Rattle.rob_algebra.specs.Fraction.{Fraction}
+use Rattle.rob_cells.specs.Counts.{adaptive_bounds, declared_count, variable_bounds}
+use Rattle.rob_meaning.specs.Expressions.{Expression, adaptive, variable}
+use Rattle.rob_meaning.specs.Forms.{adaptive_forms, bound_forms, row_forms, sides, variable_forms}
+use Rattle.rob_meaning.specs.Places.{tabulate}
+use Rattle.rob_meaning.specs.RobustModel.{AdaptiveVariable, Relation, RobustModel, Row, Sense, Variable, at_least, at_most, equal, maximise, minimise}
+use Rattle.rob_meaning.specs.SetConditions.{if_declared}
+use Rattle.rob_pieces.specs.SplitModel.{bound_row, bound_rows, cell_rows, copy_in, cost_relation, cost_row, row_over}
+
+-- ---- one block for each cell
+module _ {A : Type 0} (measure : List A → ℕ) (none : measure [] ≡ 0)
+    (plus : (xs ys : List A) → measure (xs ++ ys) ≡ measure xs + measure ys) (f : ℕ → List A) (k : ℕ)
+    (each : (c : ℕ) → measure (f c) ≡ k) where
+  pub blocks : (n : ℕ) (g : ℕ → ℕ) → measure (flat_map f (tabulate n g)) ≡ n * k
+  blocks zero g = omega (arith, none, zero-mul k)
+  blocks (suc n) g =
+      omega (arith, plus (f (g zero)) (flat_map f (tabulate n (λ i. g (suc i)))), each (g zero), blocks n (λ i. g (suc i)), suc-mul n k)
+
+-- ---- how much stands for declared bounds
+length-declared : {A : Type 0} (f : Fraction → A) (o : Option Fraction) → length (if_declared f o) ≡ length (option_to_list o)
+length-declared f None = refl
+length-declared f (Some b) = refl
+
+pub length-both : {A : Type 0} (f g : Fraction → A) (lower upper : Option Fraction)
+    → length (if_declared f lower ++ if_declared g upper) ≡ declared_count lower upper
+length-both f g lower upper =
+    omega (arith, length-append (if_declared f lower) (if_declared g upper), length-declared f lower, length-declared g upper)
+
+-- ---- forms
+-- the inequalities of a relation
+abbrev pub sides_of : Relation → ℕ
+sides_of at_most = 1
+sides_of at_least = 1
+sides_of equal = 2
+
+pub length-sides : (r : Relation) (a b : Expression) → length (sides r a b) ≡ sides_of r
+length-sides at_most a b = refl
+length-sides at_least a b = refl
+length-sides equal a b = refl
+
+pub row_forms-append : (xs ys : List Row) → length (row_forms (xs ++ ys)) ≡ length (row_forms xs) + length (row_forms ys)
+row_forms-append [] ys = omega arith
+row_forms-append (r ∷ rs) ys =
+    omega (
+      arith,
+      length-append (sides r.relation r.left r.right) (row_forms (rs ++ ys)),
+      length-append (sides r.relation r.left r.right) (row_forms rs),
+      row_forms-append rs ys,
+    )
+
+row_forms-first : (r : Row) (rs : List Row) → length (row_forms (r ∷ rs)) ≡ sides_of r.relation + length (row_forms rs)
+row_forms-first r rs =
+    omega (arith, length-append (sides r.relation r.left r.right) (row_forms rs), length-sides r.relation r.left r.right)
+
+pub length-variable_forms : (k : ℕ) (xs : List Variable) → length (variable_forms k xs) ≡ variable_bounds xs
+length-variable_forms k [] = refl
+length-variable_forms k (x ∷ xs) =
+    omega (
+      arith,
+      length-append (bound_forms (variable k) x.lower x.upper) (variable_forms (suc k) xs),
+      bounds (variable k) x.lower x.upper,
+      length-variable_forms (suc k) xs,
+    )
+  where
+    bounds : (e : Expression) (lower upper : Option Fraction) → length (bound_forms e lower upper) ≡ declared_count lower upper
+    bounds e lower upper = length-both _ _ lower upper
+
+pub length-adaptive_forms : (k : ℕ) (ys : List AdaptiveVariable) → length (adaptive_forms k ys) ≡ adaptive_bounds ys
+length-adaptive_forms k [] = refl
+length-adaptive_forms k (y ∷ ys) =
+    omega (
+      arith,
+      length-append (bound_forms (adaptive k) y.lower y.upper) (adaptive_forms (suc k) ys),
+      bounds (adaptive k) y.lower y.upper,
+      length-adaptive_forms (suc k) ys,
+    )
+  where
+    bounds : (e : Expression) (lower upper : Option Fraction) → length (bound_forms e lower upper) ≡ declared_count lower upper
+    bounds e lower upper = length-both _ _ lower upper
+
+pub variable_bounds-append : (xs ys : List Variable) → variable_bounds (xs ++ ys) ≡ variable_bounds xs + variable_bounds ys
+variable_bounds-append [] ys = omega arith
+variable_bounds-append (x ∷ xs) ys = omega (arith, variable_bounds-append xs ys)
+
+pub adaptive_bounds-append : (xs ys : List AdaptiveVariable) → adaptive_bounds (xs ++ ys) ≡ adaptive_bounds xs + adaptive_bounds ys
+adaptive_bounds-append [] ys = omega arith
+adaptive_bounds-append (y ∷ ys) zs = omega (arith, adaptive_bounds-append ys zs)
+
+module _ (m : RobustModel) (c : ℕ) where
+  pub copies_free : (ys : List AdaptiveVariable) → adaptive_bounds (map (copy_in m c) ys) ≡ 0
+  copies_free [] = refl
+  copies_free (y ∷ ys) = omega (arith, copies_free ys)
+
+  rows_over : (rs : List Row) → length (row_forms (map (row_over m c) rs)) ≡ length (row_forms rs)
+  rows_over [] = refl
+  rows_over (r ∷ rs) =
+      omega (arith, row_forms-first (row_over m c r) (map (row_over m c) rs), row_forms-first r rs, rows_over rs)
+
+  -- each row of a bound is one inequality
+  one_each : (name : List ℕ) (k : ℕ) (bound : Option Fraction)
+      → (length (row_forms (if_declared (bound_row m c name k at_least) bound)) ≡ length (option_to_list bound))
+      × (length (row_forms (if_declared (bound_row m c name k at_most) bound)) ≡ length (option_to_list bound))
+  one_each name k None = (refl, refl)
+  one_each name k (Some b) = (refl, refl)
+
+  bounds_forms : (k : ℕ) (ys : List AdaptiveVariable) → length (row_forms (bound_rows m c k ys)) ≡ adaptive_bounds ys
+  bounds_forms k [] = refl
+  bounds_forms k (y ∷ ys) =
+      let low = if_declared (bound_row m c (y.name ++ codes "_lower") k at_least) y.lower in
+      let high = if_declared (bound_row m c (y.name ++ codes "_upper") k at_most) y.upper in
+      omega (
+        arith,
+        row_forms-append low (high ++ bound_rows m c (suc k) ys),
+        row_forms-append high (bound_rows m c (suc k) ys),
+        (one_each (y.name ++ codes "_lower") k y.lower).0,
+        (one_each (y.name ++ codes "_upper") k y.upper).1,
+        bounds_forms (suc k) ys,
+      )
+
+  length-bound_rows : (k : ℕ) (ys : List AdaptiveVariable) → length (bound_rows m c k ys) ≡ adaptive_bounds ys
+  length-bound_rows k [] = refl
+  length-bound_rows k (y ∷ ys) =
+      let low = if_declared (bound_row m c (y.name ++ codes "_lower") k at_least) y.lower in
+      let high = if_declared (bound_row m c (y.name ++ codes "_upper") k at_most) y.upper in
+      omega (
+        arith,
+        length-append low (high ++ bound_rows m c (suc k) ys),
+        length-append high (bound_rows m c (suc k) ys),
+        length-declared (bound_row m c (y.name ++ codes "_lower") k at_least) y.lower,
+        length-declared (bound_row m c (y.name ++ codes "_upper") k at_most) y.upper,
+        length-bound_rows (suc k) ys,
+      )
+
+  cost_forms : (s : Sense) (r : Row) → r.relation ≡ cost_relation m c s → length (sides r.relation r.left r.right) ≡ 1
+  cost_forms minimise r e = length-sides r.relation r.left r.right ∙ ap sides_of e
+  cost_forms maximise r e = length-sides r.relation r.left r.right ∙ ap sides_of e
+
+  pub cell_forms : length (row_forms (cell_rows m c)) ≡ 1 + (length (row_forms m.rows) + adaptive_bounds m.adaptives)
+  cell_forms =
+      omega (
+        arith,
+        length-append (sides (cost_row m c).relation (cost_row m c).left (cost_row m c).right) (row_forms (map (row_over m c) m.rows ++ bound_rows m c 0 m.adaptives)),
+        cost_forms m.sense (cost_row m c) refl,
+        row_forms-append (map (row_over m c) m.rows) (bound_rows m c 0 m.adaptives),
+        rows_over m.rows,
+        bounds_forms 0 m.adaptives,
+      )
+
+  pub length-cell_rows : length (cell_rows m c) ≡ 1 + (length m.rows + adaptive_bounds m.adaptives)
+  length-cell_rows =
+      omega (
+        arith,
+        length-append (map (row_over m c) m.rows) (bound_rows m c 0 m.adaptives),
+        length-map m.rows (row_over m c),
+        length-bound_rows 0 m.adaptives,
+      )
