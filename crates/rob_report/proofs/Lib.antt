@@ -6,4 +6,5 @@ mod TermLemmas
 mod TableLemmas
 mod ColumnLemmas
 mod PlaceAnswers
+mod WorstLemmas
 pub mod SpotLemmas

@@ -4,3 +4,5 @@ pub mod Report
 pub mod Tables
 pub mod Places
 pub mod Spots
+pub mod Worst
+pub mod NarrowText

@@ -2,3 +2,4 @@ pub mod BudgetLemmas
 pub mod LimitLemmas
 pub mod AnswerLemmas
 pub mod SweepLemmas
+pub mod TextLemmas

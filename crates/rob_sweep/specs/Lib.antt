@@ -1,3 +1,4 @@
 pub mod View
 pub mod Stops
 pub mod Answering
+pub mod SweepText

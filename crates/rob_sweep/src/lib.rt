@@ -6,7 +6,9 @@ mod budget;
 mod limits;
 mod solve;
 mod sweeping;
+mod text;
 
 pub use answer::{SweepAnswer, SweepStop};
 pub use budget::with_budget;
 pub use sweeping::sweep;
+pub use text::sweep_text;
