@@ -82,6 +82,11 @@ fn name(verb: Verb) -> &'static str {
         Verb::Text => "text",
         Verb::Whole => "whole",
         Verb::Tree => "tree",
+        Verb::CheckTree => "checktree",
+        Verb::Sweep => "sweep",
+        Verb::SweepText => "sweeptext",
+        Verb::Narrow => "narrow",
+        Verb::Worst => "worst",
     }
 }
 

@@ -1,6 +1,6 @@
 -- The parts of a word between its commas.
-use Rattle.std.proofs.Common.{◌≡◌, ◌<◌, ◌≤◌, ◌+◌, inl, inr, ℕ, zero, suc, true, false, List, [], ◌∷◌, length, take, drop, Some, None, position, refl, ap, ◌∙◌, arith}
-use Rattle.std.specs.List.{position_or_len}
+use Rattle.std.proofs.Common.{◌≡◌, ◌<◌, ◌≤◌, ◌+◌, inl, inr, ℕ, zero, suc, true, false, [], ◌∷◌, length, take, drop, Some, None, position, refl, ap, ◌∙◌, arith}
+use Rattle.std.specs.List.{after_first, before_first, position_or_len}
 use Rattle.std.proofs.lemmas.Bool.{cases_Bool}
 use Rattle.std.proofs.lemmas.Bool.Decides.{nat_tests}
 use Rattle.rob_words.specs.Names.{in_front, is_comma, parts_of}
@@ -73,3 +73,12 @@ first_part_at word part behind count e front back =
 pub first_part_all : (word : Word) → None ≡ position is_comma word → parts_of word ≡ word ∷ []
 first_part_all word e =
     let most : length word ≤ before word = grind (arith, nat_tests) in alone word most
+
+-- the same of a word as text
+pub first_text_at : (word part behind : Word) → position_or_len is_comma word < length word → part ≡ before_first is_comma word
+    → behind ≡ after_first is_comma word → parts_of word ≡ part ∷ parts_of behind
+first_text_at word part behind less front back =
+    let next : before word + 1 ≡ suc (before word) = omega arith in cc (begins word (before word) refl less, next, front, back)
+
+pub first_text_all : (word : Word) → position_or_len is_comma word ≡ length word → parts_of word ≡ word ∷ []
+first_text_all word e = alone word (omega (arith, e))

@@ -13,3 +13,4 @@ pub mod Takings
 pub mod Spellings
 pub mod Readings
 pub mod CommaLemmas
+pub mod LimitLemmas

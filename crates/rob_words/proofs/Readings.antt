@@ -1,7 +1,7 @@
 -- The texts that words hold, judged, are a command line; and no other words are one.
-use Rattle.std.proofs.Common.{◌≡◌, ◌∙◌, inl, inr, Bool, true, false, refl, sym, ap, subst, List, [], ◌∷◌, ◌++◌, length, map, Option, Some, None, Result, Ok, Err, IfErr, IsErrAnd, rules}
+use Rattle.std.proofs.Common.{ℕ, ◌≡◌, ◌∙◌, inl, inr, Bool, true, false, refl, sym, ap, subst, List, [], ◌∷◌, ◌++◌, length, map, Option, Some, None, Result, Ok, Err, IfErr, IsErrAnd, rules}
 use Rattle.rob_words.specs.Kinds.{AreOfKinds}
-use Rattle.rob_words.specs.Values.{Word, route_text, width_text}
+use Rattle.rob_words.specs.Values.{Word, greatest_of, route_text, width_text}
 use Rattle.rob_words.specs.Commands.{ArePlain, HasParts, IsCommandLine, IsPlain, IsSpelled, Line, Part, Says, Setting, TellsRoute, apart, bits, bits_values, joined, own, own_words, route, route_values, setting_word, words_of}
 use Rattle.rob_words.specs.Answers.{HasCause}
 use Rattle.rob_words.specs.Texts.{AreAdmitted, HasNoTexts, Hold, Holding, Holds, HoldsBehind, IsAdmitted, TakesRoute, bare_words, listed}
@@ -15,17 +15,18 @@ use Rattle.rob_words.specs.declared.verb.Own.{Own}
 use Rattle.rob_words.specs.declared.verb.Verb.{Verb}
 use Rattle.rob_words.specs.declared.width.Width.{Width}
 use Rattle.rob_words.specs.declared.width.Width.TheVariants.{SixtyTwo}
-use Rattle.rob_words.proofs.Spellings.{heads, line-plain, one_parts, own-plain, rest_of}
+use Rattle.rob_words.proofs.Spellings.{heads, line-plain, one_parts, own-plain, rest_of, says-one, width_text-one}
 use Rattle.rob_words.proofs.VerbLemmas.{verb_word-one, verb_word-plain}
 
 -- ---- words that are judged
 
 -- the same kinds and words
-pub of_kinds_again : {A : Type 0} (text : A → Word) (ks ls : List Own) (xs ys : List A) → ks ≡ ls → xs ≡ ys
-    → AreOfKinds ls (map text ys) → AreOfKinds ks (map text xs)
-of_kinds_again {A} text ks ls xs ys e d h =
-    subst (λ kinds. AreOfKinds kinds (map text xs)) (sym e)
-    (subst (λ (words : List A). AreOfKinds ls (map text words)) (sym d) h)
+pub of_kinds_again : {A : Type 0} (text : A → Word) (a b : ℕ) (ks ls : List Own) (xs ys : List A) → a ≡ b → ks ≡ ls
+    → xs ≡ ys → AreOfKinds b ls (map text ys) → AreOfKinds a ks (map text xs)
+of_kinds_again {A} text a b ks ls xs ys f e d h =
+    subst (λ greatest. AreOfKinds greatest ks (map text xs)) (sym f)
+    (subst (λ kinds. AreOfKinds b kinds (map text xs)) (sym e)
+    (subst (λ (words : List A). AreOfKinds b ls (map text words)) (sym d) h))
 
 -- a route that isn't told is the default
 dual-said : (way : Route) → Says route_text Dual [] way → way ≡ Dual
@@ -41,7 +42,7 @@ tells false value way takes_it said =
 
 pub spelled-line : (verb : Verb) (words more : List Word) (found : Holding) (width : Width) (way : Route)
     → words ≡ verb_word verb ∷ more
-    → HoldsBehind verb words found → AreOfKinds (own_of verb) found.own
+    → HoldsBehind verb words found → AreOfKinds (greatest_of width) (own_of verb) found.own
     → Says width_text SixtyTwo (listed found.bits) width
     → Says route_text Dual (listed found.way) way
     → IsSpelled words (record { verb = verb; own = found.own; way = way; width = width })
@@ -118,17 +119,20 @@ module _ (verb : Verb) (words more : List Word) (named : words ≡ verb_word ver
         one_parts held.0 line.1.0 held.2.plain (line-plain words line.0 line.1.0 line.1.1)
         (sym held.1 ∙ ap rest_of spelling)
 
-    -- its own words are of their kinds
-    pub line-kinds : AreOfKinds (own_of verb) found.own
-    line-kinds =
-        subst (λ v. AreOfKinds (own_of v) found.own) (sym same_verb)
-        (subst (AreOfKinds (own_of line.0.verb)) (sym line.1.1.own ∙ ap own_words (sym same_parts) ∙ held.2.own)
-        line.1.1.kinds)
-
     pub line-width : Says width_text SixtyTwo (listed found.bits) line.0.width
     line-width =
         subst (λ vs. Says width_text SixtyTwo vs line.0.width)
         (ap bits_values (sym same_parts) ∙ held.2.bits) line.1.1.width
+
+    -- its own words are of their kinds, at the width that is said
+    pub line-kinds : (width : Width) → Says width_text SixtyTwo (listed found.bits) width
+        → AreOfKinds (greatest_of width) (own_of verb) found.own
+    line-kinds width says =
+        subst (λ w. AreOfKinds (greatest_of w) (own_of verb) found.own)
+        (says-one width_text SixtyTwo (listed found.bits) line.0.width width width_text-one line-width says)
+        (subst (λ v. AreOfKinds (greatest_of line.0.width) (own_of v) found.own) (sym same_verb)
+        (subst (AreOfKinds (greatest_of line.0.width) (own_of line.0.verb))
+        (sym line.1.1.own ∙ ap own_words (sym same_parts) ∙ held.2.own) line.1.1.kinds))
 
     line-tells : TellsRoute (takes_route line.0.verb) (listed found.way) line.0.way
     line-tells =

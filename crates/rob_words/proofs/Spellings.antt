@@ -123,7 +123,7 @@ line-plain words line parts has = bare-plain parts (subst ArePlain (sym has.own)
 
 -- ---- one line
 
-width_text-one : (a b : Width) → width_text a ≡ width_text b → a ≡ b
+pub width_text-one : (a b : Width) → width_text a ≡ width_text b → a ≡ b
 width_text-one Eight Eight e = refl
 width_text-one Eight Sixteen e = absurd (search (e, rules))
 width_text-one Eight ThirtyTwo e = absurd (search (e, rules))
@@ -144,7 +144,7 @@ width_text-one SixtyTwo SixtyTwo e = refl
 route_text-one : (a b : Route) → route_text a ≡ route_text b → a ≡ b
 route_text-one Dual Dual e = refl
 
-says-one : {X : Type 0} (text : X → Word) (default : X) (values : List Word) (a b : X)
+pub says-one : {X : Type 0} (text : X → Word) (default : X) (values : List Word) (a b : X)
     → ((a b : X) → text a ≡ text b → a ≡ b)
     → Says text default values a → Says text default values b → a ≡ b
 says-one text default values a b one (inl x) (inl y) = one a b (heads (sym x ∙ y))

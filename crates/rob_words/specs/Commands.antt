@@ -4,7 +4,7 @@
 -- or are numbers, and options. An option is one word or two: `--bits=8` or `--bits 8`.
 use Rattle.std.specs.Prelude.{◌≡◌, ◌≢◌, ◌⊎◌, Bool, true, false, List, [], ◌∷◌, ◌++◌, codes, length}
 use Rattle.rob_words.specs.Kinds.{AreOfKinds}
-use Rattle.rob_words.specs.Values.{Word, width_text, route_text}
+use Rattle.rob_words.specs.Values.{Word, greatest_of, width_text, route_text}
 use Rattle.rob_words.specs.Verbs.{own_of, takes_route, verb_word}
 use Rattle.rob_words.specs.declared.route.Route.{Route}
 use Rattle.rob_words.specs.declared.route.Route.TheVariants.{Dual}
@@ -92,7 +92,7 @@ pub record HasParts (words : List Word) (line : Line) (parts : List Part) : Type
   pub own : own_words parts ≡ line.own
   pub count : length line.own ≡ length (own_of line.verb)
   pub names : ArePlain line.own
-  pub kinds : AreOfKinds (own_of line.verb) line.own
+  pub kinds : AreOfKinds (greatest_of line.width) (own_of line.verb) line.own
   pub width : Says width_text SixtyTwo (bits_values parts) line.width
   pub route : TellsRoute (takes_route line.verb) (route_values parts) line.way
 

@@ -1,5 +1,5 @@
 -- The values of the options, and how they are spelled.
-use Rattle.std.specs.Prelude.{ℕ, List, codes}
+use Rattle.std.specs.Prelude.{ℕ, ◌-◌, ◌^◌, List, codes}
 use Rattle.rob_words.specs.declared.route.Route.{Route}
 use Rattle.rob_words.specs.declared.route.Route.TheVariants.{Dual}
 use Rattle.rob_words.specs.declared.width.Width.{Width}
@@ -15,6 +15,10 @@ bits_of Eight = 8
 bits_of Sixteen = 16
 bits_of ThirtyTwo = 32
 bits_of SixtyTwo = 62
+
+-- the greatest number of a width
+abbrev pub greatest_of : Width → ℕ
+greatest_of width = 2 ^ bits_of width - 1
 
 -- a width is spelled by its bits
 abbrev pub width_text : Width → Word

@@ -2,9 +2,10 @@
 use Rattle.std.specs.Prelude.{Bool, true, false, List, [], ◌∷◌, codes}
 use Rattle.rob_words.specs.Values.{Word}
 use Rattle.rob_words.specs.declared.verb.Own.{Own}
-use Rattle.rob_words.specs.declared.verb.Own.TheVariants.{Model, Certificate, Scenarios, Number, Names}
+use Rattle.rob_words.specs.declared.verb.Own.TheVariants.{Model, Certificate, Scenarios, Number, Names, Statement, Limit, Limits, Form}
+use Rattle.rob_words.specs.declared.verb.Own.TheVariants as own
 use Rattle.rob_words.specs.declared.verb.Verb.{Verb}
-use Rattle.rob_words.specs.declared.verb.Verb.TheVariants.{Rows, Solve, Prove, Check, Replay, Text, Whole, Tree}
+use Rattle.rob_words.specs.declared.verb.Verb.TheVariants.{Rows, Solve, Prove, Check, Replay, Text, Whole, Tree, Narrow, Sweep, SweepText, CheckTree, Worst}
 
 -- the name of a command
 abbrev pub verb_word : Verb → Word
@@ -16,6 +17,11 @@ verb_word Replay = codes "replay"
 verb_word Text = codes "text"
 verb_word Whole = codes "whole"
 verb_word Tree = codes "tree"
+verb_word Worst = codes "worst"
+verb_word CheckTree = codes "checktree"
+verb_word Sweep = codes "sweep"
+verb_word SweepText = codes "sweeptext"
+verb_word Narrow = codes "narrow"
 
 -- what a command's own words name, in their order
 abbrev pub own_of : Verb → List Own
@@ -27,6 +33,11 @@ own_of Replay = Model ∷ Certificate ∷ Scenarios ∷ []
 own_of Text = Number ∷ []
 own_of Whole = Model ∷ Names ∷ []
 own_of Tree = Model ∷ Names ∷ []
+own_of Worst = Model ∷ Certificate ∷ Form ∷ []
+own_of CheckTree = Model ∷ Names ∷ own.Tree ∷ []
+own_of Sweep = Model ∷ Statement ∷ Limits ∷ []
+own_of SweepText = Model ∷ Statement ∷ Limit ∷ []
+own_of Narrow = Model ∷ []
 
 -- the command takes the option `route`
 abbrev pub takes_route : Verb → Bool
@@ -38,3 +49,8 @@ takes_route Replay = false
 takes_route Text = false
 takes_route Whole = false
 takes_route Tree = false
+takes_route Worst = false
+takes_route CheckTree = false
+takes_route Sweep = false
+takes_route SweepText = false
+takes_route Narrow = false

@@ -1,18 +1,22 @@
-//! What the own words of a command say, by their kinds. A word that names a file may be any plain word.
+//! What the own words of a command say, by their kinds. A word that names a file or a
+//! form may be any plain word.
 
 ghost use Rattle.std.specs.Prelude.{◌≡◌, ◌↔◌, IsTrue, MatchOption, map, string_bytes};
-ghost use Rattle.rob_words.specs.Kinds.{AreOfKinds, IsNumber, IsOfKind, number_of};
+ghost use Rattle.rob_words.specs.Kinds.{AreOfKinds, IsNumber, IsOfKind, IsStatement, number_of};
 
+use crate::limits::{is_limit_list, limit};
 use crate::names::is_name_list;
 use crate::verb::Own;
 
-/// Whether each word is one of its kind.
-pub(crate) fn are_of_kinds(kinds: &[Own], words: &[String]) -> bool
-    ensures kinds { IsTrue result ↔ AreOfKinds kinds.now (map string_bytes words.now) }
+/// Whether each word is one of its kind, at a width with this greatest number.
+pub(crate) fn are_of_kinds(kinds: &[Own], words: &[String], greatest: u64) -> bool
+    ensures kinds { IsTrue result ↔ AreOfKinds greatest kinds.now (map string_bytes words.now) }
 {
     match kinds {
         [kind, kinds @ ..] => match words {
-            [word, words @ ..] => { is_of_kind(*kind, word.as_str()) && are_of_kinds(kinds, words) }
+            [word, words @ ..] => {
+                is_of_kind(*kind, word.as_str(), greatest) && are_of_kinds(kinds, words, greatest)
+            }
             [] => true,
         },
         [] => true,
@@ -20,8 +24,8 @@ pub(crate) fn are_of_kinds(kinds: &[Own], words: &[String]) -> bool
 }
 
 // Whether the word is one of the kind.
-fn is_of_kind(kind: Own, word: &str) -> bool
-    ensures kind { IsTrue result ↔ IsOfKind kind word.now }
+fn is_of_kind(kind: Own, word: &str, greatest: u64) -> bool
+    ensures kind { IsTrue result ↔ IsOfKind greatest kind word.now }
 {
     match kind {
         Own::Model => true,
@@ -29,6 +33,11 @@ fn is_of_kind(kind: Own, word: &str) -> bool
         Own::Scenarios => true,
         Own::Number => number(word).is_some(),
         Own::Names => is_name_list(word.as_bytes()),
+        Own::Form => true,
+        Own::Tree => true,
+        Own::Statement => statement(word).is_some(),
+        Own::Limit => limit(word, greatest).is_some(),
+        Own::Limits => is_limit_list(word, greatest),
     }
 }
 
@@ -42,4 +51,16 @@ pub fn number(word: &str) -> Option<u32>
         return None;
     }
     word.parse::<u32>().ok()
+}
+
+/// The number of a statement, which a word of 1 to 3 decimal digits spells. It may begin with zeros.
+pub fn statement(word: &str) -> Option<u32>
+    ensures statement { MatchOption result
+        (IsStatement word.now → ⊥)
+        (λ number. IsStatement word.now × (number ≡ number_of word.now)) }
+{
+    if word.len() > 3 {
+        return None;
+    }
+    number(word)
 }

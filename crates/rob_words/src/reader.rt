@@ -27,10 +27,10 @@ pub fn read_words(alloc: Global, words: &[String]) -> Result<CommandLine, WordsE
         return Err(WordsErr::NoCommandLine);
     }
     let texts = read_texts(alloc, verb, words)?;
-    if !are_of_kinds(verb.own(), texts.own.as_slice()) {
+    let width = width(texts.bits)?;
+    if !are_of_kinds(verb.own(), texts.own.as_slice(), width.greatest()) {
         return Err(WordsErr::NoCommandLine);
     }
-    let width = width(texts.bits)?;
     let route = route(texts.route)?;
     Ok(CommandLine {
         verb,

@@ -26,6 +26,16 @@ pub enum Verb {
     Whole,
     /// Solve such a model and print the branch tree of its answer.
     Tree,
+    /// Print the worst case of a form at a certificate's plan.
+    Worst,
+    /// Check a branch tree against such a model.
+    CheckTree,
+    /// Answer a model at several limits of a budget.
+    Sweep,
+    /// Print a model with another limit in a budget.
+    SweepText,
+    /// Print how large the numbers of the two programs that a model is solved by can become.
+    Narrow,
 }
 
 /// What one of a command's own words names.
@@ -41,6 +51,16 @@ pub enum Own {
     Number,
     /// Names of variables, with `,` between them, and no file.
     Names,
+    /// A name of a form, and no file.
+    Form,
+    /// The file of a branch tree.
+    Tree,
+    /// The number of a statement, and no file.
+    Statement,
+    /// A limit of a budget, and no file.
+    Limit,
+    /// Several of them, and no file.
+    Limits,
 }
 
 impl Verb {
@@ -59,6 +79,11 @@ impl Verb {
             "text" => Some(Verb::Text),
             "whole" => Some(Verb::Whole),
             "tree" => Some(Verb::Tree),
+            "worst" => Some(Verb::Worst),
+            "checktree" => Some(Verb::CheckTree),
+            "sweep" => Some(Verb::Sweep),
+            "sweeptext" => Some(Verb::SweepText),
+            "narrow" => Some(Verb::Narrow),
             _ => None,
         }
     }
@@ -76,6 +101,11 @@ impl Verb {
             Verb::Text => &[Own::Number],
             Verb::Whole => &[Own::Model, Own::Names],
             Verb::Tree => &[Own::Model, Own::Names],
+            Verb::Worst => &[Own::Model, Own::Certificate, Own::Form],
+            Verb::CheckTree => &[Own::Model, Own::Names, Own::Tree],
+            Verb::Sweep => &[Own::Model, Own::Statement, Own::Limits],
+            Verb::SweepText => &[Own::Model, Own::Statement, Own::Limit],
+            Verb::Narrow => &[Own::Model],
         }
     }
 
@@ -92,6 +122,11 @@ impl Verb {
             Verb::Text => false,
             Verb::Whole => false,
             Verb::Tree => false,
+            Verb::Worst => false,
+            Verb::CheckTree => false,
+            Verb::Sweep => false,
+            Verb::SweepText => false,
+            Verb::Narrow => false,
         }
     }
 }

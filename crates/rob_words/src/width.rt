@@ -1,7 +1,7 @@
 //! The widths of whole numbers.
 
 ghost use Rattle.std.specs.Prelude.{◌≡◌, MatchOption};
-ghost use Rattle.rob_words.specs.Values.{bits_of, width_text};
+ghost use Rattle.rob_words.specs.Values.{bits_of, greatest_of, width_text};
 ghost use Rattle.rob_words.specs.declared.width.Width.{Width};
 
 /// How wide the whole numbers are that a command computes with.
@@ -24,6 +24,18 @@ impl Width {
             Width::Sixteen => 16,
             Width::ThirtyTwo => 32,
             Width::SixtyTwo => 62,
+        }
+    }
+
+    /// The greatest number of the width.
+    pub fn greatest(&self) -> u64
+        ensures greatest { result ≡ greatest_of self.now }
+    {
+        match self {
+            Width::Eight => 255,
+            Width::Sixteen => 65_535,
+            Width::ThirtyTwo => 4_294_967_295,
+            Width::SixtyTwo => 4_611_686_018_427_387_903,
         }
     }
 

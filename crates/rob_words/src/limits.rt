@@ -1,0 +1,88 @@
+//! Limits of a budget in a word: one, or several with `,` between them.
+
+ghost use Rattle.std.specs.Prelude.{◌≡◌, ◌↔◌, ◌∷◌, ◌<◌, IfSome, IsTrue, MatchOption, length, option_map};
+ghost use Rattle.rob_words.specs.Limits.{IsDivisor, IsLimit, IsLimitList, IsLimitsOf, IsWhole, denominator_of, numerator_of};
+ghost use Rattle.std.specs.Str.Parse.{digits_value};
+ghost use Rattle.rob_words.specs.Names.{parts_behind, parts_of};
+
+/// The limit that a word spells, as its numerator and its denominator, which isn't 0. Both are at most the greatest
+/// number.
+pub fn limit(word: &str, greatest: u64) -> Option<(u64, u64)>
+    ensures limit { MatchOption result
+        (IsLimit greatest word.now → ⊥)
+        (λ parts. IsLimit greatest word.now
+        × ((parts.0 ≡ numerator_of word.now) × (parts.1 ≡ denominator_of word.now))) }
+{
+    match word.split_once('/') {
+        None => whole(word, greatest).map(|number| (number, 1)),
+        Some((above, below)) => {
+            let numerator = whole(above, greatest)?;
+            let denominator = divisor(below, greatest)?;
+            Some((numerator, denominator))
+        }
+    }
+}
+
+// The whole number that a word of decimal digits spells, where it is at most the greatest one.
+fn whole(word: &str, greatest: u64) -> Option<u64>
+    ensures whole { MatchOption result
+        (IsWhole greatest word.now → ⊥)
+        (λ number. IsWhole greatest word.now × (number ≡ digits_value 10 word.now)) }
+{
+    if word.as_bytes().first() == Some(&b'+') {
+        return None;
+    }
+    match word.parse::<u64>() {
+        Ok(number) => if number <= greatest {
+            Some(number)
+        } else {
+            None
+        },
+        Err(_) => None,
+    }
+}
+
+// The same where it isn't 0.
+fn divisor(word: &str, greatest: u64) -> Option<u64>
+    ensures divisor { MatchOption result
+        (IsDivisor greatest word.now → ⊥)
+        (λ number. IsDivisor greatest word.now × (number ≡ digits_value 10 word.now)) }
+{
+    match whole(word, greatest) {
+        Some(number) => if number == 0 { None } else { Some(number) },
+        None => None,
+    }
+}
+
+/// The part of a word in front of its first comma, and what stands behind that comma, where there is one.
+#[tactic(auto, using(crate::proofs::CommaLemmas::first_text_at, crate::proofs::CommaLemmas::first_text_all))]
+pub fn first_text(word: &str) -> (&str, Option<&str>)
+    ensures parts { parts_of word.now ≡ result.0.now ∷ parts_behind (option_map (λ rest. rest.now) result.1) }
+    ensures shorter { IfSome result.1 (λ rest. length rest.now < length word.now) }
+{
+    match word.split_once(',') {
+        Some((first, rest)) => (first, Some(rest)),
+        None => (word, None),
+    }
+}
+
+/// Whether the word is 1 to 20 limits with `,` between them.
+pub(crate) fn is_limit_list(word: &str, greatest: u64) -> bool
+    ensures limits { IsTrue result ↔ IsLimitList greatest word.now }
+{
+    are_limits(20, word, greatest)
+}
+
+// Whether the word is at most so many limits, and one at least.
+fn are_limits(most: usize, word: &str, greatest: u64) -> bool
+    ensures limits { IsTrue result ↔ IsLimitsOf greatest most word.now }
+{
+    let (first, rest) = first_text(word);
+    if most == 0 || limit(first, greatest).is_none() {
+        return false;
+    }
+    match rest {
+        Some(rest) => are_limits(most - 1, rest, greatest),
+        None => true,
+    }
+}
