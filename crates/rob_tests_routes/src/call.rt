@@ -1,6 +1,6 @@
 // The calls of the cases.
 
-use crate::{boxes, sweep, tree, worst};
+use crate::{boxes, cuts, sweep, tree, worst};
 use rob_case::text::keyword;
 use rob_case::{Case, Trouble};
 use rob_number::{Exact, Frac};
@@ -38,6 +38,7 @@ fn call<N: Exact>(alloc: Global, case: &Case, word: &str, rest: &str) -> Result<
         "worst-step" => worst::at_step::<N>(alloc, case, rest),
         "searches" => worst::searches::<N>(alloc, case, rest),
         "inside" => worst::inside::<N>(alloc, case),
+        "cuts" => cuts::solved::<N>(alloc, case),
         _ => Err(Trouble::Line),
     }
 }

@@ -1,9 +1,10 @@
-//! The tests of the libraries of branch trees, sweeps and searches: cases from standard input call their public names,
-//! and what comes is compared with what is wanted.
+//! The tests of the libraries of branch trees, sweeps, searches and cutting planes: cases from standard input call
+//! their public names, and what comes is compared with what is wanted.
 #![tactic(auto)]
 
 mod boxes;
 mod call;
+mod cuts;
 mod given;
 mod sweep;
 mod tree;
