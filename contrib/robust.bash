@@ -3,7 +3,7 @@ _robust() {
     local word=${COMP_WORDS[COMP_CWORD]} before=${COMP_WORDS[COMP_CWORD - 1]} command=${COMP_WORDS[1]}
     COMPREPLY=()
     if ((COMP_CWORD == 1)); then
-        mapfile -t COMPREPLY < <(compgen -W "rows solve prove check replay whole tree text" -- "$word")
+        mapfile -t COMPREPLY < <(compgen -W "rows solve prove check replay worst whole tree checktree sweep sweeptext narrow text" -- "$word")
         return
     fi
     case $before in

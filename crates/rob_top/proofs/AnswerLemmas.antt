@@ -4,11 +4,13 @@ use Rattle.rob_meaning.specs.RobustModel.{RobustModel}
 use Rattle.rob_model.specs.declared.place.Spot.{Spot}
 use Rattle.rob_top.specs.Branched.{BreaksWhole, no_ranges, no_variables}
 use Rattle.rob_top.specs.Calls.{Call}
-use Rattle.rob_top.specs.Headline.{Means}
-use Rattle.rob_top.specs.Refused.{IsWideSpot, elaborating, solving, checking, replaying}
+use Rattle.rob_top.proofs.SoughtLemmas.{forms_unplanned}
+use Rattle.rob_top.specs.Headline.{Means, rows, replayed, generated, worst_found, swept, narrowed}
+use Rattle.rob_top.specs.Refused.{IsWideSpot, elaborating, solving, checking, replaying, searching}
 use Rattle.rob_top.specs.Replayed.{LacksPlan, planless, unread}
+use Rattle.rob_top.specs.Swept.{BreaksSweep, at_limit, at_limits}
 use Rattle.rob_top.specs.declared.ended.Ended.{Ended}
-use Rattle.rob_top.specs.declared.ended.Ended.TheVariants.{Optimal, Infeasible, Unbounded, Printed, Accepted, Rejected, Words, Missing, TooLong, Model, EmptySet, TooWide, WideNode, Cert, Scenarios, Whole, ReadFault, WriteFault, Memory}
+use Rattle.rob_top.specs.declared.ended.Ended.TheVariants.{Optimal, Infeasible, Unbounded, Printed, Accepted, Rejected, Words, Missing, TooLong, Model, EmptySet, TooWide, WideNode, WideBudget, Cert, Scenarios, Whole, Sweep, Tree, TreeRejected, NoRow, ReadFault, WriteFault, Memory}
 use Rattle.rob_words.specs.Commands.{Line, IsCommandLine}
 
 -- a wide number's words are a command line
@@ -17,6 +19,7 @@ wide_line call line m spot (elaborating h makes first) = (line, h.spelled)
 wide_line call line m spot (solving h is_solving wide) = (line, h.model.spelled)
 wide_line call line m spot (checking c place h e verdict) = (line, h.file.forms.model.spelled)
 wide_line call line m spot (replaying c bytes number h e gives) = (line, h.certificate.file.model.spelled)
+wide_line call line m spot (searching c form h wide) = (line, h.plan.certificate.file.forms.model.spelled)
 
 -- and so are those of a certificate without a plan
 lacking_line : (call : Call) (line : Line) (m : RobustModel) (rule number : ℕ) → LacksPlan call line m rule number → IsCommandLine call.words
@@ -27,6 +30,11 @@ lacking_line call line m rule number (planless c h is r n) = (line, h.file.model
 breaking_line : (call : Call) (line : Line) (m : RobustModel) (rule : ℕ) → BreaksWhole call line m rule → IsCommandLine call.words
 breaking_line call line m rule (no_variables names h told none e) = (line, h.spelled)
 breaking_line call line m rule (no_ranges numbers h e) = (line, h.model.spelled)
+
+-- and of a sweep that breaks a rule
+sweeping_line : (call : Call) (line : Line) (m : RobustModel) (rule : ℕ) → BreaksSweep call line m rule → IsCommandLine call.words
+sweeping_line call line m rule (at_limits n limits has breaks) = (line, has.model.spelled)
+sweeping_line call line m rule (at_limit n g has none e) = (line, has.model.spelled)
 
 -- words that are no command line have no other answer
 pub no_command : (call : Call) (ended : Ended) (text : List ℕ) → (IsCommandLine call.words → ⊥) → Means call ended text
@@ -40,19 +48,33 @@ no_command call Infeasible text none (inl h) = absurd (none ((h.line, h.forms.mo
 no_command call Infeasible text none (inr h) = absurd (none ((h.line, h.has.named.model.spelled)))
 no_command call Unbounded text none (inl h) = absurd (none ((h.line, h.forms.model.spelled)))
 no_command call Unbounded text none (inr h) = absurd (none ((h.line, h.has.named.model.spelled)))
-no_command call Printed text none (inl h) = absurd (none ((h.line, h.forms.model.spelled)))
-no_command call Printed text none (inr (inl h)) = absurd (none ((h.line, h.has.certificate.file.model.spelled)))
-no_command call Printed text none (inr (inr h)) = absurd (none ((h.line, h.spelled)))
-no_command call Accepted text none h = absurd (none ((h.line, h.read.file.forms.model.spelled)))
+no_command call Printed text none (rows h) = absurd (none ((h.line, h.forms.model.spelled)))
+no_command call Printed text none (replayed h) = absurd (none ((h.line, h.has.certificate.file.model.spelled)))
+no_command call Printed text none (generated h) = absurd (none ((h.line, h.spelled)))
+no_command call Printed text none (worst_found h) = absurd (none ((h.line, h.has.plan.certificate.file.forms.model.spelled)))
+no_command call Printed text none (swept (inl h)) = absurd (none ((h.line, h.has.model.spelled)))
+no_command call Printed text none (swept (inr h)) = absurd (none ((h.line, h.has.model.spelled)))
+no_command call Printed text none (narrowed h) = absurd (none ((h.line, h.forms.model.spelled)))
+no_command call Accepted text none (inl h) = absurd (none ((h.line, h.read.file.forms.model.spelled)))
+no_command call Accepted text none (inr h) = absurd (none ((h.line, h.read.file.variables.named.model.spelled)))
 no_command call (Rejected place) text none h = absurd (none ((h.line, h.read.file.forms.model.spelled)))
+no_command call (TreeRejected number fault) text none h = absurd (none ((h.line, h.read.file.variables.named.model.spelled)))
 no_command call (Model rule line) text none h = absurd (none ((h.line, h.spelled)))
 no_command call (EmptySet weights) text none (inl h) = absurd (none ((h.line, h.forms.model.spelled)))
-no_command call (EmptySet weights) text none (inr h) = absurd (none ((h.line, h.has.named.model.spelled)))
+no_command call (EmptySet weights) text none (inr (inl h)) = absurd (none ((h.line, h.has.named.model.spelled)))
+no_command call (EmptySet weights) text none (inr (inr h)) = absurd (none ((h.line, h.has.plan.certificate.file.forms.model.spelled)))
 no_command call (TooWide spot) text none h = absurd (none (wide_line call h.line h.m spot h.wide))
-no_command call (WideNode path spot) text none h = absurd (none ((h.line, h.has.named.model.spelled)))
+no_command call (WideNode path spot) text none (inl h) = absurd (none ((h.line, h.has.named.model.spelled)))
+no_command call (WideNode path spot) text none (inr h) = absurd (none ((h.line, h.read.file.variables.named.model.spelled)))
 no_command call (Whole rule) text none h = absurd (none (breaking_line call h.line h.m rule h.breaks))
+no_command call (Tree rule line) text none h = absurd (none ((h.line, h.file.variables.named.model.spelled)))
+no_command call (WideBudget number spot) text none h = absurd (none ((h.line, h.has.model.spelled)))
+no_command call (Sweep rule) text none h = absurd (none (sweeping_line call h.line h.m rule h.breaks))
 no_command call (Cert rule line) text none (inl h) = absurd (none ((h.line, h.file.forms.model.spelled)))
-no_command call (Cert rule line) text none (inr h) = absurd (none (lacking_line call h.line h.m rule line h.lacks))
+no_command call (Cert rule line) text none (inr (inl h)) = absurd (none (lacking_line call h.line h.m rule line h.lacks))
+no_command call (Cert rule line) text none (inr (inr h)) =
+    absurd (none ((h.line, (forms_unplanned call h.line h.m rule line h.gives_none).model.spelled)))
+no_command call NoRow text none h = absurd (none ((h.line, h.names_none.plan.certificate.file.forms.model.spelled)))
 no_command call (Scenarios rule number) text none h = absurd (none ((h.line, h.has.certificate.file.model.spelled)))
 no_command call Missing text none h = absurd (none ((h.1.line, h.1.spelled)))
 no_command call TooLong text none h = absurd (none ((h.1.line, h.1.spelled)))

@@ -133,6 +133,11 @@ program_spot limit a b (spots.Sum w j) h = absurd h
 program_spot limit a b (spots.Check place) h = absurd h
 program_spot limit a b (spots.Replay number) h = tt
 
+-- a spot that is wide for a model names what the model has
+pub spot_in : (limit : ℕ) (m : RobustModel) (spot : Spot) → IsWideIn limit m spot → IsSpotOf m spot
+spot_in limit m spot (inl first) = judged_spot limit m spot first
+spot_in limit m spot (inr wide) = program_spot limit m m spot wide.1
+
 -- what is wide in the box is told by the model's names
 pub box_spot : (limit : ℕ) (m : RobustModel) (names : List ℕ) (path : List Branch) (spot : Spot) → T (are_bounded m.variables names)
     → IsAllowedPath m names path → IsWideIn limit (box m path) spot → IsSpotOf m spot

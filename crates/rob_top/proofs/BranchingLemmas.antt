@@ -1,5 +1,5 @@
 -- The answers of `whole` and `tree`, from what the search for names and the growing of a tree answer.
-use Rattle.std.proofs.Common.{◌≡◌, ℕ, List, map, Option, Some, None, Result, Ok, Err, IfOk, inr, refl, subst, sym, ap, ◌∙◌}
+use Rattle.std.proofs.Common.{◌≡◌, ℕ, List, map, Option, Some, None, Result, Ok, Err, IfOk, inl, inr, refl, subst, sym, ap, ◌∙◌}
 use Rattle.std.proofs.lemmas.List.{length-map}
 use Rattle.std.specs.Prelude.{MatchOption}
 use Rattle.rob_algebra.specs.Fraction.{of_int}
@@ -27,7 +27,8 @@ use Rattle.rob_top.specs.Calls.{Call, Count, IsBranching, count}
 use Rattle.rob_top.specs.Headline.{Means}
 use Rattle.rob_top.specs.Inputs.{AreVariables}
 use Rattle.rob_top.specs.Replies.{Replies}
-use Rattle.rob_top.specs.Work.{AnswersModel, AnswersNames, AnswersVariables, IsCallAt, IsUngrownOf, RepliesUngrown, ended_of}
+use Rattle.rob_top.specs.Work.{AnswersModel, AnswersNames, AnswersVariables, IsCallAt, ended_of}
+use Rattle.rob_top.specs.Refusing.{IsUngrownOf, RepliesUngrown}
 use Rattle.rob_top.specs.declared.ended.Ended.{Ended}
 use Rattle.rob_top.specs.declared.ended.Ended.TheVariants.{Whole}
 use Rattle.rob_top.specs.declared.files.Texts.{Texts}
@@ -125,13 +126,12 @@ module _ (limit : ℕ) (m : RobustModel) where
         (record {
           line = line;
           m = m;
-          branches = is_here (count before now) call line at;
           breaks = no_ranges numbers has cause;
           printed = is.1;
         })
     stop_answers before now (ungrown.EmptySet weights) reply cause rose told is = λ call line at has.
         subst (λ (ended : Ended). Means call ended reply.text) (sym is.0)
-        (inr (record {
+        (inr (inl (record {
           line = line;
           m = m;
           names = numbers;
@@ -142,10 +142,10 @@ module _ (limit : ℕ) (m : RobustModel) where
           branches = is_here (count before now) call line at;
           shown = cause;
           printed = is.1;
-        }))
+        })))
     stop_answers before now (ungrown.Wide path spot) reply cause rose told is = λ call line at has.
         subst (λ (ended : Ended). Means call ended reply.text) (sym is.0)
-        (record {
+        (inl (record {
           line = line;
           m = m;
           names = numbers;
@@ -158,7 +158,7 @@ module _ (limit : ℕ) (m : RobustModel) where
           wide = subst (λ (l : ℕ). IsWideIn l (box m (map branch_of path)) spot) (sym at.limit_is) cause.1;
           raised = at.raised rose;
           printed = is.1;
-        })
+        }))
     stop_answers before now ungrown.Memory reply cause rose told is = absurd is
 
     pub stopped_answers : (before now : ℕ) (s : TreeStop) (r : Result Reply Want) → HasCause limit m numbers s → RoseIfWide before now s
@@ -198,7 +198,6 @@ module _ (limit : ℕ) (m : RobustModel) where
       (record {
         line = line;
         m = m;
-        branches = subst (λ (v : Verb). IsBranching v) (sym at.verb_is) is_branching;
         breaks = no_variables (parts_of names) has told none refl;
         printed = is.1;
       })

@@ -8,7 +8,7 @@ use Rattle.rob_top.specs.Calls.{Call, Output}
 use Rattle.rob_top.specs.Headline.{Means, Ends, PutMemory, PutRefused}
 use Rattle.rob_top.specs.Lines.{text_lines}
 use Rattle.rob_top.specs.declared.ended.Ended.{Ended}
-use Rattle.rob_top.specs.declared.ended.Ended.TheVariants.{Optimal, Infeasible, Unbounded, Printed, Accepted, Rejected, Words, Missing, TooLong, Model, EmptySet, TooWide, WideNode, Cert, Scenarios, Whole, ReadFault, WriteFault, Memory}
+use Rattle.rob_top.specs.declared.ended.Ended.TheVariants.{Optimal, Infeasible, Unbounded, Printed, Accepted, Rejected, Words, Missing, TooLong, Model, EmptySet, TooWide, WideNode, WideBudget, Cert, Scenarios, Whole, Sweep, Tree, TreeRejected, NoRow, ReadFault, WriteFault, Memory}
 
 -- the text of an answer was put whole
 pub ends_whole : (call : Call) (output : Output) (ended : Ended) (text : List ℕ)
@@ -22,6 +22,7 @@ ends_whole call output Unbounded text means took puts = record { text = text; me
 ends_whole call output Printed text means took puts = record { text = text; means = means; took = took; puts = puts }
 ends_whole call output Accepted text means took puts = record { text = text; means = means; took = took; puts = puts }
 ends_whole call output (Rejected place) text means took puts = record { text = text; means = means; took = took; puts = puts }
+ends_whole call output (TreeRejected number fault) text means took puts = record { text = text; means = means; took = took; puts = puts }
 ends_whole call output Words text means took puts = record { text = text; means = means; took = took; puts = puts }
 ends_whole call output Missing text means took puts = record { text = text; means = means; took = took; puts = puts }
 ends_whole call output TooLong text means took puts = record { text = text; means = means; took = took; puts = puts }
@@ -29,9 +30,13 @@ ends_whole call output (Model rule line) text means took puts = record { text = 
 ends_whole call output (EmptySet weights) text means took puts = record { text = text; means = means; took = took; puts = puts }
 ends_whole call output (TooWide spot) text means took puts = record { text = text; means = means; took = took; puts = puts }
 ends_whole call output (WideNode path spot) text means took puts = record { text = text; means = means; took = took; puts = puts }
+ends_whole call output (WideBudget number spot) text means took puts = record { text = text; means = means; took = took; puts = puts }
 ends_whole call output (Cert rule line) text means took puts = record { text = text; means = means; took = took; puts = puts }
 ends_whole call output (Scenarios rule number) text means took puts = record { text = text; means = means; took = took; puts = puts }
 ends_whole call output (Whole rule) text means took puts = record { text = text; means = means; took = took; puts = puts }
+ends_whole call output NoRow text means took puts = record { text = text; means = means; took = took; puts = puts }
+ends_whole call output (Tree rule line) text means took puts = record { text = text; means = means; took = took; puts = puts }
+ends_whole call output (Sweep rule) text means took puts = record { text = text; means = means; took = took; puts = puts }
 ends_whole call output ReadFault text means took puts = record { text = text; means = means; took = took; puts = puts }
 
 -- a put of the text was refused

@@ -222,7 +222,7 @@ module _ (limit : ℕ) (m : RobustModel) where
     accepted_answers wides (Err want) e judged holds said = tt
     accepted_answers wides (Ok reply) e judged holds said = λ call line at read.
         subst (λ (ended : Ended). Means call ended reply.text) (sym said.0)
-        (record {
+        (inl (record {
           line = line;
           m = m;
           c = c;
@@ -231,7 +231,7 @@ module _ (limit : ℕ) (m : RobustModel) where
           proves = subst (λ (w : Verdict). Judges (Proves m c) w) e judged;
           holds = subst (λ (w : Verdict). OnAccepted w (HasStatus m c.status c.value)) e holds;
           printed = said.1;
-        })
+        }))
 
     pub rejected_answers : (wides : Count) (place : Place) (r : Result Reply Want) → v ≡ verdicts.Rejected place → Judges (Proves m c) v
         → IfOk r (Replies (Rejected place) (rejected_line m place)) → IfOk r (AnswersCertificate limit wides m c)

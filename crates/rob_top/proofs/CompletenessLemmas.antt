@@ -8,33 +8,46 @@ use Rattle.rob_check.proofs.ProofLaws.{proves_judged}
 use Rattle.rob_check.specs.Conditions.{verdict_of}
 use Rattle.rob_check.specs.Narrow.{IsDecided, IsFirstFailing, NoneWide}
 use Rattle.rob_check.specs.Verdicts.{Judges}
+use Rattle.rob_dualize.proofs.SolvingLemmas.{narrow_spot}
+use Rattle.rob_dualize.specs.Solving.{IsNarrowModel}
 use Rattle.rob_check.specs.declared.verdict.Verdict.{Verdict}
 use Rattle.rob_check.specs.declared.verdict.Verdict.TheVariants as verdicts
 use Rattle.rob_meaning.specs.Certificates.{Certificate, Status}
-use Rattle.rob_meaning.specs.Proves.{Proves}
+use Rattle.rob_meaning.specs.Proves.{HasStatus, Proves}
 use Rattle.rob_meaning.specs.RobustModel.{RobustModel}
 use Rattle.rob_meaning.specs.UncertaintySet.{Admits, IsEmptySet}
 use Rattle.rob_meaning.specs.WellFormed.{IsModel}
 use Rattle.rob_model.specs.declared.place.Place.{Place}
 use Rattle.rob_algebra.specs.Fraction.{Fraction}
+use Rattle.rob_reach.specs.Trees.{Tree}
 use Rattle.rob_reach.specs.WholeStatus.{HasWholeStatus}
+use Rattle.rob_sweep.specs.Stops.{KeepsRules}
 use Rattle.rob_top.proofs.AnswerLemmas.{no_command}
-use Rattle.rob_top.proofs.KnownLemmas.{known_again, means_known}
+use Rattle.rob_top.proofs.KnownInputs.{known_again}
+use Rattle.rob_top.proofs.KnownLemmas.{means_known}
 use Rattle.rob_replay.specs.Outcome.{outcome}
 use Rattle.rob_top.proofs.GeneratedLemmas.{generated_decides}
+use Rattle.rob_top.proofs.NarrowAnswerLemmas.{has_status, narrow_decides, no_wide_answer, shown_answer}
 use Rattle.rob_top.proofs.ReplayAnswerLemmas.{planless_decides, replay_decides}
 use Rattle.rob_top.proofs.StageLemmas.{broken_answer}
 use Rattle.rob_top.proofs.TrueAnswerLemmas.{empty_decides, missing_decides, rows_decide, rule_decides, solve_decides, status_decides, too_long_decides, verdict_decides, well, wide_decides}
-use Rattle.rob_top.proofs.WholeAnswerLemmas.{breaking_decides, some_whole_status, whole_decides, whole_empty_decides, whole_status_decides}
+use Rattle.rob_top.proofs.WholeAnswerLemmas.{some_whole_status, whole_decides, whole_empty_decides, whole_status_decides}
+use Rattle.rob_top.proofs.WorstAnswerLemmas.{unnamed_decides, unplanned_decides, worst_decides, worst_empty_decides, worst_printed_decides}
+use Rattle.rob_top.proofs.TreeAnswerLemmas.{accepted_tree, breaking_decides, proved_tree, tree_broken_decides, tree_verdict_decides, unproved_tree}
+use Rattle.rob_top.proofs.SweepAnswerLemmas.{limit_decides, limit_rule_decides, narrow_sweep_decides, sweep_decides, sweep_rule_decides}
 use Rattle.rob_top.specs.Calls.{Call, IsBranching, IsSolving, Known, Output, known_call, limit_of}
-use Rattle.rob_top.specs.Completeness.{EndsAs, IsComplete, IsEmptyAnswer, IsEmptyWholeAnswer, IsNarrowBelow, IsOutside, IsProvedAnswer, IsSolveAnswer, IsUnput, IsWholeAnswer, MustEnd}
+use Rattle.rob_top.specs.Completeness.{IsComplete, MustEnd}
+use Rattle.rob_top.specs.Endings.{EndsAs, IsEmptyAnswer, IsEmptyWholeAnswer, IsNarrowBelow, IsOutside, IsProvedAnswer, IsSolveAnswer, IsSweepAnswer, IsTreeAnswer, IsUnput, IsWholeAnswer, IsWorstAnswer}
 use Rattle.rob_top.specs.Headline.{Ends, Means}
-use Rattle.rob_top.specs.Inputs.{HasCertificate, HasCertificateFile, HasForms, HasWholeVariables}
+use Rattle.rob_top.specs.Inputs.{HasCertificate, HasCertificateFile, HasForms, HasSought, HasWholeVariables}
 use Rattle.rob_top.specs.Replayed.{replay_ended}
+use Rattle.rob_top.specs.Searched.{certificate_vector}
 use Rattle.rob_top.specs.Solved.{IsPrinted, IsSolved}
+use Rattle.rob_top.specs.TreeChecked.{HasTree}
+use Rattle.rob_top.specs.Swept.{HasSweep}
 use Rattle.rob_top.specs.Work.{ended_of, verdict_ended}
 use Rattle.rob_top.specs.declared.ended.Ended.{Ended}
-use Rattle.rob_top.specs.declared.ended.Ended.TheVariants.{Optimal, Infeasible, Unbounded, Printed, Accepted, Rejected, Words, Missing, TooLong, Model, EmptySet, TooWide, WideNode, Cert, Scenarios, Whole, ReadFault, WriteFault, Memory}
+use Rattle.rob_top.specs.declared.ended.Ended.TheVariants.{Optimal, Infeasible, Unbounded, Printed, Accepted, Rejected, Words, Missing, TooLong, Model, EmptySet, TooWide, WideNode, WideBudget, Cert, Scenarios, Whole, Sweep, Tree as TreeRule, TreeRejected, NoRow, ReadFault, WriteFault, Memory}
 use Rattle.rob_words.specs.Commands.{Line, IsCommandLine}
 use Rattle.rob_words.specs.Values.{bits_of}
 use Rattle.rob_words.specs.declared.verb.Verb.{Verb}
@@ -116,6 +129,17 @@ module _ (call : Call) (known : Known call.source) (ended : Ended) (comes : Come
         by (inr (inl e)) = subst (λ (x : Ended). IsEmptyAnswer (limit_of line) m x) (sym e) (inr (inl refl))
         by (inr (inr e)) = subst (λ (x : Ended). IsEmptyAnswer (limit_of line) m x) (sym e) (inr (inr refl))
 
+    narrow_status_ends : (u : List Fraction) → HasForms call line m → IsSolving line.verb → IsNarrowModel (limit_of line) m → Admits m u
+        → (status : Status) × (v : Fraction) × HasStatus m status v × EndsAs (ended_of status) ended
+    narrow_status_ends u has solves narrow admitted =
+        let s = has_status m (well call known line m has.model) u admitted in (
+          s.0,
+          s.1,
+          s.2,
+          comes_ends call (ended_of s.0) ended comes
+              (status_decides call known line m has solves s.0 s.1 s.2 u admitted (λ spot. narrow_spot (limit_of line) m spot narrow) ended),
+        )
+
     module _ (names : List ℕ) (has : HasWholeVariables call line m names) (is : IsBranching line.verb) where
       whole_ends : IsWholeAnswer (limit_of line) m names ended
       whole_ends = by comes
@@ -133,6 +157,23 @@ module _ (call : Call) (known : Known call.source) (ended : Ended) (comes : Come
           by (inr (inl e)) = subst (λ (x : Ended). IsEmptyWholeAnswer (limit_of line) m x) (sym e) (inr (inl refl))
           by (inr (inr e)) = subst (λ (x : Ended). IsEmptyWholeAnswer (limit_of line) m x) (sym e) (inr (inr refl))
 
+    module _ (c : Certificate) (form : ℕ) (has : HasSought call line m c form) where
+      worst_ends : IsWorstAnswer (limit_of line) m form (certificate_vector c) ended
+      worst_ends = by comes
+        where
+          by : Comes call ended → IsWorstAnswer (limit_of line) m form (certificate_vector c) ended
+          by (inl h) = worst_decides call known line m c form has ended h.0 h.1
+          by (inr (inl e)) = subst (λ (x : Ended). IsWorstAnswer (limit_of line) m form (certificate_vector c) x) (sym e) (inr (inl refl))
+          by (inr (inr e)) = subst (λ (x : Ended). IsWorstAnswer (limit_of line) m form (certificate_vector c) x) (sym e) (inr (inr refl))
+
+      worst_empty_ends : IsEmptySet m → IsEmptyAnswer (limit_of line) m ended
+      worst_empty_ends none = by comes
+        where
+          by : Comes call ended → IsEmptyAnswer (limit_of line) m ended
+          by (inl h) = worst_empty_decides call known line m c form has none ended h.0 h.1
+          by (inr (inl e)) = subst (λ (x : Ended). IsEmptyAnswer (limit_of line) m x) (sym e) (inr (inl refl))
+          by (inr (inr e)) = subst (λ (x : Ended). IsEmptyAnswer (limit_of line) m x) (sym e) (inr (inr refl))
+
     whole_status_ends : (names : List ℕ) (u : List Fraction) → HasWholeVariables call line m names → IsBranching line.verb → Admits m u
         → IsNarrowBelow (limit_of line) m names
         → (status : Status) × (v : Fraction) × HasWholeStatus m names status v × EndsAs (ended_of status) ended
@@ -144,6 +185,22 @@ module _ (call : Call) (known : Known call.source) (ended : Ended) (comes : Come
           comes_ends call (ended_of s.0) ended comes
               (whole_status_decides call known line m names has is u admitted narrow s.0 s.1 s.2 ended),
         )
+
+    tree_verdict_ends : (names : List ℕ) (t : Tree) → HasTree call line m names t → IsTreeAnswer (limit_of line) m names t ended
+    tree_verdict_ends names t has = by comes
+      where
+        by : Comes call ended → IsTreeAnswer (limit_of line) m names t ended
+        by (inl h) = tree_verdict_decides call known line m names has.bytes has.file t has.text has.fits ended h.0 h.1
+        by (inr h) = inr (inr (inr (inr h)))
+
+    sweep_ends : (n : ℕ) (gs : List Fraction) → HasSweep call line m n gs → KeepsRules m.set_lines n gs
+        → IsSweepAnswer (limit_of line) m n gs ended
+    sweep_ends n gs has keeps = by comes
+      where
+        by : Comes call ended → IsSweepAnswer (limit_of line) m n gs ended
+        by (inl h) = sweep_decides call known line m n gs has keeps ended h.0 h.1
+        by (inr (inl e)) = subst (λ (x : Ended). IsSweepAnswer (limit_of line) m n gs x) (sym e) (inr (inl refl))
+        by (inr (inr e)) = subst (λ (x : Ended). IsSweepAnswer (limit_of line) m n gs x) (sym e) (inr (inr refl))
 
     module _ (c : Certificate) (has : HasCertificate call line m c) where
       read_model : IsModel m
@@ -179,6 +236,10 @@ module _ (call : Call) (known : Known call.source) (ended : Ended) (comes : Come
     empty = empty_ends;
     status = λ line m status v u has solves holds admitted narrow.
         comes_ends call _ ended comes (status_decides call known line m has solves status v holds u admitted narrow ended);
+    narrow = λ line m has is. comes_ends call Printed ended comes (narrow_decides call known line m has is ended);
+    narrow_spot = λ line m spot has solves narrow. no_wide_answer (limit_of line) m narrow ended spot (solving_ends line m has solves);
+    narrow_status = narrow_status_ends;
+    narrow_empty = λ line m has solves narrow none. shown_answer (limit_of line) m narrow ended (empty_ends line m has solves none);
     broken = λ line m bytes rule number has breaks.
         comes_ends call (Cert rule number) ended comes (rule_decides call known line m bytes rule number has breaks ended);
     verdict = verdict_ends;
@@ -192,11 +253,36 @@ module _ (call : Call) (known : Known call.source) (ended : Ended) (comes : Come
     replayed = λ line m c bytes rows has file.
         comes_ends call (replay_ended (outcome (limit_of line) m c.plan rows)) ended comes
         (replay_decides call known line m c bytes rows has file ended);
-    whole_rule = λ line m rule is breaks.
-        comes_ends call (Whole rule) ended comes (breaking_decides call known line m rule is breaks ended);
+    whole_rule = λ line m rule breaks.
+        comes_ends call (Whole rule) ended comes (breaking_decides call known line m rule breaks ended);
     whole = whole_ends;
     whole_empty = whole_empty_ends;
     whole_status = whole_status_ends;
+    no_plan = λ line m rule number gives_none.
+        comes_ends call (Cert rule number) ended comes (unplanned_decides call known line m rule number gives_none ended);
+    no_row = λ line m c name none. comes_ends call NoRow ended comes (unnamed_decides call known line m c name none ended);
+    worst = worst_ends;
+    worst_empty = worst_empty_ends;
+    worst_printed = λ line m c form u has admitted narrow.
+        comes_ends call Printed ended comes (worst_printed_decides call known line m c form has u admitted narrow ended);
+    tree_broken = λ line m names bytes rule number has breaks.
+        comes_ends call (TreeRule rule number) ended comes
+        (tree_broken_decides call known line m names bytes has rule number breaks ended);
+    tree_verdict = tree_verdict_ends;
+    tree_proved = λ line m names t has proves.
+        proved_tree (limit_of line) m names t has.text.shape ended proves (tree_verdict_ends line m names t has);
+    tree_accepted = λ line m names t has accepted.
+        accepted_tree (limit_of line) m names t has.text.shape ended accepted (tree_verdict_ends line m names t has);
+    tree_rejected = λ line m names t has not.
+        unproved_tree (limit_of line) m names t has.text.shape ended not (tree_verdict_ends line m names t has);
+    sweep_rule = λ line m n gs rule has breaks.
+        comes_ends call (Sweep rule) ended comes (sweep_rule_decides call known line m n gs has rule breaks ended);
+    sweep = sweep_ends;
+    sweep_narrow = λ line m n gs has keeps narrow.
+        comes_ends call Printed ended comes (narrow_sweep_decides call known line m n gs has keeps narrow ended);
+    limit_rule = λ line m n g has none.
+        comes_ends call (Sweep 81) ended comes (limit_rule_decides call known line m n g has none ended);
+    limited = λ line m n g has budget. comes_ends call Printed ended comes (limit_decides call known line m n g has budget ended);
     generated = λ line spelled is. comes_printed call ended comes (generated_decides call known line spelled is ended);
   }
 
@@ -224,6 +310,7 @@ ends_come call output Unbounded h = inl (h.text, h.means)
 ends_come call output Printed h = inl (h.text, h.means)
 ends_come call output Accepted h = inl (h.text, h.means)
 ends_come call output (Rejected place) h = inl (h.text, h.means)
+ends_come call output (TreeRejected number fault) h = inl (h.text, h.means)
 ends_come call output Words h = inl (h.text, h.means)
 ends_come call output Missing h = inl (h.text, h.means)
 ends_come call output TooLong h = inl (h.text, h.means)
@@ -231,9 +318,13 @@ ends_come call output (Model rule line) h = inl (h.text, h.means)
 ends_come call output (EmptySet weights) h = inl (h.text, h.means)
 ends_come call output (TooWide spot) h = inl (h.text, h.means)
 ends_come call output (WideNode path spot) h = inl (h.text, h.means)
+ends_come call output (WideBudget number spot) h = inl (h.text, h.means)
 ends_come call output (Cert rule line) h = inl (h.text, h.means)
 ends_come call output (Scenarios rule number) h = inl (h.text, h.means)
 ends_come call output (Whole rule) h = inl (h.text, h.means)
+ends_come call output NoRow h = inl (h.text, h.means)
+ends_come call output (TreeRule rule line) h = inl (h.text, h.means)
+ends_come call output (Sweep rule) h = inl (h.text, h.means)
 ends_come call output ReadFault h = inl (h.text, h.means)
 
 pub ends_complete : (call : Call) (output : Output) (ended : Ended) → Ends call output ended → IsComplete call ended

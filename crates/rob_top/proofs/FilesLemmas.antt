@@ -1,5 +1,5 @@
 -- What came of a command's files, from what came of each.
-use Rattle.std.proofs.Common.{◌≡◌, ◌≤◌, ◌==◌, ◌⊎◌, inl, inr, Bool, true, false, ℕ, ◌-◌, ◌^◌, List, [], ◌∷◌, ◌++◌, length, map, take, drop, append_assoc, slice_index_or, Option, Some, None, Result, Ok, Err, IfOk, IfSome, refl, sym, ◌∙◌, ap, subst, arith, Vec, Global}
+use Rattle.std.proofs.Common.{◌≡◌, ◌≤◌, ◌==◌, ◌⊎◌, inl, inr, Bool, true, false, ℕ, ◌-◌, List, [], ◌∷◌, ◌++◌, length, map, take, drop, append_assoc, slice_index_or, Option, Some, None, Result, Ok, Err, IfOk, IfSome, refl, sym, ◌∙◌, ap, subst, arith, Vec, Global}
 use Rattle.std.specs.Str.{bytes_eq}
 use Rattle.std.proofs.lemmas.Bool.Decides.{nat_tests}
 use Rattle.std.proofs.Math.Seq.{drop-append_seam, take-length}
@@ -13,9 +13,8 @@ use Rattle.rob_outside.specs.declared.shelf.Fetched.{Fetched}
 use Rattle.rob_top.specs.Calls.{Call, Came, Count, IsFoundIn, Request, Source, WasRaised, answer_to, behind, count, file_of, files_of, first_or, later, most_of, request_of, requests, source_of, with_first}
 use Rattle.rob_top.specs.Headline.{Means}
 use Rattle.rob_top.specs.Replies.{AreFound, Asks, AsksOnce, CameIn, IsAbsence, IsAbsentAmong, IsFetched, IsGot, IsNothing, text_of, with_file, with_text}
-use Rattle.rob_top.specs.Work.{IsShortFetch}
 use Rattle.rob_top.specs.declared.ended.Ended.{Ended}
-use Rattle.rob_top.specs.declared.ended.Ended.TheVariants.{Optimal, Infeasible, Unbounded, Printed, Accepted, Rejected, Words, Missing, TooLong, Model, EmptySet, TooWide, WideNode, Cert, Scenarios, Whole, ReadFault, WriteFault, Memory}
+use Rattle.rob_top.specs.declared.ended.Ended.TheVariants.{Optimal, Infeasible, Unbounded, Printed, Accepted, Rejected, Words, Missing, TooLong, Model, EmptySet, TooWide, WideNode, WideBudget, Cert, Scenarios, Whole, Sweep, Tree, TreeRejected, NoRow, ReadFault, WriteFault, Memory}
 use Rattle.rob_top.specs.declared.files.Files.{Files}
 use Rattle.rob_top.specs.declared.files.Files.TheVariants as files
 use Rattle.rob_top.specs.declared.files.Got.{Got}
@@ -28,7 +27,6 @@ use Rattle.rob_words.specs.Commands.{Line, IsSpelled}
 use Rattle.rob_words.specs.Values.{Word}
 use Rattle.rob_words.specs.contracts.verb.Own.{the_type}
 use Rattle.rob_words.specs.declared.verb.Own.{Own}
-use Rattle.rob_words.specs.declared.verb.Own.TheVariants as own
 
 -- an empty list has no first item
 pub empty_split : {A : Type 0} (xs : List A) (y : A) (ys : List A) → [] ≡ xs ++ y ∷ ys → ⊥
@@ -91,14 +89,19 @@ means_absent call line before request behind faults Unbounded text spelled order
 means_absent call line before request behind faults Printed text spelled order came raised h = absurd h
 means_absent call line before request behind faults Accepted text spelled order came raised h = absurd h
 means_absent call line before request behind faults (Rejected place) text spelled order came raised h = absurd h
+means_absent call line before request behind faults (TreeRejected number fault) text spelled order came raised h = absurd h
 means_absent call line before request behind faults Words text spelled order came raised h = absurd h
 means_absent call line before request behind faults (Model rule number) text spelled order came raised h = absurd h
 means_absent call line before request behind faults (EmptySet weights) text spelled order came raised h = absurd h
 means_absent call line before request behind faults (TooWide spot) text spelled order came raised h = absurd h
 means_absent call line before request behind faults (WideNode path spot) text spelled order came raised h = absurd h
+means_absent call line before request behind faults (WideBudget number spot) text spelled order came raised h = absurd h
 means_absent call line before request behind faults (Cert rule number) text spelled order came raised h = absurd h
 means_absent call line before request behind faults (Scenarios rule number) text spelled order came raised h = absurd h
 means_absent call line before request behind faults (Whole rule) text spelled order came raised h = absurd h
+means_absent call line before request behind faults NoRow text spelled order came raised h = absurd h
+means_absent call line before request behind faults (Tree rule number) text spelled order came raised h = absurd h
+means_absent call line before request behind faults (Sweep rule) text spelled order came raised h = absurd h
 means_absent call line before request behind faults WriteFault text spelled order came raised h = absurd h
 means_absent call line before request behind faults Memory text spelled order came raised h = absurd h
 
@@ -184,14 +187,19 @@ module _ (told : Option (List File)) (request : Request) (files : List Request) 
   absence_behind other earlier faults Printed text raised h = absurd h
   absence_behind other earlier faults Accepted text raised h = absurd h
   absence_behind other earlier faults (Rejected place) text raised h = absurd h
+  absence_behind other earlier faults (TreeRejected number fault) text raised h = absurd h
   absence_behind other earlier faults Words text raised h = absurd h
   absence_behind other earlier faults (Model rule number) text raised h = absurd h
   absence_behind other earlier faults (EmptySet weights) text raised h = absurd h
   absence_behind other earlier faults (TooWide spot) text raised h = absurd h
   absence_behind other earlier faults (WideNode path spot) text raised h = absurd h
+  absence_behind other earlier faults (WideBudget number spot) text raised h = absurd h
   absence_behind other earlier faults (Cert rule number) text raised h = absurd h
   absence_behind other earlier faults (Scenarios rule number) text raised h = absurd h
   absence_behind other earlier faults (Whole rule) text raised h = absurd h
+  absence_behind other earlier faults NoRow text raised h = absurd h
+  absence_behind other earlier faults (Tree rule number) text raised h = absurd h
+  absence_behind other earlier faults (Sweep rule) text raised h = absurd h
   absence_behind other earlier faults WriteFault text raised h = absurd h
   absence_behind other earlier faults Memory text raised h = absurd h
 
@@ -304,38 +312,6 @@ module _ (told later_told : Option (List File)) (same : later_told ≡ told) (ki
       (one_absent reply
       (subst (λ (t : Option (List File)). IsAbsentAmong (source_of t middle now) (files_of kinds names) (count between end) reply.ended reply.text) same h))
 
--- ---- texts are short
-
-pub none_short : (found_files : Files) → IsNothing found_files → IsShortFetch found_files
-none_short (files.Texts texts) none = record {
-  model = omega (arith, ap length none.0);
-  certificate = omega (arith, ap length none.1);
-  scenarios = omega (arith, ap length none.2);
-}
-none_short (files.Answer reply) none = absurd none
-
--- a file of a kind has at most 2^30 bytes
-few_bytes : (kind : Own) (most : ℕ) → most_of kind ≡ Some most → most ≤ 2 ^ 30
-few_bytes own.Model most bound = let e : 65536 ≡ most = cc in omega (arith, e)
-few_bytes own.Certificate most bound = let e : 4194304 ≡ most = cc in omega (arith, e)
-few_bytes own.Scenarios most bound = let e : 4194304 ≡ most = cc in omega (arith, e)
-few_bytes own.Number most bound = absurd (let no : None ≡ Some most = bound in cc)
-few_bytes own.Names most bound = absurd (let no : None ≡ Some most = bound in cc)
-
-short_with : (kind : Own) (bytes : Vec ℕ Global) (found_files : Files) → length bytes.items ≤ 2 ^ 30 → IsShortFetch found_files
-    → IsShortFetch (with_file kind bytes found_files)
-short_with own.Model bytes (files.Texts texts) few h = record { model = few; certificate = h.certificate; scenarios = h.scenarios }
-short_with own.Certificate bytes (files.Texts texts) few h = record { model = h.model; certificate = few; scenarios = h.scenarios }
-short_with own.Scenarios bytes (files.Texts texts) few h = record { model = h.model; certificate = h.certificate; scenarios = few }
-short_with own.Number bytes (files.Texts texts) few h = h
-short_with own.Names bytes (files.Texts texts) few h = h
-short_with kind bytes (files.Answer reply) few h = tt
-
-pub more_short : (kind : Own) (most : ℕ) → most_of kind ≡ Some most → (bytes : Vec ℕ Global) (found_files : Files)
-    → length bytes.items ≤ most → IsShortFetch found_files → IsShortFetch (with_file kind bytes found_files)
-more_short kind most bound bytes found_files few h =
-    short_with kind bytes found_files (omega (arith, few, few_bytes kind most bound)) h
-
 -- ---- the first of own words, and those behind it
 
 -- what is no number is none
@@ -353,43 +329,3 @@ split_first [] d some = absurd (omega (arith, some))
 split_first (x ∷ xs) d some =
     let behind_it : length (x ∷ xs) - 1 ≡ length xs = omega arith in
     ap (λ list. x ∷ list) (sym (ap (λ n. take n xs) behind_it ∙ take-length xs))
-
-module _ {A : Type 0} (text : A → Word) (kinds : List Own) (names : List A) (d : Own) (e : A) (name : Word) (some_kind : 1 ≤ length kinds)
-    (some_name : 1 ≤ length names) (name_is : name ≡ text (slice_index_or names 0 e)) where
-  abbrev kind : Own
-  kind = slice_index_or kinds 0 d
-
-  words-split : map text names ≡ name ∷ map text (others names)
-  words-split = ap (map text) (split_first names e some_name) ∙ ap (λ w. w ∷ map text (others names)) (sym name_is)
-
-  -- of the whole lists, where it is so of the first and the rest
-  whole_lists : (source : Source) (faults : Count) (found_files : Files) → IsFetched (kind ∷ others kinds) (name ∷ map text (others names)) source faults found_files
-      → IsFetched kinds (map text names) source faults found_files
-  whole_lists source faults found_files h =
-      subst (λ ks. IsFetched ks (map text names) source faults found_files) (sym (split_first kinds d some_kind))
-      (subst (λ ns. IsFetched (kind ∷ others kinds) ns source faults found_files) (sym words-split) h)
-
-  pub words_passed : {E : Type 0} → most_of (slice_index_or kinds 0 d) ≡ None → (source : Source) (faults : Count) (result : Result Files E)
-      → IfOk result (IsFetched (others kinds) (map text (others names)) source faults) → IfOk result (IsFetched kinds (map text names) source faults)
-  words_passed none source faults (Err error) h = tt
-  words_passed none source faults (Ok found_files) h =
-      whole_lists source faults found_files (passed_over kind none (others kinds) name (map text (others names)) source faults found_files h)
-
-  pub words_absent : (most : ℕ) → most_of (slice_index_or kinds 0 d) ≡ Some most → (source : Source) (faults : Count) (reply : Reply)
-      → IsAbsence source (record { place = 0; name = name; most = most }) faults reply.ended reply.text
-      → IsFetched kinds (map text names) source faults (files.Answer reply)
-  words_absent most bound source faults reply h =
-      whole_lists source faults (files.Answer reply)
-      (first_absent kind most bound (others kinds) name (map text (others names)) source faults reply h)
-
-  pub words_fetched : (most : ℕ) → most_of (slice_index_or kinds 0 d) ≡ Some most → (told later_told : Option (List File)) → later_told ≡ told → (before middle now : List Fetch)
-      → AsksOnce (record { place = 0; name = name; most = most }) before middle → Asks (files_of (others kinds) (map text (others names))) middle now
-      → (bytes : Vec ℕ Global) → IsFoundIn (source_of told before middle) (record { place = 0; name = name; most = most }) (whole bytes.items)
-      → (start between end : ℕ) → start ≤ between → (found_files result : Files)
-      → IsFetched (others kinds) (map text (others names)) (source_of later_told middle now) (count between end) found_files
-      → result ≡ with_file kind bytes found_files → IsFetched kinds (map text names) (source_of told before now) (count start end) result
-  words_fetched most bound told later_told same before middle now one rest bytes found start between end rose found_files result h is =
-      whole_lists (source_of told before now) (count start end) result
-      (subst (λ r. IsFetched (kind ∷ others kinds) (name ∷ map text (others names)) (source_of told before now) (count start end) r) (sym is)
-      (more_fetched told later_told same kind most bound (others kinds) name (map text (others names)) before middle now one rest bytes found
-      start between end rose found_files h))

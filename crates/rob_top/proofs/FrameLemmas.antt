@@ -1,5 +1,5 @@
 -- What a call answers, from what came of its files and what the work on them answers.
-use Rattle.std.proofs.Common.{◌≡◌, ◌≤◌, ◌^◌, ℕ, List, length, Some, Vec, Global, Result, Ok, Err, IfOk, ap, refl, subst, sym}
+use Rattle.std.proofs.Common.{◌≡◌, ◌≤◌, ◌^◌, ℕ, List, length, Some, Vec, Global, Result, Ok, Err, IfOk, ap, refl, subst, sym, map, string_bytes}
 use Rattle.rob_meaning.specs.Places.{Each}
 use Rattle.rob_number.specs.declared.memory.Memory.{Memory as Want}
 use Rattle.rob_outside.specs.Files.{whole}
@@ -26,7 +26,7 @@ use Rattle.rob_words.specs.declared.verb.Own.TheVariants as own
 -- the same files
 abbrev pub SameFiles : Texts → Texts → Type 0
 SameFiles texts with =
-    (with.model ≡ texts.model) × (with.certificate ≡ texts.certificate) × (with.scenarios ≡ texts.scenarios)
+    (with.model ≡ texts.model) × (with.certificate ≡ texts.certificate) × (with.scenarios ≡ texts.scenarios) × (with.tree ≡ texts.tree)
 
 text_kept : (kind : Own) (texts with : Texts) → SameFiles texts with → text_of kind with ≡ text_of kind texts
 text_kept own.Model texts with same = ap (λ (v : Vec ℕ Global). v.items) same.0
@@ -34,6 +34,11 @@ text_kept own.Certificate texts with same = ap (λ (v : Vec ℕ Global). v.items
 text_kept own.Scenarios texts with same = ap (λ (v : Vec ℕ Global). v.items) same.2
 text_kept own.Number texts with same = refl
 text_kept own.Names texts with same = refl
+text_kept own.Form texts with same = refl
+text_kept own.Tree texts with same = ap (λ (v : Vec ℕ Global). v.items) same.3
+text_kept own.Statement texts with same = refl
+text_kept own.Limit texts with same = refl
+text_kept own.Limits texts with same = refl
 
 -- so they are short enough
 pub short_kept : (texts with : Texts) → SameFiles texts with → IsShort texts → IsShort with
@@ -41,12 +46,21 @@ short_kept texts with same short = record {
   model = subst (λ (v : Vec ℕ Global). length v.items ≤ 2 ^ 30) (sym same.0) short.model;
   certificate = subst (λ (v : Vec ℕ Global). length v.items ≤ 2 ^ 30) (sym same.1) short.certificate;
   scenarios = subst (λ (v : Vec ℕ Global). length v.items ≤ 2 ^ 30) (sym same.2) short.scenarios;
+  tree = subst (λ (v : Vec ℕ Global). length v.items ≤ 2 ^ 30) (sym same.3) short.tree;
 }
 
 module _ (line : CommandLine) (source : Source) (faults wides : Count) where
   -- the list of names is the line's
   abbrev pub TakesNames : Texts → Type 0
   TakesNames with = (word : Word) → word_of own.Names (own_of line.verb) (line_of line).own ≡ Some word → with.names.items ≡ word
+
+  -- and its form's name
+  abbrev pub TakesForm : Texts → Type 0
+  TakesForm with = (word : Word) → word_of own.Form (own_of line.verb) (line_of line).own ≡ Some word → with.form.items ≡ word
+
+  -- and so are its own words
+  abbrev pub TakesWords : Texts → Type 0
+  TakesWords with = map string_bytes with.words.items ≡ (line_of line).own
 
   -- the reply answers each call of the line
   abbrev pub AnswersLine : Reply → Type 0
@@ -57,13 +71,13 @@ module _ (line : CommandLine) (source : Source) (faults wides : Count) where
   abbrev LineFetched : Files → Type 0
   LineFetched files = IsFetched (own_of line.verb) (line_of line).own source faults files
 
-  -- the files came, and the work on them, with the line's list of names, answers
+  -- the files came, and the work on them, with the line's list of names and its form's name, answers
   pub texts_answer : (files : Files) (texts with : Texts) (r : Result Reply Want) → files ≡ fetch.Texts texts → LineFetched files
-      → SameFiles texts with → TakesNames with
+      → SameFiles texts with → TakesNames with → TakesForm with → TakesWords with
       → IfOk r (λ reply. (call : Call) → HasTexts call (line_of line) with → call.wides ≡ wides → Means call reply.ended reply.text)
       → IfOk r AnswersLine
-  texts_answer files texts with (Err want) e came same names h = tt
-  texts_answer files texts with (Ok reply) e came same names h = λ call spelled source_is faults_is wides_is.
+  texts_answer files texts with (Err want) e came same names form words h = tt
+  texts_answer files texts with (Ok reply) e came same names form words h = λ call spelled source_is faults_is wides_is.
       let found : AreFound source (own_of line.verb) (line_of line).own texts = subst (λ (f : Files). LineFetched f) e came in
       h call
       (record {
@@ -73,6 +87,8 @@ module _ (line : CommandLine) (source : Source) (faults wides : Count) where
             subst (λ (s : Source). IsFoundIn s r (whole (text_of kind with))) (sym source_is)
             (subst (λ (text : List ℕ). IsFoundIn source r (whole text)) (sym (text_kept kind texts with same)) (found.found kind r named));
         names = names;
+        form = form;
+        words = words;
       })
       wides_is
 

@@ -2,7 +2,7 @@
 use Rattle.std.proofs.Common.{◌≡◌, ℕ, List, Result, Ok, Err, IfOk, inl, inr, ◌⊎◌, sym, subst}
 use Rattle.rob_number.specs.declared.memory.Memory.{Memory as Want}
 use Rattle.rob_top.specs.Calls.{Call, Count, Known}
-use Rattle.rob_top.specs.Headline.{Means}
+use Rattle.rob_top.specs.Headline.{Means, generated}
 use Rattle.rob_top.specs.Replies.{HasTexts}
 use Rattle.rob_top.specs.Work.{RepliesGenerated}
 use Rattle.rob_top.specs.declared.ended.Ended.{Ended}
@@ -19,14 +19,14 @@ pub generated_answers : (line : Line) (texts : Texts) (wides : Count) (r : Resul
 generated_answers line texts wides (Err want) is h = tt
 generated_answers line texts wides (Ok reply) is h = λ call came wides_is.
     subst (λ (ended : Ended). Means call ended reply.text) (sym h.2.0)
-    (inr (inr (record {
+    (generated (record {
       line = line;
       spelled = came.spelled;
       is_text = is;
       number = h.0;
       told = h.1;
       printed = h.2.1;
-    })))
+    }))
 
 -- ---- no other may come
 module _ (call : Call) (known : Known call.source) (line : Line) (spelled : IsSpelled call.words line) (is_text : line.verb ≡ Text) where

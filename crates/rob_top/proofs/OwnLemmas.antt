@@ -11,9 +11,9 @@ use Rattle.rob_words.specs.Verbs.{own_of}
 use Rattle.rob_words.specs.contracts.verb.Own.{the_type}
 use Rattle.rob_words.specs.contracts.verb.Verb.{enum, the_type as verb_type}
 use Rattle.rob_words.specs.declared.verb.Own.{Own}
-use Rattle.rob_words.specs.declared.verb.Own.TheVariants.{Model, Certificate, Scenarios, Number, Names}
+use Rattle.rob_words.specs.declared.verb.Own.TheVariants.{Model, Certificate, Scenarios, Number, Names, Statement, Limit, Limits, Tree, Form}
 use Rattle.rob_words.specs.declared.verb.Verb.{Verb}
-use Rattle.rob_words.specs.declared.verb.Verb.TheVariants.{Text}
+use Rattle.rob_words.specs.declared.verb.Verb.TheVariants.{Text, Worst}
 use Rattle.rob_words.proofs.EachValue.{each_value}
 
 -- ---- facts of the table of commands
@@ -24,7 +24,7 @@ has_kind kind [] = false
 has_kind kind (other ∷ kinds) = sameb the_type other kind || has_kind kind kinds
 
 -- one of two tests holds, and the first doesn't
-second_of : (a b : Bool) → (a || b) ≡ true → a ≡ false → b ≡ true
+pub second_of : (a b : Bool) → (a || b) ≡ true → a ≡ false → b ≡ true
 second_of true b h unmet = absurd (search (unmet, rules))
 second_of false b h unmet = h
 
@@ -43,6 +43,10 @@ is_naming v = not (branches v) || has_kind Names (own_of v)
 pub has_names : (verb : Verb) → IsBranching verb → has_kind Names (own_of verb) ≡ true
 has_names verb is =
     second_of (not (branches verb)) (has_kind Names (own_of verb)) (each_value enum is_naming refl verb) (ap not is)
+
+-- `worst` has the name of a form
+pub has_form : (verb : Verb) → verb ≡ Worst → has_kind Form (own_of verb) ≡ true
+has_form verb is = ap (λ (v : Verb). has_kind Form (own_of v)) is
 
 -- one that reads none is `text`
 abbrev is_read : Verb → Bool
@@ -127,6 +131,11 @@ text_of-same Certificate most bound bytes texts = refl
 text_of-same Scenarios most bound bytes texts = refl
 text_of-same Number most bound bytes texts = absurd (let no : None ≡ Some most = bound in cc)
 text_of-same Names most bound bytes texts = absurd (let no : None ≡ Some most = bound in cc)
+text_of-same Form most bound bytes texts = absurd (let no : None ≡ Some most = bound in cc)
+text_of-same Tree most bound bytes texts = refl
+text_of-same Statement most bound bytes texts = absurd (let no : None ≡ Some most = bound in cc)
+text_of-same Limit most bound bytes texts = absurd (let no : None ≡ Some most = bound in cc)
+text_of-same Limits most bound bytes texts = absurd (let no : None ≡ Some most = bound in cc)
 
 pub text_of-other : (kind other : Own) (bytes : Vec ℕ Global) (texts : Texts) → sameb the_type kind other ≡ false
     → text_of other (with_text kind bytes texts) ≡ text_of other texts
@@ -147,3 +156,32 @@ text_of-other Names other bytes texts apart = refl
 text_of-other Model Names bytes texts apart = refl
 text_of-other Certificate Names bytes texts apart = refl
 text_of-other Scenarios Names bytes texts apart = refl
+text_of-other Form other bytes texts apart = refl
+text_of-other Model Form bytes texts apart = refl
+text_of-other Certificate Form bytes texts apart = refl
+text_of-other Scenarios Form bytes texts apart = refl
+text_of-other Tree Model bytes texts apart = refl
+text_of-other Tree Certificate bytes texts apart = refl
+text_of-other Tree Scenarios bytes texts apart = refl
+text_of-other Tree Number bytes texts apart = refl
+text_of-other Tree Names bytes texts apart = refl
+text_of-other Tree Form bytes texts apart = refl
+text_of-other Tree Statement bytes texts apart = refl
+text_of-other Tree Limit bytes texts apart = refl
+text_of-other Tree Limits bytes texts apart = refl
+text_of-other Tree Tree bytes texts apart = absurd (search (apart, rules))
+text_of-other Model Tree bytes texts apart = refl
+text_of-other Certificate Tree bytes texts apart = refl
+text_of-other Scenarios Tree bytes texts apart = refl
+text_of-other Statement other bytes texts apart = refl
+text_of-other Model Statement bytes texts apart = refl
+text_of-other Certificate Statement bytes texts apart = refl
+text_of-other Scenarios Statement bytes texts apart = refl
+text_of-other Limit other bytes texts apart = refl
+text_of-other Model Limit bytes texts apart = refl
+text_of-other Certificate Limit bytes texts apart = refl
+text_of-other Scenarios Limit bytes texts apart = refl
+text_of-other Limits other bytes texts apart = refl
+text_of-other Model Limits bytes texts apart = refl
+text_of-other Certificate Limits bytes texts apart = refl
+text_of-other Scenarios Limits bytes texts apart = refl

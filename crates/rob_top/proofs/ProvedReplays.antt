@@ -4,10 +4,13 @@ use Rattle.rob_meaning.specs.Certificates.{Certificate, Status, infeasible}
 use Rattle.rob_meaning.specs.Places.{Each}
 use Rattle.rob_meaning.specs.RobustModel.{RobustModel}
 use Rattle.rob_replay.specs.Replayed.{ShowsBound}
-use Rattle.rob_top.proofs.CommandLemmas.{check_not_replay}
+use Rattle.rob_top.proofs.CommandLemmas.{check_not_replay, replay_not_worst}
 use Rattle.rob_top.proofs.CompletenessLemmas.{printed_fits, printed_text}
-use Rattle.rob_top.proofs.KnownLemmas.{known_again, means_known, scenarios_known}
+use Rattle.rob_top.proofs.CourseLemmas.{unplanned_verb}
+use Rattle.rob_top.proofs.KnownInputs.{known_again, scenarios_known}
+use Rattle.rob_top.proofs.KnownLemmas.{means_known}
 use Rattle.rob_top.proofs.ReplayAnswerLemmas.{no_breach, one_certificate, proved_shows}
+use Rattle.rob_top.proofs.SoughtLemmas.{forms_unplanned}
 use Rattle.rob_top.proofs.StageLemmas.{lacking_model, one_model_read}
 use Rattle.rob_top.specs.Calls.{Call, Known, known_call}
 use Rattle.rob_top.specs.Headline.{Means}
@@ -17,7 +20,7 @@ use Rattle.rob_top.specs.Solved.{IsSolved}
 use Rattle.rob_top.specs.declared.ended.Ended.TheVariants.{Cert}
 use Rattle.rob_words.proofs.Spellings.{one_line}
 use Rattle.rob_words.specs.Commands.{Line, IsSpelled}
-use Rattle.rob_words.specs.declared.verb.Verb.TheVariants.{Check, Prove}
+use Rattle.rob_words.specs.declared.verb.Verb.TheVariants.{Check, Prove, Worst}
 
 module _ (proving replaying : Call) (status : Status) (text : List ℕ) (solved : IsSolved proving status text)
     (is_prove : solved.line.verb ≡ Prove) (known : Known replaying.source) (line : Line) (width : line.width ≡ solved.line.width)
@@ -83,4 +86,10 @@ module _ (proving replaying : Call) (status : Status) (text : List ℕ) (solved 
           absurd
           (check_not_replay line.verb
           (subst (λ (l : Line). l.verb ≡ Check) (line_here h.line h.file.forms.model.spelled) h.file.is_check) file.is_replay)
-      by (inr h) = lack_says rule number (lacks_here rule number h.line h.m h.lacks)
+      by (inr (inl h)) = lack_says rule number (lacks_here rule number h.line h.m h.lacks)
+      by (inr (inr h)) =
+          let forms = forms_unplanned told h.line h.m rule number h.gives_none in
+          absurd
+          (replay_not_worst line.verb file.is_replay
+          (subst (λ (l : Line). l.verb ≡ Worst) (line_here h.line forms.model.spelled)
+          (unplanned_verb told h.line h.m rule number h.gives_none)))

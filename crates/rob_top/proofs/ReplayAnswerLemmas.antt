@@ -19,8 +19,8 @@ use Rattle.rob_replay.proofs.OneFileLemmas.{one_file}
 use Rattle.rob_replay.specs.Files.{IsFile}
 use Rattle.rob_replay.specs.Outcome.{outcome}
 use Rattle.rob_replay.specs.Replayed.{ShowsBound}
-use Rattle.rob_top.proofs.CommandLemmas.{check_not_replay, replay_no_branch, replays_alone, rows_not_replay, solves_no_replay}
-use Rattle.rob_top.proofs.CourseLemmas.{Course, branching, finds, judges, lacks_plan, prints, refuses, replays, shows_empty, wide_number, wide_row}
+use Rattle.rob_top.proofs.CommandLemmas.{check_not_replay, narrow_not_replay, replay_no_branch, replay_no_sweep, replay_not_tree, replay_not_worst, replays_alone, rows_not_replay, solves_no_replay}
+use Rattle.rob_top.proofs.CourseLemmas.{Course, bounds, branching, checking_tree, finds, judges, lacks_plan, prints, refuses, replays, searches, shows_empty, sweeping, wide_number, wide_row}
 use Rattle.rob_top.proofs.SolvingLemmas.{proved_bound}
 use Rattle.rob_top.proofs.StageLemmas.{file_once, lacking_model}
 use Rattle.rob_top.proofs.TrueAnswerLemmas.{course_of, first_of_two, in_words, lacking_verb, most, named, well}
@@ -114,6 +114,10 @@ module _ (call : Call) (known : Known call.source) (line : Line) (m : RobustMode
       by (replays d list others h other e) = e ∙ same_records c d bytes list rows others has h file other
       by (lacks_plan rule number h e) = absurd (lacks_no_plan rule number c bytes h has)
       by (branching is course) = absurd (replay_no_branch line.verb here is)
+      by (searches is course) = absurd (replay_not_worst line.verb here is)
+      by (checking_tree is course) = absurd (replay_not_tree line.verb here is)
+      by (sweeping is course) = absurd (replay_no_sweep line.verb here is)
+      by (bounds forms is e) = absurd (narrow_not_replay line.verb is here)
 
   pub planless_decides : (rule number : ℕ) → LacksPlan call line m rule number → (ended : Ended) (text : List ℕ) → Means call ended text
       → (ended ≡ Cert rule number) ⊎ ((ended ≡ ReadFault) ⊎ (ended ≡ Memory))
@@ -135,9 +139,13 @@ module _ (call : Call) (known : Known call.source) (line : Line) (m : RobustMode
           let one = one_lack rule number r n has h in
           e ∙ ap (λ k. Cert k n) one.0 ∙ ap (λ k. Cert rule k) one.1
       by (branching is course) = absurd (replay_no_branch line.verb here is)
+      by (searches is course) = absurd (replay_not_worst line.verb here is)
+      by (checking_tree is course) = absurd (replay_not_tree line.verb here is)
+      by (sweeping is course) = absurd (replay_no_sweep line.verb here is)
+      by (bounds forms is e) = absurd (narrow_not_replay line.verb is here)
 
 -- ---- the plan of a certificate that proves has its bound, and each inside line of its table shows it
-model_read : (call : Call) (line : Line) (m : RobustModel) → HasModel call line m → IsModel m
+pub model_read : (call : Call) (line : Line) (m : RobustModel) → HasModel call line m → IsModel m
 model_read call line m has =
     well_formed (limit_of line) has.bytes m has.reads (subst (λ (l : ℕ). 1 ≤ l) (limit_is line.width) (limit_low (bits_of line.width)))
 

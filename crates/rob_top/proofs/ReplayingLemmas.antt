@@ -26,7 +26,7 @@ use Rattle.rob_report.specs.Spots.{too_wide_line}
 use Rattle.rob_report.specs.Tables.{table_of}
 use Rattle.rob_top.specs.Answers.{certificate_text, scenarios_text}
 use Rattle.rob_top.specs.Calls.{Count, HasFile, count}
-use Rattle.rob_top.specs.Headline.{Means}
+use Rattle.rob_top.specs.Headline.{Means, replayed}
 use Rattle.rob_top.specs.Refused.{replaying}
 use Rattle.rob_top.specs.Replayed.{planless, unread}
 use Rattle.rob_top.specs.Replies.{Replies}
@@ -61,7 +61,7 @@ module _ (limit : ℕ) (m : RobustModel) where
     table_answers wides lines (Err want) table gives bounded is = tt
     table_answers wides lines (Ok reply) table gives bounded is = λ call line at has.
         subst (λ (ended : Ended). Means call ended reply.text) (sym is.0)
-        (inr (inl (record {
+        (replayed (record {
           line = line;
           m = m;
           c = c;
@@ -75,7 +75,7 @@ module _ (limit : ℕ) (m : RobustModel) where
               (ap (λ (rows : List (List (List ℕ))). outcome limit m c.plan rows) (one_file text table.0 gives.0 table.1 gives.1) ∙ gives.2);
           bounded = bounded;
           printed = is.1;
-        })))
+        }))
 
     pub record_answers : (wides : Count) (rule number : ℕ) (r : Result Reply Want) → Gives (outcome limit m c.plan) text (Err (breaks rule number))
         → IfOk r (Replies (Scenarios rule number) (scenarios_text rule number)) → IfOk r (AnswersScenarios limit wides m c text)
@@ -112,7 +112,7 @@ module _ (limit : ℕ) (m : RobustModel) where
     planless_answers wides (Err want) none is = tt
     planless_answers wides (Ok reply) none is = λ call line at read file.
         subst (λ (ended : Ended). Means call ended reply.text) (sym is.0)
-        (inr (record { line = line; m = m; lacks = planless c read none refl refl; printed = is.1 }))
+        (inr (inl (record { line = line; m = m; lacks = planless c read none refl refl; printed = is.1 })))
 
     pub plan_answers : (wides : Count) (r : Result Reply Want) → c.status ≢ infeasible → IfOk r (AnswersScenarios limit wides m c text)
         → IfOk r (AnswersPlan limit wides m c text)
@@ -126,12 +126,12 @@ module _ (limit : ℕ) (m : RobustModel) where
   unread_answers wides certificate text rule number (Err want) broken is = tt
   unread_answers wides certificate text rule number (Ok reply) broken is = λ call line at file scenarios.
       subst (λ (ended : Ended). Means call ended reply.text) (sym is.0)
-      (inr (record {
+      (inr (inl (record {
         line = line;
         m = m;
         lacks = unread certificate file (subst (λ (l : ℕ). HasCause (naming_of m) l start certificate 1 (Rule rule number)) (sym at.limit_is) broken);
         printed = is.1;
-      }))
+      })))
 
   pub read_answers : (before middle now : ℕ) (certificate text : List ℕ) (c : Certificate) (r : Result Reply Want) → before ≤ middle
       → IsTextOf m c certificate → FitsLines limit m c → IfOk r (AnswersPlan limit (count middle now) m c text)

@@ -14,13 +14,12 @@ use Rattle.rob_reach.specs.Verdicts.{Shows, leaf_at}
 use Rattle.rob_reach.specs.WholeStatus.{IsWholeOn}
 use Rattle.rob_tree.proofs.SpelledLemmas.{tree_spelled}
 use Rattle.rob_tree.specs.Shape.{IsTreeOf}
-use Rattle.rob_tree.specs.TreeText.{IsSpelledWith}
+use Rattle.rob_tree.specs.TreeText.{IsSpelledWith, tree_text}
 use Rattle.rob_top.proofs.NodeLemmas.{leaf_has, leaf_here, leaf_some, leaf_within}
 use Rattle.rob_top.proofs.SolvingLemmas.{proved_bound}
 use Rattle.rob_number.specs.declared.memory.Memory.{Memory as Want}
 use Rattle.rob_report.specs.Lines.{line}
 use Rattle.rob_report.specs.Report.{report_of}
-use Rattle.rob_tree.specs.TreeText.{tree_text}
 use Rattle.rob_top.specs.Branched.{IsPlanText, IsPrintedTree, IsReport, IsShownBy, nodes_line}
 use Rattle.rob_words.specs.declared.verb.Verb.{Verb}
 use Rattle.rob_words.specs.declared.verb.Verb.TheVariants.{Whole, Tree as TreeVerb}

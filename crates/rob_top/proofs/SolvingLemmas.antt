@@ -50,7 +50,8 @@ use Rattle.rob_top.specs.Inputs.{HasForms}
 use Rattle.rob_top.specs.Refused.{solving}
 use Rattle.rob_top.specs.Replies.{Replies}
 use Rattle.rob_top.specs.Solved.{IsKept, IsPrinted, IsSolved}
-use Rattle.rob_top.specs.Work.{AnswersForms, IsStopOf, RepliesStop, ended_of}
+use Rattle.rob_top.specs.Work.{AnswersForms, ended_of}
+use Rattle.rob_top.specs.Refusing.{IsStopOf, RepliesStop}
 use Rattle.rob_top.specs.declared.ended.Ended.{Ended}
 use Rattle.rob_top.specs.declared.reply.Reply.{Reply}
 use Rattle.rob_words.specs.Commands.{Line}

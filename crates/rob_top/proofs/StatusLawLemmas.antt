@@ -11,7 +11,7 @@ use Rattle.rob_top.proofs.TrueAnswerLemmas.{solve_decides}
 use Rattle.rob_top.proofs.WholeAnswerLemmas.{same_whole_status, whole_decides}
 use Rattle.rob_top.specs.Branched.{IsBranched}
 use Rattle.rob_top.specs.Calls.{Call, Known}
-use Rattle.rob_top.specs.Completeness.{IsSolveAnswer, IsWholeAnswer}
+use Rattle.rob_top.specs.Endings.{IsSolveAnswer, IsWholeAnswer}
 use Rattle.rob_top.specs.Headline.{Means}
 use Rattle.rob_top.specs.Solved.{IsSolved}
 use Rattle.rob_top.specs.Work.{ended_of}

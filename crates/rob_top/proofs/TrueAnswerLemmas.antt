@@ -34,15 +34,15 @@ use Rattle.rob_sets.specs.FirstWide.{IsFirstWide, IsWideThere, Judged, NothingWi
 use Rattle.rob_sets.specs.SetForm.{judged_set}
 use Rattle.rob_cert.proofs.OneBreach.{one_cause}
 use Rattle.rob_top.proofs.CertificateNameLemmas.{named_in_words}
-use Rattle.rob_top.proofs.CommandLemmas.{check_no_branch, check_not_replay, makes_no_branch, not_rows, replays_alone, rows_no_branch, rows_not_replay, solves_no_branch, solves_no_check, solves_no_replay, solves_no_rows}
-use Rattle.rob_top.proofs.CourseLemmas.{Course, branching, course_at, finds, judges, lacks_plan, prints, refuses, replays, shows_empty, wide_number, wide_row}
+use Rattle.rob_top.proofs.CommandLemmas.{check_no_branch, check_no_sweep, check_not_replay, check_not_tree, check_not_worst, makes_no_branch, narrow_not_check, narrow_not_rows, makes_no_sweep, makes_no_tree, not_rows, replays_alone, rows_no_branch, rows_no_sweep, rows_not_replay, rows_not_tree, rows_not_worst, solves_no_branch, solves_no_sweep, solves_no_check, solves_no_narrow, solves_no_replay, solves_no_rows, solves_no_tree, solves_no_worst}
+use Rattle.rob_top.proofs.CourseLemmas.{Course, bounds, branching, checking_tree, course_at, finds, judges, lacks_plan, prints, refuses, replays, searches, shows_empty, sweeping, wide_number, wide_row, worst_forms}
 use Rattle.rob_top.proofs.StageLemmas.{Stage, absent, broken, broken_here, failed, file_once, found_once, generates, none_absent, one_model_read, over, read, same_status, stage_of, text_here, text_none_absent, wanting, wordless}
 use Rattle.rob_top.proofs.WorkLemmas.{limit_is}
 use Rattle.rob_top.specs.Calls.{Call, Came, HasFile, IsElaborating, IsFirstAbsent, IsFound, IsSolving, Known, Request, limit_of, requests}
 use Rattle.rob_top.specs.Headline.{Means}
 use Rattle.rob_top.specs.Inputs.{HasCertificate, HasCertificateFile, HasForms, HasModel}
 use Rattle.rob_top.specs.Replayed.{LacksPlan, planless, unread}
-use Rattle.rob_top.specs.Completeness.{IsEmptyAnswer, IsSolveAnswer}
+use Rattle.rob_top.specs.Endings.{IsEmptyAnswer, IsSolveAnswer}
 use Rattle.rob_top.specs.Work.{ended_of, verdict_ended}
 use Rattle.rob_top.specs.declared.ended.Ended.{Ended}
 use Rattle.rob_top.specs.declared.ended.Ended.TheVariants.{Printed, Missing, TooLong, EmptySet, TooWide, Cert, ReadFault, Memory}
@@ -179,6 +179,10 @@ module _ (call : Call) (known : Known call.source) where
         by (replays c bytes rows h file e) = absurd (replays_alone line.verb h.certificate.file.is_replay makes)
         by (lacks_plan rule number h e) = absurd (replays_alone line.verb (lacking_verb call line m rule number h) makes)
         by (branching is course) = absurd (makes_no_branch line.verb makes is)
+        by (searches is course) = absurd (no_forms (worst_forms call line m ended course))
+        by (checking_tree is course) = absurd (makes_no_tree line.verb is makes)
+        by (sweeping is course) = absurd (makes_no_sweep line.verb makes is)
+        by (bounds forms is e) = absurd (no_forms forms)
 
     -- ---- none is
     pub no_first : HasForms call line m → (spot : Spot) → IsFirstWide (limit_of line) m (judged_set m ++ judged_forms m) spot → ⊥
@@ -199,6 +203,10 @@ module _ (call : Call) (known : Known call.source) where
         by (replays c bytes rows h file e) = absurd (rows_not_replay line.verb is_rows h.certificate.file.is_replay)
         by (lacks_plan rule number h e) = absurd (rows_not_replay line.verb is_rows (lacking_verb call line m rule number h))
         by (branching took course) = absurd (rows_no_branch line.verb is_rows took)
+        by (searches is course) = absurd (rows_not_worst line.verb is_rows is)
+        by (checking_tree took course) = absurd (rows_not_tree line.verb is_rows took)
+        by (sweeping took course) = absurd (rows_no_sweep line.verb is_rows took)
+        by (bounds forms is e) = absurd (narrow_not_rows line.verb is is_rows)
 
     -- ---- `solve` and `prove`
     status_answer : (status : Status) (v : Fraction) → HasStatus m status v → IsSolveAnswer (limit_of line) m (ended_of status)
@@ -223,6 +231,10 @@ module _ (call : Call) (known : Known call.source) where
         by (replays c bytes rows h file e) = absurd (solves_no_replay line.verb h.certificate.file.is_replay is_solving)
         by (lacks_plan rule number h e) = absurd (solves_no_replay line.verb (lacking_verb call line m rule number h) is_solving)
         by (branching is course) = absurd (solves_no_branch line.verb is_solving is)
+        by (searches is course) = absurd (solves_no_worst line.verb is is_solving)
+        by (checking_tree is course) = absurd (solves_no_tree line.verb is is_solving)
+        by (sweeping is course) = absurd (solves_no_sweep line.verb is_solving is)
+        by (bounds forms is e) = absurd (solves_no_narrow line.verb is is_solving)
 
         all : Course call line m ended ⊎ ((ended ≡ ReadFault) ⊎ (ended ≡ Memory)) → IsSolveAnswer (limit_of line) m ended
         all (inl course) = by course
@@ -260,6 +272,10 @@ module _ (call : Call) (known : Known call.source) where
         by (replays c bytes rows h file e) = absurd (solves_no_replay line.verb h.certificate.file.is_replay is_solving)
         by (lacks_plan rule number h e) = absurd (solves_no_replay line.verb (lacking_verb call line m rule number h) is_solving)
         by (branching is course) = absurd (solves_no_branch line.verb is_solving is)
+        by (searches is course) = absurd (solves_no_worst line.verb is is_solving)
+        by (checking_tree is course) = absurd (solves_no_tree line.verb is is_solving)
+        by (sweeping is course) = absurd (solves_no_sweep line.verb is_solving is)
+        by (bounds forms is e) = absurd (solves_no_narrow line.verb is is_solving)
 
         all : Course call line m ended ⊎ ((ended ≡ ReadFault) ⊎ (ended ≡ Memory)) → IsEmptyAnswer (limit_of line) m ended
         all (inl course) = by course
@@ -282,6 +298,10 @@ module _ (call : Call) (known : Known call.source) where
         by (replays c bytes rows h file e) = absurd (solves_no_replay line.verb h.certificate.file.is_replay is_solving)
         by (lacks_plan rule number h e) = absurd (solves_no_replay line.verb (lacking_verb call line m rule number h) is_solving)
         by (branching is course) = absurd (solves_no_branch line.verb is_solving is)
+        by (searches is course) = absurd (solves_no_worst line.verb is is_solving)
+        by (checking_tree is course) = absurd (solves_no_tree line.verb is is_solving)
+        by (sweeping is course) = absurd (solves_no_sweep line.verb is_solving is)
+        by (bounds forms is e) = absurd (solves_no_narrow line.verb is is_solving)
 
     -- ---- `check`
     same_file : (bytes other : List ℕ) → HasCertificateFile call line m bytes → HasCertificateFile call line m other → bytes ≡ other
@@ -335,6 +355,10 @@ module _ (call : Call) (known : Known call.source) where
         by (replays d bytes rows h file e) = absurd (check_not_replay line.verb has.file.is_check h.certificate.file.is_replay)
         by (lacks_plan rule number h e) = absurd (check_not_replay line.verb has.file.is_check (lacking_verb call line m rule number h))
         by (branching is course) = absurd (check_no_branch line.verb has.file.is_check is)
+        by (searches is course) = absurd (check_not_worst line.verb has.file.is_check is)
+        by (checking_tree is course) = absurd (check_not_tree line.verb has.file.is_check is)
+        by (sweeping is course) = absurd (check_no_sweep line.verb has.file.is_check is)
+        by (bounds forms is e) = absurd (narrow_not_check line.verb is has.file.is_check)
 
     pub rule_decides : (bytes : List ℕ) (rule number : ℕ) → HasCertificateFile call line m bytes → HasCause (naming_of m) (limit_of line) start bytes 1 (Rule rule number)
         → (ended : Ended) (text : List ℕ) → Means call ended text → (ended ≡ Cert rule number) ⊎ ((ended ≡ ReadFault) ⊎ (ended ≡ Memory))
@@ -362,3 +386,7 @@ module _ (call : Call) (known : Known call.source) where
         by (replays d list rows h file e) = absurd (check_not_replay line.verb has.is_check h.certificate.file.is_replay)
         by (lacks_plan r n h e) = absurd (check_not_replay line.verb has.is_check (lacking_verb call line m r n h))
         by (branching is course) = absurd (check_no_branch line.verb has.is_check is)
+        by (searches is course) = absurd (check_not_worst line.verb has.is_check is)
+        by (checking_tree is course) = absurd (check_not_tree line.verb has.is_check is)
+        by (sweeping is course) = absurd (check_no_sweep line.verb has.is_check is)
+        by (bounds forms is e) = absurd (narrow_not_check line.verb is has.is_check)

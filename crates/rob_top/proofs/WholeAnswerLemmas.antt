@@ -1,7 +1,7 @@
 -- Which answer has to come at `whole` and `tree`, where what is known of the files decides.
 use Rattle.std.proofs.Common.{◌≡◌, ℕ, pos, List, [], ◌∷◌, map, Some, None, inl, inr, refl, sym, ◌∙◌, ap, subst, ◌⊎◌}
 use Rattle.rob_algebra.specs.Fraction.{Fraction, of_int}
-use Rattle.rob_dualize.specs.Models.{IsWideIn}
+use Rattle.rob_dualize.specs.Models.{IsWideIn, IsWritten}
 use Rattle.rob_dualize.specs.Solving.{IsWideOnPath}
 use Rattle.rob_meaning.specs.Certificates.{Status, optimal, infeasible, unbounded}
 use Rattle.rob_meaning.specs.RobustModel.{RobustModel}
@@ -17,14 +17,14 @@ use Rattle.rob_reach.specs.WholeStatus.{HasWholeStatus}
 use Rattle.rob_reach_ends.proofs.EndingLemmas.{whole_status}
 use Rattle.rob_tree.specs.View.{branch_of}
 use Rattle.rob_tree.specs.declared.tree.Branch as declared
-use Rattle.rob_top.proofs.CommandLemmas.{check_no_branch, makes_no_branch, replay_no_branch, rows_no_branch, solves_no_branch}
+use Rattle.rob_top.proofs.CommandLemmas.{branches_no_sweep, check_no_branch, makes_no_branch, narrow_no_branch, replay_no_branch, rows_no_branch, solves_no_branch, tree_no_branch, worst_no_branch}
 use Rattle.rob_top.proofs.BranchingLemmas.{kept_bounds}
-use Rattle.rob_top.proofs.CourseLemmas.{Course, WholeCourse, branching, breaks, finds, grows, inside_admitted, judges, lacks_plan, prints, refuses, replays, shows_empty, shows_none, wide_box, wide_number, wide_row}
+use Rattle.rob_top.proofs.CourseLemmas.{Course, WholeCourse, bounds, branching, breaks, checking_tree, finds, grows, inside_admitted, judges, lacks_plan, prints, refuses, replays, searches, shows_empty, shows_none, sweeping, wide_box, wide_number, wide_row}
 use Rattle.rob_top.proofs.NumberingLemmas.{one_numbering}
 use Rattle.rob_top.proofs.TrueAnswerLemmas.{course_of, first_of_two, lacking_verb, named, well}
 use Rattle.rob_top.specs.Branched.{BreaksWhole, no_ranges, no_variables}
 use Rattle.rob_top.specs.Calls.{Call, IsBranching, Known, limit_of}
-use Rattle.rob_top.specs.Completeness.{IsEmptyWholeAnswer, IsNarrowBelow, IsWholeAnswer, IsWideBefore, admitting, writing as before_writing}
+use Rattle.rob_top.specs.Endings.{admitting, writing as before_writing, IsEmptyWholeAnswer, IsNarrowBelow, IsWholeAnswer, IsWideBefore}
 use Rattle.rob_top.specs.Headline.{Means}
 use Rattle.rob_top.specs.Inputs.{AreVariables, HasModel, HasVariables, HasWholeVariables, TellsNames}
 use Rattle.rob_top.specs.Work.{ended_of}
@@ -76,7 +76,7 @@ module _ (call : Call) (known : Known call.source) (line : Line) (m : RobustMode
   named_not names numbers told none h =
       none numbers (subst (λ (list : List Word). AreVariables m list numbers) (one_list line h.names names h.told told) h.variables)
 
-  one_rule : (rule other : ℕ) → BreaksWhole call line m rule → BreaksWhole call line m other → rule ≡ other
+  pub one_rule : (rule other : ℕ) → BreaksWhole call line m rule → BreaksWhole call line m other → rule ≡ other
   one_rule rule other (no_variables names has told none e) (no_variables list has_too told_too none_too d) = e ∙ sym d
   one_rule rule other (no_variables names has told none e) (no_ranges numbers h d) = absurd (named_not names numbers told none h)
   one_rule rule other (no_ranges numbers h e) (no_variables names has told none d) = absurd (named_not names numbers told none h)
@@ -87,7 +87,7 @@ module _ (call : Call) (known : Known call.source) (line : Line) (m : RobustMode
       cc
 
   -- and none where they keep them
-  no_break : (rule : ℕ) (numbers : List ℕ) → BreaksWhole call line m rule → HasWholeVariables call line m numbers → ⊥
+  pub no_break : (rule : ℕ) (numbers : List ℕ) → BreaksWhole call line m rule → HasWholeVariables call line m numbers → ⊥
   no_break rule numbers (no_variables names has told none e) h = named_not names numbers told none h.named
   no_break rule numbers (no_ranges other k e) h =
       let no : Some rule ≡ None = sym e ∙ ap (λ (ns : List ℕ). whole_rule m ns) (variables_once other numbers k h.named) ∙ h.keeps in cc
@@ -108,15 +108,19 @@ module _ (call : Call) (known : Known call.source) (line : Line) (m : RobustMode
       by (replays c bytes rows h file e) = absurd (replay_no_branch line.verb h.certificate.file.is_replay is)
       by (lacks_plan rule number h e) = absurd (replay_no_branch line.verb (lacking_verb call line m rule number h) is)
       by (branching too course) = course
+      by (searches worst course) = absurd (worst_no_branch line.verb worst is)
+      by (checking_tree too course) = absurd (tree_no_branch line.verb too is)
+      by (sweeping too course) = absurd (branches_no_sweep line.verb is too)
+      by (bounds forms narrow e) = absurd (narrow_no_branch line.verb narrow is)
 
-  model_of : (rule : ℕ) → BreaksWhole call line m rule → HasModel call line m
+  pub model_of : (rule : ℕ) → BreaksWhole call line m rule → HasModel call line m
   model_of rule (no_variables names has told none e) = has
   model_of rule (no_ranges numbers h e) = h.model
 
   -- ---- a broken rule
-  pub breaking_decides : (rule : ℕ) → IsBranching line.verb → BreaksWhole call line m rule → (ended : Ended) (text : List ℕ)
+  pub branching_decides : (rule : ℕ) → IsBranching line.verb → BreaksWhole call line m rule → (ended : Ended) (text : List ℕ)
       → Means call ended text → (ended ≡ Whole rule) ⊎ ((ended ≡ ReadFault) ⊎ (ended ≡ Memory))
-  breaking_decides rule is broken ended text means = first_of_two by (whole_course (model_of rule broken) is ended text means)
+  branching_decides rule is broken ended text means = first_of_two by (whole_course (model_of rule broken) is ended text means)
     where
       by : WholeCourse call line m ended → ended ≡ Whole rule
       by (breaks other h e) = e ∙ ap (λ r. Whole r) (one_rule other rule h broken)
@@ -156,21 +160,22 @@ module _ (call : Call) (known : Known call.source) (line : Line) (m : RobustMode
     empty_is : (ended other : Ended) → ended ≡ other → IsEmptyWholeAnswer (limit_of line) m other → IsEmptyWholeAnswer (limit_of line) m ended
     empty_is ended other e h = subst (λ (x : Ended). IsEmptyWholeAnswer (limit_of line) m x) (sym e) h
 
-    before_admitting : IsEmptySet m → (spot : Spot) → IsWideOnPath (limit_of line) m spot → IsWideBefore (limit_of line) m spot
-    before_admitting none (spots.Dictionary programs.Set basis i) h = admitting basis i refl h
-    before_admitting none (spots.Dictionary programs.Reform basis i) h = absurd (none h.0.0 h.0.1)
-    before_admitting none (spots.Dictionary programs.Master basis i) h = absurd h
-    before_admitting none (spots.Dictionary (programs.SearchPlan form) basis i) h = absurd h
-    before_admitting none (spots.Dictionary (programs.SearchMove form) basis i) h = absurd h
-    before_admitting none (spots.Coefficient where_it_is) h = absurd h
-    before_admitting none (spots.Clearing where_it_is) h = absurd h
-    before_admitting none (spots.Sum where_it_is j) h = absurd h
-    before_admitting none (spots.Check place) h = absurd h
-    before_admitting none (spots.Replay number) h = absurd h
+    before_admitting : IsEmptySet m → (spot : Spot) → IsWritten (limit_of line) m → IsWideOnPath (limit_of line) m spot
+        → IsWideBefore (limit_of line) m spot
+    before_admitting none (spots.Dictionary programs.Set basis i) written h = admitting basis i refl written h
+    before_admitting none (spots.Dictionary programs.Reform basis i) written h = absurd (none h.0.0 h.0.1)
+    before_admitting none (spots.Dictionary programs.Master basis i) written h = absurd h
+    before_admitting none (spots.Dictionary (programs.SearchPlan form) basis i) written h = absurd h
+    before_admitting none (spots.Dictionary (programs.SearchMove form) basis i) written h = absurd h
+    before_admitting none (spots.Coefficient where_it_is) written h = absurd h
+    before_admitting none (spots.Clearing where_it_is) written h = absurd h
+    before_admitting none (spots.Sum where_it_is j) written h = absurd h
+    before_admitting none (spots.Check place) written h = absurd h
+    before_admitting none (spots.Replay number) written h = absurd h
 
     before_it : IsEmptySet m → (spot : Spot) → IsWideIn (limit_of line) m spot → IsWideBefore (limit_of line) m spot
     before_it none spot (inl first) = before_writing first
-    before_it none spot (inr wide) = before_admitting none spot wide.1
+    before_it none spot (inr wide) = before_admitting none spot wide.0 wide.1
 
     empty_box : IsEmptySet m → (others : List ℕ) (path : List declared.Branch) (spot : Spot) → Visits m others start (map branch_of path)
         → IsWideIn (limit_of line) (box m (map branch_of path)) spot → IsEmptyWholeAnswer (limit_of line) m (WideNode path spot)

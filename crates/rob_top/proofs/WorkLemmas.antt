@@ -1,5 +1,5 @@
 -- The answers for a model's text: of a refusal, of printed rows, and of what the work on a model answers.
-use Rattle.std.proofs.Common.{◌≡◌, ℕ, ◌≤◌, ◌^◌, ◌-◌, List, ◌++◌, Result, Ok, Err, IfOk, inl, refl, subst, sym, ap, ◌∙◌, arith}
+use Rattle.std.proofs.Common.{◌≡◌, ℕ, ◌≤◌, ◌^◌, ◌-◌, List, ◌++◌, Result, Ok, Err, IfOk, refl, subst, sym, ap, ◌∙◌, arith}
 use Rattle.rob_elab.specs.Forms.{judged_forms}
 use Rattle.rob_meaning.specs.RobustModel.{RobustModel}
 use Rattle.rob_number.specs.Counts.{Rose}
@@ -19,10 +19,11 @@ use Rattle.rob_sets.proofs.JudgedLemmas.{first_left, first_right}
 use Rattle.rob_sets.proofs.SubexpressionLemmas.{each_both}
 use Rattle.rob_top.specs.Answers.{model_text}
 use Rattle.rob_top.specs.Calls.{Call, Count, IsElaborating, IsOnModel, count, reads_model, WasRaised}
-use Rattle.rob_top.specs.Headline.{Means}
+use Rattle.rob_top.specs.Headline.{Means, rows}
 use Rattle.rob_top.specs.Refused.{elaborating}
 use Rattle.rob_top.specs.Replies.{HasTexts, Replies}
-use Rattle.rob_top.specs.Work.{AnswersForms, AnswersModel, AnswersTexts, AnswersWhole, IsCallAt, IsRefusedOf, RepliesRefused, RepliesUnread}
+use Rattle.rob_top.specs.Work.{AnswersForms, AnswersModel, AnswersTexts, AnswersWhole, IsCallAt}
+use Rattle.rob_top.specs.Refusing.{IsRefusedOf, RepliesRefused, RepliesUnread}
 use Rattle.rob_top.specs.declared.ended.Ended.{Ended}
 use Rattle.rob_top.specs.declared.ended.Ended.TheVariants.{Printed, Model}
 use Rattle.rob_top.specs.declared.files.Texts.{Texts}
@@ -171,7 +172,7 @@ module _ (limit : ℕ) (m : RobustModel) where
   rows_answer wides verb texts (Err want) e is = tt
   rows_answer wides verb texts (Ok reply) e is = λ call line at came has.
       subst (λ (ended : Ended). Means call ended reply.text) (sym is.0)
-      (inl (record { line = line; m = m; forms = has; is_rows = at.verb_is ∙ e; printed = is.1 }))
+      (rows (record { line = line; m = m; forms = has; is_rows = at.verb_is ∙ e; printed = is.1 }))
 
   -- the same command, whose other texts don't count
   pub at_verb : (wides : Count) (verb same : Verb) (texts : Texts) (r : Result Reply Want) → verb ≡ same → IfOk r (AnswersForms limit wides m same)

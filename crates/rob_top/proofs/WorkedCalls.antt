@@ -33,7 +33,8 @@ use Rattle.rob_round_trip.specs.Readable.{IsReadableModel}
 use Rattle.rob_sets.specs.FirstWide.{NothingWide}
 use Rattle.rob_sets.specs.SetForm.{judged_set}
 use Rattle.rob_top.proofs.NarrowForms.{all_narrow, difference_narrow}
-use Rattle.rob_top.specs.Completeness.{EndsAs, IsEmptyAnswer, MustEnd}
+use Rattle.rob_top.specs.Completeness.{MustEnd}
+use Rattle.rob_top.specs.Endings.{EndsAs, IsEmptyAnswer}
 use Rattle.rob_top.specs.Inputs.{HasForms}
 use Rattle.rob_top.specs.WorkedCalls.{empty_interval, greatest, model_name, solve_call}
 use Rattle.rob_top.specs.declared.ended.Ended.{Ended}

@@ -26,7 +26,8 @@ use Rattle.rob_model.specs.declared.place.Place.TheVariants as At
 use Rattle.rob_outside.specs.Files.{file_of, found_at, whole}
 use Rattle.rob_write.specs.Canonical.{model_text}
 use Rattle.rob_top.proofs.WorkedCalls.{fits_by, one_demand_narrow, one_demand_reads}
-use Rattle.rob_top.specs.Completeness.{EndsAs, MustEnd}
+use Rattle.rob_top.specs.Completeness.{MustEnd}
+use Rattle.rob_top.specs.Endings.{EndsAs}
 use Rattle.rob_top.specs.Inputs.{HasCertificate}
 use Rattle.rob_top.specs.WorkedCalls.{certificate_name, check_call, greatest, model_name, order_11, order_12}
 use Rattle.rob_top.specs.declared.ended.Ended.{Ended}

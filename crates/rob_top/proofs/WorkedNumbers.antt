@@ -2,7 +2,8 @@
 use Rattle.std.proofs.Common.{◌≡◌, ◌⊎◌, [], ◌∷◌, refl, inr, arith}
 use Rattle.std.proofs.lemmas.Str.Parse.{digit_from_value}
 use Rattle.std.specs.Prelude.{codes}
-use Rattle.rob_top.specs.Completeness.{IsUnput, MustEnd}
+use Rattle.rob_top.specs.Completeness.{MustEnd}
+use Rattle.rob_top.specs.Endings.{IsUnput}
 use Rattle.rob_top.specs.WorkedCalls.{text_call}
 use Rattle.rob_top.specs.declared.ended.Ended.{Ended}
 use Rattle.rob_top.specs.declared.ended.Ended.TheVariants.{Printed}

@@ -20,13 +20,15 @@ use Rattle.rob_replay.specs.Lines as replay
 use Rattle.rob_replay.specs.Lines.{line_outside}
 use Rattle.rob_replay.specs.Outcome.{outcome}
 use Rattle.rob_report.specs.Tables.{table_of}
-use Rattle.rob_top.proofs.CommandLemmas.{rows_not_replay, text_not_replay}
+use Rattle.rob_top.proofs.CommandLemmas.{narrow_not_replay, replay_not_worst, rows_not_replay, sweep_not_replay, sweeptext_not_replay, text_not_replay}
 use Rattle.rob_top.proofs.OneTable.{lines_are, text_is}
+use Rattle.rob_top.proofs.SoughtLemmas.{forms_sought}
 use Rattle.rob_top.proofs.WorkedCalls.{fits_by, one_demand_reads}
 use Rattle.rob_top.proofs.WorkedChecks.{order_12_fits, order_12_shape}
 use Rattle.rob_top.specs.Calls.{Call, Known, by_files}
-use Rattle.rob_top.specs.Completeness.{EndsAs, MustEnd}
-use Rattle.rob_top.specs.Headline.{Means}
+use Rattle.rob_top.specs.Completeness.{MustEnd}
+use Rattle.rob_top.specs.Endings.{EndsAs}
+use Rattle.rob_top.specs.Headline.{Means, rows, replayed, generated, worst_found, swept, narrowed}
 use Rattle.rob_top.specs.Inputs.{HasReplayCertificate, HasScenarios}
 use Rattle.rob_top.specs.Replayed.{planless, replay_ended}
 use Rattle.rob_top.specs.WorkedCalls.{certificate_name, greatest, model_name, no_demand, no_order, order_12, order_least, replay_call, scenarios_name, two_demands, two_demands_table}
@@ -173,9 +175,16 @@ pub two_demands_are_printed : (text : List ℕ) → Means (replay_call order_12 
 two_demands_are_printed text means = by means
   where
     by : Means table_call Printed text → text ≡ two_demands_table
-    by (inl h) = absurd (rows_not_replay h.line.verb h.is_rows (ap (λ (l : Line). l.verb) (table_line h.line h.forms.model.spelled)))
-    by (inr (inr h)) = absurd (text_not_replay h.line.verb h.is_text (ap (λ (l : Line). l.verb) (table_line h.line h.spelled)))
-    by (inr (inl h)) =
+    by (rows h) = absurd (rows_not_replay h.line.verb h.is_rows (ap (λ (l : Line). l.verb) (table_line h.line h.forms.model.spelled)))
+    by (generated h) = absurd (text_not_replay h.line.verb h.is_text (ap (λ (l : Line). l.verb) (table_line h.line h.spelled)))
+    by (worst_found h) =
+        let forms = forms_sought table_call h.line h.m h.c h.form h.has in
+        let worst = h.has.plan.certificate.file.is_worst in
+        absurd (replay_not_worst h.line.verb (ap (λ (l : Line). l.verb) (table_line h.line forms.model.spelled)) worst)
+    by (swept (inl h)) = absurd (sweep_not_replay h.line.verb h.has.is_sweep (ap (λ (l : Line). l.verb) (table_line h.line h.has.model.spelled)))
+    by (swept (inr h)) = absurd (sweeptext_not_replay h.line.verb h.has.is_text (ap (λ (l : Line). l.verb) (table_line h.line h.has.model.spelled)))
+    by (narrowed h) = absurd (narrow_not_replay h.line.verb h.is_narrow (ap (λ (l : Line). l.verb) (table_line h.line h.forms.model.spelled)))
+    by (replayed h) =
         let has = order_12_on two_demands two_demands_come in
         let known : Known table_call.source = by_files (files_of order_12 two_demands) refl in
         let lines : Ok h.lines ≡ Ok two_demands_lines =
@@ -239,7 +248,7 @@ no_order_comes : Come no_order two_demands
 unfolding ratio digits
 no_order_comes = record { model = refl; certificate = refl; scenarios = refl }
 
-no_order_shape : HasShape one_demand no_order
+pub no_order_shape : HasShape one_demand no_order
 unfolding ratio
 no_order_shape = record {
   inside = refl;
@@ -249,7 +258,7 @@ no_order_shape = record {
   items = record { each = tt; ordered = tt; few = omega arith };
 }
 
-no_order_fits : FitsLines greatest one_demand no_order
+pub no_order_fits : FitsLines greatest one_demand no_order
 unfolding ratio
 no_order_fits = (tt, (fits_by (int 8) refl refl, (tt, tt)))
 

@@ -1,28 +1,24 @@
 -- Calls on texts with a named set, worked by hand: a row that answers to it, and one where it admits no scenario.
-use Rattle.std.proofs.Common.{arith, refl, inl, inr, ◌⊎◌}
+use Rattle.std.proofs.Common.{arith, refl, inl, inr}
 use Rattle.std.proofs.lemmas.Bool.{leb-true}
 use Rattle.std.specs.Fmt.{digits}
 use Rattle.std.specs.Prelude.{◌≡◌, ℕ, zero, suc, true, List, [], ◌∷◌, ◌++◌, Option, Some, None, codes}
 use Rattle.rob_algebra.specs.Fraction.{ratio}
 use Rattle.rob_algebra.specs.Width.{IsWide}
 use Rattle.rob_elab.specs.Forms.{judged_forms}
-use Rattle.rob_dualize.specs.Solving.{IsWideOnPath}
-use Rattle.rob_meaning.proofs.EmptyLemmas.{shows_empty}
-use Rattle.rob_meaning.proofs.StatusLemmas.{optimal_not_infeasible, optimal_not_unbounded}
 use Rattle.rob_meaning.proofs.WorkedNotation.{◌⊕◌, ◌⊖◌, int, cover, item, best}
-use Rattle.rob_meaning.proofs.WorkedTests.{Found, found, test_admits, test_certificate, test_empty, test_model}
+use Rattle.rob_meaning.proofs.WorkedTests.{Found, found, test_admits, test_certificate, test_model}
 use Rattle.rob_meaning.specs.Certificates.{optimal}
 use Rattle.rob_meaning.specs.Coefficients.{table}
 use Rattle.rob_meaning.specs.Expressions.{Expression, number, parameter, variable}
 use Rattle.rob_meaning.specs.Named.{IsNamed, declared_names}
 use Rattle.rob_lex.specs.Bytes.{begins_word, goes_on_word}
-use Rattle.rob_meaning.specs.Places.{0ℚ, 1ℚ, Each}
+use Rattle.rob_meaning.specs.Places.{1ℚ, Each}
 use Rattle.rob_meaning.specs.Proves.{HasStatus}
 use Rattle.rob_meaning.specs.RobustModel.{RobustModel}
-use Rattle.rob_meaning.specs.UncertaintySet.{Admits, IsEmptySet}
+use Rattle.rob_meaning.specs.UncertaintySet.{Admits}
 use Rattle.rob_meaning.specs.WellFormed.{IsModel}
 use Rattle.rob_model.specs.Limits.{IsWithinLimits}
-use Rattle.rob_model.specs.declared.place.Spot.{Spot}
 use Rattle.rob_round_trip.proofs.Canonical.CanonicalReading.{canonical_reads}
 use Rattle.rob_write.specs.Canonical.{model_text, naming_of, written_model}
 use Rattle.rob_parse.specs.Modelled.{ReadsModel}
@@ -33,12 +29,12 @@ use Rattle.rob_sets.specs.FirstWide.{NothingWide, Some_of}
 use Rattle.rob_sets.specs.SetForm.{judged_set}
 use Rattle.rob_sets.specs.Subexpressions.{HasWideCoefficient, subexpressions}
 use Rattle.rob_top.proofs.NarrowForms.{all_narrow, difference_narrow, test_fraction}
+use Rattle.rob_top.proofs.SolveAnswers.{IsSolvedOrWide, optimal_or_wide}
 use Rattle.rob_top.proofs.WorkedCalls.{Comes, differ, fits_by, forms_on, free, letter, line, within_by}
-use Rattle.rob_top.specs.Completeness.{EndsAs, IsEmptyAnswer, IsSolveAnswer, MustEnd}
+use Rattle.rob_top.specs.Completeness.{MustEnd}
 use Rattle.rob_top.specs.Inputs.{HasForms}
-use Rattle.rob_top.specs.WorkedCalls.{greatest, hard_and_soft, never_calm, solve_call}
+use Rattle.rob_top.specs.WorkedCalls.{greatest, hard_and_soft, solve_call}
 use Rattle.rob_top.specs.declared.ended.Ended.{Ended}
-use Rattle.rob_top.specs.declared.ended.Ended.TheVariants.{Optimal, Infeasible, Unbounded, Printed, Accepted, Rejected, Words, Missing, TooLong, Model, EmptySet, TooWide, WideNode, Cert, Scenarios, Whole, ReadFault, WriteFault, Memory}
 
 -- ---- coefficients of an expression over 2 joint parameters and 3 decision columns
 -- both facts, where both tests find them
@@ -97,12 +93,12 @@ module _ (m : RobustModel) where
   below_narrow =
       tested_narrow (subexpressions (parameter 1 ⊖ number (int 10))) ((λ k j. tt), ((λ k j. tt), ((λ k j. tt), ((λ k j. tt), tt))))
 
-  above_narrow : HasWidePart (number (int 13) ⊖ parameter 1) → ⊥
+  pub above_narrow : HasWidePart (number (int 13) ⊖ parameter 1) → ⊥
   unfolding ratio
   above_narrow =
       tested_narrow (subexpressions (number (int 13) ⊖ parameter 1)) ((λ k j. tt), ((λ k j. tt), ((λ k j. tt), ((λ k j. tt), tt))))
 
-  goal_narrow : HasWidePart ((variable 0 ⊕ variable 1) ⊖ variable 2) → ⊥
+  pub goal_narrow : HasWidePart ((variable 0 ⊕ variable 1) ⊖ variable 2) → ⊥
   unfolding ratio
   goal_narrow =
       tested_narrow (subexpressions ((variable 0 ⊕ variable 1) ⊖ variable 2))
@@ -137,11 +133,11 @@ hard_and_soft_costs_22 =
     (item 0 1ℚ (int 12 ∷ int 10 ∷ []) ∷ item 1 1ℚ (int 12 ∷ int 10 ∷ []) ∷ item 2 1ℚ (int 12 ∷ int 10 ∷ []) ∷ [])))
     tt
 
-its_spelling : Each IsSpelled (declared_names hard_and_soft)
+pub its_spelling : Each IsSpelled (declared_names hard_and_soft)
 its_spelling =
     (letter 100 refl refl, (four 99 97 108 109 refl refl refl refl refl, (four 104 97 114 100 refl refl refl refl refl, (four 115 111 102 116 refl refl refl refl refl, (letter 120 refl refl, (letter 122 refl refl, tt))))))
 
-its_names : IsNamed hard_and_soft
+pub its_names : IsNamed hard_and_soft
 its_names = record {
   plain = (((λ e. cc), tt), (((λ e. cc), ((λ e. cc), ((λ e. cc), ((λ e. cc), tt)))), (((λ e. cc), ((λ e. cc), ((λ e. cc), ((λ e. cc), tt)))), (((λ e. cc), ((λ e. cc), ((λ e. cc), ((λ e. cc), tt)))), (((λ e. cc), tt), (((λ e. cc), tt), tt))))));
   free = (
@@ -187,7 +183,7 @@ its_names = record {
   few = omega arith;
 }
 
-its_parts : IsReadableModel greatest (naming_of hard_and_soft) hard_and_soft
+pub its_parts : IsReadableModel greatest (naming_of hard_and_soft) hard_and_soft
 unfolding ratio
 its_parts = record {
   placed = record {
@@ -244,10 +240,7 @@ it_is_narrow =
                         tt,
                         (
                           difference_narrow hard_and_soft (parameter 1) 2 0 (λ k j. refl) (variable 1) 0 2 (λ k j. refl),
-                          (
-                            tt,
-                            tt,
-                          ),
+                          (tt, tt),
                         ),
                       ),
                     ),
@@ -267,134 +260,9 @@ it_comes = refl
 its_forms : HasForms (solve_call hard_and_soft) line hard_and_soft
 its_forms = forms_on hard_and_soft it_comes it_reads it_is_narrow
 
--- the status, or a wide row on the path
-abbrev IsSolvedOrWide : Ended → Type 0
-IsSolvedOrWide result = EndsAs Optimal result ⊎ ((spot : Spot) × IsWideOnPath greatest hard_and_soft spot × (result ≡ TooWide spot))
-
-its_answer : (result : Ended) → IsSolveAnswer greatest hard_and_soft result → IsSolvedOrWide result
-its_answer Optimal h = inl (inl refl)
-its_answer Infeasible h = absurd (optimal_not_infeasible hard_and_soft (int 22) hard_and_soft_costs_22 h.1)
-its_answer Unbounded h = absurd (optimal_not_unbounded hard_and_soft (int 22) hard_and_soft_costs_22 h.1)
-its_answer (EmptySet weights) h = absurd (h (int 8 ∷ int 8 ∷ []) hard_and_soft_admitted)
-its_answer (TooWide spot) h = inr (spot, h, refl)
-its_answer (WideNode path spot) h = inl (inr h)
-its_answer Printed h = inl (inr h)
-its_answer Accepted h = inl (inr h)
-its_answer (Rejected place) h = inl (inr h)
-its_answer Words h = inl (inr h)
-its_answer Missing h = inl (inr h)
-its_answer TooLong h = inl (inr h)
-its_answer (Model rule place) h = inl (inr h)
-its_answer (Cert rule place) h = inl (inr h)
-its_answer (Scenarios rule place) h = inl (inr h)
-its_answer (Whole rule) h = inl (inr h)
-its_answer ReadFault h = inl (inr h)
-its_answer WriteFault h = inl (inr h)
-its_answer Memory h = inl (inr h)
-
 -- this call has to answer `optimal`, or name a wide row
-pub hard_and_soft_is_solved : (result : Ended) → MustEnd (solve_call hard_and_soft) result → IsSolvedOrWide result
-hard_and_soft_is_solved result must = its_answer result (must.solving line hard_and_soft its_forms refl)
-
--- ---- the same with d >= 13 over calm, so that calm admits no scenario
--- calm.d <= 12 and -calm.d <= -13 sum to 0 <= -1
-never_calm_admits_none : IsEmptySet never_calm
-unfolding ratio
-never_calm_admits_none =
-    shows_empty never_calm (found (test_model never_calm) tt) (0ℚ ∷ 0ℚ ∷ 0ℚ ∷ 1ℚ ∷ 1ℚ ∷ [])
-    (found (test_empty never_calm (0ℚ ∷ 0ℚ ∷ 0ℚ ∷ 1ℚ ∷ 1ℚ ∷ [])) tt)
-
-never_calm_named : IsNamed never_calm
-never_calm_named = record {
-  plain = its_names.plain;
-  free = its_names.free;
-  distinct = its_names.distinct;
-  lists = tt;
-  members = (tt, tt);
-  few = omega arith;
-}
-
-never_calm_readable : IsReadableModel greatest (naming_of never_calm) never_calm
-unfolding ratio
-never_calm_readable = record {
-  placed = record {
-    taken_is = refl;
-    line_sets = refl;
-    row_sets = refl;
-    of_lines = its_parts.placed.of_lines;
-    of_objective = its_parts.placed.of_objective;
-    of_rows = its_parts.placed.of_rows;
-  };
-  parts = record {
-    parameters = its_parts.parts.parameters;
-    set_lines = ((omega arith, (fits_by (int 13) refl refl, refl)), tt);
-    variables = its_parts.parts.variables;
-    adaptives = tt;
-    objective = its_parts.parts.objective;
-    rows = its_parts.parts.rows;
-  };
-}
-
-never_calm_within : IsWithinLimits never_calm
-never_calm_within = within_by never_calm refl refl refl refl refl refl refl
-
-never_calm_reads : ReadsModel greatest (model_text never_calm) never_calm
-unfolding ratio
-never_calm_reads =
-    canonical_reads greatest never_calm (omega arith) (omega arith) never_calm_readable
-    (found (test_model (written_model never_calm)) tt)
-    never_calm_named its_spelling (tt, tt) never_calm_within
-    ((tt, (tt, (tt, (tt, (tt, (tt, (tt, (tt, tt)))))))), ((tt, (tt, tt)), ((tt, (tt, (tt, (tt, (tt, (tt, tt)))))), ((tt, (tt, tt)), ((tt, (tt, tt)), ((tt, (tt, (tt, (tt, tt)))), ((tt, (tt, (tt, (tt, (tt, (tt, tt)))))), ((tt, (tt, (tt, (tt, (tt, (tt, (tt, (tt, tt)))))))), tt)))))))) (leb-true _ _ refl)
-
-never_calm_narrow : NothingWide greatest never_calm (judged_set never_calm ++ judged_forms never_calm)
-unfolding ratio
-never_calm_narrow =
-    all_narrow never_calm (judged_set never_calm ++ judged_forms never_calm) (
-      tt,
-      (
-        tt,
-        (
-          tt,
-          (
-            tt,
-            (
-              above_narrow never_calm,
-              (
-                tt,
-                (
-                  goal_narrow never_calm,
-                  (
-                    tt,
-                    (
-                      difference_narrow never_calm (parameter 0) 1 0 (λ k j. refl) (variable 0) 0 1 (λ k j. refl),
-                      (
-                        tt,
-                        (
-                          difference_narrow never_calm (parameter 1) 2 0 (λ k j. refl) (variable 1) 0 2 (λ k j. refl),
-                          (
-                            tt,
-                            tt,
-                          ),
-                        ),
-                      ),
-                    ),
-                  ),
-                ),
-              ),
-            ),
-          ),
-        ),
-      ),
-    )
-
-never_calm_comes : Comes never_calm
-unfolding ratio digits
-never_calm_comes = refl
-
-never_calm_forms : HasForms (solve_call never_calm) line never_calm
-never_calm_forms = forms_on never_calm never_calm_comes never_calm_reads never_calm_narrow
-
--- this call has to answer that a set is empty, or name a row of the sets' program
-pub never_calm_is_shown : (result : Ended) → MustEnd (solve_call never_calm) result
-    → IsEmptyAnswer greatest never_calm result
-never_calm_is_shown result must = must.empty line never_calm never_calm_forms refl never_calm_admits_none
+pub hard_and_soft_is_solved : (result : Ended) → MustEnd (solve_call hard_and_soft) result
+    → IsSolvedOrWide greatest hard_and_soft result
+hard_and_soft_is_solved result must =
+    optimal_or_wide greatest hard_and_soft (int 22) (int 8 ∷ int 8 ∷ []) hard_and_soft_costs_22 hard_and_soft_admitted result
+    (must.solving line hard_and_soft its_forms refl)

@@ -30,11 +30,12 @@ use Rattle.rob_tree.specs.declared.tree.Branch.{Branch}
 use Rattle.rob_top.proofs.NumberingLemmas.{first_is}
 use Rattle.rob_top.proofs.WorkedCalls.{differ, fits_by, free, letter, one_demand_reads, within_by}
 use Rattle.rob_top.specs.Branched.{no_ranges, no_variables}
-use Rattle.rob_top.specs.Completeness.{EndsAs, IsWholeAnswer, MustEnd}
+use Rattle.rob_top.specs.Completeness.{MustEnd}
+use Rattle.rob_top.specs.Endings.{EndsAs, IsWholeAnswer}
 use Rattle.rob_top.specs.Inputs.{AreVariables, HasModel, HasVariables, HasWholeVariables}
 use Rattle.rob_top.specs.WorkedCalls.{greatest, half_a_demand, model_name, whole_call}
 use Rattle.rob_top.specs.declared.ended.Ended.{Ended}
-use Rattle.rob_top.specs.declared.ended.Ended.TheVariants.{Optimal, Infeasible, Unbounded, Printed, Accepted, Rejected, Words, Missing, TooLong, Model, EmptySet, TooWide, WideNode, Cert, Scenarios, Whole as RuleOfWhole, ReadFault, WriteFault, Memory}
+use Rattle.rob_top.specs.declared.ended.Ended.TheVariants.{Optimal, Infeasible, Unbounded, Printed, Accepted, Rejected, Words, Missing, TooLong, Model, EmptySet, TooWide, WideNode, WideBudget, Cert, Scenarios, Whole as RuleOfWhole, Sweep, Tree as RuleOfTree, TreeRejected, NoRow, ReadFault, WriteFault, Memory}
 use Rattle.rob_words.specs.Commands.{Line, own, IsSpelled}
 use Rattle.rob_words.specs.Values.{Word}
 use Rattle.rob_words.specs.declared.route.Route.TheVariants.{Dual}
@@ -78,7 +79,7 @@ y_spelled = (
 abbrev Comes : RobustModel → Type 0
 Comes m = found_at model_name 65536 (file_of model_name (model_text m) ∷ []) ≡ whole (model_text m)
 
-one_demand_comes : Comes one_demand
+pub one_demand_comes : Comes one_demand
 unfolding ratio digits
 one_demand_comes = refl
 
@@ -103,7 +104,7 @@ x_is_variable = record {
 
 -- this call has to name rule 62
 pub x_is_boundless : (result : Ended) → MustEnd (whole_call one_demand (codes "x")) result → EndsAs (RuleOfWhole 62) result
-x_is_boundless result must = must.whole_rule (line (codes "x")) one_demand 62 refl (no_ranges (0 ∷ []) x_is_variable refl)
+x_is_boundless result must = must.whole_rule (line (codes "x")) one_demand 62 (no_ranges (0 ∷ []) x_is_variable refl)
 
 -- ---- y is no variable
 no_y : (numbers : List ℕ) → AreVariables one_demand (codes "y" ∷ []) numbers → ⊥
@@ -116,7 +117,7 @@ no_y (suc k ∷ numbers) h = absurd (omega (arith, h.kept.inside.0))
 -- and this one rule 61
 pub y_is_no_variable : (result : Ended) → MustEnd (whole_call one_demand (codes "y")) result → EndsAs (RuleOfWhole 61) result
 y_is_no_variable result must =
-    must.whole_rule (line (codes "y")) one_demand 61 refl
+    must.whole_rule (line (codes "y")) one_demand 61
     (no_variables (codes "y" ∷ []) (model_on one_demand (codes "y") one_demand_comes one_demand_reads y_spelled) (record { word = codes "y"; told = refl; parts = refl }) no_y refl)
 
 -- ---- minimise x, where 2 x >= d for each d in [8, 13], and x lies in [0, 10]
@@ -176,7 +177,7 @@ half_readable = record {
 half_within : IsWithinLimits half_a_demand
 half_within = within_by half_a_demand refl refl refl refl refl refl refl
 
-half_reads : ReadsModel greatest (model_text half_a_demand) half_a_demand
+pub half_reads : ReadsModel greatest (model_text half_a_demand) half_a_demand
 unfolding ratio
 half_reads =
     canonical_reads greatest half_a_demand (omega arith) (omega arith) half_readable (found (test_model (written_model half_a_demand)) tt)
@@ -213,9 +214,11 @@ its_answer Unbounded h = absurd (optimal_not_unbounded half_a_demand (0 ∷ []) 
 its_answer (EmptySet weights) h = absurd (h (int 8 ∷ []) half_admitted)
 its_answer (WideNode path spot) h = inr (path, spot, refl)
 its_answer (TooWide spot) h = inl (inr h)
+its_answer (WideBudget number spot) h = inl (inr h)
 its_answer Printed h = inl (inr h)
 its_answer Accepted h = inl (inr h)
 its_answer (Rejected place) h = inl (inr h)
+its_answer (TreeRejected number fault) h = inl (inr h)
 its_answer Words h = inl (inr h)
 its_answer Missing h = inl (inr h)
 its_answer TooLong h = inl (inr h)
@@ -223,6 +226,9 @@ its_answer (Model rule place) h = inl (inr h)
 its_answer (Cert rule place) h = inl (inr h)
 its_answer (Scenarios rule place) h = inl (inr h)
 its_answer (RuleOfWhole rule) h = inl (inr h)
+its_answer NoRow h = inl (inr h)
+its_answer (RuleOfTree rule place) h = inl (inr h)
+its_answer (Sweep rule) h = inl (inr h)
 its_answer ReadFault h = inl (inr h)
 its_answer WriteFault h = inl (inr h)
 its_answer Memory h = inl (inr h)

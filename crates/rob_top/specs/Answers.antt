@@ -7,6 +7,7 @@ use Rattle.rob_meaning.specs.Certificates.{Status, optimal, infeasible, unbounde
 use Rattle.rob_meaning.specs.Names.{column_names}
 use Rattle.rob_meaning.specs.RobustModel.{RobustModel}
 use Rattle.rob_model.specs.declared.place.Spot.{Spot}
+use Rattle.rob_reach.specs.Sweeps.{with_budget}
 use Rattle.rob_report.specs.Lines.{line}
 use Rattle.rob_report.specs.Spots.{too_wide_line}
 use Rattle.rob_tree.specs.declared.tree.Branch.{Branch}
@@ -57,10 +58,26 @@ memory_text = fault_text (codes "memory")
 abbrev pub whole_text : ℕ → List ℕ
 whole_text rule = fault_text (codes "whole " ++ decimal rule)
 
+-- no form has the name
+abbrev pub no_row_text : Word → List ℕ
+no_row_text name = fault_text (codes "no row " ++ name)
+
 -- how a branch bounds its variable
 abbrev pub relation_word : Bool → List ℕ
 relation_word true = codes " <= "
 relation_word false = codes " >= "
+
+-- the statement or the limits of a sweep break a rule
+abbrev pub sweep_fault_text : ℕ → List ℕ
+sweep_fault_text rule = fault_text (codes "sweep " ++ decimal rule)
+
+-- `where budget G`
+abbrev pub budget_line : Fraction → List ℕ
+budget_line g = line (codes "where budget " ++ number_text g)
+
+-- a number is wide in the model whose budget n has that limit
+abbrev pub wide_budget_text : RobustModel → ℕ → Fraction → Spot → List ℕ
+wide_budget_text m n g spot = too_wide_line (with_budget m n g) spot ++ budget_line g
 
 module _ (m : RobustModel) where
   -- a branch of a path: `where VARIABLE <= K` or `where VARIABLE >= K`

@@ -91,7 +91,6 @@ module _ (call : Call) where
   pub record IsNoWhole (rule : ℕ) (text : List ℕ) : Type 0 where
     pub line : Line
     pub m : RobustModel
-    pub branches : IsBranching line.verb
     pub breaks : BreaksWhole line m rule
     pub printed : text ≡ whole_text rule
 

@@ -12,9 +12,9 @@ use Rattle.rob_words.specs.Values.{Word, bits_of}
 use Rattle.rob_words.specs.Verbs.{own_of, takes_route}
 use Rattle.rob_words.specs.contracts.verb.Own.{the_type}
 use Rattle.rob_words.specs.declared.verb.Own.{Own}
-use Rattle.rob_words.specs.declared.verb.Own.TheVariants.{Model, Certificate, Scenarios, Number, Names}
+use Rattle.rob_words.specs.declared.verb.Own.TheVariants.{Model, Certificate, Scenarios, Tree as OwnTree}
 use Rattle.rob_words.specs.declared.verb.Verb.{Verb}
-use Rattle.rob_words.specs.declared.verb.Verb.TheVariants.{Replay, Text, Whole, Tree}
+use Rattle.rob_words.specs.declared.verb.Verb.TheVariants.{Rows, Solve, Prove, Check, Text, Whole, Tree, CheckTree, Worst, Sweep, SweepText, Narrow}
 
 -- a count before and after the call
 pub record Count : Type 0 where
@@ -28,8 +28,7 @@ count before now = record { before = before; now = now }
 abbrev pub WasRaised : Count → Type 0
 WasRaised count = Rose count.before count.now
 
--- what is known of a call's files: those that the shelf tells, where it does; and the fetches of the call in their order, with
--- what each answered, which every shelf tells
+-- what is known of a call's files: those that the shelf tells, where it does; and the call's fetches with their answers
 pub record Source : Type 0 where
   pub told : Option (List File)
   pub came : Option (List Fetch)
@@ -107,8 +106,7 @@ answer_at (suc place) name most (fetch ∷ fetches) = answer_at place name most 
 abbrev pub answer_to : Request → List Fetch → Option Found
 answer_to request fetches = answer_at request.place request.name request.most fetches
 
--- this is found of the file: the fetch of it in the call answered so, and where the files are told, it is what they hold: all
--- its bytes, no such file, or more bytes than it may have
+-- this is found of the file, by its fetch in the call, and by the told files: all its bytes, no such file, or too many
 abbrev pub IsFoundIn : Source → Request → Found → Type 0
 IsFoundIn source request found =
     IfSome source.told (λ files. found_at request.name request.most files ≡ found)
@@ -119,8 +117,8 @@ abbrev pub most_of : Own → Option ℕ
 most_of Model = Some 65536
 most_of Certificate = Some 4194304
 most_of Scenarios = Some 4194304
-most_of Number = None
-most_of Names = None
+most_of OwnTree = Some 67108864
+most_of _ = None
 
 -- the file of this name, of at most so many bytes, where it is the first
 abbrev pub file_of : ℕ → Word → Request
@@ -206,13 +204,15 @@ branches _ = false
 abbrev pub IsBranching : Verb → Type 0
 IsBranching verb = branches verb ≡ true
 
--- the command makes the set rows and the forms of its model as it is written; one that grows a tree makes those of boxes
+-- the command makes the set rows and forms of its model as it is written; not those of boxes, or at other limits
 abbrev pub elaborates : Verb → Bool
-elaborates Replay = false
-elaborates Text = false
-elaborates Whole = false
-elaborates Tree = false
-elaborates _ = true
+elaborates Rows = true
+elaborates Solve = true
+elaborates Prove = true
+elaborates Check = true
+elaborates Worst = true
+elaborates Narrow = true
+elaborates _ = false
 
 abbrev pub IsElaborating : Verb → Type 0
 IsElaborating verb = elaborates verb ≡ true

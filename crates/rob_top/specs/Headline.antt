@@ -22,11 +22,15 @@ use Rattle.rob_top.specs.Calls.{Call, Output, WasRaised, IsFirstAbsent, NamesFil
 use Rattle.rob_top.specs.Checked.{IsAccepted, IsRejected}
 use Rattle.rob_top.specs.Generated.{IsGenerated}
 use Rattle.rob_top.specs.Lines.{text_lines}
+use Rattle.rob_top.specs.Narrowed.{IsNarrowed}
 use Rattle.rob_top.specs.Refused.{IsNoCertificate, IsNoModel, IsTooWide}
 use Rattle.rob_top.specs.Replayed.{IsNoPlan, IsNoScenarios, IsReplayed}
+use Rattle.rob_top.specs.Searched.{IsEmptySought, IsNoPlanSought, IsNoRow, IsSearched}
 use Rattle.rob_top.specs.Solved.{IsEmptySet, IsRows, IsSolved}
+use Rattle.rob_top.specs.TreeChecked.{IsNoTree, IsTreeAccepted, IsTreeRejected, IsWideLeaf}
+use Rattle.rob_top.specs.Swept.{IsNoSweep, IsSwept, IsWideBudget}
 use Rattle.rob_top.specs.declared.ended.Ended.{Ended}
-use Rattle.rob_top.specs.declared.ended.Ended.TheVariants.{Optimal, Infeasible, Unbounded, Printed, Accepted, Rejected, Words, Missing, TooLong, Model, EmptySet, TooWide, WideNode, Cert, Scenarios, Whole, ReadFault, WriteFault, Memory}
+use Rattle.rob_top.specs.declared.ended.Ended.TheVariants.{Optimal, Infeasible, Unbounded, Printed, Accepted, Rejected, Words, Missing, TooLong, Model, EmptySet, TooWide, WideNode, WideBudget, Cert, Scenarios, Whole, Sweep, Tree, TreeRejected, NoRow, ReadFault, WriteFault, Memory}
 use Rattle.rob_words.specs.Commands.{IsCommandLine}
 use Rattle.rob_words.specs.Values.{Word}
 
@@ -37,25 +41,39 @@ pub record PutMemory (output : Output) : Type 0 where
   pub puts : output.puts_now ≡ output.puts_before ++ put_as whole memory_text ∷ []
 
 module _ (call : Call) where
+  -- what a text that is printed as asked is, by the commands that answer no status
+  pub data Prints (text : List ℕ) : Type 0 where
+    rows : IsRows call text → Prints text
+    replayed : IsReplayed call text → Prints text
+    generated : IsGenerated call text → Prints text
+    worst_found : IsSearched call text → Prints text
+    swept : IsSwept call text → Prints text
+    narrowed : IsNarrowed call text → Prints text
+
   -- what each answer means, and its text. An answer comes only where this holds; where it must come, because no other may, is
   -- said by specs/Completeness.antt
   abbrev pub Means : Ended → List ℕ → Type 0
   Means Optimal text = IsSolved call optimal text ⊎ IsBranched call optimal text
   Means Infeasible text = IsSolved call infeasible text ⊎ IsBranched call infeasible text
   Means Unbounded text = IsSolved call unbounded text ⊎ IsBranched call unbounded text
-  Means Printed text = IsRows call text ⊎ (IsReplayed call text ⊎ IsGenerated call text)
-  Means Accepted text = IsAccepted call text
+  Means Printed text = Prints text
+  Means Accepted text = IsAccepted call text ⊎ IsTreeAccepted call text
   Means (Rejected place) text = IsRejected call place text
+  Means (TreeRejected number fault) text = IsTreeRejected call number fault text
   Means Words text = (IsCommandLine call.words → ⊥) × (text ≡ words_text)
   Means Missing text = (name : Word) × IsFirstAbsent call missing name × (text ≡ missing_text name)
   Means TooLong text = (name : Word) × IsFirstAbsent call too_long name × (text ≡ too_long_text name)
   Means (Model rule line) text = IsNoModel call rule line text
-  Means (EmptySet weights) text = IsEmptySet call weights text ⊎ IsEmptyBranched call weights text
+  Means (EmptySet weights) text = IsEmptySet call weights text ⊎ (IsEmptyBranched call weights text ⊎ IsEmptySought call weights text)
   Means (TooWide spot) text = IsTooWide call spot text
-  Means (WideNode path spot) text = IsWideNode call path spot text
-  Means (Cert rule line) text = IsNoCertificate call rule line text ⊎ IsNoPlan call rule line text
+  Means (WideNode path spot) text = IsWideNode call path spot text ⊎ IsWideLeaf call path spot text
+  Means (WideBudget number spot) text = IsWideBudget call number spot text
+  Means (Cert rule line) text = IsNoCertificate call rule line text ⊎ (IsNoPlan call rule line text ⊎ IsNoPlanSought call rule line text)
   Means (Scenarios rule number) text = IsNoScenarios call rule number text
   Means (Whole rule) text = IsNoWhole call rule text
+  Means NoRow text = IsNoRow call text
+  Means (Tree rule line) text = IsNoTree call rule line text
+  Means (Sweep rule) text = IsNoSweep call rule text
   Means ReadFault text = NamesFile call.words × WasRaised call.read_faults × (text ≡ read_text)
   -- of a refused put and of want of memory `Ends` says what was put
   Means WriteFault text = ⊥

@@ -1,12 +1,12 @@
--- What was read: the model, its whole numbers, the certificate, the scenario file, the variables that are named, by a call's
--- words and its files.
-use Rattle.std.specs.Prelude.{◌≡◌, ◌≢◌, ◌++◌, ℕ, List, Some, None, map}
+-- What was read: the model, its whole numbers, the certificate, the scenario file, the variables or the form that are named, by a
+-- call's words and its files.
+use Rattle.std.specs.Prelude.{◌≡◌, ◌≢◌, ◌<◌, ◌++◌, ℕ, List, Some, None, length, map}
 use Rattle.rob_cert.specs.Apart.{FitsLines}
 use Rattle.rob_cert.specs.Spelling.{name_at}
 use Rattle.rob_cert.specs.Whole.{IsTextOf}
 use Rattle.rob_elab.specs.Forms.{judged_forms}
 use Rattle.rob_meaning.specs.Certificates.{Certificate, infeasible}
-use Rattle.rob_meaning.specs.Names.{column_names}
+use Rattle.rob_meaning.specs.Names.{column_names, form_names}
 use Rattle.rob_meaning.specs.Places.{Each}
 use Rattle.rob_meaning.specs.RobustModel.{RobustModel}
 use Rattle.rob_parse.specs.Modelled.{ReadsModel}
@@ -19,13 +19,17 @@ use Rattle.rob_words.specs.Names.{parts_of}
 use Rattle.rob_words.specs.Values.{Word}
 use Rattle.rob_words.specs.Verbs.{own_of}
 use Rattle.rob_words.specs.declared.verb.Own.TheVariants as own
-use Rattle.rob_words.specs.declared.verb.Verb.TheVariants.{Check, Replay}
+use Rattle.rob_words.specs.declared.verb.Verb.TheVariants.{Check, Replay, Worst}
 
 -- the command line's own word that is a list of names has these
 pub record TellsNames (line : Line) (names : List Word) : Type 0 where
   pub word : Word
   pub told : word_of own.Names (own_of line.verb) line.own ≡ Some word
   pub parts : names ≡ parts_of word
+
+-- the command line's own word that names a form is this
+abbrev pub TellsForm : Line → Word → Type 0
+TellsForm line name = word_of own.Form (own_of line.verb) line.own ≡ Some name
 
 -- these are the names of different variables of the model, which have these numbers: a variable has that of its column
 pub record AreVariables (m : RobustModel) (names : List Word) (numbers : List ℕ) : Type 0 where
@@ -95,3 +99,29 @@ module _ (call : Call) where
   pub record HasWholeVariables (line : Line) (m : RobustModel) (numbers : List ℕ) : Type 0 where
     pub named : HasVariables line m numbers
     pub keeps : whole_rule m numbers ≡ None
+
+  -- ---- `worst`
+
+  -- no number of the set rows and forms is wide, the words say `worst`, and the file of the certificate came, with these bytes
+  pub record HasWorstFile (line : Line) (m : RobustModel) (bytes : List ℕ) : Type 0 where
+    pub forms : HasForms line m
+    pub is_worst : line.verb ≡ Worst
+    pub file : HasFile call line own.Certificate bytes
+
+  -- and it is the text of this certificate, whose numbers are within the line's width. It isn't checked
+  pub record HasWorstCertificate (line : Line) (m : RobustModel) (c : Certificate) : Type 0 where
+    pub bytes : List ℕ
+    pub file : HasWorstFile line m bytes
+    pub text : IsTextOf m c bytes
+    pub fits : FitsLines (limit_of line) m c
+
+  -- and it has a plan, as each has but one that claims an infeasible model
+  pub record HasPlan (line : Line) (m : RobustModel) (c : Certificate) : Type 0 where
+    pub certificate : HasWorstCertificate line m c
+    pub has_plan : c.status ≢ infeasible
+
+  -- and the words name this form
+  pub record HasSought (line : Line) (m : RobustModel) (c : Certificate) (form : ℕ) : Type 0 where
+    pub plan : HasPlan line m c
+    pub is_form : form < length (form_names m)
+    pub told : TellsForm line (name_at (form_names m) form)

@@ -22,7 +22,8 @@ use Rattle.rob_sets.specs.FirstWide.{IsFirstWide}
 use Rattle.rob_sets.specs.SetForm.{judged_set}
 use Rattle.rob_top.specs.Answers.{certificate_text, model_text}
 use Rattle.rob_top.specs.Calls.{Call, Came, HasFile, IsElaborating, IsSolving, WasRaised, limit_of, requests}
-use Rattle.rob_top.specs.Inputs.{HasCertificate, HasCertificateFile, HasForms, HasModel, HasScenarios}
+use Rattle.rob_top.specs.Inputs.{HasCertificate, HasCertificateFile, HasForms, HasModel, HasScenarios, HasSought}
+use Rattle.rob_top.specs.Searched.{IsWideSought, certificate_vector}
 use Rattle.rob_words.specs.Commands.{Line, IsSpelled}
 use Rattle.rob_words.specs.declared.verb.Own.TheVariants as own
 
@@ -30,7 +31,7 @@ module _ (call : Call) where
   -- the spot's number is wide: of the numbers of the set rows and forms it is the first; or it is a number of a row of
   -- a basis on the path of the set's program, or of the model's counterpart; or it is a number of a check, before which
   -- no condition fails and no number is wide; or it is one of that record's values, and no record before it breaks a
-  -- rule or has a wide number
+  -- rule or has a wide number; or it is one on the way to the worst case of a form
   pub data IsWideSpot (line : Line) (m : RobustModel) (spot : Spot) : Type 0 where
     elaborating : HasModel call line m → IsElaborating line.verb
         → IsFirstWide (limit_of line) m (judged_set m ++ judged_forms m) spot → IsWideSpot line m spot
@@ -40,6 +41,8 @@ module _ (call : Call) where
     replaying : (c : Certificate) (bytes : List ℕ) (number : ℕ) → HasScenarios call line m c bytes
         → spot ≡ Replay number → Gives (outcome (limit_of line) m c.plan) bytes (Err (is_wide number))
         → IsWideSpot line m spot
+    searching : (c : Certificate) (form : ℕ) → HasSought call line m c form
+        → IsWideSought (limit_of line) m form (certificate_vector c) spot → IsWideSpot line m spot
 
   -- a number is wider than the command line's width, and the ledger has counted it in this call
   pub record IsTooWide (spot : Spot) (text : List ℕ) : Type 0 where

@@ -1,5 +1,5 @@
 -- Answers with their texts, before they are put, and what the files' fetch gives the call that asked for them.
-use Rattle.std.specs.Prelude.{◌≡◌, ◌≤◌, ℕ, List, [], ◌∷◌, ◌++◌, length, Option, Some, Vec}
+use Rattle.std.specs.Prelude.{◌≡◌, ◌≤◌, ℕ, List, [], ◌∷◌, ◌++◌, length, map, Option, Some, Vec, string_bytes}
 use Rattle.std.specs.declared.alloc.Global.{Global}
 use Rattle.rob_outside.specs.Fetches.{Fetch, fetch_of}
 use Rattle.rob_meaning.specs.Places.{Each}
@@ -73,6 +73,11 @@ text_of own.Certificate texts = texts.certificate.items
 text_of own.Scenarios texts = texts.scenarios.items
 text_of own.Number texts = []
 text_of own.Names texts = []
+text_of own.Form texts = []
+text_of own.Tree texts = texts.tree.items
+text_of own.Statement texts = []
+text_of own.Limit texts = []
+text_of own.Limits texts = []
 
 -- the texts with these bytes for the file of this kind
 abbrev pub with_text : Own → Vec ℕ Global → Texts → Texts
@@ -81,6 +86,11 @@ with_text own.Certificate bytes texts = record texts { certificate = bytes }
 with_text own.Scenarios bytes texts = record texts { scenarios = bytes }
 with_text own.Number bytes texts = texts
 with_text own.Names bytes texts = texts
+with_text own.Form bytes texts = texts
+with_text own.Tree bytes texts = record texts { tree = bytes }
+with_text own.Statement bytes texts = texts
+with_text own.Limit bytes texts = texts
+with_text own.Limits bytes texts = texts
 
 -- what came of files, with these bytes of one more
 abbrev pub with_file : Own → Vec ℕ Global → Files → Files
@@ -90,16 +100,19 @@ with_file kind bytes (fetch.Answer reply) = fetch.Answer reply
 -- no file was asked for
 abbrev pub IsNothing : Files → Type 0
 IsNothing (fetch.Texts texts) =
-    (texts.model.items ≡ []) × (texts.certificate.items ≡ []) × (texts.scenarios.items ≡ [])
+    (texts.model.items ≡ []) × (texts.certificate.items ≡ []) × (texts.scenarios.items ≡ []) × (texts.tree.items ≡ [])
 IsNothing (fetch.Answer reply) = ⊥
 
--- the words are the command line, the files that it names came with these texts, and its list of names is theirs
+-- the words are the command line, the files that it names came with these texts, and its list of names, its form's name and its
+-- own words are theirs
 pub record HasTexts (call : Call) (line : Line) (texts : Texts) : Type 0 where
   pub spelled : IsSpelled call.words line
   pub came : Each (Came call) (requests line)
   pub found : (kind : Own) (request : Request) → request_of kind (own_of line.verb) line.own ≡ Some request
       → IsFound call request (whole (text_of kind texts))
   pub names : (word : Word) → word_of own.Names (own_of line.verb) line.own ≡ Some word → texts.names.items ≡ word
+  pub form : (word : Word) → word_of own.Form (own_of line.verb) line.own ≡ Some word → texts.form.items ≡ word
+  pub words : map string_bytes texts.words.items ≡ line.own
 
 -- the file came whole
 abbrev pub CameIn : Source → Request → Type 0

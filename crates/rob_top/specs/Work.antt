@@ -1,44 +1,40 @@
 -- What the work on a model answers, whichever call it is done for.
-use Rattle.std.specs.Prelude.{◌≡◌, ℕ, ◌^◌, ◌≤◌, ◌<◌, List, length}
-use Rattle.rob_cert.specs.declared.ending.Stop.{Stop}
-use Rattle.rob_cert.specs.declared.ending.Stop.TheVariants as stop
+use Rattle.std.specs.Prelude.{◌≡◌, ◌≢◌, ◌⊎◌, ℕ, pos, ◌^◌, ◌≤◌, List, length, map}
+use Rattle.rob_algebra.specs.Fraction.{Fraction, of_int, ◌+ℚ◌}
+use Rattle.rob_algebra.specs.Width.{IsWide}
+use Rattle.rob_cert.specs.declared.ending.Worst.{Worst}
+use Rattle.rob_cert.specs.declared.ending.Worst.TheVariants.{At, Along}
 use Rattle.rob_meaning.specs.Certificates as meaning
 use Rattle.rob_meaning.specs.Certificates.{Certificate}
 use Rattle.rob_check.specs.declared.verdict.Verdict.{Verdict}
 use Rattle.rob_check.specs.declared.verdict.Verdict.TheVariants as verdict
-use Rattle.rob_meaning.specs.Names.{column_names}
-use Rattle.rob_meaning.specs.Places.{Each}
 use Rattle.rob_meaning.specs.RobustModel.{RobustModel}
-use Rattle.rob_meaning.specs.SetRows.{set_rows}
+use Rattle.rob_model.specs.View.{scenario_of}
 use Rattle.rob_model.specs.declared.place.Spot.TheVariants as spots
-use Rattle.rob_rules.specs.declared.error.ModelErr.{ModelErr}
-use Rattle.rob_rules.specs.declared.error.ModelErr.TheVariants as unread
-use Rattle.rob_report.specs.Places.{IsSpotOf}
-use Rattle.rob_report.specs.Spots.{too_wide_line, empty_set_lines}
-use Rattle.rob_sets.specs.declared.error.ElabErr.{ElabErr}
-use Rattle.rob_sets.specs.declared.error.ElabErr.TheVariants as refused
+use Rattle.rob_model.specs.declared.place.Where.TheVariants.{Cost}
+use Rattle.rob_report.specs.Spots.{too_wide_line}
+use Rattle.rob_report.specs.Worst.{along_text, greatest_text}
+use Rattle.rob_runs.specs.Spots.{slack_of}
 use Rattle.rob_gen.specs.Generated.{generated}
-use Rattle.rob_tree.specs.declared.error.TreeStop.{TreeStop}
-use Rattle.rob_tree.specs.declared.error.TreeStop.TheVariants as ungrown
-use Rattle.rob_tree.specs.declared.tree.Branch.{Branch}
-use Rattle.rob_top.specs.Answers.{model_text, whole_text, wide_node_text}
+use Rattle.rob_top.specs.Swept.{HasSweep}
 use Rattle.rob_top.specs.Calls.{Call, Count, HasFile, WasRaised, limit_of}
 use Rattle.rob_top.specs.Generated.{TellsNumber}
 use Rattle.rob_top.specs.Headline.{Means}
-use Rattle.rob_top.specs.Inputs.{HasModel, HasForms, HasCertificateFile, HasCertificate, HasReplayCertificate, HasReplayFile, HasScenarios, HasVariables, TellsNames}
+use Rattle.rob_top.specs.Inputs.{HasModel, HasForms, HasCertificateFile, HasCertificate, HasPlan, HasReplayCertificate, HasReplayFile, HasScenarios, HasSought, HasVariables, HasWorstCertificate, HasWorstFile, TellsForm, TellsNames}
 use Rattle.rob_top.specs.Replies.{HasTexts, Replies}
 use Rattle.rob_top.specs.declared.ended.Ended.{Ended}
-use Rattle.rob_top.specs.declared.ended.Ended.TheVariants.{Optimal, Infeasible, Unbounded, Printed, Accepted, Rejected, Model, EmptySet, TooWide, WideNode, Whole}
+use Rattle.rob_top.specs.declared.ended.Ended.TheVariants.{Optimal, Infeasible, Unbounded, Printed, Accepted, Rejected, TooWide}
 use Rattle.rob_top.specs.declared.files.Files.{Files}
 use Rattle.rob_top.specs.declared.files.Files.TheVariants as fetch
 use Rattle.rob_top.specs.declared.files.Texts.{Texts}
 use Rattle.rob_top.specs.declared.reply.Reply.{Reply}
 use Rattle.rob_words.specs.Commands.{Line}
 use Rattle.rob_words.specs.Names.{parts_of}
+use Rattle.rob_words.specs.Values.{Word}
 use Rattle.rob_words.specs.declared.verb.Own.TheVariants as own
 use Rattle.rob_words.specs.declared.verb.Verb.{Verb}
-use Rattle.rob_words.specs.declared.verb.Verb.TheVariants.{Check, Replay}
-use Rattle.rob_write.specs.Canonical.{model_text as generated_text}
+use Rattle.rob_words.specs.declared.verb.Verb.TheVariants.{Check, Replay, Sweep, Worst as WorstVerb}
+use Rattle.rob_write.specs.Canonical.{model_text as canonical_text}
 
 -- ---- texts that are short enough to read
 
@@ -47,6 +43,7 @@ pub record IsShort (texts : Texts) : Type 0 where
   pub model : length texts.model.items ≤ 2 ^ 30
   pub certificate : length texts.certificate.items ≤ 2 ^ 30
   pub scenarios : length texts.scenarios.items ≤ 2 ^ 30
+  pub tree : length texts.tree.items ≤ 2 ^ 30
 
 -- those that came
 abbrev pub IsShortFetch : Files → Type 0
@@ -115,6 +112,30 @@ module _ (limit : ℕ) (wides : Count) where
         (call : Call) (line : Line) → IsCallAt limit wides Replay call line → HasScenarios call line m c bytes
         → Means call reply.ended reply.text
 
+    -- that of each one for `worst`, whose certificate's file came with these bytes, and whose words name the form so
+    abbrev pub AnswersSearch : List ℕ → Word → Reply → Type 0
+    AnswersSearch bytes name reply =
+        (call : Call) (line : Line) → IsCallAt limit wides WorstVerb call line → HasWorstFile call line m bytes → TellsForm line name
+        → Means call reply.ended reply.text
+
+    -- the first of which is the text of the certificate
+    abbrev pub AnswersSearched : Certificate → Word → Reply → Type 0
+    AnswersSearched c name reply =
+        (call : Call) (line : Line) → IsCallAt limit wides WorstVerb call line → HasWorstCertificate call line m c → TellsForm line name
+        → Means call reply.ended reply.text
+
+    -- and this has a plan
+    abbrev pub AnswersPlanned : Certificate → Word → Reply → Type 0
+    AnswersPlanned c name reply =
+        (call : Call) (line : Line) → IsCallAt limit wides WorstVerb call line → HasPlan call line m c → TellsForm line name
+        → Means call reply.ended reply.text
+
+    -- and the name is this form's
+    abbrev pub AnswersSought : Certificate → ℕ → Reply → Type 0
+    AnswersSought c form reply =
+        (call : Call) (line : Line) → IsCallAt limit wides WorstVerb call line → HasSought call line m c form
+        → Means call reply.ended reply.text
+
     -- that of each one whose list of names has this text
     abbrev pub AnswersNames : Verb → List ℕ → Reply → Type 0
     AnswersNames verb names reply =
@@ -125,6 +146,18 @@ module _ (limit : ℕ) (wides : Count) where
     abbrev pub AnswersVariables : Verb → List ℕ → Reply → Type 0
     AnswersVariables verb numbers reply =
         (call : Call) (line : Line) → IsCallAt limit wides verb call line → HasVariables call line m numbers
+        → Means call reply.ended reply.text
+
+    -- that of each one whose own words these are
+    abbrev pub AnswersWords : Verb → List Word → Reply → Type 0
+    AnswersWords verb words reply =
+        (call : Call) (line : Line) → IsCallAt limit wides verb call line → HasModel call line m → line.own ≡ words
+        → Means call reply.ended reply.text
+
+    -- that of each one for `sweep`, whose words tell this statement and these limits
+    abbrev pub AnswersSweep : ℕ → List Fraction → Reply → Type 0
+    AnswersSweep n limits reply =
+        (call : Call) (line : Line) → IsCallAt limit wides Sweep call line → HasSweep call line m n limits
         → Means call reply.ended reply.text
 
 -- the answer for a status
@@ -141,49 +174,25 @@ verdict_ended (verdict.TooWide place) = TooWide (spots.Check place)
 
 -- the reply to `text`: the model of the number that the line tells is printed
 abbrev pub RepliesGenerated : Line → Reply → Type 0
-RepliesGenerated line reply = (number : ℕ) × TellsNumber line number × Replies Printed (generated_text (generated number)) reply
+RepliesGenerated line reply = (number : ℕ) × TellsNumber line number × Replies Printed (canonical_text (generated number)) reply
 
--- ---- refusals
+-- ---- worst cases
 
--- why no tree grows, where the names are those of different variables: a number in it is one of the model's
-abbrev pub IsUngrownOf : RobustModel → TreeStop → Type 0
-IsUngrownOf m (ungrown.Rule rule) = Unit {0}
-IsUngrownOf m (ungrown.EmptySet weights) = length weights ≡ length (set_rows m)
-IsUngrownOf m (ungrown.Wide path spot) =
-    IsSpotOf m spot × Each (λ (b : Branch). b.column < length (column_names m)) path
-IsUngrownOf m ungrown.Memory = Unit {0}
+-- what a search tells has a scale that isn't 0
+abbrev pub HasScale : {N : Type 0} → (N → Fraction) → Worst N → Type 0
+HasScale value (At scale peak constant scenario basis amounts) = value scale ≢ of_int (pos 0)
+HasScale value (Along ray basis column) = Unit {0}
 
--- the reply to it; memory has none
-abbrev pub RepliesUngrown : RobustModel → TreeStop → Reply → Type 0
-RepliesUngrown m (ungrown.Rule rule) reply = Replies (Whole rule) (whole_text rule) reply
-RepliesUngrown m (ungrown.EmptySet weights) reply = Replies (EmptySet weights) (empty_set_lines m weights) reply
-RepliesUngrown m (ungrown.Wide path spot) reply = Replies (WideNode path spot) (wide_node_text m path spot) reply
-RepliesUngrown m ungrown.Memory reply = ⊥
+module _ (limit : ℕ) (m : RobustModel) (form : ℕ) (wides : Count) where
+  -- the reply to a worst scenario: it is printed with its slack; or a number of the slack is wide
+  abbrev pub RepliesSlack : Fraction → Fraction → Fraction → List Fraction → Reply → Type 0
+  RepliesSlack scale peak constant scenario reply =
+      Replies Printed (greatest_text m form (slack_of scale peak constant) scenario) reply
+      ⊎ (Replies (TooWide (spots.Sum (Cost form) 0)) (too_wide_line m (spots.Sum (Cost form) 0)) reply × WasRaised wides
+      × (IsWide limit (peak +ℚ constant) ⊎ IsWide limit (slack_of scale peak constant)))
 
--- the reply where the model's text breaks a rule; memory has none
-abbrev pub RepliesUnread : ModelErr → Reply → Type 0
-RepliesUnread (unread.Rule rule number) reply = Replies (Model rule number) (model_text rule number) reply
-RepliesUnread unread.Memory reply = ⊥
-
-module _ (m : RobustModel) where
-  -- the reply where set rows or forms were refused: the spot of the wide number; memory has none
-  abbrev pub RepliesRefused : ElabErr → Reply → Type 0
-  RepliesRefused (refused.Wide spot) reply = Replies (TooWide spot) (too_wide_line m spot) reply
-  RepliesRefused refused.Memory reply = ⊥
-
-  -- the spot is one of the model's
-  abbrev pub IsRefusedOf : ElabErr → Type 0
-  IsRefusedOf (refused.Wide spot) = IsSpotOf m spot
-  IsRefusedOf refused.Memory = Unit {0}
-
-  -- the reply where the route stopped: the weights of an empty set, or the spot of the wide number; memory has none
-  abbrev pub RepliesStop : Stop → Reply → Type 0
-  RepliesStop (stop.EmptySet weights) reply = Replies (EmptySet weights) (empty_set_lines m weights) reply
-  RepliesStop (stop.Wide spot trace) reply = Replies (TooWide spot) (too_wide_line m spot) reply
-  RepliesStop stop.Memory reply = ⊥
-
-  -- there is a weight for each set row; the spot is one of the model's
-  abbrev pub IsStopOf : Stop → Type 0
-  IsStopOf (stop.EmptySet weights) = length weights ≡ length (set_rows m)
-  IsStopOf (stop.Wide spot trace) = IsSpotOf m spot
-  IsStopOf stop.Memory = Unit {0}
+  -- the reply to what a search tells
+  abbrev pub RepliesWorst : {N : Type 0} → (N → Fraction) → Worst N → Reply → Type 0
+  RepliesWorst value (At scale peak constant scenario basis amounts) reply =
+      RepliesSlack (value scale) (value peak) (of_int constant) (scenario_of value scenario) reply
+  RepliesWorst value (Along ray basis column) reply = Replies Printed (along_text m form (map value ray)) reply

@@ -1,5 +1,5 @@
--- Calls worked by hand, of which the laws say how they must end: `solve one.rob`, `whole one.rob x`, `check one.rob one.cert` and
--- `replay one.rob one.cert one.csv`, where the shelf tells files of these names; and `text N`.
+-- Calls worked by hand, of which the laws say how they must end: `solve one.rob`, `whole one.rob x`, `check one.rob one.cert`,
+-- `worst one.rob one.cert r` and `replay one.rob one.cert one.csv`, where the shelf tells files of these names; and `text N`.
 use Rattle.std.specs.Prelude.{ℕ, ◌-◌, ◌^◌, pos, false, List, [], ◌∷◌, ◌++◌, Some, None, codes}
 use Rattle.rob_algebra.specs.Fraction.{neg_ℚ, of_int}
 use Rattle.rob_cert.specs.Spelling.{cert_text}
@@ -41,6 +41,12 @@ check_call c =
     call_over (codes "check" ∷ model_name ∷ certificate_name ∷ [])
     (file_of model_name (model_text one_demand) ∷ file_of certificate_name (cert_text one_demand c) ∷ [])
 
+-- `worst` on the text of a certificate of that model, and a word that may name a form
+abbrev pub worst_call : Certificate → Word → Call
+worst_call c form =
+    call_over (codes "worst" ∷ model_name ∷ certificate_name ∷ form ∷ [])
+    (file_of model_name (model_text one_demand) ∷ file_of certificate_name (cert_text one_demand c) ∷ [])
+
 -- `replay` on the text of a certificate of that model and a scenario file
 abbrev pub replay_call : Certificate → List ℕ → Call
 replay_call c bytes =
@@ -68,6 +74,15 @@ first_text =
 -- `whole` on the canonical text of a model, where these names are to take whole numbers
 abbrev pub whole_call : RobustModel → Word → Call
 whole_call m names = call_over (codes "whole" ∷ model_name ∷ names ∷ []) (file_of model_name (model_text m) ∷ [])
+
+-- `sweep` or `sweeptext` on the canonical text of a model, for statement 1 and the limit 0
+abbrev pub sweep_call : Word → RobustModel → Call
+sweep_call name m =
+    call_over (name ∷ model_name ∷ codes "1" ∷ codes "0" ∷ []) (file_of model_name (model_text m) ∷ [])
+
+-- `narrow` on the canonical text of a model
+abbrev pub narrow_call : RobustModel → Call
+narrow_call m = call_over (codes "narrow" ∷ model_name ∷ []) (file_of model_name (model_text m) ∷ [])
 
 -- a scenario file with two records: in the first the set admits `d`, which is 9; in the second, where it is 13, it does not
 abbrev pub two_demands : List ℕ

@@ -16,7 +16,8 @@ ghost use Rattle.rob_top.specs.Answers.{whole_text};
 ghost use Rattle.rob_top.specs.Branched.{IsPlanText, IsPrintedTree, IsReport, IsShownBy, nodes_line};
 ghost use Rattle.rob_top.specs.Calls.{IsBranching, count};
 ghost use Rattle.rob_top.specs.Replies.{Replies};
-ghost use Rattle.rob_top.specs.Work.{AnswersNames, AnswersVariables, IsUngrownOf, RepliesUngrown, ended_of};
+ghost use Rattle.rob_top.specs.Work.{AnswersNames, AnswersVariables, ended_of};
+ghost use Rattle.rob_top.specs.Refusing.{IsUngrownOf, RepliesUngrown};
 
 use crate::ended::Ended;
 use crate::names::variables_of;
@@ -219,7 +220,7 @@ fn ungrown<N: Exact>(alloc: Global, model: &Model<N>, stop: TreeStop) -> Result<
 }
 
 /// The answer where the named variables break the rule.
-fn broken(alloc: Global, rule: u8) -> Result<Reply, Memory>
+pub fn broken(alloc: Global, rule: u8) -> Result<Reply, Memory>
     ensures fault { IfOk result (Replies (Ended.Whole rule) (whole_text rule)) }
 {
     let mut buffer = Buffer::new();

@@ -2,7 +2,7 @@
 
 ghost use Rattle.std.specs.Prelude.{◌≡◌, ◌≤◌, ◌^◌, length, IfOk};
 ghost use Rattle.rob_cert.specs.Shape.{HasShape};
-ghost use Rattle.rob_cert.specs.View.{certificate_of};
+ghost use Rattle.rob_cert.specs.View.{certificate_of, status_of};
 ghost use Rattle.rob_elab.specs.Forms.{FormsFit, IsForms};
 ghost use Rattle.rob_meaning.specs.Named.{IsNamed};
 ghost use Rattle.rob_model.specs.Valid.{IsValid};
@@ -10,7 +10,7 @@ ghost use Rattle.rob_model.specs.View.{robust};
 ghost use Rattle.rob_report.specs.Places.{IsPlaceOf};
 ghost use Rattle.rob_report.specs.Spots.{rejected_line};
 ghost use Rattle.rob_sets.specs.SetForm.{IsSetForm, SetFits};
-ghost use Rattle.rob_top.specs.Answers.{accepted_text};
+ghost use Rattle.rob_top.specs.Answers.{accepted_by};
 ghost use Rattle.rob_top.specs.Calls.{count};
 ghost use Rattle.rob_top.specs.Replies.{Replies};
 ghost use Rattle.rob_top.specs.Work.{AnswersCertificate, AnswersFile};
@@ -83,21 +83,26 @@ fn check_cert<N: Exact, L: Ledger>(
     ensures counted { L.wides ledger.old ≤ L.wides ledger.new }
 {
     match check(model, forms, set, cert, ledger) {
-        Verdict::Accepted => accepted(alloc, cert),
+        Verdict::Accepted => accepted(alloc, cert.status, cert.value),
         Verdict::Rejected(place) => rejected(alloc, model, place),
         Verdict::TooWide(place) => too_wide(alloc, model, Spot::Check(place)),
     }
 }
 
-/// The answer for a certificate that proves.
-fn accepted<N: Exact>(alloc: Global, cert: &Cert<N>) -> Result<Reply, Memory>
-    ensures accepted { IfOk result (Replies Ended.Accepted (accepted_text (certificate_of N.value cert.now))) }
+/// The answer for a certificate or a branch tree that proves, and claims the status and the value.
+pub fn accepted<N: Exact>(alloc: Global, status: Status, value: N) -> Result<Reply, Memory>
+    ensures accepted { IfOk result (Replies Ended.Accepted (accepted_by (status_of status) (N.value value))) }
 {
-    match cert.status {
+    match status {
         Status::Optimal => {
-            let mut value = Text::new(alloc);
-            put_number(&mut value, cert.value)?;
-            line(alloc, Ended::Accepted, b"accepted optimal ", value.bytes())
+            let mut spelled = Text::new(alloc);
+            put_number(&mut spelled, value)?;
+            line(
+                alloc,
+                Ended::Accepted,
+                b"accepted optimal ",
+                spelled.bytes(),
+            )
         }
         Status::Infeasible => line(alloc, Ended::Accepted, b"accepted ", b"infeasible"),
         Status::Unbounded => line(alloc, Ended::Accepted, b"accepted ", b"unbounded"),

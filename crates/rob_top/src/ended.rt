@@ -5,10 +5,10 @@ ghost use Rattle.rob_top.specs.Codes.{code_of};
 
 use rob_model::{Place, Spot};
 use rob_number::List;
-use rob_tree::Branch;
+use rob_tree::{Branch, LeafFault};
 
-/// How a run ended. `Model`, `Cert` and `Scenarios` hold the number of the rule that the text breaks, and its line or
-/// record, from 1.
+/// How a run ended. `Model`, `Cert`, `Scenarios` and `Tree` hold the number of the rule that the text breaks, and its
+/// line or record, from 1.
 #[derive(Debug, Drop)]
 pub enum Ended {
     /// The model is optimal.
@@ -23,6 +23,8 @@ pub enum Ended {
     Accepted,
     /// The certificate doesn't prove: that condition fails.
     Rejected(Place),
+    /// The branch tree doesn't prove: that condition of the leaf of that number, from 1, fails.
+    TreeRejected(u32, LeafFault),
     /// The words are no command line.
     Words,
     /// A named file isn't there.
@@ -38,12 +40,20 @@ pub enum Ended {
     TooWide(Spot),
     /// It is, in the box behind these branches.
     WideNode(List<Branch>, Spot),
+    /// It is, in the model with the limit of that number among the limits, from 1.
+    WideBudget(u32, Spot),
     /// The certificate's text can't be read, or it claims that its model is infeasible, and a plan is asked for.
     Cert(u8, u32),
     /// The scenario file can't be read.
     Scenarios(u8, u32),
     /// The variables that are to take whole numbers break that rule.
     Whole(u8),
+    /// No form has the name that is given.
+    NoRow,
+    /// The branch tree's text can't be read.
+    Tree(u8, u32),
+    /// The statement or the limits of a sweep break that rule.
+    Sweep(u8),
     /// The outside failed while a file was read.
     ReadFault,
     /// The outside failed while the output was put.
@@ -64,6 +74,7 @@ impl Ended {
             Ended::Printed => 0,
             Ended::Accepted => 0,
             Ended::Rejected(_) => 12,
+            Ended::TreeRejected(_, _) => 12,
             Ended::Words => 20,
             Ended::Missing => 21,
             Ended::TooLong => 22,
@@ -71,9 +82,13 @@ impl Ended {
             Ended::EmptySet(_) => 24,
             Ended::TooWide(_) => 25,
             Ended::WideNode(_, _) => 25,
+            Ended::WideBudget(_, _) => 25,
             Ended::Cert(_, _) => 26,
             Ended::Scenarios(_, _) => 27,
             Ended::Whole(_) => 33,
+            Ended::NoRow => 29,
+            Ended::Tree(_, _) => 34,
+            Ended::Sweep(_) => 35,
             Ended::ReadFault => 30,
             Ended::WriteFault => 31,
             Ended::Memory => 40,

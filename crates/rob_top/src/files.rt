@@ -16,14 +16,20 @@ use rob_outside::{Fetched, Shelf, ShelfErr};
 use rob_words::{CommandLine, Own};
 use std::alloc::Global;
 
-/// The texts of a command's files, by their kinds, and its list of names. One that the command doesn't have is empty.
+/// The texts of a command's files, by their kinds, its list of names, its form's name, and its own words. One that the
+/// command doesn't have is empty.
 #[derive(Debug, Drop)]
 pub struct Texts {
     pub model: Vec<u8>,
     pub certificate: Vec<u8>,
     pub scenarios: Vec<u8>,
+    pub tree: Vec<u8>,
     /// The list of names among the command's own words.
     pub names: Vec<u8>,
+    /// The form's name among them.
+    pub form: Vec<u8>,
+    /// All its own words, in their order.
+    pub words: Vec<String>,
 }
 
 /// What came of a command's files: the texts of all of them, or the answer that ends the call.
@@ -94,7 +100,10 @@ fn no_files(alloc: Global) -> Files
         model: Vec::new(alloc),
         certificate: Vec::new(alloc),
         scenarios: Vec::new(alloc),
+        tree: Vec::new(alloc),
         names: Vec::new(alloc),
+        form: Vec::new(alloc),
+        words: Vec::new(alloc),
     })
 }
 
@@ -108,6 +117,11 @@ fn most_bytes(kind: Own) -> Option<usize>
         Own::Scenarios => Some(4_194_304),
         Own::Number => None,
         Own::Names => None,
+        Own::Form => None,
+        Own::Tree => Some(67_108_864),
+        Own::Statement => None,
+        Own::Limit => None,
+        Own::Limits => None,
     }
 }
 
@@ -121,22 +135,44 @@ fn with_bytes(kind: Own, bytes: Vec<u8>, files: Files) -> Files
                 model: bytes,
                 certificate: texts.certificate,
                 scenarios: texts.scenarios,
+                tree: texts.tree,
                 names: texts.names,
+                form: texts.form,
+                words: texts.words,
             },
             Own::Certificate => Texts {
                 model: texts.model,
                 certificate: bytes,
                 scenarios: texts.scenarios,
+                tree: texts.tree,
                 names: texts.names,
+                form: texts.form,
+                words: texts.words,
             },
             Own::Scenarios => Texts {
                 model: texts.model,
                 certificate: texts.certificate,
                 scenarios: bytes,
+                tree: texts.tree,
                 names: texts.names,
+                form: texts.form,
+                words: texts.words,
             },
             Own::Number => texts,
             Own::Names => texts,
+            Own::Form => texts,
+            Own::Tree => Texts {
+                model: texts.model,
+                certificate: texts.certificate,
+                scenarios: texts.scenarios,
+                tree: bytes,
+                names: texts.names,
+                form: texts.form,
+                words: texts.words,
+            },
+            Own::Statement => texts,
+            Own::Limit => texts,
+            Own::Limits => texts,
         }),
         Files::Answer(reply) => Files::Answer(reply),
     }

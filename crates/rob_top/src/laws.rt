@@ -1,38 +1,48 @@
-// Which answer has to come, what two answers say of each other, what `check` says of what `prove` prints, and what
-// `replay` shows of what `check` accepts and of what `prove` prints. What is known of a call's files (`Known`) are the
-// told files, or the answers that came in the call, which every shelf gives. The functions do nothing; their clauses
-// are the claims.
+// Which answer has to come, what two answers say of each other, what `check` says of what `prove` prints, what
+// `replay` and `worst` show of what `check` accepts and of what `prove` prints, and what `checktree` says of what `tree`
+// prints. What is known of a call's files (`Known`) are the told files, or the answers that came in the call, which
+// every shelf gives. The functions do nothing; their clauses are the claims.
 
-ghost use Rattle.std.specs.Prelude.{◌≡◌, ◌≤◌, ◌<◌, ◌^◌, ◌⊎◌, ℕ, ℤ, List, codes};
+ghost use Rattle.std.specs.Prelude.{◌≡◌, ◌≤◌, ◌<◌, ◌^◌, ◌⊎◌, ◌++◌, ℕ, ℤ, List, true, [], codes};
+ghost use Rattle.rob_algebra.specs.Fraction.{Fraction};
 ghost use Rattle.rob_cert.specs.Apart.{IsNamedInWords};
 ghost use Rattle.rob_check.specs.Narrow.{IsFirstFailing};
 ghost use Rattle.rob_dualize.specs.SmallestModel.{one_demand};
-ghost use Rattle.rob_dualize.specs.Solving.{IsWideOnPath};
+ghost use Rattle.rob_dualize.specs.Solving.{IsNarrowModel, IsWideOnPath};
 ghost use Rattle.rob_gen.specs.Generated.{generated};
 ghost use Rattle.rob_meaning.specs.Certificates.{Status, infeasible};
 ghost use Rattle.rob_meaning.specs.Places.{Each};
+ghost use Rattle.rob_meaning.specs.Proves.{HasStatus};
 ghost use Rattle.rob_meaning.specs.RobustModel.{RobustModel};
+ghost use Rattle.rob_meaning.specs.UncertaintySet.{Admits};
 ghost use Rattle.rob_model.specs.declared.place.Place.{Place};
 ghost use Rattle.rob_model.specs.declared.place.Spot.{Spot};
 ghost use Rattle.rob_model.specs.declared.place.Spot.TheVariants.{Replay as ReplaySpot};
 ghost use Rattle.rob_parse.specs.Modelled.{ReadsModel};
 ghost use Rattle.rob_replay.specs.Replayed.{ShowsBound};
-ghost use Rattle.rob_top.specs.Calls.{Call, Known, known_call, limit_of};
+ghost use Rattle.rob_top.specs.Branched.{IsBranched};
+ghost use Rattle.rob_top.specs.Calls.{Call, IsSolving, Known, known_call, limit_of};
+ghost use Rattle.rob_report.specs.NarrowText.{narrow_line};
 ghost use Rattle.rob_top.specs.Checked.{IsAccepted};
-ghost use Rattle.rob_top.specs.Completeness.{EndsAs, IsComplete, IsEmptyAnswer, IsProvedAnswer, IsUnput, MustEnd};
+ghost use Rattle.rob_top.specs.Completeness.{IsComplete, MustEnd};
+ghost use Rattle.rob_top.specs.Endings.{EndsAs, IsEmptyAnswer, IsProvedAnswer, IsUnput, NamesWidth};
 ghost use Rattle.rob_top.specs.Headline.{Means};
-ghost use Rattle.rob_top.specs.Inputs.{HasCertificateFile, HasReplayFile};
+ghost use Rattle.rob_top.specs.Inputs.{HasCertificateFile, HasModel, HasReplayFile};
+ghost use Rattle.rob_top.specs.Narrowed.{IsNarrowed};
 ghost use Rattle.rob_top.specs.Replayed.{IsReplayed};
+ghost use Rattle.rob_top.specs.Searched.{IsSearched, ShowsKept, certificate_vector};
 ghost use Rattle.rob_top.specs.Solved.{IsSolved};
+ghost use Rattle.rob_top.specs.TreeChecked.{HasTreeFile, IsTreeAccepted};
 ghost use Rattle.rob_top.specs.Work.{ended_of};
-ghost use Rattle.rob_top.specs.WorkedCalls.{check_call, empty_interval, first_text, greatest, half_a_demand, hard_and_soft, never_calm, no_demand, no_order, order_11, order_12, order_least, replay_call, solve_call, text_call, two_demands, two_demands_table, whole_call};
+ghost use Rattle.rob_top.specs.WorkedCalls.{check_call, empty_interval, first_text, greatest, half_a_demand, hard_and_soft, narrow_call, never_calm, no_demand, no_order, order_11, order_12, order_least, replay_call, solve_call, sweep_call, text_call, two_demands, two_demands_table, whole_call, worst_call};
+ghost use Rattle.rob_top.specs.WorkedTrees.{tree_call};
 ghost use Rattle.rob_top.specs.declared.ended.Ended.{Ended};
-ghost use Rattle.rob_top.specs.declared.ended.Ended.TheVariants.{Accepted, Cert, EmptySet, Optimal, Printed, Rejected, Scenarios, TooWide, Whole, WideNode};
+ghost use Rattle.rob_top.specs.declared.ended.Ended.TheVariants.{Accepted, Cert, EmptySet, NoRow, Optimal, Printed, Rejected, Scenarios, Sweep, TooWide, Tree as NoTree, Whole, WideNode};
 ghost use Rattle.rob_tree.specs.declared.tree.Branch.{Branch};
 ghost use Rattle.rob_words.specs.Commands.{Line};
 ghost use Rattle.rob_words.specs.Kinds.{IsNumber};
 ghost use Rattle.rob_words.specs.Values.{Word};
-ghost use Rattle.rob_words.specs.declared.verb.Verb.TheVariants.{Prove};
+ghost use Rattle.rob_words.specs.declared.verb.Verb.TheVariants.{Prove, Tree};
 ghost use Rattle.rob_write.specs.Canonical.{model_text};
 
 /// How a call must end, by its words and files: `specs/Completeness.antt`.
@@ -50,12 +60,46 @@ pub fn prove_then_check()
         → (ended : Ended) → Means checking ended shown → IsProvedAnswer (limit_of line) solved.m solved.c ended }
 {}
 
+/// What `narrow yes` says of `solve` and `prove` on the same model at the same width.
+pub fn narrow_then_solve()
+    // The model is narrow,
+    ensures narrow { (narrowing : Call) (text front : List ℕ) (narrowed : IsNarrowed narrowing text) → text ≡ front ++ narrow_line true
+        → IsNarrowModel (limit_of narrowed.line) narrowed.m }
+    // so they are never refused for width;
+    ensures not_refused { (narrowing solving : Call) (text front shown : List ℕ) (narrowed : IsNarrowed narrowing text)
+        → text ≡ front ++ narrow_line true → (known : Known solving.source) (line : Line) → line.width ≡ narrowed.line.width
+        → IsSolving line.verb → HasModel (known_call solving known) line narrowed.m → (spot : Spot)
+        → Means solving (TooWide spot) shown → ⊥ }
+    // and where some scenario is admitted the model's status is answered, or the outside fails, or memory is refused.
+    ensures status { (narrowing solving : Call) (text front shown : List ℕ) (narrowed : IsNarrowed narrowing text)
+        → text ≡ front ++ narrow_line true → (known : Known solving.source) (line : Line) → line.width ≡ narrowed.line.width
+        → IsSolving line.verb → HasModel (known_call solving known) line narrowed.m → (ended : Ended) → Means solving ended shown
+        → (u : List Fraction) → Admits narrowed.m u
+        → (status : Status) × (v : Fraction) × HasStatus narrowed.m status v × EndsAs (ended_of status) ended }
+{}
+
 /// The plan of a certificate that `check` accepted, as `replay` takes it on the same model.
 pub fn check_then_replay()
     // It has its bound; so each inside line shows no slack below 0, and an objective no worse than the value.
     ensures shown { (checking replaying : Call) (text shown : List ℕ) (accepted : IsAccepted checking text)
         (replayed : IsReplayed replaying shown) → replayed.m ≡ accepted.m → replayed.c ≡ accepted.c
         → Each (ShowsBound replayed.m replayed.c.value) replayed.lines }
+{}
+
+/// The plan of a certificate that `check` accepted, as `worst` takes it on the same model.
+pub fn check_then_worst()
+    // It has its bound; so a worst scenario is printed, whichever form is named, and no slack below 0.
+    ensures kept { (checking searching : Call) (text shown : List ℕ) (accepted : IsAccepted checking text)
+        (searched : IsSearched searching shown) → searched.m ≡ accepted.m → searched.c ≡ accepted.c
+        → ShowsKept searched.m searched.form (certificate_vector searched.c) shown }
+{}
+
+/// The plan of the certificate that `prove` printed, as `worst` takes it on the same model.
+pub fn prove_then_worst()
+    // So it is of that.
+    ensures kept { (proving searching : Call) (status : Status) (text shown : List ℕ) (solved : IsSolved proving status text)
+        (searched : IsSearched searching shown) → searched.m ≡ solved.m → searched.c ≡ solved.c
+        → ShowsKept searched.m searched.form (certificate_vector searched.c) shown }
 {}
 
 /// The text that `prove` printed, as the certificate's file of a `replay` on the same model at the same width.
@@ -71,6 +115,20 @@ pub fn prove_then_replay()
         → HasReplayFile (known_call replaying known) line solved.m text
         → (rule number : ℕ) → Means replaying (Cert rule number) shown
         → (rule ≡ 34) × ((number ≡ 1) × (status ≡ infeasible)) }
+{}
+
+/// The text that `tree` printed, as the tree's file of a `checktree` on the same model and variables at the same width.
+pub fn tree_then_checktree()
+    // It is accepted; or a number of the check is wide, and its place is named; or the outside fails, or memory is refused.
+    ensures accepted { (growing checking : Call) (status : Status) (text shown : List ℕ) (branched : IsBranched growing status text)
+        → branched.line.verb ≡ Tree → (known : Known checking.source) (line : Line) → line.width ≡ branched.line.width
+        → HasTreeFile (known_call checking known) line branched.m branched.names text → (ended : Ended)
+        → Means checking ended shown
+        → EndsAs Accepted ended ⊎ NamesWidth (limit_of line) branched.m branched.names branched.t ended }
+    // And whichever tree is accepted there claims the status that `whole` and `tree` answer.
+    ensures one_status { (growing checking : Call) (status : Status) (text shown : List ℕ) (branched : IsBranched growing status text)
+        (accepted : IsTreeAccepted checking shown) → accepted.m ≡ branched.m → accepted.names ≡ branched.names
+        → accepted.t.status ≡ status }
 {}
 
 /// What `text` prints for a number.
@@ -137,6 +195,23 @@ pub fn worked_calls()
     // On a model whose optimum in fractions isn't whole it is answered with `optimal`, or a wide number of a box.
     ensures halves { (result : Ended) → MustEnd (whole_call half_a_demand (codes "x")) result
         → EndsAs Optimal result ⊎ ((path : List Branch) × (spot : Spot) × (result ≡ WideNode path spot)) }
+    // `worst` prints the worst case of a row, or names a wide number;
+    ensures worst_case { (result : Ended) → MustEnd (worst_call order_12 (codes "r")) result
+        → EndsAs Printed result ⊎ ((spot : Spot) × (result ≡ TooWide spot)) }
+    // it names a word that is no form's name, and of a certificate without a plan rule 34.
+    ensures formless { (result : Ended) → MustEnd (worst_call order_12 (codes "q")) result
+        → EndsAs NoRow result }
+    ensures unplanned { (result : Ended) → MustEnd (worst_call no_order (codes "r")) result
+        → EndsAs (Cert 34 1) result }
+    // `checktree` names rule 71 of a tree's file that is empty.
+    ensures treeless { (result : Ended) → MustEnd (tree_call half_a_demand []) result → EndsAs (NoTree 71 1) result }
+    // `sweep` and `sweeptext` name rule 81 for a model without statements on its set.
+    ensures unswept { (result : Ended) → MustEnd (sweep_call (codes "sweep") one_demand) result
+        → EndsAs (Sweep 81) result }
+    ensures unlimited { (result : Ended) → MustEnd (sweep_call (codes "sweeptext") one_demand) result
+        → EndsAs (Sweep 81) result }
+    // `narrow` prints the bounds of the smallest model.
+    ensures narrow { (result : Ended) → MustEnd (narrow_call one_demand) result → EndsAs Printed result }
     // `text` prints a model, whichever number its word spells.
     ensures generated { (word : Word) → IsNumber word → (result : Ended) → MustEnd (text_call word) result
         → (result ≡ Printed) ⊎ IsUnput result }

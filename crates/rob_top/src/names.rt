@@ -1,4 +1,4 @@
-// The list of names among a command's own words.
+// The own words of a command that name no file: a list of names, a form's name.
 
 ghost use Rattle.std.specs.Prelude.{◌≡◌, ◌<◌, ◌↔◌, List, IfOk, IsTrue, MatchOption, Some, length, map, option_map, string_bytes, ℕ};
 ghost use Rattle.rob_cert.specs.Spelling.{name_at};
@@ -21,24 +21,54 @@ use rob_number::{Exact, List, Memory};
 use rob_words::{CommandLine, Own, first_part};
 use std::alloc::Global;
 
-/// The texts of a command's files, with its list of names.
+/// The texts of a command's files, with its list of names, its form's name and its own words.
 pub fn with_names(alloc: Global, line: &CommandLine, texts: Texts) -> Result<Texts, Memory>
     ensures kept { IfOk result (λ with. (with.model ≡ texts.model) × (with.certificate ≡ texts.certificate)
-        × (with.scenarios ≡ texts.scenarios)) }
+        × (with.scenarios ≡ texts.scenarios) × (with.tree ≡ texts.tree)) }
+    ensures words { IfOk result (λ with. map string_bytes with.words.items ≡ map string_bytes line.now.own.items) }
     ensures names { IfOk result (λ with. (word : Word)
         → calls.word_of own.Names (own_of line.now.verb) (map string_bytes line.now.own.items) ≡ Some word
         → with.names.items ≡ word) }
+    ensures form { IfOk result (λ with. (word : Word)
+        → calls.word_of own.Form (own_of line.now.verb) (map string_bytes line.now.own.items) ≡ Some word
+        → with.form.items ≡ word) }
 {
-    let mut names = Vec::new(alloc);
-    if let Some(word) = word_of(Own::Names, line.verb.own(), line.own.as_slice()) {
-        names.extend_from_slice(word.as_bytes())?;
-    }
+    let names = bytes_of(alloc, Own::Names, line)?;
+    let form = bytes_of(alloc, Own::Form, line)?;
+    let words = copied(alloc, line.own.as_slice())?;
     Ok(Texts {
         model: texts.model,
         certificate: texts.certificate,
         scenarios: texts.scenarios,
+        tree: texts.tree,
         names,
+        form,
+        words,
     })
+}
+
+/// The bytes of the first own word of the kind; none, where there is no such word.
+fn bytes_of(alloc: Global, kind: Own, line: &CommandLine) -> Result<Vec<u8>, Memory>
+    ensures bytes { IfOk result (λ bytes. (word : Word)
+        → calls.word_of kind (own_of line.now.verb) (map string_bytes line.now.own.items) ≡ Some word
+        → bytes.items ≡ word) }
+{
+    let mut bytes = Vec::new(alloc);
+    if let Some(word) = word_of(kind, line.verb.own(), line.own.as_slice()) {
+        bytes.extend_from_slice(word.as_bytes())?;
+    }
+    Ok(bytes)
+}
+
+/// The same words.
+fn copied(alloc: Global, words: &[String]) -> Result<Vec<String>, Memory>
+    ensures copied { IfOk result (λ copy. map string_bytes copy.items ≡ map string_bytes words.now) }
+{
+    let mut copy = Vec::new(alloc);
+    for word in words {
+        copy.push(String::from_str(alloc, word.as_str())?)?;
+    }
+    Ok(copy)
 }
 
 /// The first own word of the kind.

@@ -13,7 +13,8 @@ ghost use Rattle.rob_report.specs.Spots.{empty_set_lines};
 ghost use Rattle.rob_sets.specs.SetForm.{IsSetForm, SetFits};
 ghost use Rattle.rob_top.specs.Calls.{count};
 ghost use Rattle.rob_top.specs.Replies.{Replies};
-ghost use Rattle.rob_top.specs.Work.{AnswersForms, IsStopOf, RepliesStop, ended_of};
+ghost use Rattle.rob_top.specs.Work.{AnswersForms, ended_of};
+ghost use Rattle.rob_top.specs.Refusing.{IsStopOf, RepliesStop};
 ghost use Rattle.rob_words.specs.declared.verb.Verb.TheVariants.{Prove, Solve};
 
 use crate::ended::Ended;
@@ -114,7 +115,7 @@ pub fn ended_by(status: Status) -> Ended
 }
 
 /// The answer where the route stopped.
-fn stopped<N: Exact>(alloc: Global, model: &Model<N>, stop: Stop) -> Result<Reply, Memory>
+pub fn stopped<N: Exact>(alloc: Global, model: &Model<N>, stop: Stop) -> Result<Reply, Memory>
     requires valid { IsValid N.value model.now }
     requires named { IsStopOf (robust N.value model.now) stop }
     ensures stop { IfOk result (RepliesStop (robust N.value model.now) stop) }

@@ -147,6 +147,11 @@ fn reads_model(verb: Verb) -> bool
         Verb::Text => false,
         Verb::Whole => true,
         Verb::Tree => true,
+        Verb::Worst => true,
+        Verb::CheckTree => true,
+        Verb::Sweep => true,
+        Verb::SweepText => true,
+        Verb::Narrow => true,
     }
 }
 

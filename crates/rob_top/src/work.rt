@@ -12,16 +12,21 @@ ghost use Rattle.rob_sets.specs.SetForm.{IsSetForm, SetFits, judged_set};
 ghost use Rattle.rob_top.specs.Calls.{Call, IsElaborating, IsOnModel, count, elaborates as is_elaborating};
 ghost use Rattle.rob_top.specs.Headline.{Means};
 ghost use Rattle.rob_top.specs.Replies.{HasTexts, Replies};
-ghost use Rattle.rob_top.specs.Work.{AnswersModel, AnswersTexts, AnswersWhole, IsRefusedOf, IsShort, RepliesRefused, RepliesUnread};
+ghost use Rattle.rob_top.specs.Work.{AnswersModel, AnswersTexts, AnswersWhole, IsShort};
+ghost use Rattle.rob_top.specs.Refusing.{IsRefusedOf, RepliesRefused, RepliesUnread};
 ghost use Rattle.rob_words.specs.Commands.{Line};
 
 use crate::branching::branch_text;
 use crate::checking::check_text;
 use crate::ended::Ended;
 use crate::files::Texts;
+use crate::narrowing::narrow;
 use crate::replaying::replay_text;
 use crate::reply::{Reply, broken_rule};
+use crate::searching::search_text;
 use crate::solving::{prove, solve};
+use crate::sweeping::{limit_words, sweep_words};
+use crate::tree_checking::check_tree_text;
 use rob_elab::{Forms, elaborate};
 use rob_model::{Model, Spot};
 use rob_number::{Exact, Ledger, Memory};
@@ -99,6 +104,11 @@ fn elaborates(verb: Verb) -> bool
         Verb::Text => false,
         Verb::Whole => false,
         Verb::Tree => false,
+        Verb::Worst => true,
+        Verb::CheckTree => false,
+        Verb::Sweep => false,
+        Verb::SweepText => false,
+        Verb::Narrow => true,
     }
 }
 
@@ -143,6 +153,7 @@ fn unelaborated<N: Exact + Drop, L: Ledger>(
     ensures counted { L.wides ledger.old ≤ L.wides ledger.new }
 {
     let names = texts.names.as_slice();
+    let words = texts.words.as_slice();
     match verb {
         Verb::Replay => {
             let certificate = texts.certificate.as_slice();
@@ -151,6 +162,12 @@ fn unelaborated<N: Exact + Drop, L: Ledger>(
         }
         Verb::Whole => branch_text(alloc, model, verb, names, ledger),
         Verb::Tree => branch_text(alloc, model, verb, names, ledger),
+        Verb::CheckTree => {
+            let tree = texts.tree.as_slice();
+            check_tree_text(alloc, model, names, tree, ledger)
+        }
+        Verb::Sweep => sweep_words(alloc, model, words, ledger),
+        Verb::SweepText => limit_words(alloc, model, words, ledger),
         _ => unreachable!(),
     }
 }
@@ -211,6 +228,12 @@ fn on_forms<N: Exact + Drop, L: Ledger>(
             let text = texts.certificate.as_slice();
             check_text(alloc, model, forms, set, text, ledger)
         }
+        Verb::Worst => {
+            let text = texts.certificate.as_slice();
+            let name = texts.form.as_slice();
+            search_text(alloc, model, forms, set, text, name, ledger)
+        }
+        Verb::Narrow => narrow::<N>(alloc, forms, set),
         _ => unreachable!(),
     }
 }

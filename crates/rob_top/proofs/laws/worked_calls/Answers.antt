@@ -1,9 +1,14 @@
 use Rattle.rob_top.proofs.WorkedCalls.{empty_interval_is_shown, one_demand_is_solved}
-use Rattle.rob_top.proofs.WorkedSetCalls.{hard_and_soft_is_solved, never_calm_is_shown}
+use Rattle.rob_top.proofs.WorkedEmptyCalls.{never_calm_is_shown}
+use Rattle.rob_top.proofs.WorkedSetCalls.{hard_and_soft_is_solved}
 use Rattle.rob_top.proofs.WorkedChecks.{order_11_is_rejected, order_12_is_accepted}
+use Rattle.rob_top.proofs.WorkedNarrows.{one_demand_has_bounds}
 use Rattle.rob_top.proofs.WorkedReplays.{no_demand_is_refused, no_order_is_planless, order_least_is_wide, two_demands_are_printed, two_demands_are_replayed}
 use Rattle.rob_top.proofs.WorkedNumbers.{number_is_answered}
+use Rattle.rob_top.proofs.WorkedTrees.{empty_tree_is_refused}
+use Rattle.rob_top.proofs.WorkedSweeps.{no_budget_is_limited, no_budget_is_swept}
 use Rattle.rob_top.proofs.WorkedWholes.{half_a_demand_is_solved, x_is_boundless, y_is_no_variable}
+use Rattle.rob_top.proofs.WorkedWorsts.{no_order_has_no_plan, q_is_no_form, r_has_a_worst_case}
 use Rattle.rob_top.proofs.laws.worked_calls.Goals as goal
 
 pub returns : goal.returns
@@ -18,9 +23,16 @@ returns c = record {
   boundless = x_is_boundless;
   nameless = y_is_no_variable;
   halves = half_a_demand_is_solved;
+  unswept = no_budget_is_swept;
+  unlimited = no_budget_is_limited;
   table = two_demands_are_printed;
   wide = order_least_is_wide;
   planless = no_order_is_planless;
   unread = no_demand_is_refused;
+  worst_case = r_has_a_worst_case;
+  formless = q_is_no_form;
+  unplanned = no_order_has_no_plan;
+  treeless = empty_tree_is_refused;
+  narrow = one_demand_has_bounds;
   generated = number_is_answered;
 }

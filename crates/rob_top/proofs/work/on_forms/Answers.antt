@@ -1,5 +1,8 @@
 use Rattle.rob_model.specs.View.{robust}
 use Rattle.rob_top.proofs.CheckingLemmas.{file_answers}
+use Rattle.rob_top.proofs.SearchingLemmas.{search_answers}
+use Rattle.rob_top.proofs.NarrowAnswerLemmas.{narrow_answers, of_model}
+use Rattle.rob_top.proofs.SolvingLemmas.{counterpart_few}
 use Rattle.rob_top.proofs.WorkLemmas.{at_verb, rows_answer}
 use Rattle.rob_words.specs.declared.verb.Verb.TheVariants.{Prove, Solve}
 use Rattle.rob_top.proofs.work.on_forms.Goals as goal
@@ -20,3 +23,31 @@ pub returns-in-Check-clause-answers : goal.returns-in-Check-clause-answers
 returns-in-Check-clause-answers g c =
     file_answers g.N.Exact.limit (robust g.N.Exact.value c.args.model.now) _ c.args.verb c.args.texts.now c.as_slice-text.result.now c.check_text.result c.in-Check.is
     c.as_slice-text.ensures.value c.check_text.ensures.answers
+
+pub returns-in-Worst-clause-answers : goal.returns-in-Worst-clause-answers
+returns-in-Worst-clause-answers g c =
+    search_answers g.N.Exact.limit (robust g.N.Exact.value c.args.model.now) _ c.args.verb c.args.texts.now c.as_slice-text-in-Worst.result.now
+    c.as_slice-name.result.now c.search_text.result c.in-Worst.is c.as_slice-text-in-Worst.ensures.value c.as_slice-name.ensures.value
+    c.search_text.ensures.answers
+
+pub narrow-requires : goal.narrow-requires
+narrow-requires g c =
+    let m = robust g.N.Exact.value c.args.model.now in
+    record {
+      model = record {
+        model = m;
+        elaborated = record {
+          are_forms = c.requires.forms;
+          is_set = c.requires.set;
+          forms_fit = c.requires.forms_fit;
+          set_fits = c.requires.set_fits;
+        };
+      };
+      few = counterpart_few m c.requires.valid.limits c.args.forms.now c.args.set.now c.requires.forms c.requires.set;
+    }
+
+pub returns-in-Narrow-clause-answers : goal.returns-in-Narrow-clause-answers
+returns-in-Narrow-clause-answers g c =
+    let m = robust g.N.Exact.value c.args.model.now in
+    narrow_answers g.N.Exact.limit m _ c.args.verb c.args.texts.now c.narrow.result c.in-Narrow.is
+    (of_model m c.narrow.result c.args.forms.now c.args.set.now g.N.Exact.limit c.requires.forms c.requires.set c.narrow.ensures.narrow)

@@ -1,7 +1,10 @@
-use Rattle.std.proofs.Common.{ap}
+use Rattle.std.proofs.Common.{ap, map, string_bytes}
 use Rattle.rob_model.specs.View.{robust}
 use Rattle.rob_top.proofs.BranchingLemmas.{names_answer}
 use Rattle.rob_top.proofs.ReplayingLemmas.{replay_answers}
+use Rattle.rob_top.proofs.TreeCheckLemmas.{texts_answers}
+use Rattle.rob_top.proofs.SweepingLemmas.{words_answer_at}
+use Rattle.rob_words.specs.declared.verb.Verb.TheVariants as verbs
 use Rattle.rob_top.specs.Calls.{branches}
 use Rattle.rob_top.proofs.work.unelaborated.Goals as goal
 
@@ -25,3 +28,21 @@ pub returns-in-Tree-clause-answers : goal.returns-in-Tree-clause-answers
 returns-in-Tree-clause-answers g c =
     names_answer g.N.Exact.limit (robust g.N.Exact.value c.args.model.now) _ c.args.verb c.args.texts.now c.as_slice-names.result.now c.branch_text-in-Tree.result
     (ap branches c.in-Tree.is) c.as_slice-names.ensures.value c.branch_text-in-Tree.ensures.answers
+
+pub returns-in-CheckTree-clause-answers : goal.returns-in-CheckTree-clause-answers
+returns-in-CheckTree-clause-answers g c =
+    texts_answers g.N.Exact.limit (robust g.N.Exact.value c.args.model.now) _ c.args.verb c.args.texts.now c.as_slice-names.result.now
+    c.as_slice-tree.result.now c.check_tree_text.result c.in-CheckTree.is c.as_slice-names.ensures.value c.as_slice-tree.ensures.value
+    c.check_tree_text.ensures.answers
+
+pub returns-in-Sweep-clause-answers : goal.returns-in-Sweep-clause-answers
+returns-in-Sweep-clause-answers g c =
+    words_answer_at g.N.Exact.limit (robust g.N.Exact.value c.args.model.now) _ c.args.verb verbs.Sweep c.args.texts.now
+    (map string_bytes c.as_slice-words.result.now) c.sweep_words.result c.in-Sweep.is (ap (map string_bytes) c.as_slice-words.ensures.value)
+    c.sweep_words.ensures.answers
+
+pub returns-in-SweepText-clause-answers : goal.returns-in-SweepText-clause-answers
+returns-in-SweepText-clause-answers g c =
+    words_answer_at g.N.Exact.limit (robust g.N.Exact.value c.args.model.now) _ c.args.verb verbs.SweepText c.args.texts.now
+    (map string_bytes c.as_slice-words.result.now) c.limit_words.result c.in-SweepText.is (ap (map string_bytes) c.as_slice-words.ensures.value)
+    c.limit_words.ensures.answers

@@ -1,0 +1,248 @@
+-- The answers of `worst`, from what the reading of a certificate and the search answer.
+use Rattle.std.proofs.Common.{◌≡◌, ◌≢◌, ℕ, ◌<◌, ◌≤◌, true, List, [], length, map, Some, None, Result, Ok, Err, IfOk, inl, inr, refl, subst, sym, ap, ◌∙◌, ◌⊎◌, arith}
+use Rattle.std.proofs.lemmas.List.{length-map}
+use Rattle.std.proofs.lemmas.Option.{get_or_from_slice_get, slice_get-get_or, slice_get_within}
+use Rattle.rob_algebra.specs.Fraction.{Fraction, of_int, ◌+ℚ◌, ◌≤ℚ◌}
+use Rattle.rob_algebra.specs.FractionLaws.{le_trans_ℚ, lt_irrefl_ℚ, lt_le_trans_ℚ}
+use Rattle.rob_algebra.specs.Width.{IsWide}
+use Rattle.rob_cert.specs.Apart.{FitsLines}
+use Rattle.rob_cert.specs.Causes as text
+use Rattle.rob_cert.specs.Reading.{start}
+use Rattle.rob_cert.specs.Spelling.{name_at, naming_of}
+use Rattle.rob_cert.specs.Whole.{IsTextOf}
+use Rattle.rob_cert.specs.declared.ending.Worst as ending
+use Rattle.rob_cert.specs.declared.ending.Worst.TheVariants.{At, Along}
+use Rattle.rob_cert.specs.declared.error.CertErr.TheVariants.{Rule}
+use Rattle.rob_meaning.proofs.AtLemmas.{bound_at}
+use Rattle.rob_meaning.proofs.LinearLemmas.{zero_lt_one}
+use Rattle.rob_meaning.specs.Certificates.{Certificate, infeasible}
+use Rattle.rob_meaning.specs.Forms.{form_at, form_columns, forms, matrices, matrix_of}
+use Rattle.rob_meaning.specs.Guarantee.{HasBound}
+use Rattle.rob_meaning.specs.Multipliers.{set_limits}
+use Rattle.rob_meaning.specs.Names.{Name, form_names}
+use Rattle.rob_meaning.specs.Places.{0ℚ, 1ℚ}
+use Rattle.rob_meaning.specs.RobustModel.{RobustModel}
+use Rattle.rob_meaning.specs.Vectors.{dot}
+use Rattle.rob_meaning.specs.WellFormed.{IsModel}
+use Rattle.rob_model.proofs.PartLemmas.{each_get}
+use Rattle.rob_model.specs.Naming.{Finds}
+use Rattle.rob_model.specs.View.{scenario_of}
+use Rattle.rob_model.specs.declared.place.Spot.TheVariants as spot
+use Rattle.rob_model.specs.declared.place.Where.TheVariants as where_at
+use Rattle.rob_number.specs.declared.memory.Memory.{Memory as Want}
+use Rattle.rob_report.specs.Worst.{along_text, greatest_text}
+use Rattle.rob_runs.proofs.ToldLemmas.{told_along}
+use Rattle.rob_runs.specs.Readings.{cleared_by}
+use Rattle.rob_runs.specs.Searches.{FindsRay}
+use Rattle.rob_runs.specs.Spots.{IsWideSlack, slack_of}
+use Rattle.rob_runs.specs.Told.{HasNoGreatestAlong, TellsWorst}
+use Rattle.rob_worst.specs.Finding.{Tells}
+use Rattle.rob_top.proofs.OwnLemmas.{file_came, has_form, has_kind, word_there}
+use Rattle.rob_top.proofs.WorkLemmas.{call_of_verb, call_within, rose_earlier}
+use Rattle.rob_top.proofs.WorstSlackLemmas.{bound_slack, scale_some, worst_found_at}
+use Rattle.rob_top.specs.Answers.{certificate_text, no_row_text}
+use Rattle.rob_top.specs.Calls.{Count, HasFile, count}
+use Rattle.rob_top.specs.Headline.{Means, worst_found}
+use Rattle.rob_top.specs.Refused.{searching}
+use Rattle.rob_top.specs.Replies.{Replies}
+use Rattle.rob_top.specs.Searched.{IsWideSought, IsWorstScenario, ShowsKept, ShowsWorst, attained, certificate_vector, claims_none, endless, in_slack, misread}
+use Rattle.rob_top.specs.Work.{AnswersPlanned, AnswersSearch, AnswersSearched, AnswersSought, AnswersWhole, HasScale, RepliesSlack, RepliesWorst}
+use Rattle.rob_top.specs.declared.ended.Ended.{Ended}
+use Rattle.rob_top.specs.declared.ended.Ended.TheVariants.{Cert, NoRow, Printed}
+use Rattle.rob_top.specs.declared.files.Texts.{Texts}
+use Rattle.rob_top.specs.declared.reply.Reply.{Reply}
+use Rattle.rob_words.specs.Values.{Word}
+use Rattle.rob_words.specs.Verbs.{own_of}
+use Rattle.rob_words.specs.declared.verb.Own.TheVariants as own
+use Rattle.rob_words.specs.declared.verb.Verb.{Verb}
+use Rattle.rob_words.specs.declared.verb.Verb.TheVariants.{Worst}
+
+-- ---- the number of a name
+
+-- the name that is found at a number stands there
+pub name_found : (names : List Name) (name : Name) (k : ℕ) → Finds names name (Some k) → (k < length names) × (name_at names k ≡ name)
+name_found names name k finds = (slice_get_within names k name finds.0, get_or_from_slice_get names k name [] finds.0)
+
+-- one that isn't found stands nowhere
+pub name_missing : (names : List Name) (name : Name) → Finds names name None → (k : ℕ) → k < length names → name_at names k ≢ name
+name_missing names name finds k inside =
+    each_get (λ other. other ≢ name) names k (name_at names k) (slice_get-get_or names k [] inside) finds
+
+-- a form with a name has a matrix
+pub form_matrix : (m : RobustModel) (form : ℕ) → form < length (forms m) → form < length (matrices m)
+form_matrix m form h = omega (arith, h, length-map (forms m) (matrix_of m))
+
+module _ (limit : ℕ) (m : RobustModel) where
+  -- ---- the texts of a call
+  pub search_answers : (wides : Count) (verb : Verb) (texts : Texts) (certificate name : List ℕ) (r : Result Reply Want) → verb ≡ Worst
+      → certificate ≡ texts.certificate.items → name ≡ texts.form.items → IfOk r (AnswersSearch limit wides m certificate name)
+      → IfOk r (AnswersWhole limit wides m verb texts)
+  search_answers wides verb texts certificate name (Err want) e same alike h = tt
+  search_answers wides verb texts certificate name (Ok reply) e same alike h = λ call line at came has.
+      let here : line.verb ≡ Worst = at.verb_is ∙ e in
+      let names : has_kind own.Certificate (own_of line.verb) ≡ true =
+      subst (λ (v : Verb). has_kind own.Certificate (own_of v) ≡ true) (sym here) refl
+      in
+      let word = word_there own.Form (own_of line.verb) line.own came.spelled.1.count (has_form line.verb here) in
+      h call line (call_of_verb limit wides verb Worst call line e at)
+      (record {
+        forms = has;
+        is_worst = here;
+        file = subst (λ (list : List ℕ). HasFile call line own.Certificate list) (sym same)
+            (file_came call line texts own.Certificate _ refl came names);
+      })
+      (word.1 ∙ ap Some (sym (came.form word.0 word.1) ∙ sym alike))
+
+  -- ---- a certificate's text
+  module _ (name : Word) where
+    pub misread_answers : (wides : Count) (certificate : List ℕ) (rule number : ℕ) (r : Result Reply Want)
+        → text.HasCause (naming_of m) limit start certificate 1 (Rule rule number)
+        → IfOk r (Replies (Cert rule number) (certificate_text rule number)) → IfOk r (AnswersSearch limit wides m certificate name)
+    misread_answers wides certificate rule number (Err want) broken is = tt
+    misread_answers wides certificate rule number (Ok reply) broken is = λ call line at file told.
+        subst (λ (ended : Ended). Means call ended reply.text) (sym is.0)
+        (inr (inr (record {
+          line = line;
+          m = m;
+          gives_none = misread certificate file
+              (subst (λ (l : ℕ). text.HasCause (naming_of m) l start certificate 1 (Rule rule number)) (sym at.limit_is) broken);
+          printed = is.1;
+        })))
+
+    pub read_answers : (before middle now : ℕ) (certificate : List ℕ) (c : Certificate) (r : Result Reply Want) → before ≤ middle
+        → IsTextOf m c certificate → FitsLines limit m c → IfOk r (AnswersSearched limit (count middle now) m c name)
+        → IfOk r (AnswersSearch limit (count before now) m certificate name)
+    read_answers before middle now certificate c (Err want) least is fits h = tt
+    read_answers before middle now certificate c (Ok reply) least is fits h = λ call line at file told.
+        h call line (call_within limit (count middle now) (count before now) Worst call line (rose_earlier before middle now least) at)
+        (record { bytes = certificate; file = file; text = is; fits = subst (λ (l : ℕ). FitsLines l m c) (sym at.limit_is) fits })
+        told
+
+    -- ---- a certificate, with a plan or without one
+    module _ (c : Certificate) (wides : Count) where
+      pub claims_none_answers : (r : Result Reply Want) → c.status ≡ infeasible → IfOk r (Replies (Cert 34 1) (certificate_text 34 1))
+          → IfOk r (AnswersSearched limit wides m c name)
+      claims_none_answers (Err want) none is = tt
+      claims_none_answers (Ok reply) none is = λ call line at read told.
+          subst (λ (ended : Ended). Means call ended reply.text) (sym is.0)
+          (inr (inr (record { line = line; m = m; gives_none = claims_none c read none refl refl; printed = is.1 })))
+
+      pub planned_answers : (r : Result Reply Want) → c.status ≢ infeasible → IfOk r (AnswersPlanned limit wides m c name)
+          → IfOk r (AnswersSearched limit wides m c name)
+      planned_answers (Err want) some h = tt
+      planned_answers (Ok reply) some h = λ call line at read told. h call line at (record { certificate = read; has_plan = some }) told
+
+      -- ---- the form of the name, or none
+      pub no_row_answers : (r : Result Reply Want) → Finds (form_names m) name None → IfOk r (Replies NoRow (no_row_text name))
+          → IfOk r (AnswersPlanned limit wides m c name)
+      no_row_answers (Err want) finds is = tt
+      no_row_answers (Ok reply) finds is = λ call line at plan told.
+          subst (λ (ended : Ended). Means call ended reply.text) (sym is.0)
+          (record {
+            line = line;
+            m = m;
+            c = c;
+            name = name;
+            names_none = record { plan = plan; told = told; none = name_missing (form_names m) name finds };
+            printed = is.1;
+          })
+
+      pub named_answers : (form : ℕ) (r : Result Reply Want) → Finds (form_names m) name (Some form)
+          → IfOk r (AnswersSought limit wides m c form) → IfOk r (AnswersPlanned limit wides m c name)
+      named_answers form (Err want) finds h = tt
+      named_answers form (Ok reply) finds h = λ call line at plan told.
+          let found = name_found (form_names m) name form finds in
+          h call line at (record { plan = plan; is_form = found.0; told = told ∙ ap Some (sym found.1) })
+
+  -- ---- the search
+  module _ (model : IsModel m) (form : ℕ) (some : form < length (matrices m)) (c : Certificate)
+      (size : length (certificate_vector c) ≡ form_columns m) where
+    abbrev z : List Fraction
+    z = certificate_vector c
+
+    -- the worst case, as it is printed
+    printed_answers : (wides : Count) (reply : Reply) (text : List ℕ) → ShowsWorst m form z text
+        → (HasBound m c.plan c.value → ShowsKept m form z text) → Replies Printed text reply → AnswersSought limit wides m c form reply
+    printed_answers wides reply text shows kept is = λ call line at has.
+        subst (λ (ended : Ended). Means call ended reply.text) (sym is.0)
+        (worst_found (record {
+          line = line;
+          m = m;
+          c = c;
+          form = form;
+          has = has;
+          shows = subst (λ (t : List ℕ). ShowsWorst m form z t) (sym is.1) shows;
+          kept = λ bound. subst (λ (t : List ℕ). ShowsKept m form z t) (sym is.1) (kept bound);
+        }))
+
+    -- a scenario, with its slack or a wide number of that
+    module _ (scale peak constant : Fraction) (scenario : List Fraction) (basis : List ℕ) (amounts : List Fraction)
+        (tells : TellsWorst m form z scale peak constant scenario basis amounts) where
+      is_worst : IsWorstScenario m form z scenario (slack_of scale peak constant)
+      is_worst = worst_found_at m model form some z size scale peak constant scenario basis amounts tells
+
+      kept_shown : HasBound m c.plan c.value → ShowsKept m form z (greatest_text m form (slack_of scale peak constant) scenario)
+      kept_shown bound = (
+        scenario,
+        slack_of scale peak constant,
+        is_worst,
+        subst (λ x. 0ℚ ≤ℚ x) (sym is_worst.slack_is)
+            (bound_slack m model form c.plan c.value bound scenario is_worst.admitted),
+        refl,
+      )
+
+      slack_wide : IsWide limit (peak +ℚ constant) ⊎ IsWide limit (slack_of scale peak constant) → IsWideSlack limit m form z
+      slack_wide h = record {
+        basis = basis;
+        scenario = scenario;
+        amounts = amounts;
+        found = tells.found;
+        wide = subst (λ k. IsWide limit (dot amounts (set_limits m) +ℚ k) ⊎ IsWide limit (slack_of (cleared_by z) (dot amounts (set_limits m)) k))
+            tells.constant_is
+            (subst (λ p. IsWide limit (p +ℚ constant) ⊎ IsWide limit (slack_of (cleared_by z) p constant)) tells.peak_is
+            (subst (λ s. IsWide limit (peak +ℚ constant) ⊎ IsWide limit (slack_of s peak constant)) tells.denominator_is h));
+      }
+
+      slack_answers : (wides : Count) (reply : Reply) → RepliesSlack limit m form wides scale peak constant scenario reply
+          → AnswersSought limit wides m c form reply
+      slack_answers wides reply (inl is) =
+          printed_answers wides reply (greatest_text m form (slack_of scale peak constant) scenario)
+          (attained basis scenario amounts (slack_of scale peak constant) tells.found is_worst refl) kept_shown is
+      slack_answers wides reply (inr h) = λ call line at has.
+          subst (λ (ended : Ended). Means call ended reply.text) (sym h.0.0)
+          (record {
+            line = line;
+            m = m;
+            wide = searching c form has
+                (subst (λ (l : ℕ). IsWideSought l m form z (spot.Sum (where_at.Cost form) 0)) (sym at.limit_is)
+                (in_slack (scenario, is_worst.admitted) refl (slack_wide h.2)));
+            raised = at.raised h.1;
+            printed = h.0.1;
+          })
+
+    -- a ray; a plan that has its bound has none
+    no_ray : (ray : List Fraction) → HasNoGreatestAlong m form z ray → HasBound m c.plan c.value → ⊥
+    no_ray ray along bound =
+        let u = along.no_greatest 1ℚ in
+        lt_irrefl_ℚ 0ℚ
+        (lt_le_trans_ℚ 0ℚ 1ℚ 0ℚ zero_lt_one
+        (le_trans_ℚ 1ℚ (form_at m form 1ℚ u.0 z) 0ℚ u.2 (bound_at m model c.plan c.value bound u.0 u.1 form)))
+
+    ray_answers : (wides : Count) (reply : Reply) (basis : List ℕ) (column : ℕ) (ray : List Fraction) → FindsRay m form z basis column ray
+        → Replies Printed (along_text m form ray) reply → AnswersSought limit wides m c form reply
+    ray_answers wides reply basis column ray found is =
+        let along : HasNoGreatestAlong m form z ray = told_along m model form some z size basis column ray found in
+        printed_answers wides reply (along_text m form ray) (endless basis column ray found along refl)
+        (λ bound. absurd (no_ray ray along bound)) is
+
+    pub found_answers_as : {N : Type 0} (value : N → Fraction) (wides : Count) (worst : ending.Worst N) (reply : Reply)
+        → Tells value m form z worst → RepliesWorst limit m form wides value worst reply → AnswersSought limit wides m c form reply
+    found_answers_as value wides (At scale peak constant scenario basis amounts) reply tells is =
+        slack_answers (value scale) (value peak) (of_int constant) (scenario_of value scenario) basis (map value amounts) tells wides reply is
+    found_answers_as value wides (Along ray basis column) reply tells is = ray_answers wides reply basis column (map value ray) tells is
+
+  -- what the search tells can be divided by its scale
+  pub told_scale : {N : Type 0} (value : N → Fraction) (form : ℕ) (z : List Fraction) (worst : ending.Worst N) → Tells value m form z worst
+      → HasScale value worst
+  told_scale value form z (At scale peak constant scenario basis amounts) tells = scale_some z (value scale) tells.denominator_is
+  told_scale value form z (Along ray basis column) tells = tt

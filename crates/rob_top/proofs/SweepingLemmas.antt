@@ -1,0 +1,286 @@
+-- The answers of `sweep` and `sweeptext`, from what the words tell and what the sweep answers.
+use Rattle.std.proofs.Common.{◌≡◌, ◌≤◌, ◌<◌, ◌++◌, ℕ, ◌-◌, suc, List, slice_index_or, [], ◌∷◌, length, map, string_bytes, Some, Result, Ok, Err, IfOk, get_or, inl, inr, refl, subst, sym, ap, ◌∙◌, arith}
+use Rattle.std.proofs.lemmas.List.{length-map}
+use Rattle.rob_algebra.specs.Fraction.{Fraction}
+use Rattle.rob_dualize.specs.Models.{IsWideIn}
+use Rattle.rob_meaning.specs.RobustModel.{RobustModel}
+use Rattle.rob_model.specs.declared.place.Spot.{Spot}
+use Rattle.rob_number.specs.declared.memory.Memory.{Memory as Want}
+use Rattle.rob_reach.specs.Sweeps.{IsBudgetAt, SweepAnswer, Swept, with_budget}
+use Rattle.rob_report.specs.Places.{IsSpotOf}
+use Rattle.rob_sweep.specs.Answering.{AreWritten, EachAnswer, EachGrowsHarder, NamesEmpty}
+use Rattle.rob_sweep.specs.Stops.{CountsStop, HasCause, IsWideAt, KeepsRules}
+use Rattle.rob_sweep.specs.SweepText.{sweep_text}
+use Rattle.rob_sweep.specs.declared.answer.SweepStop.{SweepStop}
+use Rattle.rob_sweep.specs.declared.answer.SweepStop.TheVariants as unswept
+use Rattle.rob_top.specs.Answers.{wide_budget_text, words_text}
+use Rattle.rob_top.specs.Calls.{Call, Count, count, limit_of, word_of}
+use Rattle.rob_top.specs.Headline.{Means, swept}
+use Rattle.rob_top.specs.Inputs.{HasModel}
+use Rattle.rob_top.specs.Replies.{Replies}
+use Rattle.rob_top.specs.Swept.{HasLimit, at_limit, at_limits, limit_value}
+use Rattle.rob_top.specs.Work.{AnswersModel, AnswersSweep, AnswersWords, IsCallAt}
+use Rattle.rob_top.specs.Refusing.{RepliesLimit, RepliesUnswept}
+use Rattle.rob_top.specs.declared.ended.Ended.{Ended}
+use Rattle.rob_top.specs.declared.ended.Ended.TheVariants.{Printed, WideBudget, Words}
+use Rattle.rob_top.specs.declared.files.Texts.{Texts}
+use Rattle.rob_top.specs.declared.reply.Reply.{Reply}
+use Rattle.rob_top.proofs.BoxPathLemmas.{spot_in}
+use Rattle.rob_top.proofs.WorkLemmas.{call_within, rose_earlier}
+use Rattle.rob_words.specs.Commands.{Line}
+use Rattle.rob_words.specs.Kinds.{AreOfKinds, IsOfKind, IsStatement, number_of}
+use Rattle.rob_words.specs.Names.{parts_of}
+use Rattle.rob_words.specs.Values.{Word}
+use Rattle.rob_words.specs.Verbs.{own_of}
+use Rattle.rob_words.specs.declared.verb.Own.{Own}
+use Rattle.rob_words.specs.declared.verb.Own.TheVariants as own
+use Rattle.rob_words.specs.declared.verb.Verb.{Verb}
+use Rattle.rob_words.specs.declared.verb.Verb.TheVariants as verbs
+use Rattle.rob_write.specs.Canonical.{model_text}
+
+-- ---- own words: the model's file, the number of a statement, and a word of a kind
+pub record HasThree (greatest : ℕ) (kind : Own) (words : List Word) : Type 0 where
+  pub file : Word
+  pub number : Word
+  pub behind : Word
+  pub words_are : words ≡ file ∷ number ∷ behind ∷ []
+  pub statement : IsStatement number
+  pub of_kind : IsOfKind greatest kind behind
+
+three_words : (greatest : ℕ) (kind : Own) (words : List Word) → length words ≡ 3
+    → AreOfKinds greatest (own.Model ∷ own.Statement ∷ kind ∷ []) words → HasThree greatest kind words
+three_words greatest kind [] count kinds = absurd (omega (arith, count))
+three_words greatest kind (a ∷ []) count kinds = absurd (omega (arith, count))
+three_words greatest kind (a ∷ b ∷ []) count kinds = absurd (omega (arith, count))
+three_words greatest kind (a ∷ b ∷ c ∷ []) count kinds = record {
+  file = a;
+  number = b;
+  behind = c;
+  words_are = refl;
+  statement = kinds.1.0;
+  of_kind = kinds.1.1.0;
+}
+three_words greatest kind (a ∷ b ∷ c ∷ d ∷ words) count kinds = absurd (omega (arith, count))
+
+module _ (limit : ℕ) (wides : Count) (m : RobustModel) (verb : Verb) (kind : Own)
+    (own_is : own_of verb ≡ own.Model ∷ own.Statement ∷ kind ∷ []) where
+  pub three_of : (call : Call) (line : Line) → IsCallAt limit wides verb call line → HasModel call line m → HasThree limit kind line.own
+  three_of call line at has =
+      let kinds_are : own_of line.verb ≡ own.Model ∷ own.Statement ∷ kind ∷ [] = ap own_of at.verb_is ∙ own_is in
+      let parts = has.spelled.1 in
+      three_words limit kind line.own (parts.count ∙ ap (λ (ks : List Own). length ks) kinds_are)
+      (subst (λ (ks : List Own). AreOfKinds limit ks line.own) kinds_are
+      (subst (λ (l : ℕ). AreOfKinds l (own_of line.verb) line.own) at.limit_is parts.kinds))
+
+  -- words that aren't such are those of no call
+  pub no_line_answers : (words : List Word) (r : Result Reply Want) → (HasThree limit kind words → ⊥) → IfOk r (Replies Words words_text)
+      → IfOk r (AnswersWords limit wides m verb words)
+  no_line_answers words (Err want) none is = tt
+  no_line_answers words (Ok reply) none is = λ call line at has same.
+      absurd (none (subst (λ (ws : List Word). HasThree limit kind ws) same (three_of call line at has)))
+
+module _ (limit : ℕ) (kind : Own) (words : List Word) where
+  -- there aren't three
+  pub not_three : (length words ≡ 3 → ⊥) → HasThree limit kind words → ⊥
+  not_three other h = other (ap (λ (ws : List Word). length ws) h.words_are)
+
+  module _ (file number behind : Word) (words_are : words ≡ file ∷ number ∷ behind ∷ []) where
+    pub not_statement : (IsStatement number → ⊥) → HasThree limit kind words → ⊥
+    not_statement none h =
+        let both : file ∷ number ∷ behind ∷ [] ≡ h.file ∷ h.number ∷ h.behind ∷ [] = sym words_are ∙ h.words_are in
+        let same : h.number ≡ number = cc in none (subst IsStatement same h.statement)
+
+    pub not_kind : (IsOfKind limit kind behind → ⊥) → HasThree limit kind words → ⊥
+    not_kind none h =
+        let both : file ∷ number ∷ behind ∷ [] ≡ h.file ∷ h.number ∷ h.behind ∷ [] = sym words_are ∙ h.words_are in
+        let same : h.behind ≡ behind = cc in none (subst (λ (w : Word). IsOfKind limit kind w) same h.of_kind)
+
+-- three words, by the second and the third
+pub three_items : {A : Type 0} (f : A → Word) (xs : List A) (b c : Word) (d e : A) → 3 ≤ length xs → length xs < 4
+    → b ≡ f (slice_index_or xs 1 d) → c ≡ f (slice_index_or xs 2 e) → (file : Word) × (map f xs ≡ file ∷ b ∷ c ∷ [])
+three_items f [] b c d e least most is also = absurd (omega (arith, least))
+three_items f (x ∷ []) b c d e least most is also = absurd (omega (arith, least))
+three_items f (x ∷ y ∷ []) b c d e least most is also = absurd (omega (arith, least))
+three_items f (x ∷ y ∷ z ∷ []) b c d e least most is also =
+    let second : b ≡ f y = is in let third : c ≡ f z = also in (f x, cc)
+three_items f (x ∷ y ∷ z ∷ v ∷ xs) b c d e least most is also = absurd (omega (arith, most))
+
+-- as many answers as limits
+swept_count : (m : RobustModel) (n : ℕ) (gs : List Fraction) (answers : List SweepAnswer) → Swept m n gs answers
+    → length answers ≡ length gs
+swept_count m n [] [] h = refl
+swept_count m n [] (a ∷ answers) h = absurd h
+swept_count m n (g ∷ gs) [] h = absurd h
+swept_count m n (g ∷ gs) (a ∷ answers) h = ap suc (swept_count m n gs answers h.1)
+
+pub answers_count : {X Y : Type 0} (value : X → Fraction) (view : Y → SweepAnswer) (m : RobustModel) (n : ℕ) (xs : List X)
+    (ys zs : List Y) → zs ≡ ys → Swept m n (map value xs) (map view ys) → length zs ≡ length xs
+answers_count value view m n xs ys zs same h =
+    ap (λ list. length list) same
+    ∙ (sym (length-map ys view) ∙ (swept_count m n (map value xs) (map view ys) h ∙ length-map xs value))
+
+-- why a sweep stopped at a wide number
+pub wide_cause : (limit : ℕ) (m : RobustModel) (n : ℕ) (gs : List Fraction) (s : SweepStop) (number : ℕ) (spot : Spot)
+    → s ≡ unswept.Wide number spot → HasCause limit m n gs s → KeepsRules m.set_lines n gs × IsWideAt limit m n gs number spot
+wide_cause limit m n gs s number spot is cause = subst (λ (x : SweepStop). HasCause limit m n gs x) is cause
+
+-- ---- `sweep`
+module _ (limit : ℕ) (m : RobustModel) where
+  -- the words tell the statement and the limits
+  pub sweep_told : (before middle now : ℕ) (words : List Word) (file number behind : Word) (n : ℕ) (gs : List Fraction) (r : Result Reply Want)
+      → words ≡ file ∷ number ∷ behind ∷ [] → n ≡ number_of number → gs ≡ map limit_value (parts_of behind)
+      → before ≤ middle → IfOk r (AnswersSweep limit (count middle now) m n gs)
+      → IfOk r (AnswersWords limit (count before now) m verbs.Sweep words)
+  sweep_told before middle now words file number behind n gs (Err want) words_are n_is gs_are least h = tt
+  sweep_told before middle now words file number behind n gs (Ok reply) words_are n_is gs_are least h = λ call line at has same.
+      h call line (call_within limit (count middle now) (count before now) verbs.Sweep call line (rose_earlier before middle now least) at)
+      (record {
+        model = has;
+        is_sweep = at.verb_is;
+        statement = record { word = number; told = told own.Statement call line at (same ∙ words_are) number refl; spells = n_is };
+        limits_are = record { word = behind; told = told own.Limits call line at (same ∙ words_are) behind refl; parts = gs_are };
+      })
+    where
+      told : (kind : Own) (call : Call) (line : Line) → IsCallAt limit (count before now) verbs.Sweep call line
+          → line.own ≡ file ∷ number ∷ behind ∷ [] → (word : Word)
+          → word_of kind (own_of verbs.Sweep) (file ∷ number ∷ behind ∷ []) ≡ Some word
+          → word_of kind (own_of line.verb) line.own ≡ Some word
+      told kind call line at own_is word e =
+          ap (λ (v : Verb). word_of kind (own_of v) line.own) at.verb_is
+          ∙ ap (λ (ws : List Word). word_of kind (own_of verbs.Sweep) ws) own_is ∙ e
+
+  -- the answers are printed
+  pub priced_answers : (wides : Count) (n : ℕ) (gs : List Fraction) (answers : List SweepAnswer) (r : Result Reply Want)
+      → KeepsRules m.set_lines n gs → AreWritten limit m n gs → Swept m n gs answers → EachAnswer NamesEmpty m n gs answers
+      → EachGrowsHarder m.sense answers → IfOk r (Replies Printed (sweep_text gs answers)) → IfOk r (AnswersSweep limit wides m n gs)
+  priced_answers wides n gs answers (Err want) keeps written each empty harder is = tt
+  priced_answers wides n gs answers (Ok reply) keeps written each empty harder is = λ call line at has.
+      subst (λ (ended : Ended). Means call ended reply.text) (sym is.0)
+      (swept (inl (record {
+        line = line;
+        m = m;
+        n = n;
+        limits = gs;
+        has = has;
+        keeps = keeps;
+        written = subst (λ (l : ℕ). AreWritten l m n gs) (sym at.limit_is) written;
+        answers = answers;
+        swept = each;
+        empty = empty;
+        harder = harder;
+        printed = is.1;
+      })))
+
+  -- the sweep stopped
+  stop_answers : (before now n : ℕ) (gs : List Fraction) (s : SweepStop) (reply : Reply) → HasCause limit m n gs s → CountsStop before now s
+      → RepliesUnswept limit m n gs s reply → AnswersSweep limit (count before now) m n gs reply
+  stop_answers before now n gs (unswept.Rule rule) reply cause counted is = λ call line at has.
+      subst (λ (ended : Ended). Means call ended reply.text) (sym is.0)
+      (record { line = line; m = m; breaks = at_limits n gs has cause; printed = is.1 })
+  stop_answers before now n gs (unswept.Wide number spot) reply cause counted is = λ call line at has.
+      let wide : IsWideAt (limit_of line) m n gs number spot =
+      subst (λ (l : ℕ). IsWideAt l m n gs number spot) (sym at.limit_is) cause.1
+      in
+      let says : Replies (WideBudget number spot) (wide_budget_text m n wide.here spot) reply =
+      subst (λ (l : ℕ). (h : IsWideAt l m n gs number spot) → Replies (WideBudget number spot) (wide_budget_text m n h.here spot) reply)
+      (sym at.limit_is) is wide
+      in
+      subst (λ (ended : Ended). Means call ended reply.text) (sym says.0)
+      (record {
+        line = line;
+        m = m;
+        n = n;
+        limits = gs;
+        has = has;
+        keeps = cause.0;
+        wide = wide;
+        raised = at.raised counted;
+        printed = says.1;
+      })
+  stop_answers before now n gs unswept.Memory reply cause counted is = absurd is
+
+  pub unswept_answers : (before now n : ℕ) (gs : List Fraction) (s : SweepStop) (r : Result Reply Want) → HasCause limit m n gs s
+      → CountsStop before now s → IfOk r (RepliesUnswept limit m n gs s) → IfOk r (AnswersSweep limit (count before now) m n gs)
+  unswept_answers before now n gs s (Err want) cause counted is = tt
+  unswept_answers before now n gs s (Ok reply) cause counted is = stop_answers before now n gs s reply cause counted is
+
+  -- ---- `sweeptext`
+  pub limit_told : (before now : ℕ) (words : List Word) (file number behind : Word) (n : ℕ) (g : Fraction) (r : Result Reply Want)
+      → words ≡ file ∷ number ∷ behind ∷ [] → n ≡ number_of number → g ≡ limit_value behind
+      → IfOk r (RepliesLimit m n g) → IfOk r (AnswersWords limit (count before now) m verbs.SweepText words)
+  limit_told before now words file number behind n g (Err want) words_are n_is g_is h = tt
+  limit_told before now words file number behind n g (Ok reply) words_are n_is g_is h = λ call line at has same.
+      by call line
+      (record {
+        model = has;
+        is_text = at.verb_is;
+        statement = record { word = number; told = told own.Statement call line at (same ∙ words_are) number refl; spells = n_is };
+        limit_is = record { word = behind; told = told own.Limit call line at (same ∙ words_are) behind refl; spells = g_is };
+      })
+      h
+    where
+      told : (kind : Own) (call : Call) (line : Line) → IsCallAt limit (count before now) verbs.SweepText call line
+          → line.own ≡ file ∷ number ∷ behind ∷ [] → (word : Word)
+          → word_of kind (own_of verbs.SweepText) (file ∷ number ∷ behind ∷ []) ≡ Some word
+          → word_of kind (own_of line.verb) line.own ≡ Some word
+      told kind call line at own_is word e =
+          ap (λ (v : Verb). word_of kind (own_of v) line.own) at.verb_is
+          ∙ ap (λ (ws : List Word). word_of kind (own_of verbs.SweepText) ws) own_is ∙ e
+
+      by : (call : Call) (line : Line) → HasLimit call line m n g → RepliesLimit m n g reply → Means call reply.ended reply.text
+      by call line has (inl is) =
+          subst (λ (ended : Ended). Means call ended reply.text) (sym is.1.0)
+          (swept (inr (record { line = line; m = m; n = n; g = g; has = has; budget = is.0; printed = is.1.1 })))
+      by call line has (inr is) =
+          subst (λ (ended : Ended). Means call ended reply.text) (sym is.1.0)
+          (record { line = line; m = m; breaks = at_limit n g has is.0 refl; printed = is.1.1 })
+
+  -- ---- a number that is wide at a limit
+  -- the limit of a number of the list
+  limit_at : (before after : List Fraction) (here : Fraction) (k : ℕ) (d : Fraction) → k ≡ length before
+      → get_or (before ++ here ∷ after) k d ≡ here
+  limit_at [] after here k d e = ap (λ (i : ℕ). get_or (here ∷ after) i d) e
+  limit_at (g ∷ before) after here k d e =
+      ap (λ (i : ℕ). get_or ((g ∷ before) ++ here ∷ after) i d) e ∙ limit_at before after here (length before) d refl
+
+  pub wide_here : (n : ℕ) (gs : List Fraction) (number : ℕ) (spot : Spot) (g d : Fraction) (h : IsWideAt limit m n gs number spot)
+      → g ≡ get_or gs (number - 1) d → h.here ≡ g
+  wide_here n gs number spot g d h is =
+      let back : number - 1 ≡ length h.before = omega (arith, h.counted) in
+      sym (is ∙ ap (λ (xs : List Fraction). get_or xs (number - 1) d) h.order ∙ limit_at h.before h.after h.here (number - 1) d back)
+
+  pub wide_there : (n : ℕ) (gs : List Fraction) (number : ℕ) (spot : Spot) (g d : Fraction) (h : IsWideAt limit m n gs number spot)
+      → g ≡ get_or gs (number - 1) d → IsSpotOf (with_budget m n g) spot
+  wide_there n gs number spot g d h is =
+      spot_in limit (with_budget m n g) spot
+      (subst (λ (x : Fraction). IsWideIn limit (with_budget m n x) spot) (wide_here n gs number spot g d h is) h.wide)
+
+  pub wide_replies : (n : ℕ) (gs : List Fraction) (number : ℕ) (spot : Spot) (g d : Fraction) (r : Result Reply Want)
+      → g ≡ get_or gs (number - 1) d → IfOk r (Replies (WideBudget number spot) (wide_budget_text m n g spot))
+      → IfOk r (RepliesUnswept limit m n gs (unswept.Wide number spot))
+  wide_replies n gs number spot g d (Err want) is h = tt
+  wide_replies n gs number spot g d (Ok reply) is h = λ wide.
+      subst (λ (x : Fraction). Replies (WideBudget number spot) (wide_budget_text m n x spot) reply)
+      (sym (wide_here n gs number spot g d wide is)) h
+
+-- the reply to `sweeptext`, where the statement is a budget
+pub limit_replies : (m changed : RobustModel) (n : ℕ) (g : Fraction) (r : Result Reply Want) → IsBudgetAt m.set_lines n
+    → changed ≡ with_budget m n g → IfOk r (Replies Printed (model_text changed)) → IfOk r (RepliesLimit m n g)
+limit_replies m changed n g (Err want) budget same is = tt
+limit_replies m changed n g (Ok reply) budget same is =
+    inl (budget, subst (λ (x : RobustModel). Replies Printed (model_text x) reply) same is)
+
+-- ---- the command's own words are the line's
+module _ (limit : ℕ) (m : RobustModel) where
+  pub words_answer : (wides : Count) (verb : Verb) (texts : Texts) (words : List Word) (r : Result Reply Want)
+      → words ≡ map string_bytes texts.words.items → IfOk r (AnswersWords limit wides m verb words)
+      → IfOk r (AnswersModel limit wides m verb texts)
+  words_answer wides verb texts words (Err want) same h = tt
+  words_answer wides verb texts words (Ok reply) same h = λ call line at came has. h call line at has (sym (same ∙ came.words))
+
+  pub words_answer_at : (wides : Count) (verb other : Verb) (texts : Texts) (words : List Word) (r : Result Reply Want) → verb ≡ other
+      → words ≡ map string_bytes texts.words.items → IfOk r (AnswersWords limit wides m other words)
+      → IfOk r (AnswersModel limit wides m verb texts)
+  words_answer_at wides verb other texts words r e same h =
+      words_answer wides verb texts words r same
+      (subst (λ (v : Verb). IfOk r (AnswersWords limit wides m v words)) (sym e) h)

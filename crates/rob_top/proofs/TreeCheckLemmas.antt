@@ -1,0 +1,168 @@
+-- The answers of `checktree`, from what the search for names, the reading of a tree and its check answer.
+use Rattle.std.proofs.Common.{◌≡◌, ◌≤◌, ℕ, List, map, Some, None, true, Result, Ok, Err, IfOk, inr, refl, subst, sym, ap, ◌∙◌}
+use Rattle.rob_branch.specs.Verdicts.{IsAccepted, IsRejectedAt, IsTooWideAt, IsVerdict, OnAccepted, RoseIfTooWide}
+use Rattle.rob_meaning.specs.RobustModel.{RobustModel}
+use Rattle.rob_number.specs.declared.memory.Memory.{Memory as Want}
+use Rattle.rob_reach.proofs.VerdictLemmas.{fault_refuses}
+use Rattle.rob_reach.specs.Ranges.{whole_rule}
+use Rattle.rob_reach.specs.Trees.{ProvesTree, Tree}
+use Rattle.rob_reach.specs.WholeStatus.{HasWholeStatus}
+use Rattle.rob_tree.specs.Reading.{Breaks, TreeFits}
+use Rattle.rob_tree.specs.Shape.{HasTreeShape}
+use Rattle.rob_tree.specs.TreeText.{IsTextOfTree}
+use Rattle.rob_tree.specs.View.{branch_of}
+use Rattle.rob_tree.specs.declared.verdict.LeafFault.{LeafFault}
+use Rattle.rob_tree.specs.declared.verdict.TreeVerdict.{TreeVerdict}
+use Rattle.rob_tree.specs.declared.verdict.TreeVerdict.TheVariants as verdict
+use Rattle.rob_top.proofs.OwnLemmas.{file_came, has_kind, word_there}
+use Rattle.rob_top.proofs.WorkLemmas.{call_of_verb, call_within, rose_earlier}
+use Rattle.rob_top.specs.Answers.{whole_text}
+use Rattle.rob_top.specs.Branched.{no_ranges, no_variables}
+use Rattle.rob_top.specs.Calls.{Count, HasFile, count}
+use Rattle.rob_top.specs.Headline.{Means}
+use Rattle.rob_top.specs.Inputs.{AreVariables}
+use Rattle.rob_top.specs.Replies.{Replies}
+use Rattle.rob_top.specs.TreeAnswers.{tree_fault_text}
+use Rattle.rob_top.specs.TreeWork.{AnswersTree, AnswersTreeFile, AnswersTreeNames, AnswersTreeNumbers, RepliesVerdict}
+use Rattle.rob_top.specs.Work.{AnswersModel}
+use Rattle.rob_top.specs.declared.ended.Ended.{Ended}
+use Rattle.rob_top.specs.declared.ended.Ended.TheVariants.{Whole, Tree as TreeRule}
+use Rattle.rob_top.specs.declared.files.Texts.{Texts}
+use Rattle.rob_top.specs.declared.reply.Reply.{Reply}
+use Rattle.rob_words.specs.Names.{parts_of}
+use Rattle.rob_words.specs.Verbs.{own_of}
+use Rattle.rob_words.specs.declared.verb.Own.{Own}
+use Rattle.rob_words.specs.declared.verb.Own.TheVariants as own
+use Rattle.rob_words.specs.declared.verb.Verb.{Verb}
+use Rattle.rob_words.specs.declared.verb.Verb.TheVariants.{CheckTree}
+
+-- a tree that is rejected doesn't prove
+pub rejected_not : (limit : ℕ) (m : RobustModel) (names : List ℕ) (t : Tree) (number : ℕ) (told : LeafFault) → HasTreeShape limit m names t
+    → IsRejectedAt limit m names t number told → ProvesTree m names t → ⊥
+rejected_not limit m names t number told shape h = fault_refuses m names t shape.tree h.condition h.first
+
+module _ (limit : ℕ) (m : RobustModel) where
+  -- ---- the verdict on a tree
+  module _ (numbers : List ℕ) (t : Tree) where
+    reply_answers : (before now : ℕ) (v : TreeVerdict) (reply : Reply) → IsVerdict limit m numbers t v
+        → OnAccepted v (HasWholeStatus m numbers t.status t.value) → RoseIfTooWide before now v → RepliesVerdict m t v reply
+        → AnswersTree limit (count before now) m numbers t reply
+    reply_answers before now verdict.Accepted reply h holds rose said = λ call line at read.
+        subst (λ (ended : Ended). Means call ended reply.text) (sym said.0)
+        (inr (record {
+          line = line;
+          m = m;
+          names = numbers;
+          t = t;
+          read = read;
+          accepted = subst (λ (l : ℕ). IsAccepted l m numbers t) (sym at.limit_is) h;
+          holds = holds;
+          printed = said.1;
+        }))
+    reply_answers before now (verdict.Rejected number told) reply h holds rose said = λ call line at read.
+        subst (λ (ended : Ended). Means call ended reply.text) (sym said.0)
+        (record {
+          line = line;
+          m = m;
+          names = numbers;
+          t = t;
+          read = read;
+          rejected = subst (λ (l : ℕ). IsRejectedAt l m numbers t number told) (sym at.limit_is) h;
+          proves_not = rejected_not limit m numbers t number told
+              (subst (λ (l : ℕ). HasTreeShape l m numbers t) at.limit_is read.text.shape) h;
+          printed = said.1;
+        })
+    reply_answers before now (verdict.TooWide path spot) reply h holds rose said = λ call line at read.
+        subst (λ (ended : Ended). Means call ended reply.text) (sym said.0)
+        (inr (record {
+          line = line;
+          m = m;
+          names = numbers;
+          t = t;
+          read = read;
+          wide = subst (λ (l : ℕ). IsTooWideAt l m numbers t (map branch_of path) spot) (sym at.limit_is) h;
+          raised = at.raised rose;
+          printed = said.1;
+        }))
+    reply_answers before now verdict.Memory reply h holds rose said = absurd said
+
+    pub verdict_answers : (before now : ℕ) (v : TreeVerdict) (r : Result Reply Want) → IsVerdict limit m numbers t v
+        → OnAccepted v (HasWholeStatus m numbers t.status t.value) → RoseIfTooWide before now v → IfOk r (RepliesVerdict m t v)
+        → IfOk r (AnswersTree limit (count before now) m numbers t)
+    verdict_answers before now v (Err want) h holds rose said = tt
+    verdict_answers before now v (Ok reply) h holds rose said = reply_answers before now v reply h holds rose said
+
+    -- ---- the text of a tree
+    pub tree_answers : (before middle now : ℕ) (text : List ℕ) (r : Result Reply Want) → before ≤ middle
+        → IsTextOfTree limit m numbers t text → TreeFits limit m t → IfOk r (AnswersTree limit (count middle now) m numbers t)
+        → IfOk r (AnswersTreeFile limit (count before now) m numbers text)
+    tree_answers before middle now text (Err want) least is fits h = tt
+    tree_answers before middle now text (Ok reply) least is fits h = λ call line at file.
+        h call line
+        (call_within limit (count middle now) (count before now) CheckTree call line (rose_earlier before middle now least) at)
+        (record {
+          bytes = text;
+          file = file;
+          text = subst (λ (l : ℕ). IsTextOfTree l m numbers t text) (sym at.limit_is) is;
+          fits = subst (λ (l : ℕ). TreeFits l m t) (sym at.limit_is) fits;
+        })
+
+  pub rule_answers : (wides : Count) (numbers text : List ℕ) (rule number : ℕ) (r : Result Reply Want)
+      → Breaks limit m numbers text rule number → IfOk r (Replies (TreeRule rule number) (tree_fault_text rule number))
+      → IfOk r (AnswersTreeFile limit wides m numbers text)
+  rule_answers wides numbers text rule number (Err want) broken said = tt
+  rule_answers wides numbers text rule number (Ok reply) broken said = λ call line at file.
+      subst (λ (ended : Ended). Means call ended reply.text) (sym said.0)
+      (record {
+        line = line;
+        m = m;
+        names = numbers;
+        bytes = text;
+        file = file;
+        breaks = subst (λ (l : ℕ). Breaks l m numbers text rule number) (sym at.limit_is) broken;
+        printed = said.1;
+      })
+
+  -- ---- variables that are to take whole numbers
+  pub ranges_answers : (wides : Count) (numbers text : List ℕ) (rule : ℕ) (r : Result Reply Want) → whole_rule m numbers ≡ Some rule
+      → IfOk r (Replies (Whole rule) (whole_text rule)) → IfOk r (AnswersTreeNumbers limit wides m numbers text)
+  ranges_answers wides numbers text rule (Err want) broken said = tt
+  ranges_answers wides numbers text rule (Ok reply) broken said = λ call line at has file.
+      subst (λ (ended : Ended). Means call ended reply.text) (sym said.0)
+      (record { line = line; m = m; breaks = no_ranges numbers has broken; printed = said.1 })
+
+  pub kept_answers : (wides : Count) (numbers text : List ℕ) (r : Result Reply Want) → whole_rule m numbers ≡ None
+      → IfOk r (AnswersTreeFile limit wides m numbers text) → IfOk r (AnswersTreeNumbers limit wides m numbers text)
+  kept_answers wides numbers text (Err want) keeps h = tt
+  kept_answers wides numbers text (Ok reply) keeps h = λ call line at has file.
+      h call line at (record { variables = record { named = has; keeps = keeps }; is_checktree = at.verb_is; file = file })
+
+  pub numbers_answers : (wides : Count) (names numbers text : List ℕ) (r : Result Reply Want) → AreVariables m (parts_of names) numbers
+      → IfOk r (AnswersTreeNumbers limit wides m numbers text) → IfOk r (AnswersTreeNames limit wides m names text)
+  numbers_answers wides names numbers text (Err want) are h = tt
+  numbers_answers wides names numbers text (Ok reply) are h = λ call line at has told file.
+      h call line at (record { model = has; names = parts_of names; told = told; variables = are }) file
+
+  pub nameless_answers : (wides : Count) (names text : List ℕ) (r : Result Reply Want)
+      → ((numbers : List ℕ) → AreVariables m (parts_of names) numbers → ⊥) → IfOk r (Replies (Whole 61) (whole_text 61))
+      → IfOk r (AnswersTreeNames limit wides m names text)
+  nameless_answers wides names text (Err want) none said = tt
+  nameless_answers wides names text (Ok reply) none said = λ call line at has told file.
+      subst (λ (ended : Ended). Means call ended reply.text) (sym said.0)
+      (record { line = line; m = m; breaks = no_variables (parts_of names) has told none refl; printed = said.1 })
+
+  -- ---- the command is `checktree`, so a list of names and the file of a tree came
+  own_kind : (verb : Verb) (kind : Own) → verb ≡ CheckTree → has_kind kind (own_of CheckTree) ≡ true → has_kind kind (own_of verb) ≡ true
+  own_kind verb kind e h = subst (λ (v : Verb). has_kind kind (own_of v) ≡ true) (sym e) h
+
+  pub texts_answers : (wides : Count) (verb : Verb) (texts : Texts) (names text : List ℕ) (r : Result Reply Want) → verb ≡ CheckTree
+      → names ≡ texts.names.items → text ≡ texts.tree.items → IfOk r (AnswersTreeNames limit wides m names text)
+      → IfOk r (AnswersModel limit wides m verb texts)
+  texts_answers wides verb texts names text (Err want) e same alike h = tt
+  texts_answers wides verb texts names text (Ok reply) e same alike h = λ call line at came has.
+      let here : line.verb ≡ CheckTree = at.verb_is ∙ e in
+      let word = word_there own.Names (own_of line.verb) line.own came.spelled.1.count (own_kind line.verb own.Names here refl) in
+      h call line (call_of_verb limit wides verb CheckTree call line e at) has
+      (record { word = word.0; told = word.1; parts = ap parts_of (same ∙ came.names word.0 word.1) })
+      (subst (λ (list : List ℕ). HasFile call line own.Tree list) (sym alike)
+      (file_came call line texts own.Tree _ refl came (own_kind line.verb own.Tree here refl)))

@@ -1,0 +1,248 @@
+-- Which answer has to come at `worst`, where what is known of the files decides.
+use Rattle.std.proofs.Common.{◌≡◌, ℕ, List, Some, inl, inr, refl, sym, ◌∙◌, ap, subst, ◌⊎◌}
+use Rattle.rob_algebra.specs.Fraction.{Fraction}
+use Rattle.rob_cert.specs.Causes.{HasCause}
+use Rattle.rob_cert.specs.Reading.{start}
+use Rattle.rob_cert.specs.Spelling.{name_at, naming_of}
+use Rattle.rob_cert.specs.Whole.{IsTextOf}
+use Rattle.rob_cert.specs.declared.error.CertErr.TheVariants.{Rule}
+use Rattle.rob_cert.proofs.CoverLemmas.{one_number}
+use Rattle.rob_cert.proofs.OneBreach.{one_cause}
+use Rattle.rob_cert.proofs.OneCertificate.{read_once}
+use Rattle.rob_cert.proofs.SpellingLaws.{breaks_none}
+use Rattle.rob_dualize.specs.SetSolving.{IsWideInSet}
+use Rattle.rob_meaning.specs.Certificates.{Certificate, infeasible}
+use Rattle.rob_meaning.specs.Names.{form_names}
+use Rattle.rob_meaning.specs.Proves.{Proves}
+use Rattle.rob_meaning.specs.RobustModel.{RobustModel}
+use Rattle.rob_meaning.specs.UncertaintySet.{Admits, IsEmptySet}
+use Rattle.rob_model.proofs.OwnNames.{forms_distinct}
+use Rattle.rob_model.specs.declared.place.Program.TheVariants as programs
+use Rattle.rob_model.specs.declared.place.Spot.{Spot}
+use Rattle.rob_model.specs.declared.place.Spot.TheVariants as spots
+use Rattle.rob_top.proofs.CommandLemmas.{check_not_worst, narrow_not_worst, replay_not_worst, rows_not_worst, solves_no_worst, worst_no_branch, worst_no_sweep, worst_not_tree}
+use Rattle.rob_top.proofs.CourseLemmas.{Course, WorstCourse, admits_none, bounds, branching, checking_tree, finds, judges, lacks_plan, names_none, plans_none, prints, refuses, replays, searches, shows_empty, shows_worst, sweeping, unplanned_verb, wide_number, wide_row, wide_search}
+use Rattle.rob_top.proofs.ReplayAnswerLemmas.{model_read}
+use Rattle.rob_top.proofs.SolvingLemmas.{proved_bound}
+use Rattle.rob_top.proofs.SoughtLemmas.{forms_sought, forms_unnamed, forms_unplanned}
+use Rattle.rob_top.proofs.StageLemmas.{file_once}
+use Rattle.rob_top.proofs.TrueAnswerLemmas.{course_of, first_of_two, in_words, lacking_verb, most, named, no_first, well}
+use Rattle.rob_top.specs.Calls.{Call, Known, limit_of}
+use Rattle.rob_top.specs.Endings.{IsEmptyAnswer, IsWorstAnswer}
+use Rattle.rob_top.specs.Headline.{Means}
+use Rattle.rob_top.specs.Inputs.{HasForms, HasModel, HasPlan, HasSought, HasWorstCertificate, HasWorstFile, TellsForm}
+use Rattle.rob_top.specs.Searched.{GivesNoPlan, IsSearched, IsWideSought, NamesNoForm, ShowsKept, certificate_vector, claims_none, in_search, in_set, in_slack, misread}
+use Rattle.rob_top.specs.declared.ended.Ended.{Ended}
+use Rattle.rob_top.specs.declared.ended.Ended.TheVariants.{Cert, EmptySet, NoRow, Printed, ReadFault, TooWide, Memory}
+use Rattle.rob_words.specs.Commands.{Line}
+use Rattle.rob_words.specs.Values.{Word}
+use Rattle.rob_words.specs.declared.verb.Own.TheVariants as own
+use Rattle.rob_words.specs.declared.verb.Verb.TheVariants.{Worst}
+
+-- the words tell one name of a form
+one_name : (line : Line) (a b : Word) → TellsForm line a → TellsForm line b → a ≡ b
+one_name line a b h k = let both : Some a ≡ Some b = sym h ∙ k in cc
+
+module _ (call : Call) (known : Known call.source) (line : Line) (m : RobustModel) where
+  same_file : (bytes other : List ℕ) → HasWorstFile call line m bytes → HasWorstFile call line m other → bytes ≡ other
+  same_file bytes other h k = file_once call line own.Certificate bytes other known h.file k.file
+
+  abbrev Breach : List ℕ → ℕ → ℕ → Type 0
+  Breach bytes rule number = HasCause (naming_of m) (limit_of line) start bytes 1 (Rule rule number)
+
+  -- a certificate's text breaks no rule
+  no_breach : (c : Certificate) (bytes : List ℕ) (rule number : ℕ) → HasWorstCertificate call line m c → HasWorstFile call line m bytes
+      → Breach bytes rule number → ⊥
+  no_breach c bytes rule number h file breach =
+      let same : bytes ≡ h.bytes = same_file bytes h.bytes file h.file in
+      let has : HasModel call line m = h.file.forms.model in
+      breaks_none m (limit_of line) c bytes (well call known line m has) (named call known line m has) (in_words call known line m has)
+      (most call known line m) (subst (λ (b : List ℕ). IsTextOf m c b) (sym same) h.text) h.fits rule number breach
+
+  -- and is that of one certificate
+  one_certificate : (c d : Certificate) → HasWorstCertificate call line m c → HasWorstCertificate call line m d → c ≡ d
+  one_certificate c d h k =
+      let same : h.bytes ≡ k.bytes = same_file h.bytes k.bytes h.file k.file in
+      let has : HasModel call line m = h.file.forms.model in
+      read_once m (limit_of line) c d k.bytes (well call known line m has) (named call known line m has) (in_words call known line m has)
+      (most call known line m) (subst (λ (b : List ℕ). IsTextOf m c b) same h.text) k.text h.fits k.fits
+
+  -- a text breaks one rule first
+  one_breach : (bytes other : List ℕ) (rule number r n : ℕ) → HasWorstFile call line m bytes → HasWorstFile call line m other
+      → Breach bytes rule number → Breach other r n → (r ≡ rule) × (n ≡ number)
+  one_breach bytes other rule number r n file k breach b =
+      let here : Breach bytes r n = subst (λ (list : List ℕ). Breach list r n) (same_file other bytes k file) b in
+      let has : HasModel call line m = file.forms.model in
+      one_cause m (limit_of line) bytes (well call known line m has) (named call known line m has) (in_words call known line m has)
+      (most call known line m) r n rule number here breach
+
+  -- a certificate with a plan and one without are two
+  planned : (c d : Certificate) → HasPlan call line m c → HasWorstCertificate call line m d → d.status ≡ infeasible → ⊥
+  planned c d h k is = h.has_plan (ap (λ (x : Certificate). x.status) (one_certificate c d h.certificate k) ∙ is)
+
+  gives_some : (rule number : ℕ) (c : Certificate) → GivesNoPlan call line m rule number → HasPlan call line m c → ⊥
+  gives_some rule number c (misread list file breach) h = no_breach c list rule number h.certificate file breach
+  gives_some rule number c (claims_none d k is r n) h = planned c d h k is
+
+  -- why there is no plan is one rule at one line
+  one_lack : (rule number r n : ℕ) → GivesNoPlan call line m rule number → GivesNoPlan call line m r n → (r ≡ rule) × (n ≡ number)
+  one_lack rule number r n (misread bytes file breach) (misread other k b) = one_breach bytes other rule number r n file k breach b
+  one_lack rule number r n (misread bytes file breach) (claims_none d k is e f) = absurd (no_breach d bytes rule number k file breach)
+  one_lack rule number r n (claims_none c h is e f) (misread other k b) = absurd (no_breach c other r n h k b)
+  one_lack rule number r n (claims_none c h is e f) (claims_none d k also g i) = (g ∙ sym e, i ∙ sym f)
+
+  -- one form is named, and none is where the word is no form's name
+  same_form : (c d : Certificate) (i j : ℕ) → HasSought call line m c i → HasSought call line m d j → i ≡ j
+  same_form c d i j h k =
+      let has : HasModel call line m = (forms_sought call line m c i h).model in
+      one_number (form_names m) i j (forms_distinct m (well call known line m has) (named call known line m has)) h.is_form k.is_form
+      (one_name line (name_at (form_names m) i) (name_at (form_names m) j) h.told k.told)
+
+  same_plan : (c d : Certificate) (i j : ℕ) → HasSought call line m c i → HasSought call line m d j → c ≡ d
+  same_plan c d i j h k = one_certificate c d h.plan.certificate k.plan.certificate
+
+  names_one : (c d : Certificate) (form : ℕ) (name : Word) → HasSought call line m c form → NamesNoForm call line m d name → ⊥
+  names_one c d form name h k = k.none form h.is_form (one_name line (name_at (form_names m) form) name h.told k.told)
+
+  -- the command is `worst`, so that stands behind its answer
+  worst_course : HasForms call line m → line.verb ≡ Worst → (ended : Ended) (text : List ℕ) → Means call ended text
+      → WorstCourse call line m ended ⊎ ((ended ≡ ReadFault) ⊎ (ended ≡ Memory))
+  worst_course has here ended text means = first_of_two by (course_of call known line m has.model ended text means)
+    where
+      by : Course call line m ended → WorstCourse call line m ended
+      by (finds status v u inside forms solves holds e) = absurd (solves_no_worst line.verb here solves)
+      by (shows_empty weights forms solves shown e) = absurd (solves_no_worst line.verb here solves)
+      by (prints forms is e) = absurd (rows_not_worst line.verb is here)
+      by (judges d h e) = absurd (check_not_worst line.verb h.file.is_check here)
+      by (refuses list r n h breach e) = absurd (check_not_worst line.verb h.is_check here)
+      by (wide_number spot makes h e) = absurd (no_first call known line m has spot h)
+      by (wide_row spot forms solves wide e) = absurd (solves_no_worst line.verb here solves)
+      by (replays d list others h other e) = absurd (replay_not_worst line.verb h.certificate.file.is_replay here)
+      by (lacks_plan r n h e) = absurd (replay_not_worst line.verb (lacking_verb call line m r n h) here)
+      by (branching is course) = absurd (worst_no_branch line.verb here is)
+      by (searches is course) = course
+      by (checking_tree is course) = absurd (worst_not_tree line.verb here is)
+      by (sweeping is course) = absurd (worst_no_sweep line.verb here is)
+      by (bounds forms is e) = absurd (narrow_not_worst line.verb is here)
+
+  pub unplanned_decides : (rule number : ℕ) → GivesNoPlan call line m rule number → (ended : Ended) (text : List ℕ)
+      → Means call ended text → (ended ≡ Cert rule number) ⊎ ((ended ≡ ReadFault) ⊎ (ended ≡ Memory))
+  unplanned_decides rule number has ended text means =
+      first_of_two by
+      (worst_course (forms_unplanned call line m rule number has) (unplanned_verb call line m rule number has) ended text means)
+    where
+      by : WorstCourse call line m ended → ended ≡ Cert rule number
+      by (plans_none r n h e) =
+          let one = one_lack rule number r n has h in
+          e ∙ ap (λ k. Cert k n) one.0 ∙ ap (λ k. Cert rule k) one.1
+      by (names_none d name h e) = absurd (gives_some rule number d has h.plan)
+      by (shows_worst d form h some e) = absurd (gives_some rule number d has h.plan)
+      by (admits_none d form weights h shown e) = absurd (gives_some rule number d has h.plan)
+      by (wide_search d form spot h wide e) = absurd (gives_some rule number d has h.plan)
+
+  pub unnamed_decides : (c : Certificate) (name : Word) → NamesNoForm call line m c name → (ended : Ended) (text : List ℕ)
+      → Means call ended text → (ended ≡ NoRow) ⊎ ((ended ≡ ReadFault) ⊎ (ended ≡ Memory))
+  unnamed_decides c name has ended text means =
+      first_of_two by (worst_course (forms_unnamed call line m c name has) has.plan.certificate.file.is_worst ended text means)
+    where
+      by : WorstCourse call line m ended → ended ≡ NoRow
+      by (plans_none r n h e) = absurd (gives_some r n c h has.plan)
+      by (names_none d other h e) = e
+      by (shows_worst d form h some e) = absurd (names_one d c form name h has)
+      by (admits_none d form weights h shown e) = absurd (names_one d c form name h has)
+      by (wide_search d form spot h wide e) = absurd (names_one d c form name h has)
+
+  module _ (c : Certificate) (form : ℕ) (has : HasSought call line m c form) where
+    abbrev z : List Fraction
+    z = certificate_vector c
+
+    course_sought : (ended : Ended) (text : List ℕ) → Means call ended text
+        → WorstCourse call line m ended ⊎ ((ended ≡ ReadFault) ⊎ (ended ≡ Memory))
+    course_sought = worst_course (forms_sought call line m c form has) has.plan.certificate.file.is_worst
+
+    -- a number that is wide in one search is so in the other
+    same_wide : (d : Certificate) (other : ℕ) (spot : Spot) → HasSought call line m d other
+        → IsWideSought (limit_of line) m other (certificate_vector d) spot → IsWideSought (limit_of line) m form z spot
+    same_wide d other spot h wide =
+        subst (λ (x : Certificate). IsWideSought (limit_of line) m form (certificate_vector x) spot) (same_plan d c other form h has)
+        (subst (λ i. IsWideSought (limit_of line) m i (certificate_vector d) spot) (same_form d c other form h has) wide)
+
+    answer_is : (ended other : Ended) → ended ≡ other → IsWorstAnswer (limit_of line) m form z other
+        → IsWorstAnswer (limit_of line) m form z ended
+    answer_is ended other e h = subst (λ (x : Ended). IsWorstAnswer (limit_of line) m form z x) (sym e) h
+
+    pub worst_decides : (ended : Ended) (text : List ℕ) → Means call ended text → IsWorstAnswer (limit_of line) m form z ended
+    worst_decides ended text means = all (course_sought ended text means)
+      where
+        by : WorstCourse call line m ended → IsWorstAnswer (limit_of line) m form z ended
+        by (plans_none r n h e) = absurd (gives_some r n c h has.plan)
+        by (names_none d name h e) = absurd (names_one c d form name has h)
+        by (shows_worst d other h some e) = answer_is ended Printed e some
+        by (admits_none d other weights h shown e) = answer_is ended (EmptySet weights) e shown.empty
+        by (wide_search d other spot h wide e) = answer_is ended (TooWide spot) e (same_wide d other spot h wide)
+
+        all : WorstCourse call line m ended ⊎ ((ended ≡ ReadFault) ⊎ (ended ≡ Memory)) → IsWorstAnswer (limit_of line) m form z ended
+        all (inl course) = by course
+        all (inr (inl e)) = answer_is ended ReadFault e (inl refl)
+        all (inr (inr e)) = answer_is ended Memory e (inr (inr refl))
+
+    -- ---- no scenario is admitted
+    empty_is : (ended other : Ended) → ended ≡ other → IsEmptyAnswer (limit_of line) m other → IsEmptyAnswer (limit_of line) m ended
+    empty_is ended other e h = subst (λ (x : Ended). IsEmptyAnswer (limit_of line) m x) (sym e) h
+
+    row_of_set : (spot : Spot) → IsWideInSet (limit_of line) m spot → IsEmptyAnswer (limit_of line) m (TooWide spot)
+    row_of_set (spots.Dictionary programs.Set basis i) h = h
+    row_of_set (spots.Dictionary programs.Reform basis i) h = absurd h
+    row_of_set (spots.Dictionary programs.Master basis i) h = absurd h
+    row_of_set (spots.Dictionary (programs.SearchPlan f) basis i) h = absurd h
+    row_of_set (spots.Dictionary (programs.SearchMove f) basis i) h = absurd h
+    row_of_set (spots.Coefficient where_it_is) h = absurd h
+    row_of_set (spots.Clearing where_it_is) h = absurd h
+    row_of_set (spots.Sum where_it_is j) h = absurd h
+    row_of_set (spots.Check place) h = absurd h
+    row_of_set (spots.Replay number) h = absurd h
+
+    before_search : IsEmptySet m → (d : Certificate) (other : ℕ) (spot : Spot)
+        → IsWideSought (limit_of line) m other (certificate_vector d) spot → IsEmptyAnswer (limit_of line) m (TooWide spot)
+    before_search none d other spot (in_set wide) = row_of_set spot wide
+    before_search none d other spot (in_search some wide) = absurd (none some.0 some.1)
+    before_search none d other spot (in_slack some is wide) = absurd (none some.0 some.1)
+
+    pub worst_empty_decides : IsEmptySet m → (ended : Ended) (text : List ℕ) → Means call ended text
+        → IsEmptyAnswer (limit_of line) m ended
+    worst_empty_decides none ended text means = all (course_sought ended text means)
+      where
+        by : WorstCourse call line m ended → IsEmptyAnswer (limit_of line) m ended
+        by (plans_none r n h e) = absurd (gives_some r n c h has.plan)
+        by (names_none d name h e) = absurd (names_one c d form name has h)
+        by (shows_worst d other h some e) = absurd (none some.0 some.1)
+        by (admits_none d other weights h shown e) = empty_is ended (EmptySet weights) e shown
+        by (wide_search d other spot h wide e) = empty_is ended (TooWide spot) e (before_search none d other spot wide)
+
+        all : WorstCourse call line m ended ⊎ ((ended ≡ ReadFault) ⊎ (ended ≡ Memory)) → IsEmptyAnswer (limit_of line) m ended
+        all (inl course) = by course
+        all (inr (inl e)) = empty_is ended ReadFault e (inl refl)
+        all (inr (inr e)) = empty_is ended Memory e (inr (inr refl))
+
+    -- ---- some scenario is, and no number is wide
+    pub worst_printed_decides : (u : List Fraction) → Admits m u
+        → ((spot : Spot) → IsWideSought (limit_of line) m form z spot → ⊥) → (ended : Ended) (text : List ℕ) → Means call ended text
+        → (ended ≡ Printed) ⊎ ((ended ≡ ReadFault) ⊎ (ended ≡ Memory))
+    worst_printed_decides u admitted narrow ended text means = first_of_two by (course_sought ended text means)
+      where
+        by : WorstCourse call line m ended → ended ≡ Printed
+        by (plans_none r n h e) = absurd (gives_some r n c h has.plan)
+        by (names_none d name h e) = absurd (names_one c d form name has h)
+        by (shows_worst d other h some e) = e
+        by (admits_none d other weights h shown e) = absurd (shown.empty u admitted)
+        by (wide_search d other spot h wide e) = absurd (narrow spot (same_wide d other spot h wide))
+
+-- ---- the plan of a certificate that proves has its bound, so no slack below 0 is shown
+pub proved_keeps : (call : Call) (shown : List ℕ) (r : IsSearched call shown) (m : RobustModel) (c : Certificate) → r.m ≡ m → r.c ≡ c
+    → Proves m c → ShowsKept r.m r.form (certificate_vector r.c) shown
+proved_keeps call shown r m c same alike proves =
+    let proves_here : Proves r.m r.c =
+    subst (λ (x : RobustModel). Proves x r.c) (sym same) (subst (λ (d : Certificate). Proves m d) (sym alike) proves)
+    in
+    r.kept
+    (proved_bound r.m (model_read call r.line r.m (forms_sought call r.line r.m r.c r.form r.has).model) r.c proves_here r.has.plan.has_plan)

@@ -1,0 +1,208 @@
+// The answer of `worst`.
+
+ghost use Rattle.std.specs.Prelude.{◌≡◌, ◌≤◌, ◌<◌, ◌^◌, length, IfOk};
+ghost use Rattle.rob_cert.specs.Shape.{HasShape};
+ghost use Rattle.rob_cert.specs.View.{certificate_of};
+ghost use Rattle.rob_elab.specs.Forms.{FormsFit, IsForms};
+ghost use Rattle.rob_meaning.specs.Certificates.{Certificate};
+ghost use Rattle.rob_meaning.specs.Forms.{forms as model_forms};
+ghost use Rattle.rob_meaning.specs.Named.{IsNamed};
+ghost use Rattle.rob_meaning.specs.RobustModel.{column_count};
+ghost use Rattle.rob_model.specs.Valid.{IsValid};
+ghost use Rattle.rob_model.specs.View.{robust};
+ghost use Rattle.rob_report.specs.Worst.{worst_of};
+ghost use Rattle.rob_sets.specs.SetForm.{IsSetForm, SetFits};
+ghost use Rattle.rob_top.specs.Calls.{count};
+ghost use Rattle.rob_top.specs.Replies.{Replies};
+ghost use Rattle.rob_top.specs.Searched.{certificate_vector};
+ghost use Rattle.rob_top.specs.Work.{AnswersPlanned, AnswersSearch, AnswersSearched, AnswersSought, HasScale, RepliesWorst};
+ghost use Rattle.rob_worst.specs.Finding.{HasConstantWithin};
+ghost use Rattle.rob_worst.specs.Vectors.{plan_of};
+
+use crate::ended::Ended;
+use crate::reply::{Reply, broken_rule, fault};
+use crate::solving::stopped;
+use crate::work::too_wide;
+use rob_cert::{Cert, CertErr, Status, Worst, read_cert};
+use rob_dualize::told::whole;
+use rob_elab::Forms;
+use rob_model::{Model, Plan, Spot, Where, find_form};
+use rob_number::{Exact, Ledger, Memory, Wide};
+use rob_report::worst_text;
+use rob_sets::SetForm;
+use rob_worst::slack::slack;
+use rob_worst::worst;
+use std::alloc::Global;
+
+/// The answer of `worst` for the text of a certificate and the name of a form.
+pub fn search_text<N: Exact + Drop, L: Ledger>(
+    alloc: Global,
+    model: &Model<N>,
+    forms: &Forms,
+    set: &SetForm,
+    certificate: &[u8],
+    name: &[u8],
+    ledger: &mut L,
+) -> Result<Reply, Memory>
+    requires valid { IsValid N.value model.now }
+    requires named { IsNamed (robust N.value model.now) }
+    requires forms { IsForms (robust N.value model.now) forms.now }
+    requires set { IsSetForm (robust N.value model.now) set.now }
+    requires forms_fit { FormsFit N.limit forms.now }
+    requires set_fits { SetFits N.limit set.now }
+    requires short { length certificate.now ≤ 2 ^ 30 }
+    ensures answers { IfOk result (AnswersSearch N.limit (count (L.wides ledger.old) (L.wides ledger.new))
+        (robust N.value model.now) certificate.now name.now) }
+    ensures counted { L.wides ledger.old ≤ L.wides ledger.new }
+{
+    match read_cert(alloc, certificate, model, ledger) {
+        Ok(cert) => search_cert(alloc, model, forms, set, cert, name, ledger),
+        Err(CertErr::Rule(rule, number)) => {
+            broken_rule(
+                alloc,
+                Ended::Cert(rule, number),
+                b"certificate ",
+                rule,
+                number,
+            )
+        }
+        Err(CertErr::Memory) => Err(Memory),
+    }
+}
+
+/// The answer for a certificate, which isn't checked. One that claims an infeasible model has no plan.
+fn search_cert<N: Exact + Drop, L: Ledger>(
+    alloc: Global,
+    model: &Model<N>,
+    forms: &Forms,
+    set: &SetForm,
+    cert: Cert<N>,
+    name: &[u8],
+    ledger: &mut L,
+) -> Result<Reply, Memory>
+    requires valid { IsValid N.value model.now }
+    requires forms { IsForms (robust N.value model.now) forms.now }
+    requires set { IsSetForm (robust N.value model.now) set.now }
+    requires forms_fit { FormsFit N.limit forms.now }
+    requires set_fits { SetFits N.limit set.now }
+    requires shape { HasShape (robust N.value model.now) (certificate_of N.value cert) }
+    ensures answers { IfOk result (AnswersSearched N.limit (count (L.wides ledger.old) (L.wides ledger.new))
+        (robust N.value model.now) (certificate_of N.value cert) name.now) }
+    ensures counted { L.wides ledger.old ≤ L.wides ledger.new }
+{
+    match cert.status {
+        Status::Infeasible => broken_rule(alloc, Ended::Cert(34, 1), b"certificate ", 34, 1),
+        Status::Optimal => search_plan(alloc, model, forms, set, cert, name, ledger),
+        Status::Unbounded => search_plan(alloc, model, forms, set, cert, name, ledger),
+    }
+}
+
+/// The answer for a certificate that has a plan.
+fn search_plan<N: Exact + Drop, L: Ledger>(
+    alloc: Global,
+    model: &Model<N>,
+    forms: &Forms,
+    set: &SetForm,
+    cert: Cert<N>,
+    name: &[u8],
+    ledger: &mut L,
+) -> Result<Reply, Memory>
+    requires valid { IsValid N.value model.now }
+    requires forms { IsForms (robust N.value model.now) forms.now }
+    requires set { IsSetForm (robust N.value model.now) set.now }
+    requires forms_fit { FormsFit N.limit forms.now }
+    requires set_fits { SetFits N.limit set.now }
+    requires size { length cert.plan ≡ column_count (robust N.value model.now) }
+    ensures answers { IfOk result (AnswersPlanned N.limit (count (L.wides ledger.old) (L.wides ledger.new))
+        (robust N.value model.now) (certificate_of N.value cert) name.now) }
+    ensures counted { L.wides ledger.old ≤ L.wides ledger.new }
+{
+    match find_form(model, name) {
+        Some(form) => {
+            let plan = Plan {
+                columns: cert.plan,
+                bound: cert.value,
+            };
+            search_form(alloc, model, forms, set, form, &plan, ledger)
+        }
+        None => fault(alloc, Ended::NoRow, b"no row ", name),
+    }
+}
+
+/// The answer for a form, which has a name, at a plan with its bound.
+fn search_form<N: Exact + Drop, L: Ledger>(
+    alloc: Global,
+    model: &Model<N>,
+    forms: &Forms,
+    set: &SetForm,
+    form: u32,
+    plan: &Plan<N>,
+    ledger: &mut L,
+) -> Result<Reply, Memory>
+    requires valid { IsValid N.value model.now }
+    requires forms { IsForms (robust N.value model.now) forms.now }
+    requires set { IsSetForm (robust N.value model.now) set.now }
+    requires forms_fit { FormsFit N.limit forms.now }
+    requires set_fits { SetFits N.limit set.now }
+    requires form_in { form < length (model_forms (robust N.value model.now)) }
+    requires size { length plan.now.columns ≡ column_count (robust N.value model.now) }
+    ensures answers { IfOk result (λ reply. (c : Certificate) → plan_of N.value plan.now ≡ certificate_vector c
+        → AnswersSought N.limit (count (L.wides ledger.old) (L.wides ledger.new))
+        (robust N.value model.now) c form reply) }
+    ensures counted { L.wides ledger.old ≤ L.wides ledger.new }
+{
+    match worst(alloc, forms, set, form, plan, ledger) {
+        Ok(worst) => with_slack(alloc, model, form, &worst, ledger),
+        Err(stop) => stopped(alloc, model, stop),
+    }
+}
+
+/// The answer for what the search finds. The slack of a worst scenario may be wide.
+fn with_slack<N: Exact, L: Ledger>(
+    alloc: Global,
+    model: &Model<N>,
+    form: u32,
+    worst: &Worst<N>,
+    ledger: &mut L,
+) -> Result<Reply, Memory>
+    requires valid { IsValid N.value model.now }
+    requires form_in { form < length (model_forms (robust N.value model.now)) }
+    requires scale { HasScale N.value worst.now }
+    requires within { HasConstantWithin N.limit worst.now }
+    ensures worst { IfOk result (RepliesWorst N.limit (robust N.value model.now) form
+        (count (L.wides ledger.old) (L.wides ledger.new)) N.value worst.now) }
+    ensures counted { L.wides ledger.old ≤ L.wides ledger.new }
+{
+    match worst {
+        Worst::At {
+            scale,
+            peak,
+            constant,
+            ..
+        } => match slack(*scale, *peak, *constant, ledger) {
+            Ok(slack) => printed(alloc, model, form, worst, slack),
+            Err(Wide) => too_wide(alloc, model, Spot::Sum(Where::Cost(form), 0)),
+        },
+        Worst::Along { .. } => printed(alloc, model, form, worst, whole(0)),
+    }
+}
+
+/// The answer with a worst case and its slack.
+fn printed<N: Exact>(
+    alloc: Global,
+    model: &Model<N>,
+    form: u32,
+    worst: &Worst<N>,
+    slack: N,
+) -> Result<Reply, Memory>
+    requires valid { IsValid N.value model.now }
+    requires form_in { form < length (model_forms (robust N.value model.now)) }
+    ensures printed { IfOk result (Replies Ended.Printed
+        (worst_of (robust N.value model.now) form N.value worst.now (N.value slack))) }
+{
+    let text = worst_text(alloc, model, form, worst, slack)?;
+    Ok(Reply {
+        ended: Ended::Printed,
+        text,
+    })
+}

@@ -1,0 +1,247 @@
+// The answers of `sweep` and `sweeptext`.
+
+ghost use Rattle.std.specs.Prelude.{◌≡◌, ◌≤◌, ◌<◌, ◌^◌, ◌++◌, IfOk, OnOk, length, map, string_bytes};
+ghost use Rattle.rob_model.specs.Valid.{IsValid};
+ghost use Rattle.rob_model.specs.View.{robust};
+ghost use Rattle.rob_reach.specs.Sweeps as reach;
+ghost use Rattle.rob_reach.specs.Sweeps.{IsBudgetAt};
+ghost use Rattle.rob_report.specs.Places.{IsSpotOf};
+ghost use Rattle.rob_report.specs.Spots.{too_wide_line};
+ghost use Rattle.rob_sweep.specs.Stops.{HasCause};
+ghost use Rattle.rob_sweep.specs.SweepText as lines;
+ghost use Rattle.rob_sweep.specs.View.{answer_of};
+ghost use Rattle.rob_top.specs.Answers.{budget_line, sweep_fault_text, wide_budget_text, words_text};
+ghost use Rattle.rob_top.specs.Calls.{count};
+ghost use Rattle.rob_top.specs.Replies.{Replies};
+ghost use Rattle.rob_top.specs.Work.{AnswersSweep, AnswersWords};
+ghost use Rattle.rob_top.specs.Refusing.{RepliesLimit, RepliesUnswept};
+ghost use Rattle.rob_words.specs.declared.verb.Verb.TheVariants as verbs;
+ghost use Rattle.rob_write.specs.Canonical.{model_text};
+
+use crate::ended::Ended;
+use crate::limits::{limit_of, limits_of};
+use crate::reply::{Reply, fault};
+use itoa::Buffer;
+use rob_cert::spelling::put_number;
+use rob_model::{Model, Spot};
+use rob_number::{Exact, Ledger, Memory, Text};
+use rob_report::spot_text;
+use rob_sweep::{SweepAnswer, SweepStop, sweep, sweep_text, with_budget};
+use rob_words::statement;
+use rob_write::write_model;
+use std::alloc::Global;
+
+/// The answer of `sweep` for a command's own words: the model's file, the number of a statement, and limits.
+pub fn sweep_words<N: Exact + Drop, L: Ledger>(
+    alloc: Global,
+    model: &Model<N>,
+    words: &[String],
+    ledger: &mut L,
+) -> Result<Reply, Memory>
+    requires valid { IsValid N.value model.now }
+    ensures answers { IfOk result (AnswersWords N.limit (count (L.wides ledger.old) (L.wides ledger.new))
+        (robust N.value model.now) verbs.Sweep (map string_bytes words.now)) }
+    ensures counted { L.wides ledger.old ≤ L.wides ledger.new }
+{
+    let [_, number, limits] = words else {
+        return no_line(alloc);
+    };
+    let Some(n) = statement(number.as_str()) else {
+        return no_line(alloc);
+    };
+    let told = limits_of(alloc, limits.as_str(), ledger)?;
+    match told {
+        Some(limits) => at_limits(alloc, model, n, limits.items(), ledger),
+        None => no_line(alloc),
+    }
+}
+
+/// The answer for the limits of a budget.
+fn at_limits<N: Exact + Drop, L: Ledger>(
+    alloc: Global,
+    model: &Model<N>,
+    n: u32,
+    limits: &[N],
+    ledger: &mut L,
+) -> Result<Reply, Memory>
+    requires valid { IsValid N.value model.now }
+    requires few { length limits.now < 2 ^ 32 }
+    ensures answers { IfOk result (AnswersSweep N.limit (count (L.wides ledger.old) (L.wides ledger.new))
+        (robust N.value model.now) n (map N.value limits.now)) }
+    ensures counted { L.wides ledger.old ≤ L.wides ledger.new }
+{
+    match sweep(alloc, model, n, limits, ledger) {
+        Ok(answers) => printed(alloc, limits, answers.items()),
+        Err(stop) => unswept(alloc, model, n, limits, stop),
+    }
+}
+
+/// The answer with the lines of the limits.
+fn printed<N: Exact>(
+    alloc: Global,
+    limits: &[N],
+    answers: &[SweepAnswer<N>],
+) -> Result<Reply, Memory>
+    requires count { length answers.now ≡ length limits.now }
+    ensures printed { IfOk result (Replies Ended.Printed
+        (lines.sweep_text (map N.value limits.now) (map (answer_of N.value) answers.now))) }
+{
+    let text = sweep_text(alloc, limits, answers)?;
+    Ok(Reply {
+        ended: Ended::Printed,
+        text,
+    })
+}
+
+/// The answer where the sweep stopped.
+fn unswept<N: Exact>(
+    alloc: Global,
+    model: &Model<N>,
+    n: u32,
+    limits: &[N],
+    stop: SweepStop,
+) -> Result<Reply, Memory>
+    requires valid { IsValid N.value model.now }
+    requires cause { HasCause N.limit (robust N.value model.now) n (map N.value limits.now) stop }
+    ensures stop { IfOk result (RepliesUnswept N.limit (robust N.value model.now) n (map N.value limits.now) stop) }
+{
+    match stop {
+        SweepStop::Rule(rule) => broken(alloc, rule),
+        SweepStop::Wide(number, spot) => {
+            wide_budget(alloc, model, n, limits[number as usize - 1], number, spot)
+        }
+        SweepStop::Memory => Err(Memory),
+    }
+}
+
+/// The answer where a number is wide in the model with that limit.
+fn wide_budget<N: Exact>(
+    alloc: Global,
+    model: &Model<N>,
+    n: u32,
+    limit: N,
+    number: u32,
+    spot: Spot,
+) -> Result<Reply, Memory>
+    requires valid { IsValid N.value model.now }
+    requires budget { IsBudgetAt (robust N.value model.now).set_lines n }
+    requires named { IsSpotOf (reach.with_budget (robust N.value model.now) n (N.value limit)) spot }
+    ensures wide { IfOk result (Replies (Ended.WideBudget number spot)
+        (wide_budget_text (robust N.value model.now) n (N.value limit) spot)) }
+{
+    let changed = at_limit(alloc, model, n, limit)?;
+    let text = wide_text(alloc, &changed, limit, &spot)?;
+    Ok(Reply {
+        ended: Ended::WideBudget(number, spot),
+        text,
+    })
+}
+
+/// The line of a number that is wide in the model, and the line of its limit.
+fn wide_text<N: Exact>(
+    alloc: Global,
+    model: &Model<N>,
+    limit: N,
+    spot: &Spot,
+) -> Result<Text, Memory>
+    requires valid { IsValid N.value model.now }
+    requires named { IsSpotOf (robust N.value model.now) spot.now }
+    ensures text { IfOk result (λ text. text
+        ≡ too_wide_line (robust N.value model.now) spot.now ++ budget_line (N.value limit)) }
+{
+    let mut text = spot_text(alloc, model, spot)?;
+    put_limit(&mut text, limit)?;
+    Ok(text)
+}
+
+/// Appends the line of a limit.
+fn put_limit<N: Exact>(out: &mut Text, limit: N) -> Result<(), Memory>
+    ensures appended { OnOk result (out.new ≡ out.old ++ budget_line (N.value limit)) }
+{
+    out.push(b"where budget ")?;
+    put_number(out, limit)?;
+    out.push(b"\n")
+}
+
+/// The model with that limit in its budget.
+fn at_limit<N: Exact>(alloc: Global, model: &Model<N>, n: u32, limit: N) -> Result<Model<N>, Memory>
+    requires valid { IsValid N.value model.now }
+    requires budget { IsBudgetAt (robust N.value model.now).set_lines n }
+    ensures replaced { IfOk result (λ other. robust N.value other
+        ≡ reach.with_budget (robust N.value model.now) n (N.value limit)) }
+    ensures valid { IfOk result (λ other. IsValid N.value other) }
+{
+    match with_budget(alloc, model, n, limit) {
+        Ok(changed) => Ok(changed),
+        Err(SweepStop::Memory) => Err(Memory),
+        Err(_) => unreachable!(),
+    }
+}
+
+/// The answer of `sweeptext` for a command's own words: the model's file, the number of a statement, and a limit.
+pub fn limit_words<N: Exact, L: Ledger>(
+    alloc: Global,
+    model: &Model<N>,
+    words: &[String],
+    ledger: &mut L,
+) -> Result<Reply, Memory>
+    requires valid { IsValid N.value model.now }
+    ensures answers { IfOk result (AnswersWords N.limit (count (L.wides ledger.old) (L.wides ledger.new))
+        (robust N.value model.now) verbs.SweepText (map string_bytes words.now)) }
+    ensures counted { L.wides ledger.old ≤ L.wides ledger.new }
+{
+    let [_, number, limit] = words else {
+        return no_line(alloc);
+    };
+    let Some(n) = statement(number.as_str()) else {
+        return no_line(alloc);
+    };
+    match limit_of(limit.as_str(), ledger) {
+        Some(limit) => limited(alloc, model, n, limit),
+        None => no_line(alloc),
+    }
+}
+
+/// The answer for a limit of a budget: the text of the model that has it.
+fn limited<N: Exact>(alloc: Global, model: &Model<N>, n: u32, limit: N) -> Result<Reply, Memory>
+    requires valid { IsValid N.value model.now }
+    ensures limited { IfOk result (RepliesLimit (robust N.value model.now) n (N.value limit)) }
+{
+    match with_budget(alloc, model, n, limit) {
+        Ok(changed) => written(alloc, &changed),
+        Err(SweepStop::Rule(rule)) => broken(alloc, rule),
+        Err(SweepStop::Memory) => Err(Memory),
+        Err(SweepStop::Wide(_, _)) => unreachable!(),
+    }
+}
+
+/// The answer with the text of a model.
+fn written<N: Exact>(alloc: Global, model: &Model<N>) -> Result<Reply, Memory>
+    ensures written { IfOk result (Replies Ended.Printed (model_text (robust N.value model.now))) }
+{
+    let text = write_model(alloc, model)?;
+    Ok(Reply {
+        ended: Ended::Printed,
+        text,
+    })
+}
+
+/// The answer where statement or limits break the rule.
+fn broken(alloc: Global, rule: u8) -> Result<Reply, Memory>
+    ensures fault { IfOk result (Replies (Ended.Sweep rule) (sweep_fault_text rule)) }
+{
+    let mut buffer = Buffer::new();
+    fault(
+        alloc,
+        Ended::Sweep(rule),
+        b"sweep ",
+        buffer.format(rule).as_bytes(),
+    )
+}
+
+/// The answer to words that are no command line.
+fn no_line(alloc: Global) -> Result<Reply, Memory>
+    ensures fault { IfOk result (Replies Ended.Words words_text) }
+{
+    fault(alloc, Ended::Words, b"words", b"")
+}
