@@ -47,6 +47,7 @@ pub mod StatusLawLemmas
 pub mod WorkedWholes
 pub mod WorkedTrees
 pub mod WorkedSweeps
+pub mod WorkedBudgets
 pub mod ReplayingLemmas
 pub mod WorkLemmas
 pub mod KnownInputs

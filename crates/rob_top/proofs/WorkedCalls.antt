@@ -163,7 +163,7 @@ one_demand_narrow =
       ),
     )
 
-one_demand_comes : Comes one_demand
+pub one_demand_comes : Comes one_demand
 unfolding ratio digits
 one_demand_comes = refl
 

@@ -2,13 +2,14 @@
 use Rattle.std.proofs.Common.{[], ◌∷◌, refl, inl, inr, arith}
 use Rattle.std.specs.Prelude.{codes}
 use Rattle.rob_dualize.specs.SmallestModel.{one_demand}
-use Rattle.rob_top.proofs.WorkedCalls.{one_demand_reads}
-use Rattle.rob_top.proofs.WorkedWholes.{one_demand_comes}
+use Rattle.rob_meaning.specs.RobustModel.{RobustModel}
+use Rattle.rob_parse.specs.Modelled.{ReadsModel}
+use Rattle.rob_top.proofs.WorkedCalls.{Comes, one_demand_comes, one_demand_reads}
 use Rattle.rob_top.specs.Completeness.{MustEnd}
 use Rattle.rob_top.specs.Endings.{EndsAs}
 use Rattle.rob_top.specs.Inputs.{HasModel}
 use Rattle.rob_top.specs.Swept.{limit_value}
-use Rattle.rob_top.specs.WorkedCalls.{model_name, sweep_call}
+use Rattle.rob_top.specs.WorkedCalls.{greatest, model_name, sweep_call}
 use Rattle.rob_top.specs.declared.ended.Ended.{Ended}
 use Rattle.rob_top.specs.declared.ended.Ended.TheVariants.{Sweep}
 use Rattle.rob_words.specs.Commands.{Line, own, IsSpelled}
@@ -19,7 +20,7 @@ use Rattle.rob_words.specs.declared.width.Width.TheVariants.{SixtyTwo}
 use Rattle.rob_write.specs.Canonical.{model_text}
 
 -- ---- sweep one.rob 1 0, and sweeptext one.rob 1 0
-abbrev line : Verb → Line
+abbrev pub line : Verb → Line
 line verb = record { verb = verb; own = model_name ∷ codes "1" ∷ codes "0" ∷ []; way = Dual; width = SixtyTwo }
 
 sweep_spelled : IsSpelled (codes "sweep" ∷ model_name ∷ codes "1" ∷ codes "0" ∷ []) (line verbs.Sweep)
@@ -62,22 +63,24 @@ sweeptext_spelled = (
   },
 )
 
-sweep_model : HasModel (sweep_call (codes "sweep") one_demand) (line verbs.Sweep) one_demand
-sweep_model = record {
+pub sweep_on : (m : RobustModel) → Comes m → ReadsModel greatest (model_text m) m
+    → HasModel (sweep_call (codes "sweep") m) (line verbs.Sweep) m
+sweep_on m comes reads = record {
   spelled = sweep_spelled;
-  came = ((model_text one_demand, (one_demand_comes, tt)), tt);
-  bytes = model_text one_demand;
-  file = record { request = record { place = 0; name = model_name; most = 65536 }; named = refl; found = (one_demand_comes, tt) };
-  reads = one_demand_reads;
+  came = ((model_text m, (comes, tt)), tt);
+  bytes = model_text m;
+  file = record { request = record { place = 0; name = model_name; most = 65536 }; named = refl; found = (comes, tt) };
+  reads = reads;
 }
 
-sweeptext_model : HasModel (sweep_call (codes "sweeptext") one_demand) (line verbs.SweepText) one_demand
-sweeptext_model = record {
+pub sweeptext_on : (m : RobustModel) → Comes m → ReadsModel greatest (model_text m) m
+    → HasModel (sweep_call (codes "sweeptext") m) (line verbs.SweepText) m
+sweeptext_on m comes reads = record {
   spelled = sweeptext_spelled;
-  came = ((model_text one_demand, (one_demand_comes, tt)), tt);
-  bytes = model_text one_demand;
-  file = record { request = record { place = 0; name = model_name; most = 65536 }; named = refl; found = (one_demand_comes, tt) };
-  reads = one_demand_reads;
+  came = ((model_text m, (comes, tt)), tt);
+  bytes = model_text m;
+  file = record { request = record { place = 0; name = model_name; most = 65536 }; named = refl; found = (comes, tt) };
+  reads = reads;
 }
 
 -- these calls have to name rule 81
@@ -85,7 +88,7 @@ pub no_budget_is_swept : (result : Ended) → MustEnd (sweep_call (codes "sweep"
 no_budget_is_swept result must =
     must.sweep_rule (line verbs.Sweep) one_demand 1 (limit_value (codes "0") ∷ []) 81
     (record {
-      model = sweep_model;
+      model = sweep_on one_demand one_demand_comes one_demand_reads;
       is_sweep = refl;
       statement = record { word = codes "1"; told = refl; spells = refl };
       limits_are = record { word = codes "0"; told = refl; parts = refl };
@@ -96,7 +99,7 @@ pub no_budget_is_limited : (result : Ended) → MustEnd (sweep_call (codes "swee
 no_budget_is_limited result must =
     must.limit_rule (line verbs.SweepText) one_demand 1 (limit_value (codes "0"))
     (record {
-      model = sweeptext_model;
+      model = sweeptext_on one_demand one_demand_comes one_demand_reads;
       is_text = refl;
       statement = record { word = codes "1"; told = refl; spells = refl };
       limit_is = record { word = codes "0"; told = refl; spells = refl };

@@ -28,7 +28,7 @@ use Rattle.rob_round_trip.specs.Readable.{IsReadableModel}
 use Rattle.rob_syntax.specs.Names.{IsSpelled as IsSpelledName}
 use Rattle.rob_tree.specs.declared.tree.Branch.{Branch}
 use Rattle.rob_top.proofs.NumberingLemmas.{first_is}
-use Rattle.rob_top.proofs.WorkedCalls.{differ, fits_by, free, letter, one_demand_reads, within_by}
+use Rattle.rob_top.proofs.WorkedCalls.{Comes, differ, fits_by, free, letter, one_demand_comes, one_demand_reads, within_by}
 use Rattle.rob_top.specs.Branched.{no_ranges, no_variables}
 use Rattle.rob_top.specs.Completeness.{MustEnd}
 use Rattle.rob_top.specs.Endings.{EndsAs, IsWholeAnswer}
@@ -74,14 +74,6 @@ y_spelled = (
     route = (refl, refl);
   },
 )
-
--- the model's file comes whole
-abbrev Comes : RobustModel → Type 0
-Comes m = found_at model_name 65536 (file_of model_name (model_text m) ∷ []) ≡ whole (model_text m)
-
-pub one_demand_comes : Comes one_demand
-unfolding ratio digits
-one_demand_comes = refl
 
 model_on : (m : RobustModel) (name : Word) → Comes m → ReadsModel greatest (model_text m) m
     → IsSpelled (codes "whole" ∷ model_name ∷ name ∷ []) (line name) → HasModel (whole_call m name) (line name) m

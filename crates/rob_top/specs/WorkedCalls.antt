@@ -7,7 +7,7 @@ use Rattle.rob_dualize.specs.SmallestModel.{one_demand}
 use Rattle.rob_meaning.specs.Certificates.{Certificate, infeasible, optimal}
 use Rattle.rob_meaning.specs.Places.{0ℚ, 1ℚ}
 use Rattle.rob_meaning.specs.Expressions.{number, parameter, variable, sum, no_terms, term, product, factor, no_factors}
-use Rattle.rob_meaning.specs.RobustModel.{RobustModel, at_least, at_most, line, minimise}
+use Rattle.rob_meaning.specs.RobustModel.{RobustModel, at_least, at_most, budget, line, minimise}
 use Rattle.rob_outside.specs.Files.{File, file_of}
 use Rattle.rob_write.specs.Canonical.{model_text}
 use Rattle.rob_report.specs.Lines.{line as line_of}
@@ -79,6 +79,14 @@ whole_call m names = call_over (codes "whole" ∷ model_name ∷ names ∷ []) (
 abbrev pub sweep_call : Word → RobustModel → Call
 sweep_call name m =
     call_over (name ∷ model_name ∷ codes "1" ∷ codes "0" ∷ []) (file_of model_name (model_text m) ∷ [])
+
+-- minimise x, where x >= d for each d in [0, 2], within a budget of 1 round 1 by 1
+abbrev pub demand_within_a_budget : RobustModel
+demand_within_a_budget = record one_demand {
+  parameters = record { name = codes "d"; lower = Some (of_int (pos 0)); upper = Some (of_int (pos 2)) } ∷ [];
+  set_lines = budget 1ℚ (record { parameter = 0; centre = 1ℚ; deviation = 1ℚ } ∷ []) ∷ [];
+  line_sets = 0 ∷ [];
+}
 
 -- `narrow` on the canonical text of a model
 abbrev pub narrow_call : RobustModel → Call

@@ -3,7 +3,7 @@
 // prints. What is known of a call's files (`Known`) are the told files, or the answers that came in the call, which
 // every shelf gives. The functions do nothing; their clauses are the claims.
 
-ghost use Rattle.std.specs.Prelude.{◌≡◌, ◌≤◌, ◌<◌, ◌^◌, ◌⊎◌, ◌++◌, ℕ, ℤ, List, true, [], codes};
+ghost use Rattle.std.specs.Prelude.{◌≡◌, ◌≤◌, ◌<◌, ◌^◌, ◌⊎◌, ◌++◌, ◌∷◌, ℕ, ℤ, List, true, [], codes};
 ghost use Rattle.rob_algebra.specs.Fraction.{Fraction};
 ghost use Rattle.rob_cert.specs.Apart.{IsNamedInWords};
 ghost use Rattle.rob_check.specs.Narrow.{IsFirstFailing};
@@ -25,16 +25,17 @@ ghost use Rattle.rob_top.specs.Calls.{Call, IsSolving, Known, known_call, limit_
 ghost use Rattle.rob_report.specs.NarrowText.{narrow_line};
 ghost use Rattle.rob_top.specs.Checked.{IsAccepted};
 ghost use Rattle.rob_top.specs.Completeness.{IsComplete, MustEnd};
-ghost use Rattle.rob_top.specs.Endings.{EndsAs, IsEmptyAnswer, IsProvedAnswer, IsUnput, NamesWidth};
+ghost use Rattle.rob_top.specs.Endings.{EndsAs, IsEmptyAnswer, IsProvedAnswer, IsSweepAnswer, IsUnput, NamesWidth};
 ghost use Rattle.rob_top.specs.Headline.{Means};
 ghost use Rattle.rob_top.specs.Inputs.{HasCertificateFile, HasModel, HasReplayFile};
 ghost use Rattle.rob_top.specs.Narrowed.{IsNarrowed};
 ghost use Rattle.rob_top.specs.Replayed.{IsReplayed};
 ghost use Rattle.rob_top.specs.Searched.{IsSearched, ShowsKept, certificate_vector};
 ghost use Rattle.rob_top.specs.Solved.{IsSolved};
+ghost use Rattle.rob_top.specs.Swept.{limit_value};
 ghost use Rattle.rob_top.specs.TreeChecked.{HasTreeFile, IsTreeAccepted};
 ghost use Rattle.rob_top.specs.Work.{ended_of};
-ghost use Rattle.rob_top.specs.WorkedCalls.{check_call, empty_interval, first_text, greatest, half_a_demand, hard_and_soft, narrow_call, never_calm, no_demand, no_order, order_11, order_12, order_least, replay_call, solve_call, sweep_call, text_call, two_demands, two_demands_table, whole_call, worst_call};
+ghost use Rattle.rob_top.specs.WorkedCalls.{check_call, demand_within_a_budget, empty_interval, first_text, greatest, half_a_demand, hard_and_soft, narrow_call, never_calm, no_demand, no_order, order_11, order_12, order_least, replay_call, solve_call, sweep_call, text_call, two_demands, two_demands_table, whole_call, worst_call};
 ghost use Rattle.rob_top.specs.WorkedTrees.{tree_call};
 ghost use Rattle.rob_top.specs.declared.ended.Ended.{Ended};
 ghost use Rattle.rob_top.specs.declared.ended.Ended.TheVariants.{Accepted, Cert, EmptySet, NoRow, Optimal, Printed, Rejected, Scenarios, Sweep, TooWide, Tree as NoTree, Whole, WideNode};
@@ -210,6 +211,12 @@ pub fn worked_calls()
         → EndsAs (Sweep 81) result }
     ensures unlimited { (result : Ended) → MustEnd (sweep_call (codes "sweeptext") one_demand) result
         → EndsAs (Sweep 81) result }
+    // On a model with a budget `sweep` prints its answer at a limit, or names a wide number, and `sweeptext` prints it with
+    // that limit.
+    ensures swept { (result : Ended) → MustEnd (sweep_call (codes "sweep") demand_within_a_budget) result
+        → IsSweepAnswer greatest demand_within_a_budget 1 (limit_value (codes "0") ∷ []) result }
+    ensures limited { (result : Ended) → MustEnd (sweep_call (codes "sweeptext") demand_within_a_budget) result
+        → EndsAs Printed result }
     // `narrow` prints the bounds of the smallest model.
     ensures narrow { (result : Ended) → MustEnd (narrow_call one_demand) result → EndsAs Printed result }
     // `text` prints a model, whichever number its word spells.

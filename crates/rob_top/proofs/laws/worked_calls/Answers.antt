@@ -1,3 +1,4 @@
+use Rattle.rob_top.proofs.WorkedBudgets.{a_budget_is_limited, a_budget_is_swept}
 use Rattle.rob_top.proofs.WorkedCalls.{empty_interval_is_shown, one_demand_is_solved}
 use Rattle.rob_top.proofs.WorkedEmptyCalls.{never_calm_is_shown}
 use Rattle.rob_top.proofs.WorkedSetCalls.{hard_and_soft_is_solved}
@@ -25,6 +26,8 @@ returns c = record {
   halves = half_a_demand_is_solved;
   unswept = no_budget_is_swept;
   unlimited = no_budget_is_limited;
+  swept = a_budget_is_swept;
+  limited = a_budget_is_limited;
   table = two_demands_are_printed;
   wide = order_least_is_wide;
   planless = no_order_is_planless;
