@@ -5,10 +5,11 @@ use Rattle.rob_model.specs.declared.place.Spot.{Spot}
 use Rattle.rob_top.specs.Branched.{BreaksWhole, no_ranges, no_variables}
 use Rattle.rob_top.specs.Calls.{Call}
 use Rattle.rob_top.proofs.SoughtLemmas.{forms_unplanned}
-use Rattle.rob_top.specs.Headline.{Means, rows, replayed, generated, worst_found, swept, narrowed}
+use Rattle.rob_top.specs.Headline.{Means}
 use Rattle.rob_top.specs.Refused.{IsWideSpot, elaborating, solving, checking, replaying, searching}
 use Rattle.rob_top.specs.Replayed.{LacksPlan, planless, unread}
 use Rattle.rob_top.specs.Swept.{BreaksSweep, at_limit, at_limits}
+use Rattle.rob_top.specs.Ways.{solved, branched, rows, replayed, generated, worst_found, swept, narrowed, a_certificate, a_tree, while_solving, while_branching, while_searching, in_model, while_growing, while_checking, not_checked, not_replayed, not_searched}
 use Rattle.rob_top.specs.declared.ended.Ended.{Ended}
 use Rattle.rob_top.specs.declared.ended.Ended.TheVariants.{Optimal, Infeasible, Unbounded, Printed, Accepted, Rejected, Words, Missing, TooLong, Model, EmptySet, TooWide, WideNode, WideBudget, Cert, Scenarios, Whole, Sweep, Tree, TreeRejected, NoRow, ReadFault, WriteFault, Memory}
 use Rattle.rob_words.specs.Commands.{Line, IsCommandLine}
@@ -42,12 +43,12 @@ pub no_command : (call : Call) (ended : Ended) (text : List ℕ) → (IsCommandL
 no_command call Words text none h = refl
 no_command call Memory text none h = absurd h
 no_command call WriteFault text none h = absurd h
-no_command call Optimal text none (inl h) = absurd (none ((h.line, h.forms.model.spelled)))
-no_command call Optimal text none (inr h) = absurd (none ((h.line, h.has.named.model.spelled)))
-no_command call Infeasible text none (inl h) = absurd (none ((h.line, h.forms.model.spelled)))
-no_command call Infeasible text none (inr h) = absurd (none ((h.line, h.has.named.model.spelled)))
-no_command call Unbounded text none (inl h) = absurd (none ((h.line, h.forms.model.spelled)))
-no_command call Unbounded text none (inr h) = absurd (none ((h.line, h.has.named.model.spelled)))
+no_command call Optimal text none (solved h) = absurd (none ((h.line, h.forms.model.spelled)))
+no_command call Optimal text none (branched h) = absurd (none ((h.line, h.has.named.model.spelled)))
+no_command call Infeasible text none (solved h) = absurd (none ((h.line, h.forms.model.spelled)))
+no_command call Infeasible text none (branched h) = absurd (none ((h.line, h.has.named.model.spelled)))
+no_command call Unbounded text none (solved h) = absurd (none ((h.line, h.forms.model.spelled)))
+no_command call Unbounded text none (branched h) = absurd (none ((h.line, h.has.named.model.spelled)))
 no_command call Printed text none (rows h) = absurd (none ((h.line, h.forms.model.spelled)))
 no_command call Printed text none (replayed h) = absurd (none ((h.line, h.has.certificate.file.model.spelled)))
 no_command call Printed text none (generated h) = absurd (none ((h.line, h.spelled)))
@@ -55,24 +56,24 @@ no_command call Printed text none (worst_found h) = absurd (none ((h.line, h.has
 no_command call Printed text none (swept (inl h)) = absurd (none ((h.line, h.has.model.spelled)))
 no_command call Printed text none (swept (inr h)) = absurd (none ((h.line, h.has.model.spelled)))
 no_command call Printed text none (narrowed h) = absurd (none ((h.line, h.forms.model.spelled)))
-no_command call Accepted text none (inl h) = absurd (none ((h.line, h.read.file.forms.model.spelled)))
-no_command call Accepted text none (inr h) = absurd (none ((h.line, h.read.file.variables.named.model.spelled)))
+no_command call Accepted text none (a_certificate h) = absurd (none ((h.line, h.read.file.forms.model.spelled)))
+no_command call Accepted text none (a_tree h) = absurd (none ((h.line, h.read.file.variables.named.model.spelled)))
 no_command call (Rejected place) text none h = absurd (none ((h.line, h.read.file.forms.model.spelled)))
 no_command call (TreeRejected number fault) text none h = absurd (none ((h.line, h.read.file.variables.named.model.spelled)))
 no_command call (Model rule line) text none h = absurd (none ((h.line, h.spelled)))
-no_command call (EmptySet weights) text none (inl h) = absurd (none ((h.line, h.forms.model.spelled)))
-no_command call (EmptySet weights) text none (inr (inl h)) = absurd (none ((h.line, h.has.named.model.spelled)))
-no_command call (EmptySet weights) text none (inr (inr h)) = absurd (none ((h.line, h.has.plan.certificate.file.forms.model.spelled)))
-no_command call (TooWide spot) text none h = absurd (none (wide_line call h.line h.m spot h.wide))
-no_command call (WideNode path spot) text none (inl h) = absurd (none ((h.line, h.has.named.model.spelled)))
-no_command call (WideNode path spot) text none (inr h) = absurd (none ((h.line, h.read.file.variables.named.model.spelled)))
+no_command call (EmptySet weights) text none (while_solving h) = absurd (none ((h.line, h.forms.model.spelled)))
+no_command call (EmptySet weights) text none (while_branching h) = absurd (none ((h.line, h.has.named.model.spelled)))
+no_command call (EmptySet weights) text none (while_searching h) = absurd (none ((h.line, h.has.plan.certificate.file.forms.model.spelled)))
+no_command call (TooWide spot) text none (in_model h) = absurd (none (wide_line call h.line h.m spot h.wide))
+no_command call (WideNode path spot) text none (while_growing h) = absurd (none ((h.line, h.has.named.model.spelled)))
+no_command call (WideNode path spot) text none (while_checking h) = absurd (none ((h.line, h.read.file.variables.named.model.spelled)))
 no_command call (Whole rule) text none h = absurd (none (breaking_line call h.line h.m rule h.breaks))
 no_command call (Tree rule line) text none h = absurd (none ((h.line, h.file.variables.named.model.spelled)))
 no_command call (WideBudget number spot) text none h = absurd (none ((h.line, h.has.model.spelled)))
 no_command call (Sweep rule) text none h = absurd (none (sweeping_line call h.line h.m rule h.breaks))
-no_command call (Cert rule line) text none (inl h) = absurd (none ((h.line, h.file.forms.model.spelled)))
-no_command call (Cert rule line) text none (inr (inl h)) = absurd (none (lacking_line call h.line h.m rule line h.lacks))
-no_command call (Cert rule line) text none (inr (inr h)) =
+no_command call (Cert rule line) text none (not_checked h) = absurd (none ((h.line, h.file.forms.model.spelled)))
+no_command call (Cert rule line) text none (not_replayed h) = absurd (none (lacking_line call h.line h.m rule line h.lacks))
+no_command call (Cert rule line) text none (not_searched h) =
     absurd (none ((h.line, (forms_unplanned call h.line h.m rule line h.gives_none).model.spelled)))
 no_command call NoRow text none h = absurd (none ((h.line, h.names_none.plan.certificate.file.forms.model.spelled)))
 no_command call (Scenarios rule number) text none h = absurd (none ((h.line, h.has.certificate.file.model.spelled)))

@@ -1,5 +1,5 @@
 -- The answers of `whole` and `tree`, from what the search for names and the growing of a tree answer.
-use Rattle.std.proofs.Common.{◌≡◌, ℕ, List, map, Option, Some, None, Result, Ok, Err, IfOk, inl, inr, refl, subst, sym, ap, ◌∙◌}
+use Rattle.std.proofs.Common.{◌≡◌, ℕ, List, map, Option, Some, None, Result, Ok, Err, IfOk, refl, subst, sym, ap, ◌∙◌}
 use Rattle.std.proofs.lemmas.List.{length-map}
 use Rattle.std.specs.Prelude.{MatchOption}
 use Rattle.rob_algebra.specs.Fraction.{of_int}
@@ -29,6 +29,7 @@ use Rattle.rob_top.specs.Inputs.{AreVariables}
 use Rattle.rob_top.specs.Replies.{Replies}
 use Rattle.rob_top.specs.Work.{AnswersModel, AnswersNames, AnswersVariables, IsCallAt, ended_of}
 use Rattle.rob_top.specs.Refusing.{IsUngrownOf, RepliesUngrown}
+use Rattle.rob_top.specs.Ways.{branched, while_branching, while_growing}
 use Rattle.rob_top.specs.declared.ended.Ended.{Ended}
 use Rattle.rob_top.specs.declared.ended.Ended.TheVariants.{Whole}
 use Rattle.rob_top.specs.declared.files.Texts.{Texts}
@@ -43,9 +44,9 @@ use Rattle.rob_words.specs.declared.verb.Verb.{Verb}
 
 -- a status is an answer of a tree
 means_branched : (call : Call) (status : Status) (text : List ℕ) → IsBranched call status text → Means call (ended_of status) text
-means_branched call optimal text h = inr h
-means_branched call infeasible text h = inr h
-means_branched call unbounded text h = inr h
+means_branched call optimal text h = branched h
+means_branched call infeasible text h = branched h
+means_branched call unbounded text h = branched h
 
 -- what is said of the numbers that were found, or of none
 module _ (m : RobustModel) (names : List ℕ) where
@@ -131,7 +132,7 @@ module _ (limit : ℕ) (m : RobustModel) where
         })
     stop_answers before now (ungrown.EmptySet weights) reply cause rose told is = λ call line at has.
         subst (λ (ended : Ended). Means call ended reply.text) (sym is.0)
-        (inr (inl (record {
+        (while_branching (record {
           line = line;
           m = m;
           names = numbers;
@@ -142,10 +143,10 @@ module _ (limit : ℕ) (m : RobustModel) where
           branches = is_here (count before now) call line at;
           shown = cause;
           printed = is.1;
-        })))
+        }))
     stop_answers before now (ungrown.Wide path spot) reply cause rose told is = λ call line at has.
         subst (λ (ended : Ended). Means call ended reply.text) (sym is.0)
-        (inl (record {
+        (while_growing (record {
           line = line;
           m = m;
           names = numbers;

@@ -1,5 +1,5 @@
 -- The answers of `check`, from what the reading of a certificate and its check answer; and the places of conditions.
-use Rattle.std.proofs.Common.{◌≡◌, ℕ, zero, suc, ◌+◌, ◌<◌, ◌≤◌, Bool, true, false, List, [], ◌∷◌, ◌++◌, length, map, Option, Some, None, Result, Ok, Err, IfOk, inl, refl, subst, sym, ap, ◌∙◌, arith}
+use Rattle.std.proofs.Common.{◌≡◌, ℕ, zero, suc, ◌+◌, ◌<◌, ◌≤◌, Bool, true, false, List, [], ◌∷◌, ◌++◌, length, map, Option, Some, None, Result, Ok, Err, IfOk, refl, subst, sym, ap, ◌∙◌, arith}
 use Rattle.std.specs.Prelude.{if◌then◌else◌, ℤ}
 use Rattle.std.specs.List.{filter}
 use Rattle.std.proofs.lemmas.List.{length-map}
@@ -43,6 +43,7 @@ use Rattle.rob_top.specs.Headline.{Means}
 use Rattle.rob_top.specs.Refused.{checking}
 use Rattle.rob_top.specs.Replies.{Replies}
 use Rattle.rob_top.specs.Work.{AnswersCertificate, AnswersFile, AnswersWhole}
+use Rattle.rob_top.specs.Ways.{a_certificate, in_model, not_checked}
 use Rattle.rob_top.specs.declared.ended.Ended.{Ended}
 use Rattle.rob_top.specs.declared.ended.Ended.TheVariants.{Accepted, Rejected, TooWide, Cert}
 use Rattle.rob_top.specs.declared.files.Texts.{Texts}
@@ -197,7 +198,7 @@ module _ (limit : ℕ) (m : RobustModel) where
   rule_answers wides text rule number (Err want) broken is = tt
   rule_answers wides text rule number (Ok reply) broken is = λ call line at file.
       subst (λ (ended : Ended). Means call ended reply.text) (sym is.0)
-      (inl (record {
+      (not_checked (record {
         line = line;
         m = m;
         bytes = text;
@@ -222,7 +223,7 @@ module _ (limit : ℕ) (m : RobustModel) where
     accepted_answers wides (Err want) e judged holds said = tt
     accepted_answers wides (Ok reply) e judged holds said = λ call line at read.
         subst (λ (ended : Ended). Means call ended reply.text) (sym said.0)
-        (inl (record {
+        (a_certificate (record {
           line = line;
           m = m;
           c = c;
@@ -254,10 +255,10 @@ module _ (limit : ℕ) (m : RobustModel) where
     too_wide_answers before now place (Ok reply) e counted said = λ call line at read.
         let rose : RoseIfWide before now (verdicts.TooWide place) = subst (λ (w : Verdict). RoseIfWide before now w) e counted in
         subst (λ (ended : Ended). Means call ended reply.text) (sym said.0)
-        (record {
+        (in_model (record {
           line = line;
           m = m;
           wide = checking c place read refl (verdict_is call line (verdicts.TooWide place) at.limit_is e);
           raised = at.raised rose;
           printed = said.1;
-        })
+        }))

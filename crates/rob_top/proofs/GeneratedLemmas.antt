@@ -2,9 +2,10 @@
 use Rattle.std.proofs.Common.{◌≡◌, ℕ, List, Result, Ok, Err, IfOk, inl, inr, ◌⊎◌, sym, subst}
 use Rattle.rob_number.specs.declared.memory.Memory.{Memory as Want}
 use Rattle.rob_top.specs.Calls.{Call, Count, Known}
-use Rattle.rob_top.specs.Headline.{Means, generated}
+use Rattle.rob_top.specs.Headline.{Means}
 use Rattle.rob_top.specs.Replies.{HasTexts}
 use Rattle.rob_top.specs.Work.{RepliesGenerated}
+use Rattle.rob_top.specs.Ways.{generated}
 use Rattle.rob_top.specs.declared.ended.Ended.{Ended}
 use Rattle.rob_top.specs.declared.ended.Ended.TheVariants.{Printed, Memory}
 use Rattle.rob_top.specs.declared.files.Texts.{Texts}

@@ -4,11 +4,12 @@ use Rattle.rob_meaning.specs.Certificates.{Status, optimal, infeasible, unbounde
 use Rattle.rob_outside.specs.Files.{missing, too_long}
 use Rattle.rob_top.specs.Branched.{IsBranched}
 use Rattle.rob_top.specs.Calls.{Call, Known, known_call, requests}
-use Rattle.rob_top.specs.Headline.{Means, rows, replayed, generated, worst_found, swept, narrowed}
+use Rattle.rob_top.specs.Headline.{Means}
 use Rattle.rob_top.specs.Replayed.{IsReplayed}
 use Rattle.rob_top.specs.Searched.{IsSearched}
 use Rattle.rob_top.specs.Solved.{IsSolved}
 use Rattle.rob_top.specs.Swept.{IsSwept}
+use Rattle.rob_top.specs.Ways.{FindsStatus, solved, branched, rows, replayed, generated, worst_found, swept, narrowed, a_certificate, a_tree, while_solving, while_branching, while_searching, in_model, while_growing, while_checking, not_checked, not_replayed, not_searched}
 use Rattle.rob_top.specs.declared.ended.Ended.{Ended}
 use Rattle.rob_top.specs.declared.ended.Ended.TheVariants.{Optimal, Infeasible, Unbounded, Printed, Accepted, Rejected, Words, Missing, TooLong, Model, EmptySet, TooWide, WideNode, WideBudget, Cert, Scenarios, Whole, Sweep, Tree as TreeRule, TreeRejected, NoRow, ReadFault, WriteFault, Memory}
 use Rattle.rob_words.specs.declared.verb.Own.TheVariants as own
@@ -51,6 +52,10 @@ module _ (call : Call) (known : Known call.source) where
     fits = h.fits;
     printed = h.printed;
   }
+
+  status_known : (status : Status) (text : List ℕ) → FindsStatus call status text → FindsStatus part status text
+  status_known status text (solved h) = solved (solved_known status text h)
+  status_known status text (branched h) = branched (branched_known status text h)
 
   replayed_known : (text : List ℕ) → IsReplayed call text → IsReplayed part text
   replayed_known text h = record {
@@ -105,12 +110,9 @@ module _ (call : Call) (known : Known call.source) where
   })
 
   pub means_known : (ended : Ended) (text : List ℕ) → Means call ended text → Means part ended text
-  means_known Optimal text (inl h) = inl (solved_known optimal text h)
-  means_known Optimal text (inr h) = inr (branched_known optimal text h)
-  means_known Infeasible text (inl h) = inl (solved_known infeasible text h)
-  means_known Infeasible text (inr h) = inr (branched_known infeasible text h)
-  means_known Unbounded text (inl h) = inl (solved_known unbounded text h)
-  means_known Unbounded text (inr h) = inr (branched_known unbounded text h)
+  means_known Optimal text h = status_known optimal text h
+  means_known Infeasible text h = status_known infeasible text h
+  means_known Unbounded text h = status_known unbounded text h
   means_known Printed text (rows h) = rows (record {
     line = h.line;
     m = h.m;
@@ -136,7 +138,7 @@ module _ (call : Call) (known : Known call.source) where
   })
   means_known Printed text (worst_found h) = worst_found (searched_known text h)
   means_known Printed text (swept h) = swept (swept_known text h)
-  means_known Accepted text (inl h) = inl (record {
+  means_known Accepted text (a_certificate h) = a_certificate (record {
     line = h.line;
     m = h.m;
     c = h.c;
@@ -146,7 +148,7 @@ module _ (call : Call) (known : Known call.source) where
     holds = h.holds;
     printed = h.printed;
   })
-  means_known Accepted text (inr h) = inr (record {
+  means_known Accepted text (a_tree h) = a_tree (record {
     line = h.line;
     m = h.m;
     names = h.names;
@@ -196,7 +198,7 @@ module _ (call : Call) (known : Known call.source) where
     breaks = h.breaks;
     printed = h.printed;
   }
-  means_known (EmptySet weights) text (inl h) = inl (record {
+  means_known (EmptySet weights) text (while_solving h) = while_solving (record {
     line = h.line;
     m = h.m;
     forms = (forms_known call known) h.line h.m h.forms;
@@ -209,7 +211,7 @@ module _ (call : Call) (known : Known call.source) where
     none_in_set = h.none_in_set;
     printed = h.printed;
   })
-  means_known (EmptySet weights) text (inr (inl h)) = inr (inl (record {
+  means_known (EmptySet weights) text (while_branching h) = while_branching (record {
     line = h.line;
     m = h.m;
     names = h.names;
@@ -217,8 +219,8 @@ module _ (call : Call) (known : Known call.source) where
     branches = h.branches;
     shown = h.shown;
     printed = h.printed;
-  }))
-  means_known (EmptySet weights) text (inr (inr h)) = inr (inr (record {
+  })
+  means_known (EmptySet weights) text (while_searching h) = while_searching (record {
     line = h.line;
     m = h.m;
     c = h.c;
@@ -226,8 +228,8 @@ module _ (call : Call) (known : Known call.source) where
     has = (sought_known call known) h.line h.m h.c h.form h.has;
     shown = h.shown;
     printed = h.printed;
-  }))
-  means_known (WideNode path spot) text (inl h) = inl (record {
+  })
+  means_known (WideNode path spot) text (while_growing h) = while_growing (record {
     line = h.line;
     m = h.m;
     names = h.names;
@@ -238,7 +240,7 @@ module _ (call : Call) (known : Known call.source) where
     raised = h.raised;
     printed = h.printed;
   })
-  means_known (WideNode path spot) text (inr h) = inr (record {
+  means_known (WideNode path spot) text (while_checking h) = while_checking (record {
     line = h.line;
     m = h.m;
     names = h.names;
@@ -271,14 +273,14 @@ module _ (call : Call) (known : Known call.source) where
     breaks = (breaking_known call known) h.line h.m rule h.breaks;
     printed = h.printed;
   }
-  means_known (TooWide spot) text h = record {
+  means_known (TooWide spot) text (in_model h) = in_model (record {
     line = h.line;
     m = h.m;
     wide = (spot_known call known) h.line h.m spot h.wide;
     raised = h.raised;
     printed = h.printed;
-  }
-  means_known (Cert rule number) text (inl h) = inl (record {
+  })
+  means_known (Cert rule number) text (not_checked h) = not_checked (record {
     line = h.line;
     m = h.m;
     bytes = h.bytes;
@@ -286,18 +288,18 @@ module _ (call : Call) (known : Known call.source) where
     breaks = h.breaks;
     printed = h.printed;
   })
-  means_known (Cert rule number) text (inr (inl h)) = inr (inl (record {
+  means_known (Cert rule number) text (not_replayed h) = not_replayed (record {
     line = h.line;
     m = h.m;
     lacks = (lacking_known call known) h.line h.m rule number h.lacks;
     printed = h.printed;
-  }))
-  means_known (Cert rule number) text (inr (inr h)) = inr (inr (record {
+  })
+  means_known (Cert rule number) text (not_searched h) = not_searched (record {
     line = h.line;
     m = h.m;
     gives_none = (unplanned_known call known) h.line h.m rule number h.gives_none;
     printed = h.printed;
-  }))
+  })
   means_known NoRow text h = record {
     line = h.line;
     m = h.m;

@@ -29,10 +29,11 @@ use Rattle.rob_top.proofs.CourseLemmas.{Course, bounds, branching, checking_tree
 use Rattle.rob_top.proofs.TrueAnswerLemmas.{course_of, first_of_two, lacking_verb, no_first}
 use Rattle.rob_top.specs.Calls.{Call, Count, Known, IsSolving, limit_of}
 use Rattle.rob_top.specs.Endings.{IsEmptyAnswer, IsShownAnswer, IsSolveAnswer}
-use Rattle.rob_top.specs.Headline.{Means, narrowed}
+use Rattle.rob_top.specs.Headline.{Means}
 use Rattle.rob_top.specs.Inputs.{HasForms}
 use Rattle.rob_top.specs.Narrowed.{RepliesNarrow, TellsNarrow, bound_at, bounds_text, program_line}
 use Rattle.rob_top.specs.Work.{AnswersWhole}
+use Rattle.rob_top.specs.Ways.{narrowed}
 use Rattle.rob_top.specs.declared.ended.Ended.{Ended}
 use Rattle.rob_top.specs.declared.ended.Ended.TheVariants.{EmptySet, Printed, ReadFault, Memory, TooWide}
 use Rattle.rob_top.specs.declared.files.Texts.{Texts}

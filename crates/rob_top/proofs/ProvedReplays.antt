@@ -1,5 +1,5 @@
 -- The text that `prove` printed, as `replay` takes it for the same model at the same width.
-use Rattle.std.proofs.Common.{◌≡◌, ℕ, List, sym, ◌∙◌, ap, subst, inl, inr}
+use Rattle.std.proofs.Common.{◌≡◌, ℕ, List, sym, ◌∙◌, ap, subst}
 use Rattle.rob_meaning.specs.Certificates.{Certificate, Status, infeasible}
 use Rattle.rob_meaning.specs.Places.{Each}
 use Rattle.rob_meaning.specs.RobustModel.{RobustModel}
@@ -17,6 +17,7 @@ use Rattle.rob_top.specs.Headline.{Means}
 use Rattle.rob_top.specs.Inputs.{HasModel, HasReplayCertificate, HasReplayFile, HasScenarios}
 use Rattle.rob_top.specs.Replayed.{IsReplayed, LacksPlan, planless, unread}
 use Rattle.rob_top.specs.Solved.{IsSolved}
+use Rattle.rob_top.specs.Ways.{not_checked, not_replayed, not_searched}
 use Rattle.rob_top.specs.declared.ended.Ended.TheVariants.{Cert}
 use Rattle.rob_words.proofs.Spellings.{one_line}
 use Rattle.rob_words.specs.Commands.{Line, IsSpelled}
@@ -82,12 +83,12 @@ module _ (proving replaying : Call) (status : Status) (text : List ℕ) (solved 
   refused_says rule number shown means = by (means_known replaying known (Cert rule number) shown means)
     where
       by : Means told (Cert rule number) shown → SaysInfeasible rule number
-      by (inl h) =
+      by (not_checked h) =
           absurd
           (check_not_replay line.verb
           (subst (λ (l : Line). l.verb ≡ Check) (line_here h.line h.file.forms.model.spelled) h.file.is_check) file.is_replay)
-      by (inr (inl h)) = lack_says rule number (lacks_here rule number h.line h.m h.lacks)
-      by (inr (inr h)) =
+      by (not_replayed h) = lack_says rule number (lacks_here rule number h.line h.m h.lacks)
+      by (not_searched h) =
           let forms = forms_unplanned told h.line h.m rule number h.gives_none in
           absurd
           (replay_not_worst line.verb file.is_replay

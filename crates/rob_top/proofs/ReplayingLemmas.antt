@@ -1,5 +1,5 @@
 -- The answers of `replay`, from what the reading of a certificate and the replaying of a scenario file answer.
-use Rattle.std.proofs.Common.{◌≡◌, ◌≢◌, ℕ, ◌≤◌, true, List, Result, Ok, Err, IfOk, inl, inr, refl, subst, sym, ap, ◌∙◌}
+use Rattle.std.proofs.Common.{◌≡◌, ◌≢◌, ℕ, ◌≤◌, true, List, Result, Ok, Err, IfOk, refl, subst, sym, ap, ◌∙◌}
 use Rattle.rob_cert.specs.Apart.{FitsLines}
 use Rattle.rob_cert.specs.Causes.{HasCause}
 use Rattle.rob_cert.specs.Reading.{start}
@@ -26,11 +26,12 @@ use Rattle.rob_report.specs.Spots.{too_wide_line}
 use Rattle.rob_report.specs.Tables.{table_of}
 use Rattle.rob_top.specs.Answers.{certificate_text, scenarios_text}
 use Rattle.rob_top.specs.Calls.{Count, HasFile, count}
-use Rattle.rob_top.specs.Headline.{Means, replayed}
+use Rattle.rob_top.specs.Headline.{Means}
 use Rattle.rob_top.specs.Refused.{replaying}
 use Rattle.rob_top.specs.Replayed.{planless, unread}
 use Rattle.rob_top.specs.Replies.{Replies}
 use Rattle.rob_top.specs.Work.{AnswersModel, AnswersPlan, AnswersReplay, AnswersScenarios}
+use Rattle.rob_top.specs.Ways.{in_model, not_replayed, replayed}
 use Rattle.rob_top.specs.declared.ended.Ended.{Ended}
 use Rattle.rob_top.specs.declared.ended.Ended.TheVariants.{Printed, TooWide, Cert, Scenarios}
 use Rattle.rob_top.specs.declared.files.Texts.{Texts}
@@ -98,13 +99,13 @@ module _ (limit : ℕ) (m : RobustModel) where
     wide_answers before now number (Err want) gives rose is = tt
     wide_answers before now number (Ok reply) gives rose is = λ call line at has.
         subst (λ (ended : Ended). Means call ended reply.text) (sym is.0)
-        (record {
+        (in_model (record {
           line = line;
           m = m;
           wide = replaying c text number has refl (subst (λ (l : ℕ). Gives (outcome l m c.plan) text (Err (is_wide number))) (sym at.limit_is) gives);
           raised = at.raised rose;
           printed = is.1;
-        })
+        }))
 
     -- ---- a certificate, with a plan or without one
     pub planless_answers : (wides : Count) (r : Result Reply Want) → c.status ≡ infeasible → IfOk r (Replies (Cert 34 1) (certificate_text 34 1))
@@ -112,7 +113,7 @@ module _ (limit : ℕ) (m : RobustModel) where
     planless_answers wides (Err want) none is = tt
     planless_answers wides (Ok reply) none is = λ call line at read file.
         subst (λ (ended : Ended). Means call ended reply.text) (sym is.0)
-        (inr (inl (record { line = line; m = m; lacks = planless c read none refl refl; printed = is.1 })))
+        (not_replayed (record { line = line; m = m; lacks = planless c read none refl refl; printed = is.1 }))
 
     pub plan_answers : (wides : Count) (r : Result Reply Want) → c.status ≢ infeasible → IfOk r (AnswersScenarios limit wides m c text)
         → IfOk r (AnswersPlan limit wides m c text)
@@ -126,12 +127,12 @@ module _ (limit : ℕ) (m : RobustModel) where
   unread_answers wides certificate text rule number (Err want) broken is = tt
   unread_answers wides certificate text rule number (Ok reply) broken is = λ call line at file scenarios.
       subst (λ (ended : Ended). Means call ended reply.text) (sym is.0)
-      (inr (inl (record {
+      (not_replayed (record {
         line = line;
         m = m;
         lacks = unread certificate file (subst (λ (l : ℕ). HasCause (naming_of m) l start certificate 1 (Rule rule number)) (sym at.limit_is) broken);
         printed = is.1;
-      })))
+      }))
 
   pub read_answers : (before middle now : ℕ) (certificate text : List ℕ) (c : Certificate) (r : Result Reply Want) → before ≤ middle
       → IsTextOf m c certificate → FitsLines limit m c → IfOk r (AnswersPlan limit (count middle now) m c text)

@@ -30,6 +30,7 @@ use Rattle.rob_top.specs.Refused.{searching}
 use Rattle.rob_top.specs.Searched.{IsWideSought, certificate_vector, in_search, in_set}
 use Rattle.rob_top.specs.Work.{AnswersSought, RepliesWorst}
 use Rattle.rob_top.specs.Refusing.{IsStopOf, RepliesStop}
+use Rattle.rob_top.specs.Ways.{in_model, while_searching}
 use Rattle.rob_top.specs.declared.ended.Ended.{Ended}
 use Rattle.rob_top.specs.declared.reply.Reply.{Reply}
 
@@ -110,18 +111,18 @@ module _ (limit : ℕ) (m : RobustModel) (form : ℕ) (c : Certificate) where
       → RepliesStop m s reply → AnswersSought limit (count before now) m c form reply
   stop_answers before now (stop.EmptySet weights) reply (inl h) counts is = λ call line at has.
       subst (λ (ended : Ended). Means call ended reply.text) (sym is.0)
-      (inr (inr (record { line = line; m = m; c = c; form = form; has = has; shown = h; printed = is.1 })))
+      (while_searching (record { line = line; m = m; c = c; form = form; has = has; shown = h; printed = is.1 }))
   stop_answers before now (stop.EmptySet weights) reply (inr h) counts is = absurd h.1
   stop_answers before now (stop.Wide place trace) reply cause counts is = λ call line at has.
       let rose : Rose before now = omega (arith, counts) in
       subst (λ (ended : Ended). Means call ended reply.text) (sym is.0)
-      (record {
+      (in_model (record {
         line = line;
         m = m;
         wide = searching c form has (subst (λ (l : ℕ). IsWideSought l m form z place) (sym at.limit_is) (wide_sought place trace cause));
         raised = at.raised rose;
         printed = is.1;
-      })
+      }))
   stop_answers before now stop.Memory reply cause counts is = absurd is
 
 -- ---- at the plan that was given

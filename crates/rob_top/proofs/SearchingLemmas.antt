@@ -42,11 +42,12 @@ use Rattle.rob_top.proofs.WorkLemmas.{call_of_verb, call_within, rose_earlier}
 use Rattle.rob_top.proofs.WorstSlackLemmas.{bound_slack, scale_some, worst_found_at}
 use Rattle.rob_top.specs.Answers.{certificate_text, no_row_text}
 use Rattle.rob_top.specs.Calls.{Count, HasFile, count}
-use Rattle.rob_top.specs.Headline.{Means, worst_found}
+use Rattle.rob_top.specs.Headline.{Means}
 use Rattle.rob_top.specs.Refused.{searching}
 use Rattle.rob_top.specs.Replies.{Replies}
 use Rattle.rob_top.specs.Searched.{IsWideSought, IsWorstScenario, ShowsKept, ShowsWorst, attained, certificate_vector, claims_none, endless, in_slack, misread}
 use Rattle.rob_top.specs.Work.{AnswersPlanned, AnswersSearch, AnswersSearched, AnswersSought, AnswersWhole, HasScale, RepliesSlack, RepliesWorst}
+use Rattle.rob_top.specs.Ways.{in_model, not_searched, worst_found}
 use Rattle.rob_top.specs.declared.ended.Ended.{Ended}
 use Rattle.rob_top.specs.declared.ended.Ended.TheVariants.{Cert, NoRow, Printed}
 use Rattle.rob_top.specs.declared.files.Texts.{Texts}
@@ -101,13 +102,13 @@ module _ (limit : ℕ) (m : RobustModel) where
     misread_answers wides certificate rule number (Err want) broken is = tt
     misread_answers wides certificate rule number (Ok reply) broken is = λ call line at file told.
         subst (λ (ended : Ended). Means call ended reply.text) (sym is.0)
-        (inr (inr (record {
+        (not_searched (record {
           line = line;
           m = m;
           gives_none = misread certificate file
               (subst (λ (l : ℕ). text.HasCause (naming_of m) l start certificate 1 (Rule rule number)) (sym at.limit_is) broken);
           printed = is.1;
-        })))
+        }))
 
     pub read_answers : (before middle now : ℕ) (certificate : List ℕ) (c : Certificate) (r : Result Reply Want) → before ≤ middle
         → IsTextOf m c certificate → FitsLines limit m c → IfOk r (AnswersSearched limit (count middle now) m c name)
@@ -125,7 +126,7 @@ module _ (limit : ℕ) (m : RobustModel) where
       claims_none_answers (Err want) none is = tt
       claims_none_answers (Ok reply) none is = λ call line at read told.
           subst (λ (ended : Ended). Means call ended reply.text) (sym is.0)
-          (inr (inr (record { line = line; m = m; gives_none = claims_none c read none refl refl; printed = is.1 })))
+          (not_searched (record { line = line; m = m; gives_none = claims_none c read none refl refl; printed = is.1 }))
 
       pub planned_answers : (r : Result Reply Want) → c.status ≢ infeasible → IfOk r (AnswersPlanned limit wides m c name)
           → IfOk r (AnswersSearched limit wides m c name)
@@ -210,7 +211,7 @@ module _ (limit : ℕ) (m : RobustModel) where
           (attained basis scenario amounts (slack_of scale peak constant) tells.found is_worst refl) kept_shown is
       slack_answers wides reply (inr h) = λ call line at has.
           subst (λ (ended : Ended). Means call ended reply.text) (sym h.0.0)
-          (record {
+          (in_model (record {
             line = line;
             m = m;
             wide = searching c form has
@@ -218,7 +219,7 @@ module _ (limit : ℕ) (m : RobustModel) where
                 (in_slack (scenario, is_worst.admitted) refl (slack_wide h.2)));
             raised = at.raised h.1;
             printed = h.0.1;
-          })
+          }))
 
     -- a ray; a plan that has its bound has none
     no_ray : (ray : List Fraction) → HasNoGreatestAlong m form z ray → HasBound m c.plan c.value → ⊥

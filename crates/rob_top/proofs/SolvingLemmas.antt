@@ -1,5 +1,5 @@
 -- The answers of `solve` and `prove`, from what the route answers.
-use Rattle.std.proofs.Common.{◌≡◌, ◌≢◌, ℕ, suc, ◌+◌, ◌*◌, ◌^◌, ◌<◌, ◌≤◌, List, length, Result, Ok, Err, IfOk, refl, subst, sym, ap, ◌∙◌, arith, inl}
+use Rattle.std.proofs.Common.{◌≡◌, ◌≢◌, ℕ, suc, ◌+◌, ◌*◌, ◌^◌, ◌<◌, ◌≤◌, List, length, Result, Ok, Err, IfOk, refl, subst, sym, ap, ◌∙◌, arith}
 use Rattle.std.proofs.Math.Nat.{mul-le-mul}
 use Rattle.std.proofs.lemmas.List.{length-map}
 use Rattle.std.specs.Prelude.{MatchResult}
@@ -52,6 +52,7 @@ use Rattle.rob_top.specs.Replies.{Replies}
 use Rattle.rob_top.specs.Solved.{IsKept, IsPrinted, IsSolved}
 use Rattle.rob_top.specs.Work.{AnswersForms, ended_of}
 use Rattle.rob_top.specs.Refusing.{IsStopOf, RepliesStop}
+use Rattle.rob_top.specs.Ways.{in_model, solved, while_solving}
 use Rattle.rob_top.specs.declared.ended.Ended.{Ended}
 use Rattle.rob_top.specs.declared.reply.Reply.{Reply}
 use Rattle.rob_words.specs.Commands.{Line}
@@ -147,9 +148,9 @@ module _ (limit : ℕ) (m : RobustModel) (model : IsModel m) (c : Certificate) (
       })
     where
       by : (s : Status) → IsSolved call s text → Means call (ended_of s) text
-      by optimal h = inl h
-      by infeasible h = inl h
-      by unbounded h = inl h
+      by optimal h = solved h
+      by infeasible h = solved h
+      by unbounded h = solved h
 
   is_report : (call : Call) (verb : Verb) (text : List ℕ) → verb ≡ Solve → text ≡ report_of m c → IsPrinted call verb m c text
   is_report call verb text e h = subst (λ (v : Verb). IsPrinted call v m c text) (sym e) h
@@ -194,7 +195,7 @@ module _ (limit : ℕ) (m : RobustModel) where
       → HasCause limit m s → CountsStop before now s → RepliesStop m s reply → AnswersForms limit (count before now) m verb reply
   stop_answers before now verb (stop.EmptySet weights) reply solves cause counts is = λ call line at has.
       subst (λ (ended : Ended). Means call ended reply.text) (sym is.0)
-      (inl (record {
+      (while_solving (record {
         line = line;
         m = m;
         forms = has;
@@ -210,13 +211,13 @@ module _ (limit : ℕ) (m : RobustModel) where
   stop_answers before now verb (stop.Wide place trace) reply solves cause counts is = λ call line at has.
       let rose : Rose before now = omega (arith, counts) in
       subst (λ (ended : Ended). Means call ended reply.text) (sym is.0)
-      (record {
+      (in_model (record {
         line = line;
         m = m;
         wide = solving has (solves_as line.verb verb at.verb_is solves) (subst (λ (l : ℕ). IsWideOnPath l m place) (sym at.limit_is) cause.0);
         raised = at.raised rose;
         printed = is.1;
-      })
+      }))
   stop_answers before now verb stop.Memory reply solves cause counts is = absurd is
 
   pub stopped_answers : (before now : ℕ) (verb : Verb) (s : Stop) (r : Result Reply Want) → IsSolving verb

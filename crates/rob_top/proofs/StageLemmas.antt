@@ -19,11 +19,12 @@ use Rattle.rob_top.proofs.OwnLemmas.{text_no_file, text_no_files}
 use Rattle.rob_top.proofs.SoughtLemmas.{forms_sought, forms_unnamed, forms_unplanned}
 use Rattle.rob_top.specs.Branched.{BreaksWhole, no_ranges, no_variables}
 use Rattle.rob_top.specs.Calls.{Call, Came, HasFile, IsFirstAbsent, IsFound, Known, NamesFile, Request, answer_to, by_fetches, by_files, limit_of, requests}
-use Rattle.rob_top.specs.Headline.{Means, rows, replayed, generated, worst_found, swept, narrowed}
+use Rattle.rob_top.specs.Headline.{Means}
 use Rattle.rob_top.specs.Inputs.{HasModel}
 use Rattle.rob_top.specs.Refused.{IsNoModel, IsWideSpot, checking, elaborating, replaying, searching, solving}
 use Rattle.rob_top.specs.Replayed.{LacksPlan, planless, unread}
 use Rattle.rob_top.specs.Swept.{BreaksSweep, at_limit, at_limits}
+use Rattle.rob_top.specs.Ways.{solved, branched, rows, replayed, generated, worst_found, swept, narrowed, a_certificate, a_tree, while_solving, while_branching, while_searching, in_model, while_growing, while_checking, not_checked, not_replayed, not_searched}
 use Rattle.rob_top.specs.declared.ended.Ended.{Ended}
 use Rattle.rob_top.specs.declared.ended.Ended.TheVariants.{Optimal, Infeasible, Unbounded, Printed, Accepted, Rejected, Words, Missing, TooLong, Model, EmptySet, TooWide, WideNode, WideBudget, Cert, Scenarios, Whole, Sweep, Tree, TreeRejected, NoRow, ReadFault, WriteFault, Memory}
 use Rattle.rob_words.specs.Commands.{Line, IsCommandLine, IsSpelled}
@@ -64,12 +65,12 @@ sweeping_model call line m rule (at_limits n limits has breaks) = has.model
 sweeping_model call line m rule (at_limit n g has none e) = has.model
 
 pub stage_of : (call : Call) (ended : Ended) (text : List ℕ) → Means call ended text → Stage call ended
-stage_of call Optimal text (inl h) = read h.line h.m h.forms.model (solved_course call optimal text h)
-stage_of call Optimal text (inr h) = read h.line h.m h.has.named.model (branched_course call optimal text h)
-stage_of call Infeasible text (inl h) = read h.line h.m h.forms.model (solved_course call infeasible text h)
-stage_of call Infeasible text (inr h) = read h.line h.m h.has.named.model (branched_course call infeasible text h)
-stage_of call Unbounded text (inl h) = read h.line h.m h.forms.model (solved_course call unbounded text h)
-stage_of call Unbounded text (inr h) = read h.line h.m h.has.named.model (branched_course call unbounded text h)
+stage_of call Optimal text (solved h) = read h.line h.m h.forms.model (solved_course call optimal text h)
+stage_of call Optimal text (branched h) = read h.line h.m h.has.named.model (branched_course call optimal text h)
+stage_of call Infeasible text (solved h) = read h.line h.m h.forms.model (solved_course call infeasible text h)
+stage_of call Infeasible text (branched h) = read h.line h.m h.has.named.model (branched_course call infeasible text h)
+stage_of call Unbounded text (solved h) = read h.line h.m h.forms.model (solved_course call unbounded text h)
+stage_of call Unbounded text (branched h) = read h.line h.m h.has.named.model (branched_course call unbounded text h)
 stage_of call Printed text (rows h) = read h.line h.m h.forms.model (rows_course call text h)
 stage_of call Printed text (replayed h) = read h.line h.m h.has.certificate.file.model (replayed_course call text h)
 stage_of call Printed text (generated h) = generates h.line h.spelled h.is_text refl
@@ -77,8 +78,8 @@ stage_of call Printed text (worst_found h) = read h.line h.m (forms_sought call 
 stage_of call Printed text (swept (inl h)) = read h.line h.m h.has.model (priced_course call text h)
 stage_of call Printed text (swept (inr h)) = read h.line h.m h.has.model (limited_course call text h)
 stage_of call Printed text (narrowed h) = read h.line h.m h.forms.model (narrowed_course call text h)
-stage_of call Accepted text (inl h) = read h.line h.m h.read.file.forms.model (accepted_course call text h)
-stage_of call Accepted text (inr h) = read h.line h.m h.read.file.variables.named.model (tree_accepted_course call text h)
+stage_of call Accepted text (a_certificate h) = read h.line h.m h.read.file.forms.model (accepted_course call text h)
+stage_of call Accepted text (a_tree h) = read h.line h.m h.read.file.variables.named.model (tree_accepted_course call text h)
 stage_of call (Rejected place) text h = read h.line h.m h.read.file.forms.model (rejected_course call place text h)
 stage_of call (TreeRejected number fault) text h =
     read h.line h.m h.read.file.variables.named.model (tree_rejected_course call number fault text h)
@@ -86,22 +87,22 @@ stage_of call Words text h = wordless h.0
 stage_of call Missing text h = absent h.0 h.1 refl
 stage_of call TooLong text h = over h.0 h.1 refl
 stage_of call (Model rule number) text h = broken rule number text h refl
-stage_of call (EmptySet weights) text (inl h) = read h.line h.m h.forms.model (empty_course call weights text h)
-stage_of call (EmptySet weights) text (inr (inl h)) = read h.line h.m h.has.named.model (empty_branched_course call weights text h)
-stage_of call (EmptySet weights) text (inr (inr h)) =
+stage_of call (EmptySet weights) text (while_solving h) = read h.line h.m h.forms.model (empty_course call weights text h)
+stage_of call (EmptySet weights) text (while_branching h) = read h.line h.m h.has.named.model (empty_branched_course call weights text h)
+stage_of call (EmptySet weights) text (while_searching h) =
     read h.line h.m (forms_sought call h.line h.m h.c h.form h.has).model (empty_sought_course call weights text h)
-stage_of call (WideNode path spot) text (inl h) = read h.line h.m h.has.named.model (wide_node_course call path spot text h)
-stage_of call (WideNode path spot) text (inr h) =
+stage_of call (WideNode path spot) text (while_growing h) = read h.line h.m h.has.named.model (wide_node_course call path spot text h)
+stage_of call (WideNode path spot) text (while_checking h) =
     read h.line h.m h.read.file.variables.named.model (wide_leaf_course call path spot text h)
 stage_of call (WideBudget number spot) text h = read h.line h.m h.has.model (wide_budget_course call number spot text h)
 stage_of call (Sweep rule) text h = read h.line h.m (sweeping_model call h.line h.m rule h.breaks) (no_sweep_course call rule text h)
 stage_of call (Whole rule) text h = read h.line h.m (breaking_model call h.line h.m rule h.breaks) (no_whole_course call rule text h)
 stage_of call (Tree rule number) text h = read h.line h.m h.file.variables.named.model (no_tree_course call rule number text h)
-stage_of call (TooWide spot) text h = read h.line h.m (wide_model call h.line h.m spot h.wide) (wide_course call h.line h.m spot h.wide)
-stage_of call (Cert rule number) text (inl h) = read h.line h.m h.file.forms.model (cert_course call rule number text h)
-stage_of call (Cert rule number) text (inr (inl h)) =
+stage_of call (TooWide spot) text (in_model h) = read h.line h.m (wide_model call h.line h.m spot h.wide) (wide_course call h.line h.m spot h.wide)
+stage_of call (Cert rule number) text (not_checked h) = read h.line h.m h.file.forms.model (cert_course call rule number text h)
+stage_of call (Cert rule number) text (not_replayed h) =
     read h.line h.m (lacking_model call h.line h.m rule number h.lacks) (lacking_course call rule number text h)
-stage_of call (Cert rule number) text (inr (inr h)) =
+stage_of call (Cert rule number) text (not_searched h) =
     read h.line h.m (forms_unplanned call h.line h.m rule number h.gives_none).model (unplanned_course call rule number text h)
 stage_of call NoRow text h = read h.line h.m (forms_unnamed call h.line h.m h.c h.name h.names_none).model (no_row_course call text h)
 stage_of call (Scenarios rule number) text h = read h.line h.m h.has.certificate.file.model (scenarios_course call rule number text h)

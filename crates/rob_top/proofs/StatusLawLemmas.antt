@@ -1,5 +1,5 @@
 -- A model has one status, and none where no scenario is admitted: what two answers of a call say of each other.
-use Rattle.std.proofs.Common.{◌≡◌, ℕ, ℤ, List, inl, inr, ◌⊎◌}
+use Rattle.std.proofs.Common.{◌≡◌, ℕ, ℤ, List}
 use Rattle.rob_algebra.specs.Fraction.{Fraction}
 use Rattle.rob_meaning.specs.Certificates.{Status, optimal, infeasible, unbounded}
 use Rattle.rob_meaning.specs.Proves.{HasStatus}
@@ -9,17 +9,16 @@ use Rattle.rob_top.proofs.CourseLemmas.{grown_admits, inside_admitted}
 use Rattle.rob_top.proofs.StageLemmas.{same_status}
 use Rattle.rob_top.proofs.TrueAnswerLemmas.{solve_decides}
 use Rattle.rob_top.proofs.WholeAnswerLemmas.{same_whole_status, whole_decides}
-use Rattle.rob_top.specs.Branched.{IsBranched}
 use Rattle.rob_top.specs.Calls.{Call, Known}
 use Rattle.rob_top.specs.Endings.{IsSolveAnswer, IsWholeAnswer}
 use Rattle.rob_top.specs.Headline.{Means}
-use Rattle.rob_top.specs.Solved.{IsSolved}
+use Rattle.rob_top.specs.Ways.{FindsStatus, branched, solved}
 use Rattle.rob_top.specs.Work.{ended_of}
 use Rattle.rob_top.specs.declared.ended.Ended.TheVariants.{EmptySet}
 
 -- a status is answered by a certificate or by a tree
 status_by : (call : Call) (status : Status) (text : List ℕ) → Means call (ended_of status) text
-    → IsSolved call status text ⊎ IsBranched call status text
+    → FindsStatus call status text
 status_by call optimal text h = h
 status_by call infeasible text h = h
 status_by call unbounded text h = h
@@ -39,11 +38,11 @@ pub one_status : (call : Call) (a b : Status) (text other : List ℕ) → Known 
     → Means call (ended_of a) text → Means call (ended_of b) other → a ≡ b
 one_status call a b text other known h k = by (status_by call a text h)
   where
-    by : IsSolved call a text ⊎ IsBranched call a text → a ≡ b
-    by (inl s) =
+    by : FindsStatus call a text → a ≡ b
+    by (solved s) =
         let w = solve_status _ s.m b (solve_decides call known s.line s.m s.forms s.solves (ended_of b) other k) in
         same_status s.m a b s.c.value w.0 s.holds w.1
-    by (inr s) =
+    by (branched s) =
         let w = tree_status _ s.m s.names b (whole_decides call known s.line s.m s.names s.has s.branches (ended_of b) other k) in
         same_whole_status s.m s.names a b s.t.value w.0 s.holds w.1
 
@@ -51,10 +50,10 @@ pub not_empty : (call : Call) (status : Status) (weights : List ℤ) (text other
     → Means call (ended_of status) text → Means call (EmptySet weights) other → ⊥
 not_empty call status weights text other known h empty = by (status_by call status text h)
   where
-    by : IsSolved call status text ⊎ IsBranched call status text → ⊥
-    by (inl s) =
+    by : FindsStatus call status text → ⊥
+    by (solved s) =
         solve_decides call known s.line s.m s.forms s.solves (EmptySet weights) other empty s.c.inside
         (inside_admitted s.m s.c s.c.status s.proves)
-    by (inr s) =
+    by (branched s) =
         let u = grown_admits s.m s.names s.t s.grown in
         whole_decides call known s.line s.m s.names s.has s.branches (EmptySet weights) other empty u.0 u.1

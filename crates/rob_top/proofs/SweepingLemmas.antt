@@ -15,12 +15,13 @@ use Rattle.rob_sweep.specs.declared.answer.SweepStop.{SweepStop}
 use Rattle.rob_sweep.specs.declared.answer.SweepStop.TheVariants as unswept
 use Rattle.rob_top.specs.Answers.{wide_budget_text, words_text}
 use Rattle.rob_top.specs.Calls.{Call, Count, count, limit_of, word_of}
-use Rattle.rob_top.specs.Headline.{Means, swept}
+use Rattle.rob_top.specs.Headline.{Means}
 use Rattle.rob_top.specs.Inputs.{HasModel}
 use Rattle.rob_top.specs.Replies.{Replies}
 use Rattle.rob_top.specs.Swept.{HasLimit, at_limit, at_limits, limit_value}
 use Rattle.rob_top.specs.Work.{AnswersModel, AnswersSweep, AnswersWords, IsCallAt}
 use Rattle.rob_top.specs.Refusing.{RepliesLimit, RepliesUnswept}
+use Rattle.rob_top.specs.Ways.{swept}
 use Rattle.rob_top.specs.declared.ended.Ended.{Ended}
 use Rattle.rob_top.specs.declared.ended.Ended.TheVariants.{Printed, WideBudget, Words}
 use Rattle.rob_top.specs.declared.files.Texts.{Texts}

@@ -1,5 +1,5 @@
 -- The answers of `checktree`, from what the search for names, the reading of a tree and its check answer.
-use Rattle.std.proofs.Common.{◌≡◌, ◌≤◌, ℕ, List, map, Some, None, true, Result, Ok, Err, IfOk, inr, refl, subst, sym, ap, ◌∙◌}
+use Rattle.std.proofs.Common.{◌≡◌, ◌≤◌, ℕ, List, map, Some, None, true, Result, Ok, Err, IfOk, refl, subst, sym, ap, ◌∙◌}
 use Rattle.rob_branch.specs.Verdicts.{IsAccepted, IsRejectedAt, IsTooWideAt, IsVerdict, OnAccepted, RoseIfTooWide}
 use Rattle.rob_meaning.specs.RobustModel.{RobustModel}
 use Rattle.rob_number.specs.declared.memory.Memory.{Memory as Want}
@@ -25,6 +25,7 @@ use Rattle.rob_top.specs.Replies.{Replies}
 use Rattle.rob_top.specs.TreeAnswers.{tree_fault_text}
 use Rattle.rob_top.specs.TreeWork.{AnswersTree, AnswersTreeFile, AnswersTreeNames, AnswersTreeNumbers, RepliesVerdict}
 use Rattle.rob_top.specs.Work.{AnswersModel}
+use Rattle.rob_top.specs.Ways.{a_tree, while_checking}
 use Rattle.rob_top.specs.declared.ended.Ended.{Ended}
 use Rattle.rob_top.specs.declared.ended.Ended.TheVariants.{Whole, Tree as TreeRule}
 use Rattle.rob_top.specs.declared.files.Texts.{Texts}
@@ -49,7 +50,7 @@ module _ (limit : ℕ) (m : RobustModel) where
         → AnswersTree limit (count before now) m numbers t reply
     reply_answers before now verdict.Accepted reply h holds rose said = λ call line at read.
         subst (λ (ended : Ended). Means call ended reply.text) (sym said.0)
-        (inr (record {
+        (a_tree (record {
           line = line;
           m = m;
           names = numbers;
@@ -74,7 +75,7 @@ module _ (limit : ℕ) (m : RobustModel) where
         })
     reply_answers before now (verdict.TooWide path spot) reply h holds rose said = λ call line at read.
         subst (λ (ended : Ended). Means call ended reply.text) (sym said.0)
-        (inr (record {
+        (while_checking (record {
           line = line;
           m = m;
           names = numbers;

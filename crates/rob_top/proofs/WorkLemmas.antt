@@ -19,11 +19,12 @@ use Rattle.rob_sets.proofs.JudgedLemmas.{first_left, first_right}
 use Rattle.rob_sets.proofs.SubexpressionLemmas.{each_both}
 use Rattle.rob_top.specs.Answers.{model_text}
 use Rattle.rob_top.specs.Calls.{Call, Count, IsElaborating, IsOnModel, count, reads_model, WasRaised}
-use Rattle.rob_top.specs.Headline.{Means, rows}
+use Rattle.rob_top.specs.Headline.{Means}
 use Rattle.rob_top.specs.Refused.{elaborating}
 use Rattle.rob_top.specs.Replies.{HasTexts, Replies}
 use Rattle.rob_top.specs.Work.{AnswersForms, AnswersModel, AnswersTexts, AnswersWhole, IsCallAt}
 use Rattle.rob_top.specs.Refusing.{IsRefusedOf, RepliesRefused, RepliesUnread}
+use Rattle.rob_top.specs.Ways.{in_model, rows}
 use Rattle.rob_top.specs.declared.ended.Ended.{Ended}
 use Rattle.rob_top.specs.declared.ended.Ended.TheVariants.{Printed, Model}
 use Rattle.rob_top.specs.declared.files.Texts.{Texts}
@@ -131,14 +132,14 @@ module _ (limit : ℕ) (m : RobustModel) where
       → RepliesRefused m (refused.Wide spot) reply → AnswersModel limit wides m verb texts reply
   spot_answers wides verb texts spot reply makes first rose is = λ call line at came has.
       subst (λ (ended : Ended). Means call ended reply.text) (sym is.0)
-      (record {
+      (in_model (record {
         line = line;
         m = m;
         wide = elaborating has (subst (λ (v : Verb). IsElaborating v) (sym at.verb_is) makes)
             (subst (λ (l : ℕ). IsFirstWide l m (judged_set m ++ judged_forms m) spot) (sym at.limit_is) first);
         raised = at.raised rose;
         printed = is.1;
-      })
+      }))
 
   pub set_answers : (before now : ℕ) (verb : Verb) (texts : Texts) (e : ElabErr) (r : Result Reply Want) → IsElaborating verb → HasCause limit m (judged_set m) e → RoseIfWide before now e
       → IfOk r (RepliesRefused m e) → IfOk r (AnswersModel limit (count before now) m verb texts)

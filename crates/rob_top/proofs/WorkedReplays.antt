@@ -28,10 +28,11 @@ use Rattle.rob_top.proofs.WorkedChecks.{order_12_fits, order_12_shape}
 use Rattle.rob_top.specs.Calls.{Call, Known, by_files}
 use Rattle.rob_top.specs.Completeness.{MustEnd}
 use Rattle.rob_top.specs.Endings.{EndsAs}
-use Rattle.rob_top.specs.Headline.{Means, rows, replayed, generated, worst_found, swept, narrowed}
+use Rattle.rob_top.specs.Headline.{Means}
 use Rattle.rob_top.specs.Inputs.{HasReplayCertificate, HasScenarios}
 use Rattle.rob_top.specs.Replayed.{planless, replay_ended}
 use Rattle.rob_top.specs.WorkedCalls.{certificate_name, greatest, model_name, no_demand, no_order, order_12, order_least, replay_call, scenarios_name, two_demands, two_demands_table}
+use Rattle.rob_top.specs.Ways.{rows, replayed, generated, worst_found, swept, narrowed}
 use Rattle.rob_top.specs.declared.ended.Ended.{Ended}
 use Rattle.rob_top.specs.declared.ended.Ended.TheVariants.{Cert, Printed, Scenarios, TooWide}
 use Rattle.rob_words.proofs.Spellings.{one_line}

@@ -17,18 +17,16 @@ use Rattle.rob_outside.specs.Files.{missing, too_long}
 use Rattle.rob_outside.specs.Puts.{PutAll, PutUntil, put_as}
 use Rattle.rob_outside.specs.Taken.{Took, TookPrefix}
 use Rattle.rob_top.specs.Answers.{missing_text, too_long_text, words_text, read_text, memory_text}
-use Rattle.rob_top.specs.Branched.{IsBranched, IsEmptyBranched, IsNoWhole, IsWideNode}
+use Rattle.rob_top.specs.Branched.{IsNoWhole}
 use Rattle.rob_top.specs.Calls.{Call, Output, WasRaised, IsFirstAbsent, NamesFile}
-use Rattle.rob_top.specs.Checked.{IsAccepted, IsRejected}
-use Rattle.rob_top.specs.Generated.{IsGenerated}
+use Rattle.rob_top.specs.Checked.{IsRejected}
 use Rattle.rob_top.specs.Lines.{text_lines}
-use Rattle.rob_top.specs.Narrowed.{IsNarrowed}
-use Rattle.rob_top.specs.Refused.{IsNoCertificate, IsNoModel, IsTooWide}
-use Rattle.rob_top.specs.Replayed.{IsNoPlan, IsNoScenarios, IsReplayed}
-use Rattle.rob_top.specs.Searched.{IsEmptySought, IsNoPlanSought, IsNoRow, IsSearched}
-use Rattle.rob_top.specs.Solved.{IsEmptySet, IsRows, IsSolved}
-use Rattle.rob_top.specs.TreeChecked.{IsNoTree, IsTreeAccepted, IsTreeRejected, IsWideLeaf}
-use Rattle.rob_top.specs.Swept.{IsNoSweep, IsSwept, IsWideBudget}
+use Rattle.rob_top.specs.Refused.{IsNoModel}
+use Rattle.rob_top.specs.Replayed.{IsNoScenarios}
+use Rattle.rob_top.specs.Searched.{IsNoRow}
+use Rattle.rob_top.specs.Swept.{IsNoSweep, IsWideBudget}
+use Rattle.rob_top.specs.TreeChecked.{IsNoTree, IsTreeRejected}
+use Rattle.rob_top.specs.Ways.{Accepts, FindsEmpty, FindsStatus, NamesCertificateLine, NamesWide, NamesWideNode, Prints}
 use Rattle.rob_top.specs.declared.ended.Ended.{Ended}
 use Rattle.rob_top.specs.declared.ended.Ended.TheVariants.{Optimal, Infeasible, Unbounded, Printed, Accepted, Rejected, Words, Missing, TooLong, Model, EmptySet, TooWide, WideNode, WideBudget, Cert, Scenarios, Whole, Sweep, Tree, TreeRejected, NoRow, ReadFault, WriteFault, Memory}
 use Rattle.rob_words.specs.Commands.{IsCommandLine}
@@ -41,34 +39,25 @@ pub record PutMemory (output : Output) : Type 0 where
   pub puts : output.puts_now ≡ output.puts_before ++ put_as whole memory_text ∷ []
 
 module _ (call : Call) where
-  -- what a text that is printed as asked is, by the commands that answer no status
-  pub data Prints (text : List ℕ) : Type 0 where
-    rows : IsRows call text → Prints text
-    replayed : IsReplayed call text → Prints text
-    generated : IsGenerated call text → Prints text
-    worst_found : IsSearched call text → Prints text
-    swept : IsSwept call text → Prints text
-    narrowed : IsNarrowed call text → Prints text
-
-  -- what each answer means, and its text. An answer comes only where this holds; where it must come, because no other may, is
-  -- said by specs/Completeness.antt
+  -- what each answer means, and its text; where several commands give it, specs/Ways.antt has a constructor for each. An answer
+  -- comes only where this holds; where it must come, because no other may, is said by specs/Completeness.antt
   abbrev pub Means : Ended → List ℕ → Type 0
-  Means Optimal text = IsSolved call optimal text ⊎ IsBranched call optimal text
-  Means Infeasible text = IsSolved call infeasible text ⊎ IsBranched call infeasible text
-  Means Unbounded text = IsSolved call unbounded text ⊎ IsBranched call unbounded text
-  Means Printed text = Prints text
-  Means Accepted text = IsAccepted call text ⊎ IsTreeAccepted call text
+  Means Optimal text = FindsStatus call optimal text
+  Means Infeasible text = FindsStatus call infeasible text
+  Means Unbounded text = FindsStatus call unbounded text
+  Means Printed text = Prints call text
+  Means Accepted text = Accepts call text
   Means (Rejected place) text = IsRejected call place text
   Means (TreeRejected number fault) text = IsTreeRejected call number fault text
   Means Words text = (IsCommandLine call.words → ⊥) × (text ≡ words_text)
   Means Missing text = (name : Word) × IsFirstAbsent call missing name × (text ≡ missing_text name)
   Means TooLong text = (name : Word) × IsFirstAbsent call too_long name × (text ≡ too_long_text name)
   Means (Model rule line) text = IsNoModel call rule line text
-  Means (EmptySet weights) text = IsEmptySet call weights text ⊎ (IsEmptyBranched call weights text ⊎ IsEmptySought call weights text)
-  Means (TooWide spot) text = IsTooWide call spot text
-  Means (WideNode path spot) text = IsWideNode call path spot text ⊎ IsWideLeaf call path spot text
+  Means (EmptySet weights) text = FindsEmpty call weights text
+  Means (TooWide spot) text = NamesWide call spot text
+  Means (WideNode path spot) text = NamesWideNode call path spot text
   Means (WideBudget number spot) text = IsWideBudget call number spot text
-  Means (Cert rule line) text = IsNoCertificate call rule line text ⊎ (IsNoPlan call rule line text ⊎ IsNoPlanSought call rule line text)
+  Means (Cert rule line) text = NamesCertificateLine call rule line text
   Means (Scenarios rule number) text = IsNoScenarios call rule number text
   Means (Whole rule) text = IsNoWhole call rule text
   Means NoRow text = IsNoRow call text

@@ -21,6 +21,7 @@ pub mod TreeAnswers
 pub mod TreeChecked
 pub mod TreeWork
 pub mod Walks
+pub mod Ways
 pub mod Work
 pub mod WorkedCalls
 pub mod WorkedTrees

@@ -12,10 +12,8 @@ ghost use Rattle.rob_report.specs.Lines.{line};
 ghost use Rattle.rob_report.specs.Report.{report_of};
 ghost use Rattle.rob_tree.specs.Shape.{HasTreeShape};
 ghost use Rattle.rob_tree.specs.View.{tree_of};
-ghost use Rattle.rob_top.specs.Answers.{whole_text};
 ghost use Rattle.rob_top.specs.Branched.{IsPlanText, IsPrintedTree, IsReport, IsShownBy, nodes_line};
 ghost use Rattle.rob_top.specs.Calls.{IsBranching, count};
-ghost use Rattle.rob_top.specs.Replies.{Replies};
 ghost use Rattle.rob_top.specs.Work.{AnswersNames, AnswersVariables, ended_of};
 ghost use Rattle.rob_top.specs.Refusing.{IsUngrownOf, RepliesUngrown};
 
@@ -23,7 +21,7 @@ use crate::ended::Ended;
 use crate::names::variables_of;
 use crate::nodes::{Walk, count_nodes, leaf_of};
 use crate::paths::wide_node;
-use crate::reply::{Reply, fault};
+use crate::reply::{Reply, broken_words};
 use crate::solving::{empty_set, ended_by};
 use itoa::Buffer;
 use rob_branch::grow_tree;
@@ -53,7 +51,7 @@ pub fn branch_text<N: Exact + Drop, L: Ledger>(
     let found = variables_of(alloc, model, names)?;
     match found {
         Some(numbers) => on_variables(alloc, model, verb, numbers.items(), ledger),
-        None => broken(alloc, 61),
+        None => broken_words(alloc, Ended::Whole(61), b"whole ", 61),
     }
 }
 
@@ -212,22 +210,9 @@ fn ungrown<N: Exact>(alloc: Global, model: &Model<N>, stop: TreeStop) -> Result<
     ensures stop { IfOk result (RepliesUngrown (robust N.value model.now) stop) }
 {
     match stop {
-        TreeStop::Rule(rule) => broken(alloc, rule),
+        TreeStop::Rule(rule) => broken_words(alloc, Ended::Whole(rule), b"whole ", rule),
         TreeStop::EmptySet(weights) => empty_set(alloc, model, weights),
         TreeStop::Wide(path, spot) => wide_node(alloc, model, path, spot),
         TreeStop::Memory => Err(Memory),
     }
-}
-
-/// The answer where the named variables break the rule.
-pub fn broken(alloc: Global, rule: u8) -> Result<Reply, Memory>
-    ensures fault { IfOk result (Replies (Ended.Whole rule) (whole_text rule)) }
-{
-    let mut buffer = Buffer::new();
-    fault(
-        alloc,
-        Ended::Whole(rule),
-        b"whole ",
-        buffer.format(rule).as_bytes(),
-    )
 }

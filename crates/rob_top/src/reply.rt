@@ -41,7 +41,14 @@ pub fn fault(alloc: Global, ended: Ended, what: &[u8], name: &[u8]) -> Result<Re
     Ok(Reply { ended, text })
 }
 
-/// The answer with the line of a broken rule. `kind` is whose rule it is.
+/// The answer with the line of a rule that a command's own words break. `kind` is whose rule it is.
+pub fn broken_words(alloc: Global, ended: Ended, kind: &[u8], rule: u8) -> Result<Reply, Memory>
+    ensures fault { IfOk result (Replies ended (fault_text (kind.now ++ decimal rule))) }
+{
+    fault(alloc, ended, kind, Buffer::new().format(rule).as_bytes())
+}
+
+/// The answer with the line of a rule that a text breaks, and of the line there. `kind` is whose rule it is.
 pub fn broken_rule(
     alloc: Global,
     ended: Ended,

@@ -10,7 +10,7 @@ ghost use Rattle.rob_report.specs.Spots.{too_wide_line};
 ghost use Rattle.rob_sweep.specs.Stops.{HasCause};
 ghost use Rattle.rob_sweep.specs.SweepText as lines;
 ghost use Rattle.rob_sweep.specs.View.{answer_of};
-ghost use Rattle.rob_top.specs.Answers.{budget_line, sweep_fault_text, wide_budget_text, words_text};
+ghost use Rattle.rob_top.specs.Answers.{budget_line, wide_budget_text, words_text};
 ghost use Rattle.rob_top.specs.Calls.{count};
 ghost use Rattle.rob_top.specs.Replies.{Replies};
 ghost use Rattle.rob_top.specs.Work.{AnswersSweep, AnswersWords};
@@ -20,8 +20,7 @@ ghost use Rattle.rob_write.specs.Canonical.{model_text};
 
 use crate::ended::Ended;
 use crate::limits::{limit_of, limits_of};
-use crate::reply::{Reply, fault};
-use itoa::Buffer;
+use crate::reply::{Reply, broken_words, fault};
 use rob_cert::spelling::put_number;
 use rob_model::{Model, Spot};
 use rob_number::{Exact, Ledger, Memory, Text};
@@ -106,7 +105,7 @@ fn unswept<N: Exact>(
     ensures stop { IfOk result (RepliesUnswept N.limit (robust N.value model.now) n (map N.value limits.now) stop) }
 {
     match stop {
-        SweepStop::Rule(rule) => broken(alloc, rule),
+        SweepStop::Rule(rule) => broken_words(alloc, Ended::Sweep(rule), b"sweep ", rule),
         SweepStop::Wide(number, spot) => {
             wide_budget(alloc, model, n, limits[number as usize - 1], number, spot)
         }
@@ -209,7 +208,7 @@ fn limited<N: Exact>(alloc: Global, model: &Model<N>, n: u32, limit: N) -> Resul
 {
     match with_budget(alloc, model, n, limit) {
         Ok(changed) => written(alloc, &changed),
-        Err(SweepStop::Rule(rule)) => broken(alloc, rule),
+        Err(SweepStop::Rule(rule)) => broken_words(alloc, Ended::Sweep(rule), b"sweep ", rule),
         Err(SweepStop::Memory) => Err(Memory),
         Err(SweepStop::Wide(_, _)) => unreachable!(),
     }
@@ -224,19 +223,6 @@ fn written<N: Exact>(alloc: Global, model: &Model<N>) -> Result<Reply, Memory>
         ended: Ended::Printed,
         text,
     })
-}
-
-/// The answer where statement or limits break the rule.
-fn broken(alloc: Global, rule: u8) -> Result<Reply, Memory>
-    ensures fault { IfOk result (Replies (Ended.Sweep rule) (sweep_fault_text rule)) }
-{
-    let mut buffer = Buffer::new();
-    fault(
-        alloc,
-        Ended::Sweep(rule),
-        b"sweep ",
-        buffer.format(rule).as_bytes(),
-    )
 }
 
 /// The answer to words that are no command line.

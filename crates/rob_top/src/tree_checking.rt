@@ -16,12 +16,11 @@ ghost use Rattle.rob_top.specs.Replies.{Replies};
 ghost use Rattle.rob_top.specs.TreeAnswers.{fault_words, rejected_leaf_text};
 ghost use Rattle.rob_top.specs.TreeWork.{AnswersTree, AnswersTreeFile, AnswersTreeNames, AnswersTreeNumbers, IsFaultOf, IsVerdictOf, RepliesVerdict};
 
-use crate::branching::broken;
 use crate::checking::accepted;
 use crate::ended::Ended;
 use crate::names::variables_of;
 use crate::paths::wide_node;
-use crate::reply::{Reply, broken_rule};
+use crate::reply::{Reply, broken_rule, broken_words};
 use itoa::Buffer;
 use rob_branch::check_tree;
 use rob_model::{Model, Place};
@@ -48,7 +47,7 @@ pub fn check_tree_text<N: Exact + Drop, L: Ledger>(
     let found = variables_of(alloc, model, names)?;
     match found {
         Some(numbers) => on_numbers(alloc, model, numbers.items(), text, ledger),
-        None => broken(alloc, 61),
+        None => broken_words(alloc, Ended::Whole(61), b"whole ", 61),
     }
 }
 
@@ -69,7 +68,7 @@ fn on_numbers<N: Exact + Drop, L: Ledger>(
     ensures counted { L.wides ledger.old ≤ L.wides ledger.new }
 {
     match whole_rule(model, numbers) {
-        Some(rule) => broken(alloc, rule),
+        Some(rule) => broken_words(alloc, Ended::Whole(rule), b"whole ", rule),
         None => on_text(alloc, model, numbers, text, ledger),
     }
 }

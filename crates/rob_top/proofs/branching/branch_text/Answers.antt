@@ -16,6 +16,6 @@ returns-in-Some-clause-answers g c =
 
 pub returns-in-None-clause-answers : goal.returns-in-None-clause-answers
 returns-in-None-clause-answers g c =
-    no_variables_answer g.N.Exact.limit (robust g.N.Exact.value c.args.model.now) _ c.args.verb c.args.names.now c.broken.result c.requires.branches
+    no_variables_answer g.N.Exact.limit (robust g.N.Exact.value c.args.model.now) _ c.args.verb c.args.names.now c.broken_words.result c.requires.branches
     (nobody_found (robust g.N.Exact.value c.args.model.now) c.args.names.now c.in_ok-found.found c.in-None.is c.in_ok-found.ensures.numbers)
-    c.broken.ensures.fault
+    c.broken_words.ensures.fault

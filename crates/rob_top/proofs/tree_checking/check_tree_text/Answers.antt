@@ -18,6 +18,6 @@ returns-in-Some-clause-answers g c =
 
 pub returns-in-None-clause-answers : goal.returns-in-None-clause-answers
 returns-in-None-clause-answers g c =
-    nameless_answers g.N.Exact.limit (robust g.N.Exact.value c.args.model.now) _ c.args.names.now c.args.text.now c.broken.result
+    nameless_answers g.N.Exact.limit (robust g.N.Exact.value c.args.model.now) _ c.args.names.now c.args.text.now c.broken_words.result
     (nobody_found (robust g.N.Exact.value c.args.model.now) c.args.names.now c.in_ok-found.found c.in-None.is c.in_ok-found.ensures.numbers)
-    c.broken.ensures.fault
+    c.broken_words.ensures.fault

@@ -1,0 +1,60 @@
+-- The ways to an answer that several commands give: a constructor for each, with the record that says what the answer means.
+use Rattle.std.specs.Prelude.{ℕ, ℤ, List}
+use Rattle.rob_meaning.specs.Certificates.{Status}
+use Rattle.rob_model.specs.declared.place.Spot.{Spot}
+use Rattle.rob_top.specs.Branched.{IsBranched, IsEmptyBranched, IsWideNode}
+use Rattle.rob_top.specs.Calls.{Call}
+use Rattle.rob_top.specs.Checked.{IsAccepted}
+use Rattle.rob_top.specs.Generated.{IsGenerated}
+use Rattle.rob_top.specs.Narrowed.{IsNarrowed}
+use Rattle.rob_top.specs.Refused.{IsNoCertificate, IsTooWide}
+use Rattle.rob_top.specs.Replayed.{IsNoPlan, IsReplayed}
+use Rattle.rob_top.specs.Searched.{IsEmptySought, IsNoPlanSought, IsSearched}
+use Rattle.rob_top.specs.Solved.{IsEmptySet, IsRows, IsSolved}
+use Rattle.rob_top.specs.Swept.{IsSwept}
+use Rattle.rob_top.specs.TreeChecked.{IsTreeAccepted, IsWideLeaf}
+use Rattle.rob_tree.specs.declared.tree.Branch.{Branch}
+
+module _ (call : Call) where
+  -- a status is found: by `solve` and `prove`, with a certificate; or by `whole` and `tree`, with a branch tree, over plans
+  -- whose named variables take whole numbers
+  pub data FindsStatus (status : Status) (text : List ℕ) : Type 0 where
+    solved : IsSolved call status text → FindsStatus status text
+    branched : IsBranched call status text → FindsStatus status text
+
+  -- a text is printed as asked, by a command that answers no status
+  pub data Prints (text : List ℕ) : Type 0 where
+    rows : IsRows call text → Prints text
+    replayed : IsReplayed call text → Prints text
+    generated : IsGenerated call text → Prints text
+    worst_found : IsSearched call text → Prints text
+    swept : IsSwept call text → Prints text
+    narrowed : IsNarrowed call text → Prints text
+
+  -- what was read is accepted: by `check` a certificate, by `checktree` a branch tree
+  pub data Accepts (text : List ℕ) : Type 0 where
+    a_certificate : IsAccepted call text → Accepts text
+    a_tree : IsTreeAccepted call text → Accepts text
+
+  -- no joint scenario is admitted, as the weights show: found by `solve` and `prove`; by `whole` and `tree`; by `worst`
+  pub data FindsEmpty (weights : List ℤ) (text : List ℕ) : Type 0 where
+    while_solving : IsEmptySet call weights text → FindsEmpty weights text
+    while_branching : IsEmptyBranched call weights text → FindsEmpty weights text
+    while_searching : IsEmptySought call weights text → FindsEmpty weights text
+
+  -- a wide number is named by its spot: one on the way of a command that works with the model as it was read
+  pub data NamesWide (spot : Spot) (text : List ℕ) : Type 0 where
+    in_model : IsTooWide call spot text → NamesWide spot text
+
+  -- a wide number is named by its spot, and by the path of branches to its box: while `whole` and `tree` grow a tree, or
+  -- while `checktree` checks one
+  pub data NamesWideNode (path : List Branch) (spot : Spot) (text : List ℕ) : Type 0 where
+    while_growing : IsWideNode call path spot text → NamesWideNode path spot text
+    while_checking : IsWideLeaf call path spot text → NamesWideNode path spot text
+
+  -- a rule and a line of the certificate's text are named: `check` can't check it; or it gives `replay` no plan to replay,
+  -- or `worst` none to search a worst case of
+  pub data NamesCertificateLine (rule line : ℕ) (text : List ℕ) : Type 0 where
+    not_checked : IsNoCertificate call rule line text → NamesCertificateLine rule line text
+    not_replayed : IsNoPlan call rule line text → NamesCertificateLine rule line text
+    not_searched : IsNoPlanSought call rule line text → NamesCertificateLine rule line text
