@@ -54,7 +54,7 @@ one_path (p ∷ ps) (q ∷ qs) e =
 
 -- ---- the first number that is wide
 -- a list has one first item with a property, where the items before it have one that excludes it
-split_once : {A : Type 0} (P Q : A → Type 0) → ((x : A) → P x → Q x → ⊥) → (xs ys : List A) (x y : A) (us vs : List A)
+pub split_once : {A : Type 0} (P Q : A → Type 0) → ((x : A) → P x → Q x → ⊥) → (xs ys : List A) (x y : A) (us vs : List A)
     → xs ++ x ∷ us ≡ ys ++ y ∷ vs → Each P xs → Each P ys → Q x → Q y → x ≡ y
 split_once P Q apart [] [] x y us vs e hx hy p q = let same : x ≡ y = cc in same
 split_once P Q apart [] (z ∷ ys) x y us vs e hx hy p q = let same : x ≡ z = cc in absurd (apart z hy.0 (subst Q same p))
@@ -64,7 +64,8 @@ split_once P Q apart (z ∷ xs) (w ∷ ys) x y us vs e hx hy p q =
     split_once P Q apart xs ys x y us vs rest hx.1 hy.1 p q
 
 module _ (limit : ℕ) (m : RobustModel) (all : List Judged) where
-  first_once : (a b : Spot) → IsFirstWide limit m all a → IsFirstWide limit m all b → a ≡ b
+  -- one spot is the first at which a number is wide
+  pub first_once : (a b : Spot) → IsFirstWide limit m all a → IsFirstWide limit m all b → a ≡ b
   first_once a b h k =
       let same : h.here ≡ k.here =
       split_once (λ j. IsWideThere limit m j → ⊥) (IsWideThere limit m) (λ j narrow is. narrow is) h.before k.before
@@ -72,7 +73,8 @@ module _ (limit : ℕ) (m : RobustModel) (all : List Judged) where
       in
       sym h.named ∙ ap (λ (j : Judged). spot_of j) same ∙ k.named
 
-  none_first : (a : Spot) → NothingWide limit m all → IsFirstWide limit m all a → ⊥
+  -- and there is none where nothing is wide
+  pub none_first : (a : Spot) → NothingWide limit m all → IsFirstWide limit m all a → ⊥
   none_first a none h =
       (each_right (λ j. IsWideThere limit m j → ⊥) h.before (h.here ∷ h.after)
       (subst (λ (js : List Judged). NothingWide limit m js) h.order none)).0 h.wide

@@ -1,6 +1,6 @@
 -- Which answer has to come, where what is known of the files decides: the first file that doesn't come decides; then the model's text; then the
 -- first wide number; and then the command.
-use Rattle.std.proofs.Common.{◌≡◌, ℕ, ◌-◌, ◌^◌, ◌≤◌, List, [], ◌∷◌, ◌++◌, refl, sym, ◌∙◌, ap, subst, inl, inr, ◌⊎◌}
+use Rattle.std.proofs.Common.{◌≡◌, ℕ, ◌-◌, ◌^◌, ◌≤◌, List, ◌∷◌, ◌++◌, refl, sym, ◌∙◌, ap, subst, inl, inr, ◌⊎◌}
 use Rattle.rob_algebra.specs.Fraction.{Fraction}
 use Rattle.rob_cert.specs.Apart.{IsNamedInWords}
 use Rattle.rob_cert.specs.Causes.{HasCause}
@@ -15,12 +15,10 @@ use Rattle.rob_dualize.specs.Solving.{IsWideOnPath}
 use Rattle.rob_elab.specs.Forms.{judged_forms}
 use Rattle.rob_meaning.specs.Certificates.{Certificate, Status, optimal, infeasible, unbounded}
 use Rattle.rob_meaning.specs.Named.{IsNamed}
-use Rattle.rob_meaning.specs.Places.{Each}
 use Rattle.rob_meaning.specs.Proves.{HasStatus}
 use Rattle.rob_meaning.specs.RobustModel.{RobustModel}
 use Rattle.rob_meaning.specs.UncertaintySet.{Admits, IsEmptySet}
 use Rattle.rob_meaning.specs.WellFormed.{IsModel}
-use Rattle.rob_meaning.proofs.EachLemmas.{each_right}
 use Rattle.rob_model.specs.declared.place.Program.TheVariants as programs
 use Rattle.rob_model.specs.declared.place.Spot.{Spot}
 use Rattle.rob_model.specs.declared.place.Spot.TheVariants as spots
@@ -30,8 +28,9 @@ use Rattle.rob_parse.proofs.Building.PlacedLemmas.{well_formed}
 use Rattle.rob_parse.proofs.Building.OneModel.{not_both}
 use Rattle.rob_parse.proofs.Names.WellNamed.{well_named, well_spelled}
 use Rattle.rob_rules.specs.Reading.{Breaks}
-use Rattle.rob_sets.specs.FirstWide.{IsFirstWide, IsWideThere, Judged, NothingWide, spot_of}
+use Rattle.rob_sets.specs.FirstWide.{IsFirstWide}
 use Rattle.rob_sets.specs.SetForm.{judged_set}
+use Rattle.rob_branch.proofs.OneSpotLemmas.{first_once, none_first, split_once}
 use Rattle.rob_cert.proofs.OneBreach.{one_cause}
 use Rattle.rob_top.proofs.CertificateNameLemmas.{named_in_words}
 use Rattle.rob_top.proofs.CommandLemmas.{check_no_branch, check_no_sweep, check_not_replay, check_not_tree, check_not_worst, makes_no_branch, narrow_not_check, narrow_not_rows, makes_no_sweep, makes_no_tree, not_rows, replays_alone, rows_no_branch, rows_no_sweep, rows_not_replay, rows_not_tree, rows_not_worst, solves_no_branch, solves_no_sweep, solves_no_check, solves_no_narrow, solves_no_replay, solves_no_rows, solves_no_tree, solves_no_worst}
@@ -51,30 +50,6 @@ use Rattle.rob_words.specs.Values.{Word, bits_of}
 use Rattle.rob_words.specs.declared.verb.Own.TheVariants as own
 use Rattle.rob_words.specs.declared.verb.Verb.TheVariants.{Rows, Replay}
 use Rattle.rob_words.proofs.Spellings.{one_line}
-
--- ---- the first of a list
--- a list has one first item with a property, where the items before it have one that excludes it
-split_once : {A : Type 0} (P Q : A → Type 0) → ((x : A) → P x → Q x → ⊥) → (xs ys : List A) (x y : A) (us vs : List A) → xs ++ x ∷ us ≡ ys ++ y ∷ vs → Each P xs → Each P ys → Q x → Q y → x ≡ y
-split_once P Q apart [] [] x y us vs e hx hy p q = let same : x ≡ y = cc in same
-split_once P Q apart [] (z ∷ ys) x y us vs e hx hy p q = let same : x ≡ z = cc in absurd (apart z hy.0 (subst Q same p))
-split_once P Q apart (z ∷ xs) [] x y us vs e hx hy p q = let same : y ≡ z = cc in absurd (apart z hx.0 (subst Q same q))
-split_once P Q apart (z ∷ xs) (w ∷ ys) x y us vs e hx hy p q =
-    let rest : xs ++ x ∷ us ≡ ys ++ y ∷ vs = cc in
-    split_once P Q apart xs ys x y us vs rest hx.1 hy.1 p q
-
-module _ (limit : ℕ) (m : RobustModel) (all : List Judged) where
-  -- one spot is the first at which a number is wide
-  first_once : (a b : Spot) → IsFirstWide limit m all a → IsFirstWide limit m all b → a ≡ b
-  first_once a b h k =
-      let same : h.here ≡ k.here =
-      split_once (λ j. IsWideThere limit m j → ⊥) (IsWideThere limit m) (λ j narrow is. narrow is) h.before k.before h.here k.here h.after k.after (sym h.order ∙ k.order) h.none_before k.none_before h.wide k.wide
-      in
-      sym h.named ∙ ap (λ (j : Judged). spot_of j) same ∙ k.named
-
-  -- and there is none where nothing is wide
-  none_first : (a : Spot) → NothingWide limit m all → IsFirstWide limit m all a → ⊥
-  none_first a none h =
-      (each_right (λ j. IsWideThere limit m j → ⊥) h.before (h.here ∷ h.after) (subst (λ (js : List Judged). NothingWide limit m js) h.order none)).0 h.wide
 
 -- a certificate that gives no plan stands in the words of `replay`
 pub lacking_verb : (call : Call) (line : Line) (m : RobustModel) (rule number : ℕ) → LacksPlan call line m rule number → line.verb ≡ Replay
