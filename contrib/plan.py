@@ -19,6 +19,8 @@ with tempfile.NamedTemporaryFile("w", suffix=".cert") as file:
     file.write("\n".join(robust("prove", MODEL)[1]) + "\n")
     file.flush()
     code, said = robust("check", MODEL, file.name)
+if code != 0:
+    sys.exit(f"{MODEL}: {said[0] if said else code}")
 value = Fraction(lines[0].split()[1])
 print(f"worst case {value}, about {float(value):.4g}; {said[0]}")
 for word, name, *numbers in map(str.split, lines[1:]):

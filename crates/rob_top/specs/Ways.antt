@@ -1,4 +1,5 @@
--- The ways to an answer that several commands give: a constructor for each, with the record that says what the answer means.
+-- The ways to an answer that several commands give: a constructor for each, with the record that says what the answer
+-- means.
 use Rattle.std.specs.Prelude.{ℕ, ℤ, List}
 use Rattle.rob_meaning.specs.Certificates.{Status}
 use Rattle.rob_model.specs.declared.place.Spot.{Spot}
@@ -16,8 +17,8 @@ use Rattle.rob_top.specs.TreeChecked.{IsTreeAccepted, IsWideLeaf}
 use Rattle.rob_tree.specs.declared.tree.Branch.{Branch}
 
 module _ (call : Call) where
-  -- a status is found: by `solve` and `prove`, with a certificate; or by `whole` and `tree`, with a branch tree, over plans
-  -- whose named variables take whole numbers
+  -- a status is found: by `solve` and `prove`, with a certificate; or by `whole` and `tree`, with a branch tree, over
+  -- plans whose named variables take whole numbers
   pub data FindsStatus (status : Status) (text : List ℕ) : Type 0 where
     solved : IsSolved call status text → FindsStatus status text
     branched : IsBranched call status text → FindsStatus status text
@@ -46,14 +47,14 @@ module _ (call : Call) where
   pub data NamesWide (spot : Spot) (text : List ℕ) : Type 0 where
     in_model : IsTooWide call spot text → NamesWide spot text
 
-  -- a wide number is named by its spot, and by the path of branches to its box: while `whole` and `tree` grow a tree, or
-  -- while `checktree` checks one
+  -- a wide number is named by its spot, and by the path of branches to its box: while `whole` and `tree` grow a tree,
+  -- or while `checktree` checks one
   pub data NamesWideNode (path : List Branch) (spot : Spot) (text : List ℕ) : Type 0 where
     while_growing : IsWideNode call path spot text → NamesWideNode path spot text
     while_checking : IsWideLeaf call path spot text → NamesWideNode path spot text
 
-  -- a rule and a line of the certificate's text are named: `check` can't check it; or it gives `replay` no plan to replay,
-  -- or `worst` none to search a worst case of
+  -- a rule and a line of the certificate's text are named: `check` can't check it; or it gives `replay` no plan to
+  -- replay, or `worst` none to search a worst case of
   pub data NamesCertificateLine (rule line : ℕ) (text : List ℕ) : Type 0 where
     not_checked : IsNoCertificate call rule line text → NamesCertificateLine rule line text
     not_replayed : IsNoPlan call rule line text → NamesCertificateLine rule line text
