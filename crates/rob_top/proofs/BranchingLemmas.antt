@@ -1,5 +1,5 @@
 -- The answers of `whole` and `tree`, from what the search for names and the growing of a tree answer.
-use Rattle.std.proofs.Common.{◌≡◌, ℕ, List, map, Option, Some, None, Result, Ok, Err, IfOk, refl, subst, sym, ap, ◌∙◌}
+use Rattle.std.proofs.Common.{◌≡◌, ℕ, List, map, Option, Some, None, Result, Ok, Err, IfOk, refl, string_bytes, subst, sym, ap, ◌∙◌}
 use Rattle.std.proofs.lemmas.List.{length-map}
 use Rattle.std.specs.Prelude.{MatchOption}
 use Rattle.rob_algebra.specs.Fraction.{of_int}
@@ -23,7 +23,7 @@ use Rattle.rob_tree.specs.declared.error.TreeStop.{TreeStop}
 use Rattle.rob_tree.specs.declared.error.TreeStop.TheVariants as ungrown
 use Rattle.rob_top.specs.Answers.{whole_text}
 use Rattle.rob_top.specs.Branched.{IsBranched, IsPrintedTree, no_ranges, no_variables}
-use Rattle.rob_top.specs.Calls.{Call, Count, IsBranching, count}
+use Rattle.rob_top.specs.Calls.{Call, Count, IsBranching, count, word_of}
 use Rattle.rob_top.specs.Headline.{Means}
 use Rattle.rob_top.specs.Inputs.{AreVariables}
 use Rattle.rob_top.specs.Replies.{Replies}
@@ -35,9 +35,10 @@ use Rattle.rob_top.specs.declared.ended.Ended.TheVariants.{Whole}
 use Rattle.rob_top.specs.declared.files.Texts.{Texts}
 use Rattle.rob_top.specs.declared.reply.Reply.{Reply}
 use Rattle.rob_top.proofs.BoxPathLemmas.{box_spot, path_columns}
-use Rattle.rob_top.proofs.OwnLemmas.{has_names, word_there}
+use Rattle.rob_top.proofs.OwnLemmas.{has_names, word_came}
 use Rattle.rob_words.specs.Commands.{Line}
 use Rattle.rob_words.specs.Names.{parts_of}
+use Rattle.rob_words.specs.Values.{Word}
 use Rattle.rob_words.specs.Verbs.{own_of}
 use Rattle.rob_words.specs.declared.verb.Own.TheVariants as own
 use Rattle.rob_words.specs.declared.verb.Verb.{Verb}
@@ -204,11 +205,16 @@ module _ (limit : ℕ) (m : RobustModel) where
       })
 
   -- the command has such a list among its own words
-  pub names_answer : (wides : Count) (verb : Verb) (texts : Texts) (names : List ℕ) (r : Result Reply Want) → IsBranching verb
-      → names ≡ texts.names.items → IfOk r (AnswersNames limit wides m verb names) → IfOk r (AnswersModel limit wides m verb texts)
-  names_answer wides verb texts names (Err want) is_branching same h = tt
-  names_answer wides verb texts names (Ok reply) is_branching same h = λ call line at came has.
+  pub names_answer : (wides : Count) (verb : Verb) (texts : Texts) (words : List Word) (names : Word) (r : Result Reply Want) → IsBranching verb
+      → words ≡ map string_bytes texts.words.items
+      → ((word : Word) → word_of own.Names (own_of verb) words ≡ Some word → names ≡ word) → IfOk r (AnswersNames limit wides m verb names)
+      → IfOk r (AnswersModel limit wides m verb texts)
+  names_answer wides verb texts words names (Err want) is_branching same told h = tt
+  names_answer wides verb texts words names (Ok reply) is_branching same told h = λ call line at came has.
       let here : IsBranching line.verb = subst (λ (v : Verb). IsBranching v) (sym at.verb_is) is_branching in
-      let word = word_there own.Names (own_of line.verb) line.own came.spelled.1.count (has_names line.verb here) in
       h call line at has
-      (record { word = word.0; told = word.1; parts = ap parts_of (same ∙ came.names word.0 word.1) })
+      (record {
+        word = names;
+        told = word_came call line texts verb own.Names words names at.verb_is came (has_names line.verb here) same told;
+        parts = refl;
+      })

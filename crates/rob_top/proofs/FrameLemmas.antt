@@ -1,10 +1,10 @@
 -- What a call answers, from what came of its files and what the work on them answers.
-use Rattle.std.proofs.Common.{◌≡◌, ◌≤◌, ◌^◌, ℕ, List, length, Some, Vec, Global, Result, Ok, Err, IfOk, ap, refl, subst, sym, map, string_bytes}
+use Rattle.std.proofs.Common.{◌≡◌, ◌≤◌, ◌^◌, ℕ, List, length, Vec, Global, Result, Ok, Err, IfOk, ap, refl, subst, sym, map, string_bytes}
 use Rattle.rob_meaning.specs.Places.{Each}
 use Rattle.rob_number.specs.declared.memory.Memory.{Memory as Want}
 use Rattle.rob_outside.specs.Files.{whole}
 use Rattle.rob_top.specs.Answers.{words_text}
-use Rattle.rob_top.specs.Calls.{Call, Count, IsFoundIn, Source, WasRaised, call_of, requests, word_of}
+use Rattle.rob_top.specs.Calls.{Call, Count, IsFoundIn, Source, WasRaised, call_of, requests}
 use Rattle.rob_top.specs.Headline.{Means}
 use Rattle.rob_top.specs.Replies.{AreFound, CameIn, HasTexts, IsAbsence, IsAbsentAmong, IsFetched, IsLine, Replies, text_of}
 use Rattle.rob_top.specs.Work.{IsShort}
@@ -50,15 +50,7 @@ short_kept texts with same short = record {
 }
 
 module _ (line : CommandLine) (source : Source) (faults wides : Count) where
-  -- the list of names is the line's
-  abbrev pub TakesNames : Texts → Type 0
-  TakesNames with = (word : Word) → word_of own.Names (own_of line.verb) (line_of line).own ≡ Some word → with.names.items ≡ word
-
-  -- and its form's name
-  abbrev pub TakesForm : Texts → Type 0
-  TakesForm with = (word : Word) → word_of own.Form (own_of line.verb) (line_of line).own ≡ Some word → with.form.items ≡ word
-
-  -- and so are its own words
+  -- the own words are the line's
   abbrev pub TakesWords : Texts → Type 0
   TakesWords with = map string_bytes with.words.items ≡ (line_of line).own
 
@@ -71,13 +63,13 @@ module _ (line : CommandLine) (source : Source) (faults wides : Count) where
   abbrev LineFetched : Files → Type 0
   LineFetched files = IsFetched (own_of line.verb) (line_of line).own source faults files
 
-  -- the files came, and the work on them, with the line's list of names and its form's name, answers
+  -- the files came, and the work on them, with the line's own words, answers
   pub texts_answer : (files : Files) (texts with : Texts) (r : Result Reply Want) → files ≡ fetch.Texts texts → LineFetched files
-      → SameFiles texts with → TakesNames with → TakesForm with → TakesWords with
+      → SameFiles texts with → TakesWords with
       → IfOk r (λ reply. (call : Call) → HasTexts call (line_of line) with → call.wides ≡ wides → Means call reply.ended reply.text)
       → IfOk r AnswersLine
-  texts_answer files texts with (Err want) e came same names form words h = tt
-  texts_answer files texts with (Ok reply) e came same names form words h = λ call spelled source_is faults_is wides_is.
+  texts_answer files texts with (Err want) e came same words h = tt
+  texts_answer files texts with (Ok reply) e came same words h = λ call spelled source_is faults_is wides_is.
       let found : AreFound source (own_of line.verb) (line_of line).own texts = subst (λ (f : Files). LineFetched f) e came in
       h call
       (record {
@@ -86,8 +78,6 @@ module _ (line : CommandLine) (source : Source) (faults wides : Count) where
         found = λ kind r named.
             subst (λ (s : Source). IsFoundIn s r (whole (text_of kind with))) (sym source_is)
             (subst (λ (text : List ℕ). IsFoundIn source r (whole text)) (sym (text_kept kind texts with same)) (found.found kind r named));
-        names = names;
-        form = form;
         words = words;
       })
       wides_is

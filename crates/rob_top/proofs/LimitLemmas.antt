@@ -4,14 +4,14 @@ use Rattle.std.proofs.lemmas.List.{append-nil, length-append, length-map}
 use Rattle.std.specs.Prelude.{MatchOption}
 use Rattle.rob_algebra.specs.Fraction.{Fraction}
 use Rattle.rob_top.specs.Swept.{limit_value}
-use Rattle.rob_words.specs.Limits.{AreLimits, IsLimit, IsLimitList}
-use Rattle.rob_words.specs.Names.{parts_behind, parts_of}
+use Rattle.rob_words.specs.Limits.{IsLimit, IsLimitList}
+use Rattle.rob_words.specs.Names.{AreAll, parts_behind, parts_of}
 use Rattle.rob_words.specs.Values.{Word}
 
 -- of all words those in front of the rest spell these numbers, 20 at most; the rest are limits, where all are
 pub record HasTold (greatest : ℕ) (all : List Word) (told : List Fraction) (rest : List Word) : Type 0 where
   pub values : told ++ map limit_value rest ≡ map limit_value all
-  pub limits : AreLimits greatest all → AreLimits greatest rest
+  pub limits : AreAll (IsLimit greatest) all → AreAll (IsLimit greatest) rest
   pub few : length told ≤ 20
 
 -- what is said of what was found, or of nothing
@@ -67,4 +67,4 @@ module _ (greatest : ℕ) where
 
     -- the next word is no limit
     pub no_limit : (IsLimit greatest first → ⊥) → IsLimitList greatest word → ⊥
-    no_limit none list = none (read.limits list.limits).0
+    no_limit none list = none (read.limits list.parts).0

@@ -1,5 +1,5 @@
 -- Which files a command line names, by the kinds of its own words.
-use Rattle.std.proofs.Common.{◌≡◌, ◌||◌, ℕ, Bool, true, false, not, refl, sym, ◌∙◌, ap, subst, arith, List, [], ◌∷◌, length, Option, Some, None, Vec, Global, rules}
+use Rattle.std.proofs.Common.{◌≡◌, ◌||◌, ℕ, Bool, true, false, not, refl, sym, ◌∙◌, ap, subst, arith, List, [], ◌∷◌, length, Option, Some, None, Vec, Global, map, rules, string_bytes}
 use Rattle.std.specs.Prelude.{if◌then◌else◌, option_map}
 use denote.Enum.Bare.{same_true, sameb}
 use Rattle.rob_top.specs.Calls.{Call, HasFile, IsBranching, IsOnModel, Request, branches, file_of, files_of, first_or, later, most_of, reads_model, request_of, requests, word_of}
@@ -109,6 +109,17 @@ word_there kind (other ∷ kinds) (word ∷ words) count has =
         → (w : Word) × ((if same then Some word else word_of kind kinds words) ≡ Some w)
     by true h behind = (word, refl)
     by false h behind = behind h
+
+-- a word that the command's own words give for a kind is the line's
+pub word_came : (call : Call) (line : Line) (texts : Texts) (verb : Verb) (kind : Own) (words : List Word) (word : Word) → line.verb ≡ verb
+    → HasTexts call line texts → has_kind kind (own_of line.verb) ≡ true → words ≡ map string_bytes texts.words.items
+    → ((other : Word) → word_of kind (own_of verb) words ≡ Some other → word ≡ other) → word_of kind (own_of line.verb) line.own ≡ Some word
+word_came call line texts verb kind words word is came has same told =
+    let there = word_there kind (own_of line.verb) line.own came.spelled.1.count has in
+    let here : word_of kind (own_of verb) words ≡ Some there.0 =
+    ap (λ (list : List Word). word_of kind (own_of verb) list) (same ∙ came.words) ∙ ap (λ (v : Verb). word_of kind (own_of v) line.own) (sym is) ∙ there.1
+    in
+    there.1 ∙ ap Some (sym (told there.0 here))
 
 -- the file of a kind that the line names came with the text of that kind
 pub file_came : (call : Call) (line : Line) (texts : Texts) (kind : Own) (most : ℕ) → most_of kind ≡ Some most → HasTexts call line texts

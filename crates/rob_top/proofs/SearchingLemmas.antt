@@ -1,5 +1,5 @@
 -- The answers of `worst`, from what the reading of a certificate and the search answer.
-use Rattle.std.proofs.Common.{◌≡◌, ◌≢◌, ℕ, ◌<◌, ◌≤◌, true, List, [], length, map, Some, None, Result, Ok, Err, IfOk, inl, inr, refl, subst, sym, ap, ◌∙◌, ◌⊎◌, arith}
+use Rattle.std.proofs.Common.{◌≡◌, ◌≢◌, ℕ, ◌<◌, ◌≤◌, true, List, [], length, map, Some, None, Result, Ok, Err, IfOk, inl, inr, refl, string_bytes, subst, sym, ap, ◌∙◌, ◌⊎◌, arith}
 use Rattle.std.proofs.lemmas.List.{length-map}
 use Rattle.std.proofs.lemmas.Option.{get_or_from_slice_get, slice_get-get_or, slice_get_within}
 use Rattle.rob_algebra.specs.Fraction.{Fraction, of_int, ◌+ℚ◌, ◌≤ℚ◌}
@@ -37,11 +37,11 @@ use Rattle.rob_runs.specs.Searches.{FindsRay}
 use Rattle.rob_runs.specs.Spots.{IsWideSlack, slack_of}
 use Rattle.rob_runs.specs.Told.{HasNoGreatestAlong, TellsWorst}
 use Rattle.rob_worst.specs.Finding.{Tells}
-use Rattle.rob_top.proofs.OwnLemmas.{file_came, has_form, has_kind, word_there}
+use Rattle.rob_top.proofs.OwnLemmas.{file_came, has_form, has_kind, word_came}
 use Rattle.rob_top.proofs.WorkLemmas.{call_of_verb, call_within, rose_earlier}
 use Rattle.rob_top.proofs.WorstSlackLemmas.{bound_slack, scale_some, worst_found_at}
 use Rattle.rob_top.specs.Answers.{certificate_text, no_row_text}
-use Rattle.rob_top.specs.Calls.{Count, HasFile, count}
+use Rattle.rob_top.specs.Calls.{Count, HasFile, count, word_of}
 use Rattle.rob_top.specs.Headline.{Means}
 use Rattle.rob_top.specs.Refused.{searching}
 use Rattle.rob_top.specs.Replies.{Replies}
@@ -75,16 +75,16 @@ form_matrix m form h = omega (arith, h, length-map (forms m) (matrix_of m))
 
 module _ (limit : ℕ) (m : RobustModel) where
   -- ---- the texts of a call
-  pub search_answers : (wides : Count) (verb : Verb) (texts : Texts) (certificate name : List ℕ) (r : Result Reply Want) → verb ≡ Worst
-      → certificate ≡ texts.certificate.items → name ≡ texts.form.items → IfOk r (AnswersSearch limit wides m certificate name)
+  pub search_answers : (wides : Count) (verb : Verb) (texts : Texts) (certificate : List ℕ) (words : List Word) (name : Word) (r : Result Reply Want)
+      → verb ≡ Worst → certificate ≡ texts.certificate.items → words ≡ map string_bytes texts.words.items
+      → ((word : Word) → word_of own.Form (own_of verb) words ≡ Some word → name ≡ word) → IfOk r (AnswersSearch limit wides m certificate name)
       → IfOk r (AnswersWhole limit wides m verb texts)
-  search_answers wides verb texts certificate name (Err want) e same alike h = tt
-  search_answers wides verb texts certificate name (Ok reply) e same alike h = λ call line at came has.
+  search_answers wides verb texts certificate words name (Err want) e same alike told h = tt
+  search_answers wides verb texts certificate words name (Ok reply) e same alike told h = λ call line at came has.
       let here : line.verb ≡ Worst = at.verb_is ∙ e in
       let names : has_kind own.Certificate (own_of line.verb) ≡ true =
       subst (λ (v : Verb). has_kind own.Certificate (own_of v) ≡ true) (sym here) refl
       in
-      let word = word_there own.Form (own_of line.verb) line.own came.spelled.1.count (has_form line.verb here) in
       h call line (call_of_verb limit wides verb Worst call line e at)
       (record {
         forms = has;
@@ -92,7 +92,7 @@ module _ (limit : ℕ) (m : RobustModel) where
         file = subst (λ (list : List ℕ). HasFile call line own.Certificate list) (sym same)
             (file_came call line texts own.Certificate _ refl came names);
       })
-      (word.1 ∙ ap Some (sym (came.form word.0 word.1) ∙ sym alike))
+      (word_came call line texts verb own.Form words name at.verb_is came (has_form line.verb here) alike told)
 
   -- ---- a certificate's text
   module _ (name : Word) where

@@ -1,5 +1,5 @@
 -- The answers of `checktree`, from what the search for names, the reading of a tree and its check answer.
-use Rattle.std.proofs.Common.{◌≡◌, ◌≤◌, ℕ, List, map, Some, None, true, Result, Ok, Err, IfOk, refl, subst, sym, ap, ◌∙◌}
+use Rattle.std.proofs.Common.{◌≡◌, ◌≤◌, ℕ, List, map, Some, None, true, Result, Ok, Err, IfOk, refl, string_bytes, subst, sym, ap, ◌∙◌}
 use Rattle.rob_branch.specs.Verdicts.{IsAccepted, IsRejectedAt, IsTooWideAt, IsVerdict, OnAccepted, RoseIfTooWide}
 use Rattle.rob_meaning.specs.RobustModel.{RobustModel}
 use Rattle.rob_number.specs.declared.memory.Memory.{Memory as Want}
@@ -14,11 +14,11 @@ use Rattle.rob_tree.specs.View.{branch_of}
 use Rattle.rob_tree.specs.declared.verdict.LeafFault.{LeafFault}
 use Rattle.rob_tree.specs.declared.verdict.TreeVerdict.{TreeVerdict}
 use Rattle.rob_tree.specs.declared.verdict.TreeVerdict.TheVariants as verdict
-use Rattle.rob_top.proofs.OwnLemmas.{file_came, has_kind, word_there}
+use Rattle.rob_top.proofs.OwnLemmas.{file_came, has_kind, word_came}
 use Rattle.rob_top.proofs.WorkLemmas.{call_of_verb, call_within, rose_earlier}
 use Rattle.rob_top.specs.Answers.{whole_text}
 use Rattle.rob_top.specs.Branched.{no_ranges, no_variables}
-use Rattle.rob_top.specs.Calls.{Count, HasFile, count}
+use Rattle.rob_top.specs.Calls.{Count, HasFile, count, word_of}
 use Rattle.rob_top.specs.Headline.{Means}
 use Rattle.rob_top.specs.Inputs.{AreVariables}
 use Rattle.rob_top.specs.Replies.{Replies}
@@ -31,6 +31,7 @@ use Rattle.rob_top.specs.declared.ended.Ended.TheVariants.{Whole, Tree as TreeRu
 use Rattle.rob_top.specs.declared.files.Texts.{Texts}
 use Rattle.rob_top.specs.declared.reply.Reply.{Reply}
 use Rattle.rob_words.specs.Names.{parts_of}
+use Rattle.rob_words.specs.Values.{Word}
 use Rattle.rob_words.specs.Verbs.{own_of}
 use Rattle.rob_words.specs.declared.verb.Own.{Own}
 use Rattle.rob_words.specs.declared.verb.Own.TheVariants as own
@@ -156,14 +157,18 @@ module _ (limit : ℕ) (m : RobustModel) where
   own_kind : (verb : Verb) (kind : Own) → verb ≡ CheckTree → has_kind kind (own_of CheckTree) ≡ true → has_kind kind (own_of verb) ≡ true
   own_kind verb kind e h = subst (λ (v : Verb). has_kind kind (own_of v) ≡ true) (sym e) h
 
-  pub texts_answers : (wides : Count) (verb : Verb) (texts : Texts) (names text : List ℕ) (r : Result Reply Want) → verb ≡ CheckTree
-      → names ≡ texts.names.items → text ≡ texts.tree.items → IfOk r (AnswersTreeNames limit wides m names text)
-      → IfOk r (AnswersModel limit wides m verb texts)
-  texts_answers wides verb texts names text (Err want) e same alike h = tt
-  texts_answers wides verb texts names text (Ok reply) e same alike h = λ call line at came has.
+  pub texts_answers : (wides : Count) (verb : Verb) (texts : Texts) (words : List Word) (names : Word) (text : List ℕ) (r : Result Reply Want)
+      → verb ≡ CheckTree → words ≡ map string_bytes texts.words.items
+      → ((word : Word) → word_of own.Names (own_of verb) words ≡ Some word → names ≡ word) → text ≡ texts.tree.items
+      → IfOk r (AnswersTreeNames limit wides m names text) → IfOk r (AnswersModel limit wides m verb texts)
+  texts_answers wides verb texts words names text (Err want) e same told alike h = tt
+  texts_answers wides verb texts words names text (Ok reply) e same told alike h = λ call line at came has.
       let here : line.verb ≡ CheckTree = at.verb_is ∙ e in
-      let word = word_there own.Names (own_of line.verb) line.own came.spelled.1.count (own_kind line.verb own.Names here refl) in
       h call line (call_of_verb limit wides verb CheckTree call line e at) has
-      (record { word = word.0; told = word.1; parts = ap parts_of (same ∙ came.names word.0 word.1) })
+      (record {
+        word = names;
+        told = word_came call line texts verb own.Names words names at.verb_is came (own_kind line.verb own.Names here refl) same told;
+        parts = refl;
+      })
       (subst (λ (list : List ℕ). HasFile call line own.Tree list) (sym alike)
       (file_came call line texts own.Tree _ refl came (own_kind line.verb own.Tree here refl)))

@@ -12,7 +12,7 @@ use Rattle.rob_words.specs.declared.verb.Own.{Own}
 use Rattle.rob_words.specs.declared.verb.Own.TheVariants as own
 use Rattle.rob_words.specs.declared.line.CommandLine.{CommandLine}
 use Rattle.rob_top.specs.Answers.{missing_text, too_long_text, read_text}
-use Rattle.rob_top.specs.Calls.{Call, Came, Count, Request, Source, WasRaised, AsksInOrder, IsFound, IsFoundIn, files_of, requests, request_of, word_of}
+use Rattle.rob_top.specs.Calls.{Call, Came, Count, Request, Source, WasRaised, AsksInOrder, IsFound, IsFoundIn, files_of, requests, request_of}
 use Rattle.rob_top.specs.declared.ended.Ended.{Ended}
 use Rattle.rob_top.specs.declared.ended.Ended.TheVariants.{Missing, TooLong, ReadFault}
 use Rattle.rob_top.specs.declared.files.Files.{Files}
@@ -103,15 +103,12 @@ IsNothing (fetch.Texts texts) =
     (texts.model.items ≡ []) × (texts.certificate.items ≡ []) × (texts.scenarios.items ≡ []) × (texts.tree.items ≡ [])
 IsNothing (fetch.Answer reply) = ⊥
 
--- the words are the command line, the files that it names came with these texts, and its list of names, its form's name and its
--- own words are theirs
+-- the words are the command line, the files that it names came with these texts, and its own words are theirs
 pub record HasTexts (call : Call) (line : Line) (texts : Texts) : Type 0 where
   pub spelled : IsSpelled call.words line
   pub came : Each (Came call) (requests line)
   pub found : (kind : Own) (request : Request) → request_of kind (own_of line.verb) line.own ≡ Some request
       → IsFound call request (whole (text_of kind texts))
-  pub names : (word : Word) → word_of own.Names (own_of line.verb) line.own ≡ Some word → texts.names.items ≡ word
-  pub form : (word : Word) → word_of own.Form (own_of line.verb) line.own ≡ Some word → texts.form.items ≡ word
   pub words : map string_bytes texts.words.items ≡ line.own
 
 -- the file came whole

@@ -38,7 +38,7 @@ pub fn branch_text<N: Exact + Drop, L: Ledger>(
     alloc: Global,
     model: &Model<N>,
     verb: Verb,
-    names: &[u8],
+    names: &str,
     ledger: &mut L,
 ) -> Result<Reply, Memory>
     requires valid { IsValid N.value model.now }

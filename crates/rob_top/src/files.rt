@@ -16,19 +16,14 @@ use rob_outside::{Fetched, Shelf, ShelfErr};
 use rob_words::{CommandLine, Own};
 use std::alloc::Global;
 
-/// The texts of a command's files, by their kinds, its list of names, its form's name, and its own words. One that the
-/// command doesn't have is empty.
+/// The texts of a command's files, by their kinds, and its own words. A text that the command doesn't have is empty.
 #[derive(Debug, Drop)]
 pub struct Texts {
     pub model: Vec<u8>,
     pub certificate: Vec<u8>,
     pub scenarios: Vec<u8>,
     pub tree: Vec<u8>,
-    /// The list of names among the command's own words.
-    pub names: Vec<u8>,
-    /// The form's name among them.
-    pub form: Vec<u8>,
-    /// All its own words, in their order.
+    /// The command's own words, in their order.
     pub words: Vec<String>,
 }
 
@@ -101,8 +96,6 @@ fn no_files(alloc: Global) -> Files
         certificate: Vec::new(alloc),
         scenarios: Vec::new(alloc),
         tree: Vec::new(alloc),
-        names: Vec::new(alloc),
-        form: Vec::new(alloc),
         words: Vec::new(alloc),
     })
 }
@@ -136,8 +129,6 @@ fn with_bytes(kind: Own, bytes: Vec<u8>, files: Files) -> Files
                 certificate: texts.certificate,
                 scenarios: texts.scenarios,
                 tree: texts.tree,
-                names: texts.names,
-                form: texts.form,
                 words: texts.words,
             },
             Own::Certificate => Texts {
@@ -145,8 +136,6 @@ fn with_bytes(kind: Own, bytes: Vec<u8>, files: Files) -> Files
                 certificate: bytes,
                 scenarios: texts.scenarios,
                 tree: texts.tree,
-                names: texts.names,
-                form: texts.form,
                 words: texts.words,
             },
             Own::Scenarios => Texts {
@@ -154,8 +143,6 @@ fn with_bytes(kind: Own, bytes: Vec<u8>, files: Files) -> Files
                 certificate: texts.certificate,
                 scenarios: bytes,
                 tree: texts.tree,
-                names: texts.names,
-                form: texts.form,
                 words: texts.words,
             },
             Own::Number => texts,
@@ -166,8 +153,6 @@ fn with_bytes(kind: Own, bytes: Vec<u8>, files: Files) -> Files
                 certificate: texts.certificate,
                 scenarios: texts.scenarios,
                 tree: bytes,
-                names: texts.names,
-                form: texts.form,
                 words: texts.words,
             },
             Own::Statement => texts,

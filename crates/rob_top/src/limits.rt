@@ -7,7 +7,7 @@ ghost use Rattle.rob_words.specs.Limits.{IsLimit, IsLimitList};
 ghost use Rattle.rob_words.specs.Names.{parts_of};
 
 use rob_number::{Exact, Ledger, List, Memory};
-use rob_words::{first_text, limit};
+use rob_words::{first_part, limit};
 use std::alloc::Global;
 
 /// The limit that a word spells, where it is a limit at this width.
@@ -51,7 +51,7 @@ pub fn limits_of<N: Exact, L: Ledger>(
     let mut limits = List::new(alloc);
     let mut rest = Some(word);
     while let Some(word) = rest {
-        let (first, behind) = first_text(word);
+        let (first, behind) = first_part(word);
         if limits.items().len() == 20 {
             return Ok(None);
         }

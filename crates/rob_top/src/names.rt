@@ -9,55 +9,30 @@ ghost use Rattle.rob_model.specs.View.{robust};
 ghost use Rattle.rob_reach.specs.Trees.{IsIn};
 ghost use Rattle.rob_top.specs.Calls as calls;
 ghost use Rattle.rob_top.specs.Inputs.{AreVariables};
-ghost use Rattle.rob_words.specs.Answers.{line_of};
 ghost use Rattle.rob_words.specs.Names.{parts_of};
 ghost use Rattle.rob_words.specs.Values.{Word};
 ghost use Rattle.rob_words.specs.Verbs.{own_of};
-ghost use Rattle.rob_words.specs.declared.verb.Own.TheVariants as own;
 
 use crate::files::Texts;
 use rob_model::{Model, find_column};
 use rob_number::{Exact, List, Memory};
-use rob_words::{CommandLine, Own, first_part};
+use rob_words::{CommandLine, Own, Verb, first_part};
 use std::alloc::Global;
 
-/// The texts of a command's files, with its list of names, its form's name and its own words.
-pub fn with_names(alloc: Global, line: &CommandLine, texts: Texts) -> Result<Texts, Memory>
+/// The texts of a command's files, with its own words.
+pub fn with_words(alloc: Global, line: &CommandLine, texts: Texts) -> Result<Texts, Memory>
     ensures kept { IfOk result (λ with. (with.model ≡ texts.model) × (with.certificate ≡ texts.certificate)
         × (with.scenarios ≡ texts.scenarios) × (with.tree ≡ texts.tree)) }
     ensures words { IfOk result (λ with. map string_bytes with.words.items ≡ map string_bytes line.now.own.items) }
-    ensures names { IfOk result (λ with. (word : Word)
-        → calls.word_of own.Names (own_of line.now.verb) (map string_bytes line.now.own.items) ≡ Some word
-        → with.names.items ≡ word) }
-    ensures form { IfOk result (λ with. (word : Word)
-        → calls.word_of own.Form (own_of line.now.verb) (map string_bytes line.now.own.items) ≡ Some word
-        → with.form.items ≡ word) }
 {
-    let names = bytes_of(alloc, Own::Names, line)?;
-    let form = bytes_of(alloc, Own::Form, line)?;
     let words = copied(alloc, line.own.as_slice())?;
     Ok(Texts {
         model: texts.model,
         certificate: texts.certificate,
         scenarios: texts.scenarios,
         tree: texts.tree,
-        names,
-        form,
         words,
     })
-}
-
-/// The bytes of the first own word of the kind; none, where there is no such word.
-fn bytes_of(alloc: Global, kind: Own, line: &CommandLine) -> Result<Vec<u8>, Memory>
-    ensures bytes { IfOk result (λ bytes. (word : Word)
-        → calls.word_of kind (own_of line.now.verb) (map string_bytes line.now.own.items) ≡ Some word
-        → bytes.items ≡ word) }
-{
-    let mut bytes = Vec::new(alloc);
-    if let Some(word) = word_of(kind, line.verb.own(), line.own.as_slice()) {
-        bytes.extend_from_slice(word.as_bytes())?;
-    }
-    Ok(bytes)
 }
 
 /// The same words.
@@ -69,6 +44,17 @@ fn copied(alloc: Global, words: &[String]) -> Result<Vec<String>, Memory>
         copy.push(String::from_str(alloc, word.as_str())?)?;
     }
     Ok(copy)
+}
+
+/// The first of a command's own words that is of the kind; empty, where there is no such word.
+pub fn own_word(kind: Own, verb: Verb, words: &[String]) -> &str
+    ensures word { (word : Word) → calls.word_of kind (own_of verb) (map string_bytes words.now) ≡ Some word
+        → result.now ≡ word }
+{
+    match word_of(kind, verb.own(), words) {
+        Some(word) => word,
+        None => "",
+    }
 }
 
 /// The first own word of the kind.
@@ -96,7 +82,7 @@ fn word_of<'a>(kind: Own, kinds: &[Own], words: &'a [String]) -> Option<&'a str>
 pub fn variables_of<N: Exact>(
     alloc: Global,
     model: &Model<N>,
-    names: &[u8],
+    names: &str,
 ) -> Result<Option<List<u32>>, Memory>
     requires valid { IsValid N.value model.now }
     requires named { IsNamed (robust N.value model.now) }
@@ -121,7 +107,7 @@ pub fn variables_of<N: Exact>(
 }
 
 /// The number of the variable of that name.
-fn variable_of<N: Exact>(model: &Model<N>, name: &[u8]) -> Option<u32>
+fn variable_of<N: Exact>(model: &Model<N>, name: &str) -> Option<u32>
     requires valid { IsValid N.value model.now }
     requires named { IsNamed (robust N.value model.now) }
     ensures number { MatchOption result
@@ -132,7 +118,7 @@ fn variable_of<N: Exact>(model: &Model<N>, name: &[u8]) -> Option<u32>
         × ((k : ℕ) → k < length (robust N.value model.now).variables
         → name_at (column_names (robust N.value model.now)) k ≡ name.now → k ≡ number)) }
 {
-    let column = find_column(model, name)?;
+    let column = find_column(model, name.as_bytes())?;
     if (column as usize) < model.vars.items().len() {
         Some(column)
     } else {

@@ -14,7 +14,7 @@ ghost use Rattle.rob_words.specs.Answers.{line_of};
 use crate::ended::Ended;
 use crate::files::{Files, Texts, fetch};
 use crate::generating::print_generated;
-use crate::names::with_names;
+use crate::names::with_words;
 use crate::put::put_lines;
 use crate::reply::{Reply, fault};
 use crate::work::work_at;
@@ -107,7 +107,7 @@ fn on_line<S: Shelf, L: Ledger>(
     let files = fetch(alloc, line, shelf)?;
     match files {
         Files::Texts(texts) => {
-            let with = with_names(alloc, line, texts)?;
+            let with = with_words(alloc, line, texts)?;
             on_texts(alloc, line, &with, ledger)
         }
         Files::Answer(reply) => Ok(reply),

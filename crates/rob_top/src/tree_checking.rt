@@ -33,7 +33,7 @@ use std::alloc::Global;
 pub fn check_tree_text<N: Exact + Drop, L: Ledger>(
     alloc: Global,
     model: &Model<N>,
-    names: &[u8],
+    names: &str,
     text: &[u8],
     ledger: &mut L,
 ) -> Result<Reply, Memory>

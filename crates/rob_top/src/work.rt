@@ -20,6 +20,7 @@ use crate::branching::branch_text;
 use crate::checking::check_text;
 use crate::ended::Ended;
 use crate::files::Texts;
+use crate::names::own_word;
 use crate::narrowing::narrow;
 use crate::replaying::replay_text;
 use crate::reply::{Reply, broken_rule};
@@ -35,7 +36,7 @@ use rob_quick::Quick;
 use rob_report::{rows_text, spot_text};
 use rob_rules::ModelErr;
 use rob_sets::{ElabErr, SetForm, clear_set};
-use rob_words::{Verb, Width};
+use rob_words::{Own, Verb, Width};
 use std::alloc::Global;
 
 /// Does what a command that reads a model says at a width.
@@ -152,8 +153,8 @@ fn unelaborated<N: Exact + Drop, L: Ledger>(
         (robust N.value model.now) verb texts.now) }
     ensures counted { L.wides ledger.old ≤ L.wides ledger.new }
 {
-    let names = texts.names.as_slice();
     let words = texts.words.as_slice();
+    let names = own_word(Own::Names, verb, words);
     match verb {
         Verb::Replay => {
             let certificate = texts.certificate.as_slice();
@@ -230,8 +231,8 @@ fn on_forms<N: Exact + Drop, L: Ledger>(
         }
         Verb::Worst => {
             let text = texts.certificate.as_slice();
-            let name = texts.form.as_slice();
-            search_text(alloc, model, forms, set, text, name, ledger)
+            let name = own_word(Own::Form, verb, texts.words.as_slice());
+            search_text(alloc, model, forms, set, text, name.as_bytes(), ledger)
         }
         Verb::Narrow => narrow::<N>(alloc, forms, set),
         _ => unreachable!(),

@@ -1,8 +1,7 @@
 -- The parts of a word between its commas.
-use Rattle.std.proofs.Common.{◌≡◌, ◌<◌, ◌≤◌, ◌+◌, inl, inr, ℕ, zero, suc, true, false, [], ◌∷◌, length, take, drop, Some, None, position, refl, ap, ◌∙◌, arith}
+use Rattle.std.proofs.Common.{◌≡◌, ◌<◌, ◌≤◌, ◌+◌, inl, inr, ℕ, zero, suc, true, false, [], ◌∷◌, length, take, drop, refl, ap, ◌∙◌, arith}
 use Rattle.std.specs.List.{after_first, before_first, position_or_len}
 use Rattle.std.proofs.lemmas.Bool.{cases_Bool}
-use Rattle.std.proofs.lemmas.Bool.Decides.{nat_tests}
 use Rattle.rob_words.specs.Names.{in_front, is_comma, parts_of}
 use Rattle.rob_words.specs.Values.{Word}
 
@@ -62,23 +61,12 @@ alone (byte ∷ word) most =
       | inr other ↦ alone_other byte word (alone word) other most
     ]
 
--- where a comma is found, the bytes in front of it are the first part
-pub first_part_at : (word part behind : Word) (count : ℕ) → Some count ≡ position is_comma word → part ≡ take count word
-    → behind ≡ drop (count + 1) word → parts_of word ≡ part ∷ parts_of behind
-first_part_at word part behind count e front back =
-    let here : (count ≡ before word) × (count < length word) = grind (arith, nat_tests) in
-    let next : count + 1 ≡ suc count = omega arith in cc (begins word count here.0 here.1, next, front, back)
-
--- where none is found, the whole word is
-pub first_part_all : (word : Word) → None ≡ position is_comma word → parts_of word ≡ word ∷ []
-first_part_all word e =
-    let most : length word ≤ before word = grind (arith, nat_tests) in alone word most
-
--- the same of a word as text
-pub first_text_at : (word part behind : Word) → position_or_len is_comma word < length word → part ≡ before_first is_comma word
+-- where a comma stands in the word, what stands in front of it is the first part
+pub first_part_at : (word part behind : Word) → position_or_len is_comma word < length word → part ≡ before_first is_comma word
     → behind ≡ after_first is_comma word → parts_of word ≡ part ∷ parts_of behind
-first_text_at word part behind less front back =
+first_part_at word part behind less front back =
     let next : before word + 1 ≡ suc (before word) = omega arith in cc (begins word (before word) refl less, next, front, back)
 
-pub first_text_all : (word : Word) → position_or_len is_comma word ≡ length word → parts_of word ≡ word ∷ []
-first_text_all word e = alone word (omega (arith, e))
+-- where none does, the whole word is
+pub first_part_all : (word : Word) → position_or_len is_comma word ≡ length word → parts_of word ≡ word ∷ []
+first_part_all word e = alone word (omega (arith, e))

@@ -1,9 +1,9 @@
 -- Limits of a budget in a word: one, or several with `,` between them. A limit is a number as a model's text has it:
 -- digits, or digits over digits.
-use Rattle.std.specs.Prelude.{◌≢◌, ◌≡◌, ◌⊎◌, ◌==◌, ℕ, ◌<◌, ◌≤◌, Bool, List, [], ◌∷◌, length, if◌then◌else◌, ltb}
+use Rattle.std.specs.Prelude.{◌≢◌, ◌≡◌, ◌⊎◌, ◌==◌, ℕ, ◌<◌, ◌≤◌, Bool, length, if◌then◌else◌, ltb}
 use Rattle.std.specs.List.{after_first, before_first, position_or_len}
 use Rattle.std.specs.Str.Parse.{IsNumeral, digits_value}
-use Rattle.rob_words.specs.Names.{parts_of}
+use Rattle.rob_words.specs.Names.{IsListOf}
 use Rattle.rob_words.specs.Values.{Word}
 
 -- a slash
@@ -46,16 +46,6 @@ numerator_of word = digits_value 10 (above word)
 abbrev pub denominator_of : Word → ℕ
 denominator_of word = if ltb (position_or_len is_slash word) (length word) then digits_value 10 (below word) else 1
 
--- each of the words is a limit
-abbrev pub AreLimits : ℕ → List Word → Type 0
-AreLimits greatest [] = Unit {0}
-AreLimits greatest (word ∷ words) = IsLimit greatest word × AreLimits greatest words
-
--- the word is at most so many limits, and one at least, with `,` between them
-pub record IsLimitsOf (greatest most : ℕ) (word : Word) : Type 0 where
-  pub limits : AreLimits greatest (parts_of word)
-  pub few : length (parts_of word) ≤ most
-
 -- the word is 1 to 20 limits with `,` between them
 abbrev pub IsLimitList : ℕ → Word → Type 0
-IsLimitList greatest word = IsLimitsOf greatest 20 word
+IsLimitList greatest word = IsListOf (IsLimit greatest) 20 word

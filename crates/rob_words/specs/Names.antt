@@ -1,4 +1,4 @@
--- Lists of names in one word: those of variables, with `,` between them.
+-- Lists in one word, with `,` between their parts, and those of names.
 use Rattle.std.specs.Prelude.{◌≡◌, ◌≤◌, ℕ, ◌==◌, Bool, List, [], ◌∷◌, length, Option, Some, None, if◌then◌else◌}
 use Rattle.rob_syntax.specs.Names.{IsWord}
 use Rattle.rob_syntax.specs.Symbols.{keywords, keyword_among}
@@ -28,16 +28,16 @@ pub record IsName (name : Word) : Type 0 where
   pub is_word : IsWord name
   pub no_keyword : keyword_among keywords name ≡ None
 
--- each of the words is one
-abbrev pub AreNames : List Word → Type 0
-AreNames [] = Unit {0}
-AreNames (name ∷ names) = IsName name × AreNames names
+-- each of the words has this property
+abbrev pub AreAll : (Word → Type 0) → List Word → Type 0
+AreAll P [] = Unit {0}
+AreAll P (word ∷ words) = P word × AreAll P words
 
--- the word is at most so many names, and one at least, with `,` between them
-pub record IsListOf (most : ℕ) (word : Word) : Type 0 where
-  pub names : AreNames (parts_of word)
+-- the word is at most so many parts, and one at least, with `,` between them, each of which has this property
+pub record IsListOf (P : Word → Type 0) (most : ℕ) (word : Word) : Type 0 where
+  pub parts : AreAll P (parts_of word)
   pub few : length (parts_of word) ≤ most
 
 -- the word is 1 to 20 names with `,` between them
 abbrev pub IsNameList : Word → Type 0
-IsNameList word = IsListOf 20 word
+IsNameList word = IsListOf IsName 20 word

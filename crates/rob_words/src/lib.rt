@@ -15,7 +15,7 @@ mod verb;
 mod width;
 
 pub use error::WordsErr;
-pub use limits::{first_text, limit};
+pub use limits::limit;
 pub use line::CommandLine;
 pub use names::first_part;
 pub use own_words::{number, statement};

@@ -1,9 +1,11 @@
 //! Limits of a budget in a word: one, or several with `,` between them.
 
-ghost use Rattle.std.specs.Prelude.{◌≡◌, ◌↔◌, ◌∷◌, ◌<◌, IfSome, IsTrue, MatchOption, length, option_map};
-ghost use Rattle.rob_words.specs.Limits.{IsDivisor, IsLimit, IsLimitList, IsLimitsOf, IsWhole, denominator_of, numerator_of};
+ghost use Rattle.std.specs.Prelude.{◌≡◌, ◌↔◌, IsTrue, MatchOption};
+ghost use Rattle.rob_words.specs.Limits.{IsDivisor, IsLimit, IsLimitList, IsWhole, denominator_of, numerator_of};
 ghost use Rattle.std.specs.Str.Parse.{digits_value};
-ghost use Rattle.rob_words.specs.Names.{parts_behind, parts_of};
+ghost use Rattle.rob_words.specs.Names.{IsListOf};
+
+use crate::names::first_part;
 
 /// The limit that a word spells, as its numerator and its denominator, which isn't 0. Both are at most the greatest
 /// number.
@@ -54,18 +56,6 @@ fn divisor(word: &str, greatest: u64) -> Option<u64>
     }
 }
 
-/// The part of a word in front of its first comma, and what stands behind that comma, where there is one.
-#[tactic(auto, using(crate::proofs::CommaLemmas::first_text_at, crate::proofs::CommaLemmas::first_text_all))]
-pub fn first_text(word: &str) -> (&str, Option<&str>)
-    ensures parts { parts_of word.now ≡ result.0.now ∷ parts_behind (option_map (λ rest. rest.now) result.1) }
-    ensures shorter { IfSome result.1 (λ rest. length rest.now < length word.now) }
-{
-    match word.split_once(',') {
-        Some((first, rest)) => (first, Some(rest)),
-        None => (word, None),
-    }
-}
-
 /// Whether the word is 1 to 20 limits with `,` between them.
 pub(crate) fn is_limit_list(word: &str, greatest: u64) -> bool
     ensures limits { IsTrue result ↔ IsLimitList greatest word.now }
@@ -75,9 +65,9 @@ pub(crate) fn is_limit_list(word: &str, greatest: u64) -> bool
 
 // Whether the word is at most so many limits, and one at least.
 fn are_limits(most: usize, word: &str, greatest: u64) -> bool
-    ensures limits { IsTrue result ↔ IsLimitsOf greatest most word.now }
+    ensures limits { IsTrue result ↔ IsListOf (IsLimit greatest) most word.now }
 {
-    let (first, rest) = first_text(word);
+    let (first, rest) = first_part(word);
     if most == 0 || limit(first, greatest).is_none() {
         return false;
     }

@@ -1,42 +1,36 @@
-//! Lists of names in one word, with `,` between them.
+//! Lists in one word, with `,` between their parts, and those of names.
 
-ghost use Rattle.std.specs.Prelude.{◌≡◌, ◌↔◌, ◌∷◌, ◌<◌, IfSome, IsTrue, drop, is_some, length, option_map, position};
+ghost use Rattle.std.specs.Prelude.{◌≡◌, ◌↔◌, ◌∷◌, ◌<◌, IfSome, IsTrue, drop, is_some, length, option_map};
 ghost use Rattle.rob_lex.specs.Bytes as classes;
 ghost use Rattle.rob_syntax.specs.Names.{GoesOn, IsWord};
 ghost use Rattle.rob_syntax.specs.Symbols.{keyword_among, keywords};
-ghost use Rattle.rob_words.specs.Names.{IsListOf, IsName, IsNameList, is_comma, parts_behind, parts_of};
+ghost use Rattle.rob_words.specs.Names.{IsListOf, IsName, IsNameList, parts_behind, parts_of};
 
 /// The part of a word in front of its first comma, and what stands behind that comma, where there is one.
-pub fn first_part(word: &[u8]) -> (&[u8], Option<&[u8]>)
+#[tactic(auto, using(crate::proofs::CommaLemmas::first_part_at, crate::proofs::CommaLemmas::first_part_all))]
+pub fn first_part(word: &str) -> (&str, Option<&str>)
     ensures parts { parts_of word.now ≡ result.0.now ∷ parts_behind (option_map (λ rest. rest.now) result.1) }
     ensures shorter { IfSome result.1 (λ rest. length rest.now < length word.now) }
 {
-    match comma(word) {
-        Some(before) => (&word[..before], Some(&word[before + 1..])),
+    match word.split_once(',') {
+        Some((first, rest)) => (first, Some(rest)),
         None => (word, None),
     }
 }
 
-// How many bytes stand in front of the first comma, if there is one.
-fn comma(word: &[u8]) -> Option<usize>
-    ensures first { result ≡ position is_comma word.now }
-{
-    word.iter().position(|byte| *byte == b',')
-}
-
 /// Whether the word is 1 to 20 names with `,` between them.
-pub(crate) fn is_name_list(word: &[u8]) -> bool
+pub(crate) fn is_name_list(word: &str) -> bool
     ensures names { IsTrue result ↔ IsNameList word.now }
 {
     is_list_of(20, word)
 }
 
 // Whether the word is at most so many names, and one at least.
-fn is_list_of(most: usize, word: &[u8]) -> bool
-    ensures names { IsTrue result ↔ IsListOf most word.now }
+fn is_list_of(most: usize, word: &str) -> bool
+    ensures names { IsTrue result ↔ IsListOf IsName most word.now }
 {
     let (name, rest) = first_part(word);
-    if most == 0 || !is_name(name) {
+    if most == 0 || !is_name(name.as_bytes()) {
         return false;
     }
     match rest {

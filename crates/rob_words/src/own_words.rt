@@ -32,7 +32,7 @@ fn is_of_kind(kind: Own, word: &str, greatest: u64) -> bool
         Own::Certificate => true,
         Own::Scenarios => true,
         Own::Number => number(word).is_some(),
-        Own::Names => is_name_list(word.as_bytes()),
+        Own::Names => is_name_list(word),
         Own::Form => true,
         Own::Tree => true,
         Own::Statement => statement(word).is_some(),

@@ -1,3 +1,4 @@
+use Rattle.std.proofs.Common.{ap, map, string_bytes, ◌∙◌}
 use Rattle.rob_model.specs.View.{robust}
 use Rattle.rob_top.proofs.CheckingLemmas.{file_answers}
 use Rattle.rob_top.proofs.SearchingLemmas.{search_answers}
@@ -27,7 +28,8 @@ returns-in-Check-clause-answers g c =
 pub returns-in-Worst-clause-answers : goal.returns-in-Worst-clause-answers
 returns-in-Worst-clause-answers g c =
     search_answers g.N.Exact.limit (robust g.N.Exact.value c.args.model.now) _ c.args.verb c.args.texts.now c.as_slice-text-in-Worst.result.now
-    c.as_slice-name.result.now c.search_text.result c.in-Worst.is c.as_slice-text-in-Worst.ensures.value c.as_slice-name.ensures.value
+    (map string_bytes c.as_slice.result.now) c.as_bytes.result.now c.search_text.result c.in-Worst.is c.as_slice-text-in-Worst.ensures.value
+    (ap (map string_bytes) c.as_slice.ensures.value) (λ word told. c.as_bytes.ensures.value ∙ c.own_word.ensures.word word told)
     c.search_text.ensures.answers
 
 pub narrow-requires : goal.narrow-requires
