@@ -17,7 +17,7 @@ use Rattle.rob_tree.specs.declared.tree.Branch.{Branch}
 use Rattle.rob_tree.specs.declared.error.TreeStop.TheVariants.{Rule, EmptySet, Wide, Memory}
 use Rattle.rob_branch.proofs.GrowthLemmas.{rose_wider}
 use Rattle.rob_dualize.specs.Solving.{HasScenario}
-use Rattle.rob_branch.specs.Growth.{CountsGrowth, HasCause, HasCauseBehind, RoseIfWide, TellsStop}
+use Rattle.rob_branch.specs.Growth.{CountsGrowth, HasCause, HasCauseBehind, IsWrittenUpTo, RoseIfWide, TellsStop}
 
 -- the scenario of a certificate that proves is admitted
 pub scenario_of : (m : RobustModel) (c : Certificate) → Proves m c → HasScenario m
@@ -60,15 +60,15 @@ pub cause_here : (limit : ℕ) (m : RobustModel) (names : List ℕ) (before : Se
     → HasScenario m → HasModelCause limit m stop → TellsStop path stop told → HasCauseBehind limit m names before (map branch_of path) told
 cause_here limit m names before path (route.EmptySet weights) told going some h e = absurd (h.1.empty some.0 some.1)
 cause_here limit m names before path (route.Wide spot trace) told going some h (inl e) =
-    subst (HasCauseBehind limit m names before (map branch_of path)) (sym e) ([], sym (append-nil (map branch_of path)), (before, (going, refl)), h.0)
+    subst (HasCauseBehind limit m names before (map branch_of path)) (sym e) ([], sym (append-nil (map branch_of path)), (before, (going, refl)), tt, h.0)
 cause_here limit m names before path (route.Wide spot trace) told going some h (inr e) = subst (HasCauseBehind limit m names before (map branch_of path)) (sym e) tt
 cause_here limit m names before path route.Memory told going some h e = subst (HasCauseBehind limit m names before (map branch_of path)) (sym e) tt
 
 -- the stop of the root's box is a cause
 pub cause_at_root : (limit : ℕ) (m : RobustModel) (names : List ℕ) (stop : Stop) (told : TreeStop) → HasModelCause limit m stop → TellsStop [] stop told
     → HasCause limit m names told
-cause_at_root limit m names (route.EmptySet weights) told h e = subst (HasCause limit m names) (sym e) h.1
-cause_at_root limit m names (route.Wide spot trace) told h (inl e) = subst (HasCause limit m names) (sym e) ((start, (refl, refl)), h.0)
+cause_at_root limit m names (route.EmptySet weights) told h e = subst (HasCause limit m names) (sym e) h
+cause_at_root limit m names (route.Wide spot trace) told h (inl e) = subst (HasCause limit m names) (sym e) ((start, (refl, refl)), tt, h.0)
 cause_at_root limit m names (route.Wide spot trace) told h (inr e) = subst (HasCause limit m names) (sym e) tt
 cause_at_root limit m names route.Memory told h e = subst (HasCause limit m names) (sym e) tt
 
@@ -77,5 +77,5 @@ pub cause_of_root : (limit : ℕ) (m : RobustModel) (names : List ℕ) (stop : T
 cause_of_root limit m names (Rule rule) h = absurd h
 cause_of_root limit m names (EmptySet weights) h = absurd h
 cause_of_root limit m names (Wide path spot) h =
-    subst (λ path. Visits m names start path × IsWideIn limit (boxes.box m path) spot) (sym h.1) (h.2, h.3)
+    subst (λ path. Visits m names start path × IsWrittenUpTo limit m path × IsWideIn limit (boxes.box m path) spot) (sym h.1) (h.2, h.3, h.4)
 cause_of_root limit m names Memory h = tt

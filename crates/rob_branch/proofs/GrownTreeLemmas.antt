@@ -2,6 +2,7 @@
 use Rattle.std.proofs.Common.{◌≡◌, ◌≢◌, ℕ, ◌≤◌, List, refl, ap, sym, ◌∙◌, subst}
 use Rattle.std.specs.Prelude.{ℤ, pos, nat_abs, Option, Some, None}
 use Rattle.rob_algebra.specs.Fraction.{Fraction}
+use Rattle.rob_dualize.specs.Models.{IsWritten}
 use Rattle.rob_meaning.specs.Certificates.{Certificate}
 use Rattle.rob_meaning.specs.Places.{Each}
 use Rattle.rob_meaning.specs.RobustModel.{RobustModel}
@@ -14,17 +15,17 @@ use Rattle.rob_reach.specs.Trees.{Node, split, Tree, leaves}
 use Rattle.rob_tree.specs.Shape.{BranchesFit, HasTreeShape, IsShaped, KeepsParts}
 use Rattle.rob_tree.specs.View.{node_of}
 use Rattle.rob_branch.proofs.GrowthLemmas.{shaped_both}
-use Rattle.rob_branch.specs.Growth.{IsGrownTo}
+use Rattle.rob_branch.specs.Growth.{AreBoxesWritten, IsGrownTo}
 use Rattle.rob_branch.specs.View.{search_of}
 use Rattle.rob_branch.specs.declared.grow.Grown.{Grown}
 
 module _ {N : Type 0} (value : N → Fraction) (limit : ℕ) (m : RobustModel) (names : List ℕ) (before : Search) where
   -- the node of a branch
   pub grown_joined : (c : Certificate) (j : ℕ) (k : ℤ) (first second grown : Grown N) → Decides m names before c (branches j k)
-      → (nat_abs k ≤ limit) × (k ≢ pos limit) → IsGrownTo value limit (box_below m j k) names before first
+      → (nat_abs k ≤ limit) × (k ≢ pos limit) → IsWritten limit m → IsGrownTo value limit (box_below m j k) names before first
       → IsGrownTo value limit (box_above m j k) names (search_of value first.after) second → grown.after ≡ second.after
       → node_of value grown.node ≡ split j k (node_of value first.node) (node_of value second.node) → IsGrownTo value limit m names before grown
-  grown_joined c j k first second grown decides within h g after node =
+  grown_joined c j k first second grown decides within written h g after node =
       let both = split j k (node_of value first.node) (node_of value second.node) in
       record {
         grows = subst (λ n. Grows m names before n (search_of value grown.after)) (sym node)
@@ -33,6 +34,7 @@ module _ {N : Type 0} (value : N → Fraction) (limit : ℕ) (m : RobustModel) (
         shaped = subst (λ n. Each IsShaped (leaves m n)) (sym node)
             (shaped_both m j k (node_of value first.node) (node_of value second.node) h.shaped g.shaped);
         numbers = subst (BranchesFit limit) (sym node) (within, h.numbers, g.numbers);
+        written = subst (AreBoxesWritten limit m) (sym node) (written, h.written, g.written);
       }
 
 -- the tree of a search that is over
@@ -69,3 +71,6 @@ module _ (limit : ℕ) (m : RobustModel) (names : List ℕ) (t : Tree) (after : 
     numbers = subst (BranchesFit limit) (sym root_is) numbers;
     parts = parts_kept;
   }
+
+  pub tree_written : AreBoxesWritten limit m root → AreBoxesWritten limit m t.root
+  tree_written = subst (AreBoxesWritten limit m) (sym root_is)

@@ -1,6 +1,7 @@
 -- How a tree grows, one step at a time: what is asked of the two boxes of a branch, and what is answered of both together.
 use Rattle.std.proofs.Common.{◌≡◌, ℕ, ◌+◌, ◌<◌, ◌≤◌, suc, List, [], ◌∷◌, ◌++◌, T, Bool, true, false, ap, sym, ◌∙◌, subst, arith, append_assoc, ◌⊎◌, ◌-◌, ◌^◌, min, max, inl, inr}
 use Rattle.std.specs.Prelude.{ℤ, Option, Some, None}
+use Rattle.rob_dualize.specs.Models.{IsWritten}
 use Rattle.rob_meaning.proofs.EachLemmas.{each_append}
 use Rattle.rob_meaning.specs.Certificates.{Certificate, Status, optimal, infeasible, unbounded}
 use Rattle.rob_meaning.specs.Places.{Each}
@@ -81,13 +82,13 @@ shaped_both m j k below above h g = each_append IsShaped (leaves (box_below m j 
 -- ---- why a box has not grown
 -- a cause behind one of the two boxes of a branch is one behind the box
 module _ (limit : ℕ) (m : RobustModel) (names : List ℕ) (before : Search) (front : List Branch) (c : Certificate) (j : ℕ) (k : ℤ)
-    (decides : Decides m names before c (branches j k)) where
+    (decides : Decides m names before c (branches j k)) (written : IsWritten limit m) where
   pub cause_below : (b : Branch) (stop : TreeStop) → b ≡ at_most_branch j k → HasCauseBehind limit (behind m b) names before (front ++ b ∷ []) stop
       → HasCauseBehind limit m names before front stop
   cause_below b (Rule rule) is h = h
   cause_below b (EmptySet weights) is h = h
   cause_below b (Wide path spot) is h =
-      (b ∷ h.0, h.1 ∙ append_assoc front (b ∷ []) h.0, (h.2.0, (c, j, k, decides, inl (is, h.2.1))), h.3)
+      (b ∷ h.0, h.1 ∙ append_assoc front (b ∷ []) h.0, (h.2.0, (c, j, k, decides, inl (is, h.2.1))), (written, h.3), h.4)
   cause_below b Memory is h = h
 
   pub cause_above : (a b : Branch) (stop : TreeStop) (below : Node) (middle : Search) → a ≡ at_most_branch j k → b ≡ at_least_branch j k
@@ -97,7 +98,7 @@ module _ (limit : ℕ) (m : RobustModel) (names : List ℕ) (before : Search) (f
   cause_above a b (EmptySet weights) below middle first is grows h = h
   cause_above a b (Wide path spot) below middle first is grows h =
       let grown : Grows (box_below m j k) names before below middle = subst (λ (a : Branch). Grows (behind m a) names before below middle) first grows in
-      (b ∷ h.0, h.1 ∙ append_assoc front (b ∷ []) h.0, (h.2.0, (c, j, k, decides, inr (is, (below, middle, grown, h.2.1)))), h.3)
+      (b ∷ h.0, h.1 ∙ append_assoc front (b ∷ []) h.0, (h.2.0, (c, j, k, decides, inr (is, (below, middle, grown, h.2.1)))), (written, h.3), h.4)
   cause_above a b Memory below middle first is grows h = h
 
 -- a rise stays where the count never falls before and behind it

@@ -3,6 +3,7 @@ use Rattle.std.proofs.Common.{◌≡◌, ◌≢◌, ℕ, ◌+◌, ◌<◌, ◌�
 use Rattle.std.proofs.lemmas.Int.{ints}
 use Rattle.std.specs.Prelude.{ℤ, pos, negsuc, ◌+ℤ◌, nat_abs, Result, Ok, Err, IfOk}
 use Rattle.rob_algebra.specs.Fraction.{Fraction}
+use Rattle.rob_dualize.specs.Models.{IsWritten}
 use Rattle.rob_meaning.specs.Certificates.{Certificate}
 use Rattle.rob_meaning.specs.RobustModel.{RobustModel}
 use Rattle.rob_meaning.specs.WellFormed.{IsModel}
@@ -81,15 +82,15 @@ module _ {N : Type 0} (value : N → Fraction) (limit : ℕ) (m : RobustModel) (
 
     -- the node of both; its K is read as another number that is the same
     pub joined_grown : (a b : Branch) (first second : Grown N) (r : Result (Grown N) TreeStop) (z : ℤ)
-        → a ≡ at_most_branch j k → b ≡ at_least_branch j k → z ≡ k
+        → a ≡ at_most_branch j k → b ≡ at_least_branch j k → z ≡ k → IsWritten limit m
         → IsGrownTo value limit (behind m a) names before first
         → IsGrownTo value limit (behind m b) names (search_of value first.after) second
         → IfOk r (λ (grown : Grown N). (grown.after ≡ second.after)
         × (node_of value grown.node ≡ split j z (node_of value first.node) (node_of value second.node)))
         → IfOk r (IsGrownTo value limit m names before)
-    joined_grown a b first second (Ok grown) z is same read h g both =
-        grown_joined value limit m names before c j k first second grown decides fits
+    joined_grown a b first second (Ok grown) z is same read written h g both =
+        grown_joined value limit m names before c j k first second grown decides fits written
         (subst (λ (a : Branch). IsGrownTo value limit (behind m a) names before first) is h)
         (subst (λ (b : Branch). IsGrownTo value limit (behind m b) names (search_of value first.after) second) same g)
         both.0 (both.1 ∙ ap (λ n. split j n (node_of value first.node) (node_of value second.node)) read)
-    joined_grown a b first second (Err stop) z is same read h g both = tt
+    joined_grown a b first second (Err stop) z is same read written h g both = tt

@@ -1,9 +1,9 @@
 -- What growing answers: the node of a box and how far the search is behind it, or why there is none.
-use Rattle.std.specs.Prelude.{◌≡◌, ℕ, List, ◌++◌, map, Some, Result, IfErr, ◌⊎◌}
+use Rattle.std.specs.Prelude.{◌≡◌, ℕ, List, [], ◌∷◌, ◌++◌, map, Some, Result, IfErr, ◌⊎◌}
 use Rattle.rob_algebra.specs.Fraction.{Fraction, of_int}
 use Rattle.rob_cert.specs.declared.ending.Stop.{Stop}
 use Rattle.rob_cert.specs.declared.ending.Stop.TheVariants as route
-use Rattle.rob_dualize.specs.Models.{IsWideIn}
+use Rattle.rob_dualize.specs.Models.{IsWideIn, IsWritten}
 use Rattle.rob_dualize.specs.Solving.{IsShownEmpty}
 use Rattle.rob_meaning.specs.Places.{Each}
 use Rattle.rob_meaning.specs.RobustModel.{RobustModel}
@@ -11,7 +11,7 @@ use Rattle.rob_number.specs.Counts.{NeverFell, Rose}
 use Rattle.rob_reach.specs.Boxes as boxes
 use Rattle.rob_reach.specs.Growing.{Search, Grows, Visits, start}
 use Rattle.rob_reach.specs.Ranges.{whole_rule}
-use Rattle.rob_reach.specs.Trees.{leaves}
+use Rattle.rob_reach.specs.Trees.{Node, leaf, split, left_open, leaves}
 use Rattle.rob_tree.specs.Shape.{IsShaped, BranchesFit}
 use Rattle.rob_tree.specs.View.{branch_of, node_of}
 use Rattle.rob_tree.specs.declared.tree.Branch.{Branch}
@@ -20,21 +20,37 @@ use Rattle.rob_tree.specs.declared.error.TreeStop.TheVariants.{Rule, EmptySet, W
 use Rattle.rob_branch.specs.View.{search_of}
 use Rattle.rob_branch.specs.declared.grow.Grown.{Grown}
 
--- the box has grown into the node, and the search is as far as told; its certificates have the shape of their boxes
+-- nothing is wide when the box of a node is written in whole numbers, nor when one behind its branches is; open leaves
+-- aside
+abbrev pub AreBoxesWritten : ℕ → RobustModel → Node → Type 0
+AreBoxesWritten limit m (leaf c) = IsWritten limit m
+AreBoxesWritten limit m (split j k below above) =
+    IsWritten limit m
+    × AreBoxesWritten limit (boxes.box_below m j k) below × AreBoxesWritten limit (boxes.box_above m j k) above
+AreBoxesWritten limit m left_open = Unit {0}
+
+-- nothing is wide when a box on the path is written in whole numbers, that at its end aside
+abbrev pub IsWrittenUpTo : ℕ → RobustModel → List boxes.Branch → Type 0
+IsWrittenUpTo limit m [] = Unit {0}
+IsWrittenUpTo limit m (b ∷ path) = IsWritten limit m × IsWrittenUpTo limit (boxes.behind m b) path
+
+-- the box has grown into the node, and the search is as far as told; its certificates have the shape of their boxes,
+-- and no number is wide when its boxes are written in whole numbers
 pub record IsGrownTo {N : Type 0} (value : N → Fraction) (limit : ℕ) (m : RobustModel) (names : List ℕ)
     (before : Search) (grown : Grown N) : Type 0 where
   pub grows : Grows m names before (node_of value grown.node) (search_of value grown.after)
   pub shaped : Each IsShaped (leaves m (node_of value grown.node))
   pub numbers : BranchesFit limit (node_of value grown.node)
+  pub written : AreBoxesWritten limit m (node_of value grown.node)
 
 -- why a box behind a path has not grown, where the search stands at `before`: a number is wide in a box behind it that
--- the search comes to; memory is free
+-- the search comes to, and none is when the boxes on the way there are written; memory is free
 abbrev pub HasCauseBehind : ℕ → RobustModel → List ℕ → Search → List boxes.Branch → TreeStop → Type 0
 HasCauseBehind limit m names before front (Rule rule) = ⊥
 HasCauseBehind limit m names before front (EmptySet weights) = ⊥
 HasCauseBehind limit m names before front (Wide path spot) =
     (tail : List boxes.Branch) × (map branch_of path ≡ front ++ tail) × Visits m names before tail
-    × IsWideIn limit (boxes.box m tail) spot
+    × IsWrittenUpTo limit m tail × IsWideIn limit (boxes.box m tail) spot
 HasCauseBehind limit m names before front Memory = Unit {0}
 
 -- the stop of the box behind a path, told of the search; memory for the path may be refused
@@ -43,13 +59,15 @@ TellsStop path (route.EmptySet weights) told = told ≡ EmptySet weights
 TellsStop path (route.Wide spot trace) told = (told ≡ Wide path spot) ⊎ (told ≡ Memory)
 TellsStop path route.Memory told = told ≡ Memory
 
--- why no tree grows: the first rule that the names break; no scenario is admitted, as the weights show; a number is
--- wide in the box behind the path, which the search comes to; memory is free
+-- why no tree grows: the first rule that the names break; nothing is wide when the model is written in whole numbers,
+-- and no scenario is admitted, as the weights show; a number is wide in the box behind the path, which the search comes
+-- to, and none is when the boxes on the way there are written; memory is free
 abbrev pub HasCause : ℕ → RobustModel → List ℕ → TreeStop → Type 0
 HasCause limit m names (Rule rule) = whole_rule m names ≡ Some rule
-HasCause limit m names (EmptySet weights) = IsShownEmpty m (map of_int weights)
+HasCause limit m names (EmptySet weights) = IsWritten limit m × IsShownEmpty m (map of_int weights)
 HasCause limit m names (Wide path spot) =
-    Visits m names start (map branch_of path) × IsWideIn limit (boxes.box m (map branch_of path)) spot
+    Visits m names start (map branch_of path) × IsWrittenUpTo limit m (map branch_of path)
+    × IsWideIn limit (boxes.box m (map branch_of path)) spot
 HasCause limit m names Memory = Unit {0}
 
 -- a stop for width has raised the count of wide numbers

@@ -63,6 +63,10 @@ module _ (limit : ℕ) where
     checking : (c : Certificate) (place : Place) → l.certificate ≡ Some c → HasVerdict l.box c (check.TooWide place)
         → spot ≡ Check place → IsWideAt l spot
 
+  -- no number of the tree's check is wide, of whichever leaf
+  abbrev pub NoneWide : RobustModel → Tree → Type 0
+  NoneWide m t = Each (λ l. (spot : Spot) → IsWideAt l spot → ⊥) (leaves m t.root)
+
   -- what is told of a leaf whose condition of that kind fails; of its certificate's check the place at which it fails
   abbrev pub Tells : verdicts.LeafFault → LeafFault → Leaf → Type 0
   Tells proof told l =

@@ -1,7 +1,7 @@
 //! How a tree grows: depth first, the box with the upper bound before the other. (Land, Doig, An automatic method of
 //! solving discrete programming problems.)
 
-ghost use Rattle.std.specs.Prelude.{◌≡◌, ◌≢◌, ◌+◌, ◌++◌, ◌∷◌, [], ◌≤◌, pos, map, nat_abs, ℕ, None, Some, Err as Error, IfOk, IfErr};
+ghost use Rattle.std.specs.Prelude.{◌≡◌, ◌≢◌, ◌+◌, ◌++◌, ◌∷◌, [], ◌≤◌, pos, map, nat_abs, ℕ, None, Some, Err as Error, IfOk, IfErr, OnOk};
 ghost use Rattle.rob_cert.specs.Shape.{HasShape};
 ghost use Rattle.rob_cert.specs.View.{certificate_of};
 ghost use Rattle.rob_meaning.specs.Certificates.{Certificate};
@@ -17,8 +17,9 @@ ghost use Rattle.rob_tree.specs.Reading.{TreeFits};
 ghost use Rattle.rob_tree.specs.Shape.{HasTreeShape};
 ghost use Rattle.rob_tree.specs.View.{branch_of, node_of, tree_of};
 ghost use Rattle.rob_tree.specs.declared.error.TreeStop.TheVariants as Refused;
+ghost use Rattle.rob_dualize.specs.Models.{IsWritten};
 ghost use Rattle.rob_dualize.specs.Solving.{HasScenario};
-ghost use Rattle.rob_branch.specs.Growth.{CountsGrowth, HasCause, HasCauseBehind, IsGrownTo, TellsStop};
+ghost use Rattle.rob_branch.specs.Growth.{AreBoxesWritten, CountsGrowth, HasCause, HasCauseBehind, IsGrownTo, TellsStop};
 ghost use Rattle.rob_branch.specs.View.{search_of};
 
 use crate::path::{branch_above, branch_below, longer};
@@ -106,6 +107,7 @@ fn grow_from<N: Exact, L: Ledger>(
     requires going { before.endless ≡ None }
     requires proves { Proves (robust N.value area.model.now) (certificate_of N.value cert) }
     requires shape { HasShape (robust N.value area.model.now) (certificate_of N.value cert) }
+    requires written { IsWritten N.limit (robust N.value area.model.now) }
     ensures grown { IfOk result (IsGrownTo N.value N.limit (robust N.value area.entry.model.now) area.entry.names.now
         (search_of N.value before)) }
     ensures cause { IfErr result (HasCauseBehind N.limit (robust N.value area.entry.model.now) area.entry.names.now
@@ -137,6 +139,7 @@ fn grow_branch<N: Exact, L: Ledger>(
     requires decides { (c : Certificate) × growing.Decides (robust N.value area.model.now) area.names.now
         (search_of N.value before) c (growing.branches column k) }
     requires within { (nat_abs k ≤ N.limit) × (k ≢ pos N.limit) }
+    requires written { IsWritten N.limit (robust N.value area.model.now) }
     ensures grown { IfOk result (IsGrownTo N.value N.limit (robust N.value area.entry.model.now) area.entry.names.now
         (search_of N.value before)) }
     ensures cause { IfErr result (HasCauseBehind N.limit (robust N.value area.entry.model.now) area.entry.names.now
@@ -269,6 +272,11 @@ pub fn grow_tree<N: Exact, L: Ledger>(
     ensures shape { IfOk result (λ tree. HasTreeShape N.limit (robust N.value model.now) names.now
         (tree_of N.value tree)) }
     ensures fits { IfOk result (λ tree. TreeFits N.limit (robust N.value model.now) (tree_of N.value tree)) }
+    // A tree comes only where nothing is wide when the model, and each box of the tree that isn't left open, is
+    // written in whole numbers.
+    ensures written { OnOk result (IsWritten N.limit (robust N.value model.now)) }
+    ensures boxes { IfOk result (λ tree. AreBoxesWritten N.limit (robust N.value model.now)
+        (tree_of N.value tree).root) }
     ensures cause { IfErr result (HasCause N.limit (robust N.value model.now) names.now) }
     // A broken rule is always told, and nothing is counted then.
     ensures rule { (rule : ℕ) → first_rule (robust N.value model.now) names.now ≡ Some rule
@@ -298,6 +306,9 @@ fn grow_root<N: Exact, L: Ledger>(
     ensures shape { IfOk result (λ tree. HasTreeShape N.limit (robust N.value model.now) names.now
         (tree_of N.value tree)) }
     ensures fits { IfOk result (λ tree. TreeFits N.limit (robust N.value model.now) (tree_of N.value tree)) }
+    ensures written { OnOk result (IsWritten N.limit (robust N.value model.now)) }
+    ensures boxes { IfOk result (λ tree. AreBoxesWritten N.limit (robust N.value model.now)
+        (tree_of N.value tree).root) }
     ensures cause { IfErr result (HasCause N.limit (robust N.value model.now) names.now) }
     ensures counted { CountsGrowth L.ops L.wides ledger.old ledger.new result }
 {

@@ -3,8 +3,8 @@ use Rattle.std.proofs.Common.{◌≡◌, ℕ, List, map, Option, Some, None, Res
 use Rattle.std.proofs.lemmas.List.{length-map}
 use Rattle.std.specs.Prelude.{MatchOption}
 use Rattle.rob_algebra.specs.Fraction.{of_int}
-use Rattle.rob_dualize.specs.Models.{IsWideIn}
-use Rattle.rob_branch.specs.Growth.{HasCause, RoseIfWide}
+use Rattle.rob_dualize.specs.Models.{IsWideIn, IsWritten}
+use Rattle.rob_branch.specs.Growth.{AreBoxesWritten, HasCause, IsWrittenUpTo, RoseIfWide}
 use Rattle.rob_meaning.specs.Certificates.{Status, optimal, infeasible, unbounded}
 use Rattle.rob_meaning.specs.RobustModel.{RobustModel}
 use Rattle.rob_number.specs.declared.memory.Memory.{Memory as Want}
@@ -98,10 +98,10 @@ module _ (limit : ℕ) (m : RobustModel) where
     -- ---- a tree that has grown
     pub tree_answers : (wides : Count) (t : Tree) (r : Result Reply Want) → whole_rule m numbers ≡ None → IsGrown m numbers t
         → HasWholeStatus m numbers t.status t.value → HasTreeShape limit m numbers t → TreeFits limit m t
-        → IfOk r (λ reply. reply.ended ≡ ended_of t.status) → IfOk r (λ reply. IsPrintedTree verb m numbers t reply.text)
+        → IsWritten limit m → AreBoxesWritten limit m t.root → IfOk r (λ reply. reply.ended ≡ ended_of t.status) → IfOk r (λ reply. IsPrintedTree verb m numbers t reply.text)
         → IfOk r (AnswersVariables limit wides m verb numbers)
-    tree_answers wides t (Err want) keeps grown holds shape fits is printed = tt
-    tree_answers wides t (Ok reply) keeps grown holds shape fits is printed = λ call line at has.
+    tree_answers wides t (Err want) keeps grown holds shape fits written boxes is printed = tt
+    tree_answers wides t (Ok reply) keeps grown holds shape fits written boxes is printed = λ call line at has.
         subst (λ (ended : Ended). Means call ended reply.text) (sym is)
         (means_branched call t.status reply.text (record {
           line = line;
@@ -116,6 +116,8 @@ module _ (limit : ℕ) (m : RobustModel) where
           grown = grown;
           shape = subst (λ (l : ℕ). HasTreeShape l m numbers t) (sym at.limit_is) shape;
           fits = subst (λ (l : ℕ). TreeFits l m t) (sym at.limit_is) fits;
+          written = subst (λ (l : ℕ). IsWritten l m) (sym at.limit_is) written;
+          boxes = subst (λ (l : ℕ). AreBoxesWritten l m t.root) (sym at.limit_is) boxes;
           printed = subst (λ (v : Verb). IsPrintedTree v m numbers t reply.text) (sym at.verb_is) printed;
         }))
 
@@ -142,7 +144,8 @@ module _ (limit : ℕ) (m : RobustModel) where
             keeps = no_rule m numbers (λ rule e. let no : ungrown.EmptySet weights ≡ ungrown.Rule rule = told rule e in cc);
           };
           branches = is_here (count before now) call line at;
-          shown = cause;
+          written = subst (λ (l : ℕ). IsWritten l m) (sym at.limit_is) cause.0;
+          shown = cause.1;
           printed = is.1;
         }))
     stop_answers before now (ungrown.Wide path spot) reply cause rose told is = λ call line at has.
@@ -157,7 +160,8 @@ module _ (limit : ℕ) (m : RobustModel) where
           };
           branches = is_here (count before now) call line at;
           comes = cause.0;
-          wide = subst (λ (l : ℕ). IsWideIn l (box m (map branch_of path)) spot) (sym at.limit_is) cause.1;
+          written = subst (λ (l : ℕ). IsWrittenUpTo l m (map branch_of path)) (sym at.limit_is) cause.1;
+          wide = subst (λ (l : ℕ). IsWideIn l (box m (map branch_of path)) spot) (sym at.limit_is) cause.2;
           raised = at.raised rose;
           printed = is.1;
         }))
@@ -173,14 +177,14 @@ module _ (limit : ℕ) (m : RobustModel) where
   pub stop_named : (numbers : List ℕ) (s : TreeStop) → ((rule : ℕ) → whole_rule m numbers ≡ Some rule → s ≡ ungrown.Rule rule)
       → HasCause limit m numbers s → IsUngrownOf m s
   stop_named numbers (ungrown.Rule rule) told cause = tt
-  stop_named numbers (ungrown.EmptySet weights) told cause = sym (length-map weights of_int) ∙ cause.shows.count
+  stop_named numbers (ungrown.EmptySet weights) told cause = sym (length-map weights of_int) ∙ cause.1.shows.count
   stop_named numbers (ungrown.Wide path spot) told cause =
       let keeps : whole_rule m numbers ≡ None =
       no_rule m numbers (λ rule e. let no : ungrown.Wide path spot ≡ ungrown.Rule rule = told rule e in cc)
       in
       let bounded : KeepsBothBounds m numbers = kept_bounds m numbers keeps in
       let allowed : IsAllowedPath m numbers (map branch_of path) = comes_allowed m numbers start cause.0.0 (map branch_of path) cause.0.1 in
-      (box_spot limit m numbers (map branch_of path) spot bounded allowed cause.1, path_columns numbers m m path bounded allowed)
+      (box_spot limit m numbers (map branch_of path) spot bounded allowed cause.2, path_columns numbers m m path bounded allowed)
   stop_named numbers ungrown.Memory told cause = tt
 
   -- ---- a list of names

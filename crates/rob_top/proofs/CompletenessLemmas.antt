@@ -1,5 +1,5 @@
 -- How a call must end: what its words and files decide, in one record; and what follows for the text that `prove` prints.
-use Rattle.std.proofs.Common.{◌≡◌, ℕ, ◌-◌, ◌^◌, List, refl, sym, ◌∙◌, ap, subst, inl, inr, ◌⊎◌}
+use Rattle.std.proofs.Common.{◌≡◌, ℕ, ◌-◌, ◌^◌, List, [], refl, sym, ◌∙◌, ap, subst, inl, inr, ◌⊎◌}
 use Rattle.rob_cert.specs.Apart.{FitsLines}
 use Rattle.rob_cert.specs.Shape.{HasShape}
 use Rattle.rob_cert.specs.Whole.{IsTextOf}
@@ -31,9 +31,9 @@ use Rattle.rob_top.proofs.NarrowAnswerLemmas.{has_status, narrow_decides, no_wid
 use Rattle.rob_top.proofs.ReplayAnswerLemmas.{planless_decides, replay_decides}
 use Rattle.rob_top.proofs.StageLemmas.{broken_answer}
 use Rattle.rob_top.proofs.TrueAnswerLemmas.{empty_decides, missing_decides, rows_decide, rule_decides, solve_decides, status_decides, too_long_decides, verdict_decides, well, wide_decides}
-use Rattle.rob_top.proofs.WholeAnswerLemmas.{some_whole_status, whole_decides, whole_empty_decides, whole_status_decides}
+use Rattle.rob_top.proofs.WholeAnswerLemmas.{some_whole_status, whole_decides, whole_empty_decides, whole_status_decides, whole_wide_decides}
 use Rattle.rob_top.proofs.WorstAnswerLemmas.{unnamed_decides, unplanned_decides, worst_decides, worst_empty_decides, worst_printed_decides}
-use Rattle.rob_top.proofs.TreeAnswerLemmas.{accepted_tree, breaking_decides, proved_tree, tree_broken_decides, tree_verdict_decides, unproved_tree}
+use Rattle.rob_top.proofs.TreeAnswerLemmas.{accepted_tree, breaking_decides, judged_tree, proved_tree, tree_broken_decides, tree_verdict_decides, unproved_tree}
 use Rattle.rob_top.proofs.SweepAnswerLemmas.{limit_decides, limit_rule_decides, narrow_sweep_decides, sweep_decides, sweep_rule_decides}
 use Rattle.rob_top.specs.Calls.{Call, IsBranching, IsSolving, Known, Output, known_call, limit_of}
 use Rattle.rob_top.specs.Completeness.{IsComplete, MustEnd}
@@ -256,6 +256,8 @@ module _ (call : Call) (known : Known call.source) (ended : Ended) (comes : Come
     whole_rule = λ line m rule breaks.
         comes_ends call (Whole rule) ended comes (breaking_decides call known line m rule breaks ended);
     whole = whole_ends;
+    whole_wide = λ line m names spot has is first.
+        comes_ends call (WideNode [] spot) ended comes (whole_wide_decides call known line m names has is spot first ended);
     whole_empty = whole_empty_ends;
     whole_status = whole_status_ends;
     no_plan = λ line m rule number gives_none.
@@ -275,6 +277,8 @@ module _ (call : Call) (known : Known call.source) (ended : Ended) (comes : Come
         accepted_tree (limit_of line) m names t has.text.shape ended accepted (tree_verdict_ends line m names t has);
     tree_rejected = λ line m names t has not.
         unproved_tree (limit_of line) m names t has.text.shape ended not (tree_verdict_ends line m names t has);
+    tree_judged = λ line m names t has none not.
+        judged_tree (limit_of line) m names t has.text.shape ended none not (tree_verdict_ends line m names t has);
     sweep_rule = λ line m n gs rule has breaks.
         comes_ends call (Sweep rule) ended comes (sweep_rule_decides call known line m n gs has rule breaks ended);
     sweep = sweep_ends;

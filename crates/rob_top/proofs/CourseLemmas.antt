@@ -1,7 +1,8 @@
 -- What an answer comes from, where a model was read.
 use Rattle.std.proofs.Common.{◌≡◌, ℕ, ℤ, List, ◌++◌, Some, None, map, refl, sym, ◌∙◌, ap, subst, inl, inr, ◌⊎◌}
 use Rattle.rob_algebra.specs.Fraction.{Fraction, of_int}
-use Rattle.rob_dualize.specs.Models.{IsWideIn}
+use Rattle.rob_branch.specs.Growth.{IsWrittenUpTo}
+use Rattle.rob_dualize.specs.Models.{IsWideIn, IsWritten}
 use Rattle.rob_cert.specs.Causes.{HasCause}
 use Rattle.rob_cert.specs.Reading.{start}
 use Rattle.rob_cert.specs.Spelling.{naming_of}
@@ -57,11 +58,12 @@ use Rattle.rob_words.specs.declared.verb.Verb.TheVariants as verbs
 -- an empty set; or a number that is wide in a box
 pub data WholeCourse (call : Call) (line : Line) (m : RobustModel) (ended : Ended) : Type 0 where
   breaks : (rule : ℕ) → BreaksWhole call line m rule → ended ≡ Whole rule → WholeCourse call line m ended
-  grows : (names : List ℕ) (status : Status) (v : Fraction) (u : List Fraction) → HasWholeVariables call line m names → Admits m u
-      → HasWholeStatus m names status v → ended ≡ ended_of status → WholeCourse call line m ended
-  shows_none : (names : List ℕ) (weights : List ℤ) → HasWholeVariables call line m names → IsShownEmpty m (map of_int weights)
-      → ended ≡ EmptySet weights → WholeCourse call line m ended
+  grows : (names : List ℕ) (status : Status) (v : Fraction) (u : List Fraction) → HasWholeVariables call line m names
+      → IsWritten (limit_of line) m → Admits m u → HasWholeStatus m names status v → ended ≡ ended_of status → WholeCourse call line m ended
+  shows_none : (names : List ℕ) (weights : List ℤ) → HasWholeVariables call line m names → IsWritten (limit_of line) m
+      → IsShownEmpty m (map of_int weights) → ended ≡ EmptySet weights → WholeCourse call line m ended
   wide_box : (names : List ℕ) (path : List Branch) (spot : Spot) → HasWholeVariables call line m names
+      → IsWrittenUpTo (limit_of line) m (map branch_of path)
       → Visits m names first_search (map branch_of path) → IsWideIn (limit_of line) (box m (map branch_of path)) spot
       → ended ≡ WideNode path spot → WholeCourse call line m ended
 
@@ -140,14 +142,14 @@ module _ (call : Call) where
   pub branched_course : (status : Status) (text : List ℕ) (h : IsBranched call status text) → Course call h.line h.m (ended_of status)
   branched_course status text h =
       let u = grown_admits h.m h.names h.t h.grown in
-      branching h.branches (grows h.names status h.t.value u.0 h.has u.1 h.holds refl)
+      branching h.branches (grows h.names status h.t.value u.0 h.has h.written u.1 h.holds refl)
 
   pub empty_branched_course : (weights : List ℤ) (text : List ℕ) (h : IsEmptyBranched call weights text) → Course call h.line h.m (EmptySet weights)
-  empty_branched_course weights text h = branching h.branches (shows_none h.names weights h.has h.shown refl)
+  empty_branched_course weights text h = branching h.branches (shows_none h.names weights h.has h.written h.shown refl)
 
   pub wide_node_course : (path : List Branch) (spot : Spot) (text : List ℕ) (h : IsWideNode call path spot text)
       → Course call h.line h.m (WideNode path spot)
-  wide_node_course path spot text h = branching h.branches (wide_box h.names path spot h.has h.comes h.wide refl)
+  wide_node_course path spot text h = branching h.branches (wide_box h.names path spot h.has h.written h.comes h.wide refl)
 
   pub no_whole_course : (rule : ℕ) (text : List ℕ) (h : IsNoWhole call rule text) → Course call h.line h.m (Whole rule)
   no_whole_course rule text h = by (breaking_verb call h.line h.m rule h.breaks)

@@ -50,6 +50,8 @@ module _ (call : Call) (known : Known call.source) where
     grown = h.grown;
     shape = h.shape;
     fits = h.fits;
+    written = h.written;
+    boxes = h.boxes;
     printed = h.printed;
   }
 
@@ -217,6 +219,7 @@ module _ (call : Call) (known : Known call.source) where
     names = h.names;
     has = (whole_known call known) h.line h.m h.names h.has;
     branches = h.branches;
+    written = h.written;
     shown = h.shown;
     printed = h.printed;
   })
@@ -236,6 +239,7 @@ module _ (call : Call) (known : Known call.source) where
     has = (whole_known call known) h.line h.m h.names h.has;
     branches = h.branches;
     comes = h.comes;
+    written = h.written;
     wide = h.wide;
     raised = h.raised;
     printed = h.printed;

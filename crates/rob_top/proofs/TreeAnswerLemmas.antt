@@ -1,8 +1,9 @@
 -- Which answer has to come at `checktree`, where what is known of the files decides.
 use Rattle.std.proofs.Common.{◌≡◌, ℕ, List, inl, inr, ◌∙◌, ap, subst, ◌⊎◌}
 use Rattle.rob_branch.proofs.OneSpotLemmas.{at_place, passed_narrow}
-use Rattle.rob_branch.specs.Verdicts.{IsAccepted, IsPassed}
+use Rattle.rob_branch.specs.Verdicts.{IsAccepted, IsPassed, IsWideAt, NoneWide}
 use Rattle.rob_meaning.specs.RobustModel.{RobustModel}
+use Rattle.rob_model.specs.declared.place.Spot.{Spot}
 use Rattle.rob_reach.specs.Ranges.{KeepsBothBounds}
 use Rattle.rob_reach.specs.Trees.{ProvesTree, Tree, leaves}
 use Rattle.rob_tree.proofs.TreeLaws as laws
@@ -176,3 +177,19 @@ module _ (limit : ℕ) (m : RobustModel) (names : List ℕ) (t : Tree) (shape : 
       → NamesFault limit m names t ended ⊎ (NamesWidth limit m names t ended ⊎ IsOutside ended)
   unproved_tree not (inl h) = absurd (not h.0.proves)
   unproved_tree not (inr h) = h
+
+  -- and where no number of the check is wide
+  no_width_told : NoneWide limit m t → NamesWidth limit m names t ended → ⊥
+  no_width_told none h =
+      let wide = h.2 in
+      at_place (λ l. (spot : Spot) → IsWideAt limit l spot → ⊥) (leaves m t.root) wide.number wide.leaf wide.here none h.1 wide.wide
+
+  pub judged_tree : NoneWide limit m t → (ProvesTree m names t → ⊥) → IsTreeAnswer limit m names t ended
+      → NamesFault limit m names t ended ⊎ IsOutside ended
+  judged_tree none not answer = by (unproved_tree not answer)
+    where
+      by : NamesFault limit m names t ended ⊎ (NamesWidth limit m names t ended ⊎ IsOutside ended)
+          → NamesFault limit m names t ended ⊎ IsOutside ended
+      by (inl h) = inl h
+      by (inr (inl h)) = absurd (no_width_told none h)
+      by (inr (inr h)) = inr h

@@ -1,7 +1,9 @@
 -- Which answer has to come at `whole` and `tree`, where what is known of the files decides.
 use Rattle.std.proofs.Common.{◌≡◌, ℕ, pos, List, [], ◌∷◌, map, Some, None, inl, inr, refl, sym, ◌∙◌, ap, subst, ◌⊎◌}
 use Rattle.rob_algebra.specs.Fraction.{Fraction, of_int}
-use Rattle.rob_dualize.specs.Models.{IsWideIn, IsWritten}
+use Rattle.rob_branch.proofs.OneSpotLemmas.{first_once, none_first}
+use Rattle.rob_branch.specs.Growth.{IsWrittenUpTo}
+use Rattle.rob_dualize.specs.Models.{IsWideIn, IsWritten, judged}
 use Rattle.rob_dualize.specs.Solving.{IsWideOnPath}
 use Rattle.rob_meaning.specs.Certificates.{Status, optimal, infeasible, unbounded}
 use Rattle.rob_meaning.specs.RobustModel.{RobustModel}
@@ -15,6 +17,7 @@ use Rattle.rob_reach.specs.Growing.{Visits, start}
 use Rattle.rob_reach.specs.Ranges.{whole_rule}
 use Rattle.rob_reach.specs.WholeStatus.{HasWholeStatus}
 use Rattle.rob_reach_ends.proofs.EndingLemmas.{whole_status}
+use Rattle.rob_sets.specs.FirstWide.{IsFirstWide}
 use Rattle.rob_tree.specs.View.{branch_of}
 use Rattle.rob_tree.specs.declared.tree.Branch as declared
 use Rattle.rob_top.proofs.CommandLemmas.{branches_no_sweep, check_no_branch, makes_no_branch, narrow_no_branch, replay_no_branch, rows_no_branch, solves_no_branch, tree_no_branch, worst_no_branch}
@@ -124,9 +127,9 @@ module _ (call : Call) (known : Known call.source) (line : Line) (m : RobustMode
     where
       by : WholeCourse call line m ended → ended ≡ Whole rule
       by (breaks other h e) = e ∙ ap (λ r. Whole r) (one_rule other rule h broken)
-      by (grows names status v u has admitted holds e) = absurd (no_break rule names broken has)
-      by (shows_none names weights has shown e) = absurd (no_break rule names broken has)
-      by (wide_box names path spot has comes wide e) = absurd (no_break rule names broken has)
+      by (grows names status v u has written admitted holds e) = absurd (no_break rule names broken has)
+      by (shows_none names weights has written shown e) = absurd (no_break rule names broken has)
+      by (wide_box names path spot has written comes wide e) = absurd (no_break rule names broken has)
 
   module _ (names : List ℕ) (has : HasWholeVariables call line m names) (is : IsBranching line.verb) where
     -- ---- none is broken
@@ -143,11 +146,11 @@ module _ (call : Call) (known : Known call.source) (line : Line) (m : RobustMode
       where
         by : WholeCourse call line m ended → IsWholeAnswer (limit_of line) m names ended
         by (breaks rule h e) = absurd (no_break rule names h has)
-        by (grows others status v u other admitted holds e) =
+        by (grows others status v u other written admitted holds e) =
             answer_is ended (ended_of status) e
             (status_answer status v (subst (λ (ns : List ℕ). HasWholeStatus m ns status v) (whole_once others names other has) holds))
-        by (shows_none others weights other shown e) = answer_is ended (EmptySet weights) e shown.empty
-        by (wide_box others path spot other comes wide e) =
+        by (shows_none others weights other written shown e) = answer_is ended (EmptySet weights) e shown.empty
+        by (wide_box others path spot other written comes wide e) =
             answer_is ended (WideNode path spot) e
             (subst (λ (ns : List ℕ). Visits m ns start (map branch_of path)) (whole_once others names other has) comes, wide)
 
@@ -155,6 +158,26 @@ module _ (call : Call) (known : Known call.source) (line : Line) (m : RobustMode
         all (inl course) = by course
         all (inr (inl e)) = answer_is ended ReadFault e (inl refl)
         all (inr (inr e)) = answer_is ended Memory e (inr (inr refl))
+
+    -- ---- a number of the set rows and forms is wide
+    pub whole_wide_decides : (spot : Spot) → IsFirstWide (limit_of line) m (judged m) spot → (ended : Ended) (text : List ℕ)
+        → Means call ended text → (ended ≡ WideNode [] spot) ⊎ ((ended ≡ ReadFault) ⊎ (ended ≡ Memory))
+    whole_wide_decides spot first ended text means = first_of_two by (whole_course has.named.model is ended text means)
+      where
+        unwritten : IsWritten (limit_of line) m → ⊥
+        unwritten written = none_first (limit_of line) m (judged m) spot written first
+
+        at_root : (path : List declared.Branch) (other : Spot) → IsWrittenUpTo (limit_of line) m (map branch_of path)
+            → IsWideIn (limit_of line) (box m (map branch_of path)) other → WideNode path other ≡ WideNode [] spot
+        at_root [] other written (inl h) = ap (λ (s : Spot). WideNode [] s) (first_once (limit_of line) m (judged m) other spot h first)
+        at_root [] other written (inr h) = absurd (unwritten h.0)
+        at_root (b ∷ path) other written wide = absurd (unwritten written.0)
+
+        by : WholeCourse call line m ended → ended ≡ WideNode [] spot
+        by (breaks rule h e) = absurd (no_break rule names h has)
+        by (grows others status v u other written admitted holds e) = absurd (unwritten written)
+        by (shows_none others weights other written shown e) = absurd (unwritten written)
+        by (wide_box others path found other written comes wide e) = e ∙ at_root path found written wide
 
     -- ---- no scenario is admitted
     empty_is : (ended other : Ended) → ended ≡ other → IsEmptyWholeAnswer (limit_of line) m other → IsEmptyWholeAnswer (limit_of line) m ended
@@ -188,9 +211,9 @@ module _ (call : Call) (known : Known call.source) (line : Line) (m : RobustMode
       where
         by : WholeCourse call line m ended → IsEmptyWholeAnswer (limit_of line) m ended
         by (breaks rule h e) = absurd (no_break rule names h has)
-        by (grows others status v u other admitted holds e) = absurd (none u admitted)
-        by (shows_none others weights other shown e) = empty_is ended (EmptySet weights) e shown
-        by (wide_box others path spot other comes wide e) = empty_is ended (WideNode path spot) e (empty_box none others path spot comes wide)
+        by (grows others status v u other written admitted holds e) = absurd (none u admitted)
+        by (shows_none others weights other written shown e) = empty_is ended (EmptySet weights) e shown
+        by (wide_box others path spot other written comes wide e) = empty_is ended (WideNode path spot) e (empty_box none others path spot comes wide)
 
         all : WholeCourse call line m ended ⊎ ((ended ≡ ReadFault) ⊎ (ended ≡ Memory)) → IsEmptyWholeAnswer (limit_of line) m ended
         all (inl course) = by course
@@ -206,11 +229,11 @@ module _ (call : Call) (known : Known call.source) (line : Line) (m : RobustMode
       where
         by : WholeCourse call line m ended → ended ≡ ended_of status
         by (breaks rule h e) = absurd (no_break rule names h has)
-        by (grows others other w inner same inside holds e) =
+        by (grows others other w inner same written inside holds e) =
             e ∙ ap ended_of (same_whole_status m names other status w v
             (subst (λ (ns : List ℕ). HasWholeStatus m ns other w) (whole_once others names same has) holds) true_of)
-        by (shows_none others weights other shown e) = absurd (shown.empty u admitted)
-        by (wide_box others path spot other comes wide e) =
+        by (shows_none others weights other written shown e) = absurd (shown.empty u admitted)
+        by (wide_box others path spot other written comes wide e) =
             absurd (narrow (map branch_of path) spot
             (subst (λ (ns : List ℕ). Visits m ns start (map branch_of path)) (whole_once others names other has) comes) wide)
 

@@ -2,7 +2,8 @@
 use Rattle.std.specs.Fmt.{decimal}
 use Rattle.std.specs.Prelude.{◌≡◌, ◌++◌, ℕ, ℤ, List, Some, codes, map}
 use Rattle.rob_algebra.specs.Fraction.{of_int}
-use Rattle.rob_dualize.specs.Models.{IsWideIn}
+use Rattle.rob_branch.specs.Growth.{AreBoxesWritten, IsWrittenUpTo}
+use Rattle.rob_dualize.specs.Models.{IsWideIn, IsWritten}
 use Rattle.rob_dualize.specs.Solving.{IsShownEmpty}
 use Rattle.rob_meaning.specs.Certificates.{Certificate, Status, infeasible}
 use Rattle.rob_meaning.specs.RobustModel.{RobustModel}
@@ -61,7 +62,8 @@ IsPrintedTree _ m names t text = ⊥
 module _ (call : Call) where
   -- the model has the status over plans whose named variables are whole: it has grown into a tree that proves it, and
   -- that is printed, or the plan of one of its leaves. The tree has its shape, and its numbers
-  -- fit the line's width, so that what `tree` prints is the text of that tree, and of no other whose numbers fit
+  -- fit the line's width, so that what `tree` prints is the text of that tree, and of no other whose numbers fit. No
+  -- number of the model's set rows and forms is wide, nor of those of the boxes in the tree, open leaves aside
   pub record IsBranched (status : Status) (text : List ℕ) : Type 0 where
     pub line : Line
     pub m : RobustModel
@@ -75,6 +77,8 @@ module _ (call : Call) where
     pub grown : IsGrown m names t
     pub shape : HasTreeShape (limit_of line) m names t
     pub fits : TreeFits (limit_of line) m t
+    pub written : IsWritten (limit_of line) m
+    pub boxes : AreBoxesWritten (limit_of line) m t.root
     pub printed : IsPrintedTree line.verb m names t text
 
   -- ---- refusals
@@ -94,18 +98,19 @@ module _ (call : Call) where
     pub breaks : BreaksWhole line m rule
     pub printed : text ≡ whole_text rule
 
-  -- no joint scenario is admitted, as the weights show
+  -- no number of the set rows and forms is wide, and no joint scenario is admitted, as the weights show
   pub record IsEmptyBranched (weights : List ℤ) (text : List ℕ) : Type 0 where
     pub line : Line
     pub m : RobustModel
     pub names : List ℕ
     pub has : HasWholeVariables call line m names
     pub branches : IsBranching line.verb
+    pub written : IsWritten (limit_of line) m
     pub shown : IsShownEmpty m (map of_int weights)
     pub printed : text ≡ empty_set_lines m weights
 
-  -- a number is wide in the box behind the path, to which the search for a tree comes; and the ledger has counted it in
-  -- this call
+  -- a number is wide in the box behind the path, to which a search for a tree comes, and none of the set rows and forms
+  -- of the boxes on the way there is; and the ledger has counted it in this call
   pub record IsWideNode (path : List Branch) (spot : Spot) (text : List ℕ) : Type 0 where
     pub line : Line
     pub m : RobustModel
@@ -113,6 +118,7 @@ module _ (call : Call) where
     pub has : HasWholeVariables call line m names
     pub branches : IsBranching line.verb
     pub comes : Visits m names start (map branch_of path)
+    pub written : IsWrittenUpTo (limit_of line) m (map branch_of path)
     pub wide : IsWideIn (limit_of line) (box m (map branch_of path)) spot
     pub raised : WasRaised call.wides
     pub printed : text ≡ wide_node_text m path spot

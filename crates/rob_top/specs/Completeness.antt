@@ -1,8 +1,8 @@
 -- Which answer has to come. The words and the files decide it, and a number that is wide is named; a fault of the outside and
 -- want of memory may come in its place, which say nothing of the model.
-use Rattle.std.specs.Prelude.{◌≡◌, ◌⊎◌, ◌++◌, ℕ, List}
+use Rattle.std.specs.Prelude.{◌≡◌, ◌⊎◌, ◌++◌, ℕ, List, []}
 use Rattle.rob_algebra.specs.Fraction.{Fraction}
-use Rattle.rob_branch.specs.Verdicts.{IsAccepted}
+use Rattle.rob_branch.specs.Verdicts.{IsAccepted, NoneWide as NoneWideInTree}
 use Rattle.rob_cert.specs.Causes.{HasCause}
 use Rattle.rob_cert.specs.Reading.{start}
 use Rattle.rob_cert.specs.Spelling.{naming_of}
@@ -39,7 +39,7 @@ use Rattle.rob_top.specs.TreeChecked.{HasTree, HasTreeFile}
 use Rattle.rob_top.specs.Swept.{HasLimit, HasSweep}
 use Rattle.rob_top.specs.Work.{ended_of, verdict_ended}
 use Rattle.rob_top.specs.declared.ended.Ended.{Ended}
-use Rattle.rob_top.specs.declared.ended.Ended.TheVariants.{Printed, Accepted, Rejected, Words, Missing, TooLong, Model, TooWide, Cert, Whole, Sweep, Tree as TreeRule, NoRow}
+use Rattle.rob_top.specs.declared.ended.Ended.TheVariants.{Printed, Accepted, Rejected, Words, Missing, TooLong, Model, TooWide, WideNode, Cert, Whole, Sweep, Tree as TreeRule, NoRow}
 use Rattle.rob_words.specs.Commands.{Line, IsCommandLine, IsSpelled}
 use Rattle.rob_words.specs.Values.{Word}
 use Rattle.rob_words.specs.declared.verb.Own.TheVariants as own
@@ -118,6 +118,10 @@ module _ (call : Call) (result : Ended) where
     -- number that is wide in a box
     pub whole : (line : Line) (m : RobustModel) (names : List ℕ) → HasWholeVariables call line m names → IsBranching line.verb
         → IsWholeAnswer (limit_of line) m names result
+    -- a number of the set rows and forms is wide, so the first such number is named, with the empty path
+    pub whole_wide : (line : Line) (m : RobustModel) (names : List ℕ) (spot : Spot) → HasWholeVariables call line m names
+        → IsBranching line.verb → IsFirstWide (limit_of line) m (judged_set m ++ judged_forms m) spot
+        → EndsAs (WideNode [] spot) result
     -- no joint scenario is admitted, so it is that, with the weights that show it, or a wide number of the set rows and forms, or of the
     -- set's program
     pub whole_empty : (line : Line) (m : RobustModel) (names : List ℕ) → HasWholeVariables call line m names
@@ -158,6 +162,10 @@ module _ (call : Call) (result : Ended) where
     pub tree_rejected : (line : Line) (m : RobustModel) (names : List ℕ) (t : Tree) → HasTree call line m names t
         → (ProvesTree m names t → ⊥)
         → NamesFault (limit_of line) m names t result ⊎ (NamesWidth (limit_of line) m names t result ⊎ IsOutside result)
+    -- it doesn't prove, and no number of the check is wide, so it is rejected, at the first condition of a leaf that fails
+    pub tree_judged : (line : Line) (m : RobustModel) (names : List ℕ) (t : Tree) → HasTree call line m names t
+        → NoneWideInTree (limit_of line) m t → (ProvesTree m names t → ⊥)
+        → NamesFault (limit_of line) m names t result ⊎ IsOutside result
     -- `sweep`: the statement is no budget, or the limits don't rise, so the first broken rule is named
     pub sweep_rule : (line : Line) (m : RobustModel) (n : ℕ) (limits : List Fraction) (rule : ℕ) → HasSweep call line m n limits
         → BreaksRule m.set_lines n limits rule → EndsAs (Sweep rule) result

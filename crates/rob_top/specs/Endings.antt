@@ -73,7 +73,7 @@ IsProvedAnswer limit m c (TooWide (Check place)) = verdict_of limit m c ≡ verd
 IsProvedAnswer limit m c ended = IsOutside ended
 
 -- an answer of `whole` and `tree`: a status that the model has over plans whose named variables are whole; or an empty
--- set; or a number that is wide in the box behind a path of branches, to which the search for a tree comes. No other is
+-- set; or a number that is wide in the box behind a path of branches, to which a search for a tree comes. No other is
 abbrev pub IsWholeAnswer : ℕ → RobustModel → List ℕ → Ended → Type 0
 IsWholeAnswer limit m names Optimal = (v : Fraction) × HasWholeStatus m names optimal v
 IsWholeAnswer limit m names Infeasible = (v : Fraction) × HasWholeStatus m names infeasible v

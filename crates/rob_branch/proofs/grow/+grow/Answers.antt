@@ -30,7 +30,7 @@ pub grow-grow_from-requires : goal.grow-grow_from-requires
 grow-grow_from-requires g t c κs within =
     let r = c.requires in
     let s = c.in-Ok.ensures.solved in
-    (omega (arith, c.decreases), (within.0, (within.1, (r.valid, (r.bounded, (r.room, (search rules, (s.proves, s.shape))))))))
+    (omega (arith, c.decreases), (within.0, (within.1, (r.valid, (r.bounded, (r.room, (search rules, (s.proves, (s.shape, c.in-Ok.ensures.written)))))))))
 
 pub grow-returns-in-Err-clause-cause : goal.grow-returns-in-Err-clause-cause
 grow-returns-in-Err-clause-cause g t c =
@@ -68,7 +68,7 @@ grow_from-grow_branch-requires g t c κs within =
     let asked : (c : Certificate) × Decides m names before c (branches column (to_z w64 (of_z w64 k))) = (cert, subst (λ z. Decides m names before cert (branches column z)) (sym same) decided) in
     let fits : (nat_abs (to_z w64 (of_z w64 k)) ≤ limit) × (to_z w64 (of_z w64 k) ≢ pos limit) = subst (λ z. (nat_abs z ≤ limit) × (z ≢ pos limit)) (sym same) c.in-Branches.ensures.within in
     let r = c.requires in
-    (omega (arith, c.decreases), (within.0, (within.1, (r.valid, (r.bounded, (r.room, (asked, fits)))))))
+    (omega (arith, c.decreases), (within.0, (within.1, (r.valid, (r.bounded, (r.room, (asked, (fits, r.written))))))))
 
 -- ---- a branch
 pub grow_branch-branch_below-at_most-requires : goal.grow_branch-branch_below-at_most-requires
@@ -126,7 +126,7 @@ grow_branch-returns-in-Ok-grow_side-clause-grown g t c =
     column k c.requires.decides.1 c.requires.within c.requires.valid.well_formed c.requires.bounded c.requires.room
     below above c.in-Ok.below c.in-Ok-grow_side.above c.joined.result (to_z w64 (of_z w64 k))
     (below_read column k below small c.branch_below-at_most.ensures.branch)
-    (above_read column k above small c.branch_above-at_least.ensures.branch) (seen k small)
+    (above_read column k above small c.branch_above-at_least.ensures.branch) (seen k small) c.requires.written
     c.in-Ok.ensures.grown c.in-Ok-grow_side.ensures.grown c.joined.ensures.joined
 
 pub grow_branch-returns-in-Err-clause-cause : goal.grow_branch-returns-in-Err-clause-cause
@@ -138,7 +138,7 @@ grow_branch-returns-in-Err-clause-cause g t c =
     let below = branch_of c.branch_below-at_most.result in
     let small : nat_abs k < 2 ^ 62 = omega (arith, c.requires.within.0, g.met.N.Exact.limit_high) in
     cause_below g.N.Exact.limit m c.args.area.names.now (search_of value c.args.before) (map branch_of c.args.area.path.now) c.requires.decides.0
-    column k c.requires.decides.1 below c.in-Err.stop (below_read column k below small c.branch_below-at_most.ensures.branch)
+    column k c.requires.decides.1 c.requires.written below c.in-Err.stop (below_read column k below small c.branch_below-at_most.ensures.branch)
     c.in-Err.ensures.cause
 
 pub grow_branch-returns-in-Err-grow_side-clause-cause : goal.grow_branch-returns-in-Err-grow_side-clause-cause
@@ -151,7 +151,7 @@ grow_branch-returns-in-Err-grow_side-clause-cause g t c =
     let above = branch_of c.branch_above-at_least.result in
     let small : nat_abs k < 2 ^ 62 = omega (arith, c.requires.within.0, g.met.N.Exact.limit_high) in
     cause_above g.N.Exact.limit m c.args.area.names.now (search_of value c.args.before) (map branch_of c.args.area.path.now) c.requires.decides.0
-    column k c.requires.decides.1 below above c.in-Err-grow_side.stop (node_of value c.in-Ok.below.node) (search_of value c.in-Ok.below.after)
+    column k c.requires.decides.1 c.requires.written below above c.in-Err-grow_side.stop (node_of value c.in-Ok.below.node) (search_of value c.in-Ok.below.after)
     (below_read column k below small c.branch_below-at_most.ensures.branch)
     (above_read column k above small c.branch_above-at_least.ensures.branch) c.in-Ok.ensures.grown.grows c.in-Err-grow_side.ensures.cause
 

@@ -6,7 +6,7 @@ use Rattle.rob_reach.specs.Growing as growing
 use Rattle.rob_tree.proofs.FitLemmas.{tree_fits}
 use Rattle.rob_tree.specs.View.{node_of, tree_of}
 use Rattle.rob_branch.proofs.GrowSteps.{cause_at_root, cause_of_root}
-use Rattle.rob_branch.proofs.GrownTreeLemmas.{tree_grown, tree_shaped}
+use Rattle.rob_branch.proofs.GrownTreeLemmas.{tree_grown, tree_shaped, tree_written}
 use Rattle.rob_branch.specs.Growth.{HasCauseBehind}
 use Rattle.rob_branch.specs.View.{search_of}
 use Rattle.rob_branch.proofs.grow.grow_root.Goals as goal
@@ -28,6 +28,9 @@ grow_from-requires-clause-proves g c = c.in-Ok.ensures.solved.proves
 
 pub grow_from-requires-clause-shape : goal.grow_from-requires-clause-shape
 grow_from-requires-clause-shape g c = c.in-Ok.ensures.solved.shape
+
+pub grow_from-requires-clause-written : goal.grow_from-requires-clause-written
+grow_from-requires-clause-written g c = c.in-Ok.ensures.written
 
 -- ---- why no tree grows
 pub returns-in-Err-clause-cause : goal.returns-in-Err-clause-cause
@@ -84,3 +87,10 @@ returns-in-Ok-grow_from-clause-fits g c =
     tree_fits value g.N.Exact.limit g.met.N.Exact.fits m c.args.names.now c.tree_by.result
     (tree_shaped g.N.Exact.limit m c.args.names.now (tree_of value c.tree_by.result) (search_of value grown.after) (node_of value grown.node)
     c.tree_by.ensures.tree c.requires.valid.well_formed c.requires.kept grows known.shaped known.numbers)
+
+pub returns-in-Ok-grow_from-clause-boxes : goal.returns-in-Ok-grow_from-clause-boxes
+returns-in-Ok-grow_from-clause-boxes g c =
+    let value = g.N.Exact.value in
+    let grown = c.in-Ok-grow_from.grown in
+    tree_written g.N.Exact.limit (robust value c.args.model.now) c.args.names.now (tree_of value c.tree_by.result) (search_of value grown.after)
+    (node_of value grown.node) c.tree_by.ensures.tree c.in-Ok-grow_from.ensures.grown.written

@@ -18,7 +18,8 @@ returns-in-Ok-clause-answers g c =
     tree_answers g.N.Exact.limit (robust g.N.Exact.value c.args.model.now) c.args.verb c.args.numbers.now c.requires.branches _
     (tree_of g.N.Exact.value c.in-Ok.tree) c.grown.result
     (grown_keeps (robust g.N.Exact.value c.args.model.now) c.args.numbers.now c.grow_tree.result c.in-Ok.tree c.in-Ok.is c.grow_tree.ensures.rule)
-    c.in-Ok.ensures.grown c.in-Ok.ensures.true_of c.in-Ok.ensures.shape c.in-Ok.ensures.fits c.grown.ensures.status c.grown.ensures.printed
+    c.in-Ok.ensures.grown c.in-Ok.ensures.true_of c.in-Ok.ensures.shape c.in-Ok.ensures.fits c.in-Ok.ensures.written c.in-Ok.ensures.boxes
+    c.grown.ensures.status c.grown.ensures.printed
 
 pub ungrown-requires-clause-named : goal.ungrown-requires-clause-named
 ungrown-requires-clause-named g c =
