@@ -21,6 +21,7 @@ use Rattle.rob_model.specs.declared.place.Place.{Place}
 use Rattle.rob_algebra.specs.Fraction.{Fraction}
 use Rattle.rob_reach.specs.Trees.{Tree}
 use Rattle.rob_reach.specs.WholeStatus.{HasWholeStatus}
+use Rattle.rob_runs.specs.Spots.{IsWideSlack}
 use Rattle.rob_sweep.specs.Stops.{KeepsRules}
 use Rattle.rob_top.proofs.AnswerLemmas.{no_command}
 use Rattle.rob_top.proofs.KnownInputs.{known_again}
@@ -32,12 +33,12 @@ use Rattle.rob_top.proofs.ReplayAnswerLemmas.{planless_decides, replay_decides}
 use Rattle.rob_top.proofs.StageLemmas.{broken_answer}
 use Rattle.rob_top.proofs.TrueAnswerLemmas.{empty_decides, missing_decides, rows_decide, rule_decides, solve_decides, status_decides, too_long_decides, verdict_decides, well, wide_decides}
 use Rattle.rob_top.proofs.WholeAnswerLemmas.{some_whole_status, whole_decides, whole_empty_decides, whole_status_decides, whole_wide_decides}
-use Rattle.rob_top.proofs.WorstAnswerLemmas.{unnamed_decides, unplanned_decides, worst_decides, worst_empty_decides, worst_printed_decides}
+use Rattle.rob_top.proofs.WorstAnswerLemmas.{unnamed_decides, unplanned_decides, worst_decides, worst_empty_decides, worst_printed_decides, worst_slack_decides}
 use Rattle.rob_top.proofs.TreeAnswerLemmas.{accepted_tree, breaking_decides, judged_tree, proved_tree, tree_broken_decides, tree_verdict_decides, unproved_tree}
 use Rattle.rob_top.proofs.SweepAnswerLemmas.{limit_decides, limit_rule_decides, narrow_sweep_decides, sweep_decides, sweep_rule_decides}
 use Rattle.rob_top.specs.Calls.{Call, IsBranching, IsSolving, Known, Output, known_call, limit_of}
 use Rattle.rob_top.specs.Completeness.{IsComplete, MustEnd}
-use Rattle.rob_top.specs.Endings.{EndsAs, IsEmptyAnswer, IsEmptyWholeAnswer, IsNarrowBelow, IsOutside, IsProvedAnswer, IsSolveAnswer, IsSweepAnswer, IsTreeAnswer, IsUnput, IsWholeAnswer, IsWorstAnswer}
+use Rattle.rob_top.specs.Endings.{EndsAs, IsEmptyAnswer, IsEmptyWholeAnswer, IsNarrowBelow, IsOutside, IsProvedAnswer, IsSolveAnswer, IsSweepAnswer, IsTreeAnswer, IsUnput, IsWholeAnswer, IsWorstAnswer, NamesWideSought}
 use Rattle.rob_top.specs.Headline.{Ends, Means}
 use Rattle.rob_top.specs.Inputs.{HasCertificate, HasCertificateFile, HasForms, HasSought, HasWholeVariables}
 use Rattle.rob_top.specs.Replayed.{replay_ended}
@@ -174,6 +175,14 @@ module _ (call : Call) (known : Known call.source) (ended : Ended) (comes : Come
           by (inr (inl e)) = subst (λ (x : Ended). IsEmptyAnswer (limit_of line) m x) (sym e) (inr (inl refl))
           by (inr (inr e)) = subst (λ (x : Ended). IsEmptyAnswer (limit_of line) m x) (sym e) (inr (inr refl))
 
+      worst_slack_ends : IsWideSlack (limit_of line) m form (certificate_vector c)
+          → NamesWideSought (limit_of line) m form (certificate_vector c) ended
+      worst_slack_ends wide = by comes
+        where
+          by : Comes call ended → NamesWideSought (limit_of line) m form (certificate_vector c) ended
+          by (inl h) = worst_slack_decides call known line m c form has wide ended h.0 h.1
+          by (inr e) = inr (inr e)
+
     whole_status_ends : (names : List ℕ) (u : List Fraction) → HasWholeVariables call line m names → IsBranching line.verb → Admits m u
         → IsNarrowBelow (limit_of line) m names
         → (status : Status) × (v : Fraction) × HasWholeStatus m names status v × EndsAs (ended_of status) ended
@@ -267,6 +276,7 @@ module _ (call : Call) (known : Known call.source) (ended : Ended) (comes : Come
     worst_empty = worst_empty_ends;
     worst_printed = λ line m c form u has admitted narrow.
         comes_ends call Printed ended comes (worst_printed_decides call known line m c form has u admitted narrow ended);
+    worst_slack = worst_slack_ends;
     tree_broken = λ line m names bytes rule number has breaks.
         comes_ends call (TreeRule rule number) ended comes
         (tree_broken_decides call known line m names bytes has rule number breaks ended);

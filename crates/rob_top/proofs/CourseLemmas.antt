@@ -72,8 +72,8 @@ pub data WholeCourse (call : Call) (line : Line) (m : RobustModel) (ended : Ende
 pub data WorstCourse (call : Call) (line : Line) (m : RobustModel) (ended : Ended) : Type 0 where
   plans_none : (rule number : ℕ) → GivesNoPlan call line m rule number → ended ≡ Cert rule number → WorstCourse call line m ended
   names_none : (c : Certificate) (name : Word) → NamesNoForm call line m c name → ended ≡ NoRow → WorstCourse call line m ended
-  shows_worst : (c : Certificate) (form : ℕ) → HasSought call line m c form → HasScenario m → ended ≡ Printed
-      → WorstCourse call line m ended
+  shows_worst : (c : Certificate) (form : ℕ) (text : List ℕ) → HasSought call line m c form
+      → ShowsWorst (limit_of line) m form (certificate_vector c) text → ended ≡ Printed → WorstCourse call line m ended
   admits_none : (c : Certificate) (form : ℕ) (weights : List ℤ) → HasSought call line m c form
       → IsShownEmpty m (map of_int weights) → ended ≡ EmptySet weights → WorstCourse call line m ended
   wide_search : (c : Certificate) (form : ℕ) (spot : Spot) → HasSought call line m c form
@@ -116,7 +116,7 @@ pub data Course (call : Call) (line : Line) (m : RobustModel) (ended : Ended) : 
 pub worst_forms : (call : Call) (line : Line) (m : RobustModel) (ended : Ended) → WorstCourse call line m ended → HasForms call line m
 worst_forms call line m ended (plans_none rule number h e) = forms_unplanned call line m rule number h
 worst_forms call line m ended (names_none c name h e) = forms_unnamed call line m c name h
-worst_forms call line m ended (shows_worst c form h some e) = forms_sought call line m c form h
+worst_forms call line m ended (shows_worst c form text h shows e) = forms_sought call line m c form h
 worst_forms call line m ended (admits_none c form weights h shown e) = forms_sought call line m c form h
 worst_forms call line m ended (wide_search c form spot h wide e) = forms_sought call line m c form h
 
@@ -235,15 +235,10 @@ module _ (call : Call) where
   pub lacking_course : (rule number : ℕ) (text : List ℕ) (h : IsNoPlan call rule number text) → Course call h.line h.m (Cert rule number)
   lacking_course rule number text h = lacks_plan rule number h.lacks refl
 
-  scenario_shown : (m : RobustModel) (form : ℕ) (z : List Fraction) (text : List ℕ) → ShowsWorst m form z text → HasScenario m
-  scenario_shown m form z text (attained basis scenario amounts slack found is shown) = (scenario, is.admitted)
-  scenario_shown m form z text (endless basis column ray found is shown) =
-      let u = is.no_greatest 0ℚ in (u.0, u.1)
-
   pub searched_course : (text : List ℕ) (h : IsSearched call text) → Course call h.line h.m Printed
   searched_course text h =
       searches h.has.plan.certificate.file.is_worst
-      (shows_worst h.c h.form h.has (scenario_shown h.m h.form (certificate_vector h.c) text h.shows) refl)
+      (shows_worst h.c h.form text h.has h.shows refl)
 
   pub empty_sought_course : (weights : List ℤ) (text : List ℕ) (h : IsEmptySought call weights text) → Course call h.line h.m (EmptySet weights)
   empty_sought_course weights text h =

@@ -99,6 +99,7 @@ module _ (call : Call) (known : Known call.source) where
     swept = h.swept;
     empty = h.empty;
     harder = h.harder;
+    fits = h.fits;
     printed = h.printed;
   })
   swept_known text (inr h) = inr (record {
@@ -205,12 +206,7 @@ module _ (call : Call) (known : Known call.source) where
     m = h.m;
     forms = (forms_known call known) h.line h.m h.forms;
     solves = h.solves;
-    none_admitted = h.none_admitted;
     shown = h.shown;
-    set = h.set;
-    is_set = h.is_set;
-    own = h.own;
-    none_in_set = h.none_in_set;
     printed = h.printed;
   })
   means_known (EmptySet weights) text (while_branching h) = while_branching (record {

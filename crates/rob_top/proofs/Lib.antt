@@ -25,6 +25,7 @@ pub mod SearchStops
 pub mod TrueAnswerLemmas
 pub mod ReplayAnswerLemmas
 pub mod ProvedReplays
+pub mod ProvedWorsts
 pub mod OneTable
 pub mod GeneratedLemmas
 pub mod NumberingLemmas
@@ -62,4 +63,6 @@ pub mod WorkedReplays
 pub mod WorkedWorsts
 pub mod WorkedNumbers
 pub mod WorkedNarrows
+pub mod WorkedNarrowSolves
+pub mod WorkedEmptyWholes
 pub mod GeneratedTexts

@@ -6,7 +6,7 @@ use Rattle.rob_elab.specs.Forms.{judged_forms}
 use Rattle.rob_algebra.specs.Fraction.{Fraction}
 use Rattle.rob_meaning.specs.Certificates.{Status}
 use Rattle.rob_meaning.specs.Proves.{HasStatus}
-use Rattle.rob_meaning.specs.UncertaintySet.{Admits}
+use Rattle.rob_meaning.specs.UncertaintySet.{Admits, IsEmptySet}
 use Rattle.rob_model.specs.declared.place.Spot.{Spot}
 use Rattle.rob_meaning.specs.RobustModel.{RobustModel}
 use Rattle.rob_report.specs.NarrowText.{narrow_line}
@@ -14,7 +14,7 @@ use Rattle.rob_sets.specs.FirstWide.{NothingWide}
 use Rattle.rob_sets.specs.SetForm.{judged_set}
 use Rattle.rob_top.specs.Calls.{Call, IsSolving, Known, known_call, limit_of}
 use Rattle.rob_top.specs.Completeness.{MustEnd}
-use Rattle.rob_top.specs.Endings.{EndsAs}
+use Rattle.rob_top.specs.Endings.{EndsAs, IsShownAnswer}
 use Rattle.rob_top.specs.Inputs.{HasForms, HasModel}
 use Rattle.rob_top.specs.Narrowed.{IsNarrowed, TellsNarrow, program_line}
 use Rattle.rob_top.specs.Work.{ended_of}
@@ -92,4 +92,13 @@ pub narrow_has_status : (narrowing : Call) (text : List ℕ) (narrowed : IsNarro
     → Admits narrowed.m u → (status : Status) × (v : Fraction) × HasStatus narrowed.m status v × EndsAs (ended_of status) ended
 narrow_has_status narrowing text narrowed front says solving known line width solves has ended must u =
     must.narrow_status line narrowed.m u (forms_again narrowing text narrowed front says (known_call solving known) line width has) solves
+    (narrow_again narrowing text narrowed front says line width)
+
+-- where none is, that the set is empty
+pub narrow_shows_empty : (narrowing : Call) (text : List ℕ) (narrowed : IsNarrowed narrowing text) (front : List ℕ) → text ≡ front ++ narrow_line true
+    → (solving : Call) (known : Known solving.source) (line : Line) → line.width ≡ narrowed.line.width → IsSolving line.verb
+    → HasModel (known_call solving known) line narrowed.m → (ended : Ended) → MustEnd (known_call solving known) ended
+    → IsEmptySet narrowed.m → IsShownAnswer narrowed.m ended
+narrow_shows_empty narrowing text narrowed front says solving known line width solves has ended must =
+    must.narrow_empty line narrowed.m (forms_again narrowing text narrowed front says (known_call solving known) line width has) solves
     (narrow_again narrowing text narrowed front says line width)

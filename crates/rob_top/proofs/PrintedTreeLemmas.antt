@@ -1,7 +1,8 @@
 -- The text that `tree` printed is that of its tree, at each line of the same width; so `checktree` accepts it.
-use Rattle.std.proofs.Common.{◌≡◌, ◌⊎◌, ℕ, ◌-◌, ◌^◌, List, subst, sym}
-use Rattle.rob_meaning.specs.Certificates.{Status}
+use Rattle.std.proofs.Common.{◌≡◌, ◌⊎◌, ℕ, ◌-◌, ◌^◌, List, ◌∙◌, subst, sym}
+use Rattle.rob_meaning.specs.Certificates.{Status, optimal}
 use Rattle.rob_meaning.specs.RobustModel.{RobustModel}
+use Rattle.rob_reach.proofs.StatusLemmas.{one_optimum}
 use Rattle.rob_reach.specs.WholeStatus.{HasWholeStatus}
 use Rattle.rob_tree.specs.Reading.{TreeFits}
 use Rattle.rob_tree.specs.Shape.{HasTreeShape}
@@ -37,11 +38,22 @@ module _ (growing checking : Call) (known : Known checking.source) (status : Sta
       → MustEnd (known_call checking known) ended → EndsAs Accepted ended ⊎ NamesWidth (limit_of line) b.m b.names b.t ended
   grown_then_checked is file ended must = must.tree_proved line b.m b.names b.t (printed_tree is file) b.proves
 
--- a tree that is accepted claims the status that a tree has grown for
+-- a tree that is accepted claims the status that a tree has grown for, and the value of an optimum
 pub accepted_status : (growing checking : Call) (status : Status) (text shown : List ℕ) (b : IsBranched growing status text)
-    (a : IsTreeAccepted checking shown) → a.m ≡ b.m → a.names ≡ b.names → a.t.status ≡ status
-accepted_status growing checking status text shown b a same alike =
-    same_whole_status b.m b.names a.t.status status a.t.value b.t.value
-    (subst (λ (m : RobustModel). HasWholeStatus m b.names a.t.status a.t.value) same
-    (subst (λ (names : List ℕ). HasWholeStatus a.m names a.t.status a.t.value) alike a.holds))
-    b.holds
+    (a : IsTreeAccepted checking shown) → a.m ≡ b.m → a.names ≡ b.names
+    → (a.t.status ≡ status) × (status ≡ optimal → a.t.value ≡ b.t.value)
+accepted_status growing checking status text shown b a same alike = (one, value)
+  where
+    here : HasWholeStatus b.m b.names a.t.status a.t.value
+    here =
+        subst (λ (m : RobustModel). HasWholeStatus m b.names a.t.status a.t.value) same
+        (subst (λ (names : List ℕ). HasWholeStatus a.m names a.t.status a.t.value) alike a.holds)
+
+    one : a.t.status ≡ status
+    one = same_whole_status b.m b.names a.t.status status a.t.value b.t.value here b.holds
+
+    value : status ≡ optimal → a.t.value ≡ b.t.value
+    value is =
+        one_optimum b.m b.names a.t.value b.t.value
+        (subst (λ (s : Status). HasWholeStatus b.m b.names s a.t.value) (one ∙ is) here)
+        (subst (λ (s : Status). HasWholeStatus b.m b.names s b.t.value) is b.holds)

@@ -3,6 +3,7 @@ use Rattle.std.proofs.Common.{◌≡◌, ◌≢◌, ℕ, ◌<◌, ◌≤◌, Lis
 use Rattle.std.proofs.lemmas.List.{length-map}
 use Rattle.std.specs.Prelude.{MatchResult}
 use Rattle.rob_algebra.specs.Fraction.{Fraction, of_int}
+use Rattle.rob_algebra.specs.Width.{Fits}
 use Rattle.rob_cert.specs.Shape.{HasParts, HasShape}
 use Rattle.rob_cert.specs.declared.ending.Stop.{Stop}
 use Rattle.rob_cert.specs.declared.ending.Stop.TheVariants as stop
@@ -41,14 +42,17 @@ given_size value m plan e =
     omega (arith, e, length-map plan.columns value, length-append (map value plan.columns) (value plan.bound ∷ []))
 
 -- a certificate with a plan has a number for each decision column
-pub planned_size : {N : Type 0} (value : N → Fraction) (m : RobustModel) (c : Certificate) (plan : List N) → HasShape m c
-    → c.plan ≡ map value plan → c.status ≢ infeasible → length plan ≡ column_count m
-planned_size value m c plan shape same some = sym (ap length same ∙ length-map plan value) ∙ by c.status shape.parts some
+pub plan_length : (m : RobustModel) (c : Certificate) → HasShape m c → c.status ≢ infeasible → length c.plan ≡ column_count m
+plan_length m c shape some = by c.status shape.parts some
   where
     by : (status : Status) → HasParts m status c → status ≢ infeasible → length c.plan ≡ column_count m
     by optimal h some = h.plan
     by infeasible h some = absurd (some refl)
     by unbounded h some = h.plan
+
+pub planned_size : {N : Type 0} (value : N → Fraction) (m : RobustModel) (c : Certificate) (plan : List N) → HasShape m c
+    → c.plan ≡ map value plan → c.status ≢ infeasible → length plan ≡ column_count m
+planned_size value m c plan shape same some = sym (ap length same ∙ length-map plan value) ∙ plan_length m c shape some
 
 module _ (limit : ℕ) (m : RobustModel) (form : ℕ) (z : List Fraction) (some : form < length (forms m)) where
   -- ---- a wide number's spot is one of the model's
@@ -137,13 +141,13 @@ module _ {N : Type 0} (value : N → Fraction) (limit : ℕ) (m : RobustModel) (
   stopped_search before now s (Ok reply) cause counts is = λ c same.
       stop_answers limit m form c before now s reply (subst (λ (z : List Fraction). HasCause limit m false form z s) same cause) counts is
 
-  pub found_search : IsModel m → form < length (forms m) → length (plan_of value plan) ≡ form_columns m → (before middle now : ℕ)
+  pub found_search : ((x : N) → Fits limit (value x)) → IsModel m → form < length (forms m) → length (plan_of value plan) ≡ form_columns m → (before middle now : ℕ)
       (worst : ending.Worst N) (r : Result Reply Want) → middle ≡ before → Tells value m form (plan_of value plan) worst
       → IfOk r (RepliesWorst limit m form (count middle now) value worst) → IfOk r (AnswersPlan before now)
-  found_search model some size before middle now worst (Err want) kept tells is = tt
-  found_search model some size before middle now worst (Ok reply) kept tells is = λ c same.
+  found_search fits model some size before middle now worst (Err want) kept tells is = tt
+  found_search fits model some size before middle now worst (Ok reply) kept tells is = λ c same.
       found_answers_as limit m model form (form_matrix m form some) c
-      (subst (λ (z : List Fraction). length z ≡ form_columns m) same size) value (count before now) worst reply
+      (subst (λ (z : List Fraction). length z ≡ form_columns m) same size) value fits (count before now) worst reply
       (subst (λ (z : List Fraction). Tells value m form z worst) same tells)
       (subst (λ n. RepliesWorst limit m form (count n now) value worst reply) kept is)
 

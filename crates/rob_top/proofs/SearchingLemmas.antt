@@ -1,10 +1,10 @@
 -- The answers of `worst`, from what the reading of a certificate and the search answer.
-use Rattle.std.proofs.Common.{◌≡◌, ◌≢◌, ℕ, ◌<◌, ◌≤◌, true, List, [], length, map, Some, None, Result, Ok, Err, IfOk, inl, inr, refl, string_bytes, subst, sym, ap, ◌∙◌, ◌⊎◌, arith}
+use Rattle.std.proofs.Common.{◌≡◌, ◌≢◌, ℕ, ◌<◌, ◌≤◌, true, List, [], ◌∷◌, length, map, Some, None, Result, Ok, Err, IfOk, inl, inr, refl, string_bytes, subst, sym, ap, ◌∙◌, ◌⊎◌, arith}
 use Rattle.std.proofs.lemmas.List.{length-map}
 use Rattle.std.proofs.lemmas.Option.{get_or_from_slice_get, slice_get-get_or, slice_get_within}
 use Rattle.rob_algebra.specs.Fraction.{Fraction, of_int, ◌+ℚ◌, ◌≤ℚ◌}
 use Rattle.rob_algebra.specs.FractionLaws.{le_trans_ℚ, lt_irrefl_ℚ, lt_le_trans_ℚ}
-use Rattle.rob_algebra.specs.Width.{IsWide}
+use Rattle.rob_algebra.specs.Width.{Fits, IsWide}
 use Rattle.rob_cert.specs.Apart.{FitsLines}
 use Rattle.rob_cert.specs.Causes as text
 use Rattle.rob_cert.specs.Reading.{start}
@@ -20,7 +20,7 @@ use Rattle.rob_meaning.specs.Forms.{form_at, form_columns, forms, matrices, matr
 use Rattle.rob_meaning.specs.Guarantee.{HasBound}
 use Rattle.rob_meaning.specs.Multipliers.{set_limits}
 use Rattle.rob_meaning.specs.Names.{Name, form_names}
-use Rattle.rob_meaning.specs.Places.{0ℚ, 1ℚ}
+use Rattle.rob_meaning.specs.Places.{0ℚ, 1ℚ, Each}
 use Rattle.rob_meaning.specs.RobustModel.{RobustModel}
 use Rattle.rob_meaning.specs.Vectors.{dot}
 use Rattle.rob_meaning.specs.WellFormed.{IsModel}
@@ -39,9 +39,9 @@ use Rattle.rob_runs.specs.Told.{HasNoGreatestAlong, TellsWorst}
 use Rattle.rob_worst.specs.Finding.{Tells}
 use Rattle.rob_top.proofs.OwnLemmas.{file_came, has_form, has_kind, word_came}
 use Rattle.rob_top.proofs.WorkLemmas.{call_of_verb, call_within, rose_earlier}
-use Rattle.rob_top.proofs.WorstSlackLemmas.{bound_slack, scale_some, worst_found_at}
+use Rattle.rob_top.proofs.WorstSlackLemmas.{bound_slack, fitting_slack, scale_some, worst_found_at}
 use Rattle.rob_top.specs.Answers.{certificate_text, no_row_text}
-use Rattle.rob_top.specs.Calls.{Count, HasFile, count, word_of}
+use Rattle.rob_top.specs.Calls.{Count, HasFile, count, limit_of, word_of}
 use Rattle.rob_top.specs.Headline.{Means}
 use Rattle.rob_top.specs.Refused.{searching}
 use Rattle.rob_top.specs.Replies.{Replies}
@@ -57,6 +57,12 @@ use Rattle.rob_words.specs.Verbs.{own_of}
 use Rattle.rob_words.specs.declared.verb.Own.TheVariants as own
 use Rattle.rob_words.specs.declared.verb.Verb.{Verb}
 use Rattle.rob_words.specs.declared.verb.Verb.TheVariants.{Worst}
+
+-- the fractions of a list of numbers fit
+all_fit : {N : Type 0} (value : N → Fraction) (limit : ℕ) → ((x : N) → Fits limit (value x)) → (xs : List N)
+    → Each (Fits limit) (map value xs)
+all_fit value limit fits [] = tt
+all_fit value limit fits (x ∷ xs) = (fits x, all_fit value limit fits xs)
 
 -- ---- the number of a name
 
@@ -162,7 +168,7 @@ module _ (limit : ℕ) (m : RobustModel) where
     z = certificate_vector c
 
     -- the worst case, as it is printed
-    printed_answers : (wides : Count) (reply : Reply) (text : List ℕ) → ShowsWorst m form z text
+    printed_answers : (wides : Count) (reply : Reply) (text : List ℕ) → ShowsWorst limit m form z text
         → (HasBound m c.plan c.value → ShowsKept m form z text) → Replies Printed text reply → AnswersSought limit wides m c form reply
     printed_answers wides reply text shows kept is = λ call line at has.
         subst (λ (ended : Ended). Means call ended reply.text) (sym is.0)
@@ -172,7 +178,8 @@ module _ (limit : ℕ) (m : RobustModel) where
           c = c;
           form = form;
           has = has;
-          shows = subst (λ (t : List ℕ). ShowsWorst m form z t) (sym is.1) shows;
+          shows = subst (λ (t : List ℕ). ShowsWorst (limit_of line) m form z t) (sym is.1)
+              (subst (λ (l : ℕ). ShowsWorst l m form z text) (sym at.limit_is) shows);
           kept = λ bound. subst (λ (t : List ℕ). ShowsKept m form z t) (sym is.1) (kept bound);
         }))
 
@@ -204,12 +211,14 @@ module _ (limit : ℕ) (m : RobustModel) where
             (subst (λ s. IsWide limit (peak +ℚ constant) ⊎ IsWide limit (slack_of s peak constant)) tells.denominator_is h));
       }
 
-      slack_answers : (wides : Count) (reply : Reply) → RepliesSlack limit m form wides scale peak constant scenario reply
-          → AnswersSought limit wides m c form reply
-      slack_answers wides reply (inl is) =
+      slack_answers : (wides : Count) (reply : Reply) → Each (Fits limit) scenario
+          → RepliesSlack limit m form wides scale peak constant scenario reply → AnswersSought limit wides m c form reply
+      slack_answers wides reply fit (inl h) =
           printed_answers wides reply (greatest_text m form (slack_of scale peak constant) scenario)
-          (attained basis scenario amounts (slack_of scale peak constant) tells.found is_worst refl) kept_shown is
-      slack_answers wides reply (inr h) = λ call line at has.
+          (attained basis scenario amounts (slack_of scale peak constant) tells.found is_worst (h.1.1, fit)
+          (fitting_slack m model form some z size limit scale peak constant scenario basis amounts tells h.1.0 h.1.1) refl)
+          kept_shown h.0
+      slack_answers wides reply fit (inr h) = λ call line at has.
           subst (λ (ended : Ended). Means call ended reply.text) (sym h.0.0)
           (in_model (record {
             line = line;
@@ -230,17 +239,20 @@ module _ (limit : ℕ) (m : RobustModel) where
         (le_trans_ℚ 1ℚ (form_at m form 1ℚ u.0 z) 0ℚ u.2 (bound_at m model c.plan c.value bound u.0 u.1 form)))
 
     ray_answers : (wides : Count) (reply : Reply) (basis : List ℕ) (column : ℕ) (ray : List Fraction) → FindsRay m form z basis column ray
-        → Replies Printed (along_text m form ray) reply → AnswersSought limit wides m c form reply
-    ray_answers wides reply basis column ray found is =
+        → Each (Fits limit) ray → Replies Printed (along_text m form ray) reply → AnswersSought limit wides m c form reply
+    ray_answers wides reply basis column ray found fit is =
         let along : HasNoGreatestAlong m form z ray = told_along m model form some z size basis column ray found in
-        printed_answers wides reply (along_text m form ray) (endless basis column ray found along refl)
+        printed_answers wides reply (along_text m form ray) (endless basis column ray found along fit refl)
         (λ bound. absurd (no_ray ray along bound)) is
 
-    pub found_answers_as : {N : Type 0} (value : N → Fraction) (wides : Count) (worst : ending.Worst N) (reply : Reply)
-        → Tells value m form z worst → RepliesWorst limit m form wides value worst reply → AnswersSought limit wides m c form reply
-    found_answers_as value wides (At scale peak constant scenario basis amounts) reply tells is =
-        slack_answers (value scale) (value peak) (of_int constant) (scenario_of value scenario) basis (map value amounts) tells wides reply is
-    found_answers_as value wides (Along ray basis column) reply tells is = ray_answers wides reply basis column (map value ray) tells is
+    pub found_answers_as : {N : Type 0} (value : N → Fraction) → ((x : N) → Fits limit (value x)) → (wides : Count)
+        (worst : ending.Worst N) (reply : Reply) → Tells value m form z worst → RepliesWorst limit m form wides value worst reply
+        → AnswersSought limit wides m c form reply
+    found_answers_as value fits wides (At scale peak constant scenario basis amounts) reply tells is =
+        slack_answers (value scale) (value peak) (of_int constant) (scenario_of value scenario) basis (map value amounts) tells wides reply
+        (all_fit value limit fits scenario.values) is
+    found_answers_as value fits wides (Along ray basis column) reply tells is =
+        ray_answers wides reply basis column (map value ray) tells (all_fit value limit fits ray) is
 
   -- what the search tells can be divided by its scale
   pub told_scale : {N : Type 0} (value : N → Fraction) (form : ℕ) (z : List Fraction) (worst : ending.Worst N) → Tells value m form z worst

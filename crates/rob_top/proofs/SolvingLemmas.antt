@@ -200,12 +200,7 @@ module _ (limit : ℕ) (m : RobustModel) where
         m = m;
         forms = has;
         solves = solves_as line.verb verb at.verb_is solves;
-        none_admitted = cause.empty;
         shown = cause;
-        set = cause.set;
-        is_set = cause.shows_in.is_set;
-        own = cause.shows_in.own;
-        none_in_set = cause.empty_in;
         printed = is.1;
       }))
   stop_answers before now verb (stop.Wide place trace) reply solves cause counts is = λ call line at has.

@@ -2,7 +2,9 @@
 use Rattle.std.proofs.Common.{◌≡◌, ◌≤◌, ◌<◌, ◌++◌, ℕ, ◌-◌, suc, List, slice_index_or, [], ◌∷◌, length, map, string_bytes, Some, Result, Ok, Err, IfOk, get_or, inl, inr, refl, subst, sym, ap, ◌∙◌, arith}
 use Rattle.std.proofs.lemmas.List.{length-map}
 use Rattle.rob_algebra.specs.Fraction.{Fraction}
+use Rattle.rob_algebra.specs.Width.{Fits}
 use Rattle.rob_dualize.specs.Models.{IsWideIn}
+use Rattle.rob_meaning.specs.Places.{Each}
 use Rattle.rob_meaning.specs.RobustModel.{RobustModel}
 use Rattle.rob_model.specs.declared.place.Spot.{Spot}
 use Rattle.rob_number.specs.declared.memory.Memory.{Memory as Want}
@@ -11,6 +13,9 @@ use Rattle.rob_report.specs.Places.{IsSpotOf}
 use Rattle.rob_sweep.specs.Answering.{AreWritten, EachAnswer, EachGrowsHarder, NamesEmpty}
 use Rattle.rob_sweep.specs.Stops.{CountsStop, HasCause, IsWideAt, KeepsRules}
 use Rattle.rob_sweep.specs.SweepText.{sweep_text}
+use Rattle.rob_sweep.specs.View.{answer_of}
+use Rattle.rob_sweep.specs.declared.answer.SweepAnswer as answer
+use Rattle.rob_sweep.specs.declared.answer.SweepAnswer.TheVariants.{Optimal, Infeasible, Unbounded, Empty}
 use Rattle.rob_sweep.specs.declared.answer.SweepStop.{SweepStop}
 use Rattle.rob_sweep.specs.declared.answer.SweepStop.TheVariants as unswept
 use Rattle.rob_top.specs.Answers.{wide_budget_text, words_text}
@@ -18,7 +23,7 @@ use Rattle.rob_top.specs.Calls.{Call, Count, count, limit_of, word_of}
 use Rattle.rob_top.specs.Headline.{Means}
 use Rattle.rob_top.specs.Inputs.{HasModel}
 use Rattle.rob_top.specs.Replies.{Replies}
-use Rattle.rob_top.specs.Swept.{HasLimit, at_limit, at_limits, limit_value}
+use Rattle.rob_top.specs.Swept.{HasLimit, ValueFits, at_limit, at_limits, limit_value}
 use Rattle.rob_top.specs.Work.{AnswersModel, AnswersSweep, AnswersWords, IsCallAt}
 use Rattle.rob_top.specs.Refusing.{RepliesLimit, RepliesUnswept}
 use Rattle.rob_top.specs.Ways.{swept}
@@ -120,6 +125,15 @@ answers_count value view m n xs ys zs same h =
     ap (λ list. length list) same
     ∙ (sym (length-map ys view) ∙ (swept_count m n (map value xs) (map view ys) h ∙ length-map xs value))
 
+-- the values of numbers fit
+pub answers_fit : {N : Type 0} (value : N → Fraction) (limit : ℕ) → ((x : N) → Fits limit (value x)) → (answers : List (answer.SweepAnswer N))
+    → Each (ValueFits limit) (map (answer_of value) answers)
+answers_fit value limit fits [] = tt
+answers_fit value limit fits (Optimal v ∷ answers) = (fits v, answers_fit value limit fits answers)
+answers_fit value limit fits (Infeasible ∷ answers) = (tt, answers_fit value limit fits answers)
+answers_fit value limit fits (Unbounded ∷ answers) = (tt, answers_fit value limit fits answers)
+answers_fit value limit fits (Empty ∷ answers) = (tt, answers_fit value limit fits answers)
+
 -- why a sweep stopped at a wide number
 pub wide_cause : (limit : ℕ) (m : RobustModel) (n : ℕ) (gs : List Fraction) (s : SweepStop) (number : ℕ) (spot : Spot)
     → s ≡ unswept.Wide number spot → HasCause limit m n gs s → KeepsRules m.set_lines n gs × IsWideAt limit m n gs number spot
@@ -153,9 +167,9 @@ module _ (limit : ℕ) (m : RobustModel) where
   -- the answers are printed
   pub priced_answers : (wides : Count) (n : ℕ) (gs : List Fraction) (answers : List SweepAnswer) (r : Result Reply Want)
       → KeepsRules m.set_lines n gs → AreWritten limit m n gs → Swept m n gs answers → EachAnswer NamesEmpty m n gs answers
-      → EachGrowsHarder m.sense answers → IfOk r (Replies Printed (sweep_text gs answers)) → IfOk r (AnswersSweep limit wides m n gs)
-  priced_answers wides n gs answers (Err want) keeps written each empty harder is = tt
-  priced_answers wides n gs answers (Ok reply) keeps written each empty harder is = λ call line at has.
+      → EachGrowsHarder m.sense answers → Each (ValueFits limit) answers → IfOk r (Replies Printed (sweep_text gs answers)) → IfOk r (AnswersSweep limit wides m n gs)
+  priced_answers wides n gs answers (Err want) keeps written each empty harder fit is = tt
+  priced_answers wides n gs answers (Ok reply) keeps written each empty harder fit is = λ call line at has.
       subst (λ (ended : Ended). Means call ended reply.text) (sym is.0)
       (swept (inl (record {
         line = line;
@@ -169,6 +183,7 @@ module _ (limit : ℕ) (m : RobustModel) where
         swept = each;
         empty = empty;
         harder = harder;
+        fits = subst (λ (l : ℕ). Each (ValueFits l) answers) (sym at.limit_is) fit;
         printed = is.1;
       })))
 

@@ -73,7 +73,7 @@ unfolding ratio
 it_reads =
     canonical_reads greatest demand_within_a_budget (omega arith) (omega arith) its_parts
     (found (test_model (written_model demand_within_a_budget)) tt)
-    its_names its_spelling tt it_is_within
+    its_names its_spelling ((tt, tt), tt) it_is_within
     ((tt, (tt, (tt, (tt, (tt, (tt, (tt, (tt, tt)))))))), ((tt, (tt, (tt, (tt, (tt, (tt, (tt, (tt, tt)))))))), ((tt, (tt, tt)), ((tt, (tt, tt)), ((tt, (tt, (tt, (tt, (tt, (tt, tt)))))), tt))))) (leb-true _ _ refl)
 
 it_comes : Comes demand_within_a_budget

@@ -167,7 +167,7 @@ pub one_demand_comes : Comes one_demand
 unfolding ratio digits
 one_demand_comes = refl
 
-one_demand_forms : HasForms (solve_call one_demand) line one_demand
+pub one_demand_forms : HasForms (solve_call one_demand) line one_demand
 one_demand_forms = forms_on one_demand one_demand_comes one_demand_reads one_demand_narrow
 
 -- no row is wide, so this call has to answer `optimal`
@@ -181,7 +181,7 @@ unfolding ratio
 empty_interval_model = found (test_model empty_interval) tt
 
 -- -d <= -12 and d <= 8 sum to 0 <= -4
-empty_interval_admits_none : IsEmptySet empty_interval
+pub empty_interval_admits_none : IsEmptySet empty_interval
 unfolding ratio
 empty_interval_admits_none =
     shows_empty empty_interval empty_interval_model (1ℚ ∷ 1ℚ ∷ []) (found (test_empty empty_interval (1ℚ ∷ 1ℚ ∷ [])) tt)
@@ -233,7 +233,7 @@ empty_interval_comes : Comes empty_interval
 unfolding ratio digits
 empty_interval_comes = refl
 
-empty_interval_forms : HasForms (solve_call empty_interval) line empty_interval
+pub empty_interval_forms : HasForms (solve_call empty_interval) line empty_interval
 empty_interval_forms = forms_on empty_interval empty_interval_comes empty_interval_reads empty_interval_narrow
 
 -- this call has to answer that the set is empty, or name a row of the set's program

@@ -35,7 +35,7 @@ sweep_spelled = (
       tt,
       (
         record { number = record { digits = (omega arith, (omega arith, tt)); few = omega arith; fits = omega arith }; few = omega arith },
-        (record { limits = (inl (refl, record { digits = (omega arith, (omega arith, tt)); fits = omega arith }), tt); few = omega arith }, tt),
+        (record { parts = (inl (refl, record { digits = (omega arith, (omega arith, tt)); fits = omega arith }), tt); few = omega arith }, tt),
       ),
     );
     width = inr (refl, refl);

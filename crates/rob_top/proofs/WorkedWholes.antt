@@ -6,12 +6,11 @@ use Rattle.std.specs.Prelude.{codes}
 use Rattle.rob_algebra.specs.Fraction.{ratio}
 use Rattle.rob_cert.specs.Spelling.{name_at}
 use Rattle.rob_dualize.specs.SmallestModel.{one_demand}
-use Rattle.rob_meaning.proofs.WorkedNotation.{best, cover, int, item, none}
+use Rattle.rob_meaning.proofs.WorkedNotation.{int}
 use Rattle.rob_meaning.proofs.WorkedTests.{found, test_admits, test_model}
-use Rattle.rob_meaning.specs.Certificates.{Certificate, optimal}
 use Rattle.rob_meaning.specs.Named.{IsNamed, declared_names}
 use Rattle.rob_meaning.specs.Names.{column_names}
-use Rattle.rob_meaning.specs.Places.{1ℚ, Each}
+use Rattle.rob_meaning.specs.Places.{Each}
 use Rattle.rob_meaning.specs.RobustModel.{RobustModel}
 use Rattle.rob_meaning.specs.UncertaintySet.{Admits}
 use Rattle.rob_meaning.specs.WellFormed.{IsModel}
@@ -21,7 +20,6 @@ use Rattle.rob_outside.specs.Files.{file_of, found_at, whole}
 use Rattle.rob_parse.specs.Modelled.{ReadsModel}
 use Rattle.rob_reach.proofs.StatusLemmas.{optimal_not_infeasible, optimal_not_unbounded}
 use Rattle.rob_reach.proofs.WorkedTests.{test_tree_status}
-use Rattle.rob_reach.specs.Trees.{Tree, leaf, split}
 use Rattle.rob_reach.specs.WholeStatus.{IsWholeOptimal}
 use Rattle.rob_round_trip.proofs.Canonical.CanonicalReading.{canonical_reads}
 use Rattle.rob_round_trip.specs.Readable.{IsReadableModel}
@@ -34,6 +32,7 @@ use Rattle.rob_top.specs.Completeness.{MustEnd}
 use Rattle.rob_top.specs.Endings.{EndsAs, IsWholeAnswer}
 use Rattle.rob_top.specs.Inputs.{AreVariables, HasModel, HasVariables, HasWholeVariables}
 use Rattle.rob_top.specs.WorkedCalls.{greatest, half_a_demand, model_name, whole_call}
+use Rattle.rob_top.specs.WorkedTrees.{whole_orders}
 use Rattle.rob_top.specs.declared.ended.Ended.{Ended}
 use Rattle.rob_top.specs.declared.ended.Ended.TheVariants.{Optimal, Infeasible, Unbounded, Printed, Accepted, Rejected, Words, Missing, TooLong, Model, EmptySet, TooWide, WideNode, WideBudget, Cert, Scenarios, Whole as RuleOfWhole, Sweep, Tree as RuleOfTree, TreeRejected, NoRow, ReadFault, WriteFault, Memory}
 use Rattle.rob_words.specs.Commands.{Line, own, IsSpelled}
@@ -44,10 +43,10 @@ use Rattle.rob_words.specs.declared.width.Width.TheVariants.{SixtyTwo}
 use Rattle.rob_write.specs.Canonical.{model_text, naming_of, written_model}
 
 -- ---- whole one.rob NAME, where the shelf tells the model's file
-abbrev line : Word → Line
+abbrev pub line : Word → Line
 line name = record { verb = Whole; own = model_name ∷ name ∷ []; way = Dual; width = SixtyTwo }
 
-x_spelled : IsSpelled (codes "whole" ∷ model_name ∷ codes "x" ∷ []) (line (codes "x"))
+pub x_spelled : IsSpelled (codes "whole" ∷ model_name ∷ codes "x" ∷ []) (line (codes "x"))
 x_spelled = (
   own model_name ∷ own (codes "x") ∷ [],
   record {
@@ -55,7 +54,7 @@ x_spelled = (
     own = refl;
     count = refl;
     names = ((λ e. cc), ((λ e. cc), tt));
-    kinds = (tt, (record { names = (record { is_word = (refl, tt); no_keyword = refl }, tt); few = omega arith }, tt));
+    kinds = (tt, (record { parts = (record { is_word = (refl, tt); no_keyword = refl }, tt); few = omega arith }, tt));
     width = inr (refl, refl);
     route = (refl, refl);
   },
@@ -69,13 +68,13 @@ y_spelled = (
     own = refl;
     count = refl;
     names = ((λ e. cc), ((λ e. cc), tt));
-    kinds = (tt, (record { names = (record { is_word = (refl, tt); no_keyword = refl }, tt); few = omega arith }, tt));
+    kinds = (tt, (record { parts = (record { is_word = (refl, tt); no_keyword = refl }, tt); few = omega arith }, tt));
     width = inr (refl, refl);
     route = (refl, refl);
   },
 )
 
-model_on : (m : RobustModel) (name : Word) → Comes m → ReadsModel greatest (model_text m) m
+pub model_on : (m : RobustModel) (name : Word) → Comes m → ReadsModel greatest (model_text m) m
     → IsSpelled (codes "whole" ∷ model_name ∷ name ∷ []) (line name) → HasModel (whole_call m name) (line name) m
 model_on m name comes reads spelled = record {
   spelled = spelled;
@@ -121,28 +120,14 @@ half_admitted : Admits half_a_demand (int 8 ∷ [])
 unfolding ratio
 half_admitted = found (test_admits half_a_demand half_model (int 8 ∷ [])) tt
 
--- with x <= 6: the row at d = 13 and twice x - 6 <= 0 sum to 1 <= 0
-abbrev not_below_6 : Certificate
-not_below_6 = none (int 8 ∷ []) (item 1 1ℚ (int 13 ∷ []) ∷ item 3 (int 2) (int 8 ∷ []) ∷ [])
-
--- with x >= 7: x = 7
-abbrev order_7 : Certificate
-order_7 =
-    best (int 7) (int 8 ∷ []) (int 7 ∷ []) (cover 1 1 1ℚ ∷ [])
-    (item 0 1ℚ (int 8 ∷ []) ∷ item 2 1ℚ (int 8 ∷ []) ∷ [])
-
-abbrev whole_orders : Tree
-whole_orders =
-    record { status = optimal; value = int 7; best = 2; root = split 0 (pos 6) (leaf not_below_6) (leaf order_7) }
-
 half_costs_7 : IsWholeOptimal half_a_demand (0 ∷ []) (int 7)
 unfolding ratio
 half_costs_7 = found (test_tree_status half_a_demand (0 ∷ []) whole_orders) tt
 
-half_spelled : Each IsSpelledName (declared_names half_a_demand)
+pub half_spelled : Each IsSpelledName (declared_names half_a_demand)
 half_spelled = (letter 100 refl refl, (letter 114 refl refl, (letter 120 refl refl, tt)))
 
-half_named : IsNamed half_a_demand
+pub half_named : IsNamed half_a_demand
 half_named = record {
   plain = (((λ e. cc), tt), (((λ e. cc), tt), (((λ e. cc), tt), tt)));
   free = (free (codes "d") tt tt tt tt, (free (codes "r") tt tt tt tt, (free (codes "x") tt tt tt tt, tt)));

@@ -1,5 +1,5 @@
 -- Which answer has to come at `worst`, where what is known of the files decides.
-use Rattle.std.proofs.Common.{◌≡◌, ℕ, List, Some, inl, inr, refl, sym, ◌∙◌, ap, subst, ◌⊎◌}
+use Rattle.std.proofs.Common.{◌≡◌, ℕ, ◌<◌, List, length, Some, arith, inl, inr, refl, sym, ◌∙◌, ap, subst, ◌⊎◌}
 use Rattle.rob_algebra.specs.Fraction.{Fraction}
 use Rattle.rob_cert.specs.Causes.{HasCause}
 use Rattle.rob_cert.specs.Reading.{start}
@@ -11,33 +11,56 @@ use Rattle.rob_cert.proofs.OneBreach.{one_cause}
 use Rattle.rob_cert.proofs.OneCertificate.{read_once}
 use Rattle.rob_cert.proofs.SpellingLaws.{breaks_none}
 use Rattle.rob_dualize.specs.SetSolving.{IsWideInSet}
+use Rattle.rob_dualize.specs.Solving.{HasScenario}
+use Rattle.rob_meaning.proofs.NameLemmas.{length-form_names}
 use Rattle.rob_meaning.specs.Certificates.{Certificate, infeasible}
+use Rattle.rob_meaning.specs.Forms.{form_columns, matrices}
 use Rattle.rob_meaning.specs.Names.{form_names}
+use Rattle.rob_meaning.specs.Places.{0ℚ, 1ℚ}
 use Rattle.rob_meaning.specs.Proves.{Proves}
 use Rattle.rob_meaning.specs.RobustModel.{RobustModel}
 use Rattle.rob_meaning.specs.UncertaintySet.{Admits, IsEmptySet}
+use Rattle.rob_meaning.specs.WellFormed.{IsModel}
 use Rattle.rob_model.proofs.OwnNames.{forms_distinct}
 use Rattle.rob_model.specs.declared.place.Program.TheVariants as programs
 use Rattle.rob_model.specs.declared.place.Spot.{Spot}
 use Rattle.rob_model.specs.declared.place.Spot.TheVariants as spots
+use Rattle.rob_runs.proofs.FoundLemmas.{found_worst}
+use Rattle.rob_runs.proofs.RunCertificates.{length-vector}
+use Rattle.rob_runs.specs.Spots.{IsWideSlack}
 use Rattle.rob_top.proofs.CommandLemmas.{check_not_worst, narrow_not_worst, replay_not_worst, rows_not_worst, solves_no_worst, worst_no_branch, worst_no_sweep, worst_not_tree}
 use Rattle.rob_top.proofs.CourseLemmas.{Course, WorstCourse, admits_none, bounds, branching, checking_tree, finds, judges, lacks_plan, names_none, plans_none, prints, refuses, replays, searches, shows_empty, shows_worst, sweeping, unplanned_verb, wide_number, wide_row, wide_search}
 use Rattle.rob_top.proofs.ReplayAnswerLemmas.{model_read}
+use Rattle.rob_top.proofs.SearchStops.{plan_length}
+use Rattle.rob_top.proofs.SearchingLemmas.{form_matrix}
 use Rattle.rob_top.proofs.SolvingLemmas.{proved_bound}
 use Rattle.rob_top.proofs.SoughtLemmas.{forms_sought, forms_unnamed, forms_unplanned}
 use Rattle.rob_top.proofs.StageLemmas.{file_once}
 use Rattle.rob_top.proofs.TrueAnswerLemmas.{course_of, first_of_two, in_words, lacking_verb, most, named, no_first, well}
+use Rattle.rob_top.proofs.WorstSlackLemmas.{endless_slack}
 use Rattle.rob_top.specs.Calls.{Call, Known, limit_of}
-use Rattle.rob_top.specs.Endings.{IsEmptyAnswer, IsWorstAnswer}
+use Rattle.rob_top.specs.Endings.{IsEmptyAnswer, IsWorstAnswer, NamesWideSought}
 use Rattle.rob_top.specs.Headline.{Means}
 use Rattle.rob_top.specs.Inputs.{HasForms, HasModel, HasPlan, HasSought, HasWorstCertificate, HasWorstFile, TellsForm}
-use Rattle.rob_top.specs.Searched.{GivesNoPlan, IsSearched, IsWideSought, NamesNoForm, ShowsKept, certificate_vector, claims_none, in_search, in_set, in_slack, misread}
+use Rattle.rob_top.specs.Searched.{GivesNoPlan, IsSearched, IsWideSought, NamesNoForm, ShowsKept, ShowsWorst, attained, certificate_vector, claims_none, endless, in_search, in_set, in_slack, misread}
 use Rattle.rob_top.specs.declared.ended.Ended.{Ended}
 use Rattle.rob_top.specs.declared.ended.Ended.TheVariants.{Cert, EmptySet, NoRow, Printed, ReadFault, TooWide, Memory}
 use Rattle.rob_words.specs.Commands.{Line}
 use Rattle.rob_words.specs.Values.{Word}
 use Rattle.rob_words.specs.declared.verb.Own.TheVariants as own
 use Rattle.rob_words.specs.declared.verb.Verb.TheVariants.{Worst}
+
+-- a worst case that is shown has some scenario
+scenario_shown : (limit : ℕ) (m : RobustModel) (form : ℕ) (z : List Fraction) (text : List ℕ) → ShowsWorst limit m form z text → HasScenario m
+scenario_shown limit m form z text (attained basis scenario amounts slack found is fit narrow shown) = (scenario, is.admitted)
+scenario_shown limit m form z text (endless basis column ray found is fit shown) = let u = is.no_greatest 0ℚ in (u.0, u.1)
+
+-- and no number of its slack is wide
+slack_shown : (limit : ℕ) (m : RobustModel) → IsModel m → (form : ℕ) → form < length (matrices m) → (z : List Fraction)
+    → length z ≡ form_columns m → (text : List ℕ) → ShowsWorst limit m form z text → IsWideSlack limit m form z → ⊥
+slack_shown limit m model form some z size text (attained basis scenario amounts slack found is fit narrow shown) wide = narrow wide
+slack_shown limit m model form some z size text (endless basis column ray found is fit shown) wide =
+    endless_slack m model form some z size limit ray is wide
 
 -- the words tell one name of a form
 one_name : (line : Line) (a b : Word) → TellsForm line a → TellsForm line b → a ≡ b
@@ -51,7 +74,7 @@ module _ (call : Call) (known : Known call.source) (line : Line) (m : RobustMode
   Breach bytes rule number = HasCause (naming_of m) (limit_of line) start bytes 1 (Rule rule number)
 
   -- a certificate's text breaks no rule
-  no_breach : (c : Certificate) (bytes : List ℕ) (rule number : ℕ) → HasWorstCertificate call line m c → HasWorstFile call line m bytes
+  pub no_breach : (c : Certificate) (bytes : List ℕ) (rule number : ℕ) → HasWorstCertificate call line m c → HasWorstFile call line m bytes
       → Breach bytes rule number → ⊥
   no_breach c bytes rule number h file breach =
       let same : bytes ≡ h.bytes = same_file bytes h.bytes file h.file in
@@ -60,7 +83,7 @@ module _ (call : Call) (known : Known call.source) (line : Line) (m : RobustMode
       (most call known line m) (subst (λ (b : List ℕ). IsTextOf m c b) (sym same) h.text) h.fits rule number breach
 
   -- and is that of one certificate
-  one_certificate : (c d : Certificate) → HasWorstCertificate call line m c → HasWorstCertificate call line m d → c ≡ d
+  pub one_certificate : (c d : Certificate) → HasWorstCertificate call line m c → HasWorstCertificate call line m d → c ≡ d
   one_certificate c d h k =
       let same : h.bytes ≡ k.bytes = same_file h.bytes k.bytes h.file k.file in
       let has : HasModel call line m = h.file.forms.model in
@@ -136,7 +159,7 @@ module _ (call : Call) (known : Known call.source) (line : Line) (m : RobustMode
           let one = one_lack rule number r n has h in
           e ∙ ap (λ k. Cert k n) one.0 ∙ ap (λ k. Cert rule k) one.1
       by (names_none d name h e) = absurd (gives_some rule number d has h.plan)
-      by (shows_worst d form h some e) = absurd (gives_some rule number d has h.plan)
+      by (shows_worst d form text h shows e) = absurd (gives_some rule number d has h.plan)
       by (admits_none d form weights h shown e) = absurd (gives_some rule number d has h.plan)
       by (wide_search d form spot h wide e) = absurd (gives_some rule number d has h.plan)
 
@@ -148,7 +171,7 @@ module _ (call : Call) (known : Known call.source) (line : Line) (m : RobustMode
       by : WorstCourse call line m ended → ended ≡ NoRow
       by (plans_none r n h e) = absurd (gives_some r n c h has.plan)
       by (names_none d other h e) = e
-      by (shows_worst d form h some e) = absurd (names_one d c form name h has)
+      by (shows_worst d form text h shows e) = absurd (names_one d c form name h has)
       by (admits_none d form weights h shown e) = absurd (names_one d c form name h has)
       by (wide_search d form spot h wide e) = absurd (names_one d c form name h has)
 
@@ -177,7 +200,7 @@ module _ (call : Call) (known : Known call.source) (line : Line) (m : RobustMode
         by : WorstCourse call line m ended → IsWorstAnswer (limit_of line) m form z ended
         by (plans_none r n h e) = absurd (gives_some r n c h has.plan)
         by (names_none d name h e) = absurd (names_one c d form name has h)
-        by (shows_worst d other h some e) = answer_is ended Printed e some
+        by (shows_worst d other text h shows e) = answer_is ended Printed e (scenario_shown (limit_of line) m other (certificate_vector d) text shows)
         by (admits_none d other weights h shown e) = answer_is ended (EmptySet weights) e shown.empty
         by (wide_search d other spot h wide e) = answer_is ended (TooWide spot) e (same_wide d other spot h wide)
 
@@ -215,7 +238,8 @@ module _ (call : Call) (known : Known call.source) (line : Line) (m : RobustMode
         by : WorstCourse call line m ended → IsEmptyAnswer (limit_of line) m ended
         by (plans_none r n h e) = absurd (gives_some r n c h has.plan)
         by (names_none d name h e) = absurd (names_one c d form name has h)
-        by (shows_worst d other h some e) = absurd (none some.0 some.1)
+        by (shows_worst d other text h shows e) =
+            let some : HasScenario m = scenario_shown (limit_of line) m other (certificate_vector d) text shows in absurd (none some.0 some.1)
         by (admits_none d other weights h shown e) = empty_is ended (EmptySet weights) e shown
         by (wide_search d other spot h wide e) = empty_is ended (TooWide spot) e (before_search none d other spot wide)
 
@@ -233,9 +257,50 @@ module _ (call : Call) (known : Known call.source) (line : Line) (m : RobustMode
         by : WorstCourse call line m ended → ended ≡ Printed
         by (plans_none r n h e) = absurd (gives_some r n c h has.plan)
         by (names_none d name h e) = absurd (names_one c d form name has h)
-        by (shows_worst d other h some e) = e
+        by (shows_worst d other text h shows e) = e
         by (admits_none d other weights h shown e) = absurd (shown.empty u admitted)
         by (wide_search d other spot h wide e) = absurd (narrow spot (same_wide d other spot h wide))
+
+    -- ---- a number of the slack is wide
+    named_wide : (ended other : Ended) → ended ≡ other → NamesWideSought (limit_of line) m form z other
+        → NamesWideSought (limit_of line) m form z ended
+    named_wide ended other e h = subst (λ (x : Ended). NamesWideSought (limit_of line) m form z x) (sym e) h
+
+    here : IsModel m
+    here = well call known line m (forms_sought call line m c form has).model
+
+    some : form < length (matrices m)
+    some = form_matrix m form (omega (arith, has.is_form, length-form_names m))
+
+    size : length z ≡ form_columns m
+    size = length-vector m 1ℚ c.plan c.value (plan_length m c has.plan.certificate.text.shape has.plan.has_plan)
+
+    pub worst_slack_decides : IsWideSlack (limit_of line) m form z → (ended : Ended) (text : List ℕ) → Means call ended text
+        → NamesWideSought (limit_of line) m form z ended
+    worst_slack_decides wide ended text means = all (course_sought ended text means)
+      where
+        -- so it isn't shown
+        none_shown : (d : Certificate) (other : ℕ) (shown : List ℕ) → HasSought call line m d other
+            → ShowsWorst (limit_of line) m other (certificate_vector d) shown → ⊥
+        none_shown d other shown h shows =
+            slack_shown (limit_of line) m here form some z size shown
+            (subst (λ (x : Certificate). ShowsWorst (limit_of line) m form (certificate_vector x) shown) (same_plan d c other form h has)
+            (subst (λ i. ShowsWorst (limit_of line) m i (certificate_vector d) shown) (same_form d c other form h has) shows)) wide
+
+        by : WorstCourse call line m ended → NamesWideSought (limit_of line) m form z ended
+        by (plans_none r n h e) = absurd (gives_some r n c h has.plan)
+        by (names_none d name h e) = absurd (names_one c d form name has h)
+        by (shows_worst d other shown h shows e) = absurd (none_shown d other shown h shows)
+        by (admits_none d other weights h shown e) =
+            absurd (shown.empty wide.scenario
+            (found_worst m here form some z size wide.basis wide.scenario wide.amounts wide.found).admitted)
+        by (wide_search d other spot h also e) =
+            named_wide ended (TooWide spot) e (inl (spot, same_wide d other spot h also, refl))
+
+        all : WorstCourse call line m ended ⊎ ((ended ≡ ReadFault) ⊎ (ended ≡ Memory)) → NamesWideSought (limit_of line) m form z ended
+        all (inl course) = by course
+        all (inr (inl e)) = named_wide ended ReadFault e (inr (inl refl))
+        all (inr (inr e)) = named_wide ended Memory e (inr (inr (inr refl)))
 
 -- ---- the plan of a certificate that proves has its bound, so no slack below 0 is shown
 pub proved_keeps : (call : Call) (shown : List ℕ) (r : IsSearched call shown) (m : RobustModel) (c : Certificate) → r.m ≡ m → r.c ≡ c

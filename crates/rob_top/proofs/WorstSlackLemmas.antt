@@ -1,25 +1,30 @@
 -- The slack that is printed is that of the form in the scenario that the search finds, and no admitted scenario has less.
-use Rattle.std.proofs.Common.{◌≡◌, ◌≢◌, ℕ, pos, ◌<◌, List, [], ◌∷◌, length, refl, sym, ◌∙◌, ap, subst}
-use Rattle.rob_algebra.specs.Fraction.{Fraction, neg_ℚ, inv_ℚ, ◌*ℚ◌, ◌/ℚ◌, ◌≤ℚ◌}
+use Rattle.std.proofs.Common.{◌≡◌, ◌≢◌, ℕ, pos, ◌<◌, List, [], ◌∷◌, length, refl, sym, ◌∙◌, ap, ap₂, subst, inl, inr, ◌⊎◌}
+use Rattle.rob_algebra.proofs.WidthLaws.{fits_not_wide}
+use Rattle.rob_algebra.specs.Fraction.{Fraction, neg_ℚ, inv_ℚ, ◌+ℚ◌, ◌*ℚ◌, ◌/ℚ◌, ◌≤ℚ◌}
 use Rattle.rob_algebra.specs.FractionLaws as Q
 use Rattle.rob_algebra.specs.FractionLaws.{ℚ_ring, mul_inv}
 use Rattle.rob_algebra.specs.Ring as R
 use Rattle.rob_algebra.specs.Ring.{lit, minus, ◌:*◌, ◌:+◌, ◌:-◌, v0, v1, v2}
+use Rattle.rob_algebra.specs.Width.{Fits, IsWide}
 use Rattle.rob_meaning.proofs.AbsoluteLemmas.{pos_some}
 use Rattle.rob_meaning.proofs.AtLemmas.{bound_at}
-use Rattle.rob_meaning.proofs.LinearLemmas.{zero_le_one}
-use Rattle.rob_meaning.specs.Forms.{form_at, form_columns, matrices, plan_vector}
+use Rattle.rob_meaning.proofs.LinearLemmas.{zero_le_one, zero_lt_one}
+use Rattle.rob_meaning.specs.Forms.{constant_part, form_at, form_columns, matrices, plan_vector}
 use Rattle.rob_meaning.specs.Guarantee.{HasBound}
+use Rattle.rob_meaning.specs.Multipliers.{set_limits}
 use Rattle.rob_meaning.specs.Places.{0ℚ, 1ℚ}
 use Rattle.rob_meaning.specs.RobustModel.{RobustModel}
 use Rattle.rob_meaning.specs.UncertaintySet.{Admits}
+use Rattle.rob_meaning.specs.Vectors.{dot}
 use Rattle.rob_meaning.specs.WellFormed.{IsModel}
 use Rattle.rob_runs.proofs.FoundLemmas.{found_greatest}
 use Rattle.rob_runs.proofs.ToldLemmas.{told_greatest}
 use Rattle.rob_runs.proofs.WholeLemmas.{factor_pos}
 use Rattle.rob_runs.specs.Readings.{cleared_by}
-use Rattle.rob_runs.specs.Spots.{slack_of}
-use Rattle.rob_runs.specs.Told.{IsGreatestAt, TellsWorst}
+use Rattle.rob_runs.specs.Searches.{FindsScenario}
+use Rattle.rob_runs.specs.Spots.{IsWideSlack, slack_of}
+use Rattle.rob_runs.specs.Told.{HasNoGreatestAlong, IsGreatestAt, TellsWorst, cleared_plan}
 use Rattle.rob_top.specs.Searched.{IsWorstScenario, slack_in}
 
 -- minus a multiple, over its factor
@@ -68,6 +73,56 @@ module _ (m : RobustModel) (model : IsModel m) (form : ℕ) (some : form < lengt
             (slack_falls (form_at m form 1ℚ u z) (form_at m form 1ℚ scenario z)
             (found_greatest m model form some z size basis scenario amounts t.found u a));
       }
+
+  -- ---- one slack
+  tells : (basis : List ℕ) (scenario amounts : List Fraction) → FindsScenario m form z basis scenario amounts
+      → TellsWorst m form z (cleared_by z) (dot amounts (set_limits m)) (constant_part m form (cleared_plan z)) scenario basis amounts
+  tells basis scenario amounts found =
+      record { found = found; denominator_is = refl; peak_is = refl; constant_is = refl }
+
+  no_greater : (basis other : List ℕ) (scenario amounts u more : List Fraction) → FindsScenario m form z basis scenario amounts
+      → FindsScenario m form z other u more → dot amounts (set_limits m) ≤ℚ dot more (set_limits m)
+  no_greater basis other scenario amounts u more found also =
+      let g = told_greatest m model form some z size _ _ _ scenario basis amounts (tells basis scenario amounts found) in
+      let h = told_greatest m model form some z size _ _ _ u other more (tells other u more also) in
+      subst (λ x. x ≤ℚ dot more (set_limits m)) g.attained (h.greatest scenario g.admitted)
+
+  -- the greatest value is one, at whichever basis the search ends
+  one_peak : (basis other : List ℕ) (scenario amounts u more : List Fraction) → FindsScenario m form z basis scenario amounts
+      → FindsScenario m form z other u more → dot amounts (set_limits m) ≡ dot more (set_limits m)
+  one_peak basis other scenario amounts u more found also =
+      Q.le_antisym_ℚ (dot amounts (set_limits m)) (dot more (set_limits m))
+      (no_greater basis other scenario amounts u more found also) (no_greater other basis u more scenario amounts also found)
+
+  -- so where the numbers of its slack fit, none of a slack is wide
+  pub fitting_slack : (limit : ℕ) (scale peak constant : Fraction) (scenario : List Fraction) (basis : List ℕ) (amounts : List Fraction)
+      → TellsWorst m form z scale peak constant scenario basis amounts → Fits limit (peak +ℚ constant)
+      → Fits limit (slack_of scale peak constant) → IsWideSlack limit m form z → ⊥
+  fitting_slack limit scale peak constant scenario basis amounts t sum_fits slack_fits wide = by wide.wide
+    where
+      same : dot wide.amounts (set_limits m) ≡ peak
+      same = one_peak wide.basis basis wide.scenario wide.amounts scenario amounts wide.found t.found ∙ sym t.peak_is
+
+      by : IsWide limit (dot wide.amounts (set_limits m) +ℚ constant_part m form (cleared_plan z))
+          ⊎ IsWide limit (slack_of (cleared_by z) (dot wide.amounts (set_limits m)) (constant_part m form (cleared_plan z))) → ⊥
+      by (inl h) =
+          fits_not_wide limit (peak +ℚ constant) sum_fits
+          (subst (λ x. IsWide limit x) (ap₂ ◌+ℚ◌ same (sym t.constant_is)) h)
+      by (inr h) =
+          fits_not_wide limit (slack_of scale peak constant) slack_fits
+          (subst (λ s. IsWide limit (slack_of s peak constant)) (sym t.denominator_is)
+          (subst (λ k. IsWide limit (slack_of (cleared_by z) peak k)) (sym t.constant_is)
+          (subst (λ p. IsWide limit (slack_of (cleared_by z) p (constant_part m form (cleared_plan z)))) same h)))
+
+  -- along a ray there is no slack
+  pub endless_slack : (limit : ℕ) (ray : List Fraction) → HasNoGreatestAlong m form z ray → IsWideSlack limit m form z → ⊥
+  endless_slack limit ray along wide =
+      let top : Fraction = form_at m form 1ℚ wide.scenario z in
+      let u = along.no_greatest (1ℚ +ℚ top) in
+      Q.not_lt_ℚ (1ℚ +ℚ top) top
+      (Q.le_trans_ℚ (1ℚ +ℚ top) (form_at m form 1ℚ u.0 z) top u.2
+      (found_greatest m model form some z size wide.basis wide.scenario wide.amounts wide.found u.0 u.1))
+      (Q.lt_from (top ∷ []) v0 (lit (pos 1) :+ v0) (lit (pos 1)) refl zero_lt_one)
 
 -- a plan that has its bound has no slack below 0
 pub bound_slack : (m : RobustModel) → IsModel m → (form : ℕ) (plan : List Fraction) (tau : Fraction) → HasBound m plan tau

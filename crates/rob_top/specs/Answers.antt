@@ -1,4 +1,5 @@
--- The texts of answers. Each is one line, where no name in it has a line end; but a path of branches has one for each.
+-- The texts of answers. Each is one line, where no name in it has a line end; but a path of branches has one for each,
+-- and the limit of a sweep one.
 use Rattle.std.specs.Fmt.{decimal, signed_decimal}
 use Rattle.std.specs.Prelude.{ℕ, Bool, true, false, List, ◌++◌, codes, flat_map}
 use Rattle.rob_algebra.specs.Fraction.{Fraction}

@@ -8,7 +8,7 @@ use Rattle.rob_outside.specs.Fetches.{Fetch}
 use Rattle.rob_outside.specs.Files.{File, Found, whole, found_at}
 use Rattle.rob_outside.specs.Puts.{Put}
 use Rattle.rob_words.specs.Commands.{Line, IsSpelled}
-use Rattle.rob_words.specs.Values.{Word, bits_of}
+use Rattle.rob_words.specs.Values.{Word, greatest_of}
 use Rattle.rob_words.specs.Verbs.{own_of, takes_route}
 use Rattle.rob_words.specs.contracts.verb.Own.{the_type}
 use Rattle.rob_words.specs.declared.verb.Own.{Own}
@@ -219,7 +219,7 @@ IsElaborating verb = elaborates verb ≡ true
 
 -- the greatest number of a command line's width: 2^62 - 1 where it names no width
 abbrev pub limit_of : Line → ℕ
-limit_of line = 2 ^ bits_of line.width - 1
+limit_of line = greatest_of line.width
 
 module _ (call : Call) where
   -- this is what is found of a file

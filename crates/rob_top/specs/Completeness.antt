@@ -26,6 +26,7 @@ use Rattle.rob_reach.specs.Sweeps.{IsBudgetAt}
 use Rattle.rob_reach.specs.WholeStatus.{HasWholeStatus}
 use Rattle.rob_replay.specs.Files.{IsFile}
 use Rattle.rob_replay.specs.Outcome.{outcome}
+use Rattle.rob_runs.specs.Spots.{IsWideSlack}
 use Rattle.rob_sets.specs.FirstWide.{IsFirstWide}
 use Rattle.rob_sets.specs.SetForm.{judged_set}
 use Rattle.rob_tree.specs.Reading.{Breaks as BreaksTree}
@@ -44,7 +45,7 @@ use Rattle.rob_words.specs.Commands.{Line, IsCommandLine, IsSpelled}
 use Rattle.rob_words.specs.Values.{Word}
 use Rattle.rob_words.specs.declared.verb.Own.TheVariants as own
 use Rattle.rob_words.specs.declared.verb.Verb.TheVariants.{Rows, Text, Narrow}
-use Rattle.rob_top.specs.Endings.{IsUnput, IsOutside, EndsAs, IsSolveAnswer, IsEmptyAnswer, IsShownAnswer, IsProvedAnswer, IsWholeAnswer, IsWorstAnswer, IsEmptyWholeAnswer, IsSweepAnswer, IsNarrowAt, IsNarrowBelow, NamesFault, NamesWidth, IsTreeAnswer}
+use Rattle.rob_top.specs.Endings.{IsUnput, IsOutside, EndsAs, IsSolveAnswer, IsEmptyAnswer, IsShownAnswer, IsProvedAnswer, IsWholeAnswer, IsWorstAnswer, IsEmptyWholeAnswer, IsSweepAnswer, IsNarrowAt, IsNarrowBelow, NamesFault, NamesWidth, NamesWideSought, IsTreeAnswer}
 
 -- ---- how a call must end, by its words and by what is found of its files
 
@@ -146,6 +147,10 @@ module _ (call : Call) (result : Ended) where
     pub worst_printed : (line : Line) (m : RobustModel) (c : Certificate) (form : ℕ) (u : List Fraction)
         → HasSought call line m c form → Admits m u
         → ((spot : Spot) → IsWideSought (limit_of line) m form (certificate_vector c) spot → ⊥) → EndsAs Printed result
+    -- a number of the slack is wide, so a wide number is named
+    pub worst_slack : (line : Line) (m : RobustModel) (c : Certificate) (form : ℕ) → HasSought call line m c form
+        → IsWideSlack (limit_of line) m form (certificate_vector c)
+        → NamesWideSought (limit_of line) m form (certificate_vector c) result
     -- `checktree`: the tree's text breaks a rule, so that rule and its line are named
     pub tree_broken : (line : Line) (m : RobustModel) (names bytes : List ℕ) (rule number : ℕ) → HasTreeFile call line m names bytes
         → BreaksTree (limit_of line) m names bytes rule number → EndsAs (TreeRule rule number) result

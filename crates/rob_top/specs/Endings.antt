@@ -91,6 +91,11 @@ IsWorstAnswer limit m form z (EmptySet weights) = IsEmptySet m
 IsWorstAnswer limit m form z (TooWide spot) = IsWideSought limit m form z spot
 IsWorstAnswer limit m form z ended = IsOutside ended
 
+-- one of them where a number of the slack is wide: a number on the way is named
+abbrev pub NamesWideSought : ℕ → RobustModel → ℕ → List Fraction → Ended → Type 0
+NamesWideSought limit m form z result =
+    ((spot : Spot) × IsWideSought limit m form z spot × (result ≡ TooWide spot)) ⊎ IsOutside result
+
 -- the number is wide before it is known whether some joint scenario is admitted: it is the first of the set rows and
 -- forms; or none of them is wide, and it is one of a row of a basis on the path of the set's program
 pub data IsWideBefore (limit : ℕ) (m : RobustModel) (spot : Spot) : Type 0 where

@@ -1,6 +1,7 @@
 -- The answers of `worst`: the worst case of a form at the plan of a certificate.
-use Rattle.std.specs.Prelude.{◌≡◌, ◌≢◌, ◌<◌, ℕ, ℤ, List, false, length, map}
+use Rattle.std.specs.Prelude.{◌≡◌, ◌≢◌, ◌<◌, ℕ, ℤ, List, ◌∷◌, false, length, map}
 use Rattle.rob_algebra.specs.Fraction.{Fraction, neg_ℚ, of_int, ◌≤ℚ◌}
+use Rattle.rob_algebra.specs.Width.{Fits}
 use Rattle.rob_cert.specs.Causes.{HasCause}
 use Rattle.rob_cert.specs.Reading.{start}
 use Rattle.rob_cert.specs.Spelling.{name_at, naming_of}
@@ -11,7 +12,7 @@ use Rattle.rob_meaning.specs.Certificates.{Certificate, infeasible}
 use Rattle.rob_meaning.specs.Forms.{form_at, plan_vector}
 use Rattle.rob_meaning.specs.Guarantee.{HasBound}
 use Rattle.rob_meaning.specs.Names.{form_names}
-use Rattle.rob_meaning.specs.Places.{0ℚ, 1ℚ}
+use Rattle.rob_meaning.specs.Places.{0ℚ, 1ℚ, Each}
 use Rattle.rob_meaning.specs.RobustModel.{RobustModel}
 use Rattle.rob_meaning.specs.UncertaintySet.{Admits}
 use Rattle.rob_model.specs.declared.place.Spot.{Spot}
@@ -46,20 +47,23 @@ module _ (m : RobustModel) (form : ℕ) (z : List Fraction) where
     pub slack_is : slack ≡ slack_in scenario
     pub least : (u : List Fraction) → Admits m u → slack ≤ℚ slack_in u
 
-  -- the slack and a worst scenario, that at the last basis of the search; or, where the slack falls without end over
-  -- the set, a ray of the set along which it does, that of the last basis
-  pub data ShowsWorst (text : List ℕ) : Type 0 where
-    attained : (basis : List ℕ) (scenario amounts : List Fraction) (slack : Fraction)
-        → FindsScenario m form z basis scenario amounts → IsWorstScenario scenario slack
-        → text ≡ greatest_text m form slack scenario → ShowsWorst text
-    endless : (basis : List ℕ) (column : ℕ) (ray : List Fraction) → FindsRay m form z basis column ray
-        → HasNoGreatestAlong m form z ray → text ≡ along_text m form ray → ShowsWorst text
-
   -- a worst scenario, in which the slack isn't below 0
   abbrev pub ShowsKept : List ℕ → Type 0
   ShowsKept text =
       (scenario : List Fraction) × (slack : Fraction) × IsWorstScenario scenario slack × (0ℚ ≤ℚ slack)
       × (text ≡ greatest_text m form slack scenario)
+
+-- the slack and a worst scenario, that at the last basis of the search; or, where the slack falls without end over the
+-- set, a ray of the set along which it does, that of the last basis. The numbers fit, and none is wide on the way to
+-- the slack
+pub data ShowsWorst (limit : ℕ) (m : RobustModel) (form : ℕ) (z : List Fraction) (text : List ℕ) : Type 0 where
+  attained : (basis : List ℕ) (scenario amounts : List Fraction) (slack : Fraction)
+      → FindsScenario m form z basis scenario amounts → IsWorstScenario m form z scenario slack
+      → Each (Fits limit) (slack ∷ scenario) → (IsWideSlack limit m form z → ⊥)
+      → text ≡ greatest_text m form slack scenario → ShowsWorst limit m form z text
+  endless : (basis : List ℕ) (column : ℕ) (ray : List Fraction) → FindsRay m form z basis column ray
+      → HasNoGreatestAlong m form z ray → Each (Fits limit) ray → text ≡ along_text m form ray
+      → ShowsWorst limit m form z text
 
 -- ---- numbers that are wide
 
@@ -80,7 +84,7 @@ module _ (call : Call) where
     pub c : Certificate
     pub form : ℕ
     pub has : HasSought call line m c form
-    pub shows : ShowsWorst m form (certificate_vector c) text
+    pub shows : ShowsWorst (limit_of line) m form (certificate_vector c) text
     pub kept : HasBound m c.plan c.value → ShowsKept m form (certificate_vector c) text
 
   -- ---- refusals

@@ -1,17 +1,14 @@
 -- The answers of `rows`, `solve` and `prove`.
-use Rattle.std.specs.Prelude.{◌≡◌, ◌≢◌, ◌<◌, ℕ, ℤ, List, map}
-use Rattle.rob_algebra.specs.Fraction.{Fraction, of_int}
+use Rattle.std.specs.Prelude.{◌≡◌, ℕ, ℤ, List, map}
+use Rattle.rob_algebra.specs.Fraction.{of_int}
 use Rattle.rob_cert.specs.Apart.{FitsLines}
 use Rattle.rob_cert.specs.Shape.{HasShape}
 use Rattle.rob_cert.specs.Spelling.{cert_text}
 use Rattle.rob_dualize.specs.Solving.{IsReadAtEnd, IsShownEmpty}
 use Rattle.rob_meaning.specs.Certificates.{Certificate, Status, optimal, infeasible, unbounded}
 use Rattle.rob_meaning.specs.Guarantee.{HasBound, HasWorstCase}
-use Rattle.rob_meaning.specs.Places.{0ℚ, at}
 use Rattle.rob_meaning.specs.Proves.{Proves, HasStatus}
-use Rattle.rob_meaning.specs.RobustModel.{RobustModel, set_count}
-use Rattle.rob_meaning.specs.SetRows.{set_of_set_row}
-use Rattle.rob_meaning.specs.UncertaintySet.{Admits, AdmitsIn}
+use Rattle.rob_meaning.specs.RobustModel.{RobustModel}
 use Rattle.rob_report.specs.Report.{report_of}
 use Rattle.rob_report.specs.Rows.{rows_of}
 use Rattle.rob_report.specs.Spots.{empty_set_lines}
@@ -65,17 +62,11 @@ module _ (call : Call) where
     pub fits : FitsLines (limit_of line) m c
     pub printed : IsPrinted line.verb m c text
 
-  -- no joint scenario is admitted: with these weights the set rows sum to 0 on each column, and to a negative right side. The rows
-  -- whose weight isn't 0 belong to one set, which admits nothing itself
+  -- no joint scenario is admitted, as the weights show
   pub record IsEmptySet (weights : List ℤ) (text : List ℕ) : Type 0 where
     pub line : Line
     pub m : RobustModel
     pub forms : HasForms call line m
     pub solves : IsSolving line.verb
-    pub none_admitted : (u : List Fraction) → Admits m u → ⊥
     pub shown : IsShownEmpty m (map of_int weights)
-    pub set : ℕ
-    pub is_set : set < set_count m
-    pub own : (i : ℕ) → at (map of_int weights) i ≢ 0ℚ → set_of_set_row m i ≡ set
-    pub none_in_set : (u : List Fraction) → AdmitsIn m set u → ⊥
     pub printed : text ≡ empty_set_lines m weights

@@ -1,9 +1,11 @@
 -- The answers of `sweep` and `sweeptext`: a model at other limits of one of its budgets.
 use Rattle.std.specs.Prelude.{◌≡◌, ◌⊎◌, Bool, true, false, ℕ, pos, List, Some, map}
 use Rattle.rob_algebra.specs.Fraction.{Fraction, of_pair}
+use Rattle.rob_algebra.specs.Width.{Fits}
+use Rattle.rob_meaning.specs.Places.{Each}
 use Rattle.rob_meaning.specs.RobustModel.{RobustModel}
 use Rattle.rob_model.specs.declared.place.Spot.{Spot}
-use Rattle.rob_reach.specs.Sweeps.{IsBudgetAt, SweepAnswer, Swept, with_budget}
+use Rattle.rob_reach.specs.Sweeps.{IsBudgetAt, SweepAnswer, Swept, is_optimal, with_budget}
 use Rattle.rob_sweep.specs.Answering.{AreWritten, EachAnswer, EachGrowsHarder, NamesEmpty}
 use Rattle.rob_sweep.specs.Stops.{BreaksRule, IsWideAt, KeepsRules}
 use Rattle.rob_sweep.specs.SweepText.{sweep_text}
@@ -55,6 +57,11 @@ pub record TellsLimits (line : Line) (limits : List Fraction) : Type 0 where
   pub told : word_of own.Limits (own_of line.verb) line.own ≡ Some word
   pub parts : limits ≡ map limit_value (parts_of word)
 
+-- the value that an answer tells fits
+abbrev pub ValueFits : ℕ → SweepAnswer → Type 0
+ValueFits limit (is_optimal v) = Fits limit v
+ValueFits limit answer = Unit {0}
+
 module _ (call : Call) where
   -- the model was read, and the words say `sweep`, and tell this statement and these limits
   pub record HasSweep (line : Line) (m : RobustModel) (n : ℕ) (limits : List Fraction) : Type 0 where
@@ -74,8 +81,8 @@ module _ (call : Call) where
 
   -- a line for each limit is printed, with the answer of the model that has it: its status, or that the set is
   -- empty, exactly where no joint scenario is admitted, and then one of its sets admits nothing. Of any two answers the
-  -- later one is no easier. The statement is a budget, the limits rise, and no number is wide when the models with them
-  -- are written in whole numbers
+  -- later one is no easier. The statement is a budget, the limits rise, no number is wide when the models with them are
+  -- written in whole numbers, and the values fit
   pub record IsPriced (text : List ℕ) : Type 0 where
     pub line : Line
     pub m : RobustModel
@@ -88,6 +95,7 @@ module _ (call : Call) where
     pub swept : Swept m n limits answers
     pub empty : EachAnswer NamesEmpty m n limits answers
     pub harder : EachGrowsHarder m.sense answers
+    pub fits : Each (ValueFits (limit_of line)) answers
     pub printed : text ≡ sweep_text limits answers
 
   -- the statement is a budget, and the canonical text of the model with that limit in it is printed

@@ -1,7 +1,7 @@
 -- What the work on a model answers, whichever call it is done for.
 use Rattle.std.specs.Prelude.{◌≡◌, ◌≢◌, ◌⊎◌, ℕ, pos, ◌^◌, ◌≤◌, List, length, map}
 use Rattle.rob_algebra.specs.Fraction.{Fraction, of_int, ◌+ℚ◌}
-use Rattle.rob_algebra.specs.Width.{IsWide}
+use Rattle.rob_algebra.specs.Width.{Fits, IsWide}
 use Rattle.rob_cert.specs.declared.ending.Worst.{Worst}
 use Rattle.rob_cert.specs.declared.ending.Worst.TheVariants.{At, Along}
 use Rattle.rob_meaning.specs.Certificates as meaning
@@ -184,10 +184,11 @@ HasScale value (At scale peak constant scenario basis amounts) = value scale ≢
 HasScale value (Along ray basis column) = Unit {0}
 
 module _ (limit : ℕ) (m : RobustModel) (form : ℕ) (wides : Count) where
-  -- the reply to a worst scenario: it is printed with its slack; or a number of the slack is wide
+  -- the reply to a worst scenario: it is printed with its slack, and both numbers of that fit; or one of them is wide
   abbrev pub RepliesSlack : Fraction → Fraction → Fraction → List Fraction → Reply → Type 0
   RepliesSlack scale peak constant scenario reply =
-      Replies Printed (greatest_text m form (slack_of scale peak constant) scenario) reply
+      (Replies Printed (greatest_text m form (slack_of scale peak constant) scenario) reply
+      × (Fits limit (peak +ℚ constant) × Fits limit (slack_of scale peak constant)))
       ⊎ (Replies (TooWide (spots.Sum (Cost form) 0)) (too_wide_line m (spots.Sum (Cost form) 0)) reply × WasRaised wides
       × (IsWide limit (peak +ℚ constant) ⊎ IsWide limit (slack_of scale peak constant)))
 

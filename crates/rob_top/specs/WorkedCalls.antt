@@ -1,5 +1,5 @@
--- Calls worked by hand, of which the laws say how they must end: `solve one.rob`, `whole one.rob x`, `check one.rob one.cert`,
--- `worst one.rob one.cert r` and `replay one.rob one.cert one.csv`, where the shelf tells files of these names; and `text N`.
+-- Calls worked by hand, of which the laws say how they must end: commands on `one.rob`, `one.cert`, `one.csv`, where the shelf
+-- tells files of these names; and `text N`.
 use Rattle.std.specs.Prelude.{ℕ, ◌-◌, ◌^◌, pos, false, List, [], ◌∷◌, ◌++◌, Some, None, codes}
 use Rattle.rob_algebra.specs.Fraction.{neg_ℚ, of_int}
 use Rattle.rob_cert.specs.Spelling.{cert_text}
@@ -115,6 +115,12 @@ half_a_demand = record one_demand {
     relation = at_least;
     right = parameter 0;
   } ∷ [];
+}
+
+-- the same where d lies in [13, 8], so no scenario is admitted
+abbrev pub impossible_demand : RobustModel
+impossible_demand = record half_a_demand {
+  parameters = record { name = codes "d"; lower = Some (of_int (pos 13)); upper = Some (of_int (pos 8)) } ∷ [];
 }
 
 -- minimise x, where d lies in [12, 8], so no scenario is admitted

@@ -8,10 +8,10 @@ use rob_number::List;
 use rob_tree::{Branch, LeafFault};
 
 /// How a run ended. `Model`, `Cert`, `Scenarios` and `Tree` hold the number of the rule that the text breaks, and its
-/// line or record, from 1.
+/// line or record, from 1; `Cert` is also of a text that breaks none, of a certificate without a plan.
 #[derive(Debug, Drop)]
 pub enum Ended {
-    /// The model is optimal.
+    /// The model is optimal; at `whole` and `tree` over plans whose named variables are whole, and so the next two.
     Optimal,
     /// No plan keeps every row in every scenario of its set.
     Infeasible,
@@ -19,7 +19,7 @@ pub enum Ended {
     Unbounded,
     /// What was asked for was printed.
     Printed,
-    /// The certificate proves what it claims.
+    /// The certificate, or the branch tree, proves what it claims.
     Accepted,
     /// The certificate doesn't prove: that condition fails.
     Rejected(Place),

@@ -10,11 +10,11 @@ ghost use Rattle.rob_check.specs.Narrow.{IsFirstFailing};
 ghost use Rattle.rob_dualize.specs.SmallestModel.{one_demand};
 ghost use Rattle.rob_dualize.specs.Solving.{IsNarrowModel, IsWideOnPath};
 ghost use Rattle.rob_gen.specs.Generated.{generated};
-ghost use Rattle.rob_meaning.specs.Certificates.{Status, infeasible};
+ghost use Rattle.rob_meaning.specs.Certificates.{Status, infeasible, optimal};
 ghost use Rattle.rob_meaning.specs.Places.{Each};
 ghost use Rattle.rob_meaning.specs.Proves.{HasStatus};
 ghost use Rattle.rob_meaning.specs.RobustModel.{RobustModel};
-ghost use Rattle.rob_meaning.specs.UncertaintySet.{Admits};
+ghost use Rattle.rob_meaning.specs.UncertaintySet.{Admits, IsEmptySet};
 ghost use Rattle.rob_model.specs.declared.place.Place.{Place};
 ghost use Rattle.rob_model.specs.declared.place.Spot.{Spot};
 ghost use Rattle.rob_model.specs.declared.place.Spot.TheVariants.{Replay as ReplaySpot};
@@ -25,9 +25,9 @@ ghost use Rattle.rob_top.specs.Calls.{Call, IsSolving, Known, known_call, limit_
 ghost use Rattle.rob_report.specs.NarrowText.{narrow_line};
 ghost use Rattle.rob_top.specs.Checked.{IsAccepted};
 ghost use Rattle.rob_top.specs.Completeness.{IsComplete, MustEnd};
-ghost use Rattle.rob_top.specs.Endings.{EndsAs, IsEmptyAnswer, IsProvedAnswer, IsSweepAnswer, IsUnput, NamesWidth};
+ghost use Rattle.rob_top.specs.Endings.{EndsAs, IsEmptyAnswer, IsEmptyWholeAnswer, IsOutside, IsProvedAnswer, IsShownAnswer, IsSweepAnswer, IsUnput, NamesFault, NamesWidth};
 ghost use Rattle.rob_top.specs.Headline.{Means};
-ghost use Rattle.rob_top.specs.Inputs.{HasCertificateFile, HasModel, HasReplayFile};
+ghost use Rattle.rob_top.specs.Inputs.{HasCertificateFile, HasModel, HasReplayFile, HasWorstFile};
 ghost use Rattle.rob_top.specs.Narrowed.{IsNarrowed};
 ghost use Rattle.rob_top.specs.Replayed.{IsReplayed};
 ghost use Rattle.rob_top.specs.Searched.{IsSearched, ShowsKept, certificate_vector};
@@ -35,10 +35,11 @@ ghost use Rattle.rob_top.specs.Solved.{IsSolved};
 ghost use Rattle.rob_top.specs.Swept.{limit_value};
 ghost use Rattle.rob_top.specs.TreeChecked.{HasTreeFile, IsTreeAccepted};
 ghost use Rattle.rob_top.specs.Work.{ended_of};
-ghost use Rattle.rob_top.specs.WorkedCalls.{check_call, demand_within_a_budget, empty_interval, first_text, greatest, half_a_demand, hard_and_soft, narrow_call, never_calm, no_demand, no_order, order_11, order_12, order_least, replay_call, solve_call, sweep_call, text_call, two_demands, two_demands_table, whole_call, worst_call};
-ghost use Rattle.rob_top.specs.WorkedTrees.{tree_call};
+ghost use Rattle.rob_top.specs.WorkedCalls.{check_call, demand_within_a_budget, empty_interval, first_text, greatest, half_a_demand, hard_and_soft, impossible_demand, narrow_call, never_calm, no_demand, no_order, order_11, order_12, order_least, replay_call, solve_call, sweep_call, text_call, two_demands, two_demands_table, whole_call, worst_call};
+ghost use Rattle.rob_top.specs.WorkedTrees.{cheaper_orders, tree_call, whole_orders};
 ghost use Rattle.rob_top.specs.declared.ended.Ended.{Ended};
 ghost use Rattle.rob_top.specs.declared.ended.Ended.TheVariants.{Accepted, Cert, EmptySet, NoRow, Optimal, Printed, Rejected, Scenarios, Sweep, TooWide, Tree as NoTree, Whole, WideNode};
+ghost use Rattle.rob_tree.specs.TreeText.{tree_text};
 ghost use Rattle.rob_tree.specs.declared.tree.Branch.{Branch};
 ghost use Rattle.rob_words.specs.Commands.{Line};
 ghost use Rattle.rob_words.specs.Kinds.{IsNumber};
@@ -77,6 +78,11 @@ pub fn narrow_then_solve()
         → IsSolving line.verb → HasModel (known_call solving known) line narrowed.m → (ended : Ended) → Means solving ended shown
         → (u : List Fraction) → Admits narrowed.m u
         → (status : Status) × (v : Fraction) × HasStatus narrowed.m status v × EndsAs (ended_of status) ended }
+    // Where none is, an empty set is answered, with weights that show it, or again the outside fails, or memory is refused.
+    ensures empty { (narrowing solving : Call) (text front shown : List ℕ) (narrowed : IsNarrowed narrowing text)
+        → text ≡ front ++ narrow_line true → (known : Known solving.source) (line : Line) → line.width ≡ narrowed.line.width
+        → IsSolving line.verb → HasModel (known_call solving known) line narrowed.m → (ended : Ended) → Means solving ended shown
+        → IsEmptySet narrowed.m → IsShownAnswer narrowed.m ended }
 {}
 
 /// The plan of a certificate that `check` accepted, as `replay` takes it on the same model.
@@ -95,12 +101,19 @@ pub fn check_then_worst()
         → ShowsKept searched.m searched.form (certificate_vector searched.c) shown }
 {}
 
-/// The plan of the certificate that `prove` printed, as `worst` takes it on the same model.
+/// The text that `prove` printed, as the certificate's file of a `worst` on the same model at the same width.
 pub fn prove_then_worst()
-    // So it is of that.
+    // A worst scenario is printed, whichever form is named, and no slack below 0;
     ensures kept { (proving searching : Call) (status : Status) (text shown : List ℕ) (solved : IsSolved proving status text)
-        (searched : IsSearched searching shown) → searched.m ≡ solved.m → searched.c ≡ solved.c
-        → ShowsKept searched.m searched.form (certificate_vector searched.c) shown }
+        → solved.line.verb ≡ Prove → (known : Known searching.source) (line : Line) → line.width ≡ solved.line.width
+        → HasWorstFile (known_call searching known) line solved.m text
+        → (searched : IsSearched searching shown) → ShowsKept solved.m searched.form (certificate_vector solved.c) shown }
+    // and the text is refused for one reason alone: the model is infeasible, so that there is no plan.
+    ensures refused { (proving searching : Call) (status : Status) (text shown : List ℕ) (solved : IsSolved proving status text)
+        → solved.line.verb ≡ Prove → (known : Known searching.source) (line : Line) → line.width ≡ solved.line.width
+        → HasWorstFile (known_call searching known) line solved.m text
+        → (rule number : ℕ) → Means searching (Cert rule number) shown
+        → (rule ≡ 34) × ((number ≡ 1) × (status ≡ infeasible)) }
 {}
 
 /// The text that `prove` printed, as the certificate's file of a `replay` on the same model at the same width.
@@ -118,7 +131,8 @@ pub fn prove_then_replay()
         → (rule ≡ 34) × ((number ≡ 1) × (status ≡ infeasible)) }
 {}
 
-/// The text that `tree` printed, as the tree's file of a `checktree` on the same model and variables at the same width.
+/// The text that `tree` printed, as the tree's file of a `checktree` on the same model and the same names in the same order,
+/// at the same width.
 pub fn tree_then_checktree()
     // It is accepted; or a number of the check is wide, and its place is named; or the outside fails, or memory is refused.
     ensures accepted { (growing checking : Call) (status : Status) (text shown : List ℕ) (branched : IsBranched growing status text)
@@ -126,10 +140,10 @@ pub fn tree_then_checktree()
         → HasTreeFile (known_call checking known) line branched.m branched.names text → (ended : Ended)
         → Means checking ended shown
         → EndsAs Accepted ended ⊎ NamesWidth (limit_of line) branched.m branched.names branched.t ended }
-    // And whichever tree is accepted there claims the status that `whole` and `tree` answer.
+    // And whichever tree is accepted there claims the status that `whole` and `tree` answer, and the value of an optimum.
     ensures one_status { (growing checking : Call) (status : Status) (text shown : List ℕ) (branched : IsBranched growing status text)
         (accepted : IsTreeAccepted checking shown) → accepted.m ≡ branched.m → accepted.names ≡ branched.names
-        → accepted.t.status ≡ status }
+        → (accepted.t.status ≡ status) × (status ≡ optimal → accepted.t.value ≡ branched.t.value) }
 {}
 
 /// What `text` prints for a number.
@@ -162,9 +176,15 @@ pub fn status_laws()
 pub fn worked_calls()
     // `solve` on the smallest model is answered with `optimal`,
     ensures optimal { (result : Ended) → MustEnd (solve_call one_demand) result → EndsAs Optimal result }
-    // and on a model without a scenario by weights that show it, or a wide row of the set's program.
+    // and with no wide number, as the model is narrow;
+    ensures narrow_spot { (result : Ended) → MustEnd (solve_call one_demand) result → (spot : Spot) → (result ≡ TooWide spot) → ⊥ }
+    ensures narrow_status { (result : Ended) → MustEnd (solve_call one_demand) result
+        → (status : Status) × (v : Fraction) × HasStatus one_demand status v × EndsAs (ended_of status) result }
+    // on a model without a scenario by weights that show it, or a wide row of the set's program,
     ensures empty { (result : Ended) → MustEnd (solve_call empty_interval) result
         → IsEmptyAnswer greatest empty_interval result }
+    // and, as that model is narrow too, by no wide row.
+    ensures narrow_empty { (result : Ended) → MustEnd (solve_call empty_interval) result → IsShownAnswer empty_interval result }
     // A model with a named set is read from its text, rows over that set among them: it is answered with `optimal`, or a wide row,
     ensures named_set { (result : Ended) → MustEnd (solve_call hard_and_soft) result
         → EndsAs Optimal result ⊎ ((spot : Spot) × IsWideOnPath greatest hard_and_soft spot × (result ≡ TooWide spot)) }
@@ -196,6 +216,9 @@ pub fn worked_calls()
     // On a model whose optimum in fractions isn't whole it is answered with `optimal`, or a wide number of a box.
     ensures halves { (result : Ended) → MustEnd (whole_call half_a_demand (codes "x")) result
         → EndsAs Optimal result ⊎ ((path : List Branch) × (spot : Spot) × (result ≡ WideNode path spot)) }
+    // Where that model admits no scenario, by weights that show it, or a wide number of the set's program.
+    ensures empty_whole { (result : Ended) → MustEnd (whole_call impossible_demand (codes "x")) result
+        → IsEmptyWholeAnswer greatest impossible_demand result }
     // `worst` prints the worst case of a row, or names a wide number;
     ensures worst_case { (result : Ended) → MustEnd (worst_call order_12 (codes "r")) result
         → EndsAs Printed result ⊎ ((spot : Spot) × (result ≡ TooWide spot)) }
@@ -204,8 +227,15 @@ pub fn worked_calls()
         → EndsAs NoRow result }
     ensures unplanned { (result : Ended) → MustEnd (worst_call no_order (codes "r")) result
         → EndsAs (Cert 34 1) result }
-    // `checktree` names rule 71 of a tree's file that is empty.
+    // `checktree` names rule 71 of a tree's file that is empty;
     ensures treeless { (result : Ended) → MustEnd (tree_call half_a_demand []) result → EndsAs (NoTree 71 1) result }
+    // it accepts a tree that proves, or names a wide number;
+    ensures proved_tree { (result : Ended) → MustEnd (tree_call half_a_demand (tree_text half_a_demand whole_orders)) result
+        → EndsAs Accepted result ⊎ NamesWidth greatest half_a_demand (0 ∷ []) whole_orders result }
+    // and of one that doesn't prove it names a condition that fails, or a wide number.
+    ensures unproved_tree { (result : Ended) → MustEnd (tree_call half_a_demand (tree_text half_a_demand cheaper_orders)) result
+        → NamesFault greatest half_a_demand (0 ∷ []) cheaper_orders result
+        ⊎ (NamesWidth greatest half_a_demand (0 ∷ []) cheaper_orders result ⊎ IsOutside result) }
     // `sweep` and `sweeptext` name rule 81 for a model without statements on its set.
     ensures unswept { (result : Ended) → MustEnd (sweep_call (codes "sweep") one_demand) result
         → EndsAs (Sweep 81) result }

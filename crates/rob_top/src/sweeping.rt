@@ -225,7 +225,7 @@ fn written<N: Exact>(alloc: Global, model: &Model<N>) -> Result<Reply, Memory>
     })
 }
 
-/// The answer to words that are no command line.
+/// What is answered where own words aren't of their kinds; no command line has such.
 fn no_line(alloc: Global) -> Result<Reply, Memory>
     ensures fault { IfOk result (Replies Ended.Words words_text) }
 {

@@ -1,6 +1,6 @@
 use Rattle.std.proofs.Common.{refl}
 use Rattle.rob_top.proofs.CompletenessLemmas.{means_complete}
-use Rattle.rob_top.proofs.NarrowLawLemmas.{narrow_has_status, narrow_refuses_none, says_narrow}
+use Rattle.rob_top.proofs.NarrowLawLemmas.{narrow_has_status, narrow_refuses_none, narrow_shows_empty, says_narrow}
 use Rattle.rob_top.specs.declared.ended.Ended.TheVariants.{TooWide}
 use Rattle.rob_top.proofs.laws.narrow_then_solve.Goals as goal
 
@@ -12,5 +12,8 @@ returns c = record {
       (means_complete solving (TooWide spot) shown means known) spot refl;
   status = λ narrowing solving text front shown narrowed yes known line width solves has ended means.
       narrow_has_status narrowing text narrowed front yes solving known line width solves has ended
+      (means_complete solving ended shown means known);
+  empty = λ narrowing solving text front shown narrowed yes known line width solves has ended means.
+      narrow_shows_empty narrowing text narrowed front yes solving known line width solves has ended
       (means_complete solving ended shown means known);
 }

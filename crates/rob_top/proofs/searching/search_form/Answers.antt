@@ -20,7 +20,7 @@ pub returns-in-Ok-clause-answers : goal.returns-in-Ok-clause-answers
 returns-in-Ok-clause-answers g c =
     let m = robust g.N.Exact.value c.args.model.now in
     let told = c.in-Ok.ensures.answer m c.requires.valid.well_formed c.requires.forms c.requires.set in
-    found_search g.N.Exact.value g.N.Exact.limit m c.args.form c.args.plan.now c.requires.valid.well_formed c.requires.form_in
+    found_search g.N.Exact.value g.N.Exact.limit m c.args.form c.args.plan.now g.met.N.Exact.fits c.requires.valid.well_formed c.requires.form_in
     (given_size g.N.Exact.value m c.args.plan.now c.requires.size) (g.L.Ledger.wides c.args.ledger.now) (g.L.Ledger.wides c.worst.new.ledger)
     (g.L.Ledger.wides c.with_slack.new.ledger) c.in-Ok.worst c.with_slack.result told.counted told.found.1 c.with_slack.ensures.worst
 

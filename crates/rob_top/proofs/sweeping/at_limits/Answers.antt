@@ -1,7 +1,7 @@
 use Rattle.std.proofs.Common.{IfOk, map, subst}
 use Rattle.rob_model.specs.View.{robust}
 use Rattle.rob_sweep.specs.View.{answer_of}
-use Rattle.rob_top.proofs.SweepingLemmas.{answers_count, priced_answers, unswept_answers}
+use Rattle.rob_top.proofs.SweepingLemmas.{answers_count, answers_fit, priced_answers, unswept_answers}
 use Rattle.rob_sweep.specs.SweepText.{sweep_text}
 use Rattle.rob_top.specs.Replies.{Replies}
 use Rattle.rob_top.specs.declared.ended.Ended.TheVariants.{Printed}
@@ -18,6 +18,7 @@ returns-in-Ok-clause-answers g c =
     priced_answers g.N.Exact.limit (robust g.N.Exact.value c.args.model.now) _ c.args.n (map g.N.Exact.value c.args.limits.now)
     (map (answer_of g.N.Exact.value) c.in-Ok.answers) c.printed.result c.in-Ok.ensures.cause c.in-Ok.ensures.written c.in-Ok.ensures.swept
     c.in-Ok.ensures.empty c.in-Ok.ensures.harder
+    (answers_fit g.N.Exact.value g.N.Exact.limit g.met.N.Exact.fits c.in-Ok.answers)
     (subst (λ answers. IfOk c.printed.result (Replies Printed
     (sweep_text (map g.N.Exact.value c.args.limits.now) (map (answer_of g.N.Exact.value) answers))))
     c.items.ensures.list c.printed.ensures.printed)

@@ -29,7 +29,7 @@ pub returns-in-Worst-clause-answers : goal.returns-in-Worst-clause-answers
 returns-in-Worst-clause-answers g c =
     search_answers g.N.Exact.limit (robust g.N.Exact.value c.args.model.now) _ c.args.verb c.args.texts.now c.as_slice-text-in-Worst.result.now
     (map string_bytes c.as_slice.result.now) c.as_bytes.result.now c.search_text.result c.in-Worst.is c.as_slice-text-in-Worst.ensures.value
-    (ap (map string_bytes) c.as_slice.ensures.value) (λ word told. c.as_bytes.ensures.value ∙ c.own_word.ensures.word word told)
+    (ap (map string_bytes) c.as_slice.ensures.value) (λ word told. c.as_bytes.ensures.value ∙ c.own_word-name.ensures.word word told)
     c.search_text.ensures.answers
 
 pub narrow-requires : goal.narrow-requires

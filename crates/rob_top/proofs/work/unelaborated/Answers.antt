@@ -19,8 +19,8 @@ branch_text-requires-clause-branches g c = ap branches c.in-Whole.is
 pub returns-in-Whole-clause-answers : goal.returns-in-Whole-clause-answers
 returns-in-Whole-clause-answers g c =
     names_answer g.N.Exact.limit (robust g.N.Exact.value c.args.model.now) _ c.args.verb c.args.texts.now
-    (map string_bytes c.as_slice-words.result.now) c.own_word.result.now c.branch_text.result
-    (ap branches c.in-Whole.is) (ap (map string_bytes) c.as_slice-words.ensures.value) c.own_word.ensures.word c.branch_text.ensures.answers
+    (map string_bytes c.as_slice-words.result.now) c.own_word-names.result.now c.branch_text.result
+    (ap branches c.in-Whole.is) (ap (map string_bytes) c.as_slice-words.ensures.value) c.own_word-names.ensures.word c.branch_text.ensures.answers
 
 pub branch_text-requires-in-Tree-clause-branches : goal.branch_text-requires-in-Tree-clause-branches
 branch_text-requires-in-Tree-clause-branches g c = ap branches c.in-Tree.is
@@ -28,15 +28,15 @@ branch_text-requires-in-Tree-clause-branches g c = ap branches c.in-Tree.is
 pub returns-in-Tree-clause-answers : goal.returns-in-Tree-clause-answers
 returns-in-Tree-clause-answers g c =
     names_answer g.N.Exact.limit (robust g.N.Exact.value c.args.model.now) _ c.args.verb c.args.texts.now
-    (map string_bytes c.as_slice-words.result.now) c.own_word.result.now c.branch_text-in-Tree.result
-    (ap branches c.in-Tree.is) (ap (map string_bytes) c.as_slice-words.ensures.value) c.own_word.ensures.word
+    (map string_bytes c.as_slice-words.result.now) c.own_word-names.result.now c.branch_text-in-Tree.result
+    (ap branches c.in-Tree.is) (ap (map string_bytes) c.as_slice-words.ensures.value) c.own_word-names.ensures.word
     c.branch_text-in-Tree.ensures.answers
 
 pub returns-in-CheckTree-clause-answers : goal.returns-in-CheckTree-clause-answers
 returns-in-CheckTree-clause-answers g c =
     texts_answers g.N.Exact.limit (robust g.N.Exact.value c.args.model.now) _ c.args.verb c.args.texts.now
-    (map string_bytes c.as_slice-words.result.now) c.own_word.result.now c.as_slice-tree.result.now c.check_tree_text.result c.in-CheckTree.is
-    (ap (map string_bytes) c.as_slice-words.ensures.value) c.own_word.ensures.word c.as_slice-tree.ensures.value
+    (map string_bytes c.as_slice-words.result.now) c.own_word-names.result.now c.as_slice-tree.result.now c.check_tree_text.result c.in-CheckTree.is
+    (ap (map string_bytes) c.as_slice-words.ensures.value) c.own_word-names.ensures.word c.as_slice-tree.ensures.value
     c.check_tree_text.ensures.answers
 
 pub returns-in-Sweep-clause-answers : goal.returns-in-Sweep-clause-answers
