@@ -7,4 +7,5 @@ mod TableLemmas
 mod ColumnLemmas
 mod PlaceAnswers
 mod WorstLemmas
+mod RoundLemmas
 pub mod SpotLemmas

@@ -5,4 +5,5 @@ pub mod Tables
 pub mod Places
 pub mod Spots
 pub mod Worst
+pub mod Rounds
 pub mod NarrowText

@@ -1,5 +1,6 @@
 //! The texts that are printed: the rows of a model, the report of a certificate, the table of a scenario file, the spots of
-//! wide numbers, the places of rejected certificates, the worst case of a form, and the weights that show an empty set.
+//! wide numbers, the places of rejected certificates, the worst case of a form, the rounds of the cutting-plane method, and
+//! the weights that show an empty set.
 #![tactic(auto)]
 
 mod empty_set;
@@ -9,6 +10,7 @@ mod names;
 mod narrow;
 mod places;
 mod report;
+mod rounds;
 mod rows;
 mod spots;
 mod table;
@@ -19,6 +21,7 @@ pub use empty_set::empty_set_text;
 pub use narrow::{put_bound, put_narrow};
 pub use places::place_text;
 pub use report::report_text;
+pub use rounds::put_rounds;
 pub use rows::rows_text;
 pub use spots::spot_text;
 pub use table::table_text;

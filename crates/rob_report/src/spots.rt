@@ -116,7 +116,7 @@ fn put_dictionary<N: Exact>(
 }
 
 /// Appends the basic columns, each behind a space.
-fn put_basis(basis: &[u32], out: &mut Text) -> Result<(), Memory>
+pub(crate) fn put_basis(basis: &[u32], out: &mut Text) -> Result<(), Memory>
     ensures appended { OnOk result (out.new ≡ out.old ++ basis_words basis.now) }
 {
     for column in basis {
