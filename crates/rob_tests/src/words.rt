@@ -2,7 +2,7 @@
 
 use rob_case::Trouble;
 use rob_case::text::said;
-use rob_words::{CommandLine, Verb, Width, WordsErr, read_words};
+use rob_words::{CommandLine, Route, Verb, Width, WordsErr, read_words};
 use std::alloc::Global;
 
 /// The words of a line, with `|` between them.
@@ -60,12 +60,15 @@ fn told(alloc: Global, words: &[String]) -> Result<String, Trouble> {
     }
 }
 
-/// A command's name, its own words, and the width in bits.
+/// A command's name, its own words, the route where it isn't the default, and the width in bits.
 fn spelled(alloc: Global, line: &CommandLine) -> Result<String, Trouble> {
     let mut answer = said(alloc, name(line.verb))?;
     for word in line.own.as_slice() {
         answer.push('|')?;
         answer.push_str(word.as_str())?;
+    }
+    if line.route == Route::Cuts {
+        answer.push_str(" by cuts")?;
     }
     let bits = line.width.bits();
     answer.push_str(format!(in alloc; " at {bits}")?.as_str())?;
@@ -87,6 +90,8 @@ fn name(verb: Verb) -> &'static str {
         Verb::SweepText => "sweeptext",
         Verb::Narrow => "narrow",
         Verb::Worst => "worst",
+        Verb::Cells => "cells",
+        Verb::CellText => "celltext",
     }
 }
 

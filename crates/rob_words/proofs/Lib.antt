@@ -13,4 +13,5 @@ pub mod Takings
 pub mod Spellings
 pub mod Readings
 pub mod CommaLemmas
+pub mod CutLemmas
 pub mod LimitLemmas

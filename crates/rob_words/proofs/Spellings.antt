@@ -6,7 +6,7 @@ use Rattle.rob_words.specs.Commands.{ArePlain, HasParts, IsCommandLine, IsPlain,
 use Rattle.rob_words.specs.Verbs.{takes_route, verb_word}
 use Rattle.rob_words.specs.Texts.{bare_words}
 use Rattle.rob_words.specs.declared.route.Route.{Route}
-use Rattle.rob_words.specs.declared.route.Route.TheVariants.{Dual}
+use Rattle.rob_words.specs.declared.route.Route.TheVariants.{Dual, Cuts}
 use Rattle.rob_words.specs.declared.width.Width.{Width}
 use Rattle.rob_words.specs.declared.width.Width.TheVariants.{Eight, Sixteen, ThirtyTwo, SixtyTwo}
 use Rattle.rob_words.proofs.VerbLemmas.{verb_word-one, verb_word-plain}
@@ -105,6 +105,7 @@ width-plain SixtyTwo = λ e. search (e, rules, arith)
 
 route-plain : (way : Route) → IsPlain (route_text way)
 route-plain Dual = λ e. search (e, rules, arith)
+route-plain Cuts = λ e. search (e, rules, arith)
 
 says-plain : {X : Type 0} (text : X → Word) (default : X) (values : List Word) (x : X) → ((x : X) → IsPlain (text x))
     → Says text default values x → ArePlain values
@@ -143,6 +144,9 @@ width_text-one SixtyTwo SixtyTwo e = refl
 
 route_text-one : (a b : Route) → route_text a ≡ route_text b → a ≡ b
 route_text-one Dual Dual e = refl
+route_text-one Cuts Cuts e = refl
+route_text-one Dual Cuts e = absurd (search (e, rules))
+route_text-one Cuts Dual e = absurd (search (e, rules))
 
 pub says-one : {X : Type 0} (text : X → Word) (default : X) (values : List Word) (a b : X)
     → ((a b : X) → text a ≡ text b → a ≡ b)

@@ -1,11 +1,12 @@
 -- What a command's own words have to be, by their kinds.
 use Rattle.std.specs.Prelude.{ℕ, ◌<◌, ◌≤◌, ◌^◌, List, ◌∷◌, length}
 use Rattle.std.specs.Str.Parse.{IsNumeral, digits_value}
+use Rattle.rob_words.specs.Cuts.{IsCutList}
 use Rattle.rob_words.specs.Limits.{IsLimit, IsLimitList}
 use Rattle.rob_words.specs.Names.{IsNameList}
 use Rattle.rob_words.specs.Values.{Word}
 use Rattle.rob_words.specs.declared.verb.Own.{Own}
-use Rattle.rob_words.specs.declared.verb.Own.TheVariants.{Number, Names, Statement, Limit, Limits}
+use Rattle.rob_words.specs.declared.verb.Own.TheVariants.{Number, Names, Statement, Limit, Limits, Cuts}
 
 -- the number that decimal digits spell
 abbrev pub number_of : Word → ℕ
@@ -30,6 +31,7 @@ IsOfKind greatest Names word = IsNameList word
 IsOfKind greatest Statement word = IsStatement word
 IsOfKind greatest Limit word = IsLimit greatest word
 IsOfKind greatest Limits word = IsLimitList greatest word
+IsOfKind greatest Cuts word = IsCutList greatest word
 IsOfKind greatest _ word = Unit {0}
 
 -- each word is one of its kind

@@ -2,6 +2,7 @@ pub mod Values
 pub mod Verbs
 pub mod Names
 pub mod Limits
+pub mod Cuts
 pub mod Kinds
 pub mod Commands
 pub mod Answers

@@ -1,7 +1,7 @@
 -- The values of the options, and how they are spelled.
 use Rattle.std.specs.Prelude.{ℕ, ◌-◌, ◌^◌, List, codes}
 use Rattle.rob_words.specs.declared.route.Route.{Route}
-use Rattle.rob_words.specs.declared.route.Route.TheVariants.{Dual}
+use Rattle.rob_words.specs.declared.route.Route.TheVariants.{Dual, Cuts}
 use Rattle.rob_words.specs.declared.width.Width.{Width}
 use Rattle.rob_words.specs.declared.width.Width.TheVariants.{Eight, Sixteen, ThirtyTwo, SixtyTwo}
 
@@ -30,3 +30,4 @@ width_text SixtyTwo = codes "62"
 -- a route is spelled by its name
 abbrev pub route_text : Route → Word
 route_text Dual = codes "dual"
+route_text Cuts = codes "cuts"

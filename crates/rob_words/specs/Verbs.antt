@@ -2,10 +2,10 @@
 use Rattle.std.specs.Prelude.{Bool, true, false, List, [], ◌∷◌, codes}
 use Rattle.rob_words.specs.Values.{Word}
 use Rattle.rob_words.specs.declared.verb.Own.{Own}
-use Rattle.rob_words.specs.declared.verb.Own.TheVariants.{Model, Certificate, Scenarios, Number, Names, Statement, Limit, Limits, Form}
+use Rattle.rob_words.specs.declared.verb.Own.TheVariants.{Model, Certificate, Scenarios, Number, Names, Statement, Limit, Limits, Form, Cuts}
 use Rattle.rob_words.specs.declared.verb.Own.TheVariants as own
 use Rattle.rob_words.specs.declared.verb.Verb.{Verb}
-use Rattle.rob_words.specs.declared.verb.Verb.TheVariants.{Rows, Solve, Prove, Check, Replay, Text, Whole, Tree, Narrow, Sweep, SweepText, CheckTree, Worst}
+use Rattle.rob_words.specs.declared.verb.Verb.TheVariants.{Rows, Solve, Prove, Check, Replay, Text, Whole, Tree, Narrow, Sweep, SweepText, CheckTree, Worst, Cells, CellText}
 
 -- the name of a command
 abbrev pub verb_word : Verb → Word
@@ -18,6 +18,8 @@ verb_word Text = codes "text"
 verb_word Whole = codes "whole"
 verb_word Tree = codes "tree"
 verb_word Worst = codes "worst"
+verb_word Cells = codes "cells"
+verb_word CellText = codes "celltext"
 verb_word CheckTree = codes "checktree"
 verb_word Sweep = codes "sweep"
 verb_word SweepText = codes "sweeptext"
@@ -34,6 +36,8 @@ own_of Text = Number ∷ []
 own_of Whole = Model ∷ Names ∷ []
 own_of Tree = Model ∷ Names ∷ []
 own_of Worst = Model ∷ Certificate ∷ Form ∷ []
+own_of Cells = Model ∷ Cuts ∷ []
+own_of CellText = Model ∷ Cuts ∷ []
 own_of CheckTree = Model ∷ Names ∷ own.Tree ∷ []
 own_of Sweep = Model ∷ Statement ∷ Limits ∷ []
 own_of SweepText = Model ∷ Statement ∷ Limit ∷ []
@@ -50,6 +54,8 @@ takes_route Text = false
 takes_route Whole = false
 takes_route Tree = false
 takes_route Worst = false
+takes_route Cells = false
+takes_route CellText = false
 takes_route CheckTree = false
 takes_route Sweep = false
 takes_route SweepText = false

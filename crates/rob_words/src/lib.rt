@@ -2,6 +2,7 @@
 #![tactic(auto)]
 
 mod admission;
+mod cuts;
 mod error;
 mod grammar;
 pub mod laws;
@@ -14,6 +15,7 @@ mod route;
 mod verb;
 mod width;
 
+pub use cuts::{CutWord, cut};
 pub use error::WordsErr;
 pub use limits::limit;
 pub use line::CommandLine;

@@ -39,8 +39,8 @@ fn is_list_of(most: usize, word: &str) -> bool
     }
 }
 
-// Whether the word is a name.
-fn is_name(word: &[u8]) -> bool
+/// Whether the word is a name.
+pub(crate) fn is_name(word: &[u8]) -> bool
     ensures name { IsTrue result ↔ IsName word.now }
 {
     is_word(word) && !is_keyword(word)

@@ -4,6 +4,7 @@
 ghost use Rattle.std.specs.Prelude.{◌≡◌, ◌↔◌, IsTrue, MatchOption, map, string_bytes};
 ghost use Rattle.rob_words.specs.Kinds.{AreOfKinds, IsNumber, IsOfKind, IsStatement, number_of};
 
+use crate::cuts::is_cut_list;
 use crate::limits::{is_limit_list, limit};
 use crate::names::is_name_list;
 use crate::verb::Own;
@@ -38,6 +39,7 @@ fn is_of_kind(kind: Own, word: &str, greatest: u64) -> bool
         Own::Statement => statement(word).is_some(),
         Own::Limit => limit(word, greatest).is_some(),
         Own::Limits => is_limit_list(word, greatest),
+        Own::Cuts => is_cut_list(word, greatest),
     }
 }
 

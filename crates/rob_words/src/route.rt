@@ -9,6 +9,8 @@ ghost use Rattle.rob_words.specs.declared.route.Route.{Route};
 pub enum Route {
     /// By the robust counterpart, a linear program that duality gives. The route where the command line names none.
     Dual,
+    /// By the cutting-plane method: rounds of a linear program over worst scenarios found so far.
+    Cuts,
 }
 
 impl Route {
@@ -18,10 +20,10 @@ impl Route {
             ((route : Route) → text.now ≡ route_text route → ⊥)
             (λ route. text.now ≡ route_text route) }
     {
-        if text == "dual" {
-            Some(Route::Dual)
-        } else {
-            None
+        match text {
+            "dual" => Some(Route::Dual),
+            "cuts" => Some(Route::Cuts),
+            _ => None,
         }
     }
 }

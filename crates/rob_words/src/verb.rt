@@ -28,6 +28,10 @@ pub enum Verb {
     Tree,
     /// Print the worst case of a form at a certificate's plan.
     Worst,
+    /// Solve a model with a policy of its own in each cell of its set.
+    Cells,
+    /// Print the split model of a model and its cuts.
+    CellText,
     /// Check a branch tree against such a model.
     CheckTree,
     /// Answer a model at several limits of a budget.
@@ -61,6 +65,8 @@ pub enum Own {
     Limit,
     /// Several of them, and no file.
     Limits,
+    /// Cuts of the set by a parameter at a number, with `,` between them, and no file.
+    Cuts,
 }
 
 impl Verb {
@@ -80,6 +86,8 @@ impl Verb {
             "whole" => Some(Verb::Whole),
             "tree" => Some(Verb::Tree),
             "worst" => Some(Verb::Worst),
+            "cells" => Some(Verb::Cells),
+            "celltext" => Some(Verb::CellText),
             "checktree" => Some(Verb::CheckTree),
             "sweep" => Some(Verb::Sweep),
             "sweeptext" => Some(Verb::SweepText),
@@ -102,6 +110,8 @@ impl Verb {
             Verb::Whole => &[Own::Model, Own::Names],
             Verb::Tree => &[Own::Model, Own::Names],
             Verb::Worst => &[Own::Model, Own::Certificate, Own::Form],
+            Verb::Cells => &[Own::Model, Own::Cuts],
+            Verb::CellText => &[Own::Model, Own::Cuts],
             Verb::CheckTree => &[Own::Model, Own::Names, Own::Tree],
             Verb::Sweep => &[Own::Model, Own::Statement, Own::Limits],
             Verb::SweepText => &[Own::Model, Own::Statement, Own::Limit],
@@ -123,6 +133,8 @@ impl Verb {
             Verb::Whole => false,
             Verb::Tree => false,
             Verb::Worst => false,
+            Verb::Cells => false,
+            Verb::CellText => false,
             Verb::CheckTree => false,
             Verb::Sweep => false,
             Verb::SweepText => false,
