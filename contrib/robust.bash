@@ -3,12 +3,12 @@ _robust() {
     local word=${COMP_WORDS[COMP_CWORD]} before=${COMP_WORDS[COMP_CWORD - 1]} command=${COMP_WORDS[1]}
     COMPREPLY=()
     if ((COMP_CWORD == 1)); then
-        mapfile -t COMPREPLY < <(compgen -W "rows solve prove check replay worst whole tree checktree sweep sweeptext narrow text" -- "$word")
+        mapfile -t COMPREPLY < <(compgen -W "rows solve prove check replay worst whole tree checktree sweep sweeptext cells celltext narrow text" -- "$word")
         return
     fi
     case $before in
     --bits) mapfile -t COMPREPLY < <(compgen -W "8 16 32 62" -- "$word") && return ;;
-    --route) mapfile -t COMPREPLY < <(compgen -W "dual" -- "$word") && return ;;
+    --route) mapfile -t COMPREPLY < <(compgen -W "dual cuts" -- "$word") && return ;;
     esac
     if [[ $word == -* ]]; then
         local options="--bits"

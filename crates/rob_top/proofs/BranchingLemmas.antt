@@ -1,5 +1,5 @@
 -- The answers of `whole` and `tree`, from what the search for names and the growing of a tree answer.
-use Rattle.std.proofs.Common.{◌≡◌, ℕ, List, map, Option, Some, None, Result, Ok, Err, IfOk, refl, string_bytes, subst, sym, ap, ◌∙◌}
+use Rattle.std.proofs.Common.{◌≡◌, ℕ, List, map, Option, Some, None, Result, Ok, Err, IfOk, refl, string_bytes, subst, sym, ◌∙◌}
 use Rattle.std.proofs.lemmas.List.{length-map}
 use Rattle.std.specs.Prelude.{MatchOption}
 use Rattle.rob_algebra.specs.Fraction.{of_int}

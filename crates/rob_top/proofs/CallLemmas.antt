@@ -8,7 +8,7 @@ use Rattle.rob_top.specs.Calls.{Call, Output}
 use Rattle.rob_top.specs.Headline.{Means, Ends, PutMemory, PutRefused}
 use Rattle.rob_top.specs.Lines.{text_lines}
 use Rattle.rob_top.specs.declared.ended.Ended.{Ended}
-use Rattle.rob_top.specs.declared.ended.Ended.TheVariants.{Optimal, Infeasible, Unbounded, Printed, Accepted, Rejected, Words, Missing, TooLong, Model, EmptySet, TooWide, WideNode, WideBudget, Cert, Scenarios, Whole, Sweep, Tree, TreeRejected, NoRow, ReadFault, WriteFault, Memory}
+use Rattle.rob_top.specs.declared.ended.Ended.TheVariants.{Optimal, Infeasible, Unbounded, Printed, Accepted, Rejected, Words, Missing, TooLong, Model, EmptySet, TooWide, WideNode, WideBudget, Cert, Scenarios, Whole, Sweep, Cells, Tree, TreeRejected, NoRow, ReadFault, WriteFault, Memory}
 
 -- the text of an answer was put whole
 pub ends_whole : (call : Call) (output : Output) (ended : Ended) (text : List ℕ)
@@ -37,6 +37,7 @@ ends_whole call output (Whole rule) text means took puts = record { text = text;
 ends_whole call output NoRow text means took puts = record { text = text; means = means; took = took; puts = puts }
 ends_whole call output (Tree rule line) text means took puts = record { text = text; means = means; took = took; puts = puts }
 ends_whole call output (Sweep rule) text means took puts = record { text = text; means = means; took = took; puts = puts }
+ends_whole call output (Cells rule) text means took puts = record { text = text; means = means; took = took; puts = puts }
 ends_whole call output ReadFault text means took puts = record { text = text; means = means; took = took; puts = puts }
 
 -- a put of the text was refused

@@ -1,6 +1,7 @@
 -- Which command does which work: no two of these go together.
 use Rattle.std.proofs.Common.{◌≡◌, ◌≢◌, Bool, true, false, not, ◌&&◌, refl, sym, ◌∙◌, ap, subst, rules}
 use Rattle.rob_top.specs.Calls.{IsBranching, IsElaborating, IsSolving, branches, elaborates}
+use Rattle.rob_top.specs.Split.{IsSplitting, splits}
 use Rattle.rob_top.specs.Swept.{IsSweeping, sweeps}
 use Rattle.rob_words.proofs.EachValue.{each_value}
 use Rattle.rob_words.specs.Verbs.{takes_route}
@@ -160,3 +161,41 @@ solves_no_narrow verb e h = let no : IsSolving Narrow = subst (λ (v : Verb). Is
 
 pub narrow_no_branch : (verb : Verb) → verb ≡ Narrow → IsBranching verb → ⊥
 narrow_no_branch verb = no_branch verb Narrow refl
+
+-- ---- `cells` and `celltext`
+no_split : (verb a : Verb) → splits a ≡ false → verb ≡ a → IsSplitting verb → ⊥
+no_split verb a none e is = let clash : false ≡ true = sym none ∙ ap splits (sym e) ∙ is in cc
+
+pub rows_no_split : (verb : Verb) → verb ≡ Rows → IsSplitting verb → ⊥
+rows_no_split verb = no_split verb Rows refl
+
+pub check_no_split : (verb : Verb) → verb ≡ Check → IsSplitting verb → ⊥
+check_no_split verb = no_split verb Check refl
+
+pub replay_no_split : (verb : Verb) → verb ≡ Replay → IsSplitting verb → ⊥
+replay_no_split verb = no_split verb Replay refl
+
+pub worst_no_split : (verb : Verb) → verb ≡ Worst → IsSplitting verb → ⊥
+worst_no_split verb = no_split verb Worst refl
+
+pub tree_no_split : (verb : Verb) → verb ≡ CheckTree → IsSplitting verb → ⊥
+tree_no_split verb = no_split verb CheckTree refl
+
+pub narrow_no_split : (verb : Verb) → verb ≡ Narrow → IsSplitting verb → ⊥
+narrow_no_split verb = no_split verb Narrow refl
+
+pub solves_no_split : (verb : Verb) → IsSolving verb → IsSplitting verb → ⊥
+solves_no_split verb =
+    apart_tests (takes_route verb) (splits verb) (each_value enum (λ v. not (takes_route v && splits v)) refl verb)
+
+pub makes_no_split : (verb : Verb) → IsElaborating verb → IsSplitting verb → ⊥
+makes_no_split verb =
+    apart_tests (elaborates verb) (splits verb) (each_value enum (λ v. not (elaborates v && splits v)) refl verb)
+
+pub branches_no_split : (verb : Verb) → IsBranching verb → IsSplitting verb → ⊥
+branches_no_split verb =
+    apart_tests (branches verb) (splits verb) (each_value enum (λ v. not (branches v && splits v)) refl verb)
+
+pub sweeps_no_split : (verb : Verb) → IsSweeping verb → IsSplitting verb → ⊥
+sweeps_no_split verb =
+    apart_tests (sweeps verb) (splits verb) (each_value enum (λ v. not (sweeps v && splits v)) refl verb)

@@ -18,12 +18,14 @@ use Rattle.rob_meaning.specs.RobustModel.{RobustModel}
 use Rattle.rob_meaning.specs.UncertaintySet.{Admits, IsEmptySet}
 use Rattle.rob_meaning.specs.WellFormed.{IsModel}
 use Rattle.rob_model.specs.declared.place.Place.{Place}
+use Rattle.rob_model.specs.declared.place.Spot.{Spot}
 use Rattle.rob_algebra.specs.Fraction.{Fraction}
 use Rattle.rob_reach.specs.Trees.{Tree}
 use Rattle.rob_reach.specs.WholeStatus.{HasWholeStatus}
 use Rattle.rob_runs.specs.Spots.{IsWideSlack}
 use Rattle.rob_sweep.specs.Stops.{KeepsRules}
 use Rattle.rob_top.proofs.AnswerLemmas.{no_command}
+use Rattle.rob_top.proofs.ComingLemmas.{Comes, comes_ends}
 use Rattle.rob_top.proofs.KnownInputs.{known_again}
 use Rattle.rob_top.proofs.KnownLemmas.{means_known}
 use Rattle.rob_replay.specs.Outcome.{outcome}
@@ -35,6 +37,7 @@ use Rattle.rob_top.proofs.TrueAnswerLemmas.{empty_decides, missing_decides, rows
 use Rattle.rob_top.proofs.WholeAnswerLemmas.{some_whole_status, whole_decides, whole_empty_decides, whole_status_decides, whole_wide_decides}
 use Rattle.rob_top.proofs.WorstAnswerLemmas.{unnamed_decides, unplanned_decides, worst_decides, worst_empty_decides, worst_printed_decides, worst_slack_decides}
 use Rattle.rob_top.proofs.TreeAnswerLemmas.{accepted_tree, breaking_decides, judged_tree, proved_tree, tree_broken_decides, tree_verdict_decides, unproved_tree}
+use Rattle.rob_top.proofs.SplitAnswerLemmas.{split_ends}
 use Rattle.rob_top.proofs.SweepAnswerLemmas.{limit_decides, limit_rule_decides, narrow_sweep_decides, sweep_decides, sweep_rule_decides}
 use Rattle.rob_top.specs.Calls.{Call, IsBranching, IsSolving, Known, Output, known_call, limit_of}
 use Rattle.rob_top.specs.Completeness.{IsComplete, MustEnd}
@@ -42,34 +45,21 @@ use Rattle.rob_top.specs.Endings.{EndsAs, IsEmptyAnswer, IsEmptyWholeAnswer, IsN
 use Rattle.rob_top.specs.Headline.{Ends, Means}
 use Rattle.rob_top.specs.Inputs.{HasCertificate, HasCertificateFile, HasForms, HasSought, HasWholeVariables}
 use Rattle.rob_top.specs.Replayed.{replay_ended}
+use Rattle.rob_top.specs.Routes.{IsWideOnWay}
 use Rattle.rob_top.specs.Searched.{certificate_vector}
 use Rattle.rob_top.specs.Solved.{IsPrinted, IsSolved}
 use Rattle.rob_top.specs.TreeChecked.{HasTree}
 use Rattle.rob_top.specs.Swept.{HasSweep}
 use Rattle.rob_top.specs.Work.{ended_of, verdict_ended}
 use Rattle.rob_top.specs.declared.ended.Ended.{Ended}
-use Rattle.rob_top.specs.declared.ended.Ended.TheVariants.{Optimal, Infeasible, Unbounded, Printed, Accepted, Rejected, Words, Missing, TooLong, Model, EmptySet, TooWide, WideNode, WideBudget, Cert, Scenarios, Whole, Sweep, Tree as TreeRule, TreeRejected, NoRow, ReadFault, WriteFault, Memory}
+use Rattle.rob_top.specs.declared.ended.Ended.TheVariants.{Optimal, Infeasible, Unbounded, Printed, Accepted, Rejected, Words, Missing, TooLong, Model, EmptySet, TooWide, WideNode, WideBudget, Cert, Scenarios, Whole, Sweep, Cells, Tree as TreeRule, TreeRejected, NoRow, ReadFault, WriteFault, Memory}
 use Rattle.rob_words.specs.Commands.{Line, IsCommandLine}
 use Rattle.rob_words.specs.Values.{bits_of}
+use Rattle.rob_words.specs.declared.route.Route.{Route}
+use Rattle.rob_words.specs.declared.route.Route.TheVariants.{Dual}
 use Rattle.rob_words.specs.declared.verb.Verb.{Verb}
 use Rattle.rob_words.specs.declared.verb.Verb.TheVariants.{Prove}
 use Rattle.rob_words.specs.declared.width.Width.{Width}
-
--- the call has an answer that is allowed, or a put or memory was refused
-abbrev Comes : Call → Ended → Type 0
-Comes call ended = ((text : List ℕ) × Means call ended text) ⊎ IsUnput ended
-
--- ---- one answer, or the outside failed
-
-allowed_ends : (x ended : Ended) → (ended ≡ x) ⊎ ((ended ≡ ReadFault) ⊎ (ended ≡ Memory)) → EndsAs x ended
-allowed_ends x ended (inl e) = inl e
-allowed_ends x ended (inr (inl e)) = inr (inl e)
-allowed_ends x ended (inr (inr e)) = inr (inr (inr e))
-
-comes_ends : (call : Call) (x ended : Ended) → Comes call ended
-    → ((text : List ℕ) → Means call ended text → (ended ≡ x) ⊎ ((ended ≡ ReadFault) ⊎ (ended ≡ Memory))) → EndsAs x ended
-comes_ends call x ended (inl h) decides = allowed_ends x ended (decides h.0 h.1)
-comes_ends call x ended (inr e) decides = inr (inr e)
 
 -- one answer, where no file is read
 comes_printed : (call : Call) (ended : Ended) → Comes call ended
@@ -114,13 +104,13 @@ module _ (call : Call) (known : Known call.source) (ended : Ended) (comes : Come
       by (inr e) = inr e
 
   module _ (line : Line) (m : RobustModel) where
-    solving_ends : HasForms call line m → IsSolving line.verb → IsSolveAnswer (limit_of line) m ended
+    solving_ends : HasForms call line m → IsSolving line.verb → IsSolveAnswer line.way (limit_of line) m ended
     solving_ends has solves = by comes
       where
-        by : Comes call ended → IsSolveAnswer (limit_of line) m ended
+        by : Comes call ended → IsSolveAnswer line.way (limit_of line) m ended
         by (inl h) = solve_decides call known line m has solves ended h.0 h.1
-        by (inr (inl e)) = subst (λ (x : Ended). IsSolveAnswer (limit_of line) m x) (sym e) (inr (inl refl))
-        by (inr (inr e)) = subst (λ (x : Ended). IsSolveAnswer (limit_of line) m x) (sym e) (inr (inr refl))
+        by (inr (inl e)) = subst (λ (x : Ended). IsSolveAnswer line.way (limit_of line) m x) (sym e) (inr (inl refl))
+        by (inr (inr e)) = subst (λ (x : Ended). IsSolveAnswer line.way (limit_of line) m x) (sym e) (inr (inr refl))
 
     empty_ends : HasForms call line m → IsSolving line.verb → IsEmptySet m → IsEmptyAnswer (limit_of line) m ended
     empty_ends has solves none = by comes
@@ -130,15 +120,27 @@ module _ (call : Call) (known : Known call.source) (ended : Ended) (comes : Come
         by (inr (inl e)) = subst (λ (x : Ended). IsEmptyAnswer (limit_of line) m x) (sym e) (inr (inl refl))
         by (inr (inr e)) = subst (λ (x : Ended). IsEmptyAnswer (limit_of line) m x) (sym e) (inr (inr refl))
 
-    narrow_status_ends : (u : List Fraction) → HasForms call line m → IsSolving line.verb → IsNarrowModel (limit_of line) m → Admits m u
+    -- a narrow model has no wide number on the way by the counterpart
+    none_on_way : line.way ≡ Dual → IsNarrowModel (limit_of line) m → (spot : Spot) → IsWideOnWay line.way (limit_of line) m spot → ⊥
+    none_on_way by_dual narrow spot wide =
+        narrow_spot (limit_of line) m spot narrow (subst (λ (w : Route). IsWideOnWay w (limit_of line) m spot) by_dual wide)
+
+    narrow_spot_ends : (spot : Spot) → HasForms call line m → IsSolving line.verb → line.way ≡ Dual → IsNarrowModel (limit_of line) m
+        → ended ≡ TooWide spot → ⊥
+    narrow_spot_ends spot has solves by_dual narrow =
+        no_wide_answer (limit_of line) m narrow ended spot
+        (subst (λ (w : Route). IsSolveAnswer w (limit_of line) m ended) by_dual (solving_ends has solves))
+
+    narrow_status_ends : (u : List Fraction) → HasForms call line m → IsSolving line.verb → line.way ≡ Dual
+        → IsNarrowModel (limit_of line) m → Admits m u
         → (status : Status) × (v : Fraction) × HasStatus m status v × EndsAs (ended_of status) ended
-    narrow_status_ends u has solves narrow admitted =
+    narrow_status_ends u has solves by_dual narrow admitted =
         let s = has_status m (well call known line m has.model) u admitted in (
           s.0,
           s.1,
           s.2,
           comes_ends call (ended_of s.0) ended comes
-              (status_decides call known line m has solves s.0 s.1 s.2 u admitted (λ spot. narrow_spot (limit_of line) m spot narrow) ended),
+              (status_decides call known line m has solves s.0 s.1 s.2 u admitted (none_on_way by_dual narrow) ended),
         )
 
     module _ (names : List ℕ) (has : HasWholeVariables call line m names) (is : IsBranching line.verb) where
@@ -246,7 +248,7 @@ module _ (call : Call) (known : Known call.source) (ended : Ended) (comes : Come
     status = λ line m status v u has solves holds admitted narrow.
         comes_ends call _ ended comes (status_decides call known line m has solves status v holds u admitted narrow ended);
     narrow = λ line m has is. comes_ends call Printed ended comes (narrow_decides call known line m has is ended);
-    narrow_spot = λ line m spot has solves narrow. no_wide_answer (limit_of line) m narrow ended spot (solving_ends line m has solves);
+    narrow_spot = narrow_spot_ends;
     narrow_status = narrow_status_ends;
     narrow_empty = λ line m has solves narrow none. shown_answer (limit_of line) m narrow ended (empty_ends line m has solves none);
     broken = λ line m bytes rule number has breaks.
@@ -297,6 +299,7 @@ module _ (call : Call) (known : Known call.source) (ended : Ended) (comes : Come
     limit_rule = λ line m n g has none.
         comes_ends call (Sweep 81) ended comes (limit_rule_decides call known line m n g has none ended);
     limited = λ line m n g has budget. comes_ends call Printed ended comes (limit_decides call known line m n g has budget ended);
+    split = split_ends call known ended comes;
     generated = λ line spelled is. comes_printed call ended comes (generated_decides call known line spelled is ended);
   }
 
@@ -339,6 +342,7 @@ ends_come call output (Whole rule) h = inl (h.text, h.means)
 ends_come call output NoRow h = inl (h.text, h.means)
 ends_come call output (TreeRule rule line) h = inl (h.text, h.means)
 ends_come call output (Sweep rule) h = inl (h.text, h.means)
+ends_come call output (Cells rule) h = inl (h.text, h.means)
 ends_come call output ReadFault h = inl (h.text, h.means)
 
 pub ends_complete : (call : Call) (output : Output) (ended : Ended) → Ends call output ended → IsComplete call ended
@@ -349,7 +353,7 @@ module _ (proving : Call) (status : Status) (text : List ℕ) (solved : IsSolved
   pub printed_text : solved.line.verb ≡ Prove → IsTextOf solved.m solved.c text
   printed_text is_prove = record {
     shape = solved.shape;
-    spelled = subst (λ (v : Verb). IsPrinted proving v solved.m solved.c text) is_prove solved.printed;
+    spelled = subst (λ (v : Verb). IsPrinted proving v solved.line.way solved.m solved.c solved.rounds text) is_prove solved.printed;
   }
 
   pub printed_fits : (line : Line) → line.width ≡ solved.line.width → FitsLines (limit_of line) solved.m solved.c

@@ -8,7 +8,7 @@ use Rattle.rob_cert.specs.Reading.{start}
 use Rattle.rob_cert.specs.Spelling.{naming_of}
 use Rattle.rob_cert.specs.declared.error.CertErr.TheVariants.{Rule}
 use Rattle.rob_check.specs.Conditions.{verdict_of}
-use Rattle.rob_dualize.specs.Solving.{HasScenario, IsShownEmpty, IsWideOnPath}
+use Rattle.rob_dualize.specs.Solving.{HasScenario, IsShownEmpty}
 use Rattle.rob_elab.specs.Forms.{judged_forms}
 use Rattle.rob_meaning.specs.Certificates.{Certificate, Status, optimal, infeasible, unbounded}
 use Rattle.rob_meaning.specs.Places.{0ℚ}
@@ -30,20 +30,24 @@ use Rattle.rob_sweep.specs.Answering.{AreWritten}
 use Rattle.rob_sweep.specs.Stops.{IsWideAt, KeepsRules}
 use Rattle.rob_tree.specs.View.{branch_of}
 use Rattle.rob_tree.specs.declared.tree.Branch.{Branch}
+use Rattle.rob_top.proofs.RouteLemmas.{wide_on_way}
 use Rattle.rob_top.proofs.SoughtLemmas.{forms_sought, forms_unnamed, forms_unplanned}
 use Rattle.rob_tree.specs.declared.verdict.LeafFault.{LeafFault}
 use Rattle.rob_top.proofs.NamingLemmas.{breaking_verb}
+use Rattle.rob_top.proofs.SplitCourseLemmas.{SplitCourse}
 use Rattle.rob_top.proofs.TreeCourseLemmas.{TreeCourse, breaks_names, breaks_text, judges_tree}
 use Rattle.rob_top.specs.Branched.{BreaksWhole, IsBranched, IsEmptyBranched, IsNoWhole, IsWideNode}
 use Rattle.rob_top.specs.Calls.{Call, IsBranching, IsElaborating, IsSolving, limit_of}
 use Rattle.rob_top.specs.Checked.{IsAccepted, IsRejected}
 use Rattle.rob_top.specs.Inputs.{HasCertificate, HasCertificateFile, HasForms, HasScenarios, HasSought, HasWholeVariables}
-use Rattle.rob_top.specs.Refused.{IsNoCertificate, IsWideSpot, checking, elaborating, replaying, searching, solving}
+use Rattle.rob_top.specs.Refused.{IsNoCertificate, IsTooWideOnWay, IsWideSpot, checking, elaborating, replaying, searching}
 use Rattle.rob_top.specs.Narrowed.{IsNarrowed}
 use Rattle.rob_top.specs.Replayed.{IsNoPlan, IsNoScenarios, IsReplayed, LacksPlan, replay_ended}
+use Rattle.rob_top.specs.Routes.{IsWideOnWay}
 use Rattle.rob_top.specs.Searched.{GivesNoPlan, IsEmptySought, IsNoPlanSought, IsNoRow, IsSearched, IsWideSought, NamesNoForm, ShowsWorst, attained, certificate_vector, claims_none, endless, misread}
 use Rattle.rob_top.specs.Solved.{IsEmptySet as IsShownEmptySet, IsRows, IsSolved}
 use Rattle.rob_top.specs.TreeChecked.{IsNoTree, IsTreeAccepted, IsTreeRejected, IsWideLeaf}
+use Rattle.rob_top.specs.Split.{IsSplitting}
 use Rattle.rob_top.specs.Swept.{BreaksSweep, HasLimit, HasSweep, IsLimited, IsNoSweep, IsPriced, IsSweeping, IsWideBudget, at_limit, at_limits}
 use Rattle.rob_top.specs.Work.{ended_of, verdict_ended}
 use Rattle.rob_top.specs.declared.ended.Ended.{Ended}
@@ -92,7 +96,7 @@ pub data SweepCourse (call : Call) (line : Line) (m : RobustModel) (ended : Ende
       → SweepCourse call line m ended
 
 -- what stands behind the answer: a status of the model, or an empty set; printed rows; a verdict, or a certificate's text that
--- breaks a rule; or a wide number of the set rows and forms, or of a row on the path; the outcome of a scenario file's records, or a
+-- breaks a rule; or a wide number of the set rows and forms, or one on the way of the route; the outcome of a scenario file's records, or a
 -- certificate without a plan
 pub data Course (call : Call) (line : Line) (m : RobustModel) (ended : Ended) : Type 0 where
   finds : (status : Status) (v : Fraction) (u : List Fraction) → Admits m u → HasForms call line m → IsSolving line.verb → HasStatus m status v → ended ≡ ended_of status → Course call line m ended
@@ -102,7 +106,8 @@ pub data Course (call : Call) (line : Line) (m : RobustModel) (ended : Ended) : 
   refuses : (bytes : List ℕ) (rule number : ℕ) → HasCertificateFile call line m bytes → HasCause (naming_of m) (limit_of line) start bytes 1 (Rule rule number) → ended ≡ Cert rule number
       → Course call line m ended
   wide_number : (spot : Spot) → IsElaborating line.verb → IsFirstWide (limit_of line) m (judged_set m ++ judged_forms m) spot → ended ≡ TooWide spot → Course call line m ended
-  wide_row : (spot : Spot) → HasForms call line m → IsSolving line.verb → IsWideOnPath (limit_of line) m spot → ended ≡ TooWide spot → Course call line m ended
+  wide_row : (spot : Spot) → HasForms call line m → IsSolving line.verb → IsWideOnWay line.way (limit_of line) m spot → ended ≡ TooWide spot
+      → Course call line m ended
   replays : (c : Certificate) (bytes : List ℕ) (rows : List (List (List ℕ))) → HasScenarios call line m c bytes → IsFile bytes rows
       → ended ≡ replay_ended (outcome (limit_of line) m c.plan rows) → Course call line m ended
   lacks_plan : (rule number : ℕ) → LacksPlan call line m rule number → ended ≡ Cert rule number → Course call line m ended
@@ -110,6 +115,7 @@ pub data Course (call : Call) (line : Line) (m : RobustModel) (ended : Ended) : 
   searches : line.verb ≡ Worst → WorstCourse call line m ended → Course call line m ended
   checking_tree : line.verb ≡ CheckTree → TreeCourse call line m ended → Course call line m ended
   sweeping : IsSweeping line.verb → SweepCourse call line m ended → Course call line m ended
+  splitting : IsSplitting line.verb → SplitCourse call line m ended → Course call line m ended
   bounds : HasForms call line m → line.verb ≡ Narrow → ended ≡ Printed → Course call line m ended
 
 -- `worst` makes set rows and forms before all that
@@ -220,11 +226,14 @@ module _ (call : Call) where
 
   pub wide_course : (line : Line) (m : RobustModel) (spot : Spot) → IsWideSpot call line m spot → Course call line m (TooWide spot)
   wide_course line m spot (elaborating has makes first) = wide_number spot makes first refl
-  wide_course line m spot (solving has solves wide) = wide_row spot has solves wide refl
   wide_course line m spot (checking c place has is verdict) = judges c has (ap (λ (s : Spot). TooWide s) is ∙ ap verdict_ended (sym verdict))
   wide_course line m spot (replaying c bytes number has is gives) =
       replays c bytes gives.0 has gives.1 (ap (λ (s : Spot). TooWide s) is ∙ ap replay_ended (sym gives.2))
   wide_course line m spot (searching c form has wide) = searches has.plan.certificate.file.is_worst (wide_search c form spot has wide refl)
+
+  pub wide_way_course : (spot : Spot) (text : List ℕ) (h : IsTooWideOnWay call spot text) → Course call h.line h.m (TooWide spot)
+  wide_way_course spot text h =
+      wide_row spot h.forms h.solves (wide_on_way h.m h.line.way (limit_of h.line) spot h.rounds h.wide) refl
 
   pub replayed_course : (text : List ℕ) (h : IsReplayed call text) → Course call h.line h.m Printed
   replayed_course text h = replays h.c h.bytes h.rows h.has h.file (ap replay_ended (sym h.narrow))

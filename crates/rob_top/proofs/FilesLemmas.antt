@@ -14,7 +14,7 @@ use Rattle.rob_top.specs.Calls.{Call, Came, Count, IsFoundIn, Request, Source, W
 use Rattle.rob_top.specs.Headline.{Means}
 use Rattle.rob_top.specs.Replies.{AreFound, Asks, AsksOnce, CameIn, IsAbsence, IsAbsentAmong, IsFetched, IsGot, IsNothing, text_of, with_file, with_text}
 use Rattle.rob_top.specs.declared.ended.Ended.{Ended}
-use Rattle.rob_top.specs.declared.ended.Ended.TheVariants.{Optimal, Infeasible, Unbounded, Printed, Accepted, Rejected, Words, Missing, TooLong, Model, EmptySet, TooWide, WideNode, WideBudget, Cert, Scenarios, Whole, Sweep, Tree, TreeRejected, NoRow, ReadFault, WriteFault, Memory}
+use Rattle.rob_top.specs.declared.ended.Ended.TheVariants.{Optimal, Infeasible, Unbounded, Printed, Accepted, Rejected, Words, Missing, TooLong, Model, EmptySet, TooWide, WideNode, WideBudget, Cert, Scenarios, Whole, Sweep, Cells, Tree, TreeRejected, NoRow, ReadFault, WriteFault, Memory}
 use Rattle.rob_top.specs.declared.files.Files.{Files}
 use Rattle.rob_top.specs.declared.files.Files.TheVariants as files
 use Rattle.rob_top.specs.declared.files.Got.{Got}
@@ -102,6 +102,7 @@ means_absent call line before request behind faults (Whole rule) text spelled or
 means_absent call line before request behind faults NoRow text spelled order came raised h = absurd h
 means_absent call line before request behind faults (Tree rule number) text spelled order came raised h = absurd h
 means_absent call line before request behind faults (Sweep rule) text spelled order came raised h = absurd h
+means_absent call line before request behind faults (Cells rule) text spelled order came raised h = absurd h
 means_absent call line before request behind faults WriteFault text spelled order came raised h = absurd h
 means_absent call line before request behind faults Memory text spelled order came raised h = absurd h
 
@@ -200,6 +201,7 @@ module _ (told : Option (List File)) (request : Request) (files : List Request) 
   absence_behind other earlier faults NoRow text raised h = absurd h
   absence_behind other earlier faults (Tree rule number) text raised h = absurd h
   absence_behind other earlier faults (Sweep rule) text raised h = absurd h
+  absence_behind other earlier faults (Cells rule) text raised h = absurd h
   absence_behind other earlier faults WriteFault text raised h = absurd h
   absence_behind other earlier faults Memory text raised h = absurd h
 

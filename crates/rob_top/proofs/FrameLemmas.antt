@@ -39,6 +39,7 @@ text_kept own.Tree texts with same = ap (λ (v : Vec ℕ Global). v.items) same.
 text_kept own.Statement texts with same = refl
 text_kept own.Limit texts with same = refl
 text_kept own.Limits texts with same = refl
+text_kept own.Cuts texts with same = refl
 
 -- so they are short enough
 pub short_kept : (texts with : Texts) → SameFiles texts with → IsShort texts → IsShort with
@@ -54,6 +55,10 @@ module _ (line : CommandLine) (source : Source) (faults wides : Count) where
   abbrev pub TakesWords : Texts → Type 0
   TakesWords with = map string_bytes with.words.items ≡ (line_of line).own
 
+  -- and the route too
+  abbrev pub TakesRoute : Texts → Type 0
+  TakesRoute with = with.route ≡ (line_of line).way
+
   -- the reply answers each call of the line
   abbrev pub AnswersLine : Reply → Type 0
   AnswersLine reply =
@@ -65,11 +70,11 @@ module _ (line : CommandLine) (source : Source) (faults wides : Count) where
 
   -- the files came, and the work on them, with the line's own words, answers
   pub texts_answer : (files : Files) (texts with : Texts) (r : Result Reply Want) → files ≡ fetch.Texts texts → LineFetched files
-      → SameFiles texts with → TakesWords with
+      → SameFiles texts with → TakesWords with → TakesRoute with
       → IfOk r (λ reply. (call : Call) → HasTexts call (line_of line) with → call.wides ≡ wides → Means call reply.ended reply.text)
       → IfOk r AnswersLine
-  texts_answer files texts with (Err want) e came same words h = tt
-  texts_answer files texts with (Ok reply) e came same words h = λ call spelled source_is faults_is wides_is.
+  texts_answer files texts with (Err want) e came same words way h = tt
+  texts_answer files texts with (Ok reply) e came same words way h = λ call spelled source_is faults_is wides_is.
       let found : AreFound source (own_of line.verb) (line_of line).own texts = subst (λ (f : Files). LineFetched f) e came in
       h call
       (record {
@@ -79,6 +84,7 @@ module _ (line : CommandLine) (source : Source) (faults wides : Count) where
             subst (λ (s : Source). IsFoundIn s r (whole (text_of kind with))) (sym source_is)
             (subst (λ (text : List ℕ). IsFoundIn source r (whole text)) (sym (text_kept kind texts with same)) (found.found kind r named));
         words = words;
+        way = way;
       })
       wides_is
 

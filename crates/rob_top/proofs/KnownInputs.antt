@@ -11,7 +11,7 @@ use Rattle.rob_reach.specs.Trees.{Tree}
 use Rattle.rob_top.specs.Branched.{BreaksWhole, no_ranges, no_variables}
 use Rattle.rob_top.specs.Calls.{Call, Came, HasFile, IsFirstAbsent, IsFoundIn, Known, Request, Source, answer_to, by_fetches, by_files, known_call, known_source, requests}
 use Rattle.rob_top.specs.Inputs.{HasCertificate, HasCertificateFile, HasForms, HasModel, HasPlan, HasReplayCertificate, HasReplayFile, HasScenarios, HasSought, HasVariables, HasWholeVariables, HasWorstCertificate, HasWorstFile}
-use Rattle.rob_top.specs.Refused.{IsWideSpot, checking, elaborating, replaying, searching, solving}
+use Rattle.rob_top.specs.Refused.{IsWideSpot, checking, elaborating, replaying, searching}
 use Rattle.rob_top.specs.Replayed.{LacksPlan, planless, unread}
 use Rattle.rob_top.specs.Searched.{GivesNoPlan, NamesNoForm, claims_none, misread}
 use Rattle.rob_top.specs.TreeChecked.{HasTree, HasTreeFile}
@@ -174,7 +174,6 @@ module _ (call : Call) (known : Known call.source) where
 
     pub spot_known : (spot : Spot) → IsWideSpot call line m spot → IsWideSpot part line m spot
     spot_known spot (elaborating h makes first) = elaborating (model_known h) makes first
-    spot_known spot (solving h is_solving wide) = solving (forms_known h) is_solving wide
     spot_known spot (checking c place h e verdict) = checking c place (certificate_known c h) e verdict
     spot_known spot (replaying c bytes number h e gives) = replaying c bytes number (scenarios_known c bytes h) e gives
     spot_known spot (searching c form h wide) = searching c form (sought_known c form h) wide

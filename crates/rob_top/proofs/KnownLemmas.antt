@@ -9,10 +9,11 @@ use Rattle.rob_top.specs.Replayed.{IsReplayed}
 use Rattle.rob_top.specs.Searched.{IsSearched}
 use Rattle.rob_top.specs.Solved.{IsSolved}
 use Rattle.rob_top.specs.Swept.{IsSwept}
-use Rattle.rob_top.specs.Ways.{FindsStatus, solved, branched, rows, replayed, generated, worst_found, swept, narrowed, a_certificate, a_tree, while_solving, while_branching, while_searching, in_model, while_growing, while_checking, not_checked, not_replayed, not_searched}
+use Rattle.rob_top.specs.Ways.{FindsStatus, solved, branched, rows, replayed, generated, worst_found, swept, narrowed, a_certificate, a_tree, while_solving, while_branching, while_searching, in_model, on_way, while_growing, while_checking, not_checked, not_replayed, not_searched, pieced, split_written, in_cells, in_split}
 use Rattle.rob_top.specs.declared.ended.Ended.{Ended}
-use Rattle.rob_top.specs.declared.ended.Ended.TheVariants.{Optimal, Infeasible, Unbounded, Printed, Accepted, Rejected, Words, Missing, TooLong, Model, EmptySet, TooWide, WideNode, WideBudget, Cert, Scenarios, Whole, Sweep, Tree as TreeRule, TreeRejected, NoRow, ReadFault, WriteFault, Memory}
+use Rattle.rob_top.specs.declared.ended.Ended.TheVariants.{Optimal, Infeasible, Unbounded, Printed, Accepted, Rejected, Words, Missing, TooLong, Model, EmptySet, TooWide, WideNode, WideBudget, Cert, Scenarios, Whole, Sweep, Cells, Tree as TreeRule, TreeRejected, NoRow, ReadFault, WriteFault, Memory}
 use Rattle.rob_words.specs.declared.verb.Own.TheVariants as own
+use Rattle.rob_top.proofs.SplitKnownLemmas.{empty_cell_known, no_cells_known, pieced_known, split_text_known, wide_split_known}
 use Rattle.rob_top.proofs.KnownInputs.{came_all, absent_known, file_held, forms_known, file_known, certificate_known, scenarios_known, lacking_known, whole_known, tree_file_known, tree_known, breaking_known, sought_known, unplanned_known, unnamed_known, sweep_known, limit_known, breaking_sweep_known, spot_known}
 
 module _ (call : Call) (known : Known call.source) where
@@ -30,7 +31,8 @@ module _ (call : Call) (known : Known call.source) where
     holds = h.holds;
     kept = h.kept;
     proves = h.proves;
-    last = h.last;
+    rounds = h.rounds;
+    found = h.found;
     shape = h.shape;
     fits = h.fits;
     printed = h.printed;
@@ -58,6 +60,7 @@ module _ (call : Call) (known : Known call.source) where
   status_known : (status : Status) (text : List ℕ) → FindsStatus call status text → FindsStatus part status text
   status_known status text (solved h) = solved (solved_known status text h)
   status_known status text (branched h) = branched (branched_known status text h)
+  status_known status text (pieced h) = pieced (pieced_known call known status text h)
 
   replayed_known : (text : List ℕ) → IsReplayed call text → IsReplayed part text
   replayed_known text h = record {
@@ -130,6 +133,7 @@ module _ (call : Call) (known : Known call.source) where
     is_narrow = h.is_narrow;
     told = h.told;
   })
+  means_known Printed text (split_written h) = split_written (split_text_known call known text h)
   means_known Printed text (replayed h) = replayed (replayed_known text h)
   means_known Printed text (generated h) = generated (record {
     line = h.line;
@@ -219,6 +223,7 @@ module _ (call : Call) (known : Known call.source) where
     shown = h.shown;
     printed = h.printed;
   })
+  means_known (EmptySet weights) text (in_cells h) = in_cells (empty_cell_known call known weights text h)
   means_known (EmptySet weights) text (while_searching h) = while_searching (record {
     line = h.line;
     m = h.m;
@@ -261,6 +266,7 @@ module _ (call : Call) (known : Known call.source) where
     raised = h.raised;
     printed = h.printed;
   }
+  means_known (Cells rule) text h = no_cells_known call known rule text h
   means_known (Sweep rule) text h = record {
     line = h.line;
     m = h.m;
@@ -273,10 +279,21 @@ module _ (call : Call) (known : Known call.source) where
     breaks = (breaking_known call known) h.line h.m rule h.breaks;
     printed = h.printed;
   }
+  means_known (TooWide spot) text (in_split h) = in_split (wide_split_known call known spot text h)
   means_known (TooWide spot) text (in_model h) = in_model (record {
     line = h.line;
     m = h.m;
     wide = (spot_known call known) h.line h.m spot h.wide;
+    raised = h.raised;
+    printed = h.printed;
+  })
+  means_known (TooWide spot) text (on_way h) = on_way (record {
+    line = h.line;
+    m = h.m;
+    rounds = h.rounds;
+    forms = (forms_known call known) h.line h.m h.forms;
+    solves = h.solves;
+    wide = h.wide;
     raised = h.raised;
     printed = h.printed;
   })

@@ -14,6 +14,7 @@ pub mod FetchesLemmas
 pub mod FrameLemmas
 pub mod PutLemmas
 pub mod LinesLemmas
+pub mod RouteLemmas
 pub mod SolvingLemmas
 pub mod StageLemmas
 pub mod CommandLemmas
@@ -40,6 +41,13 @@ pub mod TreeCheckLemmas
 pub mod TreeAnswerLemmas
 pub mod PrintedTreeLemmas
 pub mod LimitLemmas
+pub mod BeforeLemmas
+pub mod ComingLemmas
+pub mod SplitCourseLemmas
+pub mod SplitKnownLemmas
+pub mod SplittingLemmas
+pub mod CutTellingLemmas
+pub mod SplitAnswerLemmas
 pub mod SweepingLemmas
 pub mod SweepAnswerLemmas
 pub mod NarrowAnswerLemmas
@@ -49,6 +57,7 @@ pub mod WorkedWholes
 pub mod WorkedTrees
 pub mod WorkedSweeps
 pub mod WorkedBudgets
+pub mod WorkedCells
 pub mod ReplayingLemmas
 pub mod WorkLemmas
 pub mod KnownInputs
@@ -57,6 +66,7 @@ pub mod NarrowForms
 pub mod WorkedCalls
 pub mod SolveAnswers
 pub mod WorkedSetCalls
+pub mod WorkedCuts
 pub mod WorkedEmptyCalls
 pub mod WorkedChecks
 pub mod WorkedReplays

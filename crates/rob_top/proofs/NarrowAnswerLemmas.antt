@@ -24,8 +24,8 @@ use Rattle.rob_model.specs.declared.place.Spot.{Spot}
 use Rattle.rob_model.specs.declared.place.Spot.TheVariants.{Dictionary}
 use Rattle.rob_number.specs.declared.memory.Memory.{Memory as Want}
 use Rattle.rob_report.specs.NarrowText.{bound_line, narrow_line}
-use Rattle.rob_top.proofs.CommandLemmas.{narrow_no_branch, narrow_no_sweep, narrow_not_check, narrow_not_replay, narrow_not_rows, narrow_not_tree, narrow_not_worst, solves_no_narrow}
-use Rattle.rob_top.proofs.CourseLemmas.{Course, bounds, branching, checking_tree, finds, judges, lacks_plan, prints, refuses, replays, searches, shows_empty, sweeping, wide_number, wide_row}
+use Rattle.rob_top.proofs.CommandLemmas.{narrow_no_branch, narrow_no_sweep, narrow_not_check, narrow_not_replay, narrow_not_rows, narrow_not_tree, narrow_not_worst, solves_no_narrow, narrow_no_split}
+use Rattle.rob_top.proofs.CourseLemmas.{Course, bounds, branching, checking_tree, finds, judges, lacks_plan, prints, refuses, replays, searches, shows_empty, sweeping, wide_number, wide_row, splitting}
 use Rattle.rob_top.proofs.TrueAnswerLemmas.{course_of, first_of_two, lacking_verb, no_first}
 use Rattle.rob_top.specs.Calls.{Call, Count, Known, IsSolving, limit_of}
 use Rattle.rob_top.specs.Endings.{IsEmptyAnswer, IsShownAnswer, IsSolveAnswer}
@@ -39,6 +39,7 @@ use Rattle.rob_top.specs.declared.ended.Ended.TheVariants.{EmptySet, Printed, Re
 use Rattle.rob_top.specs.declared.files.Texts.{Texts}
 use Rattle.rob_top.specs.declared.reply.Reply.{Reply}
 use Rattle.rob_words.specs.Commands.{Line}
+use Rattle.rob_words.specs.declared.route.Route.TheVariants.{Dual}
 use Rattle.rob_words.specs.declared.verb.Verb.{Verb}
 use Rattle.rob_words.specs.declared.verb.Verb.TheVariants.{Narrow}
 
@@ -127,12 +128,13 @@ narrow_decides call known line m has is ended text means = first_of_two by (cour
     by (searches worst course) = absurd (narrow_not_worst line.verb is worst)
     by (checking_tree took course) = absurd (narrow_not_tree line.verb is took)
     by (sweeping took course) = absurd (narrow_no_sweep line.verb is took)
+    by (splitting took course) = absurd (narrow_no_split line.verb is took)
     by (bounds forms too e) = e
 
 -- ---- `solve` and `prove` of a narrow model
 module _ (limit : ℕ) (m : RobustModel) (narrow : IsNarrowModel limit m) where
-  pub no_wide_answer : (ended : Ended) (spot : Spot) → IsSolveAnswer limit m ended → ended ≡ TooWide spot → ⊥
-  no_wide_answer ended spot h e = narrow_spot limit m spot narrow (subst (λ (x : Ended). IsSolveAnswer limit m x) e h)
+  pub no_wide_answer : (ended : Ended) (spot : Spot) → IsSolveAnswer Dual limit m ended → ended ≡ TooWide spot → ⊥
+  no_wide_answer ended spot h e = narrow_spot limit m spot narrow (subst (λ (x : Ended). IsSolveAnswer Dual limit m x) e h)
 
   pub shown_answer : (ended : Ended) → IsEmptyAnswer limit m ended → IsShownAnswer m ended
   shown_answer (EmptySet weights) h = h

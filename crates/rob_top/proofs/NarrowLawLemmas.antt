@@ -22,6 +22,7 @@ use Rattle.rob_top.specs.declared.ended.Ended.{Ended}
 use Rattle.rob_top.specs.declared.ended.Ended.TheVariants.{TooWide}
 use Rattle.rob_words.specs.Commands.{Line}
 use Rattle.rob_words.specs.Values.{bits_of}
+use Rattle.rob_words.specs.declared.route.Route.TheVariants.{Dual}
 use Rattle.rob_words.specs.declared.width.Width.{Width}
 
 -- ---- the end of a text
@@ -79,19 +80,19 @@ module _ (narrowing : Call) (text : List ℕ) (narrowed : IsNarrowed narrowing t
 -- so no wide number is named
 pub narrow_refuses_none : (narrowing : Call) (text : List ℕ) (narrowed : IsNarrowed narrowing text) (front : List ℕ) → text ≡ front ++ narrow_line true
     → (solving : Call) (known : Known solving.source) (line : Line) → line.width ≡ narrowed.line.width → IsSolving line.verb
-    → HasModel (known_call solving known) line narrowed.m → (ended : Ended) → MustEnd (known_call solving known) ended → (spot : Spot)
+    → line.way ≡ Dual → HasModel (known_call solving known) line narrowed.m → (ended : Ended) → MustEnd (known_call solving known) ended → (spot : Spot)
     → ended ≡ TooWide spot → ⊥
-narrow_refuses_none narrowing text narrowed front says solving known line width solves has ended must spot =
-    must.narrow_spot line narrowed.m spot (forms_again narrowing text narrowed front says (known_call solving known) line width has) solves
+narrow_refuses_none narrowing text narrowed front says solving known line width solves by_dual has ended must spot =
+    must.narrow_spot line narrowed.m spot (forms_again narrowing text narrowed front says (known_call solving known) line width has) solves by_dual
     (narrow_again narrowing text narrowed front says line width)
 
 -- and where a scenario is admitted, the status is answered
 pub narrow_has_status : (narrowing : Call) (text : List ℕ) (narrowed : IsNarrowed narrowing text) (front : List ℕ) → text ≡ front ++ narrow_line true
     → (solving : Call) (known : Known solving.source) (line : Line) → line.width ≡ narrowed.line.width → IsSolving line.verb
-    → HasModel (known_call solving known) line narrowed.m → (ended : Ended) → MustEnd (known_call solving known) ended → (u : List Fraction)
+    → line.way ≡ Dual → HasModel (known_call solving known) line narrowed.m → (ended : Ended) → MustEnd (known_call solving known) ended → (u : List Fraction)
     → Admits narrowed.m u → (status : Status) × (v : Fraction) × HasStatus narrowed.m status v × EndsAs (ended_of status) ended
-narrow_has_status narrowing text narrowed front says solving known line width solves has ended must u =
-    must.narrow_status line narrowed.m u (forms_again narrowing text narrowed front says (known_call solving known) line width has) solves
+narrow_has_status narrowing text narrowed front says solving known line width solves by_dual has ended must u =
+    must.narrow_status line narrowed.m u (forms_again narrowing text narrowed front says (known_call solving known) line width has) solves by_dual
     (narrow_again narrowing text narrowed front says line width)
 
 -- where none is, that the set is empty

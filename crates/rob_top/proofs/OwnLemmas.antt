@@ -11,7 +11,7 @@ use Rattle.rob_words.specs.Verbs.{own_of}
 use Rattle.rob_words.specs.contracts.verb.Own.{the_type}
 use Rattle.rob_words.specs.contracts.verb.Verb.{enum, the_type as verb_type}
 use Rattle.rob_words.specs.declared.verb.Own.{Own}
-use Rattle.rob_words.specs.declared.verb.Own.TheVariants.{Model, Certificate, Scenarios, Number, Names, Statement, Limit, Limits, Tree, Form}
+use Rattle.rob_words.specs.declared.verb.Own.TheVariants.{Model, Certificate, Scenarios, Number, Names, Statement, Limit, Limits, Cuts, Tree, Form}
 use Rattle.rob_words.specs.declared.verb.Verb.{Verb}
 use Rattle.rob_words.specs.declared.verb.Verb.TheVariants.{Text, Worst}
 use Rattle.rob_words.proofs.EachValue.{each_value}
@@ -147,6 +147,7 @@ text_of-same Tree most bound bytes texts = refl
 text_of-same Statement most bound bytes texts = absurd (let no : None ≡ Some most = bound in cc)
 text_of-same Limit most bound bytes texts = absurd (let no : None ≡ Some most = bound in cc)
 text_of-same Limits most bound bytes texts = absurd (let no : None ≡ Some most = bound in cc)
+text_of-same Cuts most bound bytes texts = absurd (let no : None ≡ Some most = bound in cc)
 
 pub text_of-other : (kind other : Own) (bytes : Vec ℕ Global) (texts : Texts) → sameb the_type kind other ≡ false
     → text_of other (with_text kind bytes texts) ≡ text_of other texts
@@ -180,6 +181,7 @@ text_of-other Tree Form bytes texts apart = refl
 text_of-other Tree Statement bytes texts apart = refl
 text_of-other Tree Limit bytes texts apart = refl
 text_of-other Tree Limits bytes texts apart = refl
+text_of-other Tree Cuts bytes texts apart = refl
 text_of-other Tree Tree bytes texts apart = absurd (search (apart, rules))
 text_of-other Model Tree bytes texts apart = refl
 text_of-other Certificate Tree bytes texts apart = refl
@@ -196,3 +198,7 @@ text_of-other Limits other bytes texts apart = refl
 text_of-other Model Limits bytes texts apart = refl
 text_of-other Certificate Limits bytes texts apart = refl
 text_of-other Scenarios Limits bytes texts apart = refl
+text_of-other Cuts other bytes texts apart = refl
+text_of-other Model Cuts bytes texts apart = refl
+text_of-other Certificate Cuts bytes texts apart = refl
+text_of-other Scenarios Cuts bytes texts apart = refl

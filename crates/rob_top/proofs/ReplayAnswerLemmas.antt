@@ -19,8 +19,8 @@ use Rattle.rob_replay.proofs.OneFileLemmas.{one_file}
 use Rattle.rob_replay.specs.Files.{IsFile}
 use Rattle.rob_replay.specs.Outcome.{outcome}
 use Rattle.rob_replay.specs.Replayed.{ShowsBound}
-use Rattle.rob_top.proofs.CommandLemmas.{check_not_replay, narrow_not_replay, replay_no_branch, replay_no_sweep, replay_not_tree, replay_not_worst, replays_alone, rows_not_replay, solves_no_replay}
-use Rattle.rob_top.proofs.CourseLemmas.{Course, bounds, branching, checking_tree, finds, judges, lacks_plan, prints, refuses, replays, searches, shows_empty, sweeping, wide_number, wide_row}
+use Rattle.rob_top.proofs.CommandLemmas.{check_not_replay, narrow_not_replay, replay_no_branch, replay_no_sweep, replay_not_tree, replay_not_worst, replays_alone, rows_not_replay, solves_no_replay, replay_no_split}
+use Rattle.rob_top.proofs.CourseLemmas.{Course, bounds, branching, checking_tree, finds, judges, lacks_plan, prints, refuses, replays, searches, shows_empty, sweeping, wide_number, wide_row, splitting}
 use Rattle.rob_top.proofs.SolvingLemmas.{proved_bound}
 use Rattle.rob_top.proofs.StageLemmas.{file_once, lacking_model}
 use Rattle.rob_top.proofs.TrueAnswerLemmas.{course_of, first_of_two, in_words, lacking_verb, most, named, well}
@@ -117,6 +117,7 @@ module _ (call : Call) (known : Known call.source) (line : Line) (m : RobustMode
       by (searches is course) = absurd (replay_not_worst line.verb here is)
       by (checking_tree is course) = absurd (replay_not_tree line.verb here is)
       by (sweeping is course) = absurd (replay_no_sweep line.verb here is)
+      by (splitting is course) = absurd (replay_no_split line.verb here is)
       by (bounds forms is e) = absurd (narrow_not_replay line.verb is here)
 
   pub planless_decides : (rule number : ℕ) → LacksPlan call line m rule number → (ended : Ended) (text : List ℕ) → Means call ended text
@@ -142,6 +143,7 @@ module _ (call : Call) (known : Known call.source) (line : Line) (m : RobustMode
       by (searches is course) = absurd (replay_not_worst line.verb here is)
       by (checking_tree is course) = absurd (replay_not_tree line.verb here is)
       by (sweeping is course) = absurd (replay_no_sweep line.verb here is)
+      by (splitting is course) = absurd (replay_no_split line.verb here is)
       by (bounds forms is e) = absurd (narrow_not_replay line.verb is here)
 
 -- ---- the plan of a certificate that proves has its bound, and each inside line of its table shows it

@@ -24,6 +24,7 @@ use Rattle.rob_number.specs.declared.memory.Memory.{Memory as Want}
 use Rattle.rob_report.specs.Places.{IsSpotOf}
 use Rattle.rob_worst.specs.Finding.{FindsWorst, HasCause, IsWideAt, Tells}
 use Rattle.rob_worst.specs.Vectors.{plan_of}
+use Rattle.rob_top.proofs.RouteLemmas.{no_rounds}
 use Rattle.rob_top.proofs.SearchingLemmas.{found_answers_as, form_matrix}
 use Rattle.rob_top.specs.Calls.{count}
 use Rattle.rob_top.specs.Headline.{Means}
@@ -34,6 +35,7 @@ use Rattle.rob_top.specs.Refusing.{IsStopOf, RepliesStop}
 use Rattle.rob_top.specs.Ways.{in_model, while_searching}
 use Rattle.rob_top.specs.declared.ended.Ended.{Ended}
 use Rattle.rob_top.specs.declared.reply.Reply.{Reply}
+use Rattle.rob_words.specs.declared.route.Route.TheVariants.{Dual}
 
 -- the vector has a number for each column of a form
 pub given_size : {N : Type 0} (value : N → Fraction) (m : RobustModel) (plan : Plan N) → length plan.columns ≡ column_count m
@@ -98,8 +100,8 @@ module _ (limit : ℕ) (m : RobustModel) (form : ℕ) (z : List Fraction) (some 
   pub stop_of_search : (s : Stop) → HasCause limit m false form z s → IsStopOf m s
   stop_of_search (stop.EmptySet weights) (inl h) = sym (length-map weights of_int) ∙ h.shows.count
   stop_of_search (stop.EmptySet weights) (inr h) = absurd h.1
-  stop_of_search (stop.Wide place trace) (inl h) = set_spot place h.0
-  stop_of_search (stop.Wide place trace) (inr h) = search_spot place h.1.0
+  stop_of_search (stop.Wide place trace) (inl h) = (set_spot place h.0, no_rounds m trace.rounds h.1)
+  stop_of_search (stop.Wide place trace) (inr h) = (search_spot place h.1.0, no_rounds m trace.rounds h.1.1)
   stop_of_search stop.Memory h = tt
 
 -- ---- the answers where it stops
@@ -112,7 +114,7 @@ module _ (limit : ℕ) (m : RobustModel) (form : ℕ) (c : Certificate) where
   wide_sought place trace (inr h) = in_search h.0 h.1.0
 
   stop_answers : (before now : ℕ) (s : Stop) (reply : Reply) → HasCause limit m false form z s → CountsStop before now s
-      → RepliesStop m s reply → AnswersSought limit (count before now) m c form reply
+      → RepliesStop m Dual s reply → AnswersSought limit (count before now) m c form reply
   stop_answers before now (stop.EmptySet weights) reply (inl h) counts is = λ call line at has.
       subst (λ (ended : Ended). Means call ended reply.text) (sym is.0)
       (while_searching (record { line = line; m = m; c = c; form = form; has = has; shown = h; printed = is.1 }))
@@ -136,7 +138,7 @@ module _ {N : Type 0} (value : N → Fraction) (limit : ℕ) (m : RobustModel) (
       (c : Certificate) → plan_of value plan ≡ certificate_vector c → AnswersSought limit (count before now) m c form reply
 
   pub stopped_search : (before now : ℕ) (s : Stop) (r : Result Reply Want) → HasCause limit m false form (plan_of value plan) s
-      → CountsStop before now s → IfOk r (RepliesStop m s) → IfOk r (AnswersPlan before now)
+      → CountsStop before now s → IfOk r (RepliesStop m Dual s) → IfOk r (AnswersPlan before now)
   stopped_search before now s (Err want) cause counts is = tt
   stopped_search before now s (Ok reply) cause counts is = λ c same.
       stop_answers limit m form c before now s reply (subst (λ (z : List Fraction). HasCause limit m false form z s) same cause) counts is

@@ -28,6 +28,7 @@ few_bytes own.Form most bound = absurd (let no : None ≡ Some most = bound in c
 few_bytes own.Statement most bound = absurd (let no : None ≡ Some most = bound in cc)
 few_bytes own.Limit most bound = absurd (let no : None ≡ Some most = bound in cc)
 few_bytes own.Limits most bound = absurd (let no : None ≡ Some most = bound in cc)
+few_bytes own.Cuts most bound = absurd (let no : None ≡ Some most = bound in cc)
 few_bytes own.Tree most bound = let e : 67108864 ≡ most = cc in omega (arith, e)
 
 short_with : (kind : Own) (bytes : Vec ℕ Global) (found_files : Files) → length bytes.items ≤ 2 ^ 30 → IsShortFetch found_files
@@ -41,6 +42,7 @@ short_with own.Form bytes (files.Texts texts) few h = h
 short_with own.Statement bytes (files.Texts texts) few h = h
 short_with own.Limit bytes (files.Texts texts) few h = h
 short_with own.Limits bytes (files.Texts texts) few h = h
+short_with own.Cuts bytes (files.Texts texts) few h = h
 short_with own.Tree bytes (files.Texts texts) few h = record { model = h.model; certificate = h.certificate; scenarios = h.scenarios; tree = few }
 short_with kind bytes (files.Answer reply) few h = tt
 

@@ -2,7 +2,6 @@
 use Rattle.std.proofs.Common.{◌≡◌, ◌⊎◌, List, inl, inr, refl}
 use Rattle.std.specs.Prelude.{ℕ}
 use Rattle.rob_algebra.specs.Fraction.{Fraction}
-use Rattle.rob_dualize.specs.Solving.{IsWideOnPath}
 use Rattle.rob_meaning.proofs.StatusLemmas.{optimal_not_infeasible, optimal_not_unbounded}
 use Rattle.rob_meaning.specs.Certificates.{optimal}
 use Rattle.rob_meaning.specs.Proves.{HasStatus}
@@ -10,16 +9,18 @@ use Rattle.rob_meaning.specs.RobustModel.{RobustModel}
 use Rattle.rob_meaning.specs.UncertaintySet.{Admits}
 use Rattle.rob_model.specs.declared.place.Spot.{Spot}
 use Rattle.rob_top.specs.Endings.{EndsAs, IsSolveAnswer}
+use Rattle.rob_top.specs.Routes.{IsWideOnWay}
 use Rattle.rob_top.specs.declared.ended.Ended.{Ended}
-use Rattle.rob_top.specs.declared.ended.Ended.TheVariants.{Optimal, Infeasible, Unbounded, Printed, Accepted, Rejected, Words, Missing, TooLong, Model, EmptySet, TooWide, WideNode, WideBudget, Cert, Scenarios, Whole, Sweep, NoRow, Tree, TreeRejected, ReadFault, WriteFault, Memory}
+use Rattle.rob_top.specs.declared.ended.Ended.TheVariants.{Optimal, Infeasible, Unbounded, Printed, Accepted, Rejected, Words, Missing, TooLong, Model, EmptySet, TooWide, WideNode, WideBudget, Cert, Scenarios, Whole, Sweep, Cells, NoRow, Tree, TreeRejected, ReadFault, WriteFault, Memory}
+use Rattle.rob_words.specs.declared.route.Route.{Route}
 
-module _ (limit : ℕ) (m : RobustModel) where
-  -- the status, or a wide row on the path
+module _ (way : Route) (limit : ℕ) (m : RobustModel) where
+  -- the status, or a wide number on the way of the route
   abbrev pub IsSolvedOrWide : Ended → Type 0
-  IsSolvedOrWide result = EndsAs Optimal result ⊎ ((spot : Spot) × IsWideOnPath limit m spot × (result ≡ TooWide spot))
+  IsSolvedOrWide result = EndsAs Optimal result ⊎ ((spot : Spot) × IsWideOnWay way limit m spot × (result ≡ TooWide spot))
 
   pub optimal_or_wide : (v : Fraction) (u : List Fraction) → HasStatus m optimal v → Admits m u → (result : Ended)
-      → IsSolveAnswer limit m result → IsSolvedOrWide result
+      → IsSolveAnswer way limit m result → IsSolvedOrWide result
   optimal_or_wide v u is admitted Optimal h = inl (inl refl)
   optimal_or_wide v u is admitted Infeasible h = absurd (optimal_not_infeasible m v is h.1)
   optimal_or_wide v u is admitted Unbounded h = absurd (optimal_not_unbounded m v is h.1)
@@ -28,6 +29,7 @@ module _ (limit : ℕ) (m : RobustModel) where
   optimal_or_wide v u is admitted (WideNode path spot) h = inl (inr h)
   optimal_or_wide v u is admitted (WideBudget number spot) h = inl (inr h)
   optimal_or_wide v u is admitted (Sweep rule) h = inl (inr h)
+  optimal_or_wide v u is admitted (Cells rule) h = inl (inr h)
   optimal_or_wide v u is admitted Printed h = inl (inr h)
   optimal_or_wide v u is admitted Accepted h = inl (inr h)
   optimal_or_wide v u is admitted (Rejected place) h = inl (inr h)

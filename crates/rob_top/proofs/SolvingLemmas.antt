@@ -1,9 +1,9 @@
--- The answers of `solve` and `prove`, from what the route answers.
+-- The answers of `solve` and `prove`, from what their route answers.
 use Rattle.std.proofs.Common.{◌≡◌, ◌≢◌, ℕ, suc, ◌+◌, ◌*◌, ◌^◌, ◌<◌, ◌≤◌, List, length, Result, Ok, Err, IfOk, refl, subst, sym, ap, ◌∙◌, arith}
 use Rattle.std.proofs.Math.Nat.{mul-le-mul}
 use Rattle.std.proofs.lemmas.List.{length-map}
 use Rattle.std.specs.Prelude.{MatchResult}
-use Rattle.rob_algebra.specs.Fraction.{Fraction, of_int, ◌<ℚ◌}
+use Rattle.rob_algebra.specs.Fraction.{Fraction, ◌<ℚ◌}
 use Rattle.rob_algebra.specs.Width.{Fits}
 use Rattle.rob_cert.proofs.FitLemmas.{answer_fits}
 use Rattle.rob_cert.specs.Apart.{FitsLines}
@@ -12,7 +12,9 @@ use Rattle.rob_cert.specs.View.{certificate_of}
 use Rattle.rob_cert.specs.declared.certificate.Cert.{Cert}
 use Rattle.rob_cert.specs.declared.ending.Stop.{Stop}
 use Rattle.rob_cert.specs.declared.ending.Stop.TheVariants as stop
-use Rattle.rob_dualize.specs.Solving.{CountsStop, HasCause, IsSolution, IsWideOnPath, Solves}
+use Rattle.rob_cert.specs.declared.trace.Round.{Round}
+use Rattle.rob_cert.specs.declared.trace.Trace.{Trace}
+use Rattle.rob_dualize.specs.Solving.{CountsStop}
 use Rattle.rob_dualize.specs.Wholes.{IsFew, counterpart_of}
 use Rattle.rob_elab.specs.Forms.{IsForms}
 use Rattle.rob_elab.specs.declared.forms.Forms.{Forms}
@@ -34,28 +36,26 @@ use Rattle.rob_meaning.proofs.ProvesLemmas.{certificate_true}
 use Rattle.rob_meaning.proofs.StatusLemmas.{optimum_is_worst_case}
 use Rattle.rob_model.specs.Limits.{IsWithinLimits}
 use Rattle.rob_model.specs.declared.group.Kind.TheVariants.{Form, SetRow}
-use Rattle.rob_model.specs.declared.place.Program.TheVariants as program
-use Rattle.rob_model.specs.declared.place.Spot.{Spot}
-use Rattle.rob_model.specs.declared.place.Spot.TheVariants as spot
 use Rattle.rob_model.proofs.NameCountLemmas.{kind_few}
 use Rattle.rob_number.specs.Counts.{Rose}
 use Rattle.rob_number.specs.declared.memory.Memory.{Memory as Want}
-use Rattle.rob_report.specs.Places.{IsSpotOf}
 use Rattle.rob_report.specs.Report.{report_of}
+use Rattle.rob_report.specs.Spots.{too_wide_line}
 use Rattle.rob_sets.specs.SetForm.{IsSetForm, cleared_row}
 use Rattle.rob_sets.specs.declared.set_form.SetForm.{SetForm}
 use Rattle.rob_top.specs.Calls.{Call, Count, count, IsSolving, limit_of}
 use Rattle.rob_top.specs.Headline.{Means}
 use Rattle.rob_top.specs.Inputs.{HasForms}
-use Rattle.rob_top.specs.Refused.{solving}
 use Rattle.rob_top.specs.Replies.{Replies}
+use Rattle.rob_top.specs.Routes.{HasStopCause, IsFound, IsFoundBy, IsWideBy, SolvesBy, with_rounds}
 use Rattle.rob_top.specs.Solved.{IsKept, IsPrinted, IsSolved}
-use Rattle.rob_top.specs.Work.{AnswersForms, ended_of}
-use Rattle.rob_top.specs.Refusing.{IsStopOf, RepliesStop}
-use Rattle.rob_top.specs.Ways.{in_model, solved, while_solving}
+use Rattle.rob_top.specs.Work.{AnswersRoute, ended_of}
+use Rattle.rob_top.specs.Refusing.{RepliesStop}
+use Rattle.rob_top.specs.Ways.{on_way, solved, while_solving}
 use Rattle.rob_top.specs.declared.ended.Ended.{Ended}
 use Rattle.rob_top.specs.declared.reply.Reply.{Reply}
 use Rattle.rob_words.specs.Commands.{Line}
+use Rattle.rob_words.specs.declared.route.Route.{Route}
 use Rattle.rob_words.specs.declared.verb.Verb.{Verb}
 use Rattle.rob_words.specs.declared.verb.Verb.TheVariants.{Solve, Prove}
 
@@ -85,11 +85,12 @@ module _ (m : RobustModel) (limits : IsWithinLimits m) where
 
 -- ---- counts
 
-pub solve_counted : {N : Type 0} (value : N → Fraction) (limit : ℕ) (m : RobustModel) (before now : ℕ) (r : Result (Cert N) Stop) → Solves value limit m before now r → before ≤ now
-solve_counted {N = N} value limit m before now r h = by r h.counted
+pub solve_counted : {N : Type 0} (way : Route) (value : N → Fraction) (limit : ℕ) (m : RobustModel) (before now : ℕ)
+    (r : Result (Cert N × Trace) Stop) → SolvesBy way value limit m before now r → before ≤ now
+solve_counted {N = N} way value limit m before now r h = by r h.counted
   where
-    by : (r : Result (Cert N) Stop) → MatchResult r (λ _. now ≡ before) (CountsStop before now) → before ≤ now
-    by (Ok cert) e = omega (arith, e)
+    by : (r : Result (Cert N × Trace) Stop) → MatchResult r (λ _. now ≡ before) (CountsStop before now) → before ≤ now
+    by (Ok answer) e = omega (arith, e)
     by (Err (stop.EmptySet weights)) e = omega (arith, e)
     by (Err (stop.Wide place trace)) e = omega (arith, e)
     by (Err stop.Memory) e = e
@@ -125,10 +126,11 @@ pub solution_fits : {N : Type 0} (value : N → Fraction) (limit : ℕ) → ((x 
     → FitsLines limit m (certificate_of value cert)
 solution_fits {N = N} value limit fits m cert = let found : Result (Cert N) Stop = Ok cert in answer_fits value limit fits m found
 
-module _ (limit : ℕ) (m : RobustModel) (model : IsModel m) (c : Certificate) (found : IsSolution m c) (fits : FitsLines limit m c) where
-  means_solved : (call : Call) (line : Line) (text : List ℕ) (status : Status) → limit_of line ≡ limit → c.status ≡ status → HasForms call line m → IsSolving line.verb → IsPrinted call line.verb m c text
-      → Means call (ended_of status) text
-  means_solved call line text status at e has solves printed =
+module _ (limit : ℕ) (m : RobustModel) (model : IsModel m) (way : Route) (c : Certificate) (rounds : List Round)
+    (found : IsFound way m c rounds) (fits : FitsLines limit m c) where
+  means_solved : (call : Call) (line : Line) (text : List ℕ) (status : Status) → limit_of line ≡ limit → line.way ≡ way → c.status ≡ status
+      → HasForms call line m → IsSolving line.verb → IsPrinted call line.verb line.way m c rounds text → Means call (ended_of status) text
+  means_solved call line text status at by_way e has solves printed =
       let proves : ProvesAs status m c = subst (λ (s : Status). ProvesAs s m c) e found.proves in
       let holds : HasStatus m status c.value = subst (λ (s : Status). HasStatus m s c.value) e (certificate_true m model c found.proves) in
       by status (record {
@@ -141,7 +143,8 @@ module _ (limit : ℕ) (m : RobustModel) (model : IsModel m) (c : Certificate) (
         holds = holds;
         kept = kept_as m model call c status proves holds;
         proves = found.proves;
-        last = found.read;
+        rounds = rounds;
+        found = subst (λ (w : Route). IsFoundBy w m c rounds) (sym by_way) found.found;
         shape = found.shape;
         fits = subst (λ (l : ℕ). FitsLines l m c) (sym at) fits;
         printed = printed;
@@ -152,48 +155,37 @@ module _ (limit : ℕ) (m : RobustModel) (model : IsModel m) (c : Certificate) (
       by infeasible h = solved h
       by unbounded h = solved h
 
-  is_report : (call : Call) (verb : Verb) (text : List ℕ) → verb ≡ Solve → text ≡ report_of m c → IsPrinted call verb m c text
-  is_report call verb text e h = subst (λ (v : Verb). IsPrinted call v m c text) (sym e) h
+  is_report : (call : Call) (verb : Verb) (w : Route) (text : List ℕ) → verb ≡ Solve → w ≡ way
+      → text ≡ with_rounds way m rounds (report_of m c) → IsPrinted call verb w m c rounds text
+  is_report call verb w text e by_way h =
+      subst (λ (v : Verb). IsPrinted call v w m c rounds text) (sym e)
+      (subst (λ (x : Route). text ≡ with_rounds x m rounds (report_of m c)) (sym by_way) h)
 
-  is_certificate : (call : Call) (verb : Verb) (text : List ℕ) → verb ≡ Prove → text ≡ cert_text m c → IsPrinted call verb m c text
-  is_certificate call verb text e h = subst (λ (v : Verb). IsPrinted call v m c text) (sym e) h
+  is_certificate : (call : Call) (verb : Verb) (w : Route) (text : List ℕ) → verb ≡ Prove → text ≡ cert_text m c
+      → IsPrinted call verb w m c rounds text
+  is_certificate call verb w text e h = subst (λ (v : Verb). IsPrinted call v w m c rounds text) (sym e) h
 
-  pub report_answers : (wides : Count) (r : Result Reply Want) → IfOk r (Replies (ended_of c.status) (report_of m c)) → IfOk r (AnswersForms limit wides m Solve)
+  pub report_answers : (wides : Count) (r : Result Reply Want)
+      → IfOk r (Replies (ended_of c.status) (with_rounds way m rounds (report_of m c))) → IfOk r (AnswersRoute limit wides m Solve way)
   report_answers wides (Err want) is = tt
-  report_answers wides (Ok reply) is = λ call line at has.
+  report_answers wides (Ok reply) is = λ call line at by_way has.
       subst (λ (ended : Ended). Means call ended reply.text) (sym is.0)
-      (means_solved call line reply.text c.status at.limit_is refl has (solves_as line.verb Solve at.verb_is refl)
-      (is_report call line.verb reply.text at.verb_is is.1))
+      (means_solved call line reply.text c.status at.limit_is by_way refl has (solves_as line.verb Solve at.verb_is refl)
+      (is_report call line.verb line.way reply.text at.verb_is by_way is.1))
 
-  pub certificate_answers : (wides : Count) (r : Result Reply Want) → IfOk r (Replies (ended_of c.status) (cert_text m c)) → IfOk r (AnswersForms limit wides m Prove)
+  pub certificate_answers : (wides : Count) (r : Result Reply Want) → IfOk r (Replies (ended_of c.status) (cert_text m c))
+      → IfOk r (AnswersRoute limit wides m Prove way)
   certificate_answers wides (Err want) is = tt
-  certificate_answers wides (Ok reply) is = λ call line at has.
+  certificate_answers wides (Ok reply) is = λ call line at by_way has.
       subst (λ (ended : Ended). Means call ended reply.text) (sym is.0)
-      (means_solved call line reply.text c.status at.limit_is refl has (solves_as line.verb Prove at.verb_is refl)
-      (is_certificate call line.verb reply.text at.verb_is is.1))
+      (means_solved call line reply.text c.status at.limit_is by_way refl has (solves_as line.verb Prove at.verb_is refl)
+      (is_certificate call line.verb line.way reply.text at.verb_is is.1))
 
 -- ---- the route stopped
 module _ (limit : ℕ) (m : RobustModel) where
-  wide_spot : (place : Spot) → IsWideOnPath limit m place → IsSpotOf m place
-  wide_spot (spot.Dictionary program.Set basis i) h = tt
-  wide_spot (spot.Dictionary program.Reform basis i) h = tt
-  wide_spot (spot.Dictionary program.Master basis i) h = tt
-  wide_spot (spot.Dictionary (program.SearchPlan form) basis i) h = absurd h
-  wide_spot (spot.Dictionary (program.SearchMove form) basis i) h = absurd h
-  wide_spot (spot.Coefficient where_it_is) h = absurd h
-  wide_spot (spot.Clearing where_it_is) h = absurd h
-  wide_spot (spot.Sum where_it_is j) h = absurd h
-  wide_spot (spot.Check place) h = absurd h
-  wide_spot (spot.Replay number) h = tt
-
-  pub stop_of : (s : Stop) → HasCause limit m s → IsStopOf m s
-  stop_of (stop.EmptySet weights) h = sym (length-map weights of_int) ∙ h.shows.count
-  stop_of (stop.Wide place trace) h = wide_spot place h.0
-  stop_of stop.Memory h = tt
-
-  stop_answers : (before now : ℕ) (verb : Verb) (s : Stop) (reply : Reply) → IsSolving verb
-      → HasCause limit m s → CountsStop before now s → RepliesStop m s reply → AnswersForms limit (count before now) m verb reply
-  stop_answers before now verb (stop.EmptySet weights) reply solves cause counts is = λ call line at has.
+  stop_answers : (before now : ℕ) (verb : Verb) (way : Route) (s : Stop) (reply : Reply) → IsSolving verb
+      → HasStopCause way limit m s → CountsStop before now s → RepliesStop m way s reply → AnswersRoute limit (count before now) m verb way reply
+  stop_answers before now verb way (stop.EmptySet weights) reply solves cause counts is = λ call line at by_way has.
       subst (λ (ended : Ended). Means call ended reply.text) (sym is.0)
       (while_solving (record {
         line = line;
@@ -203,19 +195,26 @@ module _ (limit : ℕ) (m : RobustModel) where
         shown = cause;
         printed = is.1;
       }))
-  stop_answers before now verb (stop.Wide place trace) reply solves cause counts is = λ call line at has.
+  stop_answers before now verb way (stop.Wide place trace) reply solves cause counts is = λ call line at by_way has.
       let rose : Rose before now = omega (arith, counts) in
+      let here : IsWideBy way (limit_of line) m place trace.rounds =
+      subst (λ (l : ℕ). IsWideBy way l m place trace.rounds) (sym at.limit_is) cause
+      in
       subst (λ (ended : Ended). Means call ended reply.text) (sym is.0)
-      (in_model (record {
+      (on_way (record {
         line = line;
         m = m;
-        wide = solving has (solves_as line.verb verb at.verb_is solves) (subst (λ (l : ℕ). IsWideOnPath l m place) (sym at.limit_is) cause.0);
+        rounds = trace.rounds;
+        forms = has;
+        solves = solves_as line.verb verb at.verb_is solves;
+        wide = subst (λ (w : Route). IsWideBy w (limit_of line) m place trace.rounds) (sym by_way) here;
         raised = at.raised rose;
-        printed = is.1;
+        printed = subst (λ (w : Route). reply.text ≡ with_rounds w m trace.rounds (too_wide_line m place)) (sym by_way) is.1;
       }))
-  stop_answers before now verb stop.Memory reply solves cause counts is = absurd is
+  stop_answers before now verb way stop.Memory reply solves cause counts is = absurd is
 
-  pub stopped_answers : (before now : ℕ) (verb : Verb) (s : Stop) (r : Result Reply Want) → IsSolving verb
-      → HasCause limit m s → CountsStop before now s → IfOk r (RepliesStop m s) → IfOk r (AnswersForms limit (count before now) m verb)
-  stopped_answers before now verb s (Err want) solves cause counts is = tt
-  stopped_answers before now verb s (Ok reply) solves cause counts is = stop_answers before now verb s reply solves cause counts is
+  pub stopped_answers : (before now : ℕ) (verb : Verb) (way : Route) (s : Stop) (r : Result Reply Want) → IsSolving verb
+      → HasStopCause way limit m s → CountsStop before now s → IfOk r (RepliesStop m way s)
+      → IfOk r (AnswersRoute limit (count before now) m verb way)
+  stopped_answers before now verb way s (Err want) solves cause counts is = tt
+  stopped_answers before now verb way s (Ok reply) solves cause counts is = stop_answers before now verb way s reply solves cause counts is

@@ -13,20 +13,21 @@ use Rattle.rob_rules.specs.Reading.{Breaks}
 use Rattle.rob_parse.proofs.Building.OneModel.{not_both, one_model}
 use Rattle.rob_rules.proofs.OneReading.{one_rule}
 use Rattle.rob_model.specs.declared.place.Spot.{Spot}
-use Rattle.rob_top.proofs.CourseLemmas.{Course, accepted_course, branched_course, cert_course, empty_branched_course, empty_course, limited_course, no_sweep_course, no_tree_course, empty_sought_course, no_row_course, no_whole_course, priced_course, rejected_course, lacking_course, narrowed_course, replayed_course, rows_course, scenarios_course, searched_course, solved_course, wide_budget_course, tree_accepted_course, tree_rejected_course, unplanned_course, wide_course, wide_leaf_course, wide_node_course}
+use Rattle.rob_top.proofs.CourseLemmas.{Course, accepted_course, branched_course, cert_course, empty_branched_course, empty_course, limited_course, no_sweep_course, no_tree_course, empty_sought_course, no_row_course, no_whole_course, priced_course, rejected_course, lacking_course, narrowed_course, replayed_course, rows_course, scenarios_course, searched_course, solved_course, wide_budget_course, tree_accepted_course, tree_rejected_course, unplanned_course, wide_course, wide_leaf_course, wide_node_course, splitting, wide_way_course}
 use Rattle.rob_top.proofs.FilesLemmas.{empty_split}
 use Rattle.rob_top.proofs.OwnLemmas.{text_no_file, text_no_files}
 use Rattle.rob_top.proofs.SoughtLemmas.{forms_sought, forms_unnamed, forms_unplanned}
 use Rattle.rob_top.specs.Branched.{BreaksWhole, no_ranges, no_variables}
+use Rattle.rob_top.proofs.SplitCourseLemmas.{breaks_cells, cells_model, cells_splits, empty_cell_course, pieced_course, wide_split_course, written_course}
 use Rattle.rob_top.specs.Calls.{Call, Came, HasFile, IsFirstAbsent, IsFound, Known, NamesFile, Request, answer_to, by_fetches, by_files, limit_of, requests}
 use Rattle.rob_top.specs.Headline.{Means}
 use Rattle.rob_top.specs.Inputs.{HasModel}
-use Rattle.rob_top.specs.Refused.{IsNoModel, IsWideSpot, checking, elaborating, replaying, searching, solving}
+use Rattle.rob_top.specs.Refused.{IsNoModel, IsWideSpot, checking, elaborating, replaying, searching}
 use Rattle.rob_top.specs.Replayed.{LacksPlan, planless, unread}
 use Rattle.rob_top.specs.Swept.{BreaksSweep, at_limit, at_limits}
-use Rattle.rob_top.specs.Ways.{solved, branched, rows, replayed, generated, worst_found, swept, narrowed, a_certificate, a_tree, while_solving, while_branching, while_searching, in_model, while_growing, while_checking, not_checked, not_replayed, not_searched}
+use Rattle.rob_top.specs.Ways.{solved, branched, rows, replayed, generated, worst_found, swept, narrowed, a_certificate, a_tree, while_solving, while_branching, while_searching, in_model, on_way, while_growing, while_checking, not_checked, not_replayed, not_searched, pieced, split_written, in_cells, in_split}
 use Rattle.rob_top.specs.declared.ended.Ended.{Ended}
-use Rattle.rob_top.specs.declared.ended.Ended.TheVariants.{Optimal, Infeasible, Unbounded, Printed, Accepted, Rejected, Words, Missing, TooLong, Model, EmptySet, TooWide, WideNode, WideBudget, Cert, Scenarios, Whole, Sweep, Tree, TreeRejected, NoRow, ReadFault, WriteFault, Memory}
+use Rattle.rob_top.specs.declared.ended.Ended.TheVariants.{Optimal, Infeasible, Unbounded, Printed, Accepted, Rejected, Words, Missing, TooLong, Model, EmptySet, TooWide, WideNode, WideBudget, Cert, Scenarios, Whole, Sweep, Cells, Tree, TreeRejected, NoRow, ReadFault, WriteFault, Memory}
 use Rattle.rob_words.specs.Commands.{Line, IsCommandLine, IsSpelled}
 use Rattle.rob_words.specs.Values.{Word}
 use Rattle.rob_words.specs.declared.verb.Own.{Own}
@@ -47,7 +48,6 @@ pub data Stage (call : Call) (ended : Ended) : Type 0 where
 
 wide_model : (call : Call) (line : Line) (m : RobustModel) (spot : Spot) → IsWideSpot call line m spot → HasModel call line m
 wide_model call line m spot (elaborating has makes first) = has
-wide_model call line m spot (solving has solves wide) = has.model
 wide_model call line m spot (checking c place has is verdict) = has.file.forms.model
 wide_model call line m spot (replaying c bytes number has is gives) = has.certificate.file.model
 wide_model call line m spot (searching c form has wide) = (forms_sought call line m c form has).model
@@ -67,10 +67,13 @@ sweeping_model call line m rule (at_limit n g has none e) = has.model
 pub stage_of : (call : Call) (ended : Ended) (text : List ℕ) → Means call ended text → Stage call ended
 stage_of call Optimal text (solved h) = read h.line h.m h.forms.model (solved_course call optimal text h)
 stage_of call Optimal text (branched h) = read h.line h.m h.has.named.model (branched_course call optimal text h)
+stage_of call Optimal text (pieced h) = read h.line h.m h.has.has_cuts.has_word.model (splitting h.has.has_cuts.has_word.splits_it (pieced_course call optimal text h))
 stage_of call Infeasible text (solved h) = read h.line h.m h.forms.model (solved_course call infeasible text h)
 stage_of call Infeasible text (branched h) = read h.line h.m h.has.named.model (branched_course call infeasible text h)
+stage_of call Infeasible text (pieced h) = read h.line h.m h.has.has_cuts.has_word.model (splitting h.has.has_cuts.has_word.splits_it (pieced_course call infeasible text h))
 stage_of call Unbounded text (solved h) = read h.line h.m h.forms.model (solved_course call unbounded text h)
 stage_of call Unbounded text (branched h) = read h.line h.m h.has.named.model (branched_course call unbounded text h)
+stage_of call Unbounded text (pieced h) = read h.line h.m h.has.has_cuts.has_word.model (splitting h.has.has_cuts.has_word.splits_it (pieced_course call unbounded text h))
 stage_of call Printed text (rows h) = read h.line h.m h.forms.model (rows_course call text h)
 stage_of call Printed text (replayed h) = read h.line h.m h.has.certificate.file.model (replayed_course call text h)
 stage_of call Printed text (generated h) = generates h.line h.spelled h.is_text refl
@@ -78,6 +81,7 @@ stage_of call Printed text (worst_found h) = read h.line h.m (forms_sought call 
 stage_of call Printed text (swept (inl h)) = read h.line h.m h.has.model (priced_course call text h)
 stage_of call Printed text (swept (inr h)) = read h.line h.m h.has.model (limited_course call text h)
 stage_of call Printed text (narrowed h) = read h.line h.m h.forms.model (narrowed_course call text h)
+stage_of call Printed text (split_written h) = read h.line h.m h.has.has_cuts.has_word.model (splitting h.has.has_cuts.has_word.splits_it (written_course call text h))
 stage_of call Accepted text (a_certificate h) = read h.line h.m h.read.file.forms.model (accepted_course call text h)
 stage_of call Accepted text (a_tree h) = read h.line h.m h.read.file.variables.named.model (tree_accepted_course call text h)
 stage_of call (Rejected place) text h = read h.line h.m h.read.file.forms.model (rejected_course call place text h)
@@ -89,6 +93,7 @@ stage_of call TooLong text h = over h.0 h.1 refl
 stage_of call (Model rule number) text h = broken rule number text h refl
 stage_of call (EmptySet weights) text (while_solving h) = read h.line h.m h.forms.model (empty_course call weights text h)
 stage_of call (EmptySet weights) text (while_branching h) = read h.line h.m h.has.named.model (empty_branched_course call weights text h)
+stage_of call (EmptySet weights) text (in_cells h) = read h.line h.m h.has.has_cuts.has_word.model (splitting h.has.has_cuts.has_word.splits_it (empty_cell_course call weights text h))
 stage_of call (EmptySet weights) text (while_searching h) =
     read h.line h.m (forms_sought call h.line h.m h.c h.form h.has).model (empty_sought_course call weights text h)
 stage_of call (WideNode path spot) text (while_growing h) = read h.line h.m h.has.named.model (wide_node_course call path spot text h)
@@ -96,9 +101,13 @@ stage_of call (WideNode path spot) text (while_checking h) =
     read h.line h.m h.read.file.variables.named.model (wide_leaf_course call path spot text h)
 stage_of call (WideBudget number spot) text h = read h.line h.m h.has.model (wide_budget_course call number spot text h)
 stage_of call (Sweep rule) text h = read h.line h.m (sweeping_model call h.line h.m rule h.breaks) (no_sweep_course call rule text h)
+stage_of call (Cells rule) text h =
+    read h.line h.m (cells_model call h.line h.m rule h.breaks) (splitting (cells_splits call h.line h.m rule h.breaks) (breaks_cells rule h.breaks refl))
 stage_of call (Whole rule) text h = read h.line h.m (breaking_model call h.line h.m rule h.breaks) (no_whole_course call rule text h)
 stage_of call (Tree rule number) text h = read h.line h.m h.file.variables.named.model (no_tree_course call rule number text h)
 stage_of call (TooWide spot) text (in_model h) = read h.line h.m (wide_model call h.line h.m spot h.wide) (wide_course call h.line h.m spot h.wide)
+stage_of call (TooWide spot) text (on_way h) = read h.line h.m h.forms.model (wide_way_course call spot text h)
+stage_of call (TooWide spot) text (in_split h) = read h.line h.m h.has.has_cuts.has_word.model (splitting h.has.has_cuts.has_word.splits_it (wide_split_course call spot text h))
 stage_of call (Cert rule number) text (not_checked h) = read h.line h.m h.file.forms.model (cert_course call rule number text h)
 stage_of call (Cert rule number) text (not_replayed h) =
     read h.line h.m (lacking_model call h.line h.m rule number h.lacks) (lacking_course call rule number text h)

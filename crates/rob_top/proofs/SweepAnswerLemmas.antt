@@ -8,8 +8,8 @@ use Rattle.rob_model.specs.declared.place.Spot.{Spot}
 use Rattle.rob_reach.specs.Sweeps.{IsBudgetAt, with_budget}
 use Rattle.rob_sweep.specs.Answering.{AreWritten}
 use Rattle.rob_sweep.specs.Stops.{BreaksRule, IsWideAt, KeepsRules}
-use Rattle.rob_top.proofs.CommandLemmas.{branches_no_sweep, check_no_sweep, makes_no_sweep, narrow_no_sweep, replay_no_sweep, rows_no_sweep, solves_no_sweep, tree_no_sweep, two_verbs, worst_no_sweep}
-use Rattle.rob_top.proofs.CourseLemmas.{Course, SweepCourse, bounds, branching, breaks_rule, checking_tree, finds, judges, lacks_plan, prices, prints, refuses, replays, searches, shows_empty, sweeping, wide_limit, wide_number, wide_row, writes_limit}
+use Rattle.rob_top.proofs.CommandLemmas.{branches_no_sweep, check_no_sweep, makes_no_sweep, narrow_no_sweep, replay_no_sweep, rows_no_sweep, solves_no_sweep, tree_no_sweep, two_verbs, worst_no_sweep, sweeps_no_split}
+use Rattle.rob_top.proofs.CourseLemmas.{Course, SweepCourse, bounds, branching, breaks_rule, checking_tree, finds, judges, lacks_plan, prices, prints, refuses, replays, searches, shows_empty, sweeping, wide_limit, wide_number, wide_row, writes_limit, splitting}
 use Rattle.rob_top.proofs.TrueAnswerLemmas.{course_of, first_of_two, lacking_verb}
 use Rattle.rob_top.specs.Calls.{Call, Known, limit_of}
 use Rattle.rob_top.specs.Endings.{IsNarrowAt, IsSweepAnswer}
@@ -80,6 +80,7 @@ module _ (call : Call) (known : Known call.source) (line : Line) (m : RobustMode
       by (checking_tree too course) = absurd (tree_no_sweep line.verb too is)
       by (bounds forms narrow e) = absurd (narrow_no_sweep line.verb narrow is)
       by (sweeping too course) = course
+      by (splitting too course) = absurd (sweeps_no_split line.verb is too)
 
   -- ---- `sweep`
   module _ (n : ℕ) (gs : List Fraction) (has : HasSweep call line m n gs) where

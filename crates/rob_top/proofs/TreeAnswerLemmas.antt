@@ -11,8 +11,8 @@ use Rattle.rob_tree.specs.Reading.{Breaks, TreeFits}
 use Rattle.rob_tree.specs.TreeText.{IsTextOfTree}
 use Rattle.rob_tree.specs.Shape.{HasTreeShape}
 use Rattle.rob_top.proofs.BranchingLemmas.{kept_bounds}
-use Rattle.rob_top.proofs.CommandLemmas.{check_not_tree, makes_no_tree, narrow_not_tree, replay_not_tree, rows_not_tree, solves_no_tree, tree_no_branch, tree_no_sweep, worst_not_tree}
-use Rattle.rob_top.proofs.CourseLemmas.{Course, bounds as bounds_model, branching, checking_tree, finds, judges, lacks_plan, prints, refuses, replays, searches, shows_empty, sweeping, wide_number, wide_row}
+use Rattle.rob_top.proofs.CommandLemmas.{check_not_tree, makes_no_tree, narrow_not_tree, replay_not_tree, rows_not_tree, solves_no_tree, tree_no_branch, tree_no_sweep, worst_not_tree, tree_no_split}
+use Rattle.rob_top.proofs.CourseLemmas.{Course, bounds as bounds_model, branching, checking_tree, finds, judges, lacks_plan, prints, refuses, replays, searches, shows_empty, sweeping, wide_number, wide_row, splitting}
 use Rattle.rob_top.proofs.NamingLemmas.{breaking_verb}
 use Rattle.rob_top.proofs.StageLemmas.{file_once}
 use Rattle.rob_top.proofs.TreeCheckLemmas.{rejected_not}
@@ -50,6 +50,7 @@ module _ (call : Call) (known : Known call.source) (line : Line) (m : RobustMode
       by (branching too course) = absurd (tree_no_branch line.verb is too)
       by (searches worst course) = absurd (worst_not_tree line.verb worst is)
       by (sweeping too course) = absurd (tree_no_sweep line.verb is too)
+      by (splitting too course) = absurd (tree_no_split line.verb is too)
       by (bounds_model forms narrow e) = absurd (narrow_not_tree line.verb narrow is)
       by (checking_tree too course) = course
 

@@ -11,7 +11,6 @@ use Rattle.rob_cert.specs.declared.error.CertErr.TheVariants.{Rule}
 use Rattle.rob_cert.proofs.OneCertificate.{read_once}
 use Rattle.rob_cert.proofs.SpellingLaws.{breaks_none}
 use Rattle.rob_check.specs.Conditions.{verdict_of}
-use Rattle.rob_dualize.specs.Solving.{IsWideOnPath}
 use Rattle.rob_elab.specs.Forms.{judged_forms}
 use Rattle.rob_meaning.specs.Certificates.{Certificate, Status, optimal, infeasible, unbounded}
 use Rattle.rob_meaning.specs.Named.{IsNamed}
@@ -19,9 +18,7 @@ use Rattle.rob_meaning.specs.Proves.{HasStatus}
 use Rattle.rob_meaning.specs.RobustModel.{RobustModel}
 use Rattle.rob_meaning.specs.UncertaintySet.{Admits, IsEmptySet}
 use Rattle.rob_meaning.specs.WellFormed.{IsModel}
-use Rattle.rob_model.specs.declared.place.Program.TheVariants as programs
 use Rattle.rob_model.specs.declared.place.Spot.{Spot}
-use Rattle.rob_model.specs.declared.place.Spot.TheVariants as spots
 use Rattle.rob_number.specs.Lowest.{limit_high, limit_low}
 use Rattle.rob_outside.specs.Files.{Found, whole, missing, too_long}
 use Rattle.rob_parse.proofs.Building.PlacedLemmas.{well_formed}
@@ -33,8 +30,9 @@ use Rattle.rob_sets.specs.SetForm.{judged_set}
 use Rattle.rob_branch.proofs.OneSpotLemmas.{first_once, none_first, split_once}
 use Rattle.rob_cert.proofs.OneBreach.{one_cause}
 use Rattle.rob_top.proofs.CertificateNameLemmas.{named_in_words}
-use Rattle.rob_top.proofs.CommandLemmas.{check_no_branch, check_no_sweep, check_not_replay, check_not_tree, check_not_worst, makes_no_branch, narrow_not_check, narrow_not_rows, makes_no_sweep, makes_no_tree, not_rows, replays_alone, rows_no_branch, rows_no_sweep, rows_not_replay, rows_not_tree, rows_not_worst, solves_no_branch, solves_no_sweep, solves_no_check, solves_no_narrow, solves_no_replay, solves_no_rows, solves_no_tree, solves_no_worst}
-use Rattle.rob_top.proofs.CourseLemmas.{Course, bounds, branching, checking_tree, course_at, finds, judges, lacks_plan, prints, refuses, replays, searches, shows_empty, sweeping, wide_number, wide_row, worst_forms}
+use Rattle.rob_top.proofs.CommandLemmas.{check_no_branch, check_no_sweep, check_not_replay, check_not_tree, check_not_worst, makes_no_branch, narrow_not_check, narrow_not_rows, makes_no_sweep, makes_no_tree, not_rows, replays_alone, rows_no_branch, rows_no_sweep, rows_not_replay, rows_not_tree, rows_not_worst, solves_no_branch, solves_no_sweep, solves_no_check, solves_no_narrow, solves_no_replay, solves_no_rows, solves_no_tree, solves_no_worst, check_no_split, makes_no_split, rows_no_split, solves_no_split}
+use Rattle.rob_top.proofs.CourseLemmas.{Course, bounds, branching, checking_tree, course_at, finds, judges, lacks_plan, prints, refuses, replays, searches, shows_empty, sweeping, wide_number, wide_row, worst_forms, splitting}
+use Rattle.rob_top.proofs.RouteLemmas.{empty_on_way}
 use Rattle.rob_top.proofs.StageLemmas.{Stage, absent, broken, broken_here, failed, file_once, found_once, generates, none_absent, one_model_read, over, read, same_status, stage_of, text_here, text_none_absent, wanting, wordless}
 use Rattle.rob_top.proofs.WorkLemmas.{limit_is}
 use Rattle.rob_top.specs.Calls.{Call, Came, HasFile, IsElaborating, IsFirstAbsent, IsFound, IsSolving, Known, Request, limit_of, requests}
@@ -42,6 +40,7 @@ use Rattle.rob_top.specs.Headline.{Means}
 use Rattle.rob_top.specs.Inputs.{HasCertificate, HasCertificateFile, HasForms, HasModel}
 use Rattle.rob_top.specs.Replayed.{LacksPlan, planless, unread}
 use Rattle.rob_top.specs.Endings.{IsEmptyAnswer, IsSolveAnswer}
+use Rattle.rob_top.specs.Routes.{IsWideOnWay}
 use Rattle.rob_top.specs.Work.{ended_of, verdict_ended}
 use Rattle.rob_top.specs.declared.ended.Ended.{Ended}
 use Rattle.rob_top.specs.declared.ended.Ended.TheVariants.{Printed, Missing, TooLong, EmptySet, TooWide, Cert, ReadFault, Memory}
@@ -157,6 +156,7 @@ module _ (call : Call) (known : Known call.source) where
         by (searches is course) = absurd (no_forms (worst_forms call line m ended course))
         by (checking_tree is course) = absurd (makes_no_tree line.verb is makes)
         by (sweeping is course) = absurd (makes_no_sweep line.verb makes is)
+        by (splitting is course) = absurd (makes_no_split line.verb makes is)
         by (bounds forms is e) = absurd (no_forms forms)
 
     -- ---- none is
@@ -181,21 +181,22 @@ module _ (call : Call) (known : Known call.source) where
         by (searches is course) = absurd (rows_not_worst line.verb is_rows is)
         by (checking_tree took course) = absurd (rows_not_tree line.verb is_rows took)
         by (sweeping took course) = absurd (rows_no_sweep line.verb is_rows took)
+        by (splitting took course) = absurd (rows_no_split line.verb is_rows took)
         by (bounds forms is e) = absurd (narrow_not_rows line.verb is is_rows)
 
     -- ---- `solve` and `prove`
-    status_answer : (status : Status) (v : Fraction) → HasStatus m status v → IsSolveAnswer (limit_of line) m (ended_of status)
+    status_answer : (status : Status) (v : Fraction) → HasStatus m status v → IsSolveAnswer line.way (limit_of line) m (ended_of status)
     status_answer optimal v h = (v, h)
     status_answer infeasible v h = (v, h)
     status_answer unbounded v h = (v, h)
 
-    answer_is : (ended other : Ended) → ended ≡ other → IsSolveAnswer (limit_of line) m other → IsSolveAnswer (limit_of line) m ended
-    answer_is ended other e h = subst (λ (x : Ended). IsSolveAnswer (limit_of line) m x) (sym e) h
+    answer_is : (ended other : Ended) → ended ≡ other → IsSolveAnswer line.way (limit_of line) m other → IsSolveAnswer line.way (limit_of line) m ended
+    answer_is ended other e h = subst (λ (x : Ended). IsSolveAnswer line.way (limit_of line) m x) (sym e) h
 
-    pub solve_decides : HasForms call line m → IsSolving line.verb → (ended : Ended) (text : List ℕ) → Means call ended text → IsSolveAnswer (limit_of line) m ended
+    pub solve_decides : HasForms call line m → IsSolving line.verb → (ended : Ended) (text : List ℕ) → Means call ended text → IsSolveAnswer line.way (limit_of line) m ended
     solve_decides has is_solving ended text means = all (course_of has.model ended text means)
       where
-        by : Course call line m ended → IsSolveAnswer (limit_of line) m ended
+        by : Course call line m ended → IsSolveAnswer line.way (limit_of line) m ended
         by (finds status v u inside forms solves holds e) = answer_is ended (ended_of status) e (status_answer status v holds)
         by (shows_empty weights forms solves shown e) = answer_is ended (EmptySet weights) e shown.empty
         by (prints forms is e) = absurd (solves_no_rows line.verb is is_solving)
@@ -209,9 +210,10 @@ module _ (call : Call) (known : Known call.source) where
         by (searches is course) = absurd (solves_no_worst line.verb is is_solving)
         by (checking_tree is course) = absurd (solves_no_tree line.verb is is_solving)
         by (sweeping is course) = absurd (solves_no_sweep line.verb is_solving is)
+        by (splitting is course) = absurd (solves_no_split line.verb is_solving is)
         by (bounds forms is e) = absurd (solves_no_narrow line.verb is is_solving)
 
-        all : Course call line m ended ⊎ ((ended ≡ ReadFault) ⊎ (ended ≡ Memory)) → IsSolveAnswer (limit_of line) m ended
+        all : Course call line m ended ⊎ ((ended ≡ ReadFault) ⊎ (ended ≡ Memory)) → IsSolveAnswer line.way (limit_of line) m ended
         all (inl course) = by course
         all (inr (inl e)) = answer_is ended ReadFault e (inl refl)
         all (inr (inr e)) = answer_is ended Memory e (inr (inr refl))
@@ -219,19 +221,6 @@ module _ (call : Call) (known : Known call.source) where
     -- an empty set
     empty_is : (ended other : Ended) → ended ≡ other → IsEmptyAnswer (limit_of line) m other → IsEmptyAnswer (limit_of line) m ended
     empty_is ended other e h = subst (λ (x : Ended). IsEmptyAnswer (limit_of line) m x) (sym e) h
-
-    -- a row on the path is one of the set's program, since the counterpart is solved for an admitted scenario alone
-    empty_spot : IsEmptySet m → (place : Spot) → IsWideOnPath (limit_of line) m place → IsEmptyAnswer (limit_of line) m (TooWide place)
-    empty_spot none (spots.Dictionary programs.Set basis i) h = h
-    empty_spot none (spots.Dictionary programs.Reform basis i) h = absurd (none h.0.0 h.0.1)
-    empty_spot none (spots.Dictionary programs.Master basis i) h = absurd h
-    empty_spot none (spots.Dictionary (programs.SearchPlan form) basis i) h = absurd h
-    empty_spot none (spots.Dictionary (programs.SearchMove form) basis i) h = absurd h
-    empty_spot none (spots.Coefficient where_it_is) h = absurd h
-    empty_spot none (spots.Clearing where_it_is) h = absurd h
-    empty_spot none (spots.Sum where_it_is j) h = absurd h
-    empty_spot none (spots.Check place) h = absurd h
-    empty_spot none (spots.Replay number) h = absurd h
 
     pub empty_decides : HasForms call line m → IsSolving line.verb → IsEmptySet m → (ended : Ended) (text : List ℕ) → Means call ended text → IsEmptyAnswer (limit_of line) m ended
     empty_decides has is_solving none ended text means = all (course_of has.model ended text means)
@@ -243,13 +232,14 @@ module _ (call : Call) (known : Known call.source) where
         by (judges c h e) = absurd (solves_no_check line.verb h.file.is_check is_solving)
         by (refuses bytes rule number h breach e) = absurd (solves_no_check line.verb h.is_check is_solving)
         by (wide_number spot makes h e) = absurd (no_first has spot h)
-        by (wide_row spot forms solves wide e) = empty_is ended (TooWide spot) e (empty_spot none spot wide)
+        by (wide_row spot forms solves wide e) = empty_is ended (TooWide spot) e (empty_on_way m line.way none (limit_of line) spot wide)
         by (replays c bytes rows h file e) = absurd (solves_no_replay line.verb h.certificate.file.is_replay is_solving)
         by (lacks_plan rule number h e) = absurd (solves_no_replay line.verb (lacking_verb call line m rule number h) is_solving)
         by (branching is course) = absurd (solves_no_branch line.verb is_solving is)
         by (searches is course) = absurd (solves_no_worst line.verb is is_solving)
         by (checking_tree is course) = absurd (solves_no_tree line.verb is is_solving)
         by (sweeping is course) = absurd (solves_no_sweep line.verb is_solving is)
+        by (splitting is course) = absurd (solves_no_split line.verb is_solving is)
         by (bounds forms is e) = absurd (solves_no_narrow line.verb is is_solving)
 
         all : Course call line m ended ⊎ ((ended ≡ ReadFault) ⊎ (ended ≡ Memory)) → IsEmptyAnswer (limit_of line) m ended
@@ -258,7 +248,7 @@ module _ (call : Call) (known : Known call.source) where
         all (inr (inr e)) = empty_is ended Memory e (inr (inr refl))
 
     pub status_decides : HasForms call line m → IsSolving line.verb → (status : Status) (v : Fraction) → HasStatus m status v → (u : List Fraction) → Admits m u
-        → ((spot : Spot) → IsWideOnPath (limit_of line) m spot → ⊥) → (ended : Ended) (text : List ℕ) → Means call ended text
+        → ((spot : Spot) → IsWideOnWay line.way (limit_of line) m spot → ⊥) → (ended : Ended) (text : List ℕ) → Means call ended text
         → (ended ≡ ended_of status) ⊎ ((ended ≡ ReadFault) ⊎ (ended ≡ Memory))
     status_decides has is_solving status v true_of u admitted narrow ended text means = first_of_two by (course_of has.model ended text means)
       where
@@ -276,6 +266,7 @@ module _ (call : Call) (known : Known call.source) where
         by (searches is course) = absurd (solves_no_worst line.verb is is_solving)
         by (checking_tree is course) = absurd (solves_no_tree line.verb is is_solving)
         by (sweeping is course) = absurd (solves_no_sweep line.verb is_solving is)
+        by (splitting is course) = absurd (solves_no_split line.verb is_solving is)
         by (bounds forms is e) = absurd (solves_no_narrow line.verb is is_solving)
 
     -- ---- `check`
@@ -333,6 +324,7 @@ module _ (call : Call) (known : Known call.source) where
         by (searches is course) = absurd (check_not_worst line.verb has.file.is_check is)
         by (checking_tree is course) = absurd (check_not_tree line.verb has.file.is_check is)
         by (sweeping is course) = absurd (check_no_sweep line.verb has.file.is_check is)
+        by (splitting is course) = absurd (check_no_split line.verb has.file.is_check is)
         by (bounds forms is e) = absurd (narrow_not_check line.verb is has.file.is_check)
 
     pub rule_decides : (bytes : List ℕ) (rule number : ℕ) → HasCertificateFile call line m bytes → HasCause (naming_of m) (limit_of line) start bytes 1 (Rule rule number)
@@ -364,4 +356,5 @@ module _ (call : Call) (known : Known call.source) where
         by (searches is course) = absurd (check_not_worst line.verb has.is_check is)
         by (checking_tree is course) = absurd (check_not_tree line.verb has.is_check is)
         by (sweeping is course) = absurd (check_no_sweep line.verb has.is_check is)
+        by (splitting is course) = absurd (check_no_split line.verb has.is_check is)
         by (bounds forms is e) = absurd (narrow_not_check line.verb is has.is_check)

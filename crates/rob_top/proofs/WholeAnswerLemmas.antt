@@ -4,13 +4,10 @@ use Rattle.rob_algebra.specs.Fraction.{Fraction, of_int}
 use Rattle.rob_branch.proofs.OneSpotLemmas.{first_once, none_first}
 use Rattle.rob_branch.specs.Growth.{IsWrittenUpTo}
 use Rattle.rob_dualize.specs.Models.{IsWideIn, IsWritten, judged}
-use Rattle.rob_dualize.specs.Solving.{IsWideOnPath}
 use Rattle.rob_meaning.specs.Certificates.{Status, optimal, infeasible, unbounded}
 use Rattle.rob_meaning.specs.RobustModel.{RobustModel}
 use Rattle.rob_meaning.specs.UncertaintySet.{Admits, IsEmptySet}
-use Rattle.rob_model.specs.declared.place.Program.TheVariants as programs
 use Rattle.rob_model.specs.declared.place.Spot.{Spot}
-use Rattle.rob_model.specs.declared.place.Spot.TheVariants as spots
 use Rattle.rob_reach.proofs.StatusLemmas.{infeasible_not_unbounded, optimal_not_infeasible, optimal_not_unbounded}
 use Rattle.rob_reach.specs.Boxes.{Branch, box}
 use Rattle.rob_reach.specs.Growing.{Visits, start}
@@ -20,14 +17,15 @@ use Rattle.rob_reach_ends.proofs.EndingLemmas.{whole_status}
 use Rattle.rob_sets.specs.FirstWide.{IsFirstWide}
 use Rattle.rob_tree.specs.View.{branch_of}
 use Rattle.rob_tree.specs.declared.tree.Branch as declared
-use Rattle.rob_top.proofs.CommandLemmas.{branches_no_sweep, check_no_branch, makes_no_branch, narrow_no_branch, replay_no_branch, rows_no_branch, solves_no_branch, tree_no_branch, worst_no_branch}
+use Rattle.rob_top.proofs.CommandLemmas.{branches_no_sweep, check_no_branch, makes_no_branch, narrow_no_branch, replay_no_branch, rows_no_branch, solves_no_branch, tree_no_branch, worst_no_branch, branches_no_split}
+use Rattle.rob_top.proofs.BeforeLemmas.{before_it}
 use Rattle.rob_top.proofs.BranchingLemmas.{kept_bounds}
-use Rattle.rob_top.proofs.CourseLemmas.{Course, WholeCourse, bounds, branching, breaks, checking_tree, finds, grows, inside_admitted, judges, lacks_plan, prints, refuses, replays, searches, shows_empty, shows_none, sweeping, wide_box, wide_number, wide_row}
+use Rattle.rob_top.proofs.CourseLemmas.{Course, WholeCourse, bounds, branching, breaks, checking_tree, finds, grows, inside_admitted, judges, lacks_plan, prints, refuses, replays, searches, shows_empty, shows_none, sweeping, wide_box, wide_number, wide_row, splitting}
 use Rattle.rob_top.proofs.NumberingLemmas.{one_numbering}
 use Rattle.rob_top.proofs.TrueAnswerLemmas.{course_of, first_of_two, lacking_verb, named, well}
 use Rattle.rob_top.specs.Branched.{BreaksWhole, no_ranges, no_variables}
 use Rattle.rob_top.specs.Calls.{Call, IsBranching, Known, limit_of}
-use Rattle.rob_top.specs.Endings.{admitting, writing as before_writing, IsEmptyWholeAnswer, IsNarrowBelow, IsWholeAnswer, IsWideBefore}
+use Rattle.rob_top.specs.Endings.{IsEmptyWholeAnswer, IsNarrowBelow, IsWholeAnswer}
 use Rattle.rob_top.specs.Headline.{Means}
 use Rattle.rob_top.specs.Inputs.{AreVariables, HasModel, HasVariables, HasWholeVariables, TellsNames}
 use Rattle.rob_top.specs.Work.{ended_of}
@@ -114,6 +112,7 @@ module _ (call : Call) (known : Known call.source) (line : Line) (m : RobustMode
       by (searches worst course) = absurd (worst_no_branch line.verb worst is)
       by (checking_tree too course) = absurd (tree_no_branch line.verb too is)
       by (sweeping too course) = absurd (branches_no_sweep line.verb is too)
+      by (splitting too course) = absurd (branches_no_split line.verb is too)
       by (bounds forms narrow e) = absurd (narrow_no_branch line.verb narrow is)
 
   pub model_of : (rule : ℕ) → BreaksWhole call line m rule → HasModel call line m
@@ -183,26 +182,9 @@ module _ (call : Call) (known : Known call.source) (line : Line) (m : RobustMode
     empty_is : (ended other : Ended) → ended ≡ other → IsEmptyWholeAnswer (limit_of line) m other → IsEmptyWholeAnswer (limit_of line) m ended
     empty_is ended other e h = subst (λ (x : Ended). IsEmptyWholeAnswer (limit_of line) m x) (sym e) h
 
-    before_admitting : IsEmptySet m → (spot : Spot) → IsWritten (limit_of line) m → IsWideOnPath (limit_of line) m spot
-        → IsWideBefore (limit_of line) m spot
-    before_admitting none (spots.Dictionary programs.Set basis i) written h = admitting basis i refl written h
-    before_admitting none (spots.Dictionary programs.Reform basis i) written h = absurd (none h.0.0 h.0.1)
-    before_admitting none (spots.Dictionary programs.Master basis i) written h = absurd h
-    before_admitting none (spots.Dictionary (programs.SearchPlan form) basis i) written h = absurd h
-    before_admitting none (spots.Dictionary (programs.SearchMove form) basis i) written h = absurd h
-    before_admitting none (spots.Coefficient where_it_is) written h = absurd h
-    before_admitting none (spots.Clearing where_it_is) written h = absurd h
-    before_admitting none (spots.Sum where_it_is j) written h = absurd h
-    before_admitting none (spots.Check place) written h = absurd h
-    before_admitting none (spots.Replay number) written h = absurd h
-
-    before_it : IsEmptySet m → (spot : Spot) → IsWideIn (limit_of line) m spot → IsWideBefore (limit_of line) m spot
-    before_it none spot (inl first) = before_writing first
-    before_it none spot (inr wide) = before_admitting none spot wide.0 wide.1
-
     empty_box : IsEmptySet m → (others : List ℕ) (path : List declared.Branch) (spot : Spot) → Visits m others start (map branch_of path)
         → IsWideIn (limit_of line) (box m (map branch_of path)) spot → IsEmptyWholeAnswer (limit_of line) m (WideNode path spot)
-    empty_box none others [] spot comes wide = (refl, before_it none spot wide)
+    empty_box none others [] spot comes wide = (refl, before_it (limit_of line) m none spot wide)
     empty_box none others (b ∷ path) spot comes wide =
         let u = path_admits m others (branch_of b) (map branch_of path) comes in absurd (none u.0 u.1)
 

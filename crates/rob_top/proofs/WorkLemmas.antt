@@ -22,7 +22,7 @@ use Rattle.rob_top.specs.Calls.{Call, Count, IsElaborating, IsOnModel, count, re
 use Rattle.rob_top.specs.Headline.{Means}
 use Rattle.rob_top.specs.Refused.{elaborating}
 use Rattle.rob_top.specs.Replies.{HasTexts, Replies}
-use Rattle.rob_top.specs.Work.{AnswersForms, AnswersModel, AnswersTexts, AnswersWhole, IsCallAt}
+use Rattle.rob_top.specs.Work.{AnswersModel, AnswersRoute, AnswersTexts, AnswersWhole, IsCallAt}
 use Rattle.rob_top.specs.Refusing.{IsRefusedOf, RepliesRefused, RepliesUnread}
 use Rattle.rob_top.specs.Ways.{in_model, rows}
 use Rattle.rob_top.specs.declared.ended.Ended.{Ended}
@@ -176,7 +176,8 @@ module _ (limit : ℕ) (m : RobustModel) where
       (rows (record { line = line; m = m; forms = has; is_rows = at.verb_is ∙ e; printed = is.1 }))
 
   -- the same command, whose other texts don't count
-  pub at_verb : (wides : Count) (verb same : Verb) (texts : Texts) (r : Result Reply Want) → verb ≡ same → IfOk r (AnswersForms limit wides m same)
-      → IfOk r (AnswersWhole limit wides m verb texts)
+  pub at_verb : (wides : Count) (verb same : Verb) (texts : Texts) (r : Result Reply Want) → verb ≡ same
+      → IfOk r (AnswersRoute limit wides m same texts.route) → IfOk r (AnswersWhole limit wides m verb texts)
   at_verb wides verb same texts (Err want) e h = tt
-  at_verb wides verb same texts (Ok reply) e h = λ call line at came has. h call line (call_of_verb limit wides verb same call line e at) has
+  at_verb wides verb same texts (Ok reply) e h = λ call line at came has.
+      h call line (call_of_verb limit wides verb same call line e at) (sym came.way) has

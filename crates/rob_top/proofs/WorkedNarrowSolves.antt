@@ -27,12 +27,12 @@ use Rattle.rob_top.specs.declared.ended.Ended.TheVariants.{TooWide}
 pub one_demand_has_status : (result : Ended) → MustEnd (solve_call one_demand) result
     → (status : Status) × (v : Fraction) × HasStatus one_demand status v × EndsAs (ended_of status) result
 one_demand_has_status result must =
-    must.narrow_status line one_demand (int 8 ∷ []) one_demand_forms refl smallest.one_demand_narrow smallest.one_demand_admitted
+    must.narrow_status line one_demand (int 8 ∷ []) one_demand_forms refl refl smallest.one_demand_narrow smallest.one_demand_admitted
 
 -- and names no wide number
 pub one_demand_is_not_wide : (result : Ended) → MustEnd (solve_call one_demand) result → (spot : Spot) → (result ≡ TooWide spot) → ⊥
 one_demand_is_not_wide result must spot =
-    must.narrow_spot line one_demand spot one_demand_forms refl smallest.one_demand_narrow
+    must.narrow_spot line one_demand spot one_demand_forms refl refl smallest.one_demand_narrow
 
 -- ---- minimise x, where d lies in [12, 8]
 -- a test of the size of a program's numbers

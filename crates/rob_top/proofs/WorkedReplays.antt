@@ -20,7 +20,7 @@ use Rattle.rob_replay.specs.Lines as replay
 use Rattle.rob_replay.specs.Lines.{line_outside}
 use Rattle.rob_replay.specs.Outcome.{outcome}
 use Rattle.rob_report.specs.Tables.{table_of}
-use Rattle.rob_top.proofs.CommandLemmas.{narrow_not_replay, replay_not_worst, rows_not_replay, sweep_not_replay, sweeptext_not_replay, text_not_replay}
+use Rattle.rob_top.proofs.CommandLemmas.{narrow_not_replay, replay_not_worst, rows_not_replay, sweep_not_replay, sweeptext_not_replay, text_not_replay, replay_no_split}
 use Rattle.rob_top.proofs.OneTable.{lines_are, text_is}
 use Rattle.rob_top.proofs.SoughtLemmas.{forms_sought}
 use Rattle.rob_top.proofs.WorkedCalls.{fits_by, one_demand_reads}
@@ -32,7 +32,7 @@ use Rattle.rob_top.specs.Headline.{Means}
 use Rattle.rob_top.specs.Inputs.{HasReplayCertificate, HasScenarios}
 use Rattle.rob_top.specs.Replayed.{planless, replay_ended}
 use Rattle.rob_top.specs.WorkedCalls.{certificate_name, greatest, model_name, no_demand, no_order, order_12, order_least, replay_call, scenarios_name, two_demands, two_demands_table}
-use Rattle.rob_top.specs.Ways.{rows, replayed, generated, worst_found, swept, narrowed}
+use Rattle.rob_top.specs.Ways.{rows, replayed, generated, worst_found, swept, narrowed, split_written}
 use Rattle.rob_top.specs.declared.ended.Ended.{Ended}
 use Rattle.rob_top.specs.declared.ended.Ended.TheVariants.{Cert, Printed, Scenarios, TooWide}
 use Rattle.rob_words.proofs.Spellings.{one_line}
@@ -185,6 +185,9 @@ two_demands_are_printed text means = by means
     by (swept (inl h)) = absurd (sweep_not_replay h.line.verb h.has.is_sweep (ap (λ (l : Line). l.verb) (table_line h.line h.has.model.spelled)))
     by (swept (inr h)) = absurd (sweeptext_not_replay h.line.verb h.has.is_text (ap (λ (l : Line). l.verb) (table_line h.line h.has.model.spelled)))
     by (narrowed h) = absurd (narrow_not_replay h.line.verb h.is_narrow (ap (λ (l : Line). l.verb) (table_line h.line h.forms.model.spelled)))
+    by (split_written h) =
+        let has = h.has.has_cuts.has_word in
+        absurd (replay_no_split h.line.verb (ap (λ (l : Line). l.verb) (table_line h.line has.model.spelled)) has.splits_it)
     by (replayed h) =
         let has = order_12_on two_demands two_demands_come in
         let known : Known table_call.source = by_files (files_of order_12 two_demands) refl in

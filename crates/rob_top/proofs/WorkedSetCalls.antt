@@ -35,6 +35,7 @@ use Rattle.rob_top.specs.Completeness.{MustEnd}
 use Rattle.rob_top.specs.Inputs.{HasForms}
 use Rattle.rob_top.specs.WorkedCalls.{greatest, hard_and_soft, solve_call}
 use Rattle.rob_top.specs.declared.ended.Ended.{Ended}
+use Rattle.rob_words.specs.declared.route.Route.TheVariants.{Dual}
 
 -- ---- coefficients of an expression over 2 joint parameters and 3 decision columns
 -- both facts, where both tests find them
@@ -262,7 +263,7 @@ its_forms = forms_on hard_and_soft it_comes it_reads it_is_narrow
 
 -- this call has to answer `optimal`, or name a wide row
 pub hard_and_soft_is_solved : (result : Ended) → MustEnd (solve_call hard_and_soft) result
-    → IsSolvedOrWide greatest hard_and_soft result
+    → IsSolvedOrWide Dual greatest hard_and_soft result
 hard_and_soft_is_solved result must =
-    optimal_or_wide greatest hard_and_soft (int 22) (int 8 ∷ int 8 ∷ []) hard_and_soft_costs_22 hard_and_soft_admitted result
+    optimal_or_wide Dual greatest hard_and_soft (int 22) (int 8 ∷ int 8 ∷ []) hard_and_soft_costs_22 hard_and_soft_admitted result
     (must.solving line hard_and_soft its_forms refl)

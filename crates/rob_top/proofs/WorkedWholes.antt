@@ -34,7 +34,7 @@ use Rattle.rob_top.specs.Inputs.{AreVariables, HasModel, HasVariables, HasWholeV
 use Rattle.rob_top.specs.WorkedCalls.{greatest, half_a_demand, model_name, whole_call}
 use Rattle.rob_top.specs.WorkedTrees.{whole_orders}
 use Rattle.rob_top.specs.declared.ended.Ended.{Ended}
-use Rattle.rob_top.specs.declared.ended.Ended.TheVariants.{Optimal, Infeasible, Unbounded, Printed, Accepted, Rejected, Words, Missing, TooLong, Model, EmptySet, TooWide, WideNode, WideBudget, Cert, Scenarios, Whole as RuleOfWhole, Sweep, Tree as RuleOfTree, TreeRejected, NoRow, ReadFault, WriteFault, Memory}
+use Rattle.rob_top.specs.declared.ended.Ended.TheVariants.{Optimal, Infeasible, Unbounded, Printed, Accepted, Rejected, Words, Missing, TooLong, Model, EmptySet, TooWide, WideNode, WideBudget, Cert, Scenarios, Whole as RuleOfWhole, Sweep, Cells, Tree as RuleOfTree, TreeRejected, NoRow, ReadFault, WriteFault, Memory}
 use Rattle.rob_words.specs.Commands.{Line, own, IsSpelled}
 use Rattle.rob_words.specs.Values.{Word}
 use Rattle.rob_words.specs.declared.route.Route.TheVariants.{Dual}
@@ -206,6 +206,7 @@ its_answer (RuleOfWhole rule) h = inl (inr h)
 its_answer NoRow h = inl (inr h)
 its_answer (RuleOfTree rule place) h = inl (inr h)
 its_answer (Sweep rule) h = inl (inr h)
+its_answer (Cells rule) h = inl (inr h)
 its_answer ReadFault h = inl (inr h)
 its_answer WriteFault h = inl (inr h)
 its_answer Memory h = inl (inr h)

@@ -24,7 +24,7 @@ use Rattle.rob_top.specs.Inputs.{HasPlan, HasSought, HasWorstCertificate}
 use Rattle.rob_top.specs.Searched.{certificate_vector, claims_none}
 use Rattle.rob_top.specs.WorkedCalls.{certificate_name, greatest, model_name, no_order, order_12, worst_call}
 use Rattle.rob_top.specs.declared.ended.Ended.{Ended}
-use Rattle.rob_top.specs.declared.ended.Ended.TheVariants.{Optimal, Infeasible, Unbounded, Printed, Accepted, Rejected, Words, Missing, TooLong, Model, EmptySet, TooWide, WideNode, WideBudget, Cert, Scenarios, Whole, Sweep, NoRow, Tree, TreeRejected, ReadFault, WriteFault, Memory}
+use Rattle.rob_top.specs.declared.ended.Ended.TheVariants.{Optimal, Infeasible, Unbounded, Printed, Accepted, Rejected, Words, Missing, TooLong, Model, EmptySet, TooWide, WideNode, WideBudget, Cert, Scenarios, Whole, Sweep, Cells, NoRow, Tree, TreeRejected, ReadFault, WriteFault, Memory}
 use Rattle.rob_words.specs.Commands.{Line, own, IsSpelled}
 use Rattle.rob_words.specs.Values.{Word}
 use Rattle.rob_words.specs.declared.route.Route.TheVariants.{Dual}
@@ -124,6 +124,7 @@ its_answer Unbounded h = inl (inr h)
 its_answer (WideNode path spot) h = inl (inr h)
 its_answer (WideBudget number spot) h = inl (inr h)
 its_answer (Sweep rule) h = inl (inr h)
+its_answer (Cells rule) h = inl (inr h)
 its_answer Accepted h = inl (inr h)
 its_answer (Rejected place) h = inl (inr h)
 its_answer Words h = inl (inr h)

@@ -25,11 +25,11 @@ use Rattle.rob_model.proofs.OwnNames.{forms_distinct}
 use Rattle.rob_model.specs.declared.place.Program.TheVariants as programs
 use Rattle.rob_model.specs.declared.place.Spot.{Spot}
 use Rattle.rob_model.specs.declared.place.Spot.TheVariants as spots
+use Rattle.rob_top.proofs.CommandLemmas.{check_not_worst, narrow_not_worst, replay_not_worst, rows_not_worst, solves_no_worst, worst_no_branch, worst_no_sweep, worst_not_tree, worst_no_split}
+use Rattle.rob_top.proofs.CourseLemmas.{Course, WorstCourse, admits_none, bounds, branching, checking_tree, finds, judges, lacks_plan, names_none, plans_none, prints, refuses, replays, searches, shows_empty, shows_worst, sweeping, unplanned_verb, wide_number, wide_row, wide_search, splitting}
 use Rattle.rob_runs.proofs.FoundLemmas.{found_worst}
 use Rattle.rob_runs.proofs.RunCertificates.{length-vector}
 use Rattle.rob_runs.specs.Spots.{IsWideSlack}
-use Rattle.rob_top.proofs.CommandLemmas.{check_not_worst, narrow_not_worst, replay_not_worst, rows_not_worst, solves_no_worst, worst_no_branch, worst_no_sweep, worst_not_tree}
-use Rattle.rob_top.proofs.CourseLemmas.{Course, WorstCourse, admits_none, bounds, branching, checking_tree, finds, judges, lacks_plan, names_none, plans_none, prints, refuses, replays, searches, shows_empty, shows_worst, sweeping, unplanned_verb, wide_number, wide_row, wide_search}
 use Rattle.rob_top.proofs.ReplayAnswerLemmas.{model_read}
 use Rattle.rob_top.proofs.SearchStops.{plan_length}
 use Rattle.rob_top.proofs.SearchingLemmas.{form_matrix}
@@ -146,6 +146,7 @@ module _ (call : Call) (known : Known call.source) (line : Line) (m : RobustMode
       by (searches is course) = course
       by (checking_tree is course) = absurd (worst_not_tree line.verb here is)
       by (sweeping is course) = absurd (worst_no_sweep line.verb here is)
+      by (splitting is course) = absurd (worst_no_split line.verb here is)
       by (bounds forms is e) = absurd (narrow_not_worst line.verb is here)
 
   pub unplanned_decides : (rule number : ℕ) → GivesNoPlan call line m rule number → (ended : Ended) (text : List ℕ)

@@ -1,7 +1,7 @@
 -- The exit statuses.
 use Rattle.std.specs.Prelude.{ℕ}
 use Rattle.rob_top.specs.declared.ended.Ended.{Ended}
-use Rattle.rob_top.specs.declared.ended.Ended.TheVariants.{Optimal, Infeasible, Unbounded, Printed, Accepted, Rejected, Words, Missing, TooLong, Model, EmptySet, TooWide, WideNode, WideBudget, Cert, Scenarios, Whole, Sweep, Tree, TreeRejected, NoRow, ReadFault, WriteFault, Memory}
+use Rattle.rob_top.specs.declared.ended.Ended.TheVariants.{Optimal, Infeasible, Unbounded, Printed, Accepted, Rejected, Words, Missing, TooLong, Model, EmptySet, TooWide, WideNode, WideBudget, Cert, Scenarios, Whole, Sweep, Cells, Tree, TreeRejected, NoRow, ReadFault, WriteFault, Memory}
 
 -- the exit status of an answer: 0 for what was asked, 10 and 11 for a model without an optimum, 12 for a certificate or a branch tree that doesn't prove, from 20 on for refusals
 abbrev pub code_of : Ended → ℕ
@@ -26,6 +26,7 @@ code_of (Whole rule) = 33
 code_of NoRow = 29
 code_of (Tree rule line) = 34
 code_of (Sweep rule) = 35
+code_of (Cells rule) = 32
 code_of ReadFault = 30
 code_of WriteFault = 31
 code_of Memory = 40

@@ -9,7 +9,7 @@ use Rattle.rob_cert.specs.Spelling.{naming_of}
 use Rattle.rob_cert.specs.declared.error.CertErr.TheVariants.{Rule}
 use Rattle.rob_check.specs.Conditions.{verdict_of}
 use Rattle.rob_check.specs.Narrow.{IsFirstFailing, NoneWide}
-use Rattle.rob_dualize.specs.Solving.{IsNarrowModel, IsWideOnPath}
+use Rattle.rob_dualize.specs.Solving.{IsNarrowModel}
 use Rattle.rob_elab.specs.Forms.{judged_forms}
 use Rattle.rob_meaning.specs.Certificates.{Certificate, Status}
 use Rattle.rob_meaning.specs.Places.{Each}
@@ -35,14 +35,17 @@ use Rattle.rob_top.specs.Branched.{BreaksWhole}
 use Rattle.rob_top.specs.Calls.{Call, Came, HasFile, IsBranching, IsElaborating, IsFirstAbsent, IsSolving, Known, known_call, limit_of, requests}
 use Rattle.rob_top.specs.Inputs.{HasCertificate, HasCertificateFile, HasForms, HasModel, HasScenarios, HasSought, HasWholeVariables}
 use Rattle.rob_top.specs.Replayed.{LacksPlan, replay_ended}
+use Rattle.rob_top.specs.Routes.{IsWideOnWay}
 use Rattle.rob_top.specs.Searched.{GivesNoPlan, IsWideSought, NamesNoForm, certificate_vector}
 use Rattle.rob_top.specs.TreeChecked.{HasTree, HasTreeFile}
+use Rattle.rob_top.specs.SplitEnds.{MustEndSplit}
 use Rattle.rob_top.specs.Swept.{HasLimit, HasSweep}
 use Rattle.rob_top.specs.Work.{ended_of, verdict_ended}
 use Rattle.rob_top.specs.declared.ended.Ended.{Ended}
 use Rattle.rob_top.specs.declared.ended.Ended.TheVariants.{Printed, Accepted, Rejected, Words, Missing, TooLong, Model, TooWide, WideNode, Cert, Whole, Sweep, Tree as TreeRule, NoRow}
 use Rattle.rob_words.specs.Commands.{Line, IsCommandLine, IsSpelled}
 use Rattle.rob_words.specs.Values.{Word}
+use Rattle.rob_words.specs.declared.route.Route.TheVariants.{Dual}
 use Rattle.rob_words.specs.declared.verb.Own.TheVariants as own
 use Rattle.rob_words.specs.declared.verb.Verb.TheVariants.{Rows, Text, Narrow}
 use Rattle.rob_top.specs.Endings.{IsUnput, IsOutside, EndsAs, IsSolveAnswer, IsEmptyAnswer, IsShownAnswer, IsProvedAnswer, IsWholeAnswer, IsWorstAnswer, IsEmptyWholeAnswer, IsSweepAnswer, IsNarrowAt, IsNarrowBelow, NamesFault, NamesWidth, NamesWideSought, IsTreeAnswer}
@@ -66,27 +69,27 @@ module _ (call : Call) (result : Ended) where
         → IsFirstWide (limit_of line) m (judged_set m ++ judged_forms m) spot → EndsAs (TooWide spot) result
     -- no number of them is wide, and the command is `rows`, so they are printed
     pub rows : (line : Line) (m : RobustModel) → HasForms call line m → line.verb ≡ Rows → EndsAs Printed result
-    -- `solve` and `prove`: the answer is a status that the model has, or an empty set, or a wide number on the path
+    -- `solve` and `prove`: the answer is a status that the model has, or an empty set, or a wide number on the way of the line's route
     pub solving : (line : Line) (m : RobustModel) → HasForms call line m → IsSolving line.verb
-        → IsSolveAnswer (limit_of line) m result
+        → IsSolveAnswer line.way (limit_of line) m result
     -- no joint scenario is admitted, as where any set is empty, so it is that, with the weights that show it, or a row of the set's
     -- program is wide
     pub empty : (line : Line) (m : RobustModel) → HasForms call line m → IsSolving line.verb → IsEmptySet m
         → IsEmptyAnswer (limit_of line) m result
-    -- some joint scenario is admitted, and no number on the path is wide, so it is the model's status
+    -- some joint scenario is admitted, and no number on that way is wide, so it is the model's status
     pub status : (line : Line) (m : RobustModel) (status : Status) (v : Fraction) (u : List Fraction) → HasForms call line m
         → IsSolving line.verb → HasStatus m status v → Admits m u
-        → ((spot : Spot) → IsWideOnPath (limit_of line) m spot → ⊥) → EndsAs (ended_of status) result
+        → ((spot : Spot) → IsWideOnWay line.way (limit_of line) m spot → ⊥) → EndsAs (ended_of status) result
     -- `narrow`: no number of the set rows and forms is wide, so the bounds are printed
     pub narrow : (line : Line) (m : RobustModel) → HasForms call line m → line.verb ≡ Narrow → EndsAs Printed result
-    -- `solve` and `prove` of a narrow model, whose two programs have bounds within the limit: no wide number is named
-    pub narrow_spot : (line : Line) (m : RobustModel) (spot : Spot) → HasForms call line m → IsSolving line.verb
+    -- `solve` and `prove` of a narrow model, whose two programs have bounds within the limit, by the counterpart: no wide number is named
+    pub narrow_spot : (line : Line) (m : RobustModel) (spot : Spot) → HasForms call line m → IsSolving line.verb → line.way ≡ Dual
         → IsNarrowModel (limit_of line) m → (result ≡ TooWide spot) → ⊥
     -- some joint scenario is admitted, so it is the model's status, which it has
-    pub narrow_status : (line : Line) (m : RobustModel) (u : List Fraction) → HasForms call line m → IsSolving line.verb
+    pub narrow_status : (line : Line) (m : RobustModel) (u : List Fraction) → HasForms call line m → IsSolving line.verb → line.way ≡ Dual
         → IsNarrowModel (limit_of line) m → Admits m u
         → (status : Status) × (v : Fraction) × HasStatus m status v × EndsAs (ended_of status) result
-    -- none is, so it is that, with the weights that show it
+    -- none is, so it is that, with the weights that show it, by either route
     pub narrow_empty : (line : Line) (m : RobustModel) → HasForms call line m → IsSolving line.verb
         → IsNarrowModel (limit_of line) m → IsEmptySet m → IsShownAnswer m result
     -- `check`: the certificate's text breaks a rule, so that rule and its line are named
@@ -186,6 +189,8 @@ module _ (call : Call) (result : Ended) where
     -- it is one, so the text of the model with that limit is printed
     pub limited : (line : Line) (m : RobustModel) (n : ℕ) (g : Fraction) → HasLimit call line m n g
         → IsBudgetAt m.set_lines n → EndsAs Printed result
+    -- `cells` and `celltext`: specs/SplitEnds.antt
+    pub split : MustEndSplit call result
     -- `text`: the model of the number is printed; no file is asked for, so no read fault comes in the place of that answer
     pub generated : (line : Line) → IsSpelled call.words line → line.verb ≡ Text → (result ≡ Printed) ⊎ IsUnput result
 

@@ -26,9 +26,11 @@ use Rattle.rob_sweep.specs.Stops.{IsWideAt}
 use Rattle.rob_tree.specs.View.{branch_of}
 use Rattle.rob_tree.specs.declared.tree.Branch.{Branch}
 use Rattle.rob_tree.specs.declared.verdict.LeafFault.{LeafFault}
+use Rattle.rob_top.specs.Routes.{IsWideOnWay}
 use Rattle.rob_top.specs.Searched.{IsWideSought}
 use Rattle.rob_top.specs.declared.ended.Ended.{Ended}
 use Rattle.rob_top.specs.declared.ended.Ended.TheVariants.{Optimal, Infeasible, Unbounded, Printed, Accepted, EmptySet, TooWide, WideNode, WideBudget, TreeRejected, ReadFault, WriteFault, Memory}
+use Rattle.rob_words.specs.declared.route.Route.{Route}
 
 -- ---- how a call may end
 
@@ -44,15 +46,15 @@ IsOutside result = (result ≡ ReadFault) ⊎ IsUnput result
 abbrev pub EndsAs : Ended → Ended → Type 0
 EndsAs ended result = (result ≡ ended) ⊎ IsOutside result
 
--- an answer of `solve` and `prove`: a status that the model has; or an empty set, where no joint scenario is admitted;
--- or a number on the path of the solution that is wide; or the outside failed, or memory was refused. No other is
-abbrev pub IsSolveAnswer : ℕ → RobustModel → Ended → Type 0
-IsSolveAnswer limit m Optimal = (v : Fraction) × HasStatus m optimal v
-IsSolveAnswer limit m Infeasible = (v : Fraction) × HasStatus m infeasible v
-IsSolveAnswer limit m Unbounded = (v : Fraction) × HasStatus m unbounded v
-IsSolveAnswer limit m (EmptySet weights) = IsEmptySet m
-IsSolveAnswer limit m (TooWide spot) = IsWideOnPath limit m spot
-IsSolveAnswer limit m ended = IsOutside ended
+-- an answer of `solve` and `prove` by a route: a status that the model has; or an empty set, where no joint scenario is
+-- admitted; or a number on the route's way that is wide; or the outside failed, or memory was refused. No other is
+abbrev pub IsSolveAnswer : Route → ℕ → RobustModel → Ended → Type 0
+IsSolveAnswer way limit m Optimal = (v : Fraction) × HasStatus m optimal v
+IsSolveAnswer way limit m Infeasible = (v : Fraction) × HasStatus m infeasible v
+IsSolveAnswer way limit m Unbounded = (v : Fraction) × HasStatus m unbounded v
+IsSolveAnswer way limit m (EmptySet weights) = IsEmptySet m
+IsSolveAnswer way limit m (TooWide spot) = IsWideOnWay way limit m spot
+IsSolveAnswer way limit m ended = IsOutside ended
 
 -- one of them for an empty set: its weights show that it is empty, or a row of a basis on the path of the set's program
 -- is wide. So no status is answered, and no row of the counterpart is named

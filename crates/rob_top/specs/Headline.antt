@@ -25,11 +25,12 @@ use Rattle.rob_top.specs.Lines.{text_lines}
 use Rattle.rob_top.specs.Refused.{IsNoModel}
 use Rattle.rob_top.specs.Replayed.{IsNoScenarios}
 use Rattle.rob_top.specs.Searched.{IsNoRow}
+use Rattle.rob_top.specs.Split.{IsNoCells}
 use Rattle.rob_top.specs.Swept.{IsNoSweep, IsWideBudget}
 use Rattle.rob_top.specs.TreeChecked.{IsNoTree, IsTreeRejected}
 use Rattle.rob_top.specs.Ways.{Accepts, FindsEmpty, FindsStatus, NamesCertificateLine, NamesWide, NamesWideNode, Prints}
 use Rattle.rob_top.specs.declared.ended.Ended.{Ended}
-use Rattle.rob_top.specs.declared.ended.Ended.TheVariants.{Optimal, Infeasible, Unbounded, Printed, Accepted, Rejected, Words, Missing, TooLong, Model, EmptySet, TooWide, WideNode, WideBudget, Cert, Scenarios, Whole, Sweep, Tree, TreeRejected, NoRow, ReadFault, WriteFault, Memory}
+use Rattle.rob_top.specs.declared.ended.Ended.TheVariants.{Optimal, Infeasible, Unbounded, Printed, Accepted, Rejected, Words, Missing, TooLong, Model, EmptySet, TooWide, WideNode, WideBudget, Cert, Scenarios, Whole, Sweep, Cells, Tree, TreeRejected, NoRow, ReadFault, WriteFault, Memory}
 use Rattle.rob_words.specs.Commands.{IsCommandLine}
 use Rattle.rob_words.specs.Values.{Word}
 
@@ -64,6 +65,7 @@ module _ (call : Call) where
   Means NoRow text = IsNoRow call text
   Means (Tree rule line) text = IsNoTree call rule line text
   Means (Sweep rule) text = IsNoSweep call rule text
+  Means (Cells rule) text = IsNoCells call rule text
   Means ReadFault text = NamesFile call.words × WasRaised call.read_faults × (text ≡ read_text)
   -- of a refused put and of want of memory `Ends` says what was put
   Means WriteFault text = ⊥

@@ -14,8 +14,12 @@ pub mod Refused
 pub mod Refusing
 pub mod Replayed
 pub mod Replies
+pub mod Routes
 pub mod Searched
 pub mod Solved
+pub mod Split
+pub mod SplitEnds
+pub mod SplitWork
 pub mod Swept
 pub mod TreeAnswers
 pub mod TreeChecked

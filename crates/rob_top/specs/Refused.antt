@@ -4,9 +4,9 @@ use Rattle.rob_cert.specs.Causes.{HasCause}
 use Rattle.rob_cert.specs.Reading.{start}
 use Rattle.rob_cert.specs.Spelling.{naming_of}
 use Rattle.rob_cert.specs.declared.error.CertErr.TheVariants.{Rule}
+use Rattle.rob_cert.specs.declared.trace.Round.{Round}
 use Rattle.rob_check.specs.Conditions.{verdict_of}
 use Rattle.rob_check.specs.declared.verdict.Verdict.TheVariants as verdict
-use Rattle.rob_dualize.specs.Solving.{IsWideOnPath}
 use Rattle.rob_elab.specs.Forms.{judged_forms}
 use Rattle.rob_meaning.specs.Certificates.{Certificate}
 use Rattle.rob_meaning.specs.Places.{Each}
@@ -23,19 +23,18 @@ use Rattle.rob_sets.specs.SetForm.{judged_set}
 use Rattle.rob_top.specs.Answers.{certificate_text, model_text}
 use Rattle.rob_top.specs.Calls.{Call, Came, HasFile, IsElaborating, IsSolving, WasRaised, limit_of, requests}
 use Rattle.rob_top.specs.Inputs.{HasCertificate, HasCertificateFile, HasForms, HasModel, HasScenarios, HasSought}
+use Rattle.rob_top.specs.Routes.{IsWideBy, with_rounds}
 use Rattle.rob_top.specs.Searched.{IsWideSought, certificate_vector}
 use Rattle.rob_words.specs.Commands.{Line, IsSpelled}
 use Rattle.rob_words.specs.declared.verb.Own.TheVariants as own
 
 module _ (call : Call) where
-  -- the spot's number is wide: of the numbers of the set rows and forms it is the first; or it is a number of a row of
-  -- a basis on the path of the set's program, or of the model's counterpart; or it is a number of a check, before which
-  -- no condition fails and no number is wide; or it is one of that record's values, and no record before it breaks a
-  -- rule or has a wide number; or it is one on the way to the worst case of a form
+  -- the spot's number is wide: of the numbers of the set rows and forms it is the first; or it is a number of a check,
+  -- before which no condition fails and no number is wide; or it is one of that record's values, and no record before
+  -- it breaks a rule or has a wide number; or it is one on the way to the worst case of a form
   pub data IsWideSpot (line : Line) (m : RobustModel) (spot : Spot) : Type 0 where
     elaborating : HasModel call line m → IsElaborating line.verb
         → IsFirstWide (limit_of line) m (judged_set m ++ judged_forms m) spot → IsWideSpot line m spot
-    solving : HasForms call line m → IsSolving line.verb → IsWideOnPath (limit_of line) m spot → IsWideSpot line m spot
     checking : (c : Certificate) (place : Place) → HasCertificate call line m c → spot ≡ Check place
         → verdict_of (limit_of line) m c ≡ verdict.TooWide place → IsWideSpot line m spot
     replaying : (c : Certificate) (bytes : List ℕ) (number : ℕ) → HasScenarios call line m c bytes
@@ -51,6 +50,18 @@ module _ (call : Call) where
     pub wide : IsWideSpot line m spot
     pub raised : WasRaised call.wides
     pub printed : text ≡ too_wide_line m spot
+
+  -- the same on the way of `solve` and `prove` by the line's route; by cutting planes the rounds before it are told
+  -- behind its spot
+  pub record IsTooWideOnWay (spot : Spot) (text : List ℕ) : Type 0 where
+    pub line : Line
+    pub m : RobustModel
+    pub rounds : List Round
+    pub forms : HasForms call line m
+    pub solves : IsSolving line.verb
+    pub wide : IsWideBy line.way (limit_of line) m spot rounds
+    pub raised : WasRaised call.wides
+    pub printed : text ≡ with_rounds line.way m rounds (too_wide_line m spot)
 
   -- the files came, and the model's text breaks the rule at the line, first
   pub record IsNoModel (rule number : ℕ) (text : List ℕ) : Type 0 where

@@ -1,5 +1,5 @@
 -- What the work on a model answers where it stops.
-use Rattle.std.specs.Prelude.{◌≡◌, ◌⊎◌, ℕ, ◌<◌, List, length}
+use Rattle.std.specs.Prelude.{◌≡◌, ◌⊎◌, ℕ, ◌<◌, List, length, All}
 use Rattle.rob_algebra.specs.Fraction.{Fraction}
 use Rattle.rob_cert.specs.declared.ending.Stop.{Stop}
 use Rattle.rob_cert.specs.declared.ending.Stop.TheVariants as stop
@@ -11,6 +11,7 @@ use Rattle.rob_rules.specs.declared.error.ModelErr.{ModelErr}
 use Rattle.rob_rules.specs.declared.error.ModelErr.TheVariants as unread
 use Rattle.rob_reach.specs.Sweeps.{IsBudgetAt, with_budget}
 use Rattle.rob_report.specs.Places.{IsSpotOf}
+use Rattle.rob_report.specs.Rounds.{IsRoundOf}
 use Rattle.rob_report.specs.Spots.{too_wide_line, empty_set_lines}
 use Rattle.rob_sets.specs.declared.error.ElabErr.{ElabErr}
 use Rattle.rob_sets.specs.declared.error.ElabErr.TheVariants as refused
@@ -22,9 +23,11 @@ use Rattle.rob_sweep.specs.declared.answer.SweepStop.{SweepStop}
 use Rattle.rob_sweep.specs.declared.answer.SweepStop.TheVariants as unswept
 use Rattle.rob_top.specs.Answers.{model_text, sweep_fault_text, whole_text, wide_budget_text, wide_node_text}
 use Rattle.rob_top.specs.Replies.{Replies}
+use Rattle.rob_top.specs.Routes.{with_rounds}
 use Rattle.rob_top.specs.declared.ended.Ended.TheVariants as ended
 use Rattle.rob_top.specs.declared.ended.Ended.TheVariants.{Printed, Model, EmptySet, TooWide, WideNode, WideBudget, Whole}
 use Rattle.rob_top.specs.declared.reply.Reply.{Reply}
+use Rattle.rob_words.specs.declared.route.Route.{Route}
 use Rattle.rob_write.specs.Canonical.{model_text as canonical_text}
 
 -- ---- refusals
@@ -75,14 +78,16 @@ module _ (m : RobustModel) where
   IsRefusedOf (refused.Wide spot) = IsSpotOf m spot
   IsRefusedOf refused.Memory = Unit {0}
 
-  -- the reply where the route stopped: the weights of an empty set, or the spot of the wide number; memory has none
-  abbrev pub RepliesStop : Stop → Reply → Type 0
-  RepliesStop (stop.EmptySet weights) reply = Replies (EmptySet weights) (empty_set_lines m weights) reply
-  RepliesStop (stop.Wide spot trace) reply = Replies (TooWide spot) (too_wide_line m spot) reply
-  RepliesStop stop.Memory reply = ⊥
+  -- the reply where the route stopped: the weights of an empty set, or the spot of the wide number, by cutting planes
+  -- with the rounds behind it; memory has none
+  abbrev pub RepliesStop : Route → Stop → Reply → Type 0
+  RepliesStop way (stop.EmptySet weights) reply = Replies (EmptySet weights) (empty_set_lines m weights) reply
+  RepliesStop way (stop.Wide spot trace) reply =
+      Replies (TooWide spot) (with_rounds way m trace.rounds (too_wide_line m spot)) reply
+  RepliesStop way stop.Memory reply = ⊥
 
-  -- there is a weight for each set row; the spot is one of the model's
+  -- there is a weight for each set row; the spot and the rounds are the model's
   abbrev pub IsStopOf : Stop → Type 0
   IsStopOf (stop.EmptySet weights) = length weights ≡ length (set_rows m)
-  IsStopOf (stop.Wide spot trace) = IsSpotOf m spot
+  IsStopOf (stop.Wide spot trace) = IsSpotOf m spot × All (IsRoundOf m) trace.rounds
   IsStopOf stop.Memory = Unit {0}

@@ -78,6 +78,7 @@ text_of own.Tree texts = texts.tree.items
 text_of own.Statement texts = []
 text_of own.Limit texts = []
 text_of own.Limits texts = []
+text_of own.Cuts texts = []
 
 -- the texts with these bytes for the file of this kind
 abbrev pub with_text : Own → Vec ℕ Global → Texts → Texts
@@ -91,6 +92,7 @@ with_text own.Tree bytes texts = record texts { tree = bytes }
 with_text own.Statement bytes texts = texts
 with_text own.Limit bytes texts = texts
 with_text own.Limits bytes texts = texts
+with_text own.Cuts bytes texts = texts
 
 -- what came of files, with these bytes of one more
 abbrev pub with_file : Own → Vec ℕ Global → Files → Files
@@ -103,13 +105,14 @@ IsNothing (fetch.Texts texts) =
     (texts.model.items ≡ []) × (texts.certificate.items ≡ []) × (texts.scenarios.items ≡ []) × (texts.tree.items ≡ [])
 IsNothing (fetch.Answer reply) = ⊥
 
--- the words are the command line, the files that it names came with these texts, and its own words are theirs
+-- the words are the command line, the files that it names came with these texts, and its own words and its route are theirs
 pub record HasTexts (call : Call) (line : Line) (texts : Texts) : Type 0 where
   pub spelled : IsSpelled call.words line
   pub came : Each (Came call) (requests line)
   pub found : (kind : Own) (request : Request) → request_of kind (own_of line.verb) line.own ≡ Some request
       → IsFound call request (whole (text_of kind texts))
   pub words : map string_bytes texts.words.items ≡ line.own
+  pub way : texts.route ≡ line.way
 
 -- the file came whole
 abbrev pub CameIn : Source → Request → Type 0

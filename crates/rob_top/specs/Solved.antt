@@ -4,7 +4,8 @@ use Rattle.rob_algebra.specs.Fraction.{of_int}
 use Rattle.rob_cert.specs.Apart.{FitsLines}
 use Rattle.rob_cert.specs.Shape.{HasShape}
 use Rattle.rob_cert.specs.Spelling.{cert_text}
-use Rattle.rob_dualize.specs.Solving.{IsReadAtEnd, IsShownEmpty}
+use Rattle.rob_cert.specs.declared.trace.Round.{Round}
+use Rattle.rob_dualize.specs.Solving.{IsShownEmpty}
 use Rattle.rob_meaning.specs.Certificates.{Certificate, Status, optimal, infeasible, unbounded}
 use Rattle.rob_meaning.specs.Guarantee.{HasBound, HasWorstCase}
 use Rattle.rob_meaning.specs.Proves.{Proves, HasStatus}
@@ -14,7 +15,9 @@ use Rattle.rob_report.specs.Rows.{rows_of}
 use Rattle.rob_report.specs.Spots.{empty_set_lines}
 use Rattle.rob_top.specs.Calls.{Call, IsSolving, limit_of}
 use Rattle.rob_top.specs.Inputs.{HasForms}
+use Rattle.rob_top.specs.Routes.{IsFoundBy, with_rounds}
 use Rattle.rob_words.specs.Commands.{Line}
+use Rattle.rob_words.specs.declared.route.Route.{Route}
 use Rattle.rob_words.specs.declared.verb.Verb.{Verb}
 use Rattle.rob_words.specs.declared.verb.Verb.TheVariants.{Rows, Solve, Prove}
 
@@ -31,11 +34,12 @@ module _ (call : Call) where
 
   -- ---- `solve` and `prove`
 
-  -- what is printed of a certificate: its plan and policies, or all of it; other commands print none
-  abbrev pub IsPrinted : Verb → RobustModel → Certificate → List ℕ → Type 0
-  IsPrinted Solve m c text = text ≡ report_of m c
-  IsPrinted Prove m c text = text ≡ cert_text m c
-  IsPrinted _ m c text = ⊥
+  -- what is printed of a certificate: its plan and policies, by cutting planes with the rounds behind them; or all of it;
+  -- other commands print none
+  abbrev pub IsPrinted : Verb → Route → RobustModel → Certificate → List Round → List ℕ → Type 0
+  IsPrinted Solve way m c rounds text = text ≡ with_rounds way m rounds (report_of m c)
+  IsPrinted Prove way m c rounds text = text ≡ cert_text m c
+  IsPrinted _ way m c rounds text = ⊥
 
   -- the plan keeps each row in every scenario that the row's set admits, and its worst case is the value; of an unbounded model's
   -- plan it is a bound
@@ -44,9 +48,9 @@ module _ (call : Call) where
   IsKept m c infeasible = Unit {0}
   IsKept m c unbounded = HasBound m c.plan c.value
 
-  -- the model has the status: a certificate of it was found that proves it, as the last basis of the model's counterpart
-  -- gives it, and it, or its plan, is printed. It has its shape and its numbers fit, so that what `prove` prints is the text of a
-  -- certificate
+  -- the model has the status: a certificate of it was found that proves it, by the line's route, as the last basis of the model's
+  -- counterpart gives it, or the end of a run of the cutting-plane method; and it, or its plan, is printed. It has its shape and its
+  -- numbers fit, so that what `prove` prints is the text of a certificate
   pub record IsSolved (status : Status) (text : List ℕ) : Type 0 where
     pub line : Line
     pub m : RobustModel
@@ -57,10 +61,11 @@ module _ (call : Call) where
     pub holds : HasStatus m status c.value
     pub kept : IsKept m c status
     pub proves : Proves m c
-    pub last : IsReadAtEnd m c
+    pub rounds : List Round
+    pub found : IsFoundBy line.way m c rounds
     pub shape : HasShape m c
     pub fits : FitsLines (limit_of line) m c
-    pub printed : IsPrinted line.verb m c text
+    pub printed : IsPrinted line.verb line.way m c rounds text
 
   -- no joint scenario is admitted, as the weights show
   pub record IsEmptySet (weights : List ℤ) (text : List ℕ) : Type 0 where

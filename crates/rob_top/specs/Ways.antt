@@ -8,20 +8,22 @@ use Rattle.rob_top.specs.Calls.{Call}
 use Rattle.rob_top.specs.Checked.{IsAccepted}
 use Rattle.rob_top.specs.Generated.{IsGenerated}
 use Rattle.rob_top.specs.Narrowed.{IsNarrowed}
-use Rattle.rob_top.specs.Refused.{IsNoCertificate, IsTooWide}
+use Rattle.rob_top.specs.Refused.{IsNoCertificate, IsTooWide, IsTooWideOnWay}
 use Rattle.rob_top.specs.Replayed.{IsNoPlan, IsReplayed}
 use Rattle.rob_top.specs.Searched.{IsEmptySought, IsNoPlanSought, IsSearched}
 use Rattle.rob_top.specs.Solved.{IsEmptySet, IsRows, IsSolved}
+use Rattle.rob_top.specs.Split.{IsEmptyCell, IsPieced, IsSplitText, IsWideSplit}
 use Rattle.rob_top.specs.Swept.{IsSwept}
 use Rattle.rob_top.specs.TreeChecked.{IsTreeAccepted, IsWideLeaf}
 use Rattle.rob_tree.specs.declared.tree.Branch.{Branch}
 
 module _ (call : Call) where
   -- a status is found: by `solve` and `prove`, with a certificate; or by `whole` and `tree`, with a branch tree, over
-  -- plans whose named variables take whole numbers
+  -- plans whose named variables take whole numbers; or by `cells`, over plans with a policy of their own in each cell
   pub data FindsStatus (status : Status) (text : List ℕ) : Type 0 where
     solved : IsSolved call status text → FindsStatus status text
     branched : IsBranched call status text → FindsStatus status text
+    pieced : IsPieced call status text → FindsStatus status text
 
   -- a text is printed as asked, by a command that answers no status
   pub data Prints (text : List ℕ) : Type 0 where
@@ -31,21 +33,27 @@ module _ (call : Call) where
     worst_found : IsSearched call text → Prints text
     swept : IsSwept call text → Prints text
     narrowed : IsNarrowed call text → Prints text
+    split_written : IsSplitText call text → Prints text
 
   -- what was read is accepted: by `check` a certificate, by `checktree` a branch tree
   pub data Accepts (text : List ℕ) : Type 0 where
     a_certificate : IsAccepted call text → Accepts text
     a_tree : IsTreeAccepted call text → Accepts text
 
-  -- no joint scenario is admitted, as the weights show: found by `solve` and `prove`; by `whole` and `tree`; by `worst`
+  -- no joint scenario is admitted, as the weights show: found by `solve` and `prove`; by `whole` and `tree`; by
+  -- `worst`; or by `cells`, of the split model
   pub data FindsEmpty (weights : List ℤ) (text : List ℕ) : Type 0 where
     while_solving : IsEmptySet call weights text → FindsEmpty weights text
     while_branching : IsEmptyBranched call weights text → FindsEmpty weights text
     while_searching : IsEmptySought call weights text → FindsEmpty weights text
+    in_cells : IsEmptyCell call weights text → FindsEmpty weights text
 
-  -- a wide number is named by its spot: one on the way of a command that works with the model as it was read
+  -- a wide number is named by its spot: one of a command that works with the model as it was read; or one on the way of
+  -- `solve` and `prove`, by either route; or one in the split model of `cells`
   pub data NamesWide (spot : Spot) (text : List ℕ) : Type 0 where
     in_model : IsTooWide call spot text → NamesWide spot text
+    on_way : IsTooWideOnWay call spot text → NamesWide spot text
+    in_split : IsWideSplit call spot text → NamesWide spot text
 
   -- a wide number is named by its spot, and by the path of branches to its box: while `whole` and `tree` grow a tree,
   -- or while `checktree` checks one

@@ -31,6 +31,7 @@ use Rattle.rob_top.specs.declared.reply.Reply.{Reply}
 use Rattle.rob_words.specs.Commands.{Line}
 use Rattle.rob_words.specs.Names.{parts_of}
 use Rattle.rob_words.specs.Values.{Word}
+use Rattle.rob_words.specs.declared.route.Route.{Route}
 use Rattle.rob_words.specs.declared.verb.Own.TheVariants as own
 use Rattle.rob_words.specs.declared.verb.Verb.{Verb}
 use Rattle.rob_words.specs.declared.verb.Verb.TheVariants.{Check, Replay, Sweep, Worst as WorstVerb}
@@ -77,10 +78,11 @@ module _ (limit : ℕ) (wides : Count) where
         (call : Call) (line : Line) → IsCallAt limit wides verb call line → HasTexts call line texts → HasForms call line m
         → Means call reply.ended reply.text
 
-    -- the same where no other text counts
-    abbrev pub AnswersForms : Verb → Reply → Type 0
-    AnswersForms verb reply =
-        (call : Call) (line : Line) → IsCallAt limit wides verb call line → HasForms call line m → Means call reply.ended reply.text
+    -- the same where no other text counts, by this route
+    abbrev pub AnswersRoute : Verb → Route → Reply → Type 0
+    AnswersRoute verb way reply =
+        (call : Call) (line : Line) → IsCallAt limit wides verb call line → line.way ≡ way → HasForms call line m
+        → Means call reply.ended reply.text
 
     -- that of each one for `check`, whose certificate's file came with these bytes
     abbrev pub AnswersFile : List ℕ → Reply → Type 0

@@ -11,7 +11,9 @@ use Rattle.rob_meaning.specs.RobustModel.{RobustModel, at_least, at_most, budget
 use Rattle.rob_outside.specs.Files.{File, file_of}
 use Rattle.rob_write.specs.Canonical.{model_text}
 use Rattle.rob_report.specs.Lines.{line as line_of}
+use Rattle.rob_pieces.specs.Cuts.{Cut}
 use Rattle.rob_top.specs.Calls.{Call, call_of, count}
+use Rattle.rob_top.specs.Split.{level_value}
 use Rattle.rob_words.specs.Values.{Word}
 
 -- the limit of 62 bits
@@ -34,6 +36,11 @@ call_over words files = call_of words (record { told = Some files; came = None }
 -- `solve` on the canonical text of a model
 abbrev pub solve_call : RobustModel → Call
 solve_call m = call_over (codes "solve" ∷ model_name ∷ []) (file_of model_name (model_text m) ∷ [])
+
+-- the same by cutting planes
+abbrev pub cuts_call : RobustModel → Call
+cuts_call m =
+    call_over (codes "solve" ∷ model_name ∷ codes "--route=cuts" ∷ []) (file_of model_name (model_text m) ∷ [])
 
 -- `check` on the text of a certificate of the smallest model, to minimise x where x >= d for each d in [8, 12]
 abbrev pub check_call : Certificate → Call
@@ -79,6 +86,14 @@ whole_call m names = call_over (codes "whole" ∷ model_name ∷ names ∷ []) (
 abbrev pub sweep_call : Word → RobustModel → Call
 sweep_call name m =
     call_over (name ∷ model_name ∷ codes "1" ∷ codes "0" ∷ []) (file_of model_name (model_text m) ∷ [])
+
+-- `cells` or `celltext` on the canonical text of a model, with this word of cuts
+abbrev pub cells_call : Word → Word → RobustModel → Call
+cells_call name cuts m = call_over (name ∷ model_name ∷ cuts ∷ []) (file_of model_name (model_text m) ∷ [])
+
+-- the smallest model's set cut at 9, as `d=9` says
+abbrev pub at_9 : List Cut
+at_9 = record { parameter = 0; level = level_value (codes "9") } ∷ []
 
 -- minimise x, where x >= d for each d in [0, 2], within a budget of 1 round 1 by 1
 abbrev pub demand_within_a_budget : RobustModel

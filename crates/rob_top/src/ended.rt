@@ -54,6 +54,8 @@ pub enum Ended {
     Tree(u8, u32),
     /// The statement or the limits of a sweep break that rule.
     Sweep(u8),
+    /// The cuts, or the split model that they make, break that rule.
+    Cells(u8),
     /// The outside failed while a file was read.
     ReadFault,
     /// The outside failed while the output was put.
@@ -89,6 +91,7 @@ impl Ended {
             Ended::NoRow => 29,
             Ended::Tree(_, _) => 34,
             Ended::Sweep(_) => 35,
+            Ended::Cells(_) => 32,
             Ended::ReadFault => 30,
             Ended::WriteFault => 31,
             Ended::Memory => 40,

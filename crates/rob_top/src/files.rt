@@ -13,10 +13,11 @@ use crate::ended::Ended;
 use crate::reply::{Reply, fault};
 use rob_number::Memory;
 use rob_outside::{Fetched, Shelf, ShelfErr};
-use rob_words::{CommandLine, Own};
+use rob_words::{CommandLine, Own, Route};
 use std::alloc::Global;
 
-/// The texts of a command's files, by their kinds, and its own words. A text that the command doesn't have is empty.
+/// The texts of a command's files, by their kinds, its own words, and its route. A text that the command doesn't have is
+/// empty.
 #[derive(Debug, Drop)]
 pub struct Texts {
     pub model: Vec<u8>,
@@ -25,6 +26,7 @@ pub struct Texts {
     pub tree: Vec<u8>,
     /// The command's own words, in their order.
     pub words: Vec<String>,
+    pub route: Route,
 }
 
 /// What came of a command's files: the texts of all of them, or the answer that ends the call.
@@ -97,6 +99,7 @@ fn no_files(alloc: Global) -> Files
         scenarios: Vec::new(alloc),
         tree: Vec::new(alloc),
         words: Vec::new(alloc),
+        route: Route::Dual,
     })
 }
 
@@ -115,6 +118,7 @@ fn most_bytes(kind: Own) -> Option<usize>
         Own::Statement => None,
         Own::Limit => None,
         Own::Limits => None,
+        Own::Cuts => None,
     }
 }
 
@@ -130,6 +134,7 @@ fn with_bytes(kind: Own, bytes: Vec<u8>, files: Files) -> Files
                 scenarios: texts.scenarios,
                 tree: texts.tree,
                 words: texts.words,
+                route: texts.route,
             },
             Own::Certificate => Texts {
                 model: texts.model,
@@ -137,6 +142,7 @@ fn with_bytes(kind: Own, bytes: Vec<u8>, files: Files) -> Files
                 scenarios: texts.scenarios,
                 tree: texts.tree,
                 words: texts.words,
+                route: texts.route,
             },
             Own::Scenarios => Texts {
                 model: texts.model,
@@ -144,6 +150,7 @@ fn with_bytes(kind: Own, bytes: Vec<u8>, files: Files) -> Files
                 scenarios: bytes,
                 tree: texts.tree,
                 words: texts.words,
+                route: texts.route,
             },
             Own::Number => texts,
             Own::Names => texts,
@@ -154,10 +161,12 @@ fn with_bytes(kind: Own, bytes: Vec<u8>, files: Files) -> Files
                 scenarios: texts.scenarios,
                 tree: bytes,
                 words: texts.words,
+                route: texts.route,
             },
             Own::Statement => texts,
             Own::Limit => texts,
             Own::Limits => texts,
+            Own::Cuts => texts,
         }),
         Files::Answer(reply) => Files::Answer(reply),
     }

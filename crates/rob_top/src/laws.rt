@@ -30,20 +30,23 @@ ghost use Rattle.rob_top.specs.Headline.{Means};
 ghost use Rattle.rob_top.specs.Inputs.{HasCertificateFile, HasModel, HasReplayFile, HasWorstFile};
 ghost use Rattle.rob_top.specs.Narrowed.{IsNarrowed};
 ghost use Rattle.rob_top.specs.Replayed.{IsReplayed};
+ghost use Rattle.rob_top.specs.Routes.{IsWideOnWay};
 ghost use Rattle.rob_top.specs.Searched.{IsSearched, ShowsKept, certificate_vector};
-ghost use Rattle.rob_top.specs.Solved.{IsSolved};
+ghost use Rattle.rob_top.specs.Solved.{IsEmptySet as AnswersEmptySet, IsSolved};
 ghost use Rattle.rob_top.specs.Swept.{limit_value};
 ghost use Rattle.rob_top.specs.TreeChecked.{HasTreeFile, IsTreeAccepted};
+ghost use Rattle.rob_top.specs.SplitEnds.{IsCellsAnswer};
 ghost use Rattle.rob_top.specs.Work.{ended_of};
-ghost use Rattle.rob_top.specs.WorkedCalls.{check_call, demand_within_a_budget, empty_interval, first_text, greatest, half_a_demand, hard_and_soft, impossible_demand, narrow_call, never_calm, no_demand, no_order, order_11, order_12, order_least, replay_call, solve_call, sweep_call, text_call, two_demands, two_demands_table, whole_call, worst_call};
+ghost use Rattle.rob_top.specs.WorkedCalls.{at_9, cells_call, check_call, cuts_call, demand_within_a_budget, empty_interval, first_text, greatest, half_a_demand, hard_and_soft, impossible_demand, narrow_call, never_calm, no_demand, no_order, order_11, order_12, order_least, replay_call, solve_call, sweep_call, text_call, two_demands, two_demands_table, whole_call, worst_call};
 ghost use Rattle.rob_top.specs.WorkedTrees.{cheaper_orders, tree_call, whole_orders};
 ghost use Rattle.rob_top.specs.declared.ended.Ended.{Ended};
-ghost use Rattle.rob_top.specs.declared.ended.Ended.TheVariants.{Accepted, Cert, EmptySet, NoRow, Optimal, Printed, Rejected, Scenarios, Sweep, TooWide, Tree as NoTree, Whole, WideNode};
+ghost use Rattle.rob_top.specs.declared.ended.Ended.TheVariants.{Accepted, Cells, Cert, EmptySet, NoRow, Optimal, Printed, Rejected, Scenarios, Sweep, TooWide, Tree as NoTree, Whole, WideNode};
 ghost use Rattle.rob_tree.specs.TreeText.{tree_text};
 ghost use Rattle.rob_tree.specs.declared.tree.Branch.{Branch};
 ghost use Rattle.rob_words.specs.Commands.{Line};
 ghost use Rattle.rob_words.specs.Kinds.{IsNumber};
 ghost use Rattle.rob_words.specs.Values.{Word};
+ghost use Rattle.rob_words.specs.declared.route.Route.TheVariants.{Cuts, Dual};
 ghost use Rattle.rob_words.specs.declared.verb.Verb.TheVariants.{Prove, Tree};
 ghost use Rattle.rob_write.specs.Canonical.{model_text};
 
@@ -62,7 +65,7 @@ pub fn prove_then_check()
         → (ended : Ended) → Means checking ended shown → IsProvedAnswer (limit_of line) solved.m solved.c ended }
 {}
 
-/// What `narrow yes` says of `solve` and `prove` on the same model at the same width.
+/// What `narrow yes` says of `solve` and `prove`, by the robust counterpart, on the same model at the same width.
 pub fn narrow_then_solve()
     // The model is narrow,
     ensures narrow { (narrowing : Call) (text front : List ℕ) (narrowed : IsNarrowed narrowing text) → text ≡ front ++ narrow_line true
@@ -70,12 +73,12 @@ pub fn narrow_then_solve()
     // so they are never refused for width;
     ensures not_refused { (narrowing solving : Call) (text front shown : List ℕ) (narrowed : IsNarrowed narrowing text)
         → text ≡ front ++ narrow_line true → (known : Known solving.source) (line : Line) → line.width ≡ narrowed.line.width
-        → IsSolving line.verb → HasModel (known_call solving known) line narrowed.m → (spot : Spot)
+        → IsSolving line.verb → line.way ≡ Dual → HasModel (known_call solving known) line narrowed.m → (spot : Spot)
         → Means solving (TooWide spot) shown → ⊥ }
     // and where some scenario is admitted the model's status is answered, or the outside fails, or memory is refused.
     ensures status { (narrowing solving : Call) (text front shown : List ℕ) (narrowed : IsNarrowed narrowing text)
         → text ≡ front ++ narrow_line true → (known : Known solving.source) (line : Line) → line.width ≡ narrowed.line.width
-        → IsSolving line.verb → HasModel (known_call solving known) line narrowed.m → (ended : Ended) → Means solving ended shown
+        → IsSolving line.verb → line.way ≡ Dual → HasModel (known_call solving known) line narrowed.m → (ended : Ended) → Means solving ended shown
         → (u : List Fraction) → Admits narrowed.m u
         → (status : Status) × (v : Fraction) × HasStatus narrowed.m status v × EndsAs (ended_of status) ended }
     // Where none is, an empty set is answered, with weights that show it, or again the outside fails, or memory is refused.
@@ -170,13 +173,26 @@ pub fn status_laws()
         → Means call (ended_of status) text → Means call (EmptySet weights) other → ⊥ }
 {}
 
+/// Two calls of `solve` and `prove` on one model, by whichever routes and at whichever widths.
+pub fn route_laws()
+    // They have one status, and of an optimum one value;
+    ensures one_answer { (a b : Call) (s t : Status) (text other : List ℕ) (x : IsSolved a s text) (y : IsSolved b t other)
+        → x.m ≡ y.m → (s ≡ t) × (s ≡ optimal → x.c.value ≡ y.c.value) }
+    // and where the one has a status, the other doesn't answer an empty set.
+    ensures one_emptiness { (a b : Call) (s : Status) (weights : List ℤ) (text other : List ℕ) (x : IsSolved a s text)
+        (y : AnswersEmptySet b weights other) → x.m ≡ y.m → ⊥ }
+{}
+
 /// Calls worked by hand: `specs/WorkedCalls.antt`. So what is asked of a call where a status, an empty set or a verdict has to be
 /// answered is met by some call. A fault of the outside and want of memory may come in the place of each answer; but none of a
 /// read at `text`, which names no file.
 pub fn worked_calls()
     // `solve` on the smallest model is answered with `optimal`,
     ensures optimal { (result : Ended) → MustEnd (solve_call one_demand) result → EndsAs Optimal result }
-    // and with no wide number, as the model is narrow;
+    // by cutting planes too, or it names a wide number of a run,
+    ensures by_cuts { (result : Ended) → MustEnd (cuts_call one_demand) result
+        → EndsAs Optimal result ⊎ ((spot : Spot) × IsWideOnWay Cuts greatest one_demand spot × (result ≡ TooWide spot)) }
+    // by the default route no wide number is named, as the model is narrow, and its status is answered;
     ensures narrow_spot { (result : Ended) → MustEnd (solve_call one_demand) result → (spot : Spot) → (result ≡ TooWide spot) → ⊥ }
     ensures narrow_status { (result : Ended) → MustEnd (solve_call one_demand) result
         → (status : Status) × (v : Fraction) × HasStatus one_demand status v × EndsAs (ended_of status) result }
@@ -247,6 +263,14 @@ pub fn worked_calls()
         → IsSweepAnswer greatest demand_within_a_budget 1 (limit_value (codes "0") ∷ []) result }
     ensures limited { (result : Ended) → MustEnd (sweep_call (codes "sweeptext") demand_within_a_budget) result
         → EndsAs Printed result }
+    // `cells` on the smallest model cut at 9 answers a status over pieces, an empty set or a wide number, `celltext`
+    // prints its split model, and of a cut at no parameter rule 52 is named.
+    ensures pieces { (result : Ended) → MustEnd (cells_call (codes "cells") (codes "d=9") one_demand) result
+        → IsCellsAnswer greatest one_demand at_9 result }
+    ensures split { (result : Ended) → MustEnd (cells_call (codes "celltext") (codes "d=9") one_demand) result
+        → EndsAs Printed result }
+    ensures uncut { (result : Ended) → MustEnd (cells_call (codes "cells") (codes "e=9") one_demand) result
+        → EndsAs (Cells 52) result }
     // `narrow` prints the bounds of the smallest model.
     ensures narrow { (result : Ended) → MustEnd (narrow_call one_demand) result → EndsAs Printed result }
     // `text` prints a model, whichever number its word spells.

@@ -19,6 +19,7 @@ mod replaying;
 mod reply;
 mod searching;
 mod solving;
+mod splitting;
 mod sweeping;
 mod top;
 mod tree_checking;

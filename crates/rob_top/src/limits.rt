@@ -24,7 +24,7 @@ pub fn limit_of<N: Exact, L: Ledger>(word: &str, ledger: &mut L) -> Option<N>
 }
 
 /// The fraction of two numbers. It fits, since they do.
-fn fraction<N: Exact, L: Ledger>(numerator: u64, denominator: u64, ledger: &mut L) -> N
+pub fn fraction<N: Exact, L: Ledger>(numerator: u64, denominator: u64, ledger: &mut L) -> N
     requires numerator { numerator ≤ N.limit }
     requires denominator { denominator ≤ N.limit }
     requires positive { 0 < denominator }

@@ -19,11 +19,12 @@ use rob_number::{Exact, List, Memory};
 use rob_words::{CommandLine, Own, Verb, first_part};
 use std::alloc::Global;
 
-/// The texts of a command's files, with its own words.
+/// The texts of a command's files, with its own words and its route.
 pub fn with_words(alloc: Global, line: &CommandLine, texts: Texts) -> Result<Texts, Memory>
     ensures kept { IfOk result (λ with. (with.model ≡ texts.model) × (with.certificate ≡ texts.certificate)
         × (with.scenarios ≡ texts.scenarios) × (with.tree ≡ texts.tree)) }
     ensures words { IfOk result (λ with. map string_bytes with.words.items ≡ map string_bytes line.now.own.items) }
+    ensures route { IfOk result (λ with. with.route ≡ line.now.route) }
 {
     let words = copied(alloc, line.own.as_slice())?;
     Ok(Texts {
@@ -32,6 +33,7 @@ pub fn with_words(alloc: Global, line: &CommandLine, texts: Texts) -> Result<Tex
         scenarios: texts.scenarios,
         tree: texts.tree,
         words,
+        route: line.route,
     })
 }
 
@@ -58,7 +60,7 @@ pub fn own_word(kind: Own, verb: Verb, words: &[String]) -> &str
 }
 
 /// The first own word of the kind.
-fn word_of<'a>(kind: Own, kinds: &[Own], words: &'a [String]) -> Option<&'a str>
+pub fn word_of<'a>(kind: Own, kinds: &[Own], words: &'a [String]) -> Option<&'a str>
     ensures word { option_map (λ word. word.now) result
         ≡ calls.word_of kind kinds.now (map string_bytes words.entry.now) }
 {

@@ -30,6 +30,7 @@ use rob_model::{Model, Plan, Spot, Where, find_form};
 use rob_number::{Exact, Ledger, Memory, Wide};
 use rob_report::worst_text;
 use rob_sets::SetForm;
+use rob_words::Route;
 use rob_worst::slack::slack;
 use rob_worst::worst;
 use std::alloc::Global;
@@ -153,7 +154,7 @@ fn search_form<N: Exact + Drop, L: Ledger>(
 {
     match worst(alloc, forms, set, form, plan, ledger) {
         Ok(worst) => with_slack(alloc, model, form, &worst, ledger),
-        Err(stop) => stopped(alloc, model, stop),
+        Err(stop) => stopped(alloc, model, Route::Dual, stop),
     }
 }
 

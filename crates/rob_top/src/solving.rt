@@ -1,40 +1,49 @@
 // The answers of `solve` and `prove`.
 
-ghost use Rattle.std.specs.Prelude.{◌≡◌, ◌≤◌, length, IfOk};
+ghost use Rattle.std.specs.Prelude.{◌≡◌, ◌≤◌, length, All, IfOk, OnOk};
 ghost use Rattle.rob_cert.specs.Shape.{HasShape};
 ghost use Rattle.rob_cert.specs.Spelling.{cert_text};
 ghost use Rattle.rob_cert.specs.View.{certificate_of, status_of};
+ghost use Rattle.rob_cuts.specs.Solving.{AreOfModel};
+ghost use Rattle.rob_dualize.specs.Wholes.{IsFew, counterpart_of};
 ghost use Rattle.rob_elab.specs.Forms.{FormsFit, IsForms};
+ghost use Rattle.rob_meaning.specs.RobustModel.{RobustModel};
 ghost use Rattle.rob_meaning.specs.SetRows.{set_rows};
+ghost use Rattle.rob_meaning.specs.WellFormed.{IsModel};
 ghost use Rattle.rob_model.specs.Valid.{IsValid};
 ghost use Rattle.rob_model.specs.View.{robust};
+ghost use Rattle.rob_report.specs.Places.{IsSpotOf};
 ghost use Rattle.rob_report.specs.Report.{report_of};
-ghost use Rattle.rob_report.specs.Spots.{empty_set_lines};
+ghost use Rattle.rob_report.specs.Rounds.{IsRoundOf};
+ghost use Rattle.rob_report.specs.Spots.{empty_set_lines, too_wide_line};
 ghost use Rattle.rob_sets.specs.SetForm.{IsSetForm, SetFits};
 ghost use Rattle.rob_top.specs.Calls.{count};
 ghost use Rattle.rob_top.specs.Replies.{Replies};
-ghost use Rattle.rob_top.specs.Work.{AnswersForms, ended_of};
+ghost use Rattle.rob_top.specs.Routes.{SolvesBy, with_rounds};
+ghost use Rattle.rob_top.specs.Work.{AnswersRoute, ended_of};
 ghost use Rattle.rob_top.specs.Refusing.{IsStopOf, RepliesStop};
 ghost use Rattle.rob_words.specs.declared.verb.Verb.TheVariants.{Prove, Solve};
 
 use crate::ended::Ended;
 use crate::reply::Reply;
-use crate::work::too_wide;
-use rob_cert::{Cert, Status, Stop, write_cert};
+use rob_cert::{Cert, Status, Stop, Trace, write_cert};
+use rob_cuts::solve_cuts;
 use rob_dualize::solve_dual;
 use rob_elab::Forms;
-use rob_model::Model;
-use rob_number::{Exact, Ledger, List, Memory};
-use rob_report::{empty_set_text, report_text};
+use rob_model::{Model, Spot};
+use rob_number::{Exact, Ledger, List, Memory, Text};
+use rob_report::{empty_set_text, put_rounds, report_text, spot_text};
 use rob_sets::SetForm;
+use rob_words::Route;
 use std::alloc::Global;
 
-/// The answer of `solve`: the status, and of an optimum the plan.
+/// The answer of `solve`: the status, and of an optimum the plan; by cutting planes the rounds behind them.
 pub fn solve<N: Exact + Drop, L: Ledger>(
     alloc: Global,
     model: &Model<N>,
     forms: &Forms,
     set: &SetForm,
+    route: Route,
     ledger: &mut L,
 ) -> Result<Reply, Memory>
     requires valid { IsValid N.value model.now }
@@ -42,13 +51,13 @@ pub fn solve<N: Exact + Drop, L: Ledger>(
     requires set { IsSetForm (robust N.value model.now) set.now }
     requires forms_fit { FormsFit N.limit forms.now }
     requires set_fits { SetFits N.limit set.now }
-    ensures answers { IfOk result (AnswersForms N.limit (count (L.wides ledger.old) (L.wides ledger.new))
-        (robust N.value model.now) Solve) }
+    ensures answers { IfOk result (AnswersRoute N.limit (count (L.wides ledger.old) (L.wides ledger.new))
+        (robust N.value model.now) Solve route) }
     ensures counted { L.wides ledger.old ≤ L.wides ledger.new }
 {
-    match solve_dual(alloc, forms, set, ledger) {
-        Ok(cert) => reported(alloc, model, &cert),
-        Err(stop) => stopped(alloc, model, stop),
+    match find(alloc, forms, set, route, ledger) {
+        Ok((cert, trace)) => reported(alloc, model, &cert, route, &trace),
+        Err(stop) => stopped(alloc, model, route, stop),
     }
 }
 
@@ -58,6 +67,7 @@ pub fn prove<N: Exact + Drop, L: Ledger>(
     model: &Model<N>,
     forms: &Forms,
     set: &SetForm,
+    route: Route,
     ledger: &mut L,
 ) -> Result<Reply, Memory>
     requires valid { IsValid N.value model.now }
@@ -65,24 +75,60 @@ pub fn prove<N: Exact + Drop, L: Ledger>(
     requires set { IsSetForm (robust N.value model.now) set.now }
     requires forms_fit { FormsFit N.limit forms.now }
     requires set_fits { SetFits N.limit set.now }
-    ensures answers { IfOk result (AnswersForms N.limit (count (L.wides ledger.old) (L.wides ledger.new))
-        (robust N.value model.now) Prove) }
+    ensures answers { IfOk result (AnswersRoute N.limit (count (L.wides ledger.old) (L.wides ledger.new))
+        (robust N.value model.now) Prove route) }
     ensures counted { L.wides ledger.old ≤ L.wides ledger.new }
 {
-    match solve_dual(alloc, forms, set, ledger) {
-        Ok(cert) => proved(alloc, model, &cert),
-        Err(stop) => stopped(alloc, model, stop),
+    match find(alloc, forms, set, route, ledger) {
+        Ok((cert, _)) => proved(alloc, model, &cert),
+        Err(stop) => stopped(alloc, model, route, stop),
     }
 }
 
-/// The report of a certificate.
-fn reported<N: Exact>(alloc: Global, model: &Model<N>, cert: &Cert<N>) -> Result<Reply, Memory>
+/// The certificate that the route finds, with its rounds; by the robust counterpart there are none.
+fn find<N: Exact + Drop, L: Ledger>(
+    alloc: Global,
+    forms: &Forms,
+    set: &SetForm,
+    route: Route,
+    ledger: &mut L,
+) -> Result<(Cert<N>, Trace), Stop>
+    requires model { AreOfModel N.limit forms.now set.now }
+    requires few { IsFew (counterpart_of forms.now set.now) }
+    ensures solves { (m : RobustModel) → IsModel m → IsForms m forms.now → IsSetForm m set.now
+        → SolvesBy route N.value N.limit m (L.wides ledger.old) (L.wides ledger.new) result }
+{
+    match route {
+        Route::Dual => match solve_dual(alloc, forms, set, ledger) {
+            Ok(cert) => Ok((
+                cert,
+                Trace {
+                    rounds: List::new(alloc),
+                },
+            )),
+            Err(stop) => Err(stop),
+        },
+        Route::Cuts => solve_cuts(alloc, forms, set, ledger),
+    }
+}
+
+/// The report of a certificate, with the rounds behind it.
+fn reported<N: Exact>(
+    alloc: Global,
+    model: &Model<N>,
+    cert: &Cert<N>,
+    route: Route,
+    trace: &Trace,
+) -> Result<Reply, Memory>
     requires valid { IsValid N.value model.now }
     requires shape { HasShape (robust N.value model.now) (certificate_of N.value cert.now) }
+    requires rounds { All (IsRoundOf (robust N.value model.now)) trace.now.rounds }
     ensures report { IfOk result (Replies (ended_of (status_of cert.now.status))
-        (report_of (robust N.value model.now) (certificate_of N.value cert.now))) }
+        (with_rounds route (robust N.value model.now) trace.now.rounds
+        (report_of (robust N.value model.now) (certificate_of N.value cert.now)))) }
 {
-    let text = report_text(alloc, model, cert)?;
+    let mut text = report_text(alloc, model, cert)?;
+    put_run(model, route, trace, &mut text)?;
     Ok(Reply {
         ended: ended_by(cert.status),
         text,
@@ -115,15 +161,60 @@ pub fn ended_by(status: Status) -> Ended
 }
 
 /// The answer where the route stopped.
-pub fn stopped<N: Exact>(alloc: Global, model: &Model<N>, stop: Stop) -> Result<Reply, Memory>
+pub fn stopped<N: Exact>(
+    alloc: Global,
+    model: &Model<N>,
+    route: Route,
+    stop: Stop,
+) -> Result<Reply, Memory>
     requires valid { IsValid N.value model.now }
     requires named { IsStopOf (robust N.value model.now) stop }
-    ensures stop { IfOk result (RepliesStop (robust N.value model.now) stop) }
+    ensures stop { IfOk result (RepliesStop (robust N.value model.now) route stop) }
 {
     match stop {
         Stop::EmptySet(weights) => empty_set(alloc, model, weights),
-        Stop::Wide(spot, _) => too_wide(alloc, model, spot),
+        Stop::Wide(spot, trace) => wide_on_way(alloc, model, route, spot, &trace),
         Stop::Memory => Err(Memory),
+    }
+}
+
+/// The answer where a number on the route's way is too wide, with the rounds before it.
+fn wide_on_way<N: Exact>(
+    alloc: Global,
+    model: &Model<N>,
+    route: Route,
+    spot: Spot,
+    trace: &Trace,
+) -> Result<Reply, Memory>
+    requires valid { IsValid N.value model.now }
+    requires named { IsSpotOf (robust N.value model.now) spot }
+    requires rounds { All (IsRoundOf (robust N.value model.now)) trace.now.rounds }
+    ensures spot { IfOk result (Replies (Ended.TooWide spot)
+        (with_rounds route (robust N.value model.now) trace.now.rounds (too_wide_line (robust N.value model.now) spot))) }
+{
+    let mut text = spot_text(alloc, model, &spot)?;
+    put_run(model, route, trace, &mut text)?;
+    Ok(Reply {
+        ended: Ended::TooWide(spot),
+        text,
+    })
+}
+
+/// Appends the rounds of the cutting-plane method; by the robust counterpart none are told.
+fn put_run<N: Exact>(
+    model: &Model<N>,
+    route: Route,
+    trace: &Trace,
+    out: &mut Text,
+) -> Result<(), Memory>
+    requires valid { IsValid N.value model.now }
+    requires rounds { All (IsRoundOf (robust N.value model.now)) trace.now.rounds }
+    ensures appended { OnOk result
+        (out.new ≡ with_rounds route (robust N.value model.now) trace.now.rounds out.old) }
+{
+    match route {
+        Route::Dual => Ok(()),
+        Route::Cuts => put_rounds(model, trace.rounds.items(), out),
     }
 }
 

@@ -215,7 +215,7 @@ fn limited<N: Exact>(alloc: Global, model: &Model<N>, n: u32, limit: N) -> Resul
 }
 
 /// The answer with the text of a model.
-fn written<N: Exact>(alloc: Global, model: &Model<N>) -> Result<Reply, Memory>
+pub fn written<N: Exact>(alloc: Global, model: &Model<N>) -> Result<Reply, Memory>
     ensures written { IfOk result (Replies Ended.Printed (model_text (robust N.value model.now))) }
 {
     let text = write_model(alloc, model)?;
@@ -226,7 +226,7 @@ fn written<N: Exact>(alloc: Global, model: &Model<N>) -> Result<Reply, Memory>
 }
 
 /// What is answered where own words aren't of their kinds; no command line has such.
-fn no_line(alloc: Global) -> Result<Reply, Memory>
+pub fn no_line(alloc: Global) -> Result<Reply, Memory>
     ensures fault { IfOk result (Replies Ended.Words words_text) }
 {
     fault(alloc, Ended::Words, b"words", b"")

@@ -152,6 +152,8 @@ fn reads_model(verb: Verb) -> bool
         Verb::Sweep => true,
         Verb::SweepText => true,
         Verb::Narrow => true,
+        Verb::Cells => true,
+        Verb::CellText => true,
     }
 }
 

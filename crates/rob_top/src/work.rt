@@ -26,6 +26,7 @@ use crate::replaying::replay_text;
 use crate::reply::{Reply, broken_rule};
 use crate::searching::search_text;
 use crate::solving::{prove, solve};
+use crate::splitting::split_words;
 use crate::sweeping::{limit_words, sweep_words};
 use crate::tree_checking::check_tree_text;
 use rob_elab::{Forms, elaborate};
@@ -109,6 +110,8 @@ fn elaborates(verb: Verb) -> bool
         Verb::CheckTree => false,
         Verb::Sweep => false,
         Verb::SweepText => false,
+        Verb::Cells => false,
+        Verb::CellText => false,
         Verb::Narrow => true,
     }
 }
@@ -169,6 +172,8 @@ fn unelaborated<N: Exact + Drop, L: Ledger>(
         }
         Verb::Sweep => sweep_words(alloc, model, words, ledger),
         Verb::SweepText => limit_words(alloc, model, words, ledger),
+        Verb::Cells => split_words(alloc, model, verb, words, ledger),
+        Verb::CellText => split_words(alloc, model, verb, words, ledger),
         _ => unreachable!(),
     }
 }
@@ -223,8 +228,8 @@ fn on_forms<N: Exact + Drop, L: Ledger>(
 {
     match verb {
         Verb::Rows => rows(alloc, model, forms, set),
-        Verb::Solve => solve(alloc, model, forms, set, ledger),
-        Verb::Prove => prove(alloc, model, forms, set, ledger),
+        Verb::Solve => solve(alloc, model, forms, set, texts.route, ledger),
+        Verb::Prove => prove(alloc, model, forms, set, texts.route, ledger),
         Verb::Check => {
             let text = texts.certificate.as_slice();
             check_text(alloc, model, forms, set, text, ledger)

@@ -1,5 +1,7 @@
 use Rattle.rob_top.proofs.WorkedBudgets.{a_budget_is_limited, a_budget_is_swept}
+use Rattle.rob_top.proofs.WorkedCells.{a_demand_is_split, a_split_is_written, e_is_no_parameter}
 use Rattle.rob_top.proofs.WorkedCalls.{empty_interval_is_shown, one_demand_is_solved}
+use Rattle.rob_top.proofs.WorkedCuts.{one_demand_is_cut}
 use Rattle.rob_top.proofs.WorkedEmptyCalls.{never_calm_is_shown}
 use Rattle.rob_top.proofs.WorkedSetCalls.{hard_and_soft_is_solved}
 use Rattle.rob_top.proofs.WorkedChecks.{order_11_is_rejected, order_12_is_accepted}
@@ -19,6 +21,7 @@ returns c = record {
   optimal = one_demand_is_solved;
   narrow_spot = one_demand_is_not_wide;
   narrow_status = one_demand_has_status;
+  by_cuts = one_demand_is_cut;
   empty = empty_interval_is_shown;
   narrow_empty = empty_interval_is_not_wide;
   named_set = hard_and_soft_is_solved;
@@ -34,6 +37,9 @@ returns c = record {
   unlimited = no_budget_is_limited;
   swept = a_budget_is_swept;
   limited = a_budget_is_limited;
+  pieces = a_demand_is_split;
+  split = a_split_is_written;
+  uncut = e_is_no_parameter;
   table = two_demands_are_printed;
   wide = order_least_is_wide;
   planless = no_order_is_planless;

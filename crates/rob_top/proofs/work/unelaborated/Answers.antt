@@ -3,9 +3,10 @@ use Rattle.rob_model.specs.View.{robust}
 use Rattle.rob_top.proofs.BranchingLemmas.{names_answer}
 use Rattle.rob_top.proofs.ReplayingLemmas.{replay_answers}
 use Rattle.rob_top.proofs.TreeCheckLemmas.{texts_answers}
-use Rattle.rob_top.proofs.SweepingLemmas.{words_answer_at}
+use Rattle.rob_top.proofs.SweepingLemmas.{words_answer, words_answer_at}
 use Rattle.rob_words.specs.declared.verb.Verb.TheVariants as verbs
 use Rattle.rob_top.specs.Calls.{branches}
+use Rattle.rob_top.specs.Split.{splits}
 use Rattle.rob_top.proofs.work.unelaborated.Goals as goal
 
 pub returns-in-Replay-clause-answers : goal.returns-in-Replay-clause-answers
@@ -50,3 +51,21 @@ returns-in-SweepText-clause-answers g c =
     words_answer_at g.N.Exact.limit (robust g.N.Exact.value c.args.model.now) _ c.args.verb verbs.SweepText c.args.texts.now
     (map string_bytes c.as_slice-words.result.now) c.limit_words.result c.in-SweepText.is (ap (map string_bytes) c.as_slice-words.ensures.value)
     c.limit_words.ensures.answers
+
+pub split_words-requires-clause-splits : goal.split_words-requires-clause-splits
+split_words-requires-clause-splits g c = ap splits c.in-Cells.is
+
+pub returns-in-Cells-clause-answers : goal.returns-in-Cells-clause-answers
+returns-in-Cells-clause-answers g c =
+    words_answer g.N.Exact.limit (robust g.N.Exact.value c.args.model.now) _ c.args.verb c.args.texts.now
+    (map string_bytes c.as_slice-words.result.now) c.split_words.result (ap (map string_bytes) c.as_slice-words.ensures.value)
+    c.split_words.ensures.answers
+
+pub split_words-requires-in-CellText-clause-splits : goal.split_words-requires-in-CellText-clause-splits
+split_words-requires-in-CellText-clause-splits g c = ap splits c.in-CellText.is
+
+pub returns-in-CellText-clause-answers : goal.returns-in-CellText-clause-answers
+returns-in-CellText-clause-answers g c =
+    words_answer g.N.Exact.limit (robust g.N.Exact.value c.args.model.now) _ c.args.verb c.args.texts.now
+    (map string_bytes c.as_slice-words.result.now) c.split_words-in-CellText.result
+    (ap (map string_bytes) c.as_slice-words.ensures.value) c.split_words-in-CellText.ensures.answers

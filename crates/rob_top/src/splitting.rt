@@ -1,0 +1,243 @@
+// The answers of `cells` and `celltext`.
+
+ghost use Rattle.std.specs.Prelude.{◌≡◌, ◌≤◌, ◌<◌, ◌^◌, ◌++◌, [], List as Items, IfOk, MatchOption, OnOk, length, map, pos, string_bytes};
+ghost use Rattle.rob_algebra.specs.Fraction.{of_pair};
+ghost use Rattle.rob_cells.specs.View.{cut_of};
+ghost use Rattle.rob_cert.specs.Shape.{HasShape};
+ghost use Rattle.rob_cert.specs.View.{certificate_of, status_of};
+ghost use Rattle.rob_meaning.specs.Named.{IsNamed};
+ghost use Rattle.rob_model.specs.Valid.{IsValid};
+ghost use Rattle.rob_model.specs.View.{robust};
+ghost use Rattle.rob_pieces.specs.Cuts as pieces;
+ghost use Rattle.rob_pieces.specs.Cuts.{AreCuts};
+ghost use Rattle.rob_report.specs.Report.{report_of};
+ghost use Rattle.rob_top.specs.Calls.{count};
+ghost use Rattle.rob_top.specs.Replies.{Replies};
+ghost use Rattle.rob_top.specs.Split.{AreCutsAt, IsCutAt, IsSplitting, cells_line, signed_value};
+ghost use Rattle.rob_top.specs.SplitWork.{AnswersCutWord, AnswersCuts, RepliesPieces, RepliesSplit};
+ghost use Rattle.rob_top.specs.Work.{AnswersWords, ended_of};
+ghost use Rattle.rob_words.specs.Cuts.{IsCut, IsCutList};
+ghost use Rattle.rob_words.specs.Names.{parts_of};
+
+use crate::ended::Ended;
+use crate::limits::fraction;
+use crate::names::word_of;
+use crate::reply::{Reply, broken_words};
+use crate::solving::{ended_by, stopped};
+use crate::sweeping::{no_line, written};
+use itoa::Buffer;
+use rob_cells::{CellsErr, Cut, cut_model};
+use rob_cert::Cert;
+use rob_dualize::solve_model;
+use rob_model::{Model, find_param};
+use rob_number::{Exact, Ledger, List, Memory, Text};
+use rob_report::report_text;
+use rob_words::{Own, Route, Verb, cut, first_part};
+use std::alloc::Global;
+
+/// The answer for a command's own words, of which one is a list of cuts.
+pub fn split_words<N: Exact + Drop, L: Ledger>(
+    alloc: Global,
+    model: &Model<N>,
+    verb: Verb,
+    words: &[String],
+    ledger: &mut L,
+) -> Result<Reply, Memory>
+    requires valid { IsValid N.value model.now }
+    requires named { IsNamed (robust N.value model.now) }
+    requires splits { IsSplitting verb }
+    ensures answers { IfOk result (AnswersWords N.limit (count (L.wides ledger.old) (L.wides ledger.new))
+        (robust N.value model.now) verb (map string_bytes words.now)) }
+    ensures counted { L.wides ledger.old ≤ L.wides ledger.new }
+{
+    match word_of(Own::Cuts, verb.own(), words) {
+        Some(word) => split_text(alloc, model, verb, word, ledger),
+        None => no_line(alloc),
+    }
+}
+
+/// The answer for a word of cuts.
+fn split_text<N: Exact + Drop, L: Ledger>(
+    alloc: Global,
+    model: &Model<N>,
+    verb: Verb,
+    word: &str,
+    ledger: &mut L,
+) -> Result<Reply, Memory>
+    requires valid { IsValid N.value model.now }
+    requires named { IsNamed (robust N.value model.now) }
+    requires splits { IsSplitting verb }
+    ensures answers { IfOk result (AnswersCutWord N.limit (count (L.wides ledger.old) (L.wides ledger.new))
+        (robust N.value model.now) verb word.now) }
+    ensures counted { L.wides ledger.old ≤ L.wides ledger.new }
+{
+    if !model.sets.items().is_empty() {
+        return broken_words(alloc, Ended::Cells(51), b"cells ", 51);
+    }
+    let found = cuts_of(alloc, model, word, ledger)?;
+    match found {
+        Some(cuts) => at_cuts(alloc, model, verb, cuts.items(), ledger),
+        None => broken_words(alloc, Ended::Cells(52), b"cells ", 52),
+    }
+}
+
+/// The cuts that a word spells, 1 to 3 with `,` between them; `None` where a cut's name is no parameter's.
+fn cuts_of<N: Exact, L: Ledger>(
+    alloc: Global,
+    model: &Model<N>,
+    word: &str,
+    ledger: &mut L,
+) -> Result<Option<List<Cut<N>>>, Memory>
+    requires valid { IsValid N.value model.now }
+    requires named { IsNamed (robust N.value model.now) }
+    ensures cuts { IfOk result (λ found. MatchOption found
+        (IsCutList N.limit word.now
+        → (cuts : Items pieces.Cut) → AreCutsAt (robust N.value model.now) (parts_of word.now) cuts → ⊥)
+        (λ cuts. AreCutsAt (robust N.value model.now) (parts_of word.now) (map (cut_of N.value) cuts)
+        × ((0 < length cuts) × (length cuts ≤ 3)))) }
+    ensures counted { L.wides ledger.old ≤ L.wides ledger.new }
+{
+    let mut cuts = List::new(alloc);
+    let mut rest = Some(word);
+    while let Some(word) = rest {
+        let (first, behind) = first_part(word);
+        if cuts.items().len() == 3 {
+            return Ok(None);
+        }
+        let Some(next) = cut_at(model, first, ledger) else {
+            return Ok(None);
+        };
+        cuts.push(next)?;
+        rest = behind;
+    }
+    Ok(Some(cuts))
+}
+
+/// The cut that a word spells; `None` where its name is no parameter's.
+fn cut_at<N: Exact, L: Ledger>(model: &Model<N>, word: &str, ledger: &mut L) -> Option<Cut<N>>
+    requires valid { IsValid N.value model.now }
+    requires named { IsNamed (robust N.value model.now) }
+    ensures cut { MatchOption result
+        (IsCut N.limit word.now → (cut : pieces.Cut) → IsCutAt (robust N.value model.now) word.now cut → ⊥)
+        (λ cut. IsCutAt (robust N.value model.now) word.now (cut_of N.value cut)) }
+    ensures counted { L.wides ledger.old ≤ L.wides ledger.new }
+{
+    let told = cut(word, N::LIMIT as u64)?;
+    let param = find_param(model, told.name.as_bytes())?;
+    Some(Cut {
+        param,
+        at: level(told.negative, told.numerator, told.denominator, ledger),
+    })
+}
+
+/// The number of these parts, with the other sign where it is negative.
+fn level<N: Exact, L: Ledger>(negative: bool, numerator: u64, denominator: u64, ledger: &mut L) -> N
+    requires numerator { numerator ≤ N.limit }
+    requires denominator { denominator ≤ N.limit }
+    requires positive { 0 < denominator }
+    ensures value { N.value result ≡ signed_value negative (of_pair (pos numerator) denominator) }
+    ensures counted { L.wides ledger.old ≤ L.wides ledger.new }
+{
+    let size: N = fraction(numerator, denominator, ledger);
+    if negative { size.neg() } else { size }
+}
+
+/// The answer for cuts at parameters of a model without named sets.
+fn at_cuts<N: Exact + Drop, L: Ledger>(
+    alloc: Global,
+    model: &Model<N>,
+    verb: Verb,
+    cuts: &[Cut<N>],
+    ledger: &mut L,
+) -> Result<Reply, Memory>
+    requires valid { IsValid N.value model.now }
+    requires some { 0 < length cuts.now }
+    requires few { length cuts.now ≤ 3 }
+    requires cuts { AreCuts (robust N.value model.now) (map (cut_of N.value) cuts.now) }
+    requires splits { IsSplitting verb }
+    ensures answers { IfOk result (AnswersCuts N.limit (count (L.wides ledger.old) (L.wides ledger.new))
+        (robust N.value model.now) verb (map (cut_of N.value) cuts.now)) }
+    ensures counted { L.wides ledger.old ≤ L.wides ledger.new }
+{
+    match cut_model(alloc, model, cuts) {
+        Ok(other) => on_split(alloc, &other, verb, cell_count(cuts), ledger),
+        Err(CellsErr::Rule(rule)) => broken_words(alloc, Ended::Cells(rule), b"cells ", rule),
+        Err(CellsErr::Memory) => Err(Memory),
+    }
+}
+
+/// How many cells 1 to 3 cuts make.
+fn cell_count<N>(cuts: &[Cut<N>]) -> u32
+    requires some { 0 < length cuts.now }
+    requires few { length cuts.now ≤ 3 }
+    ensures cells { result ≡ 2 ^ length cuts.now }
+{
+    match cuts.len() {
+        1 => 2,
+        2 => 4,
+        _ => 8,
+    }
+}
+
+/// The answer for the split model of so many cells.
+fn on_split<N: Exact + Drop, L: Ledger>(
+    alloc: Global,
+    model: &Model<N>,
+    verb: Verb,
+    cells: u32,
+    ledger: &mut L,
+) -> Result<Reply, Memory>
+    requires valid { IsValid N.value model.now }
+    requires splits { IsSplitting verb }
+    ensures replies { IfOk result (RepliesSplit N.limit (count (L.wides ledger.old) (L.wides ledger.new))
+        (robust N.value model.now) cells verb) }
+    ensures counted { L.wides ledger.old ≤ L.wides ledger.new }
+{
+    match verb {
+        Verb::Cells => solved(alloc, model, cells, ledger),
+        Verb::CellText => written(alloc, model),
+        _ => unreachable!(),
+    }
+}
+
+/// The number of cells, and the answer of `solve` for the split model.
+fn solved<N: Exact + Drop, L: Ledger>(
+    alloc: Global,
+    model: &Model<N>,
+    cells: u32,
+    ledger: &mut L,
+) -> Result<Reply, Memory>
+    requires valid { IsValid N.value model.now }
+    ensures pieces { IfOk result (RepliesPieces N.limit (count (L.wides ledger.old) (L.wides ledger.new))
+        (robust N.value model.now) cells) }
+    ensures counted { L.wides ledger.old ≤ L.wides ledger.new }
+{
+    match solve_model(alloc, model, ledger) {
+        Ok(cert) => reported(alloc, model, cells, &cert),
+        Err(stop) => stopped(alloc, model, Route::Dual, stop),
+    }
+}
+
+/// The number of cells, and the report of a certificate.
+fn reported<N: Exact>(
+    alloc: Global,
+    model: &Model<N>,
+    cells: u32,
+    cert: &Cert<N>,
+) -> Result<Reply, Memory>
+    requires valid { IsValid N.value model.now }
+    requires shape { HasShape (robust N.value model.now) (certificate_of N.value cert.now) }
+    ensures report { IfOk result (Replies (ended_of (status_of cert.now.status))
+        (cells_line cells ++ report_of (robust N.value model.now) (certificate_of N.value cert.now))) }
+{
+    let mut text = Text::new(alloc);
+    text.push(b"cells ")?;
+    text.push(Buffer::new().format(cells).as_bytes())?;
+    text.push(b"\n")?;
+    let report = report_text(alloc, model, cert)?;
+    text.push(report.bytes())?;
+    Ok(Reply {
+        ended: ended_by(cert.status),
+        text,
+    })
+}
