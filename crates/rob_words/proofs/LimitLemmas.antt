@@ -1,11 +1,11 @@
 -- The two numbers of a limit.
-use Rattle.std.proofs.Common.{◌≡◌, ◌<◌, ◌≤◌, ◌∙◌, inl, inr, ℕ, zero, suc, Bool, true, false, if◌then◌else◌, length, take, refl, ap, sym, subst, arith}
+use Rattle.std.proofs.Common.{◌≡◌, ◌<◌, ◌≤◌, ◌∙◌, inl, inr, ℕ, zero, suc, true, false, if◌then◌else◌, length, take, refl, ap, sym, subst, arith}
 use Rattle.std.specs.List.{position_or_len}
 use Rattle.std.specs.Prelude.{ltb}
 use Rattle.std.specs.Str.Parse.{digits_value}
 use Rattle.std.proofs.lemmas.Bool.Decides.{nat_tests}
 use Rattle.std.proofs.Math.Seq.{take-length}
-use Rattle.rob_words.specs.Limits.{HasSlash, IsDivisor, IsLimit, IsWhole, above, below, denominator_of, is_slash, numerator_of}
+use Rattle.rob_words.specs.Limits.{HasSlash, IsLimit, above, below, denominator_of, is_slash, numerator_of}
 use Rattle.rob_words.specs.Values.{Word}
 
 -- they are within the greatest number, and the denominator isn't 0

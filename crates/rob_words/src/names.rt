@@ -60,10 +60,12 @@ fn is_word(word: &[u8]) -> bool
 fn go_on(bytes: &[u8]) -> bool
     ensures all { IsTrue result ↔ GoesOn bytes.now }
 {
-    match bytes {
-        [byte, bytes @ ..] => goes_on_word(*byte) && go_on(bytes),
-        [] => true,
+    for byte in bytes {
+        if !goes_on_word(*byte) {
+            return false;
+        }
     }
+    true
 }
 
 // Whether a word begins with the byte.
