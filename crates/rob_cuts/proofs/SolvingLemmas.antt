@@ -2,6 +2,7 @@
 use Rattle.std.proofs.Common.{◌≡◌, ℕ, ◌≤◌, List, [], refl, sym, subst, arith, Result, Ok, Err}
 use Rattle.std.specs.Prelude.{MatchResult, IfOk}
 use Rattle.rob_meaning.specs.Certificates.{Certificate}
+use Rattle.rob_meaning.specs.Places.{Each}
 use Rattle.rob_meaning.specs.RobustModel.{RobustModel}
 use Rattle.rob_meaning.specs.WellFormed.{IsModel}
 use Rattle.rob_model.specs.declared.place.Spot.{Spot}
@@ -21,8 +22,8 @@ use Rattle.rob_runs.proofs.ProgressLemmas.{run_cuts}
 use Rattle.rob_runs.proofs.RunCertificates.{read_off_proves}
 use Rattle.rob_dualize.specs.SetSolving.{HasSetCause, IsWideInSet}
 use Rattle.rob_dualize.specs.Solving.{HasScenario}
-use Rattle.rob_cuts.specs.Rounds.{cuts_told, TellsRun}
-use Rattle.rob_cuts.specs.Solving.{IsSolution, ComesAfterSet, IsWideAt, HasCause}
+use Rattle.rob_cuts.specs.Rounds.{cuts_told, RoundFits, TellsRun}
+use Rattle.rob_cuts.specs.Solving.{IsSolution, ComesAfterSet, IsWideAt, HasCause, StopFits}
 use Rattle.rob_cuts.specs.Stops.{StopsWith, stop_after}
 use Rattle.rob_cuts.specs.Outcomes.{IsEnd, IsOfRound}
 use Rattle.rob_cuts.proofs.RunLemmas.{trace_is}
@@ -55,6 +56,12 @@ set_cause limit m (Wide place trace) h = by place h.0
     }
     by other w = absurd w
 set_cause limit m Memory h = tt
+
+-- it tells no rounds
+pub set_fits : (limit : ℕ) (m : RobustModel) (stop : Stop) → HasSetCause limit m stop → StopFits limit stop
+set_fits limit m (EmptySet weights) h = tt
+set_fits limit m (Wide place trace) h = subst (λ (rounds : List Told). Each (RoundFits limit) rounds) (sym h.1) tt
+set_fits limit m Memory h = tt
 
 -- ---- rounds
 after_set : (m : RobustModel) (trace : List Round) (spot : RunSpot) → IsOfRound spot → HasScenario m → ComesAfterSet m trace spot
@@ -93,6 +100,12 @@ module _ (m : RobustModel) (rounds : List Told) (t : TellsRun m rounds) where
         shape = e.shape;
         inside = e.inside;
       }
+
+-- the rounds behind a stop fit, as those before it do
+pub fits_after : (limit : ℕ) (stop : Stop) (rounds : List Told) → Each (RoundFits limit) rounds → StopFits limit (stop_after stop rounds)
+fits_after limit (EmptySet weights) rounds h = tt
+fits_after limit (Wide place trace) rounds h = h
+fits_after limit Memory rounds h = tt
 
 pub counts_after : (before now : ℕ) (stop : Stop) (rounds : List Told) → CountsStop before now stop → CountsStop before now (stop_after stop rounds)
 counts_after before now (EmptySet weights) rounds h = h

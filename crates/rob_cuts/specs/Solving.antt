@@ -4,6 +4,7 @@
 use Rattle.std.specs.Prelude.{◌≡◌, ℕ, List, [], map, ⊤}
 use Rattle.rob_algebra.specs.Fraction.{of_int}
 use Rattle.rob_meaning.specs.Certificates.{Certificate}
+use Rattle.rob_meaning.specs.Places.{Each}
 use Rattle.rob_meaning.specs.Proves.{Proves}
 use Rattle.rob_meaning.specs.RobustModel.{RobustModel}
 use Rattle.rob_meaning.specs.WellFormed.{IsModel}
@@ -20,7 +21,7 @@ use Rattle.rob_runs.specs.Readings.{IsReadOff}
 use Rattle.rob_runs.specs.Runs.{Round, IsRun, trace_cuts, IsFinished}
 use Rattle.rob_runs.specs.Spots.{RunSpot, set_row, IsWideInRun}
 use Rattle.rob_cuts.specs.Places.{spot_told}
-use Rattle.rob_cuts.specs.Rounds.{round_told}
+use Rattle.rob_cuts.specs.Rounds.{round_told, RoundFits}
 
 -- the forms and the set rows are those of one well formed model, which is not told
 pub record AreOfModel (limit : ℕ) (forms : Forms) (set : SetForm) : Type 0 where
@@ -58,3 +59,9 @@ abbrev pub HasCause : ℕ → RobustModel → Stop → Type 0
 HasCause limit m (EmptySet weights) = IsShownEmpty m (map of_int weights)
 HasCause limit m (Wide place trace) = IsWideAt limit m place trace.rounds
 HasCause limit m Memory = ⊤
+
+-- no number of the rounds that are told before a wide number is over the limit
+abbrev pub StopFits : ℕ → Stop → Type 0
+StopFits limit (EmptySet weights) = ⊤
+StopFits limit (Wide place trace) = Each (RoundFits limit) trace.rounds
+StopFits limit Memory = ⊤

@@ -1,6 +1,7 @@
 // The route: rounds until the run is finished.
 
 ghost use Rattle.std.specs.Prelude.{◌≡◌, ◌≤◌, ◌<◌, ◌^◌, ◌++◌, ◌∷◌, [], ℕ, length, IfOk, IfErr, MatchResult};
+ghost use Rattle.rob_meaning.specs.Places.{Each};
 ghost use Rattle.rob_meaning.specs.RobustModel.{RobustModel};
 ghost use Rattle.rob_meaning.specs.WellFormed.{IsModel};
 ghost use Rattle.rob_number.specs.Counts.{NeverFell};
@@ -11,9 +12,9 @@ ghost use Rattle.rob_dualize.specs.Solving.{CountsStop};
 ghost use Rattle.rob_dualize.specs.Wholes.{counterpart_of, IsFew, AreSound};
 ghost use Rattle.rob_rows.specs.LinearPrograms.{HasNumbersWithin};
 ghost use Rattle.rob_cuts.specs.Master.{IsMasterList, AddsCut};
-ghost use Rattle.rob_cuts.specs.Rounds.{cut_of, CutFits};
+ghost use Rattle.rob_cuts.specs.Rounds.{cut_of, CutFits, RoundFits};
 ghost use Rattle.rob_cuts.specs.Stops.{StopsWith, IsInSum, stop_after};
-ghost use Rattle.rob_cuts.specs.Solving.{AreOfModel, IsSolution, HasCause};
+ghost use Rattle.rob_cuts.specs.Solving.{AreOfModel, IsSolution, HasCause, StopFits};
 
 use crate::master::{append_cut, without_cuts};
 use crate::round::{Outcome, next_round};
@@ -47,6 +48,8 @@ pub fn solve_cuts<N: Exact, L: Ledger>(
         → IsSolution m (certificate_of N.value answer.0) answer.1.rounds) }
     ensures stopped { IfErr result (λ stop. (m : RobustModel) → IsModel m → IsForms m forms.now → IsSetForm m set.now
         → HasCause N.limit m stop) }
+    // No number of a told round is over the limit.
+    ensures fits { MatchResult result (λ answer. Each (RoundFits N.limit) answer.1.rounds) (StopFits N.limit) }
     ensures wides { MatchResult result (λ _. L.wides ledger.new ≡ L.wides ledger.old)
         (CountsStop (L.wides ledger.old) (L.wides ledger.new)) }
     ensures counted { NeverFell L.ops L.wides ledger.old ledger.new }

@@ -8,12 +8,12 @@ use Rattle.rob_cert.specs.declared.ending.Stop.{Stop}
 use Rattle.rob_dualize.specs.Solving.{CountsStop}
 use Rattle.rob_dualize.proofs.Soundness.{forms_sound, elaborated_weaker}
 use Rattle.rob_cuts.specs.Outcomes.{IsOutcome, IsNext}
-use Rattle.rob_cuts.specs.Solving.{HasCause}
+use Rattle.rob_cuts.specs.Solving.{HasCause, StopFits}
 use Rattle.rob_cuts.specs.Stops.{stop_after}
 use Rattle.rob_cuts.specs.declared.round.Outcome.{Outcome}
 use Rattle.rob_dualize.proofs.MakingLemmas.{set_of_few, set_of_one}
 use Rattle.rob_cuts.proofs.RouteLemmas.{state_none, state_more, rounds_left, few_columns, next_form_in, next_fits, next_alone}
-use Rattle.rob_cuts.proofs.SolvingLemmas.{set_cause, cause_is, solution_is, counts_after, counts_rise}
+use Rattle.rob_cuts.proofs.SolvingLemmas.{set_cause, set_fits, cause_is, fits_after, solution_is, counts_after, counts_rise}
 use Rattle.rob_cuts.proofs.StopLemmas.{stops_also, sum_place}
 use Rattle.rob_cuts.proofs.route.solve_cuts.Goals as goal
 
@@ -25,6 +25,11 @@ new-requires g c = record {
 
 pub returns-in-Err-clause-stopped : goal.returns-in-Err-clause-stopped
 returns-in-Err-clause-stopped g c = λ m model f st. set_cause g.N.Exact.limit m c.in-Err.stop (c.in-Err.ensures.answer m model st)
+
+pub returns-in-Err-clause-fits : goal.returns-in-Err-clause-fits
+returns-in-Err-clause-fits g c =
+    let e = c.requires.model.elaborated in
+    set_fits g.N.Exact.limit e.model c.in-Err.stop (c.in-Err.ensures.answer e.model c.requires.model.is_model e.is_set)
 
 pub rounds-init : goal.rounds-init
 rounds-init g c = record {
@@ -87,6 +92,9 @@ returns-in-Ok-End-clause-solved g c = λ m model f st.
     solution_is m c.rounds.run.rounds (c.rounds.invariant.state.tells m model f st) model (certificate_of g.N.Exact.value c.in-Ok-End.cert)
     (subst (λ (o : Outcome g.row.N.Denot). IsOutcome g.N.Exact.value g.N.Exact.limit m c.rounds.run.rounds o) c.in-Ok-End.field-0-is (c.in-Ok-End.ensures.outcome m model f st))
 
+pub returns-in-Ok-End-clause-fits : goal.returns-in-Ok-End-clause-fits
+returns-in-Ok-End-clause-fits g c = c.rounds.invariant.state.fits
+
 pub returns-in-Ok-End-clause-wides : goal.returns-in-Ok-End-clause-wides
 returns-in-Ok-End-clause-wides g c = c.in-Ok-End.ensures.wides ∙ c.rounds.invariant.wides
 
@@ -97,6 +105,11 @@ returns-in-Err-go_on-clause-stopped g c = λ m model f st.
     subst (HasCause g.N.Exact.limit m) (sym (c.after.ensures.stop ∙ ap (stop_after c.in-Err-go_on.stop) c.in-Err-go_on.ensures.unchanged))
     (cause_is m c.rounds.run.rounds (c.rounds.invariant.state.tells m model f st) g.N.Exact.limit c.in-Err-go_on.stop (c.in-Ok.ensures.answer m model st)
     (stops_also _ _ (sum_place g.N.Exact.limit m c.args.forms.now f c.rounds.run.rounds c.in-Ok-Cut.round next) c.in-Err-go_on.stop c.in-Err-go_on.ensures.stopped))
+
+pub returns-in-Err-go_on-clause-fits : goal.returns-in-Err-go_on-clause-fits
+returns-in-Err-go_on-clause-fits g c =
+    subst (StopFits g.N.Exact.limit) (sym (c.after.ensures.stop ∙ ap (stop_after c.in-Err-go_on.stop) c.in-Err-go_on.ensures.unchanged))
+    (fits_after g.N.Exact.limit c.in-Err-go_on.stop c.rounds.run.rounds c.rounds.invariant.state.fits)
 
 pub returns-in-Err-go_on-clause-wides : goal.returns-in-Err-go_on-clause-wides
 returns-in-Err-go_on-clause-wides g c =
@@ -122,6 +135,11 @@ returns-in-Err-next_round-clause-stopped g c = λ m model f st.
     subst (HasCause g.N.Exact.limit m) (sym c.after-in-Err-next_round.ensures.stop)
     (cause_is m c.rounds.run.rounds (c.rounds.invariant.state.tells m model f st) g.N.Exact.limit c.in-Err-next_round.stop (c.in-Ok.ensures.answer m model st)
     (c.in-Err-next_round.ensures.outcome m model f st))
+
+pub returns-in-Err-next_round-clause-fits : goal.returns-in-Err-next_round-clause-fits
+returns-in-Err-next_round-clause-fits g c =
+    subst (StopFits g.N.Exact.limit) (sym c.after-in-Err-next_round.ensures.stop)
+    (fits_after g.N.Exact.limit c.in-Err-next_round.stop c.rounds.run.rounds c.rounds.invariant.state.fits)
 
 pub returns-in-Err-next_round-clause-wides : goal.returns-in-Err-next_round-clause-wides
 returns-in-Err-next_round-clause-wides g c =
