@@ -3,7 +3,7 @@ use Rattle.std.specs.Fmt.{decimal}
 use Rattle.std.specs.Prelude.{List, ◌++◌, ℕ, map, flat_map, codes, if◌then◌else◌}
 use Rattle.rob_algebra.specs.Fraction.{Fraction}
 use Rattle.rob_cert.specs.Spelling.{number_text}
-use Rattle.rob_meaning.specs.Names.{Name, Parts, bound_parts, joined}
+use Rattle.rob_meaning.specs.Names.{Name, bound_parts, joined}
 use Rattle.rob_meaning.specs.RobustModel.{AdaptiveVariable, RobustModel, Row}
 use Rattle.rob_replay.specs.Lines.{Line, Values}
 use Rattle.rob_report.specs.Lines.{for_pairs, line}

@@ -19,8 +19,8 @@ mod worst;
 
 pub use empty_set::empty_set_text;
 pub use narrow::{put_bound, put_narrow};
-pub use places::place_text;
-pub use report::report_text;
+pub use places::{place_text, put_place};
+pub use report::{put_report, report_text};
 pub use rounds::put_rounds;
 pub use rows::rows_text;
 pub use spots::spot_text;

@@ -32,8 +32,8 @@ pub fn report_text<N: Exact>(
     Ok(text)
 }
 
-/// Appends the lines of the report.
-fn put_report<N: Exact>(model: &Model<N>, cert: &Cert<N>, out: &mut Text) -> Result<(), Memory>
+/// Appends the lines of the report; `report_text` says which they are.
+pub fn put_report<N: Exact>(model: &Model<N>, cert: &Cert<N>, out: &mut Text) -> Result<(), Memory>
     requires valid { IsValid N.value model.now }
     requires shape { HasShape (robust N.value model.now) (certificate_of N.value cert.now) }
     ensures appended { OnOk result (out.new

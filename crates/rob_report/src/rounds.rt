@@ -7,7 +7,7 @@ ghost use Rattle.rob_model.specs.View.{parameter_of, robust};
 ghost use Rattle.rob_report.specs.Rounds.{IsRoundOf, column_words, cut_words, entries_words, entry_words, kind_words, master_words, round_line, round_words, rounds_text, via_words};
 
 use crate::names::put_form;
-use crate::spots::put_basis;
+use crate::spots::{put_basis, put_count};
 use itoa::Buffer;
 use rob_cert::Round;
 use rob_model::{Model, Param};
@@ -142,9 +142,8 @@ fn put_column(column: Option<u32>, out: &mut Text) -> Result<(), Memory>
 {
     match column {
         Some(column) => {
-            let mut buffer = Buffer::new();
             out.push(b" column ")?;
-            out.push(buffer.format(column).as_bytes())
+            put_count(column, out)
         }
         None => Ok(()),
     }

@@ -65,7 +65,7 @@ fn put_spot<N: Exact>(model: &Model<N>, spot: &Spot, out: &mut Text) -> Result<(
 }
 
 /// Appends a number in decimal digits.
-fn put_count(number: u32, out: &mut Text) -> Result<(), Memory>
+pub(crate) fn put_count(number: u32, out: &mut Text) -> Result<(), Memory>
     ensures appended { OnOk result (out.new ≡ out.old ++ decimal number) }
 {
     let mut buffer = Buffer::new();

@@ -1,4 +1,4 @@
-use Rattle.std.proofs.Common.{◌≡◌, ◌∙◌, ◌+◌, ℤ, [], ◌∷◌, arith, drop, length, length-append, rules, ap, ◌++◌}
+use Rattle.std.proofs.Common.{◌≡◌, ◌∙◌, ℤ, [], ◌∷◌, arith, drop, length, length-append, rules, ap, ◌++◌}
 use Rattle.std.proofs.lemmas.Slice.Zip.{zip_end, zip_turn}
 use Rattle.std.specs.Iterator.Adapters.{zip_first, zip_second}
 use Rattle.std.specs.Slice.Iter.{iter_rest}
