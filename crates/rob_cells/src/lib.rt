@@ -17,3 +17,4 @@ mod split;
 pub use cut::Cut;
 pub use cutting::cut_model;
 pub use error::CellsErr;
+pub use split::cell_count;

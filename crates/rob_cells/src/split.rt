@@ -34,7 +34,7 @@ pub fn split<N: Exact>(alloc: Global, model: &Model<N>, cuts: &[Cut<N>]) -> Resu
     Ok(split)
 }
 
-/// The number of cells.
+/// The number of cells that at most 3 cuts make: 1, 2, 4 or 8.
 pub fn cell_count<N: Exact>(cuts: &[Cut<N>]) -> u32
     requires three { length cuts.now ≤ 3 }
     ensures count { result ≡ count_of_cells (map (cut_of N.value) cuts.now) }
