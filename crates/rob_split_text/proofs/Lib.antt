@@ -1,0 +1,7 @@
+pub mod WrittenSplits
+pub mod FormedSplits
+pub mod ReadableSplits
+pub mod SpelledSplits
+pub mod ShallowSplits
+pub mod FewTokens
+pub mod SplitReading
