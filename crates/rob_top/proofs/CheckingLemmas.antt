@@ -37,6 +37,7 @@ use Rattle.rob_number.specs.declared.memory.Memory.{Memory as Want}
 use Rattle.rob_report.specs.Places.{IsPlaceOf}
 use Rattle.rob_report.specs.Spots.{rejected_line, too_wide_line}
 use Rattle.rob_sets.proofs.SubexpressionLemmas.{each_both}
+use Rattle.rob_top.proofs.DefaultRoutes.{told_alone}
 use Rattle.rob_top.specs.Answers.{accepted_text, certificate_text}
 use Rattle.rob_top.specs.Calls.{Call, Count, HasFile, count, limit_of}
 use Rattle.rob_top.specs.Headline.{Means}
@@ -52,6 +53,7 @@ use Rattle.rob_top.proofs.OwnLemmas.{file_came, has_kind}
 use Rattle.rob_top.proofs.WorkLemmas.{call_of_verb, call_within, rose_earlier}
 use Rattle.rob_words.specs.Commands.{Line}
 use Rattle.rob_words.specs.Verbs.{own_of}
+use Rattle.rob_words.specs.Verbs.{takes_route}
 use Rattle.rob_words.specs.declared.verb.Own.TheVariants as own
 use Rattle.rob_words.specs.declared.verb.Verb.{Verb}
 use Rattle.rob_words.specs.declared.verb.Verb.TheVariants.{Check}
@@ -260,5 +262,5 @@ module _ (limit : ℕ) (m : RobustModel) where
           m = m;
           wide = checking c place read refl (verdict_is call line (verdicts.TooWide place) at.limit_is e);
           raised = at.raised rose;
-          printed = said.1;
+          printed = told_alone call line m read.file.forms.model (ap takes_route at.verb_is) reply.text (too_wide_line m (spot.Check place)) said.1;
         }))

@@ -8,7 +8,7 @@ use Rattle.rob_cert.specs.Reading.{start}
 use Rattle.rob_cert.specs.Spelling.{naming_of}
 use Rattle.rob_cert.specs.declared.error.CertErr.TheVariants.{Rule}
 use Rattle.rob_check.specs.Conditions.{verdict_of}
-use Rattle.rob_dualize.specs.Solving.{HasScenario, IsShownEmpty}
+use Rattle.rob_dualize.specs.Solving.{IsShownEmpty}
 use Rattle.rob_elab.specs.Forms.{judged_forms}
 use Rattle.rob_meaning.specs.Certificates.{Certificate, Status, optimal, infeasible, unbounded}
 use Rattle.rob_meaning.specs.Places.{0ℚ}
@@ -44,7 +44,7 @@ use Rattle.rob_top.specs.Refused.{IsNoCertificate, IsTooWideOnWay, IsWideSpot, c
 use Rattle.rob_top.specs.Narrowed.{IsNarrowed}
 use Rattle.rob_top.specs.Replayed.{IsNoPlan, IsNoScenarios, IsReplayed, LacksPlan, replay_ended}
 use Rattle.rob_top.specs.Routes.{IsWideOnWay}
-use Rattle.rob_top.specs.Searched.{GivesNoPlan, IsEmptySought, IsNoPlanSought, IsNoRow, IsSearched, IsWideSought, NamesNoForm, ShowsWorst, attained, certificate_vector, claims_none, endless, misread}
+use Rattle.rob_top.specs.Searched.{GivesNoPlan, IsEmptySought, IsNoPlanSought, IsNoRow, IsSearched, IsWideSought, NamesNoForm, ShowsWorst, certificate_vector, claims_none, misread}
 use Rattle.rob_top.specs.Solved.{IsEmptySet as IsShownEmptySet, IsRows, IsSolved}
 use Rattle.rob_top.specs.TreeChecked.{IsNoTree, IsTreeAccepted, IsTreeRejected, IsWideLeaf}
 use Rattle.rob_top.specs.Split.{IsSplitting}

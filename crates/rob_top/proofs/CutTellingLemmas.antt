@@ -3,12 +3,11 @@ use Rattle.std.proofs.Common.{pos, ◌≡◌, ◌≤◌, ◌<◌, ◌==◌, ◌+
 use Rattle.std.proofs.lemmas.Bool.{cases_Bool}
 use Rattle.std.proofs.lemmas.List.{append-nil, length-append, length-map, map-append}
 use Rattle.std.proofs.lemmas.Option.{get_or_from_slice_get, slice_get-get_or, slice_get_within}
-use Rattle.std.specs.Prelude.{◌↔◌, MatchOption, slice_get}
+use Rattle.std.specs.Prelude.{MatchOption, slice_get}
 use Rattle.rob_algebra.specs.Fraction.{of_pair}
 use Rattle.rob_cert.proofs.CoverLemmas.{one_number}
 use Rattle.rob_cert.specs.Spelling.{name_at}
 use Rattle.rob_meaning.specs.Named.{IsNamed, parameter_names}
-use Rattle.rob_meaning.specs.Places.{Each}
 use Rattle.rob_meaning.specs.RobustModel.{Parameter, RobustModel}
 use Rattle.rob_meaning.specs.WellFormed.{IsModel}
 use Rattle.rob_model.proofs.OwnNames.{parameters_distinct}

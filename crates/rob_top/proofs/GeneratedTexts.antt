@@ -14,7 +14,7 @@ use Rattle.rob_meaning.specs.Named.{HasDistinctMembers, declared_names}
 use Rattle.rob_meaning.specs.Names.{Name}
 use Rattle.rob_meaning.specs.Places.{Each}
 use Rattle.rob_meaning.specs.RobustModel as model
-use Rattle.rob_meaning.specs.RobustModel.{AdaptiveVariable, Member, Row, RobustModel, SetLine, Variable, line, budget, set_count}
+use Rattle.rob_meaning.specs.RobustModel.{AdaptiveVariable, Member, Row, RobustModel, SetLine, Variable, line, budget}
 use Rattle.rob_meaning.specs.WellFormed.{IsModel}
 use Rattle.rob_parse.specs.Modelled.{ReadsModel}
 use Rattle.rob_round_trip.proofs.Canonical.CanonicalReading.{canonical_reads}

@@ -35,6 +35,7 @@ module _ (call : Call) (known : Known call.source) where
     found = h.found;
     shape = h.shape;
     fits = h.fits;
+    rounds_fit = h.rounds_fit;
     printed = h.printed;
   }
 
@@ -295,6 +296,7 @@ module _ (call : Call) (known : Known call.source) where
     solves = h.solves;
     wide = h.wide;
     raised = h.raised;
+    rounds_fit = h.rounds_fit;
     printed = h.printed;
   })
   means_known (Cert rule number) text (not_checked h) = not_checked (record {

@@ -1,13 +1,11 @@
 -- The answer of `narrow`, and the answers of `solve` and `prove` for a narrow model.
-use Rattle.std.proofs.Common.{◌≡◌, ◌≢◌, pos, ◌&&◌, ◌↔◌, ◌⊎◌, ℕ, ◌++◌, Bool, true, false, List, Option, Some, None, Result, Ok, Err, IfOk, codes, inl, inr, refl, sym, ◌∙◌, ap, ap₂, subst}
+use Rattle.std.proofs.Common.{◌≡◌, ◌≢◌, pos, ◌&&◌, ◌↔◌, ◌⊎◌, ℕ, ◌++◌, Bool, true, false, List, Option, Some, None, Result, Ok, Err, IfOk, codes, inl, inr, refl, sym, ◌∙◌, ap₂, subst}
 use Rattle.std.specs.Prelude.{is_some}
 use Rattle.rob_algebra.specs.Fraction.{Fraction, of_int}
-use Rattle.rob_bounds.specs.Bounds.{row_bound}
 use Rattle.rob_counterpart.proofs.CompletenessLemmas.{some_status}
-use Rattle.rob_counterpart.specs.Counterpart.{set_program, counterpart}
 use Rattle.rob_dualize.proofs.SolvingLemmas.{narrow_spot}
 use Rattle.rob_dualize.specs.RowBounds.{AreBothWithin, TellsBounds}
-use Rattle.rob_dualize.specs.Solving.{IsNarrowModel, IsWideOnPath}
+use Rattle.rob_dualize.specs.Solving.{IsNarrowModel}
 use Rattle.rob_dualize.specs.declared.bounds.ModelBounds.{ModelBounds}
 use Rattle.rob_elab.specs.Forms.{IsForms}
 use Rattle.rob_elab.specs.declared.forms.Forms.{Forms}
@@ -17,21 +15,21 @@ use Rattle.rob_meaning.specs.Certificates.{Status, optimal, infeasible, unbounde
 use Rattle.rob_meaning.specs.Proves.{HasStatus}
 use Rattle.rob_meaning.specs.Status.{IsOptimal, IsInfeasible, IsUnbounded}
 use Rattle.rob_meaning.specs.RobustModel.{RobustModel}
-use Rattle.rob_meaning.specs.UncertaintySet.{Admits, IsEmptySet}
+use Rattle.rob_meaning.specs.UncertaintySet.{Admits}
 use Rattle.rob_meaning.specs.WellFormed.{IsModel}
 use Rattle.rob_model.specs.declared.place.Program.TheVariants as program
 use Rattle.rob_model.specs.declared.place.Spot.{Spot}
 use Rattle.rob_model.specs.declared.place.Spot.TheVariants.{Dictionary}
 use Rattle.rob_number.specs.declared.memory.Memory.{Memory as Want}
 use Rattle.rob_report.specs.NarrowText.{bound_line, narrow_line}
-use Rattle.rob_top.proofs.CommandLemmas.{narrow_no_branch, narrow_no_sweep, narrow_not_check, narrow_not_replay, narrow_not_rows, narrow_not_tree, narrow_not_worst, solves_no_narrow, narrow_no_split}
+use Rattle.rob_top.proofs.CommandLemmas.{narrow_no_branch, narrow_no_sweep, narrow_not_check, narrow_not_replay, narrow_not_tree, narrow_not_worst, solves_no_narrow, narrow_no_split}
 use Rattle.rob_top.proofs.CourseLemmas.{Course, bounds, branching, checking_tree, finds, judges, lacks_plan, prints, refuses, replays, searches, shows_empty, sweeping, wide_number, wide_row, splitting}
 use Rattle.rob_top.proofs.TrueAnswerLemmas.{course_of, first_of_two, lacking_verb, no_first}
-use Rattle.rob_top.specs.Calls.{Call, Count, Known, IsSolving, limit_of}
+use Rattle.rob_top.specs.Calls.{Call, Count, Known}
 use Rattle.rob_top.specs.Endings.{IsEmptyAnswer, IsShownAnswer, IsSolveAnswer}
 use Rattle.rob_top.specs.Headline.{Means}
 use Rattle.rob_top.specs.Inputs.{HasForms}
-use Rattle.rob_top.specs.Narrowed.{RepliesNarrow, TellsNarrow, bound_at, bounds_text, program_line}
+use Rattle.rob_top.specs.Narrowed.{RepliesNarrow, TellsNarrow, bounds_text}
 use Rattle.rob_top.specs.Work.{AnswersWhole}
 use Rattle.rob_top.specs.Ways.{narrowed}
 use Rattle.rob_top.specs.declared.ended.Ended.{Ended}

@@ -8,7 +8,6 @@ use Rattle.rob_meaning.specs.Certificates.{Status}
 use Rattle.rob_meaning.specs.Proves.{HasStatus}
 use Rattle.rob_meaning.specs.UncertaintySet.{Admits, IsEmptySet}
 use Rattle.rob_model.specs.declared.place.Spot.{Spot}
-use Rattle.rob_meaning.specs.RobustModel.{RobustModel}
 use Rattle.rob_report.specs.NarrowText.{narrow_line}
 use Rattle.rob_sets.specs.FirstWide.{NothingWide}
 use Rattle.rob_sets.specs.SetForm.{judged_set}
@@ -16,7 +15,7 @@ use Rattle.rob_top.specs.Calls.{Call, IsSolving, Known, known_call, limit_of}
 use Rattle.rob_top.specs.Completeness.{MustEnd}
 use Rattle.rob_top.specs.Endings.{EndsAs, IsShownAnswer}
 use Rattle.rob_top.specs.Inputs.{HasForms, HasModel}
-use Rattle.rob_top.specs.Narrowed.{IsNarrowed, TellsNarrow, program_line}
+use Rattle.rob_top.specs.Narrowed.{IsNarrowed, program_line}
 use Rattle.rob_top.specs.Work.{ended_of}
 use Rattle.rob_top.specs.declared.ended.Ended.{Ended}
 use Rattle.rob_top.specs.declared.ended.Ended.TheVariants.{TooWide}

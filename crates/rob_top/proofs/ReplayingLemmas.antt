@@ -24,6 +24,7 @@ use Rattle.rob_replay.specs.Replayed.{IsTable, ShowsBound}
 use Rattle.rob_replay.specs.View.{Gives}
 use Rattle.rob_report.specs.Spots.{too_wide_line}
 use Rattle.rob_report.specs.Tables.{table_of}
+use Rattle.rob_top.proofs.DefaultRoutes.{told_alone}
 use Rattle.rob_top.specs.Answers.{certificate_text, scenarios_text}
 use Rattle.rob_top.specs.Calls.{Count, HasFile, count}
 use Rattle.rob_top.specs.Headline.{Means}
@@ -39,6 +40,7 @@ use Rattle.rob_top.specs.declared.reply.Reply.{Reply}
 use Rattle.rob_top.proofs.OwnLemmas.{file_came, has_kind}
 use Rattle.rob_top.proofs.WorkLemmas.{call_of_verb, call_within, rose_earlier}
 use Rattle.rob_words.specs.Verbs.{own_of}
+use Rattle.rob_words.specs.Verbs.{takes_route}
 use Rattle.rob_words.specs.declared.verb.Own.{Own}
 use Rattle.rob_words.specs.declared.verb.Own.TheVariants as own
 use Rattle.rob_words.specs.declared.verb.Verb.{Verb}
@@ -104,7 +106,7 @@ module _ (limit : ℕ) (m : RobustModel) where
           m = m;
           wide = replaying c text number has refl (subst (λ (l : ℕ). Gives (outcome l m c.plan) text (Err (is_wide number))) (sym at.limit_is) gives);
           raised = at.raised rose;
-          printed = is.1;
+          printed = told_alone call line m has.certificate.file.model (ap takes_route at.verb_is) reply.text (too_wide_line m (spot.Replay number)) is.1;
         }))
 
     -- ---- a certificate, with a plan or without one

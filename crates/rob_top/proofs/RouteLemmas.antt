@@ -11,7 +11,7 @@ use Rattle.rob_cert.specs.declared.ending.Stop.TheVariants as stop
 use Rattle.rob_cert.specs.declared.trace.Round.{Round}
 use Rattle.rob_cert.specs.declared.trace.Trace.{Trace}
 use Rattle.rob_cuts.specs.Places.{spot_told}
-use Rattle.rob_cuts.specs.Rounds.{round_told}
+use Rattle.rob_cuts.specs.Rounds.{RoundFits, round_told}
 use Rattle.rob_cuts.specs.Solving as cuts
 use Rattle.rob_dualize.specs.Solving as dual
 use Rattle.rob_elab.specs.Forms.{IsForms}
@@ -60,7 +60,7 @@ module _ (m : RobustModel) where
 
   -- ---- what was found
   found_rounds : (way : Route) (c : Certificate) (told : List Round) → IsFoundBy way m c told → All (IsRoundOf m) told
-  found_rounds Dual c told h = no_rounds told h.1
+  found_rounds Dual c told h = no_rounds told h.2
   found_rounds Cuts c told h = run_named told h.trace h.run h.rounds
 
   pub rounds_of_found : (way : Route) (c : Certificate) (told : List Round) → IsFound way m c told → All (IsRoundOf m) told
@@ -144,17 +144,26 @@ module _ (m : RobustModel) where
 
 -- ---- the two routes
 module _ {N : Type 0} (value : N → Fraction) (limit : ℕ) (m : RobustModel) (before now : ℕ) where
-  -- by the counterpart
+  -- by the counterpart, whose rounds fit as there are none
+  none_fit : (told : List Round) → told ≡ [] → Each (RoundFits limit) told
+  none_fit told none = subst (λ (rounds : List Round). Each (RoundFits limit) rounds) (sym none) tt
+
   pub dual_found : (way : Route) → way ≡ Dual → (cert : Cert N) (trace : Trace) (r : Result (Cert N) Stop) → r ≡ Ok cert → trace.rounds ≡ []
       → dual.Solves value limit m before now r → SolvesBy way value limit m before now (Ok (cert, trace))
   dual_found way by cert trace r is none h =
       let here : dual.Solves value limit m before now (Ok cert) = subst (λ (x : Result (Cert N) Stop). dual.Solves value limit m before now x) is h in
       subst (λ (w : Route). SolvesBy w value limit m before now (Ok (cert, trace))) (sym by)
       (record {
-        found = record { proves = here.solved.proves; shape = here.solved.shape; found = (here.solved.read, none) };
+        found = record { proves = here.solved.proves; shape = here.solved.shape; found = (here.solved.read, here.solved.inside, none) };
         stopped = tt;
+        fits = none_fit trace.rounds none;
         counted = here.counted;
       })
+
+  dual_fits : (s : Stop) → dual.HasCause limit m s → cuts.StopFits limit s
+  dual_fits (stop.EmptySet weights) h = tt
+  dual_fits (stop.Wide place trace) h = none_fit trace.rounds h.1
+  dual_fits stop.Memory h = tt
 
   dual_cause : (s : Stop) → dual.HasCause limit m s → HasStopCause Dual limit m s
   dual_cause (stop.EmptySet weights) h = h
@@ -166,7 +175,7 @@ module _ {N : Type 0} (value : N → Fraction) (limit : ℕ) (m : RobustModel) (
   dual_stopped way by s r is h =
       let here : dual.Solves value limit m before now (Err s) = subst (λ (x : Result (Cert N) Stop). dual.Solves value limit m before now x) is h in
       subst (λ (w : Route). SolvesBy w value limit m before now (Err s)) (sym by)
-      (record { found = tt; stopped = dual_cause s here.stopped; counted = here.counted })
+      (record { found = tt; stopped = dual_cause s here.stopped; fits = dual_fits s here.stopped; counted = here.counted })
 
   cuts_cause : (s : Stop) → cuts.HasCause limit m s → HasStopCause Cuts limit m s
   cuts_cause (stop.EmptySet weights) h = h
@@ -174,22 +183,25 @@ module _ {N : Type 0} (value : N → Fraction) (limit : ℕ) (m : RobustModel) (
   cuts_cause stop.Memory h = tt
 
   -- by cutting planes
+  abbrev RoundsFit : Result (Cert N × Trace) Stop → Type 0
+  RoundsFit r = MatchResult r (λ answer. Each (RoundFits limit) answer.1.rounds) (cuts.StopFits limit)
+
   cuts_answers_so : (all : Forms) (set : SetForm) (r : Result (Cert N × Trace) Stop) → IsModel m → IsForms m all → IsSetForm m set
       → IfOk r (λ answer. (k : RobustModel) → IsModel k → IsForms k all → IsSetForm k set
       → cuts.IsSolution k (certificate_of value answer.0) answer.1.rounds)
       → IfErr r (λ s. (k : RobustModel) → IsModel k → IsForms k all → IsSetForm k set → cuts.HasCause limit k s)
-      → MatchResult r (λ _. now ≡ before) (dual.CountsStop before now) → SolvesBy Cuts value limit m before now r
-  cuts_answers_so all set (Ok answer) model f g h none counted =
+      → RoundsFit r → MatchResult r (λ _. now ≡ before) (dual.CountsStop before now) → SolvesBy Cuts value limit m before now r
+  cuts_answers_so all set (Ok answer) model f g h none fits counted =
       let found = h m model f g in
-      record { found = record { proves = found.proves; shape = found.shape; found = found }; stopped = tt; counted = counted }
-  cuts_answers_so all set (Err s) model f g none h counted =
-      record { found = tt; stopped = cuts_cause s (h m model f g); counted = counted }
+      record { found = record { proves = found.proves; shape = found.shape; found = found }; stopped = tt; fits = fits; counted = counted }
+  cuts_answers_so all set (Err s) model f g none h fits counted =
+      record { found = tt; stopped = cuts_cause s (h m model f g); fits = fits; counted = counted }
 
   pub cuts_answers : (way : Route) → way ≡ Cuts → (all : Forms) (set : SetForm) (r : Result (Cert N × Trace) Stop)
       → IsModel m → IsForms m all → IsSetForm m set
       → IfOk r (λ answer. (k : RobustModel) → IsModel k → IsForms k all → IsSetForm k set
       → cuts.IsSolution k (certificate_of value answer.0) answer.1.rounds)
       → IfErr r (λ s. (k : RobustModel) → IsModel k → IsForms k all → IsSetForm k set → cuts.HasCause limit k s)
-      → MatchResult r (λ _. now ≡ before) (dual.CountsStop before now) → SolvesBy way value limit m before now r
-  cuts_answers way by all set r model f g solved stopped counted =
-      subst (λ (w : Route). SolvesBy w value limit m before now r) (sym by) (cuts_answers_so all set r model f g solved stopped counted)
+      → RoundsFit r → MatchResult r (λ _. now ≡ before) (dual.CountsStop before now) → SolvesBy way value limit m before now r
+  cuts_answers way by all set r model f g solved stopped fits counted =
+      subst (λ (w : Route). SolvesBy w value limit m before now r) (sym by) (cuts_answers_so all set r model f g solved stopped fits counted)

@@ -22,6 +22,9 @@ use Rattle.rob_model.specs.declared.plan.Plan.{Plan}
 use Rattle.rob_number.specs.Counts.{Rose}
 use Rattle.rob_number.specs.declared.memory.Memory.{Memory as Want}
 use Rattle.rob_report.specs.Places.{IsSpotOf}
+use Rattle.rob_report.specs.Spots.{too_wide_line}
+use Rattle.rob_top.proofs.DefaultRoutes.{told_alone}
+use Rattle.rob_words.specs.Verbs.{takes_route}
 use Rattle.rob_worst.specs.Finding.{FindsWorst, HasCause, IsWideAt, Tells}
 use Rattle.rob_worst.specs.Vectors.{plan_of}
 use Rattle.rob_top.proofs.RouteLemmas.{no_rounds}
@@ -127,7 +130,7 @@ module _ (limit : ℕ) (m : RobustModel) (form : ℕ) (c : Certificate) where
         m = m;
         wide = searching c form has (subst (λ (l : ℕ). IsWideSought l m form z place) (sym at.limit_is) (wide_sought place trace cause));
         raised = at.raised rose;
-        printed = is.1;
+        printed = told_alone call line m has.plan.certificate.file.forms.model (ap takes_route at.verb_is) reply.text (too_wide_line m place) is.1;
       }))
   stop_answers before now stop.Memory reply cause counts is = absurd is
 

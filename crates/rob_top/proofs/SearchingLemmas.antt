@@ -30,12 +30,15 @@ use Rattle.rob_model.specs.View.{scenario_of}
 use Rattle.rob_model.specs.declared.place.Spot.TheVariants as spot
 use Rattle.rob_model.specs.declared.place.Where.TheVariants as where_at
 use Rattle.rob_number.specs.declared.memory.Memory.{Memory as Want}
+use Rattle.rob_report.specs.Spots.{too_wide_line}
 use Rattle.rob_report.specs.Worst.{along_text, greatest_text}
 use Rattle.rob_runs.proofs.ToldLemmas.{told_along}
 use Rattle.rob_runs.specs.Readings.{cleared_by}
 use Rattle.rob_runs.specs.Searches.{FindsRay}
 use Rattle.rob_runs.specs.Spots.{IsWideSlack, slack_of}
 use Rattle.rob_runs.specs.Told.{HasNoGreatestAlong, TellsWorst}
+use Rattle.rob_top.proofs.DefaultRoutes.{told_alone}
+use Rattle.rob_words.specs.Verbs.{takes_route}
 use Rattle.rob_worst.specs.Finding.{Tells}
 use Rattle.rob_top.proofs.OwnLemmas.{file_came, has_form, has_kind, word_came}
 use Rattle.rob_top.proofs.WorkLemmas.{call_of_verb, call_within, rose_earlier}
@@ -227,7 +230,8 @@ module _ (limit : ℕ) (m : RobustModel) where
                 (subst (λ (l : ℕ). IsWideSought l m form z (spot.Sum (where_at.Cost form) 0)) (sym at.limit_is)
                 (in_slack (scenario, is_worst.admitted) refl (slack_wide h.2)));
             raised = at.raised h.1;
-            printed = h.0.1;
+            printed = told_alone call line m has.plan.certificate.file.forms.model (ap takes_route at.verb_is) reply.text
+                (too_wide_line m (spot.Sum (where_at.Cost form) 0)) h.0.1;
           }))
 
     -- a ray; a plan that has its bound has none

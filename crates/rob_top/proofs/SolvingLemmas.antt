@@ -14,6 +14,8 @@ use Rattle.rob_cert.specs.declared.ending.Stop.{Stop}
 use Rattle.rob_cert.specs.declared.ending.Stop.TheVariants as stop
 use Rattle.rob_cert.specs.declared.trace.Round.{Round}
 use Rattle.rob_cert.specs.declared.trace.Trace.{Trace}
+use Rattle.rob_cuts.specs.Rounds.{RoundFits}
+use Rattle.rob_cuts.specs.Solving.{StopFits}
 use Rattle.rob_dualize.specs.Solving.{CountsStop}
 use Rattle.rob_dualize.specs.Wholes.{IsFew, counterpart_of}
 use Rattle.rob_elab.specs.Forms.{IsForms}
@@ -21,7 +23,7 @@ use Rattle.rob_elab.specs.declared.forms.Forms.{Forms}
 use Rattle.rob_meaning.specs.Certificates.{Certificate, Status, optimal, infeasible, unbounded}
 use Rattle.rob_meaning.specs.Forms.{forms, matrix_of, plan_vector}
 use Rattle.rob_meaning.specs.Guarantee.{HasBound}
-use Rattle.rob_meaning.specs.Places.{0ℚ, 1ℚ}
+use Rattle.rob_meaning.specs.Places.{0ℚ, 1ℚ, Each}
 use Rattle.rob_meaning.specs.Proves.{EachCovered, HasStatus, Proves, ProvesAs, amounts_of}
 use Rattle.rob_meaning.specs.RobustModel.{RobustModel, column_count}
 use Rattle.rob_meaning.specs.SetRows.{set_rows}
@@ -127,7 +129,7 @@ pub solution_fits : {N : Type 0} (value : N → Fraction) (limit : ℕ) → ((x 
 solution_fits {N = N} value limit fits m cert = let found : Result (Cert N) Stop = Ok cert in answer_fits value limit fits m found
 
 module _ (limit : ℕ) (m : RobustModel) (model : IsModel m) (way : Route) (c : Certificate) (rounds : List Round)
-    (found : IsFound way m c rounds) (fits : FitsLines limit m c) where
+    (found : IsFound way m c rounds) (fits : FitsLines limit m c) (rounds_fit : Each (RoundFits limit) rounds) where
   means_solved : (call : Call) (line : Line) (text : List ℕ) (status : Status) → limit_of line ≡ limit → line.way ≡ way → c.status ≡ status
       → HasForms call line m → IsSolving line.verb → IsPrinted call line.verb line.way m c rounds text → Means call (ended_of status) text
   means_solved call line text status at by_way e has solves printed =
@@ -147,6 +149,7 @@ module _ (limit : ℕ) (m : RobustModel) (model : IsModel m) (way : Route) (c : 
         found = subst (λ (w : Route). IsFoundBy w m c rounds) (sym by_way) found.found;
         shape = found.shape;
         fits = subst (λ (l : ℕ). FitsLines l m c) (sym at) fits;
+        rounds_fit = subst (λ (l : ℕ). Each (RoundFits l) rounds) (sym at) rounds_fit;
         printed = printed;
       })
     where
@@ -184,8 +187,9 @@ module _ (limit : ℕ) (m : RobustModel) (model : IsModel m) (way : Route) (c : 
 -- ---- the route stopped
 module _ (limit : ℕ) (m : RobustModel) where
   stop_answers : (before now : ℕ) (verb : Verb) (way : Route) (s : Stop) (reply : Reply) → IsSolving verb
-      → HasStopCause way limit m s → CountsStop before now s → RepliesStop m way s reply → AnswersRoute limit (count before now) m verb way reply
-  stop_answers before now verb way (stop.EmptySet weights) reply solves cause counts is = λ call line at by_way has.
+      → HasStopCause way limit m s → StopFits limit s → CountsStop before now s → RepliesStop m way s reply
+      → AnswersRoute limit (count before now) m verb way reply
+  stop_answers before now verb way (stop.EmptySet weights) reply solves cause fits counts is = λ call line at by_way has.
       subst (λ (ended : Ended). Means call ended reply.text) (sym is.0)
       (while_solving (record {
         line = line;
@@ -195,7 +199,7 @@ module _ (limit : ℕ) (m : RobustModel) where
         shown = cause;
         printed = is.1;
       }))
-  stop_answers before now verb way (stop.Wide place trace) reply solves cause counts is = λ call line at by_way has.
+  stop_answers before now verb way (stop.Wide place trace) reply solves cause fits counts is = λ call line at by_way has.
       let rose : Rose before now = omega (arith, counts) in
       let here : IsWideBy way (limit_of line) m place trace.rounds =
       subst (λ (l : ℕ). IsWideBy way l m place trace.rounds) (sym at.limit_is) cause
@@ -209,12 +213,13 @@ module _ (limit : ℕ) (m : RobustModel) where
         solves = solves_as line.verb verb at.verb_is solves;
         wide = subst (λ (w : Route). IsWideBy w (limit_of line) m place trace.rounds) (sym by_way) here;
         raised = at.raised rose;
+        rounds_fit = subst (λ (l : ℕ). Each (RoundFits l) trace.rounds) (sym at.limit_is) fits;
         printed = subst (λ (w : Route). reply.text ≡ with_rounds w m trace.rounds (too_wide_line m place)) (sym by_way) is.1;
       }))
-  stop_answers before now verb way stop.Memory reply solves cause counts is = absurd is
+  stop_answers before now verb way stop.Memory reply solves cause fits counts is = absurd is
 
   pub stopped_answers : (before now : ℕ) (verb : Verb) (way : Route) (s : Stop) (r : Result Reply Want) → IsSolving verb
-      → HasStopCause way limit m s → CountsStop before now s → IfOk r (RepliesStop m way s)
+      → HasStopCause way limit m s → StopFits limit s → CountsStop before now s → IfOk r (RepliesStop m way s)
       → IfOk r (AnswersRoute limit (count before now) m verb way)
-  stopped_answers before now verb way s (Err want) solves cause counts is = tt
-  stopped_answers before now verb way s (Ok reply) solves cause counts is = stop_answers before now verb way s reply solves cause counts is
+  stopped_answers before now verb way s (Err want) solves cause fits counts is = tt
+  stopped_answers before now verb way s (Ok reply) solves cause fits counts is = stop_answers before now verb way s reply solves cause fits counts is

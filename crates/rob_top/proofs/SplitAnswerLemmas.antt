@@ -1,8 +1,9 @@
 -- Which answer has to come at `cells` and `celltext`, where what is known of the files decides.
 use Rattle.std.proofs.Common.{◌≡◌, ◌⊎◌, ℕ, List, Some, inl, inr, refl, sym, ◌∙◌, ap, subst}
 use Rattle.rob_algebra.specs.Fraction.{Fraction}
+use Rattle.rob_branch.proofs.OneSpotLemmas.{first_once, none_first}
 use Rattle.rob_cells.specs.Rules.{BreaksRule, KeepsRules}
-use Rattle.rob_dualize.specs.Models.{IsWideIn}
+use Rattle.rob_dualize.specs.Models.{IsWideIn, IsWritten, judged}
 use Rattle.rob_meaning.specs.Certificates.{Status, optimal, infeasible, unbounded}
 use Rattle.rob_meaning.specs.RobustModel.{RobustModel}
 use Rattle.rob_meaning.specs.UncertaintySet.{IsEmptySet}
@@ -10,6 +11,7 @@ use Rattle.rob_model.specs.declared.place.Spot.{Spot}
 use Rattle.rob_pieces.proofs.PieceLemmas.{piece_not_both, piece_not_infeasible, piece_not_unbounded}
 use Rattle.rob_pieces.specs.Cuts.{AreCuts, Cut}
 use Rattle.rob_pieces.specs.SplitModel.{split_model}
+use Rattle.rob_sets.specs.FirstWide.{IsFirstWide}
 use Rattle.rob_top.proofs.BeforeLemmas.{before_it}
 use Rattle.rob_top.proofs.ComingLemmas.{Comes, comes_ends}
 use Rattle.rob_top.proofs.CommandLemmas.{branches_no_split, check_no_split, makes_no_split, narrow_no_split, replay_no_split, rows_no_split, solves_no_split, sweeps_no_split, tree_no_split, two_verbs, worst_no_split}
@@ -27,7 +29,7 @@ use Rattle.rob_top.specs.Split.{AreCutsAt, BreaksCells, EachCellAdmits, HasCuts,
 use Rattle.rob_top.specs.SplitEnds.{IsCellsAnswer, IsEmptyCellsAnswer, IsNarrowSplit, MustEndSplit}
 use Rattle.rob_top.specs.Work.{ended_of}
 use Rattle.rob_top.specs.declared.ended.Ended.{Ended}
-use Rattle.rob_top.specs.declared.ended.Ended.TheVariants.{Printed, EmptySet, TooWide, Cells as CellsRule, ReadFault, WriteFault, Memory}
+use Rattle.rob_top.specs.declared.ended.Ended.TheVariants.{Printed, EmptySet, TooWide, Cells as CellsRule, ReadFault, Memory}
 use Rattle.rob_words.specs.Commands.{Line}
 use Rattle.rob_words.specs.Names.{parts_of}
 use Rattle.rob_words.specs.Values.{Word}
@@ -137,8 +139,8 @@ module _ (call : Call) (known : Known call.source) (line : Line) (m : RobustMode
     where
       by : SplitCourse call line m ended → ended ≡ CellsRule rule
       by (breaks_cells other h e) = e ∙ ap (λ r. CellsRule r) (one_rule other rule h broken)
-      by (finds_pieces cuts status v has is each holds e) = absurd (no_break rule cuts broken has)
-      by (shows_empty_cell cuts weights has is shown none e) = absurd (no_break rule cuts broken has)
+      by (finds_pieces cuts status v has is written each holds e) = absurd (no_break rule cuts broken has)
+      by (shows_empty_cell cuts weights has is written shown none e) = absurd (no_break rule cuts broken has)
       by (wide_cell cuts spot has is wide e) = absurd (no_break rule cuts broken has)
       by (writes_split cuts has is e) = absurd (no_break rule cuts broken has)
 
@@ -151,7 +153,7 @@ module _ (call : Call) (known : Known call.source) (line : Line) (m : RobustMode
 
     here : (ended : Ended) (text : List ℕ) → Means call ended text
         → SplitCourse call line m ended ⊎ ((ended ≡ ReadFault) ⊎ (ended ≡ Memory))
-    here ended text means = split_course has_here has.has_cuts.has_word.splits_it ended text means
+    here ended text means = split_course has_here has.has_cuts.has_word.is_splitting ended text means
 
     -- ---- `celltext`
     written_decides : line.verb ≡ CellText → (ended : Ended) (text : List ℕ) → Means call ended text
@@ -160,8 +162,8 @@ module _ (call : Call) (known : Known call.source) (line : Line) (m : RobustMode
       where
         by : SplitCourse call line m ended → ended ≡ Printed
         by (breaks_cells rule h e) = absurd (no_break rule cuts h has)
-        by (finds_pieces list status v h other each holds e) = absurd (two_splits line.verb other is)
-        by (shows_empty_cell list weights h other shown none e) = absurd (two_splits line.verb other is)
+        by (finds_pieces list status v h other written each holds e) = absurd (two_splits line.verb other is)
+        by (shows_empty_cell list weights h other written shown none e) = absurd (two_splits line.verb other is)
         by (wide_cell list spot h other wide e) = absurd (two_splits line.verb other is)
         by (writes_split list h also e) = e
 
@@ -183,10 +185,10 @@ module _ (call : Call) (known : Known call.source) (line : Line) (m : RobustMode
         where
           by : SplitCourse call line m ended → IsCellsAnswer (limit_of line) m cuts ended
           by (breaks_cells rule h e) = absurd (no_break rule cuts h has)
-          by (finds_pieces list status v h also each holds e) =
+          by (finds_pieces list status v h also written each holds e) =
               answer_is ended (ended_of status) e
               (status_answer status v (moved (λ (cs : List Cut). HasStatusOverPieces m cs status v) list h holds))
-          by (shows_empty_cell list weights h also shown none e) =
+          by (shows_empty_cell list weights h also written shown none e) =
               answer_is ended (EmptySet weights) e (moved (λ (cs : List Cut). EachCellAdmits m cs → ⊥) list h none)
           by (wide_cell list spot h also wide e) =
               answer_is ended (TooWide spot) e
@@ -197,6 +199,29 @@ module _ (call : Call) (known : Known call.source) (line : Line) (m : RobustMode
           all (inl course) = by course
           all (inr (inl e)) = answer_is ended ReadFault e (inl refl)
           all (inr (inr e)) = answer_is ended Memory e (inr (inr refl))
+
+      -- a number of the split model's set rows and forms is wide
+      wide_cells_decides : (spot : Spot) → IsFirstWide (limit_of line) (split_model m cuts) (judged (split_model m cuts)) spot → (ended : Ended)
+          (text : List ℕ) → Means call ended text → (ended ≡ TooWide spot) ⊎ ((ended ≡ ReadFault) ⊎ (ended ≡ Memory))
+      wide_cells_decides spot first ended text means = first_of_two by (here ended text means)
+        where
+          unwritten : (list : List Cut) → HasSplit call line m list → IsWritten (limit_of line) (split_model m list) → ⊥
+          unwritten list h written =
+              none_first (limit_of line) (split_model m cuts) (judged (split_model m cuts)) spot
+              (moved (λ (cs : List Cut). IsWritten (limit_of line) (split_model m cs)) list h written) first
+
+          one : (other : Spot) → IsWideIn (limit_of line) (split_model m cuts) other → TooWide other ≡ TooWide spot
+          one other (inl h) =
+              ap (λ (s : Spot). TooWide s) (first_once (limit_of line) (split_model m cuts) (judged (split_model m cuts)) other spot h first)
+          one other (inr h) = absurd (none_first (limit_of line) (split_model m cuts) (judged (split_model m cuts)) spot h.0 first)
+
+          by : SplitCourse call line m ended → ended ≡ TooWide spot
+          by (breaks_cells rule h e) = absurd (no_break rule cuts h has)
+          by (finds_pieces list status v h also written each holds e) = absurd (unwritten list h written)
+          by (shows_empty_cell list weights h also written shown none e) = absurd (unwritten list h written)
+          by (wide_cell list other h also wide e) =
+              e ∙ one other (moved (λ (cs : List Cut). IsWideIn (limit_of line) (split_model m cs) other) list h wide)
+          by (writes_split list h other e) = absurd (two_splits line.verb is other)
 
       -- not each cell holds an admitted scenario
       empty_is : (ended other : Ended) → ended ≡ other → IsEmptyCellsAnswer (limit_of line) m cuts other → IsEmptyCellsAnswer (limit_of line) m cuts ended
@@ -211,9 +236,9 @@ module _ (call : Call) (known : Known call.source) (line : Line) (m : RobustMode
         where
           by : SplitCourse call line m ended → IsEmptyCellsAnswer (limit_of line) m cuts ended
           by (breaks_cells rule h e) = absurd (no_break rule cuts h has)
-          by (finds_pieces list status v h also each holds e) =
+          by (finds_pieces list status v h also written each holds e) =
               absurd (not_each (moved (λ (cs : List Cut). EachCellAdmits m cs) list h each))
-          by (shows_empty_cell list weights h also shown none e) =
+          by (shows_empty_cell list weights h also written shown none e) =
               empty_is ended (EmptySet weights) e
               (moved (λ (cs : List Cut). IsEmptyCellsAnswer (limit_of line) m cs (EmptySet weights)) list h shown)
           by (wide_cell list spot h also wide e) =
@@ -235,10 +260,10 @@ module _ (call : Call) (known : Known call.source) (line : Line) (m : RobustMode
         where
           by : SplitCourse call line m ended → ended ≡ ended_of status
           by (breaks_cells rule h e) = absurd (no_break rule cuts h has)
-          by (finds_pieces list other w h also inside holds e) =
+          by (finds_pieces list other w h also written inside holds e) =
               e ∙ ap ended_of (same_piece_status m cuts other status w v
               (moved (λ (cs : List Cut). HasStatusOverPieces m cs other w) list h holds) true_of)
-          by (shows_empty_cell list weights h also shown none e) =
+          by (shows_empty_cell list weights h also written shown none e) =
               absurd (moved (λ (cs : List Cut). EachCellAdmits m cs → ⊥) list h none each)
           by (wide_cell list spot h also wide e) =
               absurd (narrow spot (moved (λ (cs : List Cut). IsWideIn (limit_of line) (split_model m cs) spot) list h wide))
@@ -286,6 +311,8 @@ module _ (call : Call) (known : Known call.source) (ended : Ended) (comes : Come
     rule = λ line m rule breaks.
         comes_ends call (CellsRule rule) ended comes (breaking_cells_decides call known line m rule breaks ended);
     cells = cells_end;
+    wide = λ line m cuts spot has is first.
+        comes_ends call (TooWide spot) ended comes (wide_cells_decides call known line m cuts has is spot first ended);
     empty = empty_cells_end;
     status = pieces_end;
     written = λ line m cuts has is. comes_ends call Printed ended comes (written_decides call known line m cuts has is ended);

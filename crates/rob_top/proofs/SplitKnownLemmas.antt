@@ -16,7 +16,7 @@ module _ (call : Call) (known : Known call.source) where
 
   module _ (line : Line) (m : RobustModel) where
     word_known : (word : Word) → HasCutWord call line m word → HasCutWord part line m word
-    word_known word h = record { model = model_known call known line m h.model; splits_it = h.splits_it; told = h.told }
+    word_known word h = record { model = model_known call known line m h.model; is_splitting = h.is_splitting; told = h.told }
 
     cuts_known : (cuts : List Cut) → HasCuts call line m cuts → HasCuts part line m cuts
     cuts_known cuts h = record { word = h.word; has_word = word_known h.word h.has_word; alone = h.alone; are = h.are }
@@ -48,8 +48,10 @@ module _ (call : Call) (known : Known call.source) where
     sets = h.sets;
     proves = h.proves;
     last = h.last;
+    inside = h.inside;
     shape = h.shape;
     fits = h.fits;
+    written = h.written;
     printed = h.printed;
   }
 
@@ -72,6 +74,7 @@ module _ (call : Call) (known : Known call.source) where
     cuts = h.cuts;
     has = split_known h.line h.m h.cuts h.has;
     is_cells = h.is_cells;
+    written = h.written;
     shown = h.shown;
     not_each = h.not_each;
     printed = h.printed;

@@ -1,5 +1,5 @@
 -- The answers of `cells` and `celltext`, from what the words tell and what the work on the split model answers.
-use Rattle.std.proofs.Common.{◌≡◌, ◌≢◌, ◌≤◌, ◌||◌, ◌^◌, ◌⊎◌, ℕ, Bool, true, false, not, List, [], ◌∷◌, ◌++◌, length, map, Option, Some, None, Result, Ok, Err, IfOk, inl, inr, refl, subst, sym, ap, ◌∙◌, string_bytes}
+use Rattle.std.proofs.Common.{◌≡◌, ◌≢◌, ◌≤◌, ◌||◌, ◌⊎◌, ℕ, Bool, true, false, not, List, [], ◌∷◌, ◌++◌, length, map, Option, Some, None, Result, Ok, Err, IfOk, inl, inr, refl, subst, sym, ap, ◌∙◌}
 use Rattle.std.specs.Prelude.{if◌then◌else◌}
 use Rattle.std.proofs.lemmas.List.{length-map}
 use denote.Enum.Bare.{same_true, sameb}
@@ -10,42 +10,37 @@ use Rattle.rob_cells.specs.Rules.{BreaksRule, KeepsRules}
 use Rattle.rob_cert.specs.Apart.{FitsLines}
 use Rattle.rob_cert.specs.declared.ending.Stop.{Stop}
 use Rattle.rob_cert.specs.declared.ending.Stop.TheVariants as stop
-use Rattle.rob_dualize.specs.Models.{HasModelCause, IsWideIn, RoseIfStopped}
-use Rattle.rob_dualize.specs.Solving.{IsShownEmpty, IsSolution}
+use Rattle.rob_dualize.specs.Models.{HasModelCause, IsWideIn, IsWritten, RoseIfStopped}
+use Rattle.rob_dualize.specs.Solving.{IsSolution}
 use Rattle.rob_meaning.proofs.ProvesLemmas.{certificate_true}
 use Rattle.rob_meaning.specs.Certificates.{Certificate, Status, optimal, infeasible, unbounded}
-use Rattle.rob_meaning.specs.Guarantee.{HasBound}
 use Rattle.rob_meaning.specs.Proves.{HasStatus, Proves}
 use Rattle.rob_meaning.specs.RobustModel.{RobustModel}
-use Rattle.rob_meaning.specs.SetRows.{set_rows}
-use Rattle.rob_meaning.specs.UncertaintySet.{Admits, IsEmptySet}
+use Rattle.rob_meaning.specs.UncertaintySet.{Admits}
 use Rattle.rob_meaning.specs.WellFormed.{IsModel}
 use Rattle.rob_number.specs.declared.memory.Memory.{Memory as Want}
 use Rattle.rob_pieces.proofs.FormedLemmas.{split_is_model}
 use Rattle.rob_pieces.proofs.PieceLemmas.{bound_piece}
 use Rattle.rob_pieces.specs.Cuts.{AreCuts, Cut, cell_count}
-use Rattle.rob_pieces.specs.Pieces.{PieceBound, piece_of}
 use Rattle.rob_pieces.specs.SplitModel.{split_model}
 use Rattle.rob_report.specs.Report.{report_of}
-use Rattle.rob_report.specs.Spots.{empty_set_lines, too_wide_line}
 use Rattle.rob_top.proofs.BoxPathLemmas.{spot_in}
 use Rattle.rob_top.proofs.CourseLemmas.{inside_admitted}
 use Rattle.rob_top.proofs.OwnLemmas.{has_kind, second_of, word_there}
 use Rattle.rob_top.proofs.RouteLemmas.{no_rounds}
 use Rattle.rob_top.proofs.SolvingLemmas.{proved_bound}
 use Rattle.rob_top.proofs.WorkLemmas.{call_within, rose_earlier}
-use Rattle.rob_top.specs.Answers.{words_text}
-use Rattle.rob_top.specs.Calls.{Call, Count, WasRaised, count, limit_of, word_of}
+use Rattle.rob_top.specs.Calls.{Call, Count, count, limit_of, word_of}
 use Rattle.rob_top.specs.Headline.{Means}
 use Rattle.rob_top.specs.Inputs.{HasModel}
 use Rattle.rob_top.specs.Refusing.{IsStopOf, RepliesStop}
 use Rattle.rob_top.specs.Replies.{Replies}
 use Rattle.rob_top.specs.Split.{AreCutsAt, EachCellAdmits, HasCuts, HasCutWord, HasSplit, HasStatusOverPieces, IsPieceKept, IsPieced, IsSplitting, TellsCuts, cells_fault_text, cells_line, named_set, no_parameter, of_split, splits}
-use Rattle.rob_top.specs.SplitWork.{AnswersCutWord, AnswersCuts, RepliesPieces, RepliesPlan, RepliesSplit, RepliesSplitStop}
+use Rattle.rob_top.specs.SplitWork.{AnswersCutWord, AnswersCuts, RepliesPieces, RepliesSplit}
 use Rattle.rob_top.specs.Ways.{in_cells, in_split, pieced, split_written}
 use Rattle.rob_top.specs.Work.{AnswersWords, IsCallAt, ended_of}
 use Rattle.rob_top.specs.declared.ended.Ended.{Ended}
-use Rattle.rob_top.specs.declared.ended.Ended.TheVariants.{Printed, Words, Cells as CellsRule}
+use Rattle.rob_top.specs.declared.ended.Ended.TheVariants.{Printed, Cells as CellsRule}
 use Rattle.rob_top.specs.declared.reply.Reply.{Reply}
 use Rattle.rob_words.proofs.EachValue.{each_value}
 use Rattle.rob_words.specs.Commands.{Line}
@@ -66,7 +61,7 @@ use Rattle.rob_write.specs.Canonical.{model_text}
 -- ---- the word of cuts
 
 -- a word of a kind among words of their kinds is one of the kind
-kind_kept : (greatest : ℕ) (kind : Own) (kinds : List Own) (words : List Word) (w : Word) → AreOfKinds greatest kinds words
+pub kind_kept : (greatest : ℕ) (kind : Own) (kinds : List Own) (words : List Word) (w : Word) → AreOfKinds greatest kinds words
     → word_of kind kinds words ≡ Some w → IsOfKind greatest kind w
 kind_kept greatest kind [] words w h e = absurd (let no : None ≡ Some w = e in cc)
 kind_kept greatest kind (other ∷ kinds) [] w h e = absurd (let no : None ≡ Some w = e in cc)
@@ -114,7 +109,7 @@ module _ (limit : ℕ) (m : RobustModel) (verb : Verb) (is : IsSplitting verb) w
   has_word : (wides : Count) (call : Call) (line : Line) (word : Word) → IsCallAt limit wides verb call line → HasModel call line m
       → TellsCuts line word → HasCutWord call line m word
   has_word wides call line word at has told =
-      record { model = has; splits_it = splits_as line.verb verb at.verb_is is; told = told }
+      record { model = has; is_splitting = splits_as line.verb verb at.verb_is is; told = told }
 
   -- ---- the command's own words are the line's
   pub told_words : (wides : Count) (words : List Word) (o : Option Word) (word : Word) (r : Result Reply Want) → o ≡ word_of Cuts (own_of verb) words
@@ -214,9 +209,9 @@ module _ (m : RobustModel) (model : IsModel m) (cuts : List Cut) (keeps : KeepsR
 
     -- ---- a certificate was found
     means_pieced : (call : Call) (line : Line) (text : List ℕ) (c : Certificate) (status : Status) → limit_of line ≡ limit → line.verb ≡ Cells
-        → HasCuts call line m cuts → IsSolution s c → FitsLines limit s c → c.status ≡ status
+        → HasCuts call line m cuts → IsWritten limit s → IsSolution s c → FitsLines limit s c → c.status ≡ status
         → text ≡ cells_line (cell_count cuts) ++ report_of s c → Means call (ended_of status) text
-    means_pieced call line text c status at is has found fits e printed =
+    means_pieced call line text c status at is has written found fits e printed =
         let holds : HasStatus s status c.value =
         subst (λ (t : Status). HasStatus s t c.value) e (certificate_true s split_model_is c found.proves)
         in
@@ -235,8 +230,10 @@ module _ (m : RobustModel) (model : IsModel m) (cuts : List Cut) (keeps : KeepsR
           sets = cell_sets m cuts keeps model are;
           proves = found.proves;
           last = found.read;
+          inside = found.inside;
           shape = found.shape;
           fits = subst (λ (l : ℕ). FitsLines l s c) (sym at) fits;
+          written = subst (λ (l : ℕ). IsWritten l s) (sym at) written;
           printed = printed;
         })
       where
@@ -257,6 +254,7 @@ module _ (m : RobustModel) (model : IsModel m) (cuts : List Cut) (keeps : KeepsR
           cuts = cuts;
           has = has_split call line has;
           is_cells = at.verb_is;
+          written = subst (λ (l : ℕ). IsWritten l s) (sym at.limit_is) cause.0;
           shown = cause.1;
           not_each = λ each. (let w = admits_each each in cause.1.empty w.0 w.1);
           printed = says.1;
@@ -279,7 +277,7 @@ module _ (m : RobustModel) (model : IsModel m) (cuts : List Cut) (keeps : KeepsR
         → AnswersCuts limit (count before now) m Cells cuts reply
     cells_answers before now reply (inl h) = λ call line at has.
         subst (λ (ended : Ended). Means call ended reply.text) (sym h.replies.0)
-        (means_pieced call line reply.text h.c h.c.status at.limit_is at.verb_is has h.found h.fits refl h.replies.1)
+        (means_pieced call line reply.text h.c h.c.status at.limit_is at.verb_is has h.written h.found h.fits refl h.replies.1)
     cells_answers before now reply (inr h) = λ call line at has.
         means_stopped call line reply before now h.stop at has h.cause h.rose h.replies
 
@@ -325,10 +323,11 @@ module _ (limit : ℕ) (m : RobustModel) where
   model_stop_of (stop.Wide place trace) h = (spot_in limit m place h.0, no_rounds m trace.rounds h.1)
   model_stop_of stop.Memory h = tt
 
-  pub plan_replies : (wides : Count) (cells : ℕ) (c : Certificate) (r : Result Reply Want) → IsSolution m c → FitsLines limit m c
+  pub plan_replies : (wides : Count) (cells : ℕ) (c : Certificate) (r : Result Reply Want) → IsWritten limit m → IsSolution m c → FitsLines limit m c
       → IfOk r (Replies (ended_of c.status) (cells_line cells ++ report_of m c)) → IfOk r (RepliesPieces limit wides m cells)
-  plan_replies wides cells c (Err want) found fits says = tt
-  plan_replies wides cells c (Ok reply) found fits says = inl (record { c = c; found = found; fits = fits; replies = says })
+  plan_replies wides cells c (Err want) written found fits says = tt
+  plan_replies wides cells c (Ok reply) written found fits says =
+      inl (record { c = c; written = written; found = found; fits = fits; replies = says })
 
   pub stop_replies : (before now : ℕ) (cells : ℕ) (cause_of : Stop) (r : Result Reply Want) → HasModelCause limit m cause_of
       → RoseIfStopped before now cause_of → IfOk r (RepliesStop m Dual cause_of) → IfOk r (RepliesPieces limit (count before now) m cells)

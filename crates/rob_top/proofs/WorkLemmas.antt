@@ -1,11 +1,14 @@
 -- The answers for a model's text: of a refusal, of printed rows, and of what the work on a model answers.
-use Rattle.std.proofs.Common.{◌≡◌, ℕ, ◌≤◌, ◌^◌, ◌-◌, List, ◌++◌, Result, Ok, Err, IfOk, refl, subst, sym, ap, ◌∙◌, arith}
+use Rattle.std.proofs.Common.{◌≡◌, ℕ, ◌≤◌, ◌^◌, ◌-◌, List, [], ◌++◌, Result, Ok, Err, IfOk, refl, subst, sym, ap, ◌∙◌, arith}
+use Rattle.rob_cert.specs.declared.trace.Round.{Round}
 use Rattle.rob_elab.specs.Forms.{judged_forms}
 use Rattle.rob_meaning.specs.RobustModel.{RobustModel}
+use Rattle.rob_model.specs.declared.place.Spot.{Spot}
 use Rattle.rob_number.specs.Counts.{Rose}
 use Rattle.rob_number.specs.Lowest as Lowest
 use Rattle.rob_number.specs.declared.memory.Memory.{Memory as Want}
 use Rattle.rob_parse.specs.Modelled.{ReadsModel}
+use Rattle.rob_report.specs.Spots.{too_wide_line}
 use Rattle.rob_rules.specs.Reading.{Breaks, HasModelCause}
 use Rattle.rob_rules.specs.declared.error.ModelErr.{ModelErr}
 use Rattle.rob_rules.specs.declared.error.ModelErr.TheVariants as unread
@@ -22,16 +25,18 @@ use Rattle.rob_top.specs.Calls.{Call, Count, IsElaborating, IsOnModel, count, re
 use Rattle.rob_top.specs.Headline.{Means}
 use Rattle.rob_top.specs.Refused.{elaborating}
 use Rattle.rob_top.specs.Replies.{HasTexts, Replies}
+use Rattle.rob_top.specs.Routes.{with_rounds}
 use Rattle.rob_top.specs.Work.{AnswersModel, AnswersRoute, AnswersTexts, AnswersWhole, IsCallAt}
 use Rattle.rob_top.specs.Refusing.{IsRefusedOf, RepliesRefused, RepliesUnread}
 use Rattle.rob_top.specs.Ways.{in_model, rows}
 use Rattle.rob_top.specs.declared.ended.Ended.{Ended}
-use Rattle.rob_top.specs.declared.ended.Ended.TheVariants.{Printed, Model}
+use Rattle.rob_top.specs.declared.ended.Ended.TheVariants.{Printed, Model, TooWide}
 use Rattle.rob_top.specs.declared.files.Texts.{Texts}
 use Rattle.rob_top.specs.declared.reply.Reply.{Reply}
 use Rattle.rob_top.proofs.OwnLemmas.{file_came, has_model}
 use Rattle.rob_words.specs.Commands.{Line}
 use Rattle.rob_words.specs.Values.{bits_of}
+use Rattle.rob_words.specs.declared.route.Route.{Route}
 use Rattle.rob_words.specs.declared.verb.Own.TheVariants as own
 use Rattle.rob_words.specs.declared.verb.Verb.{Verb}
 use Rattle.rob_words.specs.declared.verb.Verb.TheVariants.{Rows}
@@ -127,9 +132,17 @@ module _ (limit : ℕ) (m : RobustModel) where
   forms_refused_of (refused.Wide spot) h = forms_spot m limit spot h
   forms_refused_of refused.Memory h = tt
 
+  -- the reply to a wide number before which no rounds come
+  pub refused_alone : (way : Route) (e : ElabErr) (spot : Spot) (told : List Round) (r : Result Reply Want) → e ≡ refused.Wide spot → told ≡ []
+      → IfOk r (Replies (TooWide spot) (with_rounds way m told (too_wide_line m spot))) → IfOk r (RepliesRefused m way e)
+  refused_alone way e spot told (Err want) is none h = tt
+  refused_alone way e spot told (Ok reply) is none h =
+      subst (λ (x : ElabErr). RepliesRefused m way x reply) (sym is)
+      (subst (λ (rounds : List Round). Replies (TooWide spot) (with_rounds way m rounds (too_wide_line m spot)) reply) none h)
+
   -- a number is wide, first
   spot_answers : (wides : Count) (verb : Verb) (texts : Texts) (spot : _) (reply : Reply) → IsElaborating verb → IsFirstWide limit m (judged_set m ++ judged_forms m) spot → WasRaised wides
-      → RepliesRefused m (refused.Wide spot) reply → AnswersModel limit wides m verb texts reply
+      → RepliesRefused m texts.route (refused.Wide spot) reply → AnswersModel limit wides m verb texts reply
   spot_answers wides verb texts spot reply makes first rose is = λ call line at came has.
       subst (λ (ended : Ended). Means call ended reply.text) (sym is.0)
       (in_model (record {
@@ -138,18 +151,18 @@ module _ (limit : ℕ) (m : RobustModel) where
         wide = elaborating has (subst (λ (v : Verb). IsElaborating v) (sym at.verb_is) makes)
             (subst (λ (l : ℕ). IsFirstWide l m (judged_set m ++ judged_forms m) spot) (sym at.limit_is) first);
         raised = at.raised rose;
-        printed = is.1;
+        printed = subst (λ (way : Route). reply.text ≡ with_rounds way m [] (too_wide_line m spot)) came.way is.1;
       }))
 
   pub set_answers : (before now : ℕ) (verb : Verb) (texts : Texts) (e : ElabErr) (r : Result Reply Want) → IsElaborating verb → HasCause limit m (judged_set m) e → RoseIfWide before now e
-      → IfOk r (RepliesRefused m e) → IfOk r (AnswersModel limit (count before now) m verb texts)
+      → IfOk r (RepliesRefused m texts.route e) → IfOk r (AnswersModel limit (count before now) m verb texts)
   set_answers before now verb texts e (Err want) makes cause rose is = tt
   set_answers before now verb texts (refused.Wide spot) (Ok reply) makes cause rose is =
       spot_answers (count before now) verb texts spot reply makes (first_left limit m (judged_set m) (judged_forms m) spot cause) rose is
   set_answers before now verb texts refused.Memory (Ok reply) makes cause rose is = absurd is
 
   pub forms_answers : (before middle now : ℕ) (verb : Verb) (texts : Texts) (e : ElabErr) (r : Result Reply Want) → IsElaborating verb → before ≤ middle → NothingWide limit m (judged_set m)
-      → HasCause limit m (judged_forms m) e → RoseIfWide middle now e → IfOk r (RepliesRefused m e) → IfOk r (AnswersModel limit (count before now) m verb texts)
+      → HasCause limit m (judged_forms m) e → RoseIfWide middle now e → IfOk r (RepliesRefused m texts.route e) → IfOk r (AnswersModel limit (count before now) m verb texts)
   forms_answers before middle now verb texts e (Err want) makes least none cause rose is = tt
   forms_answers before middle now verb texts (refused.Wide spot) (Ok reply) makes least none cause rose is =
       spot_answers (count before now) verb texts spot reply makes (first_right limit m (judged_set m) (judged_forms m) spot none cause) (rose_earlier before middle now least rose) is

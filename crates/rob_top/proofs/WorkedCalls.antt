@@ -48,7 +48,7 @@ use Rattle.rob_words.specs.declared.width.Width.TheVariants.{SixtyTwo}
 abbrev pub line : Line
 line = record { verb = Solve; own = model_name ∷ []; way = Dual; width = SixtyTwo }
 
-line_spelled : IsSpelled (codes "solve" ∷ model_name ∷ []) line
+pub line_spelled : IsSpelled (codes "solve" ∷ model_name ∷ []) line
 line_spelled = (
   own model_name ∷ [],
   record {
@@ -216,25 +216,25 @@ empty_interval_readable = record {
 empty_interval_within : IsWithinLimits empty_interval
 empty_interval_within = within_by empty_interval refl refl refl refl refl refl refl
 
-empty_interval_reads : ReadsModel greatest (model_text empty_interval) empty_interval
+pub empty_interval_reads : ReadsModel greatest (model_text empty_interval) empty_interval
 unfolding ratio
 empty_interval_reads =
     canonical_reads greatest empty_interval (omega arith) (omega arith) empty_interval_readable (found (test_model (written_model empty_interval)) tt)
     empty_interval_named empty_interval_spelled tt empty_interval_within
     ((tt, (tt, (tt, (tt, (tt, (tt, (tt, (tt, tt)))))))), ((tt, (tt, tt)), ((tt, (tt, tt)), tt))) (leb-true _ _ refl)
 
-empty_interval_narrow : NothingWide greatest empty_interval (judged_set empty_interval ++ judged_forms empty_interval)
+pub empty_interval_none_wide : NothingWide greatest empty_interval (judged_set empty_interval ++ judged_forms empty_interval)
 unfolding ratio
-empty_interval_narrow =
+empty_interval_none_wide =
     all_narrow empty_interval (judged_set empty_interval ++ judged_forms empty_interval)
     (tt, (tt, (difference_narrow empty_interval (variable 0) 0 1 (λ k j. refl) (variable 1) 0 2 (λ k j. refl), (tt, tt))))
 
-empty_interval_comes : Comes empty_interval
+pub empty_interval_comes : Comes empty_interval
 unfolding ratio digits
 empty_interval_comes = refl
 
 pub empty_interval_forms : HasForms (solve_call empty_interval) line empty_interval
-empty_interval_forms = forms_on empty_interval empty_interval_comes empty_interval_reads empty_interval_narrow
+empty_interval_forms = forms_on empty_interval empty_interval_comes empty_interval_reads empty_interval_none_wide
 
 -- this call has to answer that the set is empty, or name a row of the set's program
 pub empty_interval_is_shown : (result : Ended) → MustEnd (solve_call empty_interval) result → IsEmptyAnswer greatest empty_interval result

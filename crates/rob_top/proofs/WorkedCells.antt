@@ -1,38 +1,59 @@
--- Calls of `cells` and `celltext` on the smallest model, worked by hand, and so how they must end.
-use Rattle.std.proofs.Common.{◌≡◌, ◌<◌, [], ◌∷◌, List, ℕ, zero, suc, refl, inl, inr, arith}
+-- Calls of `cells` and `celltext` on the smallest model, worked by hand, and so how they must end: cut at 9; and at 13,
+-- where one cell is empty.
+use Rattle.std.proofs.Common.{◌≡◌, [], ◌∷◌, List, false, length, refl, inl, inr, ap, subst, sym, arith}
 use Rattle.std.specs.Fmt.{digits}
 use Rattle.std.specs.Prelude.{codes}
+use Rattle.rob_algebra.specs.Fraction.{Fraction, ratio}
 use Rattle.rob_cells.proofs.DistinctLemmas.{distinct_decides}
 use Rattle.rob_cells.specs.Rules.{KeepsRules}
 use Rattle.rob_dualize.specs.SmallestModel.{one_demand}
-use Rattle.rob_cert.specs.Spelling.{name_at}
+use Rattle.rob_meaning.proofs.EmptyLemmas.{shows_empty}
+use Rattle.rob_meaning.proofs.WorkedNotation.{best, cover, int, item}
+use Rattle.rob_meaning.proofs.WorkedTests.{found, test_admits, test_certificate, test_empty, test_model}
 use Rattle.rob_meaning.specs.Named.{declared_names}
+use Rattle.rob_meaning.specs.Places.{0ℚ, 1ℚ, Each}
+use Rattle.rob_meaning.specs.RobustModel.{RobustModel}
+use Rattle.rob_meaning.specs.Status.{IsOptimal}
+use Rattle.rob_meaning.specs.UncertaintySet.{Admits, IsEmptySet}
+use Rattle.rob_meaning.specs.WellFormed.{IsModel}
+use Rattle.rob_model.specs.Limits.{IsWithinLimits}
+use Rattle.rob_parse.specs.Modelled.{ReadsModel}
+use Rattle.rob_pieces.proofs.PieceLemmas.{optimal_agree}
 use Rattle.rob_pieces.specs.Cuts.{Cut}
+use Rattle.rob_pieces.specs.Pieces.{IsPieceOptimal}
 use Rattle.rob_pieces.specs.SplitModel.{split_model}
-use Rattle.rob_top.proofs.WorkedCalls.{differ, one_demand_comes, one_demand_reads, within_by}
+use Rattle.rob_pieces.specs.SplitNames.{HasGoodNames}
+use Rattle.rob_top.proofs.SolveAnswers.{IsPiecedOrWide, pieced_or_wide}
+use Rattle.rob_top.proofs.SplittingLemmas.{admits_each, each_admits, split_model_is}
+use Rattle.rob_top.proofs.WorkedCalls.{Comes, one_demand_comes, one_demand_reads, within_by}
+use Rattle.rob_top.specs.Calls.{Call, Came, files_of, request_of, word_of}
 use Rattle.rob_top.specs.Completeness.{MustEnd}
 use Rattle.rob_top.specs.Endings.{EndsAs}
-use Rattle.rob_top.specs.Split.{AreCutsAt, HasSplit, no_parameter}
-use Rattle.rob_top.specs.SplitEnds.{IsCellsAnswer}
-use Rattle.rob_top.specs.WorkedCalls.{at_9, cells_call, greatest, model_name}
+use Rattle.rob_top.specs.Inputs.{HasModel}
+use Rattle.rob_top.specs.Split.{AreCutsAt, EachCellAdmits, HasCutWord, HasSplit, IsSplitting, level_value}
+use Rattle.rob_top.specs.SplitEnds.{IsEmptyCellsAnswer}
+use Rattle.rob_top.specs.WorkedCalls.{at_13, at_9, cells_call, greatest, model_name}
 use Rattle.rob_top.specs.declared.ended.Ended.{Ended}
-use Rattle.rob_top.specs.declared.ended.Ended.TheVariants.{Printed, Cells as CellsRule}
-use Rattle.rob_words.specs.Commands.{Line, own, IsSpelled}
+use Rattle.rob_top.specs.declared.ended.Ended.TheVariants.{Printed}
+use Rattle.rob_words.specs.Commands.{IsPlain, IsSpelled, Line, TellsRoute, own}
 use Rattle.rob_words.specs.Cuts.{IsCutList}
+use Rattle.rob_words.specs.Kinds.{AreOfKinds}
 use Rattle.rob_words.specs.Names.{parts_of}
 use Rattle.rob_words.specs.Values.{Word}
+use Rattle.rob_words.specs.Verbs.{own_of, takes_route, verb_word}
 use Rattle.rob_words.specs.declared.route.Route.TheVariants.{Dual}
+use Rattle.rob_words.specs.declared.verb.Own.TheVariants.{Cuts, Model}
 use Rattle.rob_words.specs.declared.verb.Verb.{Verb}
 use Rattle.rob_words.specs.declared.verb.Verb.TheVariants.{Cells, CellText}
 use Rattle.rob_words.specs.declared.width.Width.TheVariants.{SixtyTwo}
 use Rattle.rob_write.specs.Canonical.{model_text}
 
--- ---- cells one.rob d=9, celltext one.rob d=9 and cells one.rob e=9
+-- ---- cells one.rob CUTS and celltext one.rob CUTS
 abbrev pub line : Verb → Word → Line
 line verb cuts = record { verb = verb; own = model_name ∷ cuts ∷ []; way = Dual; width = SixtyTwo }
 
-cut_d : IsCutList greatest (codes "d=9")
-cut_d = record {
+pub cut_at_9 : IsCutList greatest (codes "d=9")
+cut_at_9 = record {
   parts = (
     record {
       equals = omega arith;
@@ -44,147 +65,172 @@ cut_d = record {
   few = omega arith;
 }
 
-cut_e : IsCutList greatest (codes "e=9")
-cut_e = record {
+cut_at_13 : IsCutList greatest (codes "d=13")
+cut_at_13 = record {
   parts = (
     record {
       equals = omega arith;
       name = record { is_word = (refl, tt); no_keyword = refl };
-      level = inl (refl, record { digits = (omega arith, (omega arith, tt)); fits = omega arith });
+      level = inl (refl, record { digits = (omega arith, (omega arith, (omega arith, tt))); fits = omega arith });
     },
     tt,
   );
   few = omega arith;
 }
 
-cells_spelled : IsSpelled (codes "cells" ∷ model_name ∷ codes "d=9" ∷ []) (line Cells (codes "d=9"))
-cells_spelled = (
-  own model_name ∷ own (codes "d=9") ∷ [],
-  record {
-    spelled = refl;
-    own = refl;
-    count = refl;
-    names = ((λ e. cc), ((λ e. cc), tt));
-    kinds = (tt, (cut_d, tt));
-    width = inr (refl, refl);
-    route = (refl, refl);
-  },
-)
+-- a command whose own words are a model's file and a list of cuts
+module _ (name : Word) (verb : Verb) (named : name ≡ verb_word verb) (kinds : own_of verb ≡ Model ∷ Cuts ∷ [])
+    (no_route : takes_route verb ≡ false) (word : Word) (plain : IsPlain word) (is : IsCutList greatest word) where
+  spelled_as : IsSpelled (name ∷ model_name ∷ word ∷ []) (line verb word)
+  spelled_as = (
+    own model_name ∷ own word ∷ [],
+    record {
+      spelled = ap (λ w. w ∷ model_name ∷ word ∷ []) named;
+      own = refl;
+      count = ap (λ ks. length ks) (sym kinds);
+      names = ((λ e. cc), (plain, tt));
+      kinds = subst (λ ks. AreOfKinds greatest ks (model_name ∷ word ∷ [])) (sym kinds) (tt, (is, tt));
+      width = inr (refl, refl);
+      route = subst (λ b. TellsRoute b [] Dual) (sym no_route) (refl, refl);
+    },
+  )
 
-text_spelled : IsSpelled (codes "celltext" ∷ model_name ∷ codes "d=9" ∷ []) (line CellText (codes "d=9"))
-text_spelled = (
-  own model_name ∷ own (codes "d=9") ∷ [],
-  record {
-    spelled = refl;
-    own = refl;
-    count = refl;
-    names = ((λ e. cc), ((λ e. cc), tt));
-    kinds = (tt, (cut_d, tt));
-    width = inr (refl, refl);
-    route = (refl, refl);
-  },
-)
+  module _ (m : RobustModel) (comes : Comes m) (reads : ReadsModel greatest (model_text m) m) where
+    abbrev call_on : Call
+    call_on = cells_call name word m
 
-other_spelled : IsSpelled (codes "cells" ∷ model_name ∷ codes "e=9" ∷ []) (line Cells (codes "e=9"))
-other_spelled = (
-  own model_name ∷ own (codes "e=9") ∷ [],
-  record {
-    spelled = refl;
-    own = refl;
-    count = refl;
-    names = ((λ e. cc), ((λ e. cc), tt));
-    kinds = (tt, (cut_e, tt));
-    width = inr (refl, refl);
-    route = (refl, refl);
-  },
-)
+    pub model_on : HasModel call_on (line verb word) m
+    model_on = record {
+      spelled = spelled_as;
+      came =
+          subst (λ ks. Each (Came call_on) (files_of ks (model_name ∷ word ∷ []))) (sym kinds)
+          ((model_text m, (comes, tt)), tt);
+      bytes = model_text m;
+      file = record {
+        request = record { place = 0; name = model_name; most = 65536 };
+        named = ap (λ ks. request_of Model ks (model_name ∷ word ∷ [])) kinds;
+        found = (comes, tt);
+      };
+      reads = reads;
+    }
 
--- ---- its names and counts in two cells
-it_keeps : KeepsRules one_demand at_9
+    module _ (splits : IsSplitting verb) where
+      pub word_on : HasCutWord call_on (line verb word) m word
+      word_on = record {
+        model = model_on;
+        is_splitting = splits;
+        told = ap (λ ks. word_of Cuts ks (model_name ∷ word ∷ [])) kinds;
+      }
+
+      split_on : m.sets ≡ [] → (cuts : List Cut) → AreCutsAt m (parts_of word) cuts → KeepsRules m cuts
+          → HasSplit call_on (line verb word) m cuts
+      split_on alone cuts are kept =
+          record { has_cuts = record { word = word; has_word = word_on; alone = alone; are = are }; keeps = kept }
+
+-- ---- the smallest model in two cells
+pub its_model : IsModel one_demand
+unfolding ratio
+its_model = found (test_model one_demand) tt
+
+abbrev cut_at : Fraction → List Cut
+cut_at g = record { parameter = 0; level = g } ∷ []
+
+good_names : (g : Fraction) → HasGoodNames (split_model one_demand (cut_at g))
 unfolding digits
-it_keeps = record {
-  alone = refl;
-  names = record {
-    distinct = (distinct_decides (declared_names (split_model one_demand at_9))).0 refl;
-    short =
-        (omega arith, (omega arith, (omega arith, (omega arith, (omega arith, (omega arith, (omega arith, (omega arith, (omega arith, tt)))))))));
-  };
-  limits = within_by (split_model one_demand at_9) refl refl refl refl refl refl refl;
+good_names g = record {
+  distinct = (distinct_decides (declared_names (split_model one_demand (cut_at g)))).0 refl;
+  short = (
+    omega arith,
+    (omega arith, (omega arith, (omega arith, (omega arith, (omega arith, (omega arith, (omega arith, (omega arith, tt)))))))),
+  );
 }
 
-cells_split : HasSplit (cells_call (codes "cells") (codes "d=9") one_demand) (line Cells (codes "d=9")) one_demand at_9
-cells_split = record {
-  has_cuts = record {
-    word = codes "d=9";
-    has_word = record {
-      model = record {
-        spelled = cells_spelled;
-        came = ((model_text one_demand, (one_demand_comes, tt)), tt);
-        bytes = model_text one_demand;
-        file = record { request = record { place = 0; name = model_name; most = 65536 }; named = refl; found = (one_demand_comes, tt) };
-        reads = one_demand_reads;
-      };
-      splits_it = refl;
-      told = refl;
-    };
-    alone = refl;
-    are = (record { inside = omega arith; named = refl; level = refl }, tt);
-  };
-  keeps = it_keeps;
-}
+keeps : (g : Fraction) → IsWithinLimits (split_model one_demand (cut_at g)) → KeepsRules one_demand (cut_at g)
+keeps g limits = record { alone = refl; names = good_names g; limits = limits }
 
-text_split : HasSplit (cells_call (codes "celltext") (codes "d=9") one_demand) (line CellText (codes "d=9")) one_demand at_9
-text_split = record {
-  has_cuts = record {
-    word = codes "d=9";
-    has_word = record {
-      model = record {
-        spelled = text_spelled;
-        came = ((model_text one_demand, (one_demand_comes, tt)), tt);
-        bytes = model_text one_demand;
-        file = record { request = record { place = 0; name = model_name; most = 65536 }; named = refl; found = (one_demand_comes, tt) };
-        reads = one_demand_reads;
-      };
-      splits_it = refl;
-      told = refl;
-    };
-    alone = refl;
-    are = (record { inside = omega arith; named = refl; level = refl }, tt);
-  };
-  keeps = it_keeps;
-}
+pub keeps_9 : KeepsRules one_demand at_9
+unfolding digits
+keeps_9 = keeps (level_value (codes "9")) (within_by (split_model one_demand at_9) refl refl refl refl refl refl refl)
 
--- `cells` has to answer a status over pieces, an empty set, or a wide number
+keeps_13 : KeepsRules one_demand at_13
+unfolding digits
+keeps_13 =
+    keeps (level_value (codes "13")) (within_by (split_model one_demand at_13) refl refl refl refl refl refl refl)
+
+split_at_9 : HasSplit (cells_call (codes "cells") (codes "d=9") one_demand) (line Cells (codes "d=9")) one_demand at_9
+split_at_9 =
+    split_on (codes "cells") Cells refl refl refl (codes "d=9") (λ e. cc) cut_at_9 one_demand one_demand_comes
+    one_demand_reads refl refl at_9 (record { inside = omega arith; named = refl; level = refl }, tt) keeps_9
+
+split_at_13 :
+    HasSplit (cells_call (codes "cells") (codes "d=13") one_demand) (line Cells (codes "d=13")) one_demand at_13
+split_at_13 =
+    split_on (codes "cells") Cells refl refl refl (codes "d=13") (λ e. cc) cut_at_13 one_demand one_demand_comes
+    one_demand_reads refl refl at_13 (record { inside = omega arith; named = refl; level = refl }, tt) keeps_13
+
+pub text_at_9 :
+    HasSplit (cells_call (codes "celltext") (codes "d=9") one_demand) (line CellText (codes "d=9")) one_demand at_9
+text_at_9 =
+    split_on (codes "celltext") CellText refl refl refl (codes "d=9") (λ e. cc) cut_at_9 one_demand one_demand_comes
+    one_demand_reads refl refl at_9 (record { inside = omega arith; named = refl; level = refl }, tt) keeps_9
+
+-- ---- at 9: d lies in [8, 9] or in [9, 12]
+admitted_9 : Admits (split_model one_demand at_9) (int 9 ∷ int 9 ∷ int 9 ∷ [])
+unfolding ratio digits
+admitted_9 =
+    found
+    (test_admits (split_model one_demand at_9) (split_model_is one_demand its_model at_9 keeps_9 (omega arith, tt))
+    (int 9 ∷ int 9 ∷ int 9 ∷ [])) tt
+
+-- 9 is in both cells
+each_holds_9 : EachCellAdmits one_demand at_9
+each_holds_9 = each_admits one_demand its_model at_9 keeps_9 (omega arith, tt) (int 9 ∷ int 9 ∷ int 9 ∷ []) admitted_9
+
+-- the greatest demand is 12, in cell 2
+abbrev peak : List Fraction
+peak = int 9 ∷ int 9 ∷ int 12 ∷ []
+
+split_costs_12 : IsOptimal (split_model one_demand at_9) (int 12)
+unfolding ratio digits
+split_costs_12 =
+    found
+    (test_certificate (split_model one_demand at_9)
+    (best (int 12) (int 9 ∷ int 9 ∷ int 9 ∷ []) (int 12 ∷ int 12 ∷ [])
+    (cover 2 3 1ℚ ∷ cover 4 5 1ℚ ∷ [])
+    (item 0 1ℚ peak ∷ item 1 1ℚ peak ∷ item 4 1ℚ peak ∷ [])))
+    tt
+
+pieces_cost_12 : IsPieceOptimal one_demand at_9 (int 12)
+pieces_cost_12 = (optimal_agree one_demand its_model refl at_9 (omega arith, tt) (int 12)).0 split_costs_12
+
+-- `cells` has to answer `optimal`, or name a number of the split model that is wide
 pub a_demand_is_split : (result : Ended) → MustEnd (cells_call (codes "cells") (codes "d=9") one_demand) result
-    → IsCellsAnswer greatest one_demand at_9 result
-a_demand_is_split result must = must.split.cells (line Cells (codes "d=9")) one_demand at_9 cells_split refl
+    → IsPiecedOrWide greatest one_demand at_9 result
+a_demand_is_split result must =
+    pieced_or_wide greatest one_demand at_9 (int 12) pieces_cost_12 each_holds_9 result
+    (must.split.cells (line Cells (codes "d=9")) one_demand at_9 split_at_9 refl)
 
--- `celltext` has to print the split model
-pub a_split_is_written : (result : Ended) → MustEnd (cells_call (codes "celltext") (codes "d=9") one_demand) result → EndsAs Printed result
-a_split_is_written result must = must.split.written (line CellText (codes "d=9")) one_demand at_9 text_split refl
+-- ---- at 13: no d in [8, 12] is in cell 2, as d <= 12 and -d <= -13 sum to 0 <= -1
+abbrev apart : List Fraction
+apart = 0ℚ ∷ 0ℚ ∷ 0ℚ ∷ 0ℚ ∷ 0ℚ ∷ 1ℚ ∷ 0ℚ ∷ 1ℚ ∷ []
 
--- e is no parameter
-no_e : (cuts : List Cut) → AreCutsAt one_demand (parts_of (codes "e=9")) cuts → ⊥
-no_e [] h = h
-no_e (c ∷ cuts) h = by c.parameter h.0.inside h.0.named
-  where
-    by : (k : ℕ) → k < 1 → name_at (codes "d" ∷ []) k ≡ codes "e" → ⊥
-    by zero inside e = differ (codes "d") (codes "e") tt e
-    by (suc k) inside e = absurd (omega (arith, inside))
+none_beyond_13 : IsEmptySet (split_model one_demand at_13)
+unfolding ratio digits
+none_beyond_13 =
+    shows_empty (split_model one_demand at_13) (split_model_is one_demand its_model at_13 keeps_13 (omega arith, tt))
+    apart
+    (found (test_empty (split_model one_demand at_13) apart) tt)
 
-pub e_is_no_parameter : (result : Ended) → MustEnd (cells_call (codes "cells") (codes "e=9") one_demand) result → EndsAs (CellsRule 52) result
-e_is_no_parameter result must =
-    must.split.rule (line Cells (codes "e=9")) one_demand 52
-    (no_parameter (codes "e=9")
-    (record {
-      model = record {
-        spelled = other_spelled;
-        came = ((model_text one_demand, (one_demand_comes, tt)), tt);
-        bytes = model_text one_demand;
-        file = record { request = record { place = 0; name = model_name; most = 65536 }; named = refl; found = (one_demand_comes, tt) };
-        reads = one_demand_reads;
-      };
-      splits_it = refl;
-      told = refl;
-    })
-    refl no_e refl)
+not_each : EachCellAdmits one_demand at_13 → ⊥
+not_each each = let w = admits_each one_demand its_model at_13 keeps_13 (omega arith, tt) each in none_beyond_13 w.0 w.1
+
+-- so `cells` has to answer an empty set, with weights that show it, or a number that is wide before that is known
+pub a_cell_is_empty : (result : Ended) → MustEnd (cells_call (codes "cells") (codes "d=13") one_demand) result
+    → IsEmptyCellsAnswer greatest one_demand at_13 result
+a_cell_is_empty result must =
+    must.split.empty (line Cells (codes "d=13")) one_demand at_13 split_at_13 refl not_each
+
+-- ---- `celltext` has to print the split model
+pub a_split_is_written : (result : Ended) → MustEnd (cells_call (codes "celltext") (codes "d=9") one_demand) result
+    → EndsAs Printed result
+a_split_is_written result must = must.split.written (line CellText (codes "d=9")) one_demand at_9 text_at_9 refl

@@ -1,11 +1,17 @@
--- A call of `solve` by cutting planes, worked by hand: what its words and files say, and so how it must end.
+-- Calls of `solve` by cutting planes, worked by hand: what their words and files say, and so how the one on the smallest
+-- model must end.
 use Rattle.std.proofs.Common.{refl, inl, inr}
-use Rattle.std.specs.Prelude.{[], ◌∷◌, codes}
+use Rattle.std.specs.Prelude.{[], ◌∷◌, ◌++◌, codes}
 use Rattle.rob_dualize.proofs.NarrowModels.{one_demand_admitted, one_demand_costs_12}
 use Rattle.rob_dualize.specs.SmallestModel.{one_demand}
+use Rattle.rob_elab.specs.Forms.{judged_forms}
 use Rattle.rob_meaning.proofs.WorkedNotation.{int}
+use Rattle.rob_meaning.specs.RobustModel.{RobustModel}
+use Rattle.rob_parse.specs.Modelled.{ReadsModel}
+use Rattle.rob_sets.specs.FirstWide.{NothingWide}
+use Rattle.rob_sets.specs.SetForm.{judged_set}
 use Rattle.rob_top.proofs.SolveAnswers.{IsSolvedOrWide, optimal_or_wide}
-use Rattle.rob_top.proofs.WorkedCalls.{line, one_demand_comes, one_demand_narrow, one_demand_reads}
+use Rattle.rob_top.proofs.WorkedCalls.{Comes, line, one_demand_comes, one_demand_narrow, one_demand_reads}
 use Rattle.rob_top.specs.Completeness.{MustEnd}
 use Rattle.rob_top.specs.Inputs.{HasForms}
 use Rattle.rob_top.specs.WorkedCalls.{cuts_call, greatest, model_name}
@@ -15,7 +21,7 @@ use Rattle.rob_words.specs.Commands.{IsSpelled, Line, joined, own, route as rout
 use Rattle.rob_words.specs.declared.route.Route.TheVariants.{Cuts}
 
 -- solve one.rob --route=cuts
-abbrev by_cuts : Line
+abbrev pub by_cuts : Line
 by_cuts = record line { way = Cuts }
 
 by_cuts_spelled : IsSpelled (codes "solve" ∷ model_name ∷ codes "--route=cuts" ∷ []) by_cuts
@@ -32,21 +38,25 @@ by_cuts_spelled = (
   },
 )
 
-its_forms : HasForms (cuts_call one_demand) by_cuts one_demand
-its_forms = record {
+pub cut_forms : (m : RobustModel) → Comes m → ReadsModel greatest (model_text m) m
+    → NothingWide greatest m (judged_set m ++ judged_forms m) → HasForms (cuts_call m) by_cuts m
+cut_forms m comes reads narrow = record {
   model = record {
     spelled = by_cuts_spelled;
-    came = ((model_text one_demand, (one_demand_comes, tt)), tt);
-    bytes = model_text one_demand;
+    came = ((model_text m, (comes, tt)), tt);
+    bytes = model_text m;
     file = record {
       request = record { place = 0; name = model_name; most = 65536 };
       named = refl;
-      found = (one_demand_comes, tt);
+      found = (comes, tt);
     };
-    reads = one_demand_reads;
+    reads = reads;
   };
-  none_wide = one_demand_narrow;
+  none_wide = narrow;
 }
+
+its_forms : HasForms (cuts_call one_demand) by_cuts one_demand
+its_forms = cut_forms one_demand one_demand_comes one_demand_reads one_demand_narrow
 
 -- this call has to answer `optimal`, or name a number of a run that is wide
 pub one_demand_is_cut : (result : Ended) → MustEnd (cuts_call one_demand) result → IsSolvedOrWide Cuts greatest one_demand result

@@ -14,11 +14,12 @@ use Rattle.rob_meaning.proofs.WorkedNotation.{int}
 use Rattle.rob_meaning.specs.Certificates.{Status}
 use Rattle.rob_meaning.specs.Proves.{HasStatus}
 use Rattle.rob_model.specs.declared.place.Spot.{Spot}
-use Rattle.rob_top.proofs.WorkedCalls.{empty_interval_admits_none, empty_interval_forms, line, one_demand_forms}
+use Rattle.rob_top.proofs.WorkedCalls.{empty_interval_admits_none, empty_interval_comes, empty_interval_forms, empty_interval_none_wide, empty_interval_reads, line, one_demand_forms}
+use Rattle.rob_top.proofs.WorkedCuts.{by_cuts, cut_forms}
 use Rattle.rob_top.specs.Completeness.{MustEnd}
 use Rattle.rob_top.specs.Endings.{EndsAs, IsShownAnswer}
 use Rattle.rob_top.specs.Work.{ended_of}
-use Rattle.rob_top.specs.WorkedCalls.{empty_interval, greatest, solve_call}
+use Rattle.rob_top.specs.WorkedCalls.{cuts_call, empty_interval, greatest, solve_call}
 use Rattle.rob_top.specs.declared.ended.Ended.{Ended}
 use Rattle.rob_top.specs.declared.ended.Ended.TheVariants.{TooWide}
 
@@ -80,3 +81,9 @@ empty_interval_narrow = record { set = set_narrow; counterpart = counterpart_nar
 pub empty_interval_is_not_wide : (result : Ended) → MustEnd (solve_call empty_interval) result → IsShownAnswer empty_interval result
 empty_interval_is_not_wide result must =
     must.narrow_empty line empty_interval empty_interval_forms refl empty_interval_narrow empty_interval_admits_none
+
+-- by cutting planes too
+pub empty_interval_is_cut : (result : Ended) → MustEnd (cuts_call empty_interval) result → IsShownAnswer empty_interval result
+empty_interval_is_cut result must =
+    must.narrow_empty by_cuts empty_interval
+    (cut_forms empty_interval empty_interval_comes empty_interval_reads empty_interval_none_wide) refl empty_interval_narrow empty_interval_admits_none

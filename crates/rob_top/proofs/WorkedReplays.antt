@@ -187,7 +187,7 @@ two_demands_are_printed text means = by means
     by (narrowed h) = absurd (narrow_not_replay h.line.verb h.is_narrow (ap (λ (l : Line). l.verb) (table_line h.line h.forms.model.spelled)))
     by (split_written h) =
         let has = h.has.has_cuts.has_word in
-        absurd (replay_no_split h.line.verb (ap (λ (l : Line). l.verb) (table_line h.line has.model.spelled)) has.splits_it)
+        absurd (replay_no_split h.line.verb (ap (λ (l : Line). l.verb) (table_line h.line has.model.spelled)) has.is_splitting)
     by (replayed h) =
         let has = order_12_on two_demands two_demands_come in
         let known : Known table_call.source = by_files (files_of order_12 two_demands) refl in

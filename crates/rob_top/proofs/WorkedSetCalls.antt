@@ -208,9 +208,9 @@ its_parts = record {
 it_is_within : IsWithinLimits hard_and_soft
 it_is_within = within_by hard_and_soft refl refl refl refl refl refl refl
 
-it_reads : ReadsModel greatest (model_text hard_and_soft) hard_and_soft
+pub hard_and_soft_reads : ReadsModel greatest (model_text hard_and_soft) hard_and_soft
 unfolding ratio
-it_reads =
+hard_and_soft_reads =
     canonical_reads greatest hard_and_soft (omega arith) (omega arith) its_parts
     (found (test_model (written_model hard_and_soft)) tt)
     its_names its_spelling (tt, tt) it_is_within
@@ -254,12 +254,12 @@ it_is_narrow =
       ),
     )
 
-it_comes : Comes hard_and_soft
+pub hard_and_soft_comes : Comes hard_and_soft
 unfolding ratio digits
-it_comes = refl
+hard_and_soft_comes = refl
 
 its_forms : HasForms (solve_call hard_and_soft) line hard_and_soft
-its_forms = forms_on hard_and_soft it_comes it_reads it_is_narrow
+its_forms = forms_on hard_and_soft hard_and_soft_comes hard_and_soft_reads it_is_narrow
 
 -- this call has to answer `optimal`, or name a wide row
 pub hard_and_soft_is_solved : (result : Ended) → MustEnd (solve_call hard_and_soft) result

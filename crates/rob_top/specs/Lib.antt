@@ -19,6 +19,7 @@ pub mod Searched
 pub mod Solved
 pub mod Split
 pub mod SplitEnds
+pub mod SplitTexts
 pub mod SplitWork
 pub mod Swept
 pub mod TreeAnswers

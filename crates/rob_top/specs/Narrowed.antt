@@ -1,6 +1,5 @@
 -- The answer of `narrow`: how large the numbers can become in the two programs that a model is solved by.
-use Rattle.std.specs.Prelude.{◌≡◌, ◌++◌, ◌&&◌, ◌↔◌, ◌⊎◌, ℕ, ℤ, Bool, true, List, Option, codes, is_some, map}
-use Rattle.rob_algebra.specs.Fraction.{Fraction, of_int}
+use Rattle.std.specs.Prelude.{◌≡◌, ◌++◌, ◌&&◌, ◌↔◌, ◌⊎◌, ℕ, ℤ, Bool, true, List, Option, codes, is_some}
 use Rattle.rob_bounds.specs.Bounds.{row_bound}
 use Rattle.rob_counterpart.specs.Counterpart.{set_program, counterpart}
 use Rattle.rob_dualize.specs.RowBounds.{IsGreatestSize, up_to}
@@ -11,7 +10,6 @@ use Rattle.rob_meaning.specs.RobustModel.{RobustModel}
 use Rattle.rob_report.specs.NarrowText.{bound_line, narrow_line}
 use Rattle.rob_top.specs.Calls.{Call, limit_of}
 use Rattle.rob_top.specs.Inputs.{HasForms}
-use Rattle.rob_top.specs.Replies.{Replies}
 use Rattle.rob_top.specs.declared.ended.Ended.TheVariants.{Printed}
 use Rattle.rob_top.specs.declared.reply.Reply.{Reply}
 use Rattle.rob_words.specs.Commands.{Line}

@@ -1,5 +1,5 @@
 -- Refusals: a number that is wide, and a text that breaks a rule.
-use Rattle.std.specs.Prelude.{◌≡◌, ◌++◌, ℕ, List, Err}
+use Rattle.std.specs.Prelude.{◌≡◌, ◌++◌, ℕ, List, [], Err}
 use Rattle.rob_cert.specs.Causes.{HasCause}
 use Rattle.rob_cert.specs.Reading.{start}
 use Rattle.rob_cert.specs.Spelling.{naming_of}
@@ -7,6 +7,7 @@ use Rattle.rob_cert.specs.declared.error.CertErr.TheVariants.{Rule}
 use Rattle.rob_cert.specs.declared.trace.Round.{Round}
 use Rattle.rob_check.specs.Conditions.{verdict_of}
 use Rattle.rob_check.specs.declared.verdict.Verdict.TheVariants as verdict
+use Rattle.rob_cuts.specs.Rounds.{RoundFits}
 use Rattle.rob_elab.specs.Forms.{judged_forms}
 use Rattle.rob_meaning.specs.Certificates.{Certificate}
 use Rattle.rob_meaning.specs.Places.{Each}
@@ -43,16 +44,17 @@ module _ (call : Call) where
     searching : (c : Certificate) (form : ℕ) → HasSought call line m c form
         → IsWideSought (limit_of line) m form (certificate_vector c) spot → IsWideSpot line m spot
 
-  -- a number is wider than the command line's width, and the ledger has counted it in this call
+  -- a number is wider than the command line's width, and the ledger has counted it in this call; by cutting planes no
+  -- round comes before it
   pub record IsTooWide (spot : Spot) (text : List ℕ) : Type 0 where
     pub line : Line
     pub m : RobustModel
     pub wide : IsWideSpot line m spot
     pub raised : WasRaised call.wides
-    pub printed : text ≡ too_wide_line m spot
+    pub printed : text ≡ with_rounds line.way m [] (too_wide_line m spot)
 
   -- the same on the way of `solve` and `prove` by the line's route; by cutting planes the rounds before it are told
-  -- behind its spot
+  -- behind its spot, and their numbers fit
   pub record IsTooWideOnWay (spot : Spot) (text : List ℕ) : Type 0 where
     pub line : Line
     pub m : RobustModel
@@ -61,6 +63,7 @@ module _ (call : Call) where
     pub solves : IsSolving line.verb
     pub wide : IsWideBy line.way (limit_of line) m spot rounds
     pub raised : WasRaised call.wides
+    pub rounds_fit : Each (RoundFits (limit_of line)) rounds
     pub printed : text ≡ with_rounds line.way m rounds (too_wide_line m spot)
 
   -- the files came, and the model's text breaks the rule at the line, first

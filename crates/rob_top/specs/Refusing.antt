@@ -1,5 +1,5 @@
 -- What the work on a model answers where it stops.
-use Rattle.std.specs.Prelude.{◌≡◌, ◌⊎◌, ℕ, ◌<◌, List, length, All}
+use Rattle.std.specs.Prelude.{◌≡◌, ◌⊎◌, ℕ, ◌<◌, List, [], length, All}
 use Rattle.rob_algebra.specs.Fraction.{Fraction}
 use Rattle.rob_cert.specs.declared.ending.Stop.{Stop}
 use Rattle.rob_cert.specs.declared.ending.Stop.TheVariants as stop
@@ -68,10 +68,12 @@ RepliesUnread (unread.Rule rule number) reply = Replies (Model rule number) (mod
 RepliesUnread unread.Memory reply = ⊥
 
 module _ (m : RobustModel) where
-  -- the reply where set rows or forms were refused: the spot of the wide number; memory has none
-  abbrev pub RepliesRefused : ElabErr → Reply → Type 0
-  RepliesRefused (refused.Wide spot) reply = Replies (TooWide spot) (too_wide_line m spot) reply
-  RepliesRefused refused.Memory reply = ⊥
+  -- the reply where set rows or forms were refused: the spot of the wide number, before which no round comes; memory
+  -- has none
+  abbrev pub RepliesRefused : Route → ElabErr → Reply → Type 0
+  RepliesRefused way (refused.Wide spot) reply =
+      Replies (TooWide spot) (with_rounds way m [] (too_wide_line m spot)) reply
+  RepliesRefused way refused.Memory reply = ⊥
 
   -- the spot is one of the model's
   abbrev pub IsRefusedOf : ElabErr → Type 0

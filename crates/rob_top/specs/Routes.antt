@@ -10,9 +10,11 @@ use Rattle.rob_cert.specs.declared.ending.Stop.{Stop}
 use Rattle.rob_cert.specs.declared.ending.Stop.TheVariants.{EmptySet, Wide, Memory}
 use Rattle.rob_cert.specs.declared.trace.Round.{Round}
 use Rattle.rob_cert.specs.declared.trace.Trace.{Trace}
-use Rattle.rob_cuts.specs.Solving.{IsSolution, IsWideAt}
-use Rattle.rob_dualize.specs.Solving.{CountsStop, IsReadAtEnd, IsShownEmpty, IsWideOnPath}
+use Rattle.rob_cuts.specs.Rounds.{RoundFits}
+use Rattle.rob_cuts.specs.Solving.{IsSolution, IsWideAt, StopFits}
+use Rattle.rob_dualize.specs.Solving.{CountsStop, IsLastScenario, IsReadAtEnd, IsShownEmpty, IsWideOnPath}
 use Rattle.rob_meaning.specs.Certificates.{Certificate}
+use Rattle.rob_meaning.specs.Places.{Each}
 use Rattle.rob_meaning.specs.Proves.{Proves}
 use Rattle.rob_meaning.specs.RobustModel.{RobustModel}
 use Rattle.rob_model.specs.declared.place.Spot.{Spot}
@@ -20,10 +22,11 @@ use Rattle.rob_report.specs.Rounds.{rounds_text}
 use Rattle.rob_words.specs.declared.route.Route.{Route}
 use Rattle.rob_words.specs.declared.route.Route.TheVariants.{Dual, Cuts}
 
--- how the certificate was found: it is read off the last basis of the counterpart, and there are no rounds; or it is
--- read off where a run of the cutting-plane method is finished, whose rounds these are
+-- how the certificate was found: it is read off the last basis of the counterpart, its scenario off that of the set's
+-- program, and there are no rounds; or it is read off where a run of the cutting-plane method is finished, whose rounds
+-- these are, its scenario likewise
 abbrev pub IsFoundBy : Route → RobustModel → Certificate → List Round → Type 0
-IsFoundBy Dual m c rounds = IsReadAtEnd m c × (rounds ≡ [])
+IsFoundBy Dual m c rounds = IsReadAtEnd m c × IsLastScenario m c.inside × (rounds ≡ [])
 IsFoundBy Cuts m c rounds = IsSolution m c rounds
 
 -- the number at the spot is wide: it is one of a row of a basis on the path of the set's program or of the counterpart,
@@ -54,9 +57,10 @@ HasStopCause way limit m (EmptySet weights) = IsShownEmpty m (map of_int weights
 HasStopCause way limit m (Wide spot trace) = IsWideBy way limit m spot trace.rounds
 HasStopCause way limit m Memory = Unit {0}
 
--- what the route answers for the model, and how often wide results were counted
+-- what the route answers for the model, within the limit, and how often wide results were counted
 pub record SolvesBy {N : Type 0} (way : Route) (value : N → Fraction) (limit : ℕ) (m : RobustModel) (before now : ℕ)
     (result : Result (Cert N × Trace) Stop) : Type 0 where
   pub found : IfOk result (λ answer. IsFound way m (certificate_of value answer.0) answer.1.rounds)
   pub stopped : IfErr result (HasStopCause way limit m)
+  pub fits : MatchResult result (λ answer. Each (RoundFits limit) answer.1.rounds) (StopFits limit)
   pub counted : MatchResult result (λ _. now ≡ before) (CountsStop before now)

@@ -5,9 +5,11 @@ use Rattle.rob_cert.specs.Apart.{FitsLines}
 use Rattle.rob_cert.specs.Shape.{HasShape}
 use Rattle.rob_cert.specs.Spelling.{cert_text}
 use Rattle.rob_cert.specs.declared.trace.Round.{Round}
+use Rattle.rob_cuts.specs.Rounds.{RoundFits}
 use Rattle.rob_dualize.specs.Solving.{IsShownEmpty}
 use Rattle.rob_meaning.specs.Certificates.{Certificate, Status, optimal, infeasible, unbounded}
 use Rattle.rob_meaning.specs.Guarantee.{HasBound, HasWorstCase}
+use Rattle.rob_meaning.specs.Places.{Each}
 use Rattle.rob_meaning.specs.Proves.{Proves, HasStatus}
 use Rattle.rob_meaning.specs.RobustModel.{RobustModel}
 use Rattle.rob_report.specs.Report.{report_of}
@@ -50,7 +52,7 @@ module _ (call : Call) where
 
   -- the model has the status: a certificate of it was found that proves it, by the line's route, as the last basis of the model's
   -- counterpart gives it, or the end of a run of the cutting-plane method; and it, or its plan, is printed. It has its shape and its
-  -- numbers fit, so that what `prove` prints is the text of a certificate
+  -- numbers fit, so that what `prove` prints is the text of a certificate; the numbers of the rounds fit too
   pub record IsSolved (status : Status) (text : List ℕ) : Type 0 where
     pub line : Line
     pub m : RobustModel
@@ -65,6 +67,7 @@ module _ (call : Call) where
     pub found : IsFoundBy line.way m c rounds
     pub shape : HasShape m c
     pub fits : FitsLines (limit_of line) m c
+    pub rounds_fit : Each (RoundFits (limit_of line)) rounds
     pub printed : IsPrinted line.verb line.way m c rounds text
 
   -- no joint scenario is admitted, as the weights show

@@ -8,8 +8,8 @@ use Rattle.rob_cells.specs.Rules.{BreaksRule, KeepsRules}
 use Rattle.rob_cert.specs.Apart.{FitsLines}
 use Rattle.rob_cert.specs.Shape.{HasShape}
 use Rattle.rob_cert.specs.Spelling.{name_at}
-use Rattle.rob_dualize.specs.Models.{IsWideIn}
-use Rattle.rob_dualize.specs.Solving.{IsReadAtEnd, IsShownEmpty}
+use Rattle.rob_dualize.specs.Models.{IsWideIn, IsWritten}
+use Rattle.rob_dualize.specs.Solving.{IsLastScenario, IsReadAtEnd, IsShownEmpty}
 use Rattle.rob_meaning.specs.Certificates.{Certificate, Status, optimal, infeasible, unbounded}
 use Rattle.rob_meaning.specs.Named.{parameter_names}
 use Rattle.rob_meaning.specs.Proves.{Proves}
@@ -77,7 +77,7 @@ module _ (call : Call) where
   -- the model was read, and the words say `cells` or `celltext`, and this word is their list of cuts
   pub record HasCutWord (line : Line) (m : RobustModel) (word : Word) : Type 0 where
     pub model : HasModel call line m
-    pub splits_it : IsSplitting line.verb
+    pub is_splitting : IsSplitting line.verb
     pub told : TellsCuts line word
 
   -- the model has no named set, and the words tell these cuts, which are at its parameters
@@ -119,9 +119,10 @@ cells_fault_text rule = fault_text (codes "cells " ++ decimal rule)
 
 module _ (call : Call) where
   -- `cells`: the model has the status over pieces, and each cell holds an admitted scenario. A certificate of the
-  -- split model was found that proves its status, as the last basis of the split model's counterpart gives it; the
-  -- number of cells is printed, and its plan, which is a piece with that bound. What the split model means of the
-  -- model: its statuses, none worse than with one policy, and its sets, the cells, one of which holds each scenario
+  -- split model was found that proves its status, as the last basis of the split model's counterpart gives it, with
+  -- the scenario that the last basis of its sets' program gives; the number of cells is printed, and its plan, which is
+  -- a piece with that bound. No number of the split model's set rows and forms is wide. What the split model means of
+  -- the model: its statuses, none worse than with one policy, and its sets, the cells, one of which holds each scenario
   pub record IsPieced (status : Status) (text : List ℕ) : Type 0 where
     pub line : Line
     pub m : RobustModel
@@ -137,8 +138,10 @@ module _ (call : Call) where
     pub sets : HasCellSets m cuts (split_model m cuts)
     pub proves : Proves (split_model m cuts) c
     pub last : IsReadAtEnd (split_model m cuts) c
+    pub inside : IsLastScenario (split_model m cuts) c.inside
     pub shape : HasShape (split_model m cuts) c
     pub fits : FitsLines (limit_of line) (split_model m cuts) c
+    pub written : IsWritten (limit_of line) (split_model m cuts)
     pub printed : text ≡ cells_line (cell_count cuts) ++ report_of (split_model m cuts) c
 
   -- `celltext`: the canonical text of the split model is printed, which means that of the model
@@ -169,14 +172,15 @@ module _ (call : Call) where
     pub breaks : BreaksCells line m rule
     pub printed : text ≡ cells_fault_text rule
 
-  -- no joint scenario of the split model is admitted, as the weights show: not each cell holds a scenario that the
-  -- model admits
+  -- no number of the split model's set rows and forms is wide, and no joint scenario of it is admitted, as the weights
+  -- show: not each cell holds a scenario that the model admits
   pub record IsEmptyCell (weights : List ℤ) (text : List ℕ) : Type 0 where
     pub line : Line
     pub m : RobustModel
     pub cuts : List Cut
     pub has : HasSplit call line m cuts
     pub is_cells : line.verb ≡ Cells
+    pub written : IsWritten (limit_of line) (split_model m cuts)
     pub shown : IsShownEmpty (split_model m cuts) (map of_int weights)
     pub not_each : EachCellAdmits m cuts → ⊥
     pub printed : text ≡ empty_set_lines (split_model m cuts) weights

@@ -1,13 +1,14 @@
 -- Which answer has to come at `cells` and `celltext`.
 use Rattle.std.specs.Prelude.{◌≡◌, ℕ, List, map}
 use Rattle.rob_algebra.specs.Fraction.{Fraction, of_int}
-use Rattle.rob_dualize.specs.Models.{IsWideIn}
+use Rattle.rob_dualize.specs.Models.{IsWideIn, judged}
 use Rattle.rob_dualize.specs.Solving.{IsShownEmpty}
 use Rattle.rob_meaning.specs.Certificates.{Status, optimal, infeasible, unbounded}
 use Rattle.rob_meaning.specs.RobustModel.{RobustModel}
 use Rattle.rob_model.specs.declared.place.Spot.{Spot}
 use Rattle.rob_pieces.specs.Cuts.{Cut}
 use Rattle.rob_pieces.specs.SplitModel.{split_model}
+use Rattle.rob_sets.specs.FirstWide.{IsFirstWide}
 use Rattle.rob_top.specs.Calls.{Call, limit_of}
 use Rattle.rob_top.specs.Endings.{EndsAs, IsOutside, IsWideBefore}
 use Rattle.rob_top.specs.Split.{BreaksCells, EachCellAdmits, HasSplit, HasStatusOverPieces}
@@ -48,6 +49,10 @@ module _ (call : Call) (result : Ended) where
     -- is wide in the split model
     pub cells : (line : Line) (m : RobustModel) (cuts : List Cut) → HasSplit call line m cuts → line.verb ≡ Cells
         → IsCellsAnswer (limit_of line) m cuts result
+    -- a number of the split model's set rows and forms is wide, so the first such number is named
+    pub wide : (line : Line) (m : RobustModel) (cuts : List Cut) (spot : Spot) → HasSplit call line m cuts
+        → line.verb ≡ Cells → IsFirstWide (limit_of line) (split_model m cuts) (judged (split_model m cuts)) spot
+        → EndsAs (TooWide spot) result
     -- not each cell holds an admitted scenario, so it is that, with the weights that show it, or a wide number of the
     -- split model's set rows and forms, or of its sets' program
     pub empty : (line : Line) (m : RobustModel) (cuts : List Cut) → HasSplit call line m cuts → line.verb ≡ Cells

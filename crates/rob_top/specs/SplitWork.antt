@@ -1,8 +1,8 @@
 -- What the work of `cells` and `celltext` answers, whichever call it is done for.
-use Rattle.std.specs.Prelude.{◌≡◌, ◌⊎◌, ◌++◌, ℕ, List}
+use Rattle.std.specs.Prelude.{◌⊎◌, ◌++◌, ℕ, List}
 use Rattle.rob_cert.specs.Apart.{FitsLines}
 use Rattle.rob_cert.specs.declared.ending.Stop.{Stop}
-use Rattle.rob_dualize.specs.Models.{HasModelCause, RoseIfStopped}
+use Rattle.rob_dualize.specs.Models.{HasModelCause, IsWritten, RoseIfStopped}
 use Rattle.rob_dualize.specs.Solving.{IsSolution}
 use Rattle.rob_meaning.specs.Certificates.{Certificate}
 use Rattle.rob_meaning.specs.RobustModel.{RobustModel}
@@ -47,9 +47,11 @@ module _ (limit : ℕ) (wides : Count) (m : RobustModel) where
     pub rose : RoseIfStopped wides.before wides.now stop
     pub replies : RepliesStop m Dual stop reply
 
-  -- a certificate of it was found, and the number of cells and its plan are the reply
+  -- no number is wide when it is written in whole numbers, and a certificate of it was found; the number of cells and
+  -- its plan are the reply
   pub record RepliesPlan (cells : ℕ) (reply : Reply) : Type 0 where
     pub c : Certificate
+    pub written : IsWritten limit m
     pub found : IsSolution m c
     pub fits : FitsLines limit m c
     pub replies : Replies (ended_of c.status) (cells_line cells ++ report_of m c) reply

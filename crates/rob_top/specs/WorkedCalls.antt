@@ -95,6 +95,10 @@ cells_call name cuts m = call_over (name ∷ model_name ∷ cuts ∷ []) (file_o
 abbrev pub at_9 : List Cut
 at_9 = record { parameter = 0; level = level_value (codes "9") } ∷ []
 
+-- and at 13, above each scenario that it admits
+abbrev pub at_13 : List Cut
+at_13 = record { parameter = 0; level = level_value (codes "13") } ∷ []
+
 -- minimise x, where x >= d for each d in [0, 2], within a budget of 1 round 1 by 1
 abbrev pub demand_within_a_budget : RobustModel
 demand_within_a_budget = record one_demand {

@@ -11,7 +11,8 @@ use rob_tree::{Branch, LeafFault};
 /// line or record, from 1; `Cert` is also of a text that breaks none, of a certificate without a plan.
 #[derive(Debug, Drop)]
 pub enum Ended {
-    /// The model is optimal; at `whole` and `tree` over plans whose named variables are whole, and so the next two.
+    /// The model is optimal; at `whole` and `tree` over plans whose named variables are whole, at `cells` over plans with
+    /// a policy of their own in each cell, and so the next two.
     Optimal,
     /// No plan keeps every row in every scenario of its set.
     Infeasible,
@@ -34,9 +35,9 @@ pub enum Ended {
     /// The model's text can't be read.
     Model(u8, u32),
     /// No joint scenario is admitted: with these weights, one for each set row, the set rows sum to 0 on each column, and to a
-    /// negative right side.
+    /// negative right side. At `cells` they are the split model's.
     EmptySet(List<i64>),
-    /// A number is wider than the program computes with.
+    /// A number is wider than the program computes with; at `cells` one of the split model.
     TooWide(Spot),
     /// It is, in the box behind these branches.
     WideNode(List<Branch>, Spot),
@@ -54,7 +55,7 @@ pub enum Ended {
     Tree(u8, u32),
     /// The statement or the limits of a sweep break that rule.
     Sweep(u8),
-    /// The cuts, or the split model that they make, break that rule.
+    /// The model, its cuts, or the split model that they make, break that rule.
     Cells(u8),
     /// The outside failed while a file was read.
     ReadFault,

@@ -4,7 +4,7 @@ ghost use Rattle.std.specs.Prelude.{◌≡◌, ◌≤◌, Err, IfOk, map, string
 ghost use Rattle.rob_number.specs.Counts.{Rose};
 ghost use Rattle.rob_outside.specs.Files.{IsAtMost, found_of};
 ghost use Rattle.rob_top.specs.Calls.{IsFoundIn, count, files_of, most_of, requests, source_of};
-ghost use Rattle.rob_top.specs.Replies.{Asks, AsksOnce, IsFetched, IsGot, IsGotWithin, IsNothing, with_file};
+ghost use Rattle.rob_top.specs.Replies.{Asks, AsksOnce, IsFetched, IsGot, IsGotWithin, IsNothing, with_file, with_text};
 ghost use Rattle.rob_top.specs.Work.{IsShortFetch};
 ghost use Rattle.rob_words.specs.Answers.{line_of};
 ghost use Rattle.rob_words.specs.Verbs.{own_of};
@@ -127,49 +127,24 @@ fn with_bytes(kind: Own, bytes: Vec<u8>, files: Files) -> Files
     ensures with { result ≡ with_file kind bytes files }
 {
     match files {
-        Files::Texts(texts) => Files::Texts(match kind {
-            Own::Model => Texts {
-                model: bytes,
-                certificate: texts.certificate,
-                scenarios: texts.scenarios,
-                tree: texts.tree,
-                words: texts.words,
-                route: texts.route,
-            },
-            Own::Certificate => Texts {
-                model: texts.model,
-                certificate: bytes,
-                scenarios: texts.scenarios,
-                tree: texts.tree,
-                words: texts.words,
-                route: texts.route,
-            },
-            Own::Scenarios => Texts {
-                model: texts.model,
-                certificate: texts.certificate,
-                scenarios: bytes,
-                tree: texts.tree,
-                words: texts.words,
-                route: texts.route,
-            },
-            Own::Number => texts,
-            Own::Names => texts,
-            Own::Form => texts,
-            Own::Tree => Texts {
-                model: texts.model,
-                certificate: texts.certificate,
-                scenarios: texts.scenarios,
-                tree: bytes,
-                words: texts.words,
-                route: texts.route,
-            },
-            Own::Statement => texts,
-            Own::Limit => texts,
-            Own::Limits => texts,
-            Own::Cuts => texts,
-        }),
+        Files::Texts(texts) => Files::Texts(texts_with(kind, bytes, texts)),
         Files::Answer(reply) => Files::Answer(reply),
     }
+}
+
+/// The texts, with these bytes as that of the kind.
+fn texts_with(kind: Own, bytes: Vec<u8>, mut texts: Texts) -> Texts
+    ensures with { result ≡ with_text kind bytes texts }
+{
+    match kind {
+        Own::Model => texts.model = bytes,
+        Own::Certificate => texts.certificate = bytes,
+        Own::Scenarios => texts.scenarios = bytes,
+        Own::Tree => texts.tree = bytes,
+        Own::Number | Own::Names | Own::Form => {}
+        Own::Statement | Own::Limit | Own::Limits | Own::Cuts => {}
+    }
+    texts
 }
 
 /// Fetches a file of at most `most` bytes.

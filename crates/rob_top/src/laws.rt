@@ -1,16 +1,19 @@
 // Which answer has to come, what two answers say of each other, what `check` says of what `prove` prints, what
-// `replay` and `worst` show of what `check` accepts and of what `prove` prints, and what `checktree` says of what `tree`
-// prints. What is known of a call's files (`Known`) are the told files, or the answers that came in the call, which
-// every shelf gives. The functions do nothing; their clauses are the claims.
+// `replay` and `worst` show of what `check` accepts and of what `prove` prints, what `checktree` says of what `tree`
+// prints, and what `solve`, `prove` and `check` make of the text that `celltext` prints. What is known of a call's files
+// (`Known`) are the told files, or the answers that came in the call, which every shelf gives. The functions do nothing;
+// their clauses are the claims.
 
-ghost use Rattle.std.specs.Prelude.{◌≡◌, ◌≤◌, ◌<◌, ◌^◌, ◌⊎◌, ◌++◌, ◌∷◌, ℕ, ℤ, List, true, [], codes};
+ghost use Rattle.std.specs.Prelude.{◌≡◌, ◌≤◌, ◌<◌, ◌^◌, ◌⊎◌, ◌↔◌, ◌++◌, ◌∷◌, ℕ, ℤ, List, true, [], codes};
 ghost use Rattle.rob_algebra.specs.Fraction.{Fraction};
 ghost use Rattle.rob_cert.specs.Apart.{IsNamedInWords};
 ghost use Rattle.rob_check.specs.Narrow.{IsFirstFailing};
 ghost use Rattle.rob_dualize.specs.SmallestModel.{one_demand};
+ghost use Rattle.rob_dualize.specs.Models.{IsWideIn};
 ghost use Rattle.rob_dualize.specs.Solving.{IsNarrowModel, IsWideOnPath};
 ghost use Rattle.rob_gen.specs.Generated.{generated};
-ghost use Rattle.rob_meaning.specs.Certificates.{Status, infeasible, optimal};
+ghost use Rattle.rob_meaning.specs.Certificates.{Status, infeasible, optimal, unbounded};
+ghost use Rattle.rob_meaning.specs.Guarantee.{IsNoWorse};
 ghost use Rattle.rob_meaning.specs.Places.{Each};
 ghost use Rattle.rob_meaning.specs.Proves.{HasStatus};
 ghost use Rattle.rob_meaning.specs.RobustModel.{RobustModel};
@@ -19,9 +22,11 @@ ghost use Rattle.rob_model.specs.declared.place.Place.{Place};
 ghost use Rattle.rob_model.specs.declared.place.Spot.{Spot};
 ghost use Rattle.rob_model.specs.declared.place.Spot.TheVariants.{Replay as ReplaySpot};
 ghost use Rattle.rob_parse.specs.Modelled.{ReadsModel};
+ghost use Rattle.rob_pieces.specs.SplitModel.{split_model};
 ghost use Rattle.rob_replay.specs.Replayed.{ShowsBound};
 ghost use Rattle.rob_top.specs.Branched.{IsBranched};
-ghost use Rattle.rob_top.specs.Calls.{Call, IsSolving, Known, known_call, limit_of};
+ghost use Rattle.rob_split_text.specs.SplitTexts.{HasFewTokens};
+ghost use Rattle.rob_top.specs.Calls.{Call, HasFile, IsSolving, Known, known_call, limit_of};
 ghost use Rattle.rob_report.specs.NarrowText.{narrow_line};
 ghost use Rattle.rob_top.specs.Checked.{IsAccepted};
 ghost use Rattle.rob_top.specs.Completeness.{IsComplete, MustEnd};
@@ -35,19 +40,22 @@ ghost use Rattle.rob_top.specs.Searched.{IsSearched, ShowsKept, certificate_vect
 ghost use Rattle.rob_top.specs.Solved.{IsEmptySet as AnswersEmptySet, IsSolved};
 ghost use Rattle.rob_top.specs.Swept.{limit_value};
 ghost use Rattle.rob_top.specs.TreeChecked.{HasTreeFile, IsTreeAccepted};
-ghost use Rattle.rob_top.specs.SplitEnds.{IsCellsAnswer};
+ghost use Rattle.rob_top.specs.Split.{EachCellAdmits, HasStatusOverPieces, IsPieced, IsSplitText};
+ghost use Rattle.rob_top.specs.SplitEnds.{IsEmptyCellsAnswer};
+ghost use Rattle.rob_top.specs.SplitTexts.{IsNarrowOnWay, IsPiecesAnswer, TakesSplit, written_split};
 ghost use Rattle.rob_top.specs.Work.{ended_of};
-ghost use Rattle.rob_top.specs.WorkedCalls.{at_9, cells_call, check_call, cuts_call, demand_within_a_budget, empty_interval, first_text, greatest, half_a_demand, hard_and_soft, impossible_demand, narrow_call, never_calm, no_demand, no_order, order_11, order_12, order_least, replay_call, solve_call, sweep_call, text_call, two_demands, two_demands_table, whole_call, worst_call};
+ghost use Rattle.rob_top.specs.WorkedCalls.{at_13, at_9, cells_call, check_call, cuts_call, demand_within_a_budget, empty_interval, first_text, greatest, half_a_demand, hard_and_soft, impossible_demand, narrow_call, never_calm, no_demand, no_order, order_11, order_12, order_least, replay_call, solve_call, sweep_call, text_call, two_demands, two_demands_table, whole_call, worst_call};
 ghost use Rattle.rob_top.specs.WorkedTrees.{cheaper_orders, tree_call, whole_orders};
 ghost use Rattle.rob_top.specs.declared.ended.Ended.{Ended};
-ghost use Rattle.rob_top.specs.declared.ended.Ended.TheVariants.{Accepted, Cells, Cert, EmptySet, NoRow, Optimal, Printed, Rejected, Scenarios, Sweep, TooWide, Tree as NoTree, Whole, WideNode};
+ghost use Rattle.rob_top.specs.declared.ended.Ended.TheVariants.{Accepted, Cells, Cert, EmptySet, Model, NoRow, Optimal, Printed, Rejected, Scenarios, Sweep, TooWide, Tree as NoTree, Whole, WideNode};
 ghost use Rattle.rob_tree.specs.TreeText.{tree_text};
 ghost use Rattle.rob_tree.specs.declared.tree.Branch.{Branch};
 ghost use Rattle.rob_words.specs.Commands.{Line};
 ghost use Rattle.rob_words.specs.Kinds.{IsNumber};
 ghost use Rattle.rob_words.specs.Values.{Word};
 ghost use Rattle.rob_words.specs.declared.route.Route.TheVariants.{Cuts, Dual};
-ghost use Rattle.rob_words.specs.declared.verb.Verb.TheVariants.{Prove, Tree};
+ghost use Rattle.rob_words.specs.declared.verb.Own.TheVariants as own;
+ghost use Rattle.rob_words.specs.declared.verb.Verb.TheVariants.{Check, Prove, Tree};
 ghost use Rattle.rob_write.specs.Canonical.{model_text};
 
 /// How a call must end, by its words and files: `specs/Completeness.antt`.
@@ -157,6 +165,67 @@ pub fn generated_texts()
     ensures first { model_text (generated 0) ≡ first_text }
 {}
 
+/// The text that `celltext` printed, as the model's file of a later call at the same width, where it has no more tokens
+/// than a text may have, 20,000 with its line ends. The split model's names, counts and size ask nothing more: where
+/// one of these is over its limit `celltext` names rule 53 or 54, and prints no text.
+pub fn celltext_then_solve()
+    // It is read as the split model where it has no more tokens than that, and only there;
+    ensures read { (printing : Call) (text : List ℕ) (split : IsSplitText printing text)
+        → HasFewTokens (written_split split) ↔ ReadsModel (limit_of split.line) text (written_split split) }
+    // so a call that takes it has read the split model,
+    ensures model { (printing : Call) (text : List ℕ) (split : IsSplitText printing text) (later : Call)
+        (known : Known later.source) (line : Line) → TakesSplit split (known_call later known) line
+        → HasModel (known_call later known) line (written_split split) }
+    // and no other,
+    ensures one_model { (printing : Call) (text : List ℕ) (split : IsSplitText printing text) (later : Call)
+        (known : Known later.source) (line : Line) → TakesSplit split (known_call later known) line
+        → (l : Line) (m : RobustModel) → HasModel later l m → m ≡ written_split split }
+    // and names no rule that the text breaks.
+    ensures unbroken { (printing : Call) (text : List ℕ) (split : IsSplitText printing text) (later : Call)
+        (known : Known later.source) (line : Line) → TakesSplit split (known_call later known) line
+        → (rule number : ℕ) (shown : List ℕ) → Means later (Model rule number) shown → ⊥ }
+    // A status that `solve` or `prove` shows of it is the first model's over pieces, an optimum with the same value;
+    ensures status { (printing : Call) (text : List ℕ) (split : IsSplitText printing text) (solving : Call)
+        (known : Known solving.source) (line : Line) → TakesSplit split (known_call solving known) line
+        → (status : Status) (shown : List ℕ) (solved : IsSolved solving status shown)
+        → HasStatusOverPieces split.m split.cuts status solved.c.value }
+    // else they answer an empty set, where not each cell holds an admitted scenario, or a wide number of the split
+    // model, or the outside fails, or memory is refused;
+    ensures answer { (printing : Call) (text : List ℕ) (split : IsSplitText printing text) (solving : Call)
+        (known : Known solving.source) (line : Line) → TakesSplit split (known_call solving known) line
+        → IsSolving line.verb → (ended : Ended) (shown : List ℕ) → Means solving ended shown
+        → IsPiecesAnswer line.way (limit_of line) split.m split.cuts ended }
+    // and where each cell holds one, and no number is wide, that status is answered, or again the outside fails, or
+    // memory is refused.
+    ensures answered { (printing : Call) (text : List ℕ) (split : IsSplitText printing text) (solving : Call)
+        (known : Known solving.source) (line : Line) → TakesSplit split (known_call solving known) line
+        → IsSolving line.verb → EachCellAdmits split.m split.cuts
+        → IsNarrowOnWay line.way (limit_of line) (written_split split)
+        → (ended : Ended) (shown : List ℕ) → Means solving ended shown
+        → (status : Status) × (v : Fraction) × HasStatusOverPieces split.m split.cuts status v
+        × EndsAs (ended_of status) ended }
+    // The certificate that `prove` printed of it is accepted by a `check` that takes it too, or a number of the check
+    // is wide, and its place is named, or the outside fails, or memory is refused.
+    ensures accepted { (printing : Call) (text : List ℕ) (split : IsSplitText printing text) (proving : Call)
+        (known : Known proving.source) (line : Line) → TakesSplit split (known_call proving known) line
+        → (checking : Call) (again : Known checking.source) (other : Line)
+        → TakesSplit split (known_call checking again) other
+        → (status : Status) (certificate : List ℕ) (solved : IsSolved proving status certificate)
+        → solved.line.verb ≡ Prove → other.verb ≡ Check
+        → HasFile (known_call checking again) other own.Certificate certificate
+        → (ended : Ended) (shown : List ℕ) → Means checking ended shown
+        → IsProvedAnswer (limit_of other) (written_split split) solved.c ended }
+{}
+
+/// The text that `celltext` prints of the smallest model cut at 9, worked by hand. So what `celltext_then_solve` asks
+/// of two calls is met by some.
+pub fn worked_split_text()
+    // A call of `solve` takes it.
+    ensures taken { (split : IsSplitText (cells_call (codes "celltext") (codes "d=9") one_demand)
+        (model_text (split_model one_demand at_9)))
+        × ((line : Line) × TakesSplit split (solve_call (split_model one_demand at_9)) line) }
+{}
+
 /// Names of a model that was read stand as words in the text of a certificate or of a branch tree.
 pub fn read_names()
     // No declared name has a space or a line's end.
@@ -183,6 +252,26 @@ pub fn route_laws()
         (y : AnswersEmptySet b weights other) → x.m ≡ y.m → ⊥ }
 {}
 
+/// A call of `cells` and one of `solve` or `prove` on the same model, by whichever route and at whichever widths.
+pub fn cells_laws()
+    // Of two optima the one over pieces is no worse.
+    ensures no_worse { (cutting solving : Call) (text other : List ℕ) (pieced : IsPieced cutting optimal text)
+        (solved : IsSolved solving optimal other) → pieced.m ≡ solved.m
+        → IsNoWorse pieced.m.sense pieced.c.value solved.c.value }
+    // Where the model is infeasible over pieces it is so over plans;
+    ensures infeasible_too { (cutting solving : Call) (status : Status) (text other : List ℕ)
+        (pieced : IsPieced cutting infeasible text) (solved : IsSolved solving status other)
+        → pieced.m ≡ solved.m → status ≡ infeasible }
+    // where it is unbounded over plans it is so over pieces;
+    ensures unbounded_too { (cutting solving : Call) (status : Status) (text other : List ℕ)
+        (pieced : IsPieced cutting status text) (solved : IsSolved solving unbounded other)
+        → pieced.m ≡ solved.m → status ≡ unbounded }
+    // and where it has a status over pieces, `solve` and `prove` don't answer an empty set.
+    ensures one_emptiness { (cutting solving : Call) (status : Status) (weights : List ℤ) (text other : List ℕ)
+        (pieced : IsPieced cutting status text) (empty : AnswersEmptySet solving weights other)
+        → pieced.m ≡ empty.m → ⊥ }
+{}
+
 /// Calls worked by hand: `specs/WorkedCalls.antt`. So what is asked of a call where a status, an empty set or a verdict has to be
 /// answered is met by some call. A fault of the outside and want of memory may come in the place of each answer; but none of a
 /// read at `text`, which names no file.
@@ -199,8 +288,10 @@ pub fn worked_calls()
     // on a model without a scenario by weights that show it, or a wide row of the set's program,
     ensures empty { (result : Ended) → MustEnd (solve_call empty_interval) result
         → IsEmptyAnswer greatest empty_interval result }
-    // and, as that model is narrow too, by no wide row.
+    // and, as that model is narrow too, by no wide row,
     ensures narrow_empty { (result : Ended) → MustEnd (solve_call empty_interval) result → IsShownAnswer empty_interval result }
+    // nor by cutting planes.
+    ensures empty_by_cuts { (result : Ended) → MustEnd (cuts_call empty_interval) result → IsShownAnswer empty_interval result }
     // A model with a named set is read from its text, rows over that set among them: it is answered with `optimal`, or a wide row,
     ensures named_set { (result : Ended) → MustEnd (solve_call hard_and_soft) result
         → EndsAs Optimal result ⊎ ((spot : Spot) × IsWideOnPath greatest hard_and_soft spot × (result ≡ TooWide spot)) }
@@ -263,14 +354,21 @@ pub fn worked_calls()
         → IsSweepAnswer greatest demand_within_a_budget 1 (limit_value (codes "0") ∷ []) result }
     ensures limited { (result : Ended) → MustEnd (sweep_call (codes "sweeptext") demand_within_a_budget) result
         → EndsAs Printed result }
-    // `cells` on the smallest model cut at 9 answers a status over pieces, an empty set or a wide number, `celltext`
-    // prints its split model, and of a cut at no parameter rule 52 is named.
+    // `cells` on the smallest model cut at 9 is answered with `optimal`, or a wide number of the split model, which
+    // `celltext` prints;
     ensures pieces { (result : Ended) → MustEnd (cells_call (codes "cells") (codes "d=9") one_demand) result
-        → IsCellsAnswer greatest one_demand at_9 result }
+        → EndsAs Optimal result
+        ⊎ ((spot : Spot) × IsWideIn greatest (split_model one_demand at_9) spot × (result ≡ TooWide spot)) }
     ensures split { (result : Ended) → MustEnd (cells_call (codes "celltext") (codes "d=9") one_demand) result
         → EndsAs Printed result }
+    // cut at 13, above each admitted d, by weights that show an empty cell, or a number that is wide before that is known.
+    ensures empty_cell { (result : Ended) → MustEnd (cells_call (codes "cells") (codes "d=13") one_demand) result
+        → IsEmptyCellsAnswer greatest one_demand at_13 result }
+    // Of a cut at no parameter rule 52 is named, and of a model with a named set 51.
     ensures uncut { (result : Ended) → MustEnd (cells_call (codes "cells") (codes "e=9") one_demand) result
         → EndsAs (Cells 52) result }
+    ensures set_uncut { (result : Ended) → MustEnd (cells_call (codes "cells") (codes "d=9") hard_and_soft) result
+        → EndsAs (Cells 51) result }
     // `narrow` prints the bounds of the smallest model.
     ensures narrow { (result : Ended) → MustEnd (narrow_call one_demand) result → EndsAs Printed result }
     // `text` prints a model, whichever number its word spells.

@@ -128,7 +128,7 @@ fn reported<N: Exact>(
         (report_of (robust N.value model.now) (certificate_of N.value cert.now)))) }
 {
     let mut text = report_text(alloc, model, cert)?;
-    put_run(model, route, trace, &mut text)?;
+    put_told_rounds(model, route, trace, &mut text)?;
     Ok(Reply {
         ended: ended_by(cert.status),
         text,
@@ -160,7 +160,7 @@ pub fn ended_by(status: Status) -> Ended
     }
 }
 
-/// The answer where the route stopped.
+/// The answer where the route stopped; by `Dual`, which stands for want of a route too, no rounds are told.
 pub fn stopped<N: Exact>(
     alloc: Global,
     model: &Model<N>,
@@ -179,7 +179,7 @@ pub fn stopped<N: Exact>(
 }
 
 /// The answer where a number on the route's way is too wide, with the rounds before it.
-fn wide_on_way<N: Exact>(
+pub fn wide_on_way<N: Exact>(
     alloc: Global,
     model: &Model<N>,
     route: Route,
@@ -193,7 +193,7 @@ fn wide_on_way<N: Exact>(
         (with_rounds route (robust N.value model.now) trace.now.rounds (too_wide_line (robust N.value model.now) spot))) }
 {
     let mut text = spot_text(alloc, model, &spot)?;
-    put_run(model, route, trace, &mut text)?;
+    put_told_rounds(model, route, trace, &mut text)?;
     Ok(Reply {
         ended: Ended::TooWide(spot),
         text,
@@ -201,7 +201,7 @@ fn wide_on_way<N: Exact>(
 }
 
 /// Appends the rounds of the cutting-plane method; by the robust counterpart none are told.
-fn put_run<N: Exact>(
+fn put_told_rounds<N: Exact>(
     model: &Model<N>,
     route: Route,
     trace: &Trace,

@@ -1,6 +1,6 @@
 // The answers of `cells` and `celltext`.
 
-ghost use Rattle.std.specs.Prelude.{◌≡◌, ◌≤◌, ◌<◌, ◌^◌, ◌++◌, [], List as Items, IfOk, MatchOption, OnOk, length, map, pos, string_bytes};
+ghost use Rattle.std.specs.Prelude.{◌≡◌, ◌≤◌, ◌<◌, ◌++◌, List as Items, IfOk, MatchOption, length, map, pos, string_bytes};
 ghost use Rattle.rob_algebra.specs.Fraction.{of_pair};
 ghost use Rattle.rob_cells.specs.View.{cut_of};
 ghost use Rattle.rob_cert.specs.Shape.{HasShape};
@@ -26,16 +26,17 @@ use crate::reply::{Reply, broken_words};
 use crate::solving::{ended_by, stopped};
 use crate::sweeping::{no_line, written};
 use itoa::Buffer;
-use rob_cells::{CellsErr, Cut, cut_model};
+use rob_cells::{CellsErr, Cut, cell_count, cut_model};
 use rob_cert::Cert;
 use rob_dualize::solve_model;
 use rob_model::{Model, find_param};
 use rob_number::{Exact, Ledger, List, Memory, Text};
-use rob_report::report_text;
+use rob_report::put_report;
 use rob_words::{Own, Route, Verb, cut, first_part};
 use std::alloc::Global;
 
-/// The answer for a command's own words, of which one is a list of cuts.
+/// The answer of `cells` or `celltext`, for a model that was read and the command's own words, of which one is a list
+/// of cuts.
 pub fn split_words<N: Exact + Drop, L: Ledger>(
     alloc: Global,
     model: &Model<N>,
@@ -51,13 +52,13 @@ pub fn split_words<N: Exact + Drop, L: Ledger>(
     ensures counted { L.wides ledger.old ≤ L.wides ledger.new }
 {
     match word_of(Own::Cuts, verb.own(), words) {
-        Some(word) => split_text(alloc, model, verb, word, ledger),
+        Some(word) => at_word(alloc, model, verb, word, ledger),
         None => no_line(alloc),
     }
 }
 
 /// The answer for a word of cuts.
-fn split_text<N: Exact + Drop, L: Ledger>(
+fn at_word<N: Exact + Drop, L: Ledger>(
     alloc: Global,
     model: &Model<N>,
     verb: Verb,
@@ -81,7 +82,8 @@ fn split_text<N: Exact + Drop, L: Ledger>(
     }
 }
 
-/// The cuts that a word spells, 1 to 3 with `,` between them; `None` where a cut's name is no parameter's.
+/// The cuts that a word spells, 1 to 3 with `,` between them; of a word that is a list of cuts `None` where a cut's
+/// name is no parameter's.
 fn cuts_of<N: Exact, L: Ledger>(
     alloc: Global,
     model: &Model<N>,
@@ -113,7 +115,7 @@ fn cuts_of<N: Exact, L: Ledger>(
     Ok(Some(cuts))
 }
 
-/// The cut that a word spells; `None` where its name is no parameter's.
+/// The cut that a word spells; of a word that is a cut `None` where its name is no parameter's.
 fn cut_at<N: Exact, L: Ledger>(model: &Model<N>, word: &str, ledger: &mut L) -> Option<Cut<N>>
     requires valid { IsValid N.value model.now }
     requires named { IsNamed (robust N.value model.now) }
@@ -126,12 +128,17 @@ fn cut_at<N: Exact, L: Ledger>(model: &Model<N>, word: &str, ledger: &mut L) -> 
     let param = find_param(model, told.name.as_bytes())?;
     Some(Cut {
         param,
-        at: level(told.negative, told.numerator, told.denominator, ledger),
+        at: signed(told.negative, told.numerator, told.denominator, ledger),
     })
 }
 
 /// The number of these parts, with the other sign where it is negative.
-fn level<N: Exact, L: Ledger>(negative: bool, numerator: u64, denominator: u64, ledger: &mut L) -> N
+fn signed<N: Exact, L: Ledger>(
+    negative: bool,
+    numerator: u64,
+    denominator: u64,
+    ledger: &mut L,
+) -> N
     requires numerator { numerator ≤ N.limit }
     requires denominator { denominator ≤ N.limit }
     requires positive { 0 < denominator }
@@ -163,19 +170,6 @@ fn at_cuts<N: Exact + Drop, L: Ledger>(
         Ok(other) => on_split(alloc, &other, verb, cell_count(cuts), ledger),
         Err(CellsErr::Rule(rule)) => broken_words(alloc, Ended::Cells(rule), b"cells ", rule),
         Err(CellsErr::Memory) => Err(Memory),
-    }
-}
-
-/// How many cells 1 to 3 cuts make.
-fn cell_count<N>(cuts: &[Cut<N>]) -> u32
-    requires some { 0 < length cuts.now }
-    requires few { length cuts.now ≤ 3 }
-    ensures cells { result ≡ 2 ^ length cuts.now }
-{
-    match cuts.len() {
-        1 => 2,
-        2 => 4,
-        _ => 8,
     }
 }
 
@@ -213,13 +207,13 @@ fn solved<N: Exact + Drop, L: Ledger>(
     ensures counted { L.wides ledger.old ≤ L.wides ledger.new }
 {
     match solve_model(alloc, model, ledger) {
-        Ok(cert) => reported(alloc, model, cells, &cert),
+        Ok(cert) => with_cells(alloc, model, cells, &cert),
         Err(stop) => stopped(alloc, model, Route::Dual, stop),
     }
 }
 
 /// The number of cells, and the report of a certificate.
-fn reported<N: Exact>(
+fn with_cells<N: Exact>(
     alloc: Global,
     model: &Model<N>,
     cells: u32,
@@ -234,8 +228,7 @@ fn reported<N: Exact>(
     text.push(b"cells ")?;
     text.push(Buffer::new().format(cells).as_bytes())?;
     text.push(b"\n")?;
-    let report = report_text(alloc, model, cert)?;
-    text.push(report.bytes())?;
+    put_report(model, cert, &mut text)?;
     Ok(Reply {
         ended: ended_by(cert.status),
         text,

@@ -7,8 +7,6 @@ ghost use Rattle.rob_model.specs.View.{robust};
 ghost use Rattle.rob_reach.specs.Ranges as ranges;
 ghost use Rattle.rob_reach.specs.Ranges.{KeepsNames};
 ghost use Rattle.rob_report.specs.Lines.{line};
-ghost use Rattle.rob_report.specs.Places.{IsPlaceOf};
-ghost use Rattle.rob_report.specs.Spots.{place_words};
 ghost use Rattle.rob_tree.specs.Shape.{HasTreeShape};
 ghost use Rattle.rob_tree.specs.View.{tree_of};
 ghost use Rattle.rob_top.specs.Calls.{count};
@@ -23,9 +21,9 @@ use crate::paths::wide_node;
 use crate::reply::{Reply, broken_rule, broken_words};
 use itoa::Buffer;
 use rob_branch::check_tree;
-use rob_model::{Model, Place};
+use rob_model::Model;
 use rob_number::{Exact, Ledger, Memory, Text};
-use rob_report::place_text;
+use rob_report::put_place;
 use rob_tree::{LeafFault, Tree, TreeErr, TreeVerdict, read_tree, whole_rule};
 use std::alloc::Global;
 
@@ -152,7 +150,7 @@ fn rejected<N: Exact>(
     text.push(b"rejected leaf ")?;
     text.push(Buffer::new().format(number).as_bytes())?;
     text.push(b" ")?;
-    put_fault(alloc, model, fault, &mut text)?;
+    put_fault(model, fault, &mut text)?;
     Ok(Reply {
         ended: Ended::TreeRejected(number, fault),
         text,
@@ -160,36 +158,19 @@ fn rejected<N: Exact>(
 }
 
 /// Appends what of a leaf fails, and the line's end.
-fn put_fault<N: Exact>(
-    alloc: Global,
-    model: &Model<N>,
-    fault: LeafFault,
-    out: &mut Text,
-) -> Result<(), Memory>
+fn put_fault<N: Exact>(model: &Model<N>, fault: LeafFault, out: &mut Text) -> Result<(), Memory>
     requires valid { IsValid N.value model.now }
     requires named { IsFaultOf (robust N.value model.now) fault }
     ensures appended { OnOk result (out.new ≡ out.old ++ line (fault_words (robust N.value model.now) fault)) }
 {
     match fault {
-        LeafFault::At(place) => put_place(alloc, model, place, out),
+        LeafFault::At(place) => {
+            put_place(model, place, out)?;
+            out.push(b"\n")
+        }
         LeafFault::Status => out.push(b"status\n"),
         LeafFault::Value => out.push(b"value\n"),
         LeafFault::Best => out.push(b"best\n"),
         LeafFault::Whole => out.push(b"whole\n"),
     }
-}
-
-/// Appends a place, and the line's end. In the line of a rejected certificate it stands behind `rejected `.
-fn put_place<N: Exact>(
-    alloc: Global,
-    model: &Model<N>,
-    place: Place,
-    out: &mut Text,
-) -> Result<(), Memory>
-    requires valid { IsValid N.value model.now }
-    requires named { IsPlaceOf (robust N.value model.now) place }
-    ensures appended { OnOk result (out.new ≡ out.old ++ line (place_words (robust N.value model.now) place)) }
-{
-    let rejected = place_text(alloc, model, &place)?;
-    out.push(&rejected.bytes()[9..])
 }

@@ -25,19 +25,20 @@ use crate::narrowing::narrow;
 use crate::replaying::replay_text;
 use crate::reply::{Reply, broken_rule};
 use crate::searching::search_text;
-use crate::solving::{prove, solve};
+use crate::solving::{prove, solve, wide_on_way};
 use crate::splitting::split_words;
 use crate::sweeping::{limit_words, sweep_words};
 use crate::tree_checking::check_tree_text;
+use rob_cert::Trace;
 use rob_elab::{Forms, elaborate};
 use rob_model::{Model, Spot};
-use rob_number::{Exact, Ledger, Memory};
+use rob_number::{Exact, Ledger, List, Memory};
 use rob_parse::read_model;
 use rob_quick::Quick;
 use rob_report::{rows_text, spot_text};
 use rob_rules::ModelErr;
 use rob_sets::{ElabErr, SetForm, clear_set};
-use rob_words::{Own, Verb, Width};
+use rob_words::{Own, Route, Verb, Width};
 use std::alloc::Global;
 
 /// Does what a command that reads a model says at a width.
@@ -196,11 +197,11 @@ fn elaborated<N: Exact + Drop, L: Ledger>(
 {
     let set = match clear_set(alloc, model, ledger) {
         Ok(set) => set,
-        Err(error) => return not_elaborated(alloc, model, error),
+        Err(error) => return not_elaborated(alloc, model, texts.route, error),
     };
     match elaborate(alloc, model, &set, ledger) {
         Ok(forms) => on_forms(alloc, model, &forms, &set, verb, texts, ledger),
-        Err(error) => not_elaborated(alloc, model, error),
+        Err(error) => not_elaborated(alloc, model, texts.route, error),
     }
 }
 
@@ -263,18 +264,22 @@ fn rows<N: Exact>(
     })
 }
 
-/// The answer where set rows or forms were refused.
+/// The answer where set rows or forms were refused: no round comes before that.
 fn not_elaborated<N: Exact>(
     alloc: Global,
     model: &Model<N>,
+    route: Route,
     error: ElabErr,
 ) -> Result<Reply, Memory>
     requires valid { IsValid N.value model.now }
     requires named { IsRefusedOf (robust N.value model.now) error }
-    ensures refused { IfOk result (RepliesRefused (robust N.value model.now) error) }
+    ensures refused { IfOk result (RepliesRefused (robust N.value model.now) route error) }
 {
     match error {
-        ElabErr::Wide(spot) => too_wide(alloc, model, spot),
+        ElabErr::Wide(spot) => {
+            let rounds = List::new(alloc);
+            wide_on_way(alloc, model, route, spot, &Trace { rounds })
+        }
         ElabErr::Memory => Err(Memory),
     }
 }

@@ -1,13 +1,14 @@
 use Rattle.rob_top.proofs.WorkedBudgets.{a_budget_is_limited, a_budget_is_swept}
-use Rattle.rob_top.proofs.WorkedCells.{a_demand_is_split, a_split_is_written, e_is_no_parameter}
+use Rattle.rob_top.proofs.WorkedCells.{a_cell_is_empty, a_demand_is_split, a_split_is_written}
 use Rattle.rob_top.proofs.WorkedCalls.{empty_interval_is_shown, one_demand_is_solved}
+use Rattle.rob_top.proofs.WorkedCutRules.{calm_is_named, e_is_no_parameter}
 use Rattle.rob_top.proofs.WorkedCuts.{one_demand_is_cut}
 use Rattle.rob_top.proofs.WorkedEmptyCalls.{never_calm_is_shown}
 use Rattle.rob_top.proofs.WorkedSetCalls.{hard_and_soft_is_solved}
 use Rattle.rob_top.proofs.WorkedChecks.{order_11_is_rejected, order_12_is_accepted}
 use Rattle.rob_top.proofs.WorkedEmptyWholes.{impossible_demand_is_shown}
 use Rattle.rob_top.proofs.WorkedNarrows.{one_demand_has_bounds}
-use Rattle.rob_top.proofs.WorkedNarrowSolves.{empty_interval_is_not_wide, one_demand_has_status, one_demand_is_not_wide}
+use Rattle.rob_top.proofs.WorkedNarrowSolves.{empty_interval_is_cut, empty_interval_is_not_wide, one_demand_has_status, one_demand_is_not_wide}
 use Rattle.rob_top.proofs.WorkedReplays.{no_demand_is_refused, no_order_is_planless, order_least_is_wide, two_demands_are_printed, two_demands_are_replayed}
 use Rattle.rob_top.proofs.WorkedNumbers.{number_is_answered}
 use Rattle.rob_top.proofs.WorkedTrees.{cheaper_orders_are_rejected, empty_tree_is_refused, whole_orders_are_accepted}
@@ -24,6 +25,7 @@ returns c = record {
   by_cuts = one_demand_is_cut;
   empty = empty_interval_is_shown;
   narrow_empty = empty_interval_is_not_wide;
+  empty_by_cuts = empty_interval_is_cut;
   named_set = hard_and_soft_is_solved;
   empty_named_set = never_calm_is_shown;
   accepted = order_12_is_accepted;
@@ -39,7 +41,9 @@ returns c = record {
   limited = a_budget_is_limited;
   pieces = a_demand_is_split;
   split = a_split_is_written;
+  empty_cell = a_cell_is_empty;
   uncut = e_is_no_parameter;
+  set_uncut = calm_is_named;
   table = two_demands_are_printed;
   wide = order_least_is_wide;
   planless = no_order_is_planless;

@@ -38,7 +38,8 @@ returns-in-Ok-clause-answers g c =
     certificate_answers g.N.Exact.limit (robust g.N.Exact.value c.args.model.now) c.requires.valid.well_formed c.args.route
     (certificate_of g.N.Exact.value c.in-Ok.cert) _
     (c.in-Ok.ensures.solves (robust g.N.Exact.value c.args.model.now) c.requires.valid.well_formed c.requires.forms c.requires.set).found
-    (solution_fits g.N.Exact.value g.N.Exact.limit g.met.N.Exact.fits (robust g.N.Exact.value c.args.model.now) c.in-Ok.cert) _ c.proved.result
+    (solution_fits g.N.Exact.value g.N.Exact.limit g.met.N.Exact.fits (robust g.N.Exact.value c.args.model.now) c.in-Ok.cert)
+    (c.in-Ok.ensures.solves (robust g.N.Exact.value c.args.model.now) c.requires.valid.well_formed c.requires.forms c.requires.set).fits _ c.proved.result
     c.proved.ensures.certificate
 
 pub returns-in-Ok-clause-counted : goal.returns-in-Ok-clause-counted
@@ -50,7 +51,7 @@ pub returns-clause-answers : goal.returns-clause-answers
 returns-clause-answers g c =
     let solved = c.in-Err.ensures.solves (robust g.N.Exact.value c.args.model.now) c.requires.valid.well_formed c.requires.forms c.requires.set in
     stopped_answers g.N.Exact.limit (robust g.N.Exact.value c.args.model.now) (g.L.Ledger.wides c.args.ledger.now) (g.L.Ledger.wides c.find.new.ledger) Prove
-    c.args.route c.in-Err.stop c.stopped.result refl solved.stopped solved.counted c.stopped.ensures.stop
+    c.args.route c.in-Err.stop c.stopped.result refl solved.stopped solved.fits solved.counted c.stopped.ensures.stop
 
 pub returns-clause-counted : goal.returns-clause-counted
 returns-clause-counted g c =

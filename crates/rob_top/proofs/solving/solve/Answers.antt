@@ -43,7 +43,8 @@ returns-in-Ok-clause-answers g c =
     report_answers g.N.Exact.limit (robust g.N.Exact.value c.args.model.now) c.requires.valid.well_formed c.args.route
     (certificate_of g.N.Exact.value c.in-Ok.cert) _
     (c.in-Ok.ensures.solves (robust g.N.Exact.value c.args.model.now) c.requires.valid.well_formed c.requires.forms c.requires.set).found
-    (solution_fits g.N.Exact.value g.N.Exact.limit g.met.N.Exact.fits (robust g.N.Exact.value c.args.model.now) c.in-Ok.cert) _ c.reported.result
+    (solution_fits g.N.Exact.value g.N.Exact.limit g.met.N.Exact.fits (robust g.N.Exact.value c.args.model.now) c.in-Ok.cert)
+    (c.in-Ok.ensures.solves (robust g.N.Exact.value c.args.model.now) c.requires.valid.well_formed c.requires.forms c.requires.set).fits _ c.reported.result
     c.reported.ensures.report
 
 pub returns-in-Ok-clause-counted : goal.returns-in-Ok-clause-counted
@@ -55,7 +56,7 @@ pub returns-in-Err-clause-answers : goal.returns-in-Err-clause-answers
 returns-in-Err-clause-answers g c =
     let solved = c.in-Err.ensures.solves (robust g.N.Exact.value c.args.model.now) c.requires.valid.well_formed c.requires.forms c.requires.set in
     stopped_answers g.N.Exact.limit (robust g.N.Exact.value c.args.model.now) (g.L.Ledger.wides c.args.ledger.now) (g.L.Ledger.wides c.find.new.ledger) Solve
-    c.args.route c.in-Err.stop c.stopped.result refl solved.stopped solved.counted c.stopped.ensures.stop
+    c.args.route c.in-Err.stop c.stopped.result refl solved.stopped solved.fits solved.counted c.stopped.ensures.stop
 
 pub returns-in-Err-clause-counted : goal.returns-in-Err-clause-counted
 returns-in-Err-clause-counted g c =

@@ -1,5 +1,4 @@
-use Rattle.std.proofs.Common.{ap, map, subst, sym, ◌^◌, ◌∙◌}
-use Rattle.std.proofs.lemmas.List.{length-map}
+use Rattle.std.proofs.Common.{map, subst}
 use Rattle.rob_cells.specs.Rules.{HasCause}
 use Rattle.rob_cells.specs.View.{cut_of}
 use Rattle.rob_cells.specs.declared.error.CellsErr.{CellsErr}
@@ -12,8 +11,7 @@ returns-in-Ok-clause-answers g c =
     let cuts = map (cut_of g.N.Exact.value) c.args.cuts.now in
     split_answers (robust g.N.Exact.value c.args.model.now) c.requires.valid.well_formed cuts c.in-Ok.ensures.rule c.requires.cuts
     g.N.Exact.limit _ _ c.args.verb (robust g.N.Exact.value c.in-Ok.other) c.cell_count.result c.on_split.result c.requires.splits
-    c.in-Ok.ensures.split (c.cell_count.ensures.cells ∙ ap (λ n. 2 ^ n) (sym (length-map c.args.cuts.now (cut_of g.N.Exact.value))))
-    c.on_split.ensures.replies
+    c.in-Ok.ensures.split c.cell_count.ensures.count c.on_split.ensures.replies
 
 pub returns-in-Err-Rule-clause-answers : goal.returns-in-Err-Rule-clause-answers
 returns-in-Err-Rule-clause-answers g c =

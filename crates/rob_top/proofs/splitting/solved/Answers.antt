@@ -4,8 +4,8 @@ use Rattle.rob_top.proofs.SolvingLemmas.{solution_fits}
 use Rattle.rob_top.proofs.SplittingLemmas.{model_stop_of, plan_replies, stop_replies}
 use Rattle.rob_top.proofs.splitting.solved.Goals as goal
 
-pub reported-requires-clause-shape : goal.reported-requires-clause-shape
-reported-requires-clause-shape g c = c.in-Ok.ensures.solved.shape
+pub with_cells-requires-clause-shape : goal.with_cells-requires-clause-shape
+with_cells-requires-clause-shape g c = c.in-Ok.ensures.solved.shape
 
 pub stopped-requires-clause-named : goal.stopped-requires-clause-named
 stopped-requires-clause-named g c =
@@ -14,9 +14,9 @@ stopped-requires-clause-named g c =
 pub returns-in-Ok-clause-pieces : goal.returns-in-Ok-clause-pieces
 returns-in-Ok-clause-pieces g c =
     plan_replies g.N.Exact.limit (robust g.N.Exact.value c.args.model.now) _ c.args.cells (certificate_of g.N.Exact.value c.in-Ok.cert)
-    c.reported.result c.in-Ok.ensures.solved
+    c.with_cells.result c.in-Ok.ensures.written c.in-Ok.ensures.solved
     (solution_fits g.N.Exact.value g.N.Exact.limit g.met.N.Exact.fits (robust g.N.Exact.value c.args.model.now) c.in-Ok.cert)
-    c.reported.ensures.report
+    c.with_cells.ensures.report
 
 pub returns-in-Err-clause-pieces : goal.returns-in-Err-clause-pieces
 returns-in-Err-clause-pieces g c =

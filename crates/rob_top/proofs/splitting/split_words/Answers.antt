@@ -10,9 +10,9 @@ pub returns-in-Some-clause-answers : goal.returns-in-Some-clause-answers
 returns-in-Some-clause-answers g c =
     let words = map string_bytes c.args.words.now in
     told_words g.N.Exact.limit (robust g.N.Exact.value c.args.model.now) c.args.verb c.requires.splits _ words
-    (option_map (λ word. word.now) c.word_of.result) c.in-Some.word.now c.split_text.result
+    (option_map (λ word. word.now) c.word_of.result) c.in-Some.word.now c.at_word.result
     (c.word_of.ensures.word ∙ ap (λ kinds. word_of own.Cuts kinds words) c.own.ensures.own)
-    (ap (option_map (λ word. word.now)) c.in-Some.is) c.split_text.ensures.answers
+    (ap (option_map (λ word. word.now)) c.in-Some.is) c.at_word.ensures.answers
 
 pub returns-in-None-clause-answers : goal.returns-in-None-clause-answers
 returns-in-None-clause-answers g c =

@@ -6,7 +6,7 @@ use Rattle.rob_model.specs.View.{robust}
 use Rattle.rob_report.specs.Rounds.{IsRoundOf, rounds_text}
 use Rattle.rob_top.specs.Routes.{with_rounds}
 use Rattle.rob_words.specs.declared.route.Route.{Route}
-use Rattle.rob_top.proofs.solving.put_run.Goals as goal
+use Rattle.rob_top.proofs.solving.put_told_rounds.Goals as goal
 
 pub put_rounds-requires-clause-named : goal.put_rounds-requires-clause-named
 put_rounds-requires-clause-named g c =

@@ -5,7 +5,7 @@ use Rattle.rob_model.specs.View.{robust}
 use Rattle.rob_words.specs.Names.{parts_of}
 use Rattle.rob_top.proofs.CutTellingLemmas.{are_moved, cuts_inside, found_cuts, found_none, some_item}
 use Rattle.rob_top.proofs.SplittingLemmas.{cuts_answers, named_answers, unknown_answers}
-use Rattle.rob_top.proofs.splitting.split_text.Goals as goal
+use Rattle.rob_top.proofs.splitting.at_word.Goals as goal
 
 pub returns-then-not-is_empty-clause-answers : goal.returns-then-not-is_empty-clause-answers
 returns-then-not-is_empty-clause-answers g c =
