@@ -6,9 +6,9 @@ ghost use Rattle.rob_model.specs.View.{robust};
 ghost use Rattle.rob_reach.specs.Ranges.{KeepsBothBounds, whole_rule as first_rule};
 
 use crate::given;
+use rob_case::Trouble;
 use rob_case::numbers::{small, whole};
 use rob_case::text::{keyword, said, shown};
-use rob_case::{Case, Trouble};
 use rob_model::Model;
 use rob_number::Exact;
 use rob_tree::{Branch, behind, copy_model, whole_rule};
@@ -16,18 +16,25 @@ use rob_write::write_model;
 use std::alloc::Global;
 
 /// The canonical text of the model's copy.
-pub(crate) fn copied<N: Exact>(alloc: Global, case: &Case) -> Result<String, Trouble> {
-    let model: Model<N> = given::model(alloc, case)?;
-    let copy = copy_model(alloc, &model)?;
-    let text = write_model(alloc, &copy)?;
+pub(crate) fn copied<N: Exact>(alloc: Global, model: &Model<N>) -> Result<String, Trouble> {
+    let copy = copy_model(alloc, model)?;
+    model_text(alloc, &copy)
+}
+
+/// The canonical text of a model, as bytes are shown.
+pub(crate) fn model_text<N: Exact>(alloc: Global, model: &Model<N>) -> Result<String, Trouble> {
+    let text = write_model(alloc, model)?;
     shown(alloc, text.bytes())
 }
 
 /// The first rule that the columns of a line break.
-pub(crate) fn rule<N: Exact>(alloc: Global, case: &Case, line: &str) -> Result<String, Trouble> {
-    let model: Model<N> = given::model(alloc, case)?;
+pub(crate) fn rule<N: Exact>(
+    alloc: Global,
+    model: &Model<N>,
+    line: &str,
+) -> Result<String, Trouble> {
     let columns = given::columns(alloc, line)?;
-    match whole_rule(&model, columns.as_slice()) {
+    match whole_rule(model, columns.as_slice()) {
         Some(rule) => Ok(format!(in alloc; "rule {rule}")?),
         None => said(alloc, "kept"),
     }
@@ -44,24 +51,15 @@ pub(crate) fn keeps_rules<N: Exact>(model: &Model<N>, columns: &[u32]) -> Result
     }
 }
 
-/// The canonical text of the box where a column is at most a number.
-pub(crate) fn below<N: Exact>(alloc: Global, case: &Case, line: &str) -> Result<String, Trouble> {
-    boxed::<N>(alloc, case, line, true)
-}
-
-/// The canonical text of the box where a column is at least a number.
-pub(crate) fn above<N: Exact>(alloc: Global, case: &Case, line: &str) -> Result<String, Trouble> {
-    boxed::<N>(alloc, case, line, false)
-}
-
-/// The canonical text of the box of a line's column and number.
-fn boxed<N: Exact>(
+/// The canonical text of the box of a line's column and number: where the column is at most the number, or at least.
+pub(crate) fn boxed<N: Exact>(
     alloc: Global,
-    case: &Case,
+    model: &Model<N>,
     line: &str,
     at_most: bool,
-) -> Result<String, Trouble> {
-    let model: Model<N> = given::model(alloc, case)?;
+) -> Result<String, Trouble>
+    requires valid { IsValid N.value model.now }
+{
     let (column, k) = keyword(line);
     let branch = Branch {
         column: small(column)?,
@@ -71,7 +69,7 @@ fn boxed<N: Exact>(
     if branch.k > N::LIMIT || branch.k < -N::LIMIT {
         return Err(Trouble::Line);
     }
-    box_text(alloc, &model, branch)
+    box_text(alloc, model, branch)
 }
 
 /// The canonical text of the box behind a branch on a variable that has both bounds.
@@ -81,6 +79,5 @@ fn box_text<N: Exact>(alloc: Global, model: &Model<N>, branch: Branch) -> Result
 {
     keeps_rules(model, &[branch.column])?;
     let boxed = behind(alloc, model, branch)?;
-    let text = write_model(alloc, &boxed)?;
-    shown(alloc, text.bytes())
+    model_text(alloc, &boxed)
 }

@@ -1,8 +1,13 @@
 // The calls of the cases.
 
-use crate::{boxes, cuts, sweep, tree, worst};
+ghost use Rattle.rob_meaning.specs.Named.{IsNamed};
+ghost use Rattle.rob_model.specs.Valid.{IsValid};
+ghost use Rattle.rob_model.specs.View.{robust};
+
+use crate::{boxes, cuts, given, sweep, tree, worst};
 use rob_case::text::keyword;
 use rob_case::{Case, Trouble};
+use rob_model::Model;
 use rob_number::{Exact, Frac};
 use std::alloc::Global;
 
@@ -22,23 +27,62 @@ pub(crate) fn answer(
     }
 }
 
-/// The answer of a call of a width.
+/// The answer of a call of a width, on the case's model.
 fn call<N: Exact>(alloc: Global, case: &Case, word: &str, rest: &str) -> Result<String, Trouble> {
+    let model: Model<N> = given::model(alloc, case)?;
+    of_model(alloc, case, &model, word, rest)
+}
+
+/// The answer of a call on a model: of its trees, or of the others.
+fn of_model<N: Exact>(
+    alloc: Global,
+    case: &Case,
+    model: &Model<N>,
+    word: &str,
+    rest: &str,
+) -> Result<String, Trouble>
+    requires valid { IsValid N.value model.now }
+    requires named { IsNamed (robust N.value model.now) }
+{
     match word {
-        "copy" => boxes::copied::<N>(alloc, case),
-        "rule" => boxes::rule::<N>(alloc, case, rest),
-        "below" => boxes::below::<N>(alloc, case, rest),
-        "above" => boxes::above::<N>(alloc, case, rest),
-        "grow" => tree::grown::<N>(alloc, case, rest),
-        "nodes" => tree::nodes::<N>(alloc, case, rest),
-        "tree" => tree::read::<N>(alloc, case, rest),
-        "with-budget" => sweep::limited::<N>(alloc, case, rest),
-        "sweep" => sweep::swept::<N>(alloc, case, rest),
-        "worst" => worst::at_plan::<N>(alloc, case, rest),
-        "worst-step" => worst::at_step::<N>(alloc, case, rest),
-        "searches" => worst::searches::<N>(alloc, case, rest),
-        "inside" => worst::inside::<N>(alloc, case),
-        "cuts" => cuts::solved::<N>(alloc, case),
-        _ => Err(Trouble::Line),
+        "grow" => tree::grown(alloc, model, rest, true),
+        "nodes" => tree::grown(alloc, model, rest, false),
+        "tree" => tree::read(alloc, case, model, rest),
+        _ => of_box(alloc, model, word, rest),
+    }
+}
+
+/// The answer of a call on a model: of its boxes, or of the others.
+fn of_box<N: Exact>(
+    alloc: Global,
+    model: &Model<N>,
+    word: &str,
+    rest: &str,
+) -> Result<String, Trouble>
+    requires valid { IsValid N.value model.now }
+{
+    match word {
+        "copy" => boxes::copied(alloc, model),
+        "rule" => boxes::rule(alloc, model, rest),
+        "below" => boxes::boxed(alloc, model, rest, true),
+        "above" => boxes::boxed(alloc, model, rest, false),
+        _ => of_search(alloc, model, word, rest),
+    }
+}
+
+/// The answer of a call on a model: of its other limits, its cutting planes or its worst scenarios.
+fn of_search<N: Exact>(
+    alloc: Global,
+    model: &Model<N>,
+    word: &str,
+    rest: &str,
+) -> Result<String, Trouble>
+    requires valid { IsValid N.value model.now }
+{
+    match word {
+        "with-budget" => sweep::limited(alloc, model, rest),
+        "sweep" => sweep::swept(alloc, model, rest),
+        "cuts" => cuts::of_model(alloc, model),
+        _ => worst::answer(alloc, model, word, rest),
     }
 }

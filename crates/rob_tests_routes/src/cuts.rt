@@ -3,8 +3,8 @@
 ghost use Rattle.rob_model.specs.Valid.{IsValid};
 
 use crate::given;
+use rob_case::Trouble;
 use rob_case::numbers::{put_all, shown};
-use rob_case::{Case, Trouble};
 use rob_cert::{Cert, Round, Status, Stop};
 use rob_cuts::solve_cuts;
 use rob_elab::elaborate;
@@ -13,14 +13,8 @@ use rob_number::{Exact, LpKind, Tally};
 use rob_sets::clear_set;
 use std::alloc::Global;
 
-/// What the cutting planes of the case's model come to.
-pub(crate) fn solved<N: Exact>(alloc: Global, case: &Case) -> Result<String, Trouble> {
-    let model: Model<N> = given::model(alloc, case)?;
-    of_model(alloc, &model)
-}
-
 /// What the cutting planes of a model come to.
-fn of_model<N: Exact>(alloc: Global, model: &Model<N>) -> Result<String, Trouble>
+pub(crate) fn of_model<N: Exact>(alloc: Global, model: &Model<N>) -> Result<String, Trouble>
     requires valid { IsValid N.value model.now }
 {
     let Ok(set) = clear_set(alloc, model, &mut Tally::new()) else {

@@ -5,7 +5,7 @@ ghost use Rattle.rob_meaning.specs.Named.{IsNamed};
 ghost use Rattle.rob_model.specs.Valid.{IsValid};
 ghost use Rattle.rob_model.specs.View.{robust};
 
-use rob_case::numbers::{small, whole};
+use rob_case::numbers::{whole, wholes};
 use rob_case::{Case, Trouble};
 use rob_model::{Model, Spot};
 use rob_number::{Exact, Tally};
@@ -29,11 +29,21 @@ pub(crate) fn model<N: Exact>(alloc: Global, case: &Case) -> Result<Model<N>, Tr
 
 /// The numbers of columns in a line.
 pub(crate) fn columns(alloc: Global, line: &str) -> Result<Vec<u32>, Trouble> {
+    let numbers = wholes(alloc, line)?;
     let mut columns = Vec::new(alloc);
-    for word in line.split_whitespace() {
-        columns.push(small(word)?)?;
+    for number in numbers.as_slice() {
+        columns.push(column(*number)?)?;
     }
     Ok(columns)
+}
+
+/// A whole number as that of a column.
+fn column(number: i64) -> Result<u32, Trouble> {
+    if (0..=4_294_967_295).contains(&number) {
+        Ok(number as u32)
+    } else {
+        Err(Trouble::Line)
+    }
 }
 
 /// The fractions of a line.

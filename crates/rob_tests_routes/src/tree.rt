@@ -1,7 +1,10 @@
 // Branch trees: grown and written, and texts read as trees.
 
+ghost use Rattle.std.specs.Prelude.{◌≡◌, None};
+ghost use Rattle.rob_meaning.specs.Named.{IsNamed};
 ghost use Rattle.rob_model.specs.Valid.{IsValid};
 ghost use Rattle.rob_model.specs.View.{robust};
+ghost use Rattle.rob_reach.specs.Ranges.{KeepsBothBounds, whole_rule as first_rule};
 ghost use Rattle.rob_tree.specs.Shape.{HasTreeShape};
 ghost use Rattle.rob_tree.specs.View.{tree_of};
 
@@ -17,27 +20,52 @@ use rob_number::{Exact, Tally, Text};
 use rob_tree::{Branch, Node, Tree, TreeErr, TreeStop, read_tree, write_tree};
 use std::alloc::Global;
 
-/// The text of the tree that the columns of a line grow, or why none does.
-pub(crate) fn grown<N: Exact>(alloc: Global, case: &Case, line: &str) -> Result<String, Trouble> {
-    let model: Model<N> = given::model(alloc, case)?;
+/// The tree that the columns of a line grow, or why none does: its text, or what it claims and its nodes.
+pub(crate) fn grown<N: Exact>(
+    alloc: Global,
+    model: &Model<N>,
+    line: &str,
+    as_text: bool,
+) -> Result<String, Trouble>
+    requires valid { IsValid N.value model.now }
+{
     let columns = given::columns(alloc, line)?;
-    match grow_tree(alloc, &model, columns.as_slice(), &mut Tally::new()) {
+    of_columns(alloc, model, columns.as_slice(), as_text)
+}
+
+/// The tree that columns grow, or why none does.
+fn of_columns<N: Exact>(
+    alloc: Global,
+    model: &Model<N>,
+    columns: &[u32],
+    as_text: bool,
+) -> Result<String, Trouble>
+    requires valid { IsValid N.value model.now }
+{
+    match grow_tree(alloc, model, columns, &mut Tally::new()) {
         Ok(tree) => {
-            let text = written(alloc, &model, columns.as_slice(), &tree)?;
-            shown(alloc, text.bytes())
+            if as_text {
+                tree_text(alloc, model, columns, &tree)
+            } else {
+                told(alloc, &tree)
+            }
         }
         Err(stop) => stopped(alloc, &stop),
     }
 }
 
-/// What the tree that the columns of a line grow claims, and its nodes; or why none grows.
-pub(crate) fn nodes<N: Exact>(alloc: Global, case: &Case, line: &str) -> Result<String, Trouble> {
-    let model: Model<N> = given::model(alloc, case)?;
-    let columns = given::columns(alloc, line)?;
-    match grow_tree(alloc, &model, columns.as_slice(), &mut Tally::new()) {
-        Ok(tree) => told(alloc, &tree),
-        Err(stop) => stopped(alloc, &stop),
-    }
+/// The text of a tree of named columns, as bytes are shown.
+fn tree_text<N: Exact>(
+    alloc: Global,
+    model: &Model<N>,
+    columns: &[u32],
+    tree: &Tree<N>,
+) -> Result<String, Trouble>
+    requires valid { IsValid N.value model.now }
+    requires shape { HasTreeShape N.limit (robust N.value model.now) columns.now (tree_of N.value tree.now) }
+{
+    let text = written(alloc, model, columns, tree)?;
+    shown(alloc, text.bytes())
 }
 
 fn told<N: Exact>(alloc: Global, tree: &Tree<N>) -> Result<String, Trouble> {
@@ -117,22 +145,55 @@ fn written<N: Exact>(
 }
 
 /// Whether a text is a tree of the columns of a line, and is written again; or the rule that it breaks and the line.
-pub(crate) fn read<N: Exact>(alloc: Global, case: &Case, line: &str) -> Result<String, Trouble> {
-    let model: Model<N> = given::model(alloc, case)?;
+pub(crate) fn read<N: Exact>(
+    alloc: Global,
+    case: &Case,
+    model: &Model<N>,
+    line: &str,
+) -> Result<String, Trouble>
+    requires valid { IsValid N.value model.now }
+    requires named { IsNamed (robust N.value model.now) }
+{
     let columns = given::columns(alloc, line)?;
-    let text = case.bytes();
+    keeps_rules(model, columns.as_slice())?;
+    read_again(alloc, case.bytes(), model, columns.as_slice())
+}
+
+/// Whether a text is a tree of named columns, and is written again.
+fn read_again<N: Exact>(
+    alloc: Global,
+    text: &[u8],
+    model: &Model<N>,
+    columns: &[u32],
+) -> Result<String, Trouble>
+    requires valid { IsValid N.value model.now }
+    requires named { IsNamed (robust N.value model.now) }
+    requires rule { first_rule (robust N.value model.now) columns.now ≡ None }
+    requires bounded { KeepsBothBounds (robust N.value model.now) columns.now }
+{
     if text.len() > 1 << 30 {
         return Err(Trouble::Line);
     }
-    keeps_rules(&model, columns.as_slice())?;
-    match read_tree(alloc, text, &model, columns.as_slice(), &mut Tally::new()) {
-        Ok(tree) => {
-            let again = written(alloc, &model, columns.as_slice(), &tree)?;
-            compared(alloc, again.bytes() == text)
-        }
+    match read_tree(alloc, text, model, columns, &mut Tally::new()) {
+        Ok(tree) => same_text(alloc, text, model, columns, &tree),
         Err(TreeErr::Rule(rule, line)) => broken(alloc, rule, line),
         Err(TreeErr::Memory) => Err(Trouble::Memory),
     }
+}
+
+/// Whether a tree of named columns is written as a text.
+fn same_text<N: Exact>(
+    alloc: Global,
+    text: &[u8],
+    model: &Model<N>,
+    columns: &[u32],
+    tree: &Tree<N>,
+) -> Result<String, Trouble>
+    requires valid { IsValid N.value model.now }
+    requires shape { HasTreeShape N.limit (robust N.value model.now) columns.now (tree_of N.value tree.now) }
+{
+    let again = written(alloc, model, columns, tree)?;
+    compared(alloc, again.bytes() == text)
 }
 
 fn compared(alloc: Global, same: bool) -> Result<String, Trouble> {

@@ -8,9 +8,9 @@ ghost use Rattle.rob_worst.specs.Finders.{IsFinder};
 ghost use Rattle.rob_worst.specs.Finding.{HasConstantWithin};
 
 use crate::given;
+use rob_case::Trouble;
 use rob_case::numbers::{put_all, shown, small};
 use rob_case::text::{keyword, said};
-use rob_case::{Case, Trouble};
 use rob_cert::{Stop, Worst};
 use rob_elab::{Forms, elaborate};
 use rob_model::{Model, Plan};
@@ -68,16 +68,62 @@ fn plan<N: Exact>(alloc: Global, numbers: &[N]) -> Result<Plan<N>, Trouble> {
     }
 }
 
-/// The worst scenario of the form of a line at its plan.
-pub(crate) fn at_plan<N: Exact>(alloc: Global, case: &Case, line: &str) -> Result<String, Trouble> {
-    let model: Model<N> = given::model(alloc, case)?;
-    let whole = whole_numbers(alloc, &model)?;
-    let (form, numbers) = keyword(line);
-    let numbers = given::fractions::<N>(alloc, numbers)?;
-    let plan = plan(alloc, numbers.as_slice())?;
-    found_at_plan(alloc, &whole, small(form)?, &plan)
+/// The answer of a call on the model in whole numbers.
+pub(crate) fn answer<N: Exact>(
+    alloc: Global,
+    model: &Model<N>,
+    word: &str,
+    line: &str,
+) -> Result<String, Trouble>
+    requires valid { IsValid N.value model.now }
+{
+    let whole = whole_numbers(alloc, model)?;
+    of_whole::<N>(alloc, &whole, word, line)
 }
 
+/// The answer of a call on whole numbers.
+fn of_whole<N: Exact>(
+    alloc: Global,
+    whole: &Written,
+    word: &str,
+    line: &str,
+) -> Result<String, Trouble>
+    requires model { AreElaborated N.limit whole.now.forms whole.now.set }
+    requires few { IsFewSet whole.now.set }
+    requires set { IsSetOfModel N.limit whole.now.set }
+{
+    if word == "inside" {
+        return inside::<N>(alloc, whole);
+    }
+    let (form, numbers) = keyword(line);
+    let numbers = given::fractions::<N>(alloc, numbers)?;
+    at_numbers(alloc, whole, word, small(form)?, numbers.as_slice())
+}
+
+/// The answer of a call on a form and numbers: those of a plan, of a direction, or of both.
+fn at_numbers<N: Exact>(
+    alloc: Global,
+    whole: &Written,
+    word: &str,
+    form: u32,
+    numbers: &[N],
+) -> Result<String, Trouble>
+    requires model { AreElaborated N.limit whole.now.forms whole.now.set }
+    requires few { IsFewSet whole.now.set }
+    requires set { IsSetOfModel N.limit whole.now.set }
+{
+    if word == "worst-step" {
+        return found_at_step(alloc, whole, form, numbers);
+    }
+    let plan = plan(alloc, numbers)?;
+    match word {
+        "worst" => found_at_plan(alloc, whole, form, &plan),
+        "searches" => searches(alloc, whole, form, &plan, numbers),
+        _ => Err(Trouble::Line),
+    }
+}
+
+/// The worst scenario of a form at a plan.
 fn found_at_plan<N: Exact>(
     alloc: Global,
     whole: &Written,
@@ -97,15 +143,7 @@ fn found_at_plan<N: Exact>(
     told(alloc, &found)
 }
 
-/// The worst scenario of the form of a line along its direction.
-pub(crate) fn at_step<N: Exact>(alloc: Global, case: &Case, line: &str) -> Result<String, Trouble> {
-    let model: Model<N> = given::model(alloc, case)?;
-    let whole = whole_numbers(alloc, &model)?;
-    let (form, step) = keyword(line);
-    let step = given::fractions::<N>(alloc, step)?;
-    found_at_step(alloc, &whole, small(form)?, step.as_slice())
-}
-
+/// The worst scenario of a form along a direction.
 fn found_at_step<N: Exact>(
     alloc: Global,
     whole: &Written,
@@ -123,26 +161,20 @@ fn found_at_step<N: Exact>(
     told(alloc, &found)
 }
 
-/// What one finder tells of the form of a line at its plan, along the same numbers, and at the plan again.
-pub(crate) fn searches<N: Exact>(
+/// What one finder tells of a form at a plan, along a direction, and at the plan again.
+fn searches<N: Exact>(
     alloc: Global,
-    case: &Case,
-    line: &str,
-) -> Result<String, Trouble> {
-    let model: Model<N> = given::model(alloc, case)?;
-    let whole = whole_numbers(alloc, &model)?;
-    let (form, numbers) = keyword(line);
-    let numbers = given::fractions::<N>(alloc, numbers)?;
-    let plan = plan(alloc, numbers.as_slice())?;
+    whole: &Written,
+    form: u32,
+    plan: &Plan<N>,
+    step: &[N],
+) -> Result<String, Trouble>
+    requires model { AreElaborated N.limit whole.now.forms whole.now.set }
+    requires few { IsFewSet whole.now.set }
+    requires set { IsSetOfModel N.limit whole.now.set }
+{
     match Finder::new(alloc, &whole.set, &mut Tally::new()) {
-        Ok(mut finder) => found_in_turn(
-            alloc,
-            &mut finder,
-            &whole,
-            small(form)?,
-            &plan,
-            numbers.as_slice(),
-        ),
+        Ok(mut finder) => found_in_turn(alloc, &mut finder, whole, form, plan, step),
         Err(stop) => stopped(alloc, &stop),
     }
 }
@@ -211,18 +243,31 @@ fn next_at_step<N: Exact>(
 }
 
 /// An admitted scenario.
-pub(crate) fn inside<N: Exact>(alloc: Global, case: &Case) -> Result<String, Trouble> {
-    let model: Model<N> = given::model(alloc, case)?;
-    let whole = whole_numbers(alloc, &model)?;
+fn inside<N: Exact>(alloc: Global, whole: &Written) -> Result<String, Trouble>
+    requires model { AreElaborated N.limit whole.now.forms whole.now.set }
+    requires few { IsFewSet whole.now.set }
+    requires set { IsSetOfModel N.limit whole.now.set }
+{
     match Finder::<N>::new(alloc, &whole.set, &mut Tally::new()) {
-        Ok(finder) => {
-            let scenario = finder.inside(alloc, &whole.forms)?;
-            let mut answer = String::from_str(alloc, "inside")?;
-            put_all(alloc, &mut answer, scenario.values.items())?;
-            Ok(answer)
-        }
+        Ok(finder) => scenario_of(alloc, &finder, whole),
         Err(stop) => stopped(alloc, &stop),
     }
+}
+
+/// The admitted scenario of a finder.
+fn scenario_of<N: Exact>(
+    alloc: Global,
+    finder: &Finder<N>,
+    whole: &Written,
+) -> Result<String, Trouble>
+    requires model { AreElaborated N.limit whole.now.forms whole.now.set }
+    requires few { IsFewSet whole.now.set }
+    requires finder { IsFinder whole.now.set finder.now }
+{
+    let scenario = finder.inside(alloc, &whole.forms)?;
+    let mut answer = String::from_str(alloc, "inside")?;
+    put_all(alloc, &mut answer, scenario.values.items())?;
+    Ok(answer)
 }
 
 /// What a search tells, or why it tells nothing.
