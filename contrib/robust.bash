@@ -6,6 +6,12 @@ _robust() {
         mapfile -t COMPREPLY < <(compgen -W "rows solve prove check replay worst whole tree checktree sweep sweeptext cells celltext narrow text" -- "$word")
         return
     fi
+    # (bash takes the = of --bits=V for a word of its own)
+    if [[ $word == "=" ]]; then
+        word=""
+    elif [[ $before == "=" ]]; then
+        before=${COMP_WORDS[COMP_CWORD - 2]}
+    fi
     case $before in
     --bits) mapfile -t COMPREPLY < <(compgen -W "8 16 32 62" -- "$word") && return ;;
     --route) mapfile -t COMPREPLY < <(compgen -W "dual cuts" -- "$word") && return ;;
