@@ -1,11 +1,11 @@
 #!/usr/bin/env python3
-"""Draws the policies of one decision that `robust solve` and then `robust cells` printed, for one parameter with one cut.
+"""Draws the policies of one decision that `robust solve` and then `robust cells` printed, by one parameter with a cut.
 
     (robust solve bend.rob; robust cells bend.rob d=0) > bend.out
     python3 bend.py d -2 0 2 < bend.out > bend.svg
 
-The words are the parameter, its bounds, and the cut between them. The policy of the whole set is dashed, those of the two cells are drawn
-through, each over its own side of the cut. Places are exact to a tenth of a pixel.
+The words are the parameter, its bounds, and the cut between them. The policy of the whole set is dashed, those of the
+two cells are drawn through, each over its own side of the cut. Places are exact to a tenth of a pixel.
 """
 import sys
 from fractions import Fraction
@@ -18,6 +18,7 @@ def policies(lines, parameter):
     for line in lines:
         words = line.split()
         if words[:1] == ["policy"]:
+            # (`1/2*d` as the number 1/2 of d)
             terms = dict(reversed(word.split("*")) for word in words[3:])
             yield words[1], Fraction(words[2]), Fraction(terms.get(parameter, "0"))
 
@@ -26,6 +27,16 @@ def ends(policy, start, end):
     """The two ends of a policy's line over a side."""
     _, constant, slope = policy
     return [(at, constant + slope * at) for at in (start, end)]
+
+
+def label(name, slope, line, look):
+    """A policy's name: beside the middle of a line that rises or falls, and above the first quarter of a level one."""
+    (left, start), (right, end) = line
+    if slope == 0:
+        return f'<text x="{(3 * left + right) / 4}" y="{start - 8}" text-anchor="middle" fill="{look}">{name}</text>'
+    side, anchor = (10, "start") if slope < 0 else (-10, "end")
+    x, y = (left + right) / 2 + side, (start + end) / 2
+    return f'<text x="{x}" y="{y}" text-anchor="{anchor}" fill="{look}">{name}</text>'
 
 
 def drawn(parameter, bounds, found):
@@ -41,7 +52,8 @@ def drawn(parameter, bounds, found):
         up = HEIGHT - MARGIN - (value - least) * (HEIGHT - 2 * MARGIN) / ((greatest - least) or 1)
         return round(float(across), 1), round(float(up), 1)
 
-    yield f'<svg xmlns="http://www.w3.org/2000/svg" viewBox="0 0 {WIDTH} {HEIGHT}" font-family="sans-serif" font-size="12">'
+    font = 'font-family="sans-serif" font-size="12"'
+    yield f'<svg xmlns="http://www.w3.org/2000/svg" viewBox="0 0 {WIDTH} {HEIGHT}" {font}>'
     yield f'<rect width="{WIDTH}" height="{HEIGHT}" fill="white"/>'
     yield f'<path d="M{MARGIN} {MARGIN - 20}V{HEIGHT - MARGIN}H{WIDTH - MARGIN + 20}" fill="none" stroke="gray"/>'
     x, _ = place(cut, least)
@@ -50,11 +62,7 @@ def drawn(parameter, bounds, found):
         path = " ".join("{},{}".format(*place(*end)) for end in line)
         yield f'<polyline points="{path}" fill="none" stroke-width="2" {look}/>'
     for line, (name, _, slope), look in zip(lines, found, ("gray", "black", "black")):
-        (a, b), (c, e) = (place(*end) for end in line)
-        side = (slope < 0) - (slope > 0)
-        x, y = ((a + c) / 2 if side else (3 * a + c) / 4), (b + e) / 2
-        anchor = {1: "start", 0: "middle", -1: "end"}[side]
-        yield f'<text x="{x + 10 * side}" y="{y if side else y - 8}" text-anchor="{anchor}" fill="{look}">{name}</text>'
+        yield label(name, slope, [place(*end) for end in line], look)
     for at in bounds:
         yield f'<text x="{place(at, least)[0]}" y="{HEIGHT - MARGIN + 18}" text-anchor="middle">{at}</text>'
     for value in sorted({least, greatest}):

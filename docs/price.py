@@ -4,7 +4,7 @@
     robust sweep stock.rob 1 0,1/2,1,3/2,2 > price.out
     python3 price.py < price.out > price.svg
 
-A limit without an optimum has no point. Values are placed exactly to a tenth of a pixel; the labels are the printed ones.
+A limit without an optimum has no point. Values are placed to a tenth of a pixel; the labels are the printed ones.
 """
 import sys
 from fractions import Fraction
@@ -31,7 +31,8 @@ def drawn(found):
     """The text of the picture."""
     across = placed([Fraction(budget) for budget, _ in found], MARGIN, WIDTH - MARGIN)
     up = placed([Fraction(value) for _, value in found], HEIGHT - MARGIN, MARGIN)
-    yield f'<svg xmlns="http://www.w3.org/2000/svg" viewBox="0 0 {WIDTH} {HEIGHT}" font-family="sans-serif" font-size="12">'
+    font = 'font-family="sans-serif" font-size="12"'
+    yield f'<svg xmlns="http://www.w3.org/2000/svg" viewBox="0 0 {WIDTH} {HEIGHT}" {font}>'
     yield f'<rect width="{WIDTH}" height="{HEIGHT}" fill="white"/>'
     yield f'<path d="M{MARGIN} {MARGIN - 20}V{HEIGHT - MARGIN + 10}H{WIDTH - MARGIN + 20}" fill="none" stroke="gray"/>'
     line = " ".join(f"{x},{y}" for x, y in zip(across, up))
@@ -41,7 +42,8 @@ def drawn(found):
         yield f'<text x="{x}" y="{y - 8}" text-anchor="middle">{value}</text>'
         yield f'<text x="{x}" y="{HEIGHT - MARGIN + 26}" text-anchor="middle">{budget}</text>'
     yield f'<text x="{WIDTH // 2}" y="{HEIGHT - 6}" text-anchor="middle">budget</text>'
-    yield f'<text x="14" y="{HEIGHT // 2}" text-anchor="middle" transform="rotate(-90 14 {HEIGHT // 2})">optimal value</text>'
+    turned = f'transform="rotate(-90 14 {HEIGHT // 2})"'
+    yield f'<text x="14" y="{HEIGHT // 2}" text-anchor="middle" {turned}>optimal value</text>'
     yield "</svg>"
 
 
