@@ -13,7 +13,7 @@ use Rattle.rob_linear.specs.Turns.{key, ComesBefore}
 use Rattle.rob_linear.specs.Beside.{IsLexNegative, IsLeast, HasNoLeast}
 use Rattle.rob_linear.proofs.Lexical.{before_trans}
 use Rattle.rob_linear.proofs.Choices.{before_not_self}
-use Rattle.rob_simplex.specs.Dictionaries.{shape, IsLower, Decided}
+use Rattle.rob_simplex.specs.Dictionaries.{shape, IsLower, MayBeLeast, Decided}
 use Rattle.rob_simplex.proofs.RatioLemmas.{lex_decided, lex_none}
 
 -- ---- numbers turned round
@@ -61,19 +61,24 @@ module _ (n m : ℕ) (rows : Matrix) (column : ℕ) where
   abbrev Before : ℕ → ℕ → Type 0
   Before j e = ComesBefore (shape n m) (rows j) (neg_ℤ (rows j column)) (rows e) (neg_ℤ (rows e column))
 
-  -- the least of the rows before i, if there is one
+  -- a row that may be the least, and before which none of the rows before i comes; or none of these may be
   abbrev pub IsLeastSoFar : ℕ → Option ℕ → Type 0
   IsLeastSoFar i best =
       MatchOption best ((j : ℕ) → j < i → rows j column <ℤ pos 0 → ¬ (IsLexNegative (suc m) (key (shape n m) (rows j))))
-      (λ e. (e < i) × (rows e column <ℤ pos 0) × IsLexNegative (suc m) (key (shape n m) (rows e))
+      (λ e. (e < m) × (rows e column <ℤ pos 0) × IsLexNegative (suc m) (key (shape n m) (rows e))
       × ((j : ℕ) → j < i → rows j column <ℤ pos 0 → IsLexNegative (suc m) (key (shape n m) (rows j)) → ¬ (ComesBefore (shape n m) (rows j) (neg_ℤ (rows j column)) (rows e) (neg_ℤ (rows e column)))))
+
+  -- at the start any row that may be the least will do
+  pub least_begins : (best : Option ℕ) → IfSome best (λ e. (e < m) × MayBeLeast n m rows column e) → IsLeastSoFar 0 best
+  least_begins None h = λ j l. absurd (omega arith)
+  least_begins (Some e) h = (h.0, h.1.0, h.1.1, (λ j l. absurd (omega arith)))
 
   turned : (j : ℕ) → rows j column <ℤ pos 0 → pos 0 <ℤ neg_ℤ (rows j column)
   turned j b = omega (arith, ints)
 
-  pub least_takes : (i : ℕ) (best : Option ℕ) → IsLeastSoFar i best → IsLower n m rows column i best → IsLeastSoFar (i + 1) (Some i)
-  least_takes i None f g = (
-    omega arith,
+  pub least_takes : (i : ℕ) (best : Option ℕ) → i < m → IsLeastSoFar i best → IsLower n m rows column i best → IsLeastSoFar (i + 1) (Some i)
+  least_takes i None l f g = (
+    l,
     g.0,
     g.2,
     (λ j jl b neg. elim (cases_eq j i) [
@@ -81,8 +86,8 @@ module _ (n m : ℕ) (rows : Matrix) (column : ℕ) where
       | inr d ↦ absurd (f j (omega arith) b neg)
     ]),
   )
-  least_takes i (Some e) f g = (
-    omega arith,
+  least_takes i (Some e) l f g = (
+    l,
     g.0,
     g.2,
     (λ j jl b neg. elim (cases_eq j i) [
@@ -99,7 +104,7 @@ module _ (n m : ℕ) (rows : Matrix) (column : ℕ) where
         | inr d ↦ f j (omega arith) b
       ]
   least_keeps i (Some e) f g = (
-    (let l : e < i = f.0 in omega arith),
+    f.0,
     f.1,
     f.2,
     (λ j jl b neg. elim (cases_eq j i) [
@@ -116,6 +121,6 @@ module _ (n m : ℕ) (rows : Matrix) (column : ℕ) where
   least_of_all None f = f
   least_of_all (Some e) f = record { inside = f.0; below = f.1; negative = f.2; first = f.3 }
 
-  pub lowest_within : (i : ℕ) (best : Option ℕ) → i < m → IsLeastSoFar i best → IfSome best (λ e. (e < m) × (rows e column <ℤ pos 0))
-  lowest_within i None l f = tt
-  lowest_within i (Some e) l f = ((let k : e < i = f.0 in omega arith), f.1)
+  pub lowest_within : (i : ℕ) (best : Option ℕ) → IsLeastSoFar i best → IfSome best (λ e. (e < m) × (rows e column <ℤ pos 0))
+  lowest_within i None f = tt
+  lowest_within i (Some e) f = (f.0, f.1)

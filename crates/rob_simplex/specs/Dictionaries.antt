@@ -128,6 +128,10 @@ shape n m = kept_of (sized n m (λ i j. pos 0) (λ i. pos 0) (λ j. pos 0))
 abbrev pub GoesFirst : ℕ → ℕ → Matrix → ℕ → ℕ → Option ℕ → Type 0
 GoesFirst n m rows column i best = (pos 0 <ℤ rows i column) × IfSome best (λ e. ComesBefore (shape n m) (rows i) (rows i column) (rows e) (rows e column))
 
+-- row i may be the least: it is negative in the column, and its key is lexicographically negative
+abbrev pub MayBeLeast : ℕ → ℕ → Matrix → ℕ → ℕ → Type 0
+MayBeLeast n m rows column i = (rows i column <ℤ pos 0) × IsLexNegative (suc m) (key (shape n m) (rows i))
+
 -- row i may be the least, and comes before the best row so far, if there is one
 abbrev pub IsLower : ℕ → ℕ → Matrix → ℕ → ℕ → Option ℕ → Type 0
 IsLower n m rows column i best =

@@ -2,9 +2,10 @@
 // negative, the one that comes first.
 
 ghost use Rattle.std.specs.Prelude.{◌≡◌, ◌≢◌, ◌<◌, ◌≤◌, ◌+◌, ◌<ℤ◌, ◌↔◌, ℕ, suc, pos, neg_ℤ, IsTrue, IfSome, MatchOption};
+ghost use Rattle.std.specs.Bool.{OnTrue};
 ghost use Rattle.rob_linear.specs.Turns.{key};
 ghost use Rattle.rob_linear.specs.Beside.{IsLexNegative, IsLeast, HasNoLeast};
-ghost use Rattle.rob_simplex.specs.Dictionaries.{positions, rows_of, width_of, shape, IsLower, Decided};
+ghost use Rattle.rob_simplex.specs.Dictionaries.{positions, rows_of, width_of, shape, IsLower, MayBeLeast, Decided};
 
 use crate::dictionary::Dictionary;
 
@@ -72,6 +73,37 @@ impl Dictionary {
         }
     }
 
+    // Whether a row is negative in a column and on its right side.
+    fn is_below_zero(&self, column: usize, i: usize) -> bool
+        requires column_in { column < width_of self.now }
+        requires i_in { i < positions self.now }
+        ensures below { OnTrue result
+            (MayBeLeast self.now.columns (positions self.now) (rows_of self.now) column i) }
+    {
+        if self.minus_entry(i, column) <= 0 {
+            return false;
+        }
+        if self.minus_entry(i, self.columns + self.basis.len() + 2) <= 0 {
+            return false;
+        }
+        true
+    }
+
+    // The first such row, if there is one. No row that is 0 on its right side comes before it, so where the least row is
+    // sought from this one on, the slack entries of those are not looked at.
+    fn first_below_zero(&self, column: usize) -> Option<usize>
+        requires column_in { column < width_of self.now }
+        ensures below { IfSome result (λ e. (e < positions self.now)
+            × MayBeLeast self.now.columns (positions self.now) (rows_of self.now) column e) }
+    {
+        for i in 0..self.basis.len() {
+            if self.is_below_zero(column, i) {
+                return Some(i);
+            }
+        }
+        None
+    }
+
     /// The least row, if there is one.
     pub fn least(&self) -> Option<usize>
         ensures least { MatchOption result
@@ -79,7 +111,7 @@ impl Dictionary {
             (λ e. IsLeast (shape self.now.columns (positions self.now)) (self.now.columns + positions self.now) (rows_of self.now) e) }
     {
         let auxiliary = self.columns + self.basis.len();
-        let mut best = None;
+        let mut best = self.first_below_zero(auxiliary);
         for i in 0..self.basis.len() {
             if self.is_lower(auxiliary, i, best) {
                 best = Some(i);
