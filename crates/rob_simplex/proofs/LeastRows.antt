@@ -53,7 +53,7 @@ module _ (n m : ℕ) (r : Vector) where
   pub none_decides : (col k : ℕ) → col ≡ n + m + 2 → k ≡ m → r col ≡ pos 0 → ((j : ℕ) → j < k → r (n + j) ≡ pos 0) → IsTrue false ↔ IsLexNegative (suc m) (key (shape n m) r)
   none_decides col k e ek first rest = lex_none (suc m) minus_key (zeros_to m (omega arith) (ap r (sym e) ∙ first) (λ j l. rest j (omega arith)))
 
--- ---- the least row so far
+-- ---- the least row so far: rows are looked at from the last one on
 module _ (n m : ℕ) (rows : Matrix) (column : ℕ) where
   abbrev Negative : ℕ → Type 0
   Negative j = IsLexNegative (suc m) (key (shape n m) (rows j))
@@ -61,66 +61,66 @@ module _ (n m : ℕ) (rows : Matrix) (column : ℕ) where
   abbrev Before : ℕ → ℕ → Type 0
   Before j e = ComesBefore (shape n m) (rows j) (neg_ℤ (rows j column)) (rows e) (neg_ℤ (rows e column))
 
-  -- a row that may be the least, and before which none of the rows before i comes; or none of these may be
+  -- a row that may be the least, and before which none of the last k rows comes; or none of these may be
   abbrev pub IsLeastSoFar : ℕ → Option ℕ → Type 0
-  IsLeastSoFar i best =
-      MatchOption best ((j : ℕ) → j < i → rows j column <ℤ pos 0 → ¬ (IsLexNegative (suc m) (key (shape n m) (rows j))))
+  IsLeastSoFar k best =
+      MatchOption best ((j : ℕ) → j < m → m ≤ j + k → rows j column <ℤ pos 0 → ¬ (IsLexNegative (suc m) (key (shape n m) (rows j))))
       (λ e. (e < m) × (rows e column <ℤ pos 0) × IsLexNegative (suc m) (key (shape n m) (rows e))
-      × ((j : ℕ) → j < i → rows j column <ℤ pos 0 → IsLexNegative (suc m) (key (shape n m) (rows j)) → ¬ (ComesBefore (shape n m) (rows j) (neg_ℤ (rows j column)) (rows e) (neg_ℤ (rows e column)))))
+      × ((j : ℕ) → j < m → m ≤ j + k → rows j column <ℤ pos 0 → IsLexNegative (suc m) (key (shape n m) (rows j)) → ¬ (ComesBefore (shape n m) (rows j) (neg_ℤ (rows j column)) (rows e) (neg_ℤ (rows e column)))))
 
   -- at the start any row that may be the least will do
   pub least_begins : (best : Option ℕ) → IfSome best (λ e. (e < m) × MayBeLeast n m rows column e) → IsLeastSoFar 0 best
-  least_begins None h = λ j l. absurd (omega arith)
-  least_begins (Some e) h = (h.0, h.1.0, h.1.1, (λ j l. absurd (omega arith)))
+  least_begins None h = λ j l s. absurd (omega arith)
+  least_begins (Some e) h = (h.0, h.1.0, h.1.1, (λ j l s. absurd (omega arith)))
 
   turned : (j : ℕ) → rows j column <ℤ pos 0 → pos 0 <ℤ neg_ℤ (rows j column)
   turned j b = omega (arith, ints)
 
-  pub least_takes : (i : ℕ) (best : Option ℕ) → i < m → IsLeastSoFar i best → IsLower n m rows column i best → IsLeastSoFar (i + 1) (Some i)
-  least_takes i None l f g = (
-    l,
+  pub least_takes : (k i : ℕ) (best : Option ℕ) → i + (k + 1) ≡ m → IsLeastSoFar k best → IsLower n m rows column i best → IsLeastSoFar (k + 1) (Some i)
+  least_takes k i None l f g = (
+    omega arith,
     g.0,
     g.2,
-    (λ j jl b neg. elim (cases_eq j i) [
+    (λ j jl s b neg. elim (cases_eq j i) [
       | inl c ↦ (λ w. before_not_self (shape n m) (rows i) (neg_ℤ (rows i column)) (subst (λ v. ComesBefore (shape n m) (rows v) (neg_ℤ (rows v column)) (rows i) (neg_ℤ (rows i column))) c w))
-      | inr d ↦ absurd (f j (omega arith) b neg)
+      | inr d ↦ absurd (f j jl (omega arith) b neg)
     ]),
   )
-  least_takes i (Some e) l f g = (
-    l,
+  least_takes k i (Some e) l f g = (
+    omega arith,
     g.0,
     g.2,
-    (λ j jl b neg. elim (cases_eq j i) [
+    (λ j jl s b neg. elim (cases_eq j i) [
       | inl c ↦ (λ w. before_not_self (shape n m) (rows i) (neg_ℤ (rows i column)) (subst (λ v. ComesBefore (shape n m) (rows v) (neg_ℤ (rows v column)) (rows i) (neg_ℤ (rows i column))) c w))
-      | inr d ↦ (λ w. f.3 j (omega arith) b neg
+      | inr d ↦ (λ w. f.3 j jl (omega arith) b neg
           (before_trans (shape n m) (rows j) (rows i) (rows e) (neg_ℤ (rows j column)) (neg_ℤ (rows i column)) (neg_ℤ (rows e column)) (turned j b) (turned i g.0) (turned e f.1) w g.1))
     ]),
   )
 
-  pub least_keeps : (i : ℕ) (best : Option ℕ) → IsLeastSoFar i best → ¬ (IsLower n m rows column i best) → IsLeastSoFar (i + 1) best
-  least_keeps i None f g =
-      λ j jl b. elim (cases_eq j i) [
+  pub least_keeps : (k i : ℕ) (best : Option ℕ) → i + (k + 1) ≡ m → IsLeastSoFar k best → ¬ (IsLower n m rows column i best) → IsLeastSoFar (k + 1) best
+  least_keeps k i None l f g =
+      λ j jl s b. elim (cases_eq j i) [
         | inl c ↦ (λ neg. g (subst (λ t. rows t column <ℤ pos 0) c b, tt, subst (λ v. IsLexNegative (suc m) (key (shape n m) (rows v))) c neg))
-        | inr d ↦ f j (omega arith) b
+        | inr d ↦ f j jl (omega arith) b
       ]
-  least_keeps i (Some e) f g = (
+  least_keeps k i (Some e) l f g = (
     f.0,
     f.1,
     f.2,
-    (λ j jl b neg. elim (cases_eq j i) [
+    (λ j jl s b neg. elim (cases_eq j i) [
       | inl c ↦ (λ w. g (
         subst (λ t. rows t column <ℤ pos 0) c b,
         subst (λ v. ComesBefore (shape n m) (rows v) (neg_ℤ (rows v column)) (rows e) (neg_ℤ (rows e column))) c w,
         subst (λ v. IsLexNegative (suc m) (key (shape n m) (rows v))) c neg,
       ))
-      | inr d ↦ f.3 j (omega arith) b neg
+      | inr d ↦ f.3 j jl (omega arith) b neg
     ]),
   )
 
   pub least_of_all : (best : Option ℕ) → IsLeastSoFar m best → MatchOption best (HasNoLeast (shape n m) column rows) (λ e. IsLeast (shape n m) column rows e)
-  least_of_all None f = f
-  least_of_all (Some e) f = record { inside = f.0; below = f.1; negative = f.2; first = f.3 }
+  least_of_all None f = λ j l. f j l (omega arith)
+  least_of_all (Some e) f = record { inside = f.0; below = f.1; negative = f.2; first = λ j l. f.3 j l (omega arith) }
 
-  pub lowest_within : (i : ℕ) (best : Option ℕ) → IsLeastSoFar i best → IfSome best (λ e. (e < m) × (rows e column <ℤ pos 0))
-  lowest_within i None f = tt
-  lowest_within i (Some e) f = (f.0, f.1)
+  pub lowest_within : (k : ℕ) (best : Option ℕ) → IsLeastSoFar k best → IfSome best (λ e. (e < m) × (rows e column <ℤ pos 0))
+  lowest_within k None f = tt
+  lowest_within k (Some e) f = (f.0, f.1)

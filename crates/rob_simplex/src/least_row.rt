@@ -104,15 +104,17 @@ impl Dictionary {
         None
     }
 
-    /// The least row, if there is one.
+    /// The least row, if there is one. Rows are looked at from the last one on, as in the ratio test.
     pub fn least(&self) -> Option<usize>
         ensures least { MatchOption result
             (HasNoLeast (shape self.now.columns (positions self.now)) (self.now.columns + positions self.now) (rows_of self.now))
             (λ e. IsLeast (shape self.now.columns (positions self.now)) (self.now.columns + positions self.now) (rows_of self.now) e) }
     {
-        let auxiliary = self.columns + self.basis.len();
+        let m = self.basis.len();
+        let auxiliary = self.columns + m;
         let mut best = self.first_below_zero(auxiliary);
-        for i in 0..self.basis.len() {
+        for seen in 0..m {
+            let i = m - 1 - seen;
             if self.is_lower(auxiliary, i, best) {
                 best = Some(i);
             }

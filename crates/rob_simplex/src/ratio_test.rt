@@ -82,14 +82,17 @@ impl Dictionary {
         }
     }
 
-    /// The row that leaves, if one is positive in the column.
+    /// The row that leaves, if one is positive in the column. Rows are looked at from the last one on, and cleared from
+    /// the first one on, so each pass begins with the rows that the one before left in the machine's caches.
     pub fn leaving(&self, column: usize) -> Option<usize>
         requires column_in { column < width_of self.now }
         ensures first { MatchOption result ((i : ℕ) → i < positions self.now → rows_of self.now i column ≤ℤ pos 0)
             (λ row. Leaves (shape self.now.columns (positions self.now)) (rows_of self.now) column row) }
     {
+        let m = self.basis.len();
         let mut best = None;
-        for i in 0..self.basis.len() {
+        for seen in 0..m {
+            let i = m - 1 - seen;
             if self.goes_first(column, i, best) {
                 best = Some(i);
             }

@@ -1,46 +1,45 @@
-use Rattle.std.proofs.Common.{◌≡◌, ℕ, ◌+◌, ◌<◌, ◌∙◌, sym, subst, ap, arith, true, false, IsTrue, ◌↔◌}
+use Rattle.std.proofs.Common.{◌≡◌, ℕ, ◌+◌, ◌-◌, ◌<◌, ◌∙◌, sym, subst, ap, arith, true, false, IsTrue, ◌↔◌}
 use Rattle.std.specs.Option.{IfSome}
 use Rattle.rob_simplex.specs.Dictionaries.{Table, positions, rows_of, IsLower, MayBeLeast}
 use Rattle.rob_simplex.proofs.LeastRows.{IsLeastSoFar, least_begins, least_takes, least_keeps, least_of_all}
 use Rattle.rob_simplex.proofs.dictionary.Dictionary.least.Goals as goal
 use Rattle.rob_simplex.proofs.dictionary.Dictionary.least.Goals.{then-is_lower, else-is_lower}
 
-pub loop-i-preserved : goal.loop-i-preserved
-loop-i-preserved c =
+pub loop-seen-preserved : goal.loop-seen-preserved
+loop-seen-preserved c =
     let t = c.args.self.now in
     let n = c.args.self.now.columns in
     let m = positions c.args.self.now in
     let en : c.self.inside.columns ≡ c.args.self.now.columns = ap (λ (t : Table). t.columns) c.self.view_is in
-    let em : c.len.result ≡ positions c.args.self.now = c.len.ensures ∙ c.self.inside.basis.ok.0 ∙ ap (λ (t : Table). positions t) c.self.view_is in
-    let emi : c.len-i-end.result ≡ positions c.args.self.now = c.len-i-end.ensures ∙ c.self.inside.basis.ok.0 ∙ ap (λ (t : Table). positions t) c.self.view_is in
-    let il : c.loop-i.i < positions c.args.self.now = omega arith in
-    let ec : c.self.inside.columns + c.len.result ≡ c.args.self.now.columns + positions c.args.self.now = omega arith in
-    let d : IsTrue c.is_lower.result ↔ IsLower c.args.self.now.columns (positions c.args.self.now) (rows_of c.args.self.now) (c.args.self.now.columns + positions c.args.self.now) c.loop-i.i c.loop-i.best =
-    subst (λ k. IsTrue c.is_lower.result ↔ IsLower c.args.self.now.columns (positions c.args.self.now) (rows_of c.args.self.now) k c.loop-i.i c.loop-i.best) ec c.is_lower.ensures.decides in
+    let em : c.len-m.result ≡ positions c.args.self.now = c.len-m.ensures ∙ c.self.inside.basis.ok.0 ∙ ap (λ (t : Table). positions t) c.self.view_is in
+    let il : (c.len-m.result - 1 - c.loop-seen.seen) + (c.loop-seen.seen + 1) ≡ positions c.args.self.now = omega arith in
+    let ec : c.self.inside.columns + c.len-m.result ≡ c.args.self.now.columns + positions c.args.self.now = omega arith in
+    let d : IsTrue c.is_lower.result ↔ IsLower c.args.self.now.columns (positions c.args.self.now) (rows_of c.args.self.now) (c.args.self.now.columns + positions c.args.self.now) (c.len-m.result - 1 - c.loop-seen.seen) c.loop-seen.best =
+    subst (λ k. IsTrue c.is_lower.result ↔ IsLower c.args.self.now.columns (positions c.args.self.now) (rows_of c.args.self.now) k (c.len-m.result - 1 - c.loop-seen.seen) c.loop-seen.best) ec c.is_lower.ensures.decides in
     elim c.if-is_lower.branch [
       | then-is_lower w ↦
-          subst (λ b. IsLeastSoFar c.args.self.now.columns (positions c.args.self.now) (rows_of c.args.self.now) (c.args.self.now.columns + positions c.args.self.now) (c.loop-i.i + 1) b) (sym w.best-is)
-          (least_takes n m (rows_of t) (n + m) c.loop-i.i c.loop-i.best il c.loop-i.invariant (d.0 w.if-is_lower.true))
+          subst (λ b. IsLeastSoFar c.args.self.now.columns (positions c.args.self.now) (rows_of c.args.self.now) (c.args.self.now.columns + positions c.args.self.now) (c.loop-seen.seen + 1) b) (sym w.best-is)
+          (least_takes n m (rows_of t) (n + m) c.loop-seen.seen (c.len-m.result - 1 - c.loop-seen.seen) c.loop-seen.best il c.loop-seen.invariant (d.0 w.if-is_lower.true))
       | else-is_lower w ↦
-          subst (λ b. IsLeastSoFar c.args.self.now.columns (positions c.args.self.now) (rows_of c.args.self.now) (c.args.self.now.columns + positions c.args.self.now) (c.loop-i.i + 1) b) (sym w.best-is)
-          (least_keeps n m (rows_of t) (n + m) c.loop-i.i c.loop-i.best c.loop-i.invariant
+          subst (λ b. IsLeastSoFar c.args.self.now.columns (positions c.args.self.now) (rows_of c.args.self.now) (c.args.self.now.columns + positions c.args.self.now) (c.loop-seen.seen + 1) b) (sym w.best-is)
+          (least_keeps n m (rows_of t) (n + m) c.loop-seen.seen (c.len-m.result - 1 - c.loop-seen.seen) c.loop-seen.best il c.loop-seen.invariant
           (λ x. let y : c.is_lower.result ≡ true = d.1 x in let f : c.is_lower.result ≡ false = w.if-is_lower.false in cc))
     ]
 
-pub loop-i-init : goal.loop-i-init
-loop-i-init c =
+pub loop-seen-init : goal.loop-seen-init
+loop-seen-init c =
     let t = c.args.self.now in
     let en : c.self.inside.columns ≡ c.args.self.now.columns = ap (λ (t : Table). t.columns) c.self.view_is in
-    let em : c.len.result ≡ positions c.args.self.now = c.len.ensures ∙ c.self.inside.basis.ok.0 ∙ ap (λ (t : Table). positions t) c.self.view_is in
-    let ec : c.self.inside.columns + c.len.result ≡ c.args.self.now.columns + positions c.args.self.now = omega arith in
+    let em : c.len-m.result ≡ positions c.args.self.now = c.len-m.ensures ∙ c.self.inside.basis.ok.0 ∙ ap (λ (t : Table). positions t) c.self.view_is in
+    let ec : c.self.inside.columns + c.len-m.result ≡ c.args.self.now.columns + positions c.args.self.now = omega arith in
     least_begins t.columns (positions t) (rows_of t) (t.columns + positions t) c.first_below_zero-best.result
     (subst (λ k. IfSome c.first_below_zero-best.result (λ e. (e < positions t) × MayBeLeast t.columns (positions t) (rows_of t) k e)) ec c.first_below_zero-best.ensures.below)
 
 pub returns : goal.returns
 returns c =
-    let em : c.len-i-end.result ≡ positions c.args.self.now = c.len-i-end.ensures ∙ c.self.inside.basis.ok.0 ∙ ap (λ (t : Table). positions t) c.self.view_is in
-    let e : c.loop-i.i ≡ positions c.args.self.now = omega arith in
+    let em : c.len-m.result ≡ positions c.args.self.now = c.len-m.ensures ∙ c.self.inside.basis.ok.0 ∙ ap (λ (t : Table). positions t) c.self.view_is in
+    let e : c.loop-seen.seen ≡ positions c.args.self.now = omega arith in
     record {
-      least = least_of_all c.args.self.now.columns (positions c.args.self.now) (rows_of c.args.self.now) (c.args.self.now.columns + positions c.args.self.now) c.loop-i.best
-          (subst (λ (k : ℕ). IsLeastSoFar c.args.self.now.columns (positions c.args.self.now) (rows_of c.args.self.now) (c.args.self.now.columns + positions c.args.self.now) k c.loop-i.best) e c.loop-i.invariant);
+      least = least_of_all c.args.self.now.columns (positions c.args.self.now) (rows_of c.args.self.now) (c.args.self.now.columns + positions c.args.self.now) c.loop-seen.best
+          (subst (λ (k : ℕ). IsLeastSoFar c.args.self.now.columns (positions c.args.self.now) (rows_of c.args.self.now) (c.args.self.now.columns + positions c.args.self.now) k c.loop-seen.best) e c.loop-seen.invariant);
     }
