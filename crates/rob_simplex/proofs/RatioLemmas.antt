@@ -10,6 +10,11 @@ use Rattle.rob_linear.specs.Programs.{auxiliary_tag}
 use Rattle.rob_linear.specs.Turns.{IsLexPositive, key, ComesBefore}
 use Rattle.rob_simplex.specs.Dictionaries.{shape, Decided}
 
+-- two entries that are 0 are in the same ratio, whatever their divisors
+pub both_zero : (a p b q : ℤ) → a ≡ pos 0 → b ≡ pos 0 → (p *ℤ b) -ℤ (q *ℤ a) ≡ pos 0
+both_zero a p b q ea eb =
+    subst (λ x. (p *ℤ x) -ℤ (q *ℤ a) ≡ pos 0) (sym eb) (subst (λ y. (p *ℤ pos 0) -ℤ (q *ℤ y) ≡ pos 0) (sym ea) (omega (arith, ints)))
+
 -- the first place that is not 0 decides
 pub lex_decided : (n : ℕ) (f : ℕ → ℤ) (k : ℕ) (b : Bool) → k < n → ((j : ℕ) → j < k → f j ≡ pos 0) → Decided b (f k) → IsTrue b ↔ IsLexPositive n f
 lex_decided n f k true l z d = ((λ t. (k, l, z, d)), λ h. refl)

@@ -14,10 +14,16 @@ fn product(a: i64, b: i64) -> i128
     a as i128 * b as i128
 }
 
-// Whether a over p is less than b over q, for positive divisors; none where they are the same.
+// Whether a over p is less than b over q, for positive divisors; none where they are the same. Most entries are 0, so
+// that is looked at first.
 fn is_less(a: i64, p: i64, b: i64, q: i64) -> Option<bool>
     ensures order { MatchOption result ((p *ℤ b) -ℤ (q *ℤ a) ≡ pos 0) (λ less. Decided less ((p *ℤ b) -ℤ (q *ℤ a))) }
 {
+    if a == 0 {
+        if b == 0 {
+            return None;
+        }
+    }
     let first = product(a, q);
     let second = product(b, p);
     if first < second {

@@ -1,7 +1,14 @@
 use Rattle.std.proofs.Common.{◌≡◌, ◌∙◌, ap, arith, ◌*ℤ◌, to_z, of_z, w64}
 use Rattle.std.proofs.lemmas.Int.{ints, to_z-of_z}
 use Rattle.rob_algebra.specs.Integer.{*ℤ_comm}
+use Rattle.rob_simplex.proofs.RatioLemmas.{both_zero}
 use Rattle.rob_simplex.proofs.ratio_test.is_less.Goals as goal
+
+pub returns-then-b-eq0 : goal.returns-then-b-eq0
+returns-then-b-eq0 c =
+    let sa = to_z-of_z w64 c.args.a c.ranges.a in
+    let sb = to_z-of_z w64 c.args.b c.ranges.b in
+    record { order = both_zero c.args.a c.args.p c.args.b c.args.q (omega (arith, ints, c.if-a-eq0.true)) (omega (arith, ints, c.if-b-eq0.true)) }
 
 pub returns-then-first-second : goal.returns-then-first-second
 returns-then-first-second c =
