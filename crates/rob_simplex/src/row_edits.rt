@@ -23,6 +23,22 @@ fn reduce_row(rows: &mut [i64], bounds: &mut [u64], i: usize, width: usize, limi
     bounds[i] = largest(row);
 }
 
+// Divides row i by what divides all its entries, unless its own entry, the last one, is 1, which nothing divides.
+fn reduce_unless_one(rows: &mut [i64], bounds: &mut [u64], i: usize, width: usize, limit: u64)
+    requires bounded { HasBounds limit width rows.old bounds.old }
+    requires limit { limit < 2 ^ 62 }
+    requires inside { i < length bounds.old }
+    requires width { 1 ≤ width }
+    ensures row { (d : ℤ) × (pos 0 <ℤ d) × ((k : ℕ) → k < width → d *ℤ row_at rows.new width i k ≡ row_at rows.old width i k) }
+    ensures others { (j k : ℕ) → j ≢ i → k < width → row_at rows.new width j k ≡ row_at rows.old width j k }
+    ensures bounded { HasBounds limit width rows.new bounds.new }
+{
+    if rows[i * width + (width - 1)] == 1 {
+        return;
+    }
+    reduce_row(rows, bounds, i, width, limit);
+}
+
 // Turns the signs of the entries round.
 fn negate(row: &mut [i64], bound: u64)
     requires within { (k : ℕ) → k < length row.old → nat_abs (at row.old k) ≤ bound }
@@ -60,7 +76,7 @@ impl Dictionary {
         ensures limit { self.new.limit ≡ self.old.limit }
     {
         let width = self.columns + 4;
-        reduce_row(
+        reduce_unless_one(
             self.rows.as_mut_slice(),
             self.bounds.as_mut_slice(),
             row,
