@@ -17,7 +17,7 @@ use Rattle.rob_simplex.proofs.Replacing.{basic_low, basic_high}
 use Rattle.rob_simplex.proofs.TableClearing.{read_near, read_own, read_none}
 
 -- ---- one entry of a row
-entry_low : (n : ℕ) (low : Vector) (x y : ℤ) (k : ℕ) → k < n → start_entry n low x y k ≡ low k
+pub entry_low : (n : ℕ) (low : Vector) (x y : ℤ) (k : ℕ) → k < n → start_entry n low x y k ≡ low k
 entry_low n low x y k l = grind (arith, nat_tests)
 
 entry_auxiliary : (n : ℕ) (low : Vector) (x y : ℤ) → start_entry n low x y n ≡ x

@@ -100,15 +100,38 @@ fn cost_entry(cost: &[i64], bound: u64, k: usize) -> i64
     1
 }
 
+// Writes the structural entries of a condensed row.
+fn write_structural(row: &mut [i64], numbers: &[i64])
+    requires room { length numbers.now ≤ length row.old }
+    ensures entries { (k : ℕ) → k < length numbers.now → at row.new k ≡ at numbers.now k }
+{
+    for k in 0..numbers.len() {
+        row[k] = numbers[k];
+    }
+}
+
+// Writes what stands behind them in a constraint's row.
+fn write_behind(row: &mut [i64], numbers: &[i64], right: i64)
+    requires few { length numbers.now < 2 ^ 31 }
+    requires room { length numbers.now ≤ length row.old }
+    ensures entries { (k : ℕ) → length numbers.now ≤ k → k < length row.old
+        → at row.new k ≡ start_entry (length numbers.now) (at numbers.now) (neg_ℤ (pos 1)) right k }
+    ensures others { (k : ℕ) → k < length numbers.now → at row.new k ≡ at row.old k }
+{
+    for k in numbers.len()..row.len() {
+        row[k] = constraint_entry(numbers, right, k);
+    }
+}
+
 // Writes a constraint's condensed row.
 fn write_constraint(row: &mut [i64], numbers: &[i64], right: i64)
     requires few { length numbers.now < 2 ^ 31 }
+    requires room { length numbers.now ≤ length row.old }
     ensures row { (k : ℕ) → k < length row.old
         → at row.new k ≡ start_entry (length numbers.now) (at numbers.now) (neg_ℤ (pos 1)) right k }
 {
-    for k in 0..row.len() {
-        row[k] = constraint_entry(numbers, right, k);
-    }
+    write_structural(row, numbers);
+    write_behind(row, numbers, right);
 }
 
 // Writes the objective's condensed row.

@@ -1,8 +1,0 @@
--- The entries before place k are written.
-use Rattle.std.specs.Prelude.{◌≡◌, ℕ, ◌<◌, length, pos, neg_ℤ}
-use Rattle.rob_linear.specs.Vectors.{at}
-use Rattle.rob_simplex.specs.Starts.{start_entry}
-use Rattle.rob_simplex.proofs.starting_rows.write_constraint.Given as goal
-
-abbrev pub invariant-loop-k : goal.invariant-loop-k
-invariant-loop-k l = (j : ℕ) → j < l.k → at l.row j ≡ start_entry (length l.fn.numbers) (at l.fn.numbers) (neg_ℤ (pos 1)) l.fn.right j
