@@ -1,5 +1,6 @@
 -- Numbers of forms and set rows, as they are read place by place.
 use Rattle.std.proofs.Common.{◌≡◌, ◌⊎◌, ℕ, zero, suc, ◌+◌, ◌-◌, ◌*◌, ◌/◌, ◌^◌, ◌<◌, ◌≤◌, List, [], ◌∷◌, length, inl, inr, sym, ap, ap₂, ◌∙◌, subst, arith, w64, to_z, of_z, get_or}
+use Rattle.std.proofs.lemmas.Nat.{mul-le}
 use Rattle.std.specs.Prelude.{slice_index_or}
 use lib.IntN.{ℤ, pos, neg_ℤ, nat_abs}
 use Rattle.rob_linear.specs.Vectors.{at}
@@ -93,6 +94,23 @@ module _ (d : RobustProgram) (i p k : ℕ) where
   outside_row plan count e f low high out =
       let w : plan + i * count ≡ pairs d + (i * d.set_rows) = ap₂ (λ a b. a + i * b) e f in
       sym (outside_multipliers d i p k (omega arith) high (elim out [ inl a ↦ inl (omega arith) | inr b ↦ inr (omega arith) ]))
+
+-- ---- the columns of a form's own multipliers, as they are counted
+module _ (d : RobustProgram) (i : ℕ) (l : i < d.forms) (plan count : ℕ) (e : plan ≡ pairs d) (f : count ≡ d.set_rows) where
+  pub own_within : (plan + i * count) + count ≤ pairs d + (d.forms * d.set_rows)
+  own_within =
+      let own : i * count ≡ i * d.set_rows = ap (λ v. i * v) f in
+      let next : suc i * d.set_rows ≡ (i * d.set_rows) + d.set_rows = grind arith in
+      let all : suc i * d.set_rows ≤ d.forms * d.set_rows = mul-le (suc i) d.set_rows d.forms d.set_rows (omega arith) (omega arith) in
+      omega arith
+
+  pub zero_before : (p k : ℕ) → plan ≤ k → k < plan + i * count → row_entry d i p k ≡ pos 0
+  zero_before p k low high =
+      let w : (plan + i * count) + count ≤ pairs d + (d.forms * d.set_rows) = own_within in
+      sym (outside_row d i p k plan count e f low (omega arith) (inl high))
+
+  pub zero_behind : (p k : ℕ) → (plan + i * count) + count ≤ k → k < pairs d + (d.forms * d.set_rows) → row_entry d i p k ≡ pos 0
+  zero_behind p k low high = sym (outside_row d i p k plan count e f (omega arith) high (inr low))
 
 pub plan_row : (d : RobustProgram) (i p j : ℕ) (v : ℤ) → p < d.set_columns + d.set_columns → v ≡ neg_ℤ (entry d i (p / 2) (suc j)) → turned p v ≡ plan_entry d i p j
 plan_row d i p j v l e = ap (turned p) e ∙ sym (where_less p (d.set_columns + d.set_columns) (turned p (neg_ℤ (entry d i (p / 2) (suc j)))) (d.form i 0 (suc j)) l)

@@ -1,5 +1,6 @@
 pub mod Soundness
 pub mod TabulateLemmas
+pub mod PaddedLists
 pub mod CounterpartLists
 pub mod ShapeLemmas
 pub mod ReadingLemmas

@@ -1,6 +1,6 @@
 // The robust counterpart as a linear program, row by row.
 
-ghost use Rattle.std.specs.Prelude.{◌≡◌, ◌<◌, ◌≤◌, ◌-◌, ◌^◌, ℕ, length, IfOk};
+ghost use Rattle.std.specs.Prelude.{◌≡◌, ◌<◌, ◌≤◌, ◌-◌, ◌^◌, ℕ, ℤ, pos, length, IfOk, OnOk};
 ghost use Rattle.rob_meaning.specs.Places.{tabulate};
 ghost use Rattle.rob_meaning.specs.RobustModel.{RobustModel};
 ghost use Rattle.rob_sets.specs.SetForm.{IsSetForm, SetFits};
@@ -48,7 +48,43 @@ pub fn reform(alloc: Global, forms: &Forms, set: &SetForm) -> Result<Lp, Memory>
     Ok(Lp { a, b, c })
 }
 
-/// Form i's row p.
+// Appends form i's numbers of row p, up to the column before `to`.
+fn push_numbers(
+    numbers: &mut Vec<i64>,
+    forms: &Forms,
+    set: &SetForm,
+    i: usize,
+    p: usize,
+    to: usize,
+) -> Result<(), Memory>
+    requires forms { AreSound forms.now }
+    requires set { IsSound set.now }
+    requires few { IsFew (counterpart_of forms.now set.now) }
+    requires form_in { i < length forms.now.matrices }
+    requires to_in { (length numbers.old.items ≤ to) × (to ≤ (counterpart_of forms.now set.now).n) }
+    requires so_far { numbers.old.items ≡ tabulate (length numbers.old.items) (row_entry (wholes forms.now set.now) i p) }
+    ensures more { OnOk result (numbers.new.items ≡ tabulate to (row_entry (wholes forms.now set.now) i p)) }
+{
+    for k in numbers.len()..to {
+        numbers.push(row_number(forms, set, i, p, k))?;
+    }
+    Ok(())
+}
+
+// Appends zeros, up to the place before `to`.
+fn push_zeros(numbers: &mut Vec<i64>, to: usize) -> Result<(), Memory>
+    requires to_in { length numbers.old.items ≤ to }
+    ensures more { (f : ℕ → ℤ) → numbers.old.items ≡ tabulate (length numbers.old.items) f
+        → ((k : ℕ) → length numbers.old.items ≤ k → k < to → f k ≡ pos 0)
+        → OnOk result (numbers.new.items ≡ tabulate to f) }
+{
+    for k in numbers.len()..to {
+        numbers.push(0)?;
+    }
+    Ok(())
+}
+
+/// Form i's row p: the numbers at the plan's columns and at the form's own multipliers, and 0 at those of other forms.
 fn row(alloc: Global, forms: &Forms, set: &SetForm, i: usize, p: usize) -> Result<List<i64>, Memory>
     requires forms { AreSound forms.now }
     requires set { IsSound set.now }
@@ -56,11 +92,15 @@ fn row(alloc: Global, forms: &Forms, set: &SetForm, i: usize, p: usize) -> Resul
     requires form_in { i < length forms.now.matrices }
     ensures row { IfOk result (λ row. row ≡ tabulate (counterpart_of forms.now set.now).n (row_entry (wholes forms.now set.now) i p)) }
 {
+    let plan = 2 * (forms.columns as usize + 1);
+    let rows = set.rows.items().len();
+    let first = plan + i * rows;
     let columns = program_columns(forms, set);
     let mut numbers = Vec::with_capacity(alloc, columns)?;
-    for k in 0..columns {
-        numbers.push(row_number(forms, set, i, p, k))?;
-    }
+    push_numbers(&mut numbers, forms, set, i, p, plan)?;
+    push_zeros(&mut numbers, first)?;
+    push_numbers(&mut numbers, forms, set, i, p, first + rows)?;
+    push_zeros(&mut numbers, columns)?;
     Ok(List::from(numbers))
 }
 

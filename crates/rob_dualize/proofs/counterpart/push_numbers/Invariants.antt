@@ -2,7 +2,7 @@ use Rattle.std.specs.Prelude.{◌≡◌}
 use Rattle.rob_meaning.specs.Places.{tabulate}
 use Rattle.rob_counterpart.specs.Reform.{row_entry}
 use Rattle.rob_dualize.specs.Wholes.{wholes}
-use Rattle.rob_dualize.proofs.counterpart.row.Given as goal
+use Rattle.rob_dualize.proofs.counterpart.push_numbers.Given as goal
 
 -- the numbers so far
 abbrev pub invariant-loop-k : goal.invariant-loop-k
