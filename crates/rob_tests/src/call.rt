@@ -39,6 +39,7 @@ fn of_line(alloc: Global, word: &str, rest: &str) -> Result<Option<String>, Trou
         "solve" => Ok(Some(simplex::solved::<Most>(alloc, rest)?)),
         "resume" => Ok(Some(simplex::resumed::<Most>(alloc, rest)?)),
         "resume-8" => Ok(Some(simplex::resumed::<Eight>(alloc, rest)?)),
+        "combined" => Ok(Some(simplex::combined::<Most>(alloc, rest)?)),
         "base-8" => Ok(Some(simplex::based::<Eight>(alloc, rest)?)),
         "bound" => Ok(Some(narrow::bound(alloc, rest)?)),
         _ => of_words(alloc, word, rest),

@@ -140,6 +140,53 @@ pub(crate) fn resumed<N: Exact>(alloc: Global, line: &str) -> Result<String, Tro
     }
 }
 
+/// How many rows a solver that stands at a best point combines as it goes on with another cost, behind how many it had
+/// combined before.
+fn combined_from<N: Exact>(
+    alloc: Global,
+    work: &mut Work<N>,
+    cost: &[i64],
+    columns: usize,
+    before: u64,
+) -> Result<String, Trouble>
+    requires resumable { (P : Program) × CanResume P work.old }
+    requires columns { work.old.columns ≡ columns }
+{
+    if cost.len() != columns {
+        return Err(Trouble::Line);
+    }
+    if largest(cost) > N::LIMIT as u64 {
+        return Err(Trouble::Line);
+    }
+    let mut ledger = Tally::new();
+    match work.resume(cost, &mut ledger) {
+        Ok(_) => {
+            let more = ledger.ops();
+            Ok(format!(in alloc; "{before} rows combined, then {more}")?)
+        }
+        Err(stop) => Ok(format!(in alloc; "{stop:?}")?),
+    }
+}
+
+/// How many rows solving a program combines that has an optimum, and how many going on with the cost behind the `>`.
+pub(crate) fn combined<N: Exact>(alloc: Global, line: &str) -> Result<String, Trouble> {
+    let Some((first, second)) = line.split_once('>') else {
+        return Err(Trouble::Line);
+    };
+    let lp = program(alloc, first)?;
+    let cost = wholes(alloc, second)?;
+    let mut work = made::<N>(alloc, &lp)?;
+    let mut ledger = Tally::new();
+    match work.solve(&mut ledger) {
+        Ok(LpKind::Optimal) => {
+            let columns = lp.c.items().len();
+            combined_from(alloc, &mut work, cost.as_slice(), columns, ledger.ops())
+        }
+        Ok(_) => Err(Trouble::Line),
+        Err(stop) => Ok(format!(in alloc; "{stop:?}")?),
+    }
+}
+
 /// How solving a program ends, and the first basic column there.
 pub(crate) fn based<N: Exact>(alloc: Global, line: &str) -> Result<String, Trouble> {
     let lp = program(alloc, line)?;

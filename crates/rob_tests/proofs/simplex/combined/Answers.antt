@@ -1,0 +1,10 @@
+use Rattle.std.proofs.Common.{subst}
+use Rattle.rob_number.specs.declared.lp_kind.LpKind.{LpKind}
+use Rattle.rob_rows.specs.LinearPrograms.{program_of}
+use Rattle.rob_simplex.specs.Endings.{HasAnswered}
+use Rattle.rob_tests.proofs.simplex.combined.Goals as goal
+
+pub combined_from-requires-clause-resumable : goal.combined_from-requires-clause-resumable
+combined_from-requires-clause-resumable g c =
+    let P = program_of c.in_ok-lp.lp in
+    (P, c.in-Ok-Optimal.ensures.resumable P c.in_ok-work.ensures.made (subst (λ (k : LpKind). HasAnswered k c.solve.new.self) c.in-Ok-Optimal.field-0-is c.in-Ok-Optimal.ensures.answered).1)
