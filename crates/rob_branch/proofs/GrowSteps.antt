@@ -58,7 +58,7 @@ cause_told limit told box names before back front r e f h =
 -- the stop of a box that has a scenario is a cause behind it
 pub cause_here : (limit : ℕ) (m : RobustModel) (names : List ℕ) (before : Search) (path : List Branch) (stop : Stop) (told : TreeStop) → before.endless ≡ None
     → HasScenario m → HasModelCause limit m stop → TellsStop path stop told → HasCauseBehind limit m names before (map branch_of path) told
-cause_here limit m names before path (route.EmptySet weights) told going some h e = absurd (h.1.empty some.0 some.1)
+cause_here limit m names before path (route.EmptySet weights) told going some h e = absurd (h.1.shown.empty some.0 some.1)
 cause_here limit m names before path (route.Wide spot trace) told going some h (inl e) =
     subst (HasCauseBehind limit m names before (map branch_of path)) (sym e) ([], sym (append-nil (map branch_of path)), (before, (going, refl)), tt, h.0)
 cause_here limit m names before path (route.Wide spot trace) told going some h (inr e) = subst (HasCauseBehind limit m names before (map branch_of path)) (sym e) tt

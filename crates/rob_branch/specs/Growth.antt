@@ -1,10 +1,10 @@
 -- What growing answers: the node of a box and how far the search is behind it, or why there is none.
 use Rattle.std.specs.Prelude.{◌≡◌, ℕ, List, [], ◌∷◌, ◌++◌, map, Some, Result, IfErr, ◌⊎◌}
-use Rattle.rob_algebra.specs.Fraction.{Fraction, of_int}
+use Rattle.rob_algebra.specs.Fraction.{Fraction}
 use Rattle.rob_cert.specs.declared.ending.Stop.{Stop}
 use Rattle.rob_cert.specs.declared.ending.Stop.TheVariants as route
 use Rattle.rob_dualize.specs.Models.{IsWideIn, IsWritten}
-use Rattle.rob_dualize.specs.Solving.{IsShownEmpty}
+use Rattle.rob_dualize.specs.Solving.{TellsEmpty}
 use Rattle.rob_meaning.specs.Places.{Each}
 use Rattle.rob_meaning.specs.RobustModel.{RobustModel}
 use Rattle.rob_number.specs.Counts.{NeverFell, Rose}
@@ -64,7 +64,7 @@ TellsStop path route.Memory told = told ≡ Memory
 -- to, and none is when the boxes on the way there are written; memory is free
 abbrev pub HasCause : ℕ → RobustModel → List ℕ → TreeStop → Type 0
 HasCause limit m names (Rule rule) = whole_rule m names ≡ Some rule
-HasCause limit m names (EmptySet weights) = IsWritten limit m × IsShownEmpty m (map of_int weights)
+HasCause limit m names (EmptySet weights) = IsWritten limit m × TellsEmpty limit m weights
 HasCause limit m names (Wide path spot) =
     Visits m names start (map branch_of path) × IsWrittenUpTo limit m (map branch_of path)
     × IsWideIn limit (boxes.box m (map branch_of path)) spot

@@ -2,7 +2,6 @@
 -- the rounds of that run; or why there is none.
 -- Mutapcic and Boyd, Cutting-set methods for robust convex optimization with pessimizing oracles (2009).
 use Rattle.std.specs.Prelude.{◌≡◌, ℕ, List, [], map, ⊤}
-use Rattle.rob_algebra.specs.Fraction.{of_int}
 use Rattle.rob_meaning.specs.Certificates.{Certificate}
 use Rattle.rob_meaning.specs.Places.{Each}
 use Rattle.rob_meaning.specs.Proves.{Proves}
@@ -16,7 +15,7 @@ use Rattle.rob_cert.specs.Shape.{HasShape}
 use Rattle.rob_cert.specs.declared.ending.Stop.{Stop}
 use Rattle.rob_cert.specs.declared.ending.Stop.TheVariants.{EmptySet, Wide, Memory}
 use Rattle.rob_cert.specs.declared.trace.Round.{Round as Told}
-use Rattle.rob_dualize.specs.Solving.{HasScenario, IsLastScenario, IsShownEmpty}
+use Rattle.rob_dualize.specs.Solving.{HasScenario, IsLastScenario, TellsEmpty}
 use Rattle.rob_runs.specs.Readings.{IsReadOff}
 use Rattle.rob_runs.specs.Runs.{Round, IsRun, trace_cuts, IsFinished}
 use Rattle.rob_runs.specs.Spots.{RunSpot, set_row, IsWideInRun}
@@ -56,7 +55,7 @@ pub record IsWideAt (limit : ℕ) (m : RobustModel) (place : Spot) (told : List 
 
 -- each refusal with what stands behind it; memory is free
 abbrev pub HasCause : ℕ → RobustModel → Stop → Type 0
-HasCause limit m (EmptySet weights) = IsShownEmpty m (map of_int weights)
+HasCause limit m (EmptySet weights) = TellsEmpty limit m weights
 HasCause limit m (Wide place trace) = IsWideAt limit m place trace.rounds
 HasCause limit m Memory = ⊤
 

@@ -139,8 +139,11 @@ module _ (m : RobustModel) (set : SetForm) (is : IsSetForm m set) where
   ended_of_model : (s : Solver) → HasEnded (program_of_set set) kind.Infeasible s → HasEnded (set_program m) kind.Infeasible s
   ended_of_model s h = record { program = h.program; same = of_model h.program h.same; rows = h.rows; columns = h.columns; solved = h.solved; answered = h.answered }
 
-  pub empty_cause : (limit : ℕ) → IsModel m → (s : Solver) → HasEnded (program_of_set set) kind.Infeasible s → (n : ℕ) (stop : Stop) → n ≡ length set.rows → TellsWeights n (weights_of s) stop → HasSetCause limit m stop
-  empty_cause limit model s h n (EmptySet weights) e w = weights_told m model s (ended_of_model s h) weights n w (e ∙ rows_count)
+  pub empty_cause : (limit : ℕ) → IsModel m → (s : Solver) → HasEnded (program_of_set set) kind.Infeasible s → (n : ℕ) (stop : Stop) → n ≡ length set.rows → TellsWeights limit n (weights_of s) stop → HasSetCause limit m stop
+  empty_cause limit model s h n (EmptySet weights) e w = record {
+    shown = weights_told m model s (ended_of_model s h) weights n w.0 (e ∙ rows_count);
+    fits = w.1;
+  }
   empty_cause limit model s h n (Wide place trace) e w = absurd w
   empty_cause limit model s h n Memory e w = tt
 
@@ -165,10 +168,10 @@ pub memory_set_cause : (limit : ℕ) (m : RobustModel) (stop : Stop) → stop �
 memory_set_cause limit m stop e = subst (HasSetCause limit m) (sym e) tt
 
 -- ---- counts
-pub weights_counted : (before now n : ℕ) (s : Solver) (stop : Stop) → now ≡ before → TellsWeights n (weights_of s) stop → CountsStop before now stop
-weights_counted before now n s (EmptySet weights) e h = e
-weights_counted before now n s (Wide place trace) e h = absurd h
-weights_counted before now n s Memory e h = omega arith
+pub weights_counted : (limit before now n : ℕ) (s : Solver) (stop : Stop) → now ≡ before → TellsWeights limit n (weights_of s) stop → CountsStop before now stop
+weights_counted limit before now n s (EmptySet weights) e h = e
+weights_counted limit before now n s (Wide place trace) e h = absurd h
+weights_counted limit before now n s Memory e h = omega arith
 
 -- ---- the route's causes
 wide_on_path : (limit : ℕ) (m : RobustModel) (place : Spot) → IsWideInSet limit m place → IsWideOnPath limit m place

@@ -1,9 +1,10 @@
 -- Lists by place.
-use Rattle.std.proofs.Common.{◌≡◌, ℕ, zero, suc, ◌+◌, ◌<◌, List, [], ◌∷◌, ◌++◌, map, length, refl, sym, ap, ap₂, ◌∙◌, arith}
+use Rattle.std.proofs.Common.{◌≡◌, ℕ, zero, suc, ◌+◌, ◌<◌, ◌≤◌, ℤ, nat_abs, List, [], ◌∷◌, ◌++◌, map, length, refl, sym, ap, ap₂, ◌∙◌, subst, arith}
 use Rattle.std.specs.Prelude.{slice_index_or}
 use Rattle.std.proofs.lemmas.List.{get_or_default}
 use Rattle.rob_algebra.specs.Fraction.{Fraction}
-use Rattle.rob_meaning.specs.Places.{tabulate}
+use Rattle.rob_meaning.specs.Places.{Each, tabulate}
+use Rattle.rob_meaning.proofs.EachLemmas.{each_append}
 use Rattle.rob_simplex.specs.Dictionaries.{columns_of}
 use Rattle.rob_sets.proofs.RowLemmas.{tabulate-more, pushed}
 
@@ -25,6 +26,12 @@ is_tabulated {A} (x ∷ xs) f h = ap₂ (λ (y : A) (ys : List A). y ∷ ys) (h 
 -- ---- lists that grow at their end
 pub list_more : {A : Type 0} (items new : List A) (x : A) (n : ℕ) (f : ℕ → A) → items ≡ tabulate n f → new ≡ items ++ x ∷ [] → x ≡ f n → new ≡ tabulate (n + 1) f
 list_more {A} items new x n f h e is = e ∙ ap₂ (λ (ys : List A) (y : A). ys ++ y ∷ []) h is ∙ sym (tabulate-more n f)
+
+-- and its numbers stay within the limit
+pub within_more : (limit : ℕ) (items new : List ℤ) (x : ℤ) → Each (λ a. nat_abs a ≤ limit) items → new ≡ items ++ x ∷ [] → nat_abs x ≤ limit
+    → Each (λ a. nat_abs a ≤ limit) new
+within_more limit items new x all e h =
+    subst (λ (list : List ℤ). Each (λ a. nat_abs a ≤ limit) list) (sym e) (each_append (λ a. nat_abs a ≤ limit) items (x ∷ []) all (h, tt))
 
 pub row_more : {N : Type 0} (value : N → Fraction) (items new : List N) (x : N) (n : ℕ) (f : ℕ → Fraction) → map value items ≡ tabulate n f → new ≡ items ++ x ∷ [] → value x ≡ f n
     → map value new ≡ tabulate (n + 1) f

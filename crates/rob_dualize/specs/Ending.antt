@@ -1,11 +1,11 @@
 -- How a solver ends on the counterpart, and what is read there.
-use Rattle.std.specs.Prelude.{◌≡◌, ℕ, List, [], ⊤}
+use Rattle.std.specs.Prelude.{◌≡◌, ◌≤◌, ℕ, nat_abs, List, [], ⊤}
 use Rattle.rob_algebra.specs.Fraction.{Fraction, of_int}
 use Rattle.rob_linear.specs.Vectors.{Vector}
 use Rattle.rob_linear.specs.Systems.{Feasible}
 use Rattle.rob_linear.specs.Programs.{Program, system_of}
 use Rattle.rob_meaning.specs.Certificates.{Certificate}
-use Rattle.rob_meaning.specs.Places.{tabulate}
+use Rattle.rob_meaning.specs.Places.{Each, tabulate}
 use Rattle.rob_number.specs.declared.lp_kind.LpKind.{LpKind}
 use Rattle.rob_number.specs.declared.lp_kind.LpKind.TheVariants as kind
 use Rattle.rob_model.specs.declared.place.Spot.{Spot}
@@ -66,8 +66,9 @@ StopsAt basis program i (EmptySet weights) = ⊥
 StopsAt basis program i (Wide place trace) = (place ≡ Dictionary program basis i) × (trace.rounds ≡ [])
 StopsAt basis program i Memory = ⊤
 
--- the stop tells the first n weights, or memory was refused
-abbrev pub TellsWeights : ℕ → Vector → Stop → Type 0
-TellsWeights n w (EmptySet weights) = weights ≡ tabulate n w
-TellsWeights n w (Wide place trace) = ⊥
-TellsWeights n w Memory = ⊤
+-- the stop tells the first n weights, none of them over the limit in size; or memory was refused
+abbrev pub TellsWeights : ℕ → ℕ → Vector → Stop → Type 0
+TellsWeights limit n w (EmptySet weights) =
+    (weights ≡ tabulate n w) × Each (λ weight. nat_abs weight ≤ limit) weights
+TellsWeights limit n w (Wide place trace) = ⊥
+TellsWeights limit n w Memory = ⊤

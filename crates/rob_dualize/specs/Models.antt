@@ -1,6 +1,5 @@
 -- What is answered of one model: it is written in whole numbers, and its robust counterpart is solved.
-use Rattle.std.specs.Prelude.{◌≡◌, ◌⊎◌, ◌++◌, ℕ, List, [], map, Result, IfErr, ⊤}
-use Rattle.rob_algebra.specs.Fraction.{of_int}
+use Rattle.std.specs.Prelude.{◌≡◌, ◌⊎◌, ◌++◌, ℕ, List, [], Result, IfErr, ⊤}
 use Rattle.rob_meaning.specs.RobustModel.{RobustModel}
 use Rattle.rob_model.specs.declared.place.Spot.{Spot}
 use Rattle.rob_number.specs.Counts.{NeverFell, Rose}
@@ -12,7 +11,7 @@ use Rattle.rob_elab.specs.Forms.{judged_forms}
 use Rattle.rob_cert.specs.declared.ending.Stop.{Stop}
 use Rattle.rob_cert.specs.declared.ending.Stop.TheVariants.{EmptySet, Wide, Memory}
 use Rattle.rob_dualize.specs.Ending.{IsWideStop}
-use Rattle.rob_dualize.specs.Solving.{IsShownEmpty, IsWideOnPath}
+use Rattle.rob_dualize.specs.Solving.{IsWideOnPath, TellsEmpty}
 
 -- what is judged when the model is written in whole numbers, in order: its sets before its forms
 abbrev pub judged : RobustModel → List Judged
@@ -31,7 +30,7 @@ IsWideIn limit m spot = IsFirstWide limit m (judged m) spot ⊎ (IsWritten limit
 -- why a model has no certificate: nothing is wide when it is written in whole numbers, and no joint scenario is
 -- admitted, as the weights show; or the spot is wide, and there are no rounds; memory is free
 abbrev pub HasModelCause : ℕ → RobustModel → Stop → Type 0
-HasModelCause limit m (EmptySet weights) = IsWritten limit m × IsShownEmpty m (map of_int weights)
+HasModelCause limit m (EmptySet weights) = IsWritten limit m × TellsEmpty limit m weights
 HasModelCause limit m (Wide spot trace) = IsWideIn limit m spot × (trace.rounds ≡ [])
 HasModelCause limit m Memory = ⊤
 

@@ -1,7 +1,6 @@
 -- The program of an uncertainty set, solved: a solver that stands at its last basis, which has a scenario; or why there
 -- is none.
-use Rattle.std.specs.Prelude.{◌≡◌, ℕ, ◌+◌, ◌^◌, ◌<◌, [], length, map, ⊤}
-use Rattle.rob_algebra.specs.Fraction.{of_int}
+use Rattle.std.specs.Prelude.{◌≡◌, ℕ, ◌+◌, ◌^◌, ◌<◌, [], length, ⊤}
 use Rattle.rob_linear.specs.Programs.{Program}
 use Rattle.rob_meaning.specs.RobustModel.{RobustModel}
 use Rattle.rob_counterpart.specs.Counterpart.{set_program}
@@ -17,7 +16,7 @@ use Rattle.rob_simplex.specs.Solvers.{Solver, positions}
 use Rattle.rob_cert.specs.declared.ending.Stop.{Stop}
 use Rattle.rob_cert.specs.declared.ending.Stop.TheVariants.{EmptySet, Wide, Memory}
 use Rattle.rob_dualize.specs.Ending.{HasLastPoint}
-use Rattle.rob_dualize.specs.Solving.{IsShownEmpty, TellsWideRow}
+use Rattle.rob_dualize.specs.Solving.{TellsEmpty, TellsWideRow}
 
 -- the program of the set
 abbrev pub program_of_set : SetForm → Program
@@ -47,6 +46,6 @@ IsWideInSet limit m other = ⊥
 
 -- why the set's program is not solved to a scenario: none is admitted, as the weights show; or a row is wide
 abbrev pub HasSetCause : ℕ → RobustModel → Stop → Type 0
-HasSetCause limit m (EmptySet weights) = IsShownEmpty m (map of_int weights)
+HasSetCause limit m (EmptySet weights) = TellsEmpty limit m weights
 HasSetCause limit m (Wide place trace) = IsWideInSet limit m place × (trace.rounds ≡ [])
 HasSetCause limit m Memory = ⊤

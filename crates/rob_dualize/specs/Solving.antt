@@ -1,7 +1,7 @@
 -- What the reformulation route answers for a model: a certificate that proves, read off the last basis of the model's
 -- robust counterpart; or why there is none.
 -- Ben-Tal, El Ghaoui, Nemirovski, Robust Optimization (2009), chapter 1.
-use Rattle.std.specs.Prelude.{◌≡◌, ℕ, ◌≤◌, List, [], length, map, Result, MatchResult, IfOk, IfErr, ⊤}
+use Rattle.std.specs.Prelude.{◌≡◌, ℕ, ℤ, ◌≤◌, nat_abs, List, [], length, map, Result, MatchResult, IfOk, IfErr, ⊤}
 use Rattle.rob_algebra.specs.Fraction.{Fraction, of_int}
 use Rattle.rob_linear.specs.Vectors.{Matrix, Columns}
 use Rattle.rob_linear.specs.Systems.{IsBasis}
@@ -13,6 +13,7 @@ use Rattle.rob_linear.specs.WideRows.{HasWideRow}
 use Rattle.rob_bounds.specs.Bounds.{IsNarrow}
 use Rattle.rob_meaning.specs.Certificates.{Status, optimal, infeasible, unbounded, Certificate}
 use Rattle.rob_meaning.specs.Multipliers.{ShowsEmpty, ShowsEmptyIn}
+use Rattle.rob_meaning.specs.Places.{Each}
 use Rattle.rob_meaning.specs.Proves.{Proves}
 use Rattle.rob_meaning.specs.RobustModel.{RobustModel}
 use Rattle.rob_meaning.specs.UncertaintySet.{Admits, IsEmptyIn, IsEmptySet}
@@ -83,6 +84,11 @@ pub record IsShownEmpty (m : RobustModel) (weights : List Fraction) : Type 0 whe
   pub ending : InfeasibleEnding (set_program m) (own_of (auxiliary_of (set_program m)) basis) rows
   pub weights_are : weights ≡ weights_read m rows
 
+-- the weights are told so, in whole numbers, none of them over the limit in size
+pub record TellsEmpty (limit : ℕ) (m : RobustModel) (weights : List ℤ) : Type 0 where
+  pub shown : IsShownEmpty m (map of_int weights)
+  pub fits : Each (λ weight. nat_abs weight ≤ limit) weights
+
 -- the list is the whole basis, a column for each row of the program; it is on the path, and the row of that position is
 -- wide there
 pub record TellsWideRow (limit : ℕ) (P : Program) (basis : List ℕ) (i : ℕ) : Type 0 where
@@ -99,7 +105,7 @@ IsWideOnPath limit m other = ⊥
 
 -- each refusal with what stands behind it; memory is free
 abbrev pub HasCause : ℕ → RobustModel → Stop → Type 0
-HasCause limit m (EmptySet weights) = IsShownEmpty m (map of_int weights)
+HasCause limit m (EmptySet weights) = TellsEmpty limit m weights
 HasCause limit m (Wide place trace) = IsWideOnPath limit m place × (trace.rounds ≡ [])
 HasCause limit m Memory = ⊤
 

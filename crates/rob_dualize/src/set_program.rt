@@ -55,7 +55,7 @@ pub fn solved_set<N: Exact, L: Ledger>(
 fn empty_set<N: Exact>(alloc: Global, rows: u32, work: &Work<N>) -> Stop
     requires weights { HasWeights work.now }
     requires positions { rows ≡ positions work.now }
-    ensures stop { TellsWeights rows (weights_of work.now) result }
+    ensures stop { TellsWeights N.limit rows (weights_of work.now) result }
 {
     match weights(alloc, work, rows) {
         Ok(weights) => Stop::EmptySet(weights),

@@ -2,7 +2,7 @@
 
 ghost use Rattle.std.specs.Prelude.{◌≡◌, ◌≤◌, ℕ, map, nat_abs, IfOk};
 ghost use Rattle.rob_algebra.specs.Fraction.{of_int};
-ghost use Rattle.rob_meaning.specs.Places.{tabulate};
+ghost use Rattle.rob_meaning.specs.Places.{Each, tabulate};
 ghost use Rattle.rob_simplex.specs.Solvers.{positions, HasPoint, HasOptimum, HasRay, HasWeights};
 ghost use Rattle.rob_simplex.specs.Solutions.{point_of, ray_of, dual_of, weights_of};
 
@@ -54,6 +54,7 @@ pub fn weights<N: Exact>(alloc: Global, work: &Work<N>, count: u32) -> Result<Li
     requires weights { HasWeights work.now }
     requires inside { count ≤ positions work.now }
     ensures numbers { IfOk result (λ list. list ≡ tabulate count (weights_of work.now)) }
+    ensures within { IfOk result (Each (λ weight. nat_abs weight ≤ N.limit)) }
 {
     let mut numbers = List::new(alloc);
     for i in 0..count {

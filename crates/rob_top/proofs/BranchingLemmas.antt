@@ -1,11 +1,12 @@
 -- The answers of `whole` and `tree`, from what the search for names and the growing of a tree answer.
-use Rattle.std.proofs.Common.{◌≡◌, ℕ, List, map, Option, Some, None, Result, Ok, Err, IfOk, refl, string_bytes, subst, sym, ◌∙◌}
+use Rattle.std.proofs.Common.{◌≡◌, ◌≤◌, ℕ, nat_abs, List, map, Option, Some, None, Result, Ok, Err, IfOk, refl, string_bytes, subst, sym, ◌∙◌}
 use Rattle.std.proofs.lemmas.List.{length-map}
 use Rattle.std.specs.Prelude.{MatchOption}
 use Rattle.rob_algebra.specs.Fraction.{of_int}
 use Rattle.rob_dualize.specs.Models.{IsWideIn, IsWritten}
 use Rattle.rob_branch.specs.Growth.{AreBoxesWritten, HasCause, IsWrittenUpTo, RoseIfWide}
 use Rattle.rob_meaning.specs.Certificates.{Status, optimal, infeasible, unbounded}
+use Rattle.rob_meaning.specs.Places.{Each}
 use Rattle.rob_meaning.specs.RobustModel.{RobustModel}
 use Rattle.rob_number.specs.declared.memory.Memory.{Memory as Want}
 use Rattle.rob_reach.proofs.GrowingLemmas.{comes_allowed}
@@ -145,7 +146,8 @@ module _ (limit : ℕ) (m : RobustModel) where
           };
           branches = is_here (count before now) call line at;
           written = subst (λ (l : ℕ). IsWritten l m) (sym at.limit_is) cause.0;
-          shown = cause.1;
+          shown = cause.1.shown;
+          fits = subst (λ (l : ℕ). Each (λ weight. nat_abs weight ≤ l) weights) (sym at.limit_is) cause.1.fits;
           printed = is.1;
         }))
     stop_answers before now (ungrown.Wide path spot) reply cause rose told is = λ call line at has.
@@ -177,7 +179,7 @@ module _ (limit : ℕ) (m : RobustModel) where
   pub stop_named : (numbers : List ℕ) (s : TreeStop) → ((rule : ℕ) → whole_rule m numbers ≡ Some rule → s ≡ ungrown.Rule rule)
       → HasCause limit m numbers s → IsUngrownOf m s
   stop_named numbers (ungrown.Rule rule) told cause = tt
-  stop_named numbers (ungrown.EmptySet weights) told cause = sym (length-map weights of_int) ∙ cause.1.shows.count
+  stop_named numbers (ungrown.EmptySet weights) told cause = sym (length-map weights of_int) ∙ cause.1.shown.shows.count
   stop_named numbers (ungrown.Wide path spot) told cause =
       let keeps : whole_rule m numbers ≡ None =
       no_rule m numbers (λ rule e. let no : ungrown.Wide path spot ≡ ungrown.Rule rule = told rule e in cc)

@@ -212,6 +212,7 @@ module _ (call : Call) (known : Known call.source) where
     forms = (forms_known call known) h.line h.m h.forms;
     solves = h.solves;
     shown = h.shown;
+    fits = h.fits;
     printed = h.printed;
   })
   means_known (EmptySet weights) text (while_branching h) = while_branching (record {
@@ -222,6 +223,7 @@ module _ (call : Call) (known : Known call.source) where
     branches = h.branches;
     written = h.written;
     shown = h.shown;
+    fits = h.fits;
     printed = h.printed;
   })
   means_known (EmptySet weights) text (in_cells h) = in_cells (empty_cell_known call known weights text h)
@@ -232,6 +234,7 @@ module _ (call : Call) (known : Known call.source) where
     form = h.form;
     has = (sought_known call known) h.line h.m h.c h.form h.has;
     shown = h.shown;
+    fits = h.fits;
     printed = h.printed;
   })
   means_known (WideNode path spot) text (while_growing h) = while_growing (record {

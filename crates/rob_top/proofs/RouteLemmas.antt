@@ -103,7 +103,7 @@ module _ (m : RobustModel) where
   wide_rounds Cuts limit place told h = run_named told h.trace h.wide.run h.rounds
 
   pub stop_of : (way : Route) (limit : ℕ) (s : Stop) → HasStopCause way limit m s → IsStopOf m s
-  stop_of way limit (stop.EmptySet weights) h = sym (length-map weights of_int) ∙ h.shows.count
+  stop_of way limit (stop.EmptySet weights) h = sym (length-map weights of_int) ∙ h.shown.shows.count
   stop_of way limit (stop.Wide place trace) h = (wide_spot way limit place trace.rounds h, wide_rounds way limit place trace.rounds h)
   stop_of way limit stop.Memory h = tt
 

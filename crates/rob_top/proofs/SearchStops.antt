@@ -1,5 +1,5 @@
 -- The answers of `worst` where the search stops, and what the search asks for.
-use Rattle.std.proofs.Common.{◌≡◌, ◌≢◌, ℕ, ◌<◌, ◌≤◌, List, [], ◌∷◌, false, length, map, Result, Ok, Err, IfOk, inl, inr, refl, subst, sym, ap, ◌∙◌, arith, length-append}
+use Rattle.std.proofs.Common.{◌≡◌, ◌≢◌, ℕ, ◌<◌, ◌≤◌, nat_abs, List, [], ◌∷◌, false, length, map, Result, Ok, Err, IfOk, inl, inr, refl, subst, sym, ap, ◌∙◌, arith, length-append}
 use Rattle.std.proofs.lemmas.List.{length-map}
 use Rattle.std.specs.Prelude.{MatchResult}
 use Rattle.rob_algebra.specs.Fraction.{Fraction, of_int}
@@ -12,6 +12,7 @@ use Rattle.rob_dualize.specs.SetSolving.{IsWideInSet}
 use Rattle.rob_dualize.specs.Solving.{CountsStop}
 use Rattle.rob_meaning.specs.Certificates.{Certificate, Status, infeasible, optimal, unbounded}
 use Rattle.rob_meaning.specs.Forms.{form_columns, forms}
+use Rattle.rob_meaning.specs.Places.{Each}
 use Rattle.rob_meaning.specs.RobustModel.{RobustModel, column_count}
 use Rattle.rob_meaning.specs.WellFormed.{IsModel}
 use Rattle.rob_model.specs.declared.place.Program.TheVariants as program
@@ -101,7 +102,7 @@ module _ (limit : ℕ) (m : RobustModel) (form : ℕ) (z : List Fraction) (some 
   search_spot (spot.Replay number) h = absurd h
 
   pub stop_of_search : (s : Stop) → HasCause limit m false form z s → IsStopOf m s
-  stop_of_search (stop.EmptySet weights) (inl h) = sym (length-map weights of_int) ∙ h.shows.count
+  stop_of_search (stop.EmptySet weights) (inl h) = sym (length-map weights of_int) ∙ h.shown.shows.count
   stop_of_search (stop.EmptySet weights) (inr h) = absurd h.1
   stop_of_search (stop.Wide place trace) (inl h) = (set_spot place h.0, no_rounds m trace.rounds h.1)
   stop_of_search (stop.Wide place trace) (inr h) = (search_spot place h.1.0, no_rounds m trace.rounds h.1.1)
@@ -120,7 +121,16 @@ module _ (limit : ℕ) (m : RobustModel) (form : ℕ) (c : Certificate) where
       → RepliesStop m Dual s reply → AnswersSought limit (count before now) m c form reply
   stop_answers before now (stop.EmptySet weights) reply (inl h) counts is = λ call line at has.
       subst (λ (ended : Ended). Means call ended reply.text) (sym is.0)
-      (while_searching (record { line = line; m = m; c = c; form = form; has = has; shown = h; printed = is.1 }))
+      (while_searching (record {
+        line = line;
+        m = m;
+        c = c;
+        form = form;
+        has = has;
+        shown = h.shown;
+        fits = subst (λ (l : ℕ). Each (λ weight. nat_abs weight ≤ l) weights) (sym at.limit_is) h.fits;
+        printed = is.1;
+      }))
   stop_answers before now (stop.EmptySet weights) reply (inr h) counts is = absurd h.1
   stop_answers before now (stop.Wide place trace) reply cause counts is = λ call line at has.
       let rose : Rose before now = omega (arith, counts) in

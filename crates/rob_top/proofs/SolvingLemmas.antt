@@ -1,5 +1,5 @@
 -- The answers of `solve` and `prove`, from what their route answers.
-use Rattle.std.proofs.Common.{◌≡◌, ◌≢◌, ℕ, suc, ◌+◌, ◌*◌, ◌^◌, ◌<◌, ◌≤◌, List, length, Result, Ok, Err, IfOk, refl, subst, sym, ap, ◌∙◌, arith}
+use Rattle.std.proofs.Common.{◌≡◌, ◌≢◌, ℕ, suc, ◌+◌, ◌*◌, ◌^◌, ◌<◌, ◌≤◌, nat_abs, List, length, Result, Ok, Err, IfOk, refl, subst, sym, ap, ◌∙◌, arith}
 use Rattle.std.proofs.Math.Nat.{mul-le-mul}
 use Rattle.std.proofs.lemmas.List.{length-map}
 use Rattle.std.specs.Prelude.{MatchResult}
@@ -196,7 +196,8 @@ module _ (limit : ℕ) (m : RobustModel) where
         m = m;
         forms = has;
         solves = solves_as line.verb verb at.verb_is solves;
-        shown = cause;
+        shown = cause.shown;
+        fits = subst (λ (l : ℕ). Each (λ weight. nat_abs weight ≤ l) weights) (sym at.limit_is) cause.fits;
         printed = is.1;
       }))
   stop_answers before now verb way (stop.Wide place trace) reply solves cause fits counts is = λ call line at by_way has.

@@ -76,6 +76,7 @@ module _ (call : Call) (known : Known call.source) where
     is_cells = h.is_cells;
     written = h.written;
     shown = h.shown;
+    fits = h.fits;
     not_each = h.not_each;
     printed = h.printed;
   }

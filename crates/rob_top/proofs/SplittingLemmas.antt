@@ -1,5 +1,5 @@
 -- The answers of `cells` and `celltext`, from what the words tell and what the work on the split model answers.
-use Rattle.std.proofs.Common.{◌≡◌, ◌≢◌, ◌≤◌, ◌||◌, ◌⊎◌, ℕ, Bool, true, false, not, List, [], ◌∷◌, ◌++◌, length, map, Option, Some, None, Result, Ok, Err, IfOk, inl, inr, refl, subst, sym, ap, ◌∙◌}
+use Rattle.std.proofs.Common.{◌≡◌, ◌≢◌, ◌≤◌, ◌||◌, ◌⊎◌, ℕ, nat_abs, Bool, true, false, not, List, [], ◌∷◌, ◌++◌, length, map, Option, Some, None, Result, Ok, Err, IfOk, inl, inr, refl, subst, sym, ap, ◌∙◌}
 use Rattle.std.specs.Prelude.{if◌then◌else◌}
 use Rattle.std.proofs.lemmas.List.{length-map}
 use denote.Enum.Bare.{same_true, sameb}
@@ -14,6 +14,7 @@ use Rattle.rob_dualize.specs.Models.{HasModelCause, IsWideIn, IsWritten, RoseIfS
 use Rattle.rob_dualize.specs.Solving.{IsSolution}
 use Rattle.rob_meaning.proofs.ProvesLemmas.{certificate_true}
 use Rattle.rob_meaning.specs.Certificates.{Certificate, Status, optimal, infeasible, unbounded}
+use Rattle.rob_meaning.specs.Places.{Each}
 use Rattle.rob_meaning.specs.Proves.{HasStatus, Proves}
 use Rattle.rob_meaning.specs.RobustModel.{RobustModel}
 use Rattle.rob_meaning.specs.UncertaintySet.{Admits}
@@ -255,8 +256,9 @@ module _ (m : RobustModel) (model : IsModel m) (cuts : List Cut) (keeps : KeepsR
           has = has_split call line has;
           is_cells = at.verb_is;
           written = subst (λ (l : ℕ). IsWritten l s) (sym at.limit_is) cause.0;
-          shown = cause.1;
-          not_each = λ each. (let w = admits_each each in cause.1.empty w.0 w.1);
+          shown = cause.1.shown;
+          fits = subst (λ (l : ℕ). Each (λ weight. nat_abs weight ≤ l) weights) (sym at.limit_is) cause.1.fits;
+          not_each = λ each. (let w = admits_each each in cause.1.shown.empty w.0 w.1);
           printed = says.1;
         }))
     means_stopped call line reply before now (stop.Wide spot trace) at has cause rose says =
@@ -319,7 +321,7 @@ module _ (m : RobustModel) (model : IsModel m) (cuts : List Cut) (keeps : KeepsR
 -- ---- the route on one model
 module _ (limit : ℕ) (m : RobustModel) where
   pub model_stop_of : (cause_of : Stop) → HasModelCause limit m cause_of → IsStopOf m cause_of
-  model_stop_of (stop.EmptySet weights) h = sym (length-map weights of_int) ∙ h.1.shows.count
+  model_stop_of (stop.EmptySet weights) h = sym (length-map weights of_int) ∙ h.1.shown.shows.count
   model_stop_of (stop.Wide place trace) h = (spot_in limit m place h.0, no_rounds m trace.rounds h.1)
   model_stop_of stop.Memory h = tt
 

@@ -1,11 +1,12 @@
 -- The answers of `whole` and `tree`: the status over plans whose named variables take whole numbers.
 use Rattle.std.specs.Fmt.{decimal}
-use Rattle.std.specs.Prelude.{◌≡◌, ◌++◌, ℕ, ℤ, List, Some, codes, map}
+use Rattle.std.specs.Prelude.{◌≡◌, ◌≤◌, ◌++◌, ℕ, ℤ, nat_abs, List, Some, codes, map}
 use Rattle.rob_algebra.specs.Fraction.{of_int}
 use Rattle.rob_branch.specs.Growth.{AreBoxesWritten, IsWrittenUpTo}
 use Rattle.rob_dualize.specs.Models.{IsWideIn, IsWritten}
 use Rattle.rob_dualize.specs.Solving.{IsShownEmpty}
 use Rattle.rob_meaning.specs.Certificates.{Certificate, Status, infeasible}
+use Rattle.rob_meaning.specs.Places.{Each}
 use Rattle.rob_meaning.specs.RobustModel.{RobustModel}
 use Rattle.rob_model.specs.declared.place.Spot.{Spot}
 use Rattle.rob_reach.specs.Boxes.{box}
@@ -98,7 +99,8 @@ module _ (call : Call) where
     pub breaks : BreaksWhole line m rule
     pub printed : text ≡ whole_text rule
 
-  -- no number of the set rows and forms is wide, and no joint scenario is admitted, as the weights show
+  -- no number of the set rows and forms is wide, and no joint scenario is admitted, as the weights show,
+  -- which fit
   pub record IsEmptyBranched (weights : List ℤ) (text : List ℕ) : Type 0 where
     pub line : Line
     pub m : RobustModel
@@ -107,6 +109,7 @@ module _ (call : Call) where
     pub branches : IsBranching line.verb
     pub written : IsWritten (limit_of line) m
     pub shown : IsShownEmpty m (map of_int weights)
+    pub fits : Each (λ weight. nat_abs weight ≤ limit_of line) weights
     pub printed : text ≡ empty_set_lines m weights
 
   -- a number is wide in the box behind the path, to which a search for a tree comes, and none of the set rows and forms

@@ -12,7 +12,7 @@ use Rattle.rob_cert.specs.declared.trace.Round.{Round}
 use Rattle.rob_cert.specs.declared.trace.Trace.{Trace}
 use Rattle.rob_cuts.specs.Rounds.{RoundFits}
 use Rattle.rob_cuts.specs.Solving.{IsSolution, IsWideAt, StopFits}
-use Rattle.rob_dualize.specs.Solving.{CountsStop, IsLastScenario, IsReadAtEnd, IsShownEmpty, IsWideOnPath}
+use Rattle.rob_dualize.specs.Solving.{CountsStop, IsLastScenario, IsReadAtEnd, IsWideOnPath, TellsEmpty}
 use Rattle.rob_meaning.specs.Certificates.{Certificate}
 use Rattle.rob_meaning.specs.Places.{Each}
 use Rattle.rob_meaning.specs.Proves.{Proves}
@@ -53,7 +53,7 @@ pub record IsFound (way : Route) (m : RobustModel) (c : Certificate) (rounds : L
 
 -- why there is none: no scenario is admitted, as the weights show; or a number is wide; memory is free
 abbrev pub HasStopCause : Route → ℕ → RobustModel → Stop → Type 0
-HasStopCause way limit m (EmptySet weights) = IsShownEmpty m (map of_int weights)
+HasStopCause way limit m (EmptySet weights) = TellsEmpty limit m weights
 HasStopCause way limit m (Wide spot trace) = IsWideBy way limit m spot trace.rounds
 HasStopCause way limit m Memory = Unit {0}
 

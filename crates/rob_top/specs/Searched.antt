@@ -1,5 +1,5 @@
 -- The answers of `worst`: the worst case of a form at the plan of a certificate.
-use Rattle.std.specs.Prelude.{◌≡◌, ◌≢◌, ◌<◌, ℕ, ℤ, List, ◌∷◌, false, length, map}
+use Rattle.std.specs.Prelude.{◌≡◌, ◌≢◌, ◌<◌, ◌≤◌, ℕ, ℤ, nat_abs, List, ◌∷◌, false, length, map}
 use Rattle.rob_algebra.specs.Fraction.{Fraction, neg_ℚ, of_int, ◌≤ℚ◌}
 use Rattle.rob_algebra.specs.Width.{Fits}
 use Rattle.rob_cert.specs.Causes.{HasCause}
@@ -119,7 +119,7 @@ module _ (call : Call) where
     pub names_none : NamesNoForm line m c name
     pub printed : text ≡ no_row_text name
 
-  -- no joint scenario is admitted, as the weights show
+  -- no joint scenario is admitted, as the weights show, which fit
   pub record IsEmptySought (weights : List ℤ) (text : List ℕ) : Type 0 where
     pub line : Line
     pub m : RobustModel
@@ -127,4 +127,5 @@ module _ (call : Call) where
     pub form : ℕ
     pub has : HasSought call line m c form
     pub shown : IsShownEmpty m (map of_int weights)
+    pub fits : Each (λ weight. nat_abs weight ≤ limit_of line) weights
     pub printed : text ≡ empty_set_lines m weights

@@ -1,5 +1,5 @@
 -- The answers of `rows`, `solve` and `prove`.
-use Rattle.std.specs.Prelude.{◌≡◌, ℕ, ℤ, List, map}
+use Rattle.std.specs.Prelude.{◌≡◌, ◌≤◌, ℕ, ℤ, nat_abs, List, map}
 use Rattle.rob_algebra.specs.Fraction.{of_int}
 use Rattle.rob_cert.specs.Apart.{FitsLines}
 use Rattle.rob_cert.specs.Shape.{HasShape}
@@ -70,11 +70,12 @@ module _ (call : Call) where
     pub rounds_fit : Each (RoundFits (limit_of line)) rounds
     pub printed : IsPrinted line.verb line.way m c rounds text
 
-  -- no joint scenario is admitted, as the weights show
+  -- no joint scenario is admitted, as the weights show, which fit
   pub record IsEmptySet (weights : List ℤ) (text : List ℕ) : Type 0 where
     pub line : Line
     pub m : RobustModel
     pub forms : HasForms call line m
     pub solves : IsSolving line.verb
     pub shown : IsShownEmpty m (map of_int weights)
+    pub fits : Each (λ weight. nat_abs weight ≤ limit_of line) weights
     pub printed : text ≡ empty_set_lines m weights

@@ -1,7 +1,7 @@
 -- The answers of `cells` and `celltext`: a model with a policy of its own in each cell of its set. In the records m
 -- is the model that was read, and `split_model m cuts` the one that the cuts make of it.
 use Rattle.std.specs.Fmt.{decimal}
-use Rattle.std.specs.Prelude.{◌≡◌, ◌≢◌, ◌<◌, ◌++◌, ℕ, ℤ, Bool, true, false, List, [], ◌∷◌, Some, codes, length, map}
+use Rattle.std.specs.Prelude.{◌≡◌, ◌≢◌, ◌<◌, ◌≤◌, ◌++◌, ℕ, ℤ, nat_abs, Bool, true, false, List, [], ◌∷◌, Some, codes, length, map}
 use Rattle.rob_algebra.specs.Fraction.{Fraction, neg_ℚ, of_int}
 use Rattle.rob_cells.specs.Meaning.{HasCellSets, HasPieceStatus}
 use Rattle.rob_cells.specs.Rules.{BreaksRule, KeepsRules}
@@ -12,6 +12,7 @@ use Rattle.rob_dualize.specs.Models.{IsWideIn, IsWritten}
 use Rattle.rob_dualize.specs.Solving.{IsLastScenario, IsReadAtEnd, IsShownEmpty}
 use Rattle.rob_meaning.specs.Certificates.{Certificate, Status, optimal, infeasible, unbounded}
 use Rattle.rob_meaning.specs.Named.{parameter_names}
+use Rattle.rob_meaning.specs.Places.{Each}
 use Rattle.rob_meaning.specs.Proves.{Proves}
 use Rattle.rob_meaning.specs.RobustModel.{RobustModel}
 use Rattle.rob_meaning.specs.UncertaintySet.{AdmitsIn}
@@ -182,6 +183,7 @@ module _ (call : Call) where
     pub is_cells : line.verb ≡ Cells
     pub written : IsWritten (limit_of line) (split_model m cuts)
     pub shown : IsShownEmpty (split_model m cuts) (map of_int weights)
+    pub fits : Each (λ weight. nat_abs weight ≤ limit_of line) weights
     pub not_each : EachCellAdmits m cuts → ⊥
     pub printed : text ≡ empty_set_lines (split_model m cuts) weights
 

@@ -19,12 +19,12 @@ returns-in-Err-EmptySet-clause-written g c =
 pub returns-in-Err-EmptySet-clause-answers : goal.returns-in-Err-EmptySet-clause-answers
 returns-in-Err-EmptySet-clause-answers g c =
     let cause = subst (HasModelCause g.N.Exact.limit (robust g.N.Exact.value c.args.model.now)) c.in-Err-EmptySet.field-0-is c.in-Err-EmptySet.ensures.cause in
-    cause.1.empty
+    cause.1.shown.empty
 
 pub returns-in-Err-EmptySet-clause-empty : goal.returns-in-Err-EmptySet-clause-empty
 returns-in-Err-EmptySet-clause-empty g c =
     let m = robust g.N.Exact.value c.args.model.now in
-    shown_names m _ (subst (HasModelCause g.N.Exact.limit m) c.in-Err-EmptySet.field-0-is c.in-Err-EmptySet.ensures.cause).1
+    shown_names m _ (subst (HasModelCause g.N.Exact.limit m) c.in-Err-EmptySet.field-0-is c.in-Err-EmptySet.ensures.cause).1.shown
 
 pub returns-in-Err-Wide-clause-cause : goal.returns-in-Err-Wide-clause-cause
 returns-in-Err-Wide-clause-cause g c =
