@@ -1,9 +1,9 @@
 -- What a command's own words have to be, by their kinds.
 use Rattle.std.specs.Prelude.{ℕ, ◌<◌, ◌≤◌, ◌^◌, List, ◌∷◌, length}
 use Rattle.std.specs.Str.Parse.{IsNumeral, digits_value}
-use Rattle.rob_words.specs.Cuts.{IsCutList}
+use Rattle.rob_words.specs.Cuts.{IsCut, IsCutList}
 use Rattle.rob_words.specs.Limits.{IsLimit, IsLimitList}
-use Rattle.rob_words.specs.Names.{IsNameList}
+use Rattle.rob_words.specs.Names.{IsName, IsNameList}
 use Rattle.rob_words.specs.Values.{Word}
 use Rattle.rob_words.specs.declared.verb.Own.{Own}
 use Rattle.rob_words.specs.declared.verb.Own.TheVariants.{Number, Names, Statement, Limit, Limits, Cuts}
@@ -22,6 +22,13 @@ pub record IsNumber (word : Word) : Type 0 where
 pub record IsStatement (word : Word) : Type 0 where
   pub number : IsNumber word
   pub few : length word ≤ 3
+
+-- the word may stand in a list of this kind, at a width with this greatest number; the other kinds are no lists
+abbrev pub IsPart : ℕ → Own → Word → Type 0
+IsPart greatest Names word = IsName word
+IsPart greatest Limits word = IsLimit greatest word
+IsPart greatest Cuts word = IsCut greatest word
+IsPart greatest _ word = ⊥
 
 -- the word is one of the kind, at a width with this greatest number: where that names a file or a form, any plain word
 -- is

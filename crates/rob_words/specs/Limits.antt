@@ -3,7 +3,7 @@
 use Rattle.std.specs.Prelude.{◌≢◌, ◌≡◌, ◌⊎◌, ◌==◌, ℕ, ◌<◌, ◌≤◌, Bool, length, if◌then◌else◌, ltb}
 use Rattle.std.specs.List.{after_first, before_first, position_or_len}
 use Rattle.std.specs.Str.Parse.{IsNumeral, digits_value}
-use Rattle.rob_words.specs.Names.{IsListOf}
+use Rattle.rob_words.specs.Names.{IsListOf, most_in_list}
 use Rattle.rob_words.specs.Values.{Word}
 
 -- a slash
@@ -48,4 +48,4 @@ denominator_of word = if ltb (position_or_len is_slash word) (length word) then 
 
 -- the word is 1 to 20 limits with `,` between them
 abbrev pub IsLimitList : ℕ → Word → Type 0
-IsLimitList greatest word = IsListOf (IsLimit greatest) 20 word
+IsLimitList greatest word = IsListOf (IsLimit greatest) most_in_list word

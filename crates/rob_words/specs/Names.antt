@@ -38,6 +38,10 @@ pub record IsListOf (P : Word → Type 0) (most : ℕ) (word : Word) : Type 0 wh
   pub parts : AreAll P (parts_of word)
   pub few : length (parts_of word) ≤ most
 
+-- the names or limits that a word may list
+abbrev pub most_in_list : ℕ
+most_in_list = 20
+
 -- the word is 1 to 20 names with `,` between them
 abbrev pub IsNameList : Word → Type 0
-IsNameList word = IsListOf IsName 20 word
+IsNameList word = IsListOf IsName most_in_list word

@@ -1,12 +1,11 @@
-//! Cuts of the set in a word: one, or several with `,` between them.
+//! Cuts of the set, each in a word.
 
-ghost use Rattle.std.specs.Prelude.{◌≡◌, ◌↔◌, IsTrue, MatchOption};
-ghost use Rattle.rob_words.specs.Cuts.{IsCut, IsCutList, IsSigned, SpellsCut, has_sign, unsigned};
+ghost use Rattle.std.specs.Prelude.{◌≡◌, MatchOption};
+ghost use Rattle.rob_words.specs.Cuts.{IsCut, IsSigned, SpellsCut, has_sign, unsigned};
 ghost use Rattle.rob_words.specs.Limits.{denominator_of, numerator_of};
-ghost use Rattle.rob_words.specs.Names.{IsListOf};
 
 use crate::limits::limit;
-use crate::names::{first_part, is_name};
+use crate::names::is_name;
 
 /// A cut as a word spells it: the parameter's name, and the number as its sign, its numerator and its denominator.
 #[derive(Debug, Clone, Copy)]
@@ -61,26 +60,5 @@ fn behind_sign(word: &str) -> (bool, &str)
     match word.strip_prefix('-') {
         Some(rest) => (true, rest),
         None => (false, word),
-    }
-}
-
-/// Whether the word is 1 to 3 cuts with `,` between them.
-pub(crate) fn is_cut_list(word: &str, greatest: u64) -> bool
-    ensures cuts { IsTrue result ↔ IsCutList greatest word.now }
-{
-    are_cuts(3, word, greatest)
-}
-
-// Whether the word is at most so many cuts, and one at least.
-fn are_cuts(most: usize, word: &str, greatest: u64) -> bool
-    ensures cuts { IsTrue result ↔ IsListOf (IsCut greatest) most word.now }
-{
-    let (first, rest) = first_part(word);
-    if most == 0 || cut(first, greatest).is_none() {
-        return false;
-    }
-    match rest {
-        Some(rest) => are_cuts(most - 1, rest, greatest),
-        None => true,
     }
 }

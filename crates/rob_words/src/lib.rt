@@ -19,7 +19,7 @@ pub use cuts::{CutWord, cut};
 pub use error::WordsErr;
 pub use limits::limit;
 pub use line::CommandLine;
-pub use names::first_part;
+pub use names::{MOST_IN_LIST, first_part};
 pub use own_words::{number, statement};
 pub use reader::read_words;
 pub use route::Route;

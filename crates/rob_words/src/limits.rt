@@ -1,11 +1,8 @@
-//! Limits of a budget in a word: one, or several with `,` between them.
+//! Limits of a budget, each in a word.
 
-ghost use Rattle.std.specs.Prelude.{◌≡◌, ◌↔◌, IsTrue, MatchOption};
-ghost use Rattle.rob_words.specs.Limits.{IsDivisor, IsLimit, IsLimitList, IsWhole, denominator_of, numerator_of};
+ghost use Rattle.std.specs.Prelude.{◌≡◌, MatchOption};
+ghost use Rattle.rob_words.specs.Limits.{IsDivisor, IsLimit, IsWhole, denominator_of, numerator_of};
 ghost use Rattle.std.specs.Str.Parse.{digits_value};
-ghost use Rattle.rob_words.specs.Names.{IsListOf};
-
-use crate::names::first_part;
 
 /// The limit that a word spells, as its numerator and its denominator, which isn't 0. Both are at most the greatest
 /// number.
@@ -53,26 +50,5 @@ fn divisor(word: &str, greatest: u64) -> Option<u64>
     match whole(word, greatest) {
         Some(number) => if number == 0 { None } else { Some(number) },
         None => None,
-    }
-}
-
-/// Whether the word is 1 to 20 limits with `,` between them.
-pub(crate) fn is_limit_list(word: &str, greatest: u64) -> bool
-    ensures limits { IsTrue result ↔ IsLimitList greatest word.now }
-{
-    are_limits(20, word, greatest)
-}
-
-// Whether the word is at most so many limits, and one at least.
-fn are_limits(most: usize, word: &str, greatest: u64) -> bool
-    ensures limits { IsTrue result ↔ IsListOf (IsLimit greatest) most word.now }
-{
-    let (first, rest) = first_part(word);
-    if most == 0 || limit(first, greatest).is_none() {
-        return false;
-    }
-    match rest {
-        Some(rest) => are_limits(most - 1, rest, greatest),
-        None => true,
     }
 }

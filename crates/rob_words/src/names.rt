@@ -1,10 +1,13 @@
-//! Lists in one word, with `,` between their parts, and those of names.
+//! The parts of a word with `,` between them, and names.
 
 ghost use Rattle.std.specs.Prelude.{◌≡◌, ◌↔◌, ◌∷◌, ◌<◌, IfSome, IsTrue, drop, is_some, length, option_map};
 ghost use Rattle.rob_lex.specs.Bytes as classes;
 ghost use Rattle.rob_syntax.specs.Names.{GoesOn, IsWord};
 ghost use Rattle.rob_syntax.specs.Symbols.{keyword_among, keywords};
-ghost use Rattle.rob_words.specs.Names.{IsListOf, IsName, IsNameList, parts_behind, parts_of};
+ghost use Rattle.rob_words.specs.Names.{IsName, parts_behind, parts_of};
+
+/// The most names or limits that a word may list.
+pub const MOST_IN_LIST: usize = 20;
 
 /// The part of a word in front of its first comma, and what stands behind that comma, where there is one.
 #[tactic(auto, using(crate::proofs::CommaLemmas::first_part_at, crate::proofs::CommaLemmas::first_part_all))]
@@ -15,27 +18,6 @@ pub fn first_part(word: &str) -> (&str, Option<&str>)
     match word.split_once(',') {
         Some((first, rest)) => (first, Some(rest)),
         None => (word, None),
-    }
-}
-
-/// Whether the word is 1 to 20 names with `,` between them.
-pub(crate) fn is_name_list(word: &str) -> bool
-    ensures names { IsTrue result ↔ IsNameList word.now }
-{
-    is_list_of(20, word)
-}
-
-// Whether the word is at most so many names, and one at least.
-fn is_list_of(most: usize, word: &str) -> bool
-    ensures names { IsTrue result ↔ IsListOf IsName most word.now }
-{
-    let (name, rest) = first_part(word);
-    if most == 0 || !is_name(name.as_bytes()) {
-        return false;
-    }
-    match rest {
-        Some(rest) => is_list_of(most - 1, rest),
-        None => true,
     }
 }
 

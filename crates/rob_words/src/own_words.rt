@@ -1,12 +1,13 @@
-//! What the own words of a command say, by their kinds. A word that names a file or a
-//! form may be any plain word.
+//! What the own words of a command say, by their kinds: one thing, or a list with `,` between its parts. A word that
+//! names a file or a form may be any plain word.
 
 ghost use Rattle.std.specs.Prelude.{◌≡◌, ◌↔◌, IsTrue, MatchOption, map, string_bytes};
-ghost use Rattle.rob_words.specs.Kinds.{AreOfKinds, IsNumber, IsOfKind, IsStatement, number_of};
+ghost use Rattle.rob_words.specs.Kinds.{AreOfKinds, IsNumber, IsOfKind, IsPart, IsStatement, number_of};
+ghost use Rattle.rob_words.specs.Names.{IsListOf};
 
-use crate::cuts::is_cut_list;
-use crate::limits::{is_limit_list, limit};
-use crate::names::is_name_list;
+use crate::cuts::cut;
+use crate::limits::limit;
+use crate::names::{MOST_IN_LIST, first_part, is_name};
 use crate::verb::Own;
 
 /// Whether each word is one of its kind, at a width with this greatest number.
@@ -33,13 +34,39 @@ fn is_of_kind(kind: Own, word: &str, greatest: u64) -> bool
         Own::Certificate => true,
         Own::Scenarios => true,
         Own::Number => number(word).is_some(),
-        Own::Names => is_name_list(word),
+        Own::Names => is_list(Own::Names, MOST_IN_LIST, word, greatest),
         Own::Form => true,
         Own::Tree => true,
         Own::Statement => statement(word).is_some(),
         Own::Limit => limit(word, greatest).is_some(),
-        Own::Limits => is_limit_list(word, greatest),
-        Own::Cuts => is_cut_list(word, greatest),
+        Own::Limits => is_list(Own::Limits, MOST_IN_LIST, word, greatest),
+        Own::Cuts => is_list(Own::Cuts, 3, word, greatest),
+    }
+}
+
+// Whether the word is a list of this kind, of at most so many parts and one at least.
+fn is_list(kind: Own, most: usize, word: &str, greatest: u64) -> bool
+    ensures list { IsTrue result ↔ IsListOf (IsPart greatest kind) most word.now }
+{
+    let (first, rest) = first_part(word);
+    if most == 0 || !is_part(kind, first, greatest) {
+        return false;
+    }
+    match rest {
+        Some(rest) => is_list(kind, most - 1, rest, greatest),
+        None => true,
+    }
+}
+
+// Whether the word may stand in a list of this kind.
+fn is_part(kind: Own, word: &str, greatest: u64) -> bool
+    ensures part { IsTrue result ↔ IsPart greatest kind word.now }
+{
+    match kind {
+        Own::Names => is_name(word.as_bytes()),
+        Own::Limits => limit(word, greatest).is_some(),
+        Own::Cuts => cut(word, greatest).is_some(),
+        _ => false,
     }
 }
 
