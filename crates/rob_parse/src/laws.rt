@@ -22,6 +22,9 @@ pub fn one_model()
         → ((m : RobustModel) × ReadsModel limit text m) ⊎ ((rule : ℕ) × (line : ℕ) × Breaks limit text rule line) }
     ensures model { (limit : ℕ) (text : List ℕ) (m m' : RobustModel)
         → ReadsModel limit text m → ReadsModel limit text m' → m ≡ m' }
+    // A limit only bounds the digits: one text, read at two limits, is one model.
+    ensures widths { (limit limit' : ℕ) (text : List ℕ) (m m' : RobustModel)
+        → ReadsModel limit text m → ReadsModel limit' text m' → m ≡ m' }
     ensures not_both { (limit : ℕ) (text : List ℕ) (m : RobustModel) (rule line : ℕ)
         → ReadsModel limit text m → Breaks limit text rule line → ⊥ }
 {}
