@@ -82,7 +82,8 @@ fn of_search<N: Exact>(
     match word {
         "with-budget" => sweep::limited(alloc, model, rest),
         "sweep" => sweep::swept(alloc, model, rest),
-        "cuts" => cuts::of_model(alloc, model),
+        "cuts" => cuts::of_model(alloc, model, false),
+        "cuts-counts" => cuts::of_model(alloc, model, true),
         _ => worst::answer(alloc, model, word, rest),
     }
 }

@@ -3,6 +3,7 @@
 ghost use Rattle.rob_model.specs.Valid.{IsValid};
 
 use crate::given;
+use crate::worst::{compared, set_operations};
 use rob_case::Trouble;
 use rob_case::numbers::{put_all, shown};
 use rob_cert::{Cert, Round, Status, Stop};
@@ -13,8 +14,12 @@ use rob_number::{Exact, LpKind, Tally};
 use rob_sets::clear_set;
 use std::alloc::Global;
 
-/// What the cutting planes of a model come to.
-pub(crate) fn of_model<N: Exact>(alloc: Global, model: &Model<N>) -> Result<String, Trouble>
+/// What the cutting planes of a model come to, or whether they take fewer operations than to solve its set twice.
+pub(crate) fn of_model<N: Exact>(
+    alloc: Global,
+    model: &Model<N>,
+    counts: bool,
+) -> Result<String, Trouble>
     requires valid { IsValid N.value model.now }
 {
     let Ok(set) = clear_set(alloc, model, &mut Tally::new()) else {
@@ -23,7 +28,9 @@ pub(crate) fn of_model<N: Exact>(alloc: Global, model: &Model<N>) -> Result<Stri
     let Ok(forms) = elaborate(alloc, model, &set, &mut Tally::new()) else {
         return Err(Trouble::Line);
     };
-    match solve_cuts::<N, Tally>(alloc, &forms, &set, &mut Tally::new()) {
+    let mut ledger = Tally::new();
+    match solve_cuts::<N, Tally>(alloc, &forms, &set, &mut ledger) {
+        Ok(_) if counts => counted(alloc, model, &ledger),
         Ok((cert, trace)) => {
             let mut answer = ended(alloc, &cert)?;
             rounds(alloc, &mut answer, trace.rounds.items())?;
@@ -31,6 +38,14 @@ pub(crate) fn of_model<N: Exact>(alloc: Global, model: &Model<N>) -> Result<Stri
         }
         Err(stop) => stopped(alloc, &stop),
     }
+}
+
+/// Whether a ledger's operations are fewer than those of solving the model's set twice.
+fn counted<N: Exact>(alloc: Global, model: &Model<N>, ledger: &Tally) -> Result<String, Trouble>
+    requires valid { IsValid N.value model.now }
+{
+    let once = set_operations(alloc, model)?;
+    compared(alloc, ledger.ops() / 2 < once)
 }
 
 /// Why there is no certificate, with the rounds before it.

@@ -117,7 +117,8 @@ fn at_numbers<N: Exact>(
     }
     let plan = plan(alloc, numbers)?;
     match word {
-        "worst" => found_at_plan(alloc, whole, form, &plan),
+        "worst" => found_at_plan(alloc, whole, form, &plan, &mut Tally::new()),
+        "counts" => counts(alloc, whole, form, &plan),
         "searches" => searches(alloc, whole, form, &plan, numbers),
         _ => Err(Trouble::Line),
     }
@@ -129,6 +130,7 @@ fn found_at_plan<N: Exact>(
     whole: &Written,
     form: u32,
     plan: &Plan<N>,
+    ledger: &mut Tally,
 ) -> Result<String, Trouble>
     requires model { AreElaborated N.limit whole.now.forms whole.now.set }
     requires few { IsFewSet whole.now.set }
@@ -139,7 +141,7 @@ fn found_at_plan<N: Exact>(
     {
         return Err(Trouble::Line);
     }
-    let found = worst(alloc, forms, &whole.set, form, plan, &mut Tally::new());
+    let found = worst(alloc, forms, &whole.set, form, plan, ledger);
     told(alloc, &found)
 }
 
@@ -159,6 +161,65 @@ fn found_at_step<N: Exact>(
     }
     let found = worst_step(alloc, forms, &whole.set, form, step, &mut Tally::new());
     told(alloc, &found)
+}
+
+/// Whether three searches of a form at a plan take fewer operations by one finder, which solves the set once, than by
+/// three calls, each of which solves it.
+fn counts<N: Exact>(
+    alloc: Global,
+    whole: &Written,
+    form: u32,
+    plan: &Plan<N>,
+) -> Result<String, Trouble>
+    requires model { AreElaborated N.limit whole.now.forms whole.now.set }
+    requires few { IsFewSet whole.now.set }
+    requires set { IsSetOfModel N.limit whole.now.set }
+{
+    let mut ledger = Tally::new();
+    match Finder::new(alloc, &whole.set, &mut ledger) {
+        Ok(mut finder) => counted(alloc, &mut finder, whole, form, plan, &mut ledger),
+        Err(stop) => stopped(alloc, &stop),
+    }
+}
+
+/// Whether a finder's three searches, with the operations before them, take fewer than three calls.
+fn counted<N: Exact>(
+    alloc: Global,
+    finder: &mut Finder<N>,
+    whole: &Written,
+    form: u32,
+    plan: &Plan<N>,
+    ledger: &mut Tally,
+) -> Result<String, Trouble>
+    requires model { AreElaborated N.limit whole.now.forms whole.now.set }
+    requires few { IsFewSet whole.now.set }
+    requires finder { IsFinder whole.now.set finder.old }
+{
+    next_at_plan(alloc, finder, whole, form, plan, ledger)?;
+    next_at_plan(alloc, finder, whole, form, plan, ledger)?;
+    next_at_plan(alloc, finder, whole, form, plan, ledger)?;
+    let mut apart = Tally::new();
+    found_at_plan(alloc, whole, form, plan, &mut apart)?;
+    found_at_plan(alloc, whole, form, plan, &mut apart)?;
+    found_at_plan(alloc, whole, form, plan, &mut apart)?;
+    compared(alloc, ledger.ops() < apart.ops())
+}
+
+/// The answer that compares two counts of operations.
+pub(crate) fn compared(alloc: Global, fewer: bool) -> Result<String, Trouble> {
+    said(alloc, if fewer { "fewer" } else { "not fewer" })
+}
+
+/// How many operations the set's program takes.
+pub(crate) fn set_operations<N: Exact>(alloc: Global, model: &Model<N>) -> Result<u64, Trouble>
+    requires valid { IsValid N.value model.now }
+{
+    let whole = whole_numbers(alloc, model)?;
+    let mut ledger = Tally::new();
+    match Finder::<N>::new(alloc, &whole.set, &mut ledger) {
+        Ok(_) => Ok(ledger.ops()),
+        Err(_) => Err(Trouble::Line),
+    }
 }
 
 /// What one finder tells of a form at a plan, along a direction, and at the plan again.
@@ -192,9 +253,9 @@ fn found_in_turn<N: Exact>(
     requires few { IsFewSet whole.now.set }
     requires finder { IsFinder whole.now.set finder.old }
 {
-    let first = next_at_plan(alloc, finder, whole, form, plan)?;
+    let first = next_at_plan(alloc, finder, whole, form, plan, &mut Tally::new())?;
     let second = next_at_step(alloc, finder, whole, form, step)?;
-    let third = next_at_plan(alloc, finder, whole, form, plan)?;
+    let third = next_at_plan(alloc, finder, whole, form, plan, &mut Tally::new())?;
     Ok(format!(in alloc; "{first}, then {second}, then {third}")?)
 }
 
@@ -205,6 +266,7 @@ fn next_at_plan<N: Exact>(
     whole: &Written,
     form: u32,
     plan: &Plan<N>,
+    ledger: &mut Tally,
 ) -> Result<String, Trouble>
     requires model { AreElaborated N.limit whole.now.forms whole.now.set }
     requires few { IsFewSet whole.now.set }
@@ -217,7 +279,7 @@ fn next_at_plan<N: Exact>(
     {
         return Err(Trouble::Line);
     }
-    let found = finder.at_plan(alloc, forms, &whole.set, form, plan, &mut Tally::new());
+    let found = finder.at_plan(alloc, forms, &whole.set, form, plan, ledger);
     told(alloc, &found)
 }
 
