@@ -59,7 +59,7 @@ HasCause limit m (EmptySet weights) = TellsEmpty limit m weights
 HasCause limit m (Wide place trace) = IsWideAt limit m place trace.rounds
 HasCause limit m Memory = ⊤
 
--- no number of the rounds that are told before a wide number is over the limit
+-- no number of the cuts of the rounds that are told before a wide number is over the limit
 abbrev pub StopFits : ℕ → Stop → Type 0
 StopFits limit (EmptySet weights) = ⊤
 StopFits limit (Wide place trace) = Each (RoundFits limit) trace.rounds

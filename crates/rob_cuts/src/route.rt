@@ -48,7 +48,7 @@ pub fn solve_cuts<N: Exact, L: Ledger>(
         → IsSolution m (certificate_of N.value answer.0) answer.1.rounds) }
     ensures stopped { IfErr result (λ stop. (m : RobustModel) → IsModel m → IsForms m forms.now → IsSetForm m set.now
         → HasCause N.limit m stop) }
-    // No number of a told round is over the limit.
+    // No number of a told round's cut is over the limit.
     ensures fits { MatchResult result (λ answer. Each (RoundFits N.limit) answer.1.rounds) (StopFits N.limit) }
     ensures wides { MatchResult result (λ _. L.wides ledger.new ≡ L.wides ledger.old)
         (CountsStop (L.wides ledger.old) (L.wides ledger.new)) }
