@@ -2,6 +2,7 @@ pub mod GatherLemmas
 pub mod NumberLemmas
 pub mod FieldLemmas
 pub mod HeaderLemmas
+pub mod HeaderLaws
 pub mod StopLemmas
 pub mod LineLemmas
 pub mod ReplayedLemmas
