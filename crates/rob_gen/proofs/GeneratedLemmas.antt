@@ -1,17 +1,19 @@
 -- The model of a number is that of the number's remainder by 12, so that it is well formed is tested of twelve models. That
 -- it is within the limits and well named is tested for 2, 3, 4 and 5 periods, since the centres count nothing for it.
-use Rattle.std.proofs.Common.{◌≡◌, ℕ, ◌+◌, ◌%◌, ◌^◌, ◌<◌, List, [], ◌∷◌, map, length, ap, sym, ◌∙◌, subst, arith}
+use Rattle.std.proofs.Common.{◌≡◌, ℕ, suc, ◌+◌, ◌%◌, ◌^◌, ◌<◌, List, [], ◌∷◌, map, length, ap, sym, ◌∙◌, subst, arith}
 use Rattle.std.specs.Fmt.{digits}
 use Rattle.std.specs.Prelude.{◌≢◌, Option, Some, None, codes}
-use Rattle.rob_algebra.specs.Fraction.{ratio}
-use Rattle.rob_meaning.proofs.WorkedTests.{found, both, so, test_below, test_at_most, test_differ, test_each, test_numbers, test_model}
+use Rattle.rob_algebra.specs.Fraction.{Fraction, ratio}
+use Rattle.rob_meaning.proofs.WorkedTests.{found, both, so, test_admits, test_below, test_at_most, test_differ, test_each, test_numbers, test_model}
 use Rattle.rob_meaning.specs.Named.{AreDistinct, HasDistinctMembers, IsFree, IsNamed, IsPlain, declared_names}
 use Rattle.rob_meaning.specs.Names.{Name}
 use Rattle.rob_meaning.specs.RobustModel.{RobustModel, SetLine, line, budget, Member, AdaptiveVariable, column_count}
 use Rattle.rob_meaning.specs.SetRows.{lift_count}
+use Rattle.rob_meaning.specs.Places.{tabulate}
+use Rattle.rob_meaning.specs.UncertaintySet.{Admits}
 use Rattle.rob_meaning.specs.WellFormed.{IsModel}
 use Rattle.rob_model.specs.Limits.{IsWithinLimits, model_size}
-use Rattle.rob_gen.specs.Generated.{generated, model_over, periods, centre}
+use Rattle.rob_gen.specs.Generated.{generated, model_over, periods, centre, whole}
 use Rattle.rob_gen.proofs.NumberLemmas.{periods_again, centre_again}
 
 -- the model of a number is that of its remainder by 12
@@ -116,3 +118,21 @@ four_named centres =
 
 pub well_named : (n : ℕ) → IsNamed (generated n)
 well_named = by_periods IsNamed four_named
+
+-- ---- a scenario: each demand is at its centre
+abbrev HasScenario : RobustModel → Type 0
+HasScenario m = (u : List Fraction) × Admits m u
+
+abbrev central : ℕ → List Fraction
+central n = tabulate (periods n) (λ place. whole (centre n (suc place)))
+
+twelve_admitted : (r : ℕ) → r < 12 → HasScenario (generated r)
+unfolding ratio digits
+twelve_admitted =
+    found
+    (test_numbers 12 (λ r. HasScenario (generated r))
+    (λ r. so (λ (h : Admits (generated r) (central r)). (central r, h)) (test_admits (generated r) (well_formed r) (central r))))
+    tt
+
+pub admitted : (n : ℕ) → HasScenario (generated n)
+admitted = by_twelve HasScenario twelve_admitted

@@ -1,7 +1,9 @@
 // What the model of a number is, for every number.
 
-ghost use Rattle.std.specs.Prelude.{◌≡◌, ℕ, ◌%◌};
+ghost use Rattle.std.specs.Prelude.{◌≡◌, ℕ, ◌%◌, List};
+ghost use Rattle.rob_algebra.specs.Fraction.{Fraction};
 ghost use Rattle.rob_meaning.specs.Named.{IsNamed};
+ghost use Rattle.rob_meaning.specs.UncertaintySet.{Admits};
 ghost use Rattle.rob_meaning.specs.WellFormed.{IsModel};
 ghost use Rattle.rob_model.specs.Limits.{IsWithinLimits};
 ghost use Rattle.rob_gen.specs.Generated.{generated};
@@ -12,4 +14,6 @@ pub fn generated_laws()
     ensures limits { (n : ℕ) → IsWithinLimits (generated n) }
     ensures named { (n : ℕ) → IsNamed (generated n) }
     ensures again { (n : ℕ) → generated n ≡ generated (n % 12) }
+    // Some scenario is admitted, as that where each demand is at its centre.
+    ensures admitted { (n : ℕ) → (u : List Fraction) × Admits (generated n) u }
 {}
