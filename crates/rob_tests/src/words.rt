@@ -83,6 +83,7 @@ fn name(verb: Verb) -> &'static str {
         Verb::Check => "check",
         Verb::Replay => "replay",
         Verb::Text => "text",
+        Verb::Gen => "gen",
         Verb::Whole => "whole",
         Verb::Tree => "tree",
         Verb::CheckTree => "checktree",

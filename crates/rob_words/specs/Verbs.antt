@@ -5,7 +5,7 @@ use Rattle.rob_words.specs.declared.verb.Own.{Own}
 use Rattle.rob_words.specs.declared.verb.Own.TheVariants.{Model, Certificate, Scenarios, Number, Names, Statement, Limit, Limits, Form, Cuts}
 use Rattle.rob_words.specs.declared.verb.Own.TheVariants as own
 use Rattle.rob_words.specs.declared.verb.Verb.{Verb}
-use Rattle.rob_words.specs.declared.verb.Verb.TheVariants.{Rows, Solve, Prove, Check, Replay, Text, Whole, Tree, Narrow, Sweep, SweepText, CheckTree, Worst, Cells, CellText}
+use Rattle.rob_words.specs.declared.verb.Verb.TheVariants.{Rows, Solve, Prove, Check, Replay, Text, Gen, Whole, Tree, Narrow, Sweep, SweepText, CheckTree, Worst, Cells, CellText}
 
 -- the name of a command
 abbrev pub verb_word : Verb → Word
@@ -15,6 +15,7 @@ verb_word Prove = codes "prove"
 verb_word Check = codes "check"
 verb_word Replay = codes "replay"
 verb_word Text = codes "text"
+verb_word Gen = codes "gen"
 verb_word Whole = codes "whole"
 verb_word Tree = codes "tree"
 verb_word Worst = codes "worst"
@@ -33,6 +34,7 @@ own_of Prove = Model ∷ []
 own_of Check = Model ∷ Certificate ∷ []
 own_of Replay = Model ∷ Certificate ∷ Scenarios ∷ []
 own_of Text = Number ∷ []
+own_of Gen = Number ∷ []
 own_of Whole = Model ∷ Names ∷ []
 own_of Tree = Model ∷ Names ∷ []
 own_of Worst = Model ∷ Certificate ∷ Form ∷ []
@@ -51,6 +53,7 @@ takes_route Prove = true
 takes_route Check = false
 takes_route Replay = false
 takes_route Text = false
+takes_route Gen = false
 takes_route Whole = false
 takes_route Tree = false
 takes_route Worst = false

@@ -26,4 +26,14 @@ impl Route {
             _ => None,
         }
     }
+
+    /// The name of the route, as it is spelled.
+    pub fn word(&self) -> &'static str
+        ensures word { result.now ≡ route_text self.now }
+    {
+        match self {
+            Route::Dual => "dual",
+            Route::Cuts => "cuts",
+        }
+    }
 }

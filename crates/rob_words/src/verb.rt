@@ -22,6 +22,8 @@ pub enum Verb {
     Replay,
     /// Print the model of a number.
     Text,
+    /// Solve the model of a number by both routes.
+    Gen,
     /// Solve a model some of whose variables take whole numbers.
     Whole,
     /// Solve such a model and print the branch tree of its answer.
@@ -83,6 +85,7 @@ impl Verb {
             "check" => Some(Verb::Check),
             "replay" => Some(Verb::Replay),
             "text" => Some(Verb::Text),
+            "gen" => Some(Verb::Gen),
             "whole" => Some(Verb::Whole),
             "tree" => Some(Verb::Tree),
             "worst" => Some(Verb::Worst),
@@ -107,6 +110,7 @@ impl Verb {
             Verb::Check => &[Own::Model, Own::Certificate],
             Verb::Replay => &[Own::Model, Own::Certificate, Own::Scenarios],
             Verb::Text => &[Own::Number],
+            Verb::Gen => &[Own::Number],
             Verb::Whole => &[Own::Model, Own::Names],
             Verb::Tree => &[Own::Model, Own::Names],
             Verb::Worst => &[Own::Model, Own::Certificate, Own::Form],
@@ -130,6 +134,7 @@ impl Verb {
             Verb::Check => false,
             Verb::Replay => false,
             Verb::Text => false,
+            Verb::Gen => false,
             Verb::Whole => false,
             Verb::Tree => false,
             Verb::Worst => false,
