@@ -3,7 +3,7 @@ _robust() {
     local word=${COMP_WORDS[COMP_CWORD]} before=${COMP_WORDS[COMP_CWORD - 1]} command=${COMP_WORDS[1]}
     COMPREPLY=()
     if ((COMP_CWORD == 1)); then
-        mapfile -t COMPREPLY < <(compgen -W "rows solve prove check replay worst whole tree checktree sweep sweeptext cells celltext narrow text" -- "$word")
+        mapfile -t COMPREPLY < <(compgen -W "rows solve prove check replay worst whole tree checktree sweep sweeptext cells celltext narrow text gen" -- "$word")
         return
     fi
     # (bash takes the = of --bits=V for a word of its own)

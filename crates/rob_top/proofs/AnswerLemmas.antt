@@ -10,7 +10,7 @@ use Rattle.rob_top.specs.Headline.{Means}
 use Rattle.rob_top.specs.Refused.{IsWideSpot, elaborating, checking, replaying, searching}
 use Rattle.rob_top.specs.Replayed.{LacksPlan, planless, unread}
 use Rattle.rob_top.specs.Swept.{BreaksSweep, at_limit, at_limits}
-use Rattle.rob_top.specs.Ways.{solved, branched, rows, replayed, generated, worst_found, swept, narrowed, a_certificate, a_tree, while_solving, while_branching, while_searching, in_model, on_way, while_growing, while_checking, not_checked, not_replayed, not_searched, pieced, split_written, in_cells, in_split}
+use Rattle.rob_top.specs.Ways.{solved, branched, rows, replayed, generated, compared, worst_found, swept, narrowed, a_certificate, a_tree, while_solving, while_branching, while_searching, in_model, on_way, while_growing, while_checking, not_checked, not_replayed, not_searched, pieced, split_written, in_cells, in_split, in_summary}
 use Rattle.rob_top.specs.declared.ended.Ended.{Ended}
 use Rattle.rob_top.specs.declared.ended.Ended.TheVariants.{Optimal, Infeasible, Unbounded, Printed, Accepted, Rejected, Words, Missing, TooLong, Model, EmptySet, TooWide, WideNode, WideBudget, Cert, Scenarios, Whole, Sweep, Cells, Tree, TreeRejected, NoRow, ReadFault, WriteFault, Memory}
 use Rattle.rob_words.specs.Commands.{Line, IsCommandLine}
@@ -55,6 +55,7 @@ no_command call Unbounded text none (pieced h) = absurd (none ((h.line, h.has.ha
 no_command call Printed text none (rows h) = absurd (none ((h.line, h.forms.model.spelled)))
 no_command call Printed text none (replayed h) = absurd (none ((h.line, h.has.certificate.file.model.spelled)))
 no_command call Printed text none (generated h) = absurd (none ((h.line, h.spelled)))
+no_command call Printed text none (compared h) = absurd (none ((h.line, h.asks.spelled)))
 no_command call Printed text none (worst_found h) = absurd (none ((h.line, h.has.plan.certificate.file.forms.model.spelled)))
 no_command call Printed text none (swept (inl h)) = absurd (none ((h.line, h.has.model.spelled)))
 no_command call Printed text none (swept (inr h)) = absurd (none ((h.line, h.has.model.spelled)))
@@ -72,6 +73,7 @@ no_command call (EmptySet weights) text none (in_cells h) = absurd (none ((h.lin
 no_command call (TooWide spot) text none (in_model h) = absurd (none (wide_line call h.line h.m spot h.wide))
 no_command call (TooWide spot) text none (on_way h) = absurd (none ((h.line, h.forms.model.spelled)))
 no_command call (TooWide spot) text none (in_split h) = absurd (none ((h.line, h.has.has_cuts.has_word.model.spelled)))
+no_command call (TooWide spot) text none (in_summary h) = absurd (none ((h.line, h.asks.spelled)))
 no_command call (WideNode path spot) text none (while_growing h) = absurd (none ((h.line, h.has.named.model.spelled)))
 no_command call (WideNode path spot) text none (while_checking h) = absurd (none ((h.line, h.read.file.variables.named.model.spelled)))
 no_command call (Whole rule) text none h = absurd (none (breaking_line call h.line h.m rule h.breaks))

@@ -7,7 +7,7 @@ use Rattle.rob_words.proofs.EachValue.{each_value}
 use Rattle.rob_words.specs.Verbs.{takes_route}
 use Rattle.rob_words.specs.contracts.verb.Verb.{enum}
 use Rattle.rob_words.specs.declared.verb.Verb.{Verb}
-use Rattle.rob_words.specs.declared.verb.Verb.TheVariants.{Rows, Check, Replay, Text, Narrow, Sweep, SweepText, CheckTree, Worst}
+use Rattle.rob_words.specs.declared.verb.Verb.TheVariants.{Rows, Check, Replay, Text, Gen, Narrow, Sweep, SweepText, CheckTree, Worst}
 
 -- ---- one command isn't another
 pub two_verbs : (a b verb : Verb) → a ≢ b → verb ≡ a → verb ≡ b → ⊥
@@ -24,6 +24,9 @@ rows_not_replay verb = two_verbs Rows Replay verb (λ e. cc)
 
 pub text_not_replay : (verb : Verb) → verb ≡ Text → verb ≡ Replay → ⊥
 text_not_replay verb = two_verbs Text Replay verb (λ e. cc)
+
+pub gen_not_replay : (verb : Verb) → verb ≡ Gen → verb ≡ Replay → ⊥
+gen_not_replay verb = two_verbs Gen Replay verb (λ e. cc)
 
 pub check_not_replay : (verb : Verb) → verb ≡ Check → verb ≡ Replay → ⊥
 check_not_replay verb = two_verbs Check Replay verb (λ e. cc)

@@ -26,6 +26,7 @@ use Rattle.rob_runs.specs.Spots.{IsWideSlack}
 use Rattle.rob_sweep.specs.Stops.{KeepsRules}
 use Rattle.rob_top.proofs.AnswerLemmas.{no_command}
 use Rattle.rob_top.proofs.ComingLemmas.{Comes, comes_ends}
+use Rattle.rob_top.proofs.ComparedAnswerLemmas.{compared_ends}
 use Rattle.rob_top.proofs.KnownInputs.{known_again}
 use Rattle.rob_top.proofs.KnownLemmas.{means_known}
 use Rattle.rob_replay.specs.Outcome.{outcome}
@@ -300,6 +301,7 @@ module _ (call : Call) (known : Known call.source) (ended : Ended) (comes : Come
         comes_ends call (Sweep 81) ended comes (limit_rule_decides call known line m n g has none ended);
     limited = λ line m n g has budget. comes_ends call Printed ended comes (limit_decides call known line m n g has budget ended);
     split = split_ends call known ended comes;
+    compared = compared_ends call known ended comes;
     generated = λ line spelled is. comes_printed call ended comes (generated_decides call known line spelled is ended);
   }
 

@@ -5,6 +5,7 @@ use Rattle.rob_number.specs.declared.memory.Memory.{Memory as Want}
 use Rattle.rob_outside.specs.Files.{whole}
 use Rattle.rob_top.specs.Answers.{words_text}
 use Rattle.rob_top.specs.Calls.{Call, Count, IsFoundIn, Source, WasRaised, call_of, requests}
+use Rattle.rob_top.specs.ComparedWork.{AnswersNumber}
 use Rattle.rob_top.specs.Headline.{Means}
 use Rattle.rob_top.specs.Replies.{AreFound, CameIn, HasTexts, IsAbsence, IsAbsentAmong, IsFetched, IsLine, Replies, text_of}
 use Rattle.rob_top.specs.Work.{IsShort}
@@ -110,6 +111,12 @@ pub width_answers_line : (line : CommandLine) (texts : Texts) (wides : Count) (r
     → IfOk r (λ reply. (call : Call) → HasTexts call (line_of line) texts → call.wides ≡ wides → Means call reply.ended reply.text)
 width_answers_line line texts wides (Err want) h = tt
 width_answers_line line texts wides (Ok reply) h = λ call came wides_is. h call (line_of line) came refl refl wides_is
+
+-- and so does what a command's work on a number answers
+pub number_answers_line : (line : Line) (texts : Texts) (wides : Count) (r : Result Reply Want) → IfOk r (AnswersNumber line wides)
+    → IfOk r (λ reply. (call : Call) → HasTexts call line texts → call.wides ≡ wides → Means call reply.ended reply.text)
+number_answers_line line texts wides (Err want) h = tt
+number_answers_line line texts wides (Ok reply) h = λ call came wides_is. h call came.spelled wides_is
 
 -- the words are no command line
 pub wordless_answers : (words : List Word) (source : Source) (faults wides : Count) (r : Result Reply Want) → (IsCommandLine words → ⊥)

@@ -4,14 +4,16 @@ use Rattle.rob_meaning.specs.Certificates.{Status, optimal, infeasible, unbounde
 use Rattle.rob_outside.specs.Files.{missing, too_long}
 use Rattle.rob_top.specs.Branched.{IsBranched}
 use Rattle.rob_top.specs.Calls.{Call, Known, known_call, requests}
+use Rattle.rob_top.specs.Compared.{AsksFor}
 use Rattle.rob_top.specs.Headline.{Means}
 use Rattle.rob_top.specs.Replayed.{IsReplayed}
 use Rattle.rob_top.specs.Searched.{IsSearched}
 use Rattle.rob_top.specs.Solved.{IsSolved}
 use Rattle.rob_top.specs.Swept.{IsSwept}
-use Rattle.rob_top.specs.Ways.{FindsStatus, solved, branched, rows, replayed, generated, worst_found, swept, narrowed, a_certificate, a_tree, while_solving, while_branching, while_searching, in_model, on_way, while_growing, while_checking, not_checked, not_replayed, not_searched, pieced, split_written, in_cells, in_split}
+use Rattle.rob_top.specs.Ways.{FindsStatus, solved, branched, rows, replayed, generated, compared, worst_found, swept, narrowed, a_certificate, a_tree, while_solving, while_branching, while_searching, in_model, on_way, while_growing, while_checking, not_checked, not_replayed, not_searched, pieced, split_written, in_cells, in_split, in_summary}
 use Rattle.rob_top.specs.declared.ended.Ended.{Ended}
 use Rattle.rob_top.specs.declared.ended.Ended.TheVariants.{Optimal, Infeasible, Unbounded, Printed, Accepted, Rejected, Words, Missing, TooLong, Model, EmptySet, TooWide, WideNode, WideBudget, Cert, Scenarios, Whole, Sweep, Cells, Tree as TreeRule, TreeRejected, NoRow, ReadFault, WriteFault, Memory}
+use Rattle.rob_words.specs.Commands.{Line}
 use Rattle.rob_words.specs.declared.verb.Own.TheVariants as own
 use Rattle.rob_top.proofs.SplitKnownLemmas.{empty_cell_known, no_cells_known, pieced_known, split_text_known, wide_split_known}
 use Rattle.rob_top.proofs.KnownInputs.{came_all, absent_known, file_held, forms_known, file_known, certificate_known, scenarios_known, lacking_known, whole_known, tree_file_known, tree_known, breaking_known, sought_known, unplanned_known, unnamed_known, sweep_known, limit_known, breaking_sweep_known, spot_known}
@@ -116,6 +118,9 @@ module _ (call : Call) (known : Known call.source) where
     printed = h.printed;
   })
 
+  asks_known : (line : Line) (number : ℕ) → AsksFor call line number → AsksFor part line number
+  asks_known line number h = record { spelled = h.spelled; is_gen = h.is_gen; told = h.told }
+
   pub means_known : (ended : Ended) (text : List ℕ) → Means call ended text → Means part ended text
   means_known Optimal text h = status_known optimal text h
   means_known Infeasible text h = status_known infeasible text h
@@ -142,6 +147,18 @@ module _ (call : Call) (known : Known call.source) where
     is_text = h.is_text;
     number = h.number;
     told = h.told;
+    printed = h.printed;
+  })
+  means_known Printed text (compared h) = compared (record {
+    line = h.line;
+    number = h.number;
+    asks = asks_known h.line h.number h.asks;
+    status = h.status;
+    by_dual = h.by_dual;
+    by_cuts = h.by_cuts;
+    dual = h.dual;
+    cuts = h.cuts;
+    one_value = h.one_value;
     printed = h.printed;
   })
   means_known Printed text (worst_found h) = worst_found (searched_known text h)
@@ -284,6 +301,16 @@ module _ (call : Call) (known : Known call.source) where
     printed = h.printed;
   }
   means_known (TooWide spot) text (in_split h) = in_split (wide_split_known call known spot text h)
+  means_known (TooWide spot) text (in_summary h) = in_summary (record {
+    line = h.line;
+    number = h.number;
+    asks = asks_known h.line h.number h.asks;
+    by_dual = h.by_dual;
+    by_cuts = h.by_cuts;
+    first = h.first;
+    raised = h.raised;
+    printed = h.printed;
+  })
   means_known (TooWide spot) text (in_model h) = in_model (record {
     line = h.line;
     m = h.m;

@@ -17,6 +17,7 @@ pub mod LinesLemmas
 pub mod DefaultRoutes
 pub mod RouteLemmas
 pub mod SolvingLemmas
+pub mod NumberCourseLemmas
 pub mod StageLemmas
 pub mod CommandLemmas
 pub mod SoughtLemmas
@@ -30,6 +31,10 @@ pub mod ProvedReplays
 pub mod ProvedWorsts
 pub mod OneTable
 pub mod GeneratedLemmas
+pub mod GeneratedWholes
+pub mod ComparedLemmas
+pub mod ComparedWorkLemmas
+pub mod ComparedAnswerLemmas
 pub mod NumberingLemmas
 pub mod PathTextLemmas
 pub mod NodeLemmas
@@ -77,6 +82,7 @@ pub mod WorkedChecks
 pub mod WorkedReplays
 pub mod WorkedWorsts
 pub mod WorkedNumbers
+pub mod WorkedCompared
 pub mod WorkedNarrows
 pub mod WorkedNarrowSolves
 pub mod WorkedEmptyWholes

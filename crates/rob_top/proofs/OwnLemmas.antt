@@ -1,5 +1,5 @@
 -- Which files a command line names, by the kinds of its own words.
-use Rattle.std.proofs.Common.{◌≡◌, ◌||◌, ℕ, Bool, true, false, not, refl, sym, ◌∙◌, ap, subst, arith, List, [], ◌∷◌, length, Option, Some, None, Vec, Global, map, rules, string_bytes}
+use Rattle.std.proofs.Common.{◌≡◌, ◌||◌, ℕ, Bool, true, false, not, refl, sym, ◌∙◌, ap, subst, arith, List, [], ◌∷◌, length, Option, Some, None, Vec, Global, map, rules, string_bytes, inl, inr, ◌⊎◌}
 use Rattle.std.specs.Prelude.{if◌then◌else◌, option_map}
 use denote.Enum.Bare.{same_true, sameb}
 use Rattle.rob_top.specs.Calls.{Call, HasFile, IsBranching, IsOnModel, Request, branches, file_of, files_of, first_or, later, most_of, reads_model, request_of, requests, word_of}
@@ -13,7 +13,7 @@ use Rattle.rob_words.specs.contracts.verb.Verb.{enum, the_type as verb_type}
 use Rattle.rob_words.specs.declared.verb.Own.{Own}
 use Rattle.rob_words.specs.declared.verb.Own.TheVariants.{Model, Certificate, Scenarios, Number, Names, Statement, Limit, Limits, Cuts, Tree, Form}
 use Rattle.rob_words.specs.declared.verb.Verb.{Verb}
-use Rattle.rob_words.specs.declared.verb.Verb.TheVariants.{Text, Worst}
+use Rattle.rob_words.specs.declared.verb.Verb.TheVariants.{Text, Gen, Worst}
 use Rattle.rob_words.proofs.EachValue.{each_value}
 
 -- ---- facts of the table of commands
@@ -48,23 +48,38 @@ has_names verb is =
 pub has_form : (verb : Verb) → verb ≡ Worst → has_kind Form (own_of verb) ≡ true
 has_form verb is = ap (λ (v : Verb). has_kind Form (own_of v)) is
 
--- one that reads none is `text`
+-- one that reads none is `text` or `gen`
 abbrev is_read : Verb → Bool
-is_read v = reads_model v || sameb verb_type v Text
+is_read v = reads_model v || (sameb verb_type v Text || sameb verb_type v Gen)
 
-pub text_alone : (verb : Verb) → reads_model verb ≡ false → verb ≡ Text
-text_alone verb e =
-    same_true verb_type tt verb Text (second_of (reads_model verb) (sameb verb_type verb Text) (each_value enum is_read refl verb) e)
+pub on_number : (verb : Verb) → reads_model verb ≡ false → (verb ≡ Text) ⊎ (verb ≡ Gen)
+on_number verb e = by (sameb verb_type verb Text) refl either
+  where
+    either : (sameb verb_type verb Text || sameb verb_type verb Gen) ≡ true
+    either =
+        second_of (reads_model verb) (sameb verb_type verb Text || sameb verb_type verb Gen) (each_value enum is_read refl verb) e
 
--- ---- `text` names no file
+    by : (b : Bool) → sameb verb_type verb Text ≡ b → (b || sameb verb_type verb Gen) ≡ true → (verb ≡ Text) ⊎ (verb ≡ Gen)
+    by true is h = inl (same_true verb_type tt verb Text is)
+    by false is h = inr (same_true verb_type tt verb Gen h)
+
+-- its own word is a number
+pub takes_number : (verb : Verb) → reads_model verb ≡ false → own_of verb ≡ Number ∷ []
+takes_number verb e = by (on_number verb e)
+  where
+    by : (verb ≡ Text) ⊎ (verb ≡ Gen) → own_of verb ≡ Number ∷ []
+    by (inl is) = ap own_of is
+    by (inr is) = ap own_of is
+
+-- ---- so it names no file
 no_request : (words : List Word) → request_of Model (Number ∷ []) words ≡ None
 no_request [] = refl
 no_request (word ∷ words) = refl
 
-pub text_no_file : (call : Call) (line : Line) (bytes : List ℕ) → line.verb ≡ Text → HasFile call line Model bytes → ⊥
-text_no_file call line bytes is_text h =
-    let named : request_of Model (own_of Text) line.own ≡ Some h.request =
-    subst (λ (v : Verb). request_of Model (own_of v) line.own ≡ Some h.request) is_text h.named
+pub number_no_file : (call : Call) (line : Line) (bytes : List ℕ) → reads_model line.verb ≡ false → HasFile call line Model bytes → ⊥
+number_no_file call line bytes reads_none h =
+    let named : request_of Model (Number ∷ []) line.own ≡ Some h.request =
+    subst (λ (kinds : List Own). request_of Model kinds line.own ≡ Some h.request) (takes_number line.verb reads_none) h.named
     in
     let clash : None ≡ Some h.request = sym (no_request line.own) ∙ named in
     cc
@@ -73,8 +88,9 @@ no_files : (words : List Word) → files_of (Number ∷ []) words ≡ []
 no_files [] = refl
 no_files (word ∷ words) = refl
 
-pub text_no_files : (line : Line) → line.verb ≡ Text → requests line ≡ []
-text_no_files line is_text = ap (λ (v : Verb). files_of (own_of v) line.own) is_text ∙ no_files line.own
+pub number_no_files : (line : Line) → reads_model line.verb ≡ false → requests line ≡ []
+number_no_files line reads_none =
+    ap (λ (kinds : List Own). files_of kinds line.own) (takes_number line.verb reads_none) ∙ no_files line.own
 
 -- ---- the word of a kind
 

@@ -1,5 +1,5 @@
 -- How far a call came, by its answer; and so which answers a model's file allows.
-use Rattle.std.proofs.Common.{◌≡◌, ℕ, List, [], ◌∷◌, ◌++◌, Option, Some, IfSome, refl, sym, ◌∙◌, ap, subst, inl, inr, ◌⊎◌}
+use Rattle.std.proofs.Common.{◌≡◌, ℕ, List, [], ◌∷◌, ◌++◌, Option, Some, IfSome, false, refl, sym, ◌∙◌, ap, subst, inl, inr, ◌⊎◌}
 use Rattle.rob_meaning.specs.Places.{Each}
 use Rattle.rob_algebra.specs.Fraction.{Fraction}
 use Rattle.rob_meaning.specs.Certificates.{Status, optimal, infeasible, unbounded}
@@ -15,24 +15,24 @@ use Rattle.rob_rules.proofs.OneReading.{one_rule}
 use Rattle.rob_model.specs.declared.place.Spot.{Spot}
 use Rattle.rob_top.proofs.CourseLemmas.{Course, accepted_course, branched_course, cert_course, empty_branched_course, empty_course, limited_course, no_sweep_course, no_tree_course, empty_sought_course, no_row_course, no_whole_course, priced_course, rejected_course, lacking_course, narrowed_course, replayed_course, rows_course, scenarios_course, searched_course, solved_course, wide_budget_course, tree_accepted_course, tree_rejected_course, unplanned_course, wide_course, wide_leaf_course, wide_node_course, splitting, wide_way_course}
 use Rattle.rob_top.proofs.FilesLemmas.{empty_split}
-use Rattle.rob_top.proofs.OwnLemmas.{text_no_file, text_no_files}
+use Rattle.rob_top.proofs.OwnLemmas.{number_no_file, number_no_files}
+use Rattle.rob_top.proofs.NumberCourseLemmas.{NumberCourse, compared_course, wide_compared_course, writes_model}
 use Rattle.rob_top.proofs.SoughtLemmas.{forms_sought, forms_unnamed, forms_unplanned}
 use Rattle.rob_top.specs.Branched.{BreaksWhole, no_ranges, no_variables}
 use Rattle.rob_top.proofs.SplitCourseLemmas.{breaks_cells, cells_model, cells_splits, empty_cell_course, pieced_course, wide_split_course, written_course}
-use Rattle.rob_top.specs.Calls.{Call, Came, HasFile, IsFirstAbsent, IsFound, Known, NamesFile, Request, answer_to, by_fetches, by_files, limit_of, requests}
+use Rattle.rob_top.specs.Calls.{Call, Came, HasFile, IsFirstAbsent, IsFound, Known, NamesFile, Request, answer_to, by_fetches, by_files, limit_of, reads_model, requests}
 use Rattle.rob_top.specs.Headline.{Means}
 use Rattle.rob_top.specs.Inputs.{HasModel}
 use Rattle.rob_top.specs.Refused.{IsNoModel, IsWideSpot, checking, elaborating, replaying, searching}
 use Rattle.rob_top.specs.Replayed.{LacksPlan, planless, unread}
 use Rattle.rob_top.specs.Swept.{BreaksSweep, at_limit, at_limits}
-use Rattle.rob_top.specs.Ways.{solved, branched, rows, replayed, generated, worst_found, swept, narrowed, a_certificate, a_tree, while_solving, while_branching, while_searching, in_model, on_way, while_growing, while_checking, not_checked, not_replayed, not_searched, pieced, split_written, in_cells, in_split}
+use Rattle.rob_top.specs.Ways.{solved, branched, rows, replayed, generated, compared, worst_found, swept, narrowed, a_certificate, a_tree, while_solving, while_branching, while_searching, in_model, on_way, while_growing, while_checking, not_checked, not_replayed, not_searched, pieced, split_written, in_cells, in_split, in_summary}
 use Rattle.rob_top.specs.declared.ended.Ended.{Ended}
 use Rattle.rob_top.specs.declared.ended.Ended.TheVariants.{Optimal, Infeasible, Unbounded, Printed, Accepted, Rejected, Words, Missing, TooLong, Model, EmptySet, TooWide, WideNode, WideBudget, Cert, Scenarios, Whole, Sweep, Cells, Tree, TreeRejected, NoRow, ReadFault, WriteFault, Memory}
 use Rattle.rob_words.specs.Commands.{Line, IsCommandLine, IsSpelled}
 use Rattle.rob_words.specs.Values.{Word}
 use Rattle.rob_words.specs.declared.verb.Own.{Own}
 use Rattle.rob_words.specs.declared.verb.Own.TheVariants as own
-use Rattle.rob_words.specs.declared.verb.Verb.TheVariants.{Text}
 use Rattle.rob_words.proofs.Spellings.{one_line}
 
 -- how far the call came
@@ -42,7 +42,7 @@ pub data Stage (call : Call) (ended : Ended) : Type 0 where
   over : (name : Word) → IsFirstAbsent call too_long name → ended ≡ TooLong → Stage call ended
   broken : (rule number : ℕ) (text : List ℕ) → IsNoModel call rule number text → ended ≡ Model rule number → Stage call ended
   read : (line : Line) (m : RobustModel) → HasModel call line m → Course call line m ended → Stage call ended
-  generates : (line : Line) → IsSpelled call.words line → line.verb ≡ Text → ended ≡ Printed → Stage call ended
+  answers_number : (line : Line) → IsSpelled call.words line → reads_model line.verb ≡ false → NumberCourse call line ended → Stage call ended
   failed : NamesFile call.words → ended ≡ ReadFault → Stage call ended
   wanting : ended ≡ Memory → Stage call ended
 
@@ -76,7 +76,8 @@ stage_of call Unbounded text (branched h) = read h.line h.m h.has.named.model (b
 stage_of call Unbounded text (pieced h) = read h.line h.m h.has.has_cuts.has_word.model (splitting h.has.has_cuts.has_word.is_splitting (pieced_course call unbounded text h))
 stage_of call Printed text (rows h) = read h.line h.m h.forms.model (rows_course call text h)
 stage_of call Printed text (replayed h) = read h.line h.m h.has.certificate.file.model (replayed_course call text h)
-stage_of call Printed text (generated h) = generates h.line h.spelled h.is_text refl
+stage_of call Printed text (generated h) = answers_number h.line h.spelled (ap reads_model h.is_text) (writes_model h.is_text refl)
+stage_of call Printed text (compared h) = answers_number h.line h.asks.spelled (ap reads_model h.asks.is_gen) (compared_course call text h)
 stage_of call Printed text (worst_found h) = read h.line h.m (forms_sought call h.line h.m h.c h.form h.has).model (searched_course call text h)
 stage_of call Printed text (swept (inl h)) = read h.line h.m h.has.model (priced_course call text h)
 stage_of call Printed text (swept (inr h)) = read h.line h.m h.has.model (limited_course call text h)
@@ -108,6 +109,8 @@ stage_of call (Tree rule number) text h = read h.line h.m h.file.variables.named
 stage_of call (TooWide spot) text (in_model h) = read h.line h.m (wide_model call h.line h.m spot h.wide) (wide_course call h.line h.m spot h.wide)
 stage_of call (TooWide spot) text (on_way h) = read h.line h.m h.forms.model (wide_way_course call spot text h)
 stage_of call (TooWide spot) text (in_split h) = read h.line h.m h.has.has_cuts.has_word.model (splitting h.has.has_cuts.has_word.is_splitting (wide_split_course call spot text h))
+stage_of call (TooWide spot) text (in_summary h) =
+    answers_number h.line h.asks.spelled (ap reads_model h.asks.is_gen) (wide_compared_course call spot text h)
 stage_of call (Cert rule number) text (not_checked h) = read h.line h.m h.file.forms.model (cert_course call rule number text h)
 stage_of call (Cert rule number) text (not_replayed h) =
     read h.line h.m (lacking_model call h.line h.m rule number h.lacks) (lacking_course call rule number text h)
@@ -157,23 +160,25 @@ module _ (call : Call) (known : Known call.source) (line : Line) (spelled : IsSp
         subst (λ (x : Line). Breaks (limit_of x) h.bytes rule number) same h.breaks,
       )
 
-  -- the words of `text` name no file, that of a model neither
-  pub text_here : (l : Line) → IsSpelled call.words l → l.verb ≡ Text → (bytes : List ℕ) → HasFile call line own.Model bytes → ⊥
-  text_here l sp is bytes f =
-      text_no_file call line bytes (ap (λ (x : Line). x.verb) (one_line call.words line l spelled sp) ∙ is) f
+  -- the words of a command that reads no model name no file, that of a model neither
+  reads_here : (l : Line) → IsSpelled call.words l → reads_model l.verb ≡ false → reads_model line.verb ≡ false
+  reads_here l sp none = ap (λ (x : Line). reads_model x.verb) (one_line call.words line l spelled sp) ∙ none
 
-  text_asks_none : (l : Line) → IsSpelled call.words l → l.verb ≡ Text → requests line ≡ []
-  text_asks_none l sp is = text_no_files line (ap (λ (x : Line). x.verb) (one_line call.words line l spelled sp) ∙ is)
+  pub number_here : (l : Line) → IsSpelled call.words l → reads_model l.verb ≡ false → (bytes : List ℕ) → HasFile call line own.Model bytes → ⊥
+  number_here l sp none bytes f = number_no_file call line bytes (reads_here l sp none) f
 
-  pub text_none_absent : (l : Line) → IsSpelled call.words l → l.verb ≡ Text → (before : List Request) (request : Request) (behind : List Request)
+  number_asks_none : (l : Line) → IsSpelled call.words l → reads_model l.verb ≡ false → requests line ≡ []
+  number_asks_none l sp none = number_no_files line (reads_here l sp none)
+
+  pub number_none_absent : (l : Line) → IsSpelled call.words l → reads_model l.verb ≡ false → (before : List Request) (request : Request) (behind : List Request)
       → requests line ≡ before ++ request ∷ behind → ⊥
-  text_none_absent l sp is before request behind order =
-      empty_split before request behind (sym (text_asks_none l sp is) ∙ order)
+  number_none_absent l sp none before request behind order =
+      empty_split before request behind (sym (number_asks_none l sp none) ∙ order)
 
   -- so no file is named in a call with them
-  pub text_names_none : (l : Line) → IsSpelled call.words l → l.verb ≡ Text → NamesFile call.words → ⊥
-  text_names_none l sp is names =
-      names.some (ap requests (one_line call.words names.line line names.spelled spelled) ∙ text_asks_none l sp is)
+  pub number_names_none : (l : Line) → IsSpelled call.words l → reads_model l.verb ≡ false → NamesFile call.words → ⊥
+  number_names_none l sp none names =
+      names.some (ap requests (one_line call.words names.line line names.spelled spelled) ∙ number_asks_none l sp none)
 
   -- where all come, none is the first that doesn't
   pub none_absent : (found : Found) (name : Word) → Each (Came call) (requests line) → ((bytes : List ℕ) → found ≡ whole bytes → ⊥) → IsFirstAbsent call found name → ⊥
@@ -208,7 +213,7 @@ module _ (call : Call) (known : Known call.source) (line : Line) (spelled : IsSp
           absurd
           (not_both (limit_of line) r.bytes m rule number r.reads
           (subst (λ (list : List ℕ). Breaks (limit_of line) list rule number) (sym (same_bytes r.bytes r.file)) breaks))
-      by (generates l sp is e) = absurd (text_here l sp is bytes f)
+      by (answers_number l sp none course) = absurd (number_here l sp none bytes f)
       by (failed names e) = inr (inl e)
       by (wanting e) = inr (inr e)
 

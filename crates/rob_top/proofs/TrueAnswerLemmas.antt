@@ -33,7 +33,7 @@ use Rattle.rob_top.proofs.CertificateNameLemmas.{named_in_words}
 use Rattle.rob_top.proofs.CommandLemmas.{check_no_branch, check_no_sweep, check_not_replay, check_not_tree, check_not_worst, makes_no_branch, narrow_not_check, narrow_not_rows, makes_no_sweep, makes_no_tree, not_rows, replays_alone, rows_no_branch, rows_no_sweep, rows_not_replay, rows_not_tree, rows_not_worst, solves_no_branch, solves_no_sweep, solves_no_check, solves_no_narrow, solves_no_replay, solves_no_rows, solves_no_tree, solves_no_worst, check_no_split, makes_no_split, rows_no_split, solves_no_split}
 use Rattle.rob_top.proofs.CourseLemmas.{Course, bounds, branching, checking_tree, course_at, finds, judges, lacks_plan, prints, refuses, replays, searches, shows_empty, sweeping, wide_number, wide_row, worst_forms, splitting}
 use Rattle.rob_top.proofs.RouteLemmas.{empty_on_way}
-use Rattle.rob_top.proofs.StageLemmas.{Stage, absent, broken, broken_here, failed, file_once, found_once, generates, none_absent, one_model_read, over, read, same_status, stage_of, text_here, text_none_absent, wanting, wordless}
+use Rattle.rob_top.proofs.StageLemmas.{Stage, absent, answers_number, broken, broken_here, failed, file_once, found_once, none_absent, number_here, number_none_absent, one_model_read, over, read, same_status, stage_of, wanting, wordless}
 use Rattle.rob_top.proofs.WorkLemmas.{limit_is}
 use Rattle.rob_top.specs.Calls.{Call, Came, HasFile, IsElaborating, IsFirstAbsent, IsFound, IsSolving, Known, Request, limit_of, requests}
 use Rattle.rob_top.specs.Headline.{Means}
@@ -93,7 +93,7 @@ module _ (call : Call) (known : Known call.source) where
       by (over other k e) = absurd (let same : missing ≡ too_long = one_absent missing too_long name other no_missing no_too_long h k in cc)
       by (broken rule number t k e) = absurd (none_absent call known k.line k.spelled missing name k.came no_missing h)
       by (read l m k course) = absurd (none_absent call known l k.spelled missing name k.came no_missing h)
-      by (generates l sp is e) = absurd (text_none_absent call known h.line h.spelled l sp is h.before h.request h.behind h.order)
+      by (answers_number l sp none course) = absurd (number_none_absent call known h.line h.spelled l sp none h.before h.request h.behind h.order)
       by (failed names e) = inr (inl e)
       by (wanting e) = inr (inr e)
 
@@ -107,7 +107,7 @@ module _ (call : Call) (known : Known call.source) where
       by (over other k e) = inl e
       by (broken rule number t k e) = absurd (none_absent call known k.line k.spelled too_long name k.came no_too_long h)
       by (read l m k course) = absurd (none_absent call known l k.spelled too_long name k.came no_too_long h)
-      by (generates l sp is e) = absurd (text_none_absent call known h.line h.spelled l sp is h.before h.request h.behind h.order)
+      by (answers_number l sp none course) = absurd (number_none_absent call known h.line h.spelled l sp none h.before h.request h.behind h.order)
       by (failed names e) = inr (inl e)
       by (wanting e) = inr (inr e)
 
@@ -130,7 +130,7 @@ module _ (call : Call) (known : Known call.source) where
         by (broken rule number t h e) = let b = broken_here call known line has.spelled rule number t h in absurd (no_rule rule number b.0 b.1 b.2)
         by (read l k h course) =
             inl (course_at call l line k m ended (one_line call.words l line h.spelled has.spelled) (one_model_read call l line k m known h has) course)
-        by (generates l sp is e) = absurd (text_here call known line has.spelled l sp is has.bytes has.file)
+        by (answers_number l sp none course) = absurd (number_here call known line has.spelled l sp none has.bytes has.file)
         by (failed names e) = inr (inl e)
         by (wanting e) = inr (inr e)
 

@@ -15,7 +15,7 @@ use Rattle.rob_words.specs.declared.verb.Verb.TheVariants.{Text}
 use Rattle.rob_words.specs.declared.width.Width.TheVariants.{SixtyTwo}
 
 -- a number begins with a digit
-number_plain : (word : Word) → IsNumber word → IsPlain word
+pub number_plain : (word : Word) → IsNumber word → IsPlain word
 number_plain [] h = absurd (omega (arith, h.digits.0))
 number_plain (byte ∷ bytes) h = let digit = digit_from_value byte h.digits.1.0 in λ e. (omega (arith, digit, e))
 

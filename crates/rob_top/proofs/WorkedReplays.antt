@@ -20,7 +20,7 @@ use Rattle.rob_replay.specs.Lines as replay
 use Rattle.rob_replay.specs.Lines.{line_outside}
 use Rattle.rob_replay.specs.Outcome.{outcome}
 use Rattle.rob_report.specs.Tables.{table_of}
-use Rattle.rob_top.proofs.CommandLemmas.{narrow_not_replay, replay_not_worst, rows_not_replay, sweep_not_replay, sweeptext_not_replay, text_not_replay, replay_no_split}
+use Rattle.rob_top.proofs.CommandLemmas.{narrow_not_replay, replay_not_worst, rows_not_replay, sweep_not_replay, sweeptext_not_replay, text_not_replay, gen_not_replay, replay_no_split}
 use Rattle.rob_top.proofs.OneTable.{lines_are, text_is}
 use Rattle.rob_top.proofs.SoughtLemmas.{forms_sought}
 use Rattle.rob_top.proofs.WorkedCalls.{fits_by, one_demand_reads}
@@ -32,7 +32,7 @@ use Rattle.rob_top.specs.Headline.{Means}
 use Rattle.rob_top.specs.Inputs.{HasReplayCertificate, HasScenarios}
 use Rattle.rob_top.specs.Replayed.{planless, replay_ended}
 use Rattle.rob_top.specs.WorkedCalls.{certificate_name, greatest, model_name, no_demand, no_order, order_12, order_least, replay_call, scenarios_name, two_demands, two_demands_table}
-use Rattle.rob_top.specs.Ways.{rows, replayed, generated, worst_found, swept, narrowed, split_written}
+use Rattle.rob_top.specs.Ways.{rows, replayed, generated, compared, worst_found, swept, narrowed, split_written}
 use Rattle.rob_top.specs.declared.ended.Ended.{Ended}
 use Rattle.rob_top.specs.declared.ended.Ended.TheVariants.{Cert, Printed, Scenarios, TooWide}
 use Rattle.rob_words.proofs.Spellings.{one_line}
@@ -178,6 +178,7 @@ two_demands_are_printed text means = by means
     by : Means table_call Printed text → text ≡ two_demands_table
     by (rows h) = absurd (rows_not_replay h.line.verb h.is_rows (ap (λ (l : Line). l.verb) (table_line h.line h.forms.model.spelled)))
     by (generated h) = absurd (text_not_replay h.line.verb h.is_text (ap (λ (l : Line). l.verb) (table_line h.line h.spelled)))
+    by (compared h) = absurd (gen_not_replay h.line.verb h.asks.is_gen (ap (λ (l : Line). l.verb) (table_line h.line h.asks.spelled)))
     by (worst_found h) =
         let forms = forms_sought table_call h.line h.m h.c h.form h.has in
         let worst = h.has.plan.certificate.file.is_worst in

@@ -14,7 +14,7 @@ use Rattle.rob_words.specs.contracts.verb.Own.{the_type}
 use Rattle.rob_words.specs.declared.verb.Own.{Own}
 use Rattle.rob_words.specs.declared.verb.Own.TheVariants.{Model, Certificate, Scenarios, Tree as OwnTree}
 use Rattle.rob_words.specs.declared.verb.Verb.{Verb}
-use Rattle.rob_words.specs.declared.verb.Verb.TheVariants.{Rows, Solve, Prove, Check, Text, Whole, Tree, CheckTree, Worst, Sweep, SweepText, Narrow}
+use Rattle.rob_words.specs.declared.verb.Verb.TheVariants.{Rows, Solve, Prove, Check, Text, Gen, Whole, Tree, CheckTree, Worst, Sweep, SweepText, Narrow}
 
 -- a count before and after the call
 pub record Count : Type 0 where
@@ -94,8 +94,7 @@ pub record Request : Type 0 where
 abbrev pub later : Request → Request
 later request = record request { place = suc request.place }
 
--- what the fetch of this place found, where it asked for a file of this name and bound; nothing, where there was no such
--- fetch, or it answered an error
+-- what the fetch of this place found, if it asked for this name and bound; nothing, if none did or it answered an error
 abbrev pub answer_at : ℕ → Word → ℕ → List Fetch → Option Found
 answer_at place name most [] = None
 answer_at zero name most (fetch ∷ fetches) =
@@ -187,9 +186,10 @@ pub record Fetches (words : List Word) (before now : List Fetch) : Type 0 where
 abbrev pub IsSolving : Verb → Type 0
 IsSolving verb = takes_route verb ≡ true
 
--- the command works on a model that it reads; `text` reads none
+-- the command works on a model that it reads; `text` and `gen` read none
 abbrev pub reads_model : Verb → Bool
 reads_model Text = false
+reads_model Gen = false
 reads_model _ = true
 
 abbrev pub IsOnModel : Verb → Type 0

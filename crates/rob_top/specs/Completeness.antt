@@ -38,6 +38,7 @@ use Rattle.rob_top.specs.Replayed.{LacksPlan, replay_ended}
 use Rattle.rob_top.specs.Routes.{IsWideOnWay}
 use Rattle.rob_top.specs.Searched.{GivesNoPlan, IsWideSought, NamesNoForm, certificate_vector}
 use Rattle.rob_top.specs.TreeChecked.{HasTree, HasTreeFile}
+use Rattle.rob_top.specs.ComparedEnds.{MustEndCompared}
 use Rattle.rob_top.specs.SplitEnds.{MustEndSplit}
 use Rattle.rob_top.specs.Swept.{HasLimit, HasSweep}
 use Rattle.rob_top.specs.Work.{ended_of, verdict_ended}
@@ -191,6 +192,8 @@ module _ (call : Call) (result : Ended) where
         → IsBudgetAt m.set_lines n → EndsAs Printed result
     -- `cells` and `celltext`: specs/SplitEnds.antt
     pub split : MustEndSplit call result
+    -- `gen`: specs/ComparedEnds.antt
+    pub compared : MustEndCompared call result
     -- `text`: the model of the number is printed; no file is asked for, so no read fault comes in the place of that answer
     pub generated : (line : Line) → IsSpelled call.words line → line.verb ≡ Text → (result ≡ Printed) ⊎ IsUnput result
 

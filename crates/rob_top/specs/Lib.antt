@@ -3,6 +3,9 @@ pub mod Branched
 pub mod Calls
 pub mod Checked
 pub mod Codes
+pub mod Compared
+pub mod ComparedEnds
+pub mod ComparedWork
 pub mod Completeness
 pub mod Endings
 pub mod Generated
@@ -29,4 +32,5 @@ pub mod Walks
 pub mod Ways
 pub mod Work
 pub mod WorkedCalls
+pub mod WorkedCompared
 pub mod WorkedTrees

@@ -1,8 +1,8 @@
 -- The two routes of `solve` and `prove`: by the robust counterpart, one linear program; or by the cutting-plane method,
 -- in rounds. How each finds a certificate, which numbers can be wide on its way, and where its rounds are told.
 -- Bertsimas, Dunning, Lubin, Reformulation versus cutting-planes for robust optimization (2016).
-use Rattle.std.specs.Prelude.{◌≡◌, ℕ, List, [], ◌++◌, map, Result, MatchResult, IfOk, IfErr}
-use Rattle.rob_algebra.specs.Fraction.{Fraction, of_int}
+use Rattle.std.specs.Prelude.{◌≡◌, ℕ, List, [], ◌++◌, Result, MatchResult, IfOk, IfErr}
+use Rattle.rob_algebra.specs.Fraction.{Fraction}
 use Rattle.rob_cert.specs.Shape.{HasShape}
 use Rattle.rob_cert.specs.View.{certificate_of}
 use Rattle.rob_cert.specs.declared.certificate.Cert.{Cert}

@@ -6,6 +6,7 @@ use Rattle.rob_model.specs.declared.place.Spot.{Spot}
 use Rattle.rob_top.specs.Branched.{IsBranched, IsEmptyBranched, IsWideNode}
 use Rattle.rob_top.specs.Calls.{Call}
 use Rattle.rob_top.specs.Checked.{IsAccepted}
+use Rattle.rob_top.specs.Compared.{IsCompared, IsWideCompared}
 use Rattle.rob_top.specs.Generated.{IsGenerated}
 use Rattle.rob_top.specs.Narrowed.{IsNarrowed}
 use Rattle.rob_top.specs.Refused.{IsNoCertificate, IsTooWide, IsTooWideOnWay}
@@ -30,6 +31,7 @@ module _ (call : Call) where
     rows : IsRows call text → Prints text
     replayed : IsReplayed call text → Prints text
     generated : IsGenerated call text → Prints text
+    compared : IsCompared call text → Prints text
     worst_found : IsSearched call text → Prints text
     swept : IsSwept call text → Prints text
     narrowed : IsNarrowed call text → Prints text
@@ -49,11 +51,13 @@ module _ (call : Call) where
     in_cells : IsEmptyCell call weights text → FindsEmpty weights text
 
   -- a wide number is named by its spot: one of a command that works with the model as it was read; or one on the way of
-  -- `solve` and `prove`, by either route; or one in the split model of `cells`
+  -- `solve` and `prove`, by either route; or one in the split model of `cells`; or one that is told in the summary of
+  -- `gen`
   pub data NamesWide (spot : Spot) (text : List ℕ) : Type 0 where
     in_model : IsTooWide call spot text → NamesWide spot text
     on_way : IsTooWideOnWay call spot text → NamesWide spot text
     in_split : IsWideSplit call spot text → NamesWide spot text
+    in_summary : IsWideCompared call spot text → NamesWide spot text
 
   -- a wide number is named by its spot, and by the path of branches to its box: while `whole` and `tree` grow a tree,
   -- or while `checktree` checks one

@@ -1,25 +1,48 @@
-// `text`: the model of a number.
+// The commands on a number: `text`, the model of a number; and `gen`, which solves it.
 
-ghost use Rattle.std.specs.Prelude.{◌≡◌, ◌≤◌, IfOk};
+ghost use Rattle.std.specs.Prelude.{◌≡◌, ◌≤◌, ◌∷◌, [], IfOk, false};
 ghost use Rattle.rob_gen.specs.Generated.{generated};
+ghost use Rattle.rob_top.specs.Calls.{count, reads_model};
+ghost use Rattle.rob_top.specs.ComparedWork.{AnswersNumber};
 ghost use Rattle.rob_top.specs.Generated.{TellsNumber};
 ghost use Rattle.rob_top.specs.Replies.{IsRead, Replies};
 ghost use Rattle.rob_top.specs.Work.{RepliesGenerated};
 ghost use Rattle.rob_words.specs.Answers.{line_of};
+ghost use Rattle.rob_words.specs.Verbs.{own_of};
+ghost use Rattle.rob_words.specs.declared.verb.Own.TheVariants.{Number};
 ghost use Rattle.rob_words.specs.declared.verb.Verb.TheVariants.{Text as TextVerb};
 ghost use Rattle.rob_write.specs.Canonical.{model_text};
 
+use crate::comparing::compare_routes;
 use crate::ended::Ended;
 use crate::reply::Reply;
 use rob_gen::generate;
 use rob_number::{Ledger, Memory};
 use rob_quick::Quick;
-use rob_words::{CommandLine, number};
+use rob_words::{CommandLine, Verb, number};
 use rob_write::write_model;
 use std::alloc::Global;
 
+/// The answer of a command that reads no model.
+pub fn on_number<L: Ledger>(
+    alloc: Global,
+    line: &CommandLine,
+    ledger: &mut L,
+) -> Result<Reply, Memory>
+    requires read { IsRead line.now }
+    requires on_number { reads_model line.now.verb ≡ false }
+    ensures answers { IfOk result (AnswersNumber (line_of line.now) (count (L.wides ledger.old) (L.wides ledger.new))) }
+    ensures counted { L.wides ledger.old ≤ L.wides ledger.new }
+{
+    match line.verb {
+        Verb::Text => print_generated(alloc, line, ledger),
+        Verb::Gen => compare_routes(alloc, told_number(line), line.width, ledger),
+        _ => unreachable!(),
+    }
+}
+
 /// The answer of `text`. The model's numbers fit each width, so it is the same at each.
-pub fn print_generated<L: Ledger>(
+fn print_generated<L: Ledger>(
     alloc: Global,
     line: &CommandLine,
     ledger: &mut L,
@@ -35,7 +58,7 @@ pub fn print_generated<L: Ledger>(
 /// The number that the command line tells.
 fn told_number(line: &CommandLine) -> u32
     requires read { IsRead line.now }
-    requires is_text { line.now.verb ≡ TextVerb }
+    requires numbered { own_of line.now.verb ≡ Number ∷ [] }
     ensures told { TellsNumber (line_of line.now) result }
 {
     match line.own.as_slice() {

@@ -9,8 +9,8 @@ ghost use Rattle.rob_algebra.specs.Fraction.{Fraction};
 ghost use Rattle.rob_cert.specs.Apart.{IsNamedInWords};
 ghost use Rattle.rob_check.specs.Narrow.{IsFirstFailing};
 ghost use Rattle.rob_dualize.specs.SmallestModel.{one_demand};
-ghost use Rattle.rob_dualize.specs.Models.{IsWideIn};
-ghost use Rattle.rob_dualize.specs.Solving.{IsNarrowModel, IsWideOnPath};
+ghost use Rattle.rob_dualize.specs.Models.{IsWideIn, IsWritten};
+ghost use Rattle.rob_dualize.specs.Solving.{HasScenario, IsNarrowModel, IsWideOnPath};
 ghost use Rattle.rob_gen.specs.Generated.{generated};
 ghost use Rattle.rob_meaning.specs.Certificates.{Status, infeasible, optimal, unbounded};
 ghost use Rattle.rob_meaning.specs.Guarantee.{IsNoWorse};
@@ -29,6 +29,7 @@ ghost use Rattle.rob_split_text.specs.SplitTexts.{HasFewTokens};
 ghost use Rattle.rob_top.specs.Calls.{Call, HasFile, IsSolving, Known, known_call, limit_of};
 ghost use Rattle.rob_report.specs.NarrowText.{narrow_line};
 ghost use Rattle.rob_top.specs.Checked.{IsAccepted};
+ghost use Rattle.rob_top.specs.ComparedEnds.{IsComparedAnswer};
 ghost use Rattle.rob_top.specs.Completeness.{IsComplete, MustEnd};
 ghost use Rattle.rob_top.specs.Endings.{EndsAs, IsEmptyAnswer, IsEmptyWholeAnswer, IsOutside, IsProvedAnswer, IsShownAnswer, IsSweepAnswer, IsUnput, NamesFault, NamesWidth};
 ghost use Rattle.rob_top.specs.Headline.{Means};
@@ -45,13 +46,14 @@ ghost use Rattle.rob_top.specs.SplitEnds.{IsEmptyCellsAnswer};
 ghost use Rattle.rob_top.specs.SplitTexts.{IsNarrowOnWay, IsPiecesAnswer, TakesSplit, written_split};
 ghost use Rattle.rob_top.specs.Work.{ended_of};
 ghost use Rattle.rob_top.specs.WorkedCalls.{at_13, at_9, cells_call, check_call, cuts_call, demand_within_a_budget, empty_interval, first_text, greatest, half_a_demand, hard_and_soft, impossible_demand, narrow_call, never_calm, no_demand, no_order, order_11, order_12, order_least, replay_call, solve_call, sweep_call, text_call, two_demands, two_demands_table, whole_call, worst_call};
+ghost use Rattle.rob_top.specs.WorkedCompared.{first_summary, gen_call};
 ghost use Rattle.rob_top.specs.WorkedTrees.{cheaper_orders, tree_call, whole_orders};
 ghost use Rattle.rob_top.specs.declared.ended.Ended.{Ended};
 ghost use Rattle.rob_top.specs.declared.ended.Ended.TheVariants.{Accepted, Cells, Cert, EmptySet, Model, NoRow, Optimal, Printed, Rejected, Scenarios, Sweep, TooWide, Tree as NoTree, Whole, WideNode};
 ghost use Rattle.rob_tree.specs.TreeText.{tree_text};
 ghost use Rattle.rob_tree.specs.declared.tree.Branch.{Branch};
 ghost use Rattle.rob_words.specs.Commands.{Line};
-ghost use Rattle.rob_words.specs.Kinds.{IsNumber};
+ghost use Rattle.rob_words.specs.Kinds.{IsNumber, number_of};
 ghost use Rattle.rob_words.specs.Values.{Word};
 ghost use Rattle.rob_words.specs.declared.route.Route.TheVariants.{Cuts, Dual};
 ghost use Rattle.rob_words.specs.declared.verb.Own.TheVariants as own;
@@ -163,6 +165,19 @@ pub fn generated_texts()
     ensures read { (n limit : ℕ) → 14 ≤ limit → limit < 2 ^ 62 → ReadsModel limit (model_text (generated n)) (generated n) }
     // For 0 it is these lines.
     ensures first { model_text (generated 0) ≡ first_text }
+{}
+
+/// The models that `gen` solves by both routes.
+pub fn compared_models()
+    // Some joint scenario is admitted,
+    ensures admitted { (n : ℕ) → HasScenario (generated n) }
+    // and no number of the set rows and forms is wide, at each width.
+    ensures written { (n limit : ℕ) → 255 ≤ limit → IsWritten limit (generated n) }
+    // Each number is answered: with a status that its model has, or a wide number on the way of a route;
+    ensures answered { (word : Word) → IsNumber word → (result : Ended) → MustEnd (gen_call word) result
+        → IsComparedAnswer greatest (generated (number_of word)) result }
+    // and where both routes have a status, these lines are printed for 0.
+    ensures first { (text : List ℕ) → Means (gen_call (codes "0")) Printed text → text ≡ first_summary }
 {}
 
 /// The text that `celltext` printed, as the model's file of a later call at the same width, where it has no more tokens

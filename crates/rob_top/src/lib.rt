@@ -4,6 +4,7 @@
 
 mod branching;
 mod checking;
+mod comparing;
 mod ended;
 mod files;
 mod generating;

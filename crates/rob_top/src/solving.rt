@@ -85,8 +85,9 @@ pub fn prove<N: Exact + Drop, L: Ledger>(
     }
 }
 
-/// The certificate that the route finds, with its rounds; by the robust counterpart there are none.
-fn find<N: Exact + Drop, L: Ledger>(
+/// The certificate that the route finds, with its rounds; by the robust counterpart there are none. `EmptySet` comes
+/// where no joint scenario is admitted, `Wide` names a number on the route's way that is wide.
+pub fn find<N: Exact + Drop, L: Ledger>(
     alloc: Global,
     forms: &Forms,
     set: &SetForm,
@@ -201,7 +202,7 @@ pub fn wide_on_way<N: Exact>(
 }
 
 /// Appends the rounds of the cutting-plane method; by the robust counterpart none are told.
-fn put_told_rounds<N: Exact>(
+pub fn put_told_rounds<N: Exact>(
     model: &Model<N>,
     route: Route,
     trace: &Trace,

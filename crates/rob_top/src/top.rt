@@ -13,7 +13,7 @@ ghost use Rattle.rob_words.specs.Answers.{line_of};
 
 use crate::ended::Ended;
 use crate::files::{Files, Texts, fetch};
-use crate::generating::print_generated;
+use crate::generating::on_number;
 use crate::names::with_words;
 use crate::put::put_lines;
 use crate::reply::{Reply, fault};
@@ -130,7 +130,7 @@ fn on_texts<L: Ledger>(
     if reads_model(line.verb) {
         work_at(alloc, line.verb, line.width, texts, ledger)
     } else {
-        print_generated(alloc, line, ledger)
+        on_number(alloc, line, ledger)
     }
 }
 
@@ -145,6 +145,7 @@ fn reads_model(verb: Verb) -> bool
         Verb::Check => true,
         Verb::Replay => true,
         Verb::Text => false,
+        Verb::Gen => false,
         Verb::Whole => true,
         Verb::Tree => true,
         Verb::Worst => true,

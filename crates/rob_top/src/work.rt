@@ -105,6 +105,7 @@ fn elaborates(verb: Verb) -> bool
         Verb::Check => true,
         Verb::Replay => false,
         Verb::Text => false,
+        Verb::Gen => false,
         Verb::Whole => false,
         Verb::Tree => false,
         Verb::Worst => true,
