@@ -86,4 +86,5 @@ pub mod WorkedCompared
 pub mod WorkedNarrows
 pub mod WorkedNarrowSolves
 pub mod WorkedEmptyWholes
+pub mod WorkedEmptyWorsts
 pub mod GeneratedTexts

@@ -1,4 +1,5 @@
--- A model has one status, and none where no scenario is admitted: what two answers of a call say of each other.
+-- A model has one status, and none where no scenario is admitted: what two answers say of each other, of one call, or of two calls
+-- of `solve` and `prove` on one model, or on the same bytes.
 use Rattle.std.proofs.Common.{◌≡◌, ◌∙◌, ℕ, ℤ, List, subst, sym}
 use Rattle.rob_algebra.specs.Fraction.{Fraction}
 use Rattle.rob_meaning.proofs.StatusLemmas.{one_optimum}
@@ -6,23 +7,32 @@ use Rattle.rob_meaning.specs.Certificates.{Status, optimal, infeasible, unbounde
 use Rattle.rob_meaning.specs.Proves.{HasStatus}
 use Rattle.rob_meaning.specs.RobustModel.{RobustModel}
 use Rattle.rob_meaning.specs.UncertaintySet.{Admits}
+use Rattle.rob_parse.proofs.Building.OneModel.{model_alike}
+use Rattle.rob_parse.specs.Modelled.{ReadsModel}
 use Rattle.rob_pieces.specs.Cuts.{Cut}
 use Rattle.rob_reach.specs.WholeStatus.{HasWholeStatus}
+use Rattle.rob_top.proofs.CommandLemmas.{solves_no_branch, solves_no_split, solves_no_worst}
 use Rattle.rob_top.proofs.CourseLemmas.{grown_admits, inside_admitted}
+use Rattle.rob_top.proofs.KnownInputs.{known_again, model_known}
 use Rattle.rob_top.proofs.SplitAnswerLemmas.{cells_decides, same_piece_status}
-use Rattle.rob_top.proofs.StageLemmas.{same_status}
+use Rattle.rob_top.proofs.StageLemmas.{file_once, read_here, same_status}
 use Rattle.rob_top.proofs.TrueAnswerLemmas.{solve_decides}
 use Rattle.rob_top.proofs.WholeAnswerLemmas.{same_whole_status, whole_decides}
-use Rattle.rob_top.specs.Calls.{Call, Known}
+use Rattle.rob_top.specs.Calls.{Call, IsBranching, IsSolving, Known, known_call, limit_of}
 use Rattle.rob_top.specs.Endings.{IsSolveAnswer, IsWholeAnswer}
 use Rattle.rob_top.specs.Headline.{Means}
+use Rattle.rob_top.specs.Inputs.{HasModel, HasModelText}
 use Rattle.rob_top.specs.Solved.{IsEmptySet, IsSolved}
-use Rattle.rob_top.specs.Ways.{FindsStatus, branched, pieced, solved}
-use Rattle.rob_top.specs.Split.{HasStatusOverPieces}
+use Rattle.rob_top.specs.Ways.{FindsEmpty, FindsStatus, branched, in_cells, pieced, solved, while_branching, while_searching, while_solving}
+use Rattle.rob_top.specs.Split.{HasStatusOverPieces, IsSplitting}
 use Rattle.rob_top.specs.SplitEnds.{IsCellsAnswer}
 use Rattle.rob_top.specs.Work.{ended_of}
 use Rattle.rob_top.specs.declared.ended.Ended.TheVariants.{EmptySet}
+use Rattle.rob_words.proofs.Spellings.{one_line}
+use Rattle.rob_words.specs.Commands.{Line}
 use Rattle.rob_words.specs.declared.route.Route.{Route}
+use Rattle.rob_words.specs.declared.verb.Own.TheVariants as own
+use Rattle.rob_words.specs.declared.verb.Verb.TheVariants.{Worst}
 
 -- a status is answered by a certificate, by a tree, or over pieces
 status_by : (call : Call) (status : Status) (text : List ℕ) → Means call (ended_of status) text
@@ -98,3 +108,80 @@ pub one_emptiness : (a b : Call) (s : Status) (weights : List ℤ) (text other :
 one_emptiness a b s weights text other x y same =
     y.shown.empty x.c.inside
     (subst (λ (k : RobustModel). Admits k x.c.inside) same (inside_admitted x.m x.c x.c.status x.proves))
+
+-- ---- a call of `solve` or `prove` whose model's file has these bytes
+module _ (call : Call) (known : Known call.source) (line : Line) (bytes : List ℕ) (has : HasModelText (known_call call known) line bytes)
+    (solves : IsSolving line.verb) where
+  this_line : (l : Line) (m : RobustModel) → HasModel call l m → l ≡ line
+  this_line l m h = one_line call.words l line h.spelled has.spelled
+
+  -- the model that was read was read from them
+  read_from : (l : Line) (m : RobustModel) → HasModel call l m → ReadsModel (limit_of line) bytes m
+  read_from l m h =
+      let told : HasModel (known_call call known) line m =
+      read_here (known_call call known) (known_again known) line has.spelled l m (model_known call known l m h)
+      in
+      let same : told.bytes ≡ bytes =
+      file_once (known_call call known) line own.Model told.bytes bytes (known_again known) told.file has.file
+      in
+      subst (λ (b : List ℕ). ReadsModel (limit_of line) b m) same told.reads
+
+  -- no other command answers
+  no_branch : (l : Line) (m : RobustModel) → HasModel call l m → IsBranching l.verb → ⊥
+  no_branch l m h is =
+      solves_no_branch line.verb solves (subst (λ (k : Line). IsBranching k.verb) (this_line l m h) is)
+
+  no_split : (l : Line) (m : RobustModel) → HasModel call l m → IsSplitting l.verb → ⊥
+  no_split l m h is =
+      solves_no_split line.verb solves (subst (λ (k : Line). IsSplitting k.verb) (this_line l m h) is)
+
+  no_search : (l : Line) (m : RobustModel) → HasModel call l m → l.verb ≡ Worst → ⊥
+  no_search l m h is =
+      solves_no_worst line.verb (subst (λ (k : Line). k.verb ≡ Worst) (this_line l m h) is) solves
+
+  certified : (status : Status) (text : List ℕ) → Means call (ended_of status) text → IsSolved call status text
+  certified status text means = by (status_by call status text means)
+    where
+      by : FindsStatus call status text → IsSolved call status text
+      by (solved s) = s
+      by (branched s) = absurd (no_branch s.line s.m s.has.named.model s.branches)
+      by (pieced s) =
+          absurd (no_split s.line s.m s.has.has_cuts.has_word.model s.has.has_cuts.has_word.is_splitting)
+
+  shown_empty : (weights : List ℤ) (text : List ℕ) → Means call (EmptySet weights) text → IsEmptySet call weights text
+  shown_empty weights text means = by means
+    where
+      by : FindsEmpty call weights text → IsEmptySet call weights text
+      by (while_solving s) = s
+      by (while_branching s) = absurd (no_branch s.line s.m s.has.named.model s.branches)
+      by (while_searching s) =
+          let file = s.has.plan.certificate.file in
+          absurd (no_search s.line s.m file.forms.model file.is_worst)
+      by (in_cells s) =
+          absurd (no_split s.line s.m s.has.has_cuts.has_word.model s.has.has_cuts.has_word.is_splitting)
+
+-- ---- two of them, whichever their routes and widths
+module _ (a b : Call) (known : Known a.source) (again : Known b.source) (line other : Line) (bytes : List ℕ)
+    (first : HasModelText (known_call a known) line bytes) (second : HasModelText (known_call b again) other bytes)
+    (solves : IsSolving line.verb) (solves_too : IsSolving other.verb) where
+  one_read : (l k : Line) (m n : RobustModel) → HasModel a l m → HasModel b k n → m ≡ n
+  one_read l k m n h g =
+      model_alike (limit_of line) (limit_of other) bytes m n (read_from a known line bytes first solves l m h)
+      (read_from b again other bytes second solves_too k n g)
+
+  -- have one status, and of an optimum one value
+  pub same_bytes : (s t : Status) (text shown : List ℕ) → Means a (ended_of s) text → Means b (ended_of t) shown
+      → (x : IsSolved a s text) × (y : IsSolved b t shown) × (s ≡ t) × (s ≡ optimal → x.c.value ≡ y.c.value)
+  same_bytes s t text shown h k =
+      let x = certified a known line bytes first solves s text h in
+      let y = certified b again other bytes second solves_too t shown k in
+      let one = one_answer a b s t text shown x y (one_read x.line y.line x.m y.m x.forms.model y.forms.model) in
+      (x, y, one.0, one.1)
+
+  -- and not the one a status and the other an empty set
+  pub same_emptiness : (s : Status) (weights : List ℤ) (text shown : List ℕ) → Means a (ended_of s) text
+      → Means b (EmptySet weights) shown → ⊥
+  same_emptiness s weights text shown h k =
+      let x = certified a known line bytes first solves s text h in
+      let y = shown_empty b again other bytes second solves_too weights shown k in
+      one_emptiness a b s weights text shown x y (one_read x.line y.line x.m y.m x.forms.model y.forms.model)

@@ -21,7 +21,7 @@ use Rattle.rob_top.proofs.WorkedReplays.{no_order_fits, no_order_shape}
 use Rattle.rob_top.specs.Completeness.{MustEnd}
 use Rattle.rob_top.specs.Endings.{EndsAs, IsWorstAnswer}
 use Rattle.rob_top.specs.Inputs.{HasPlan, HasSought, HasWorstCertificate}
-use Rattle.rob_top.specs.Searched.{certificate_vector, claims_none}
+use Rattle.rob_top.specs.Searched.{IsWideSought, certificate_vector, claims_none}
 use Rattle.rob_top.specs.WorkedCalls.{certificate_name, greatest, model_name, no_order, order_12, worst_call}
 use Rattle.rob_top.specs.declared.ended.Ended.{Ended}
 use Rattle.rob_top.specs.declared.ended.Ended.TheVariants.{Optimal, Infeasible, Unbounded, Printed, Accepted, Rejected, Words, Missing, TooLong, Model, EmptySet, TooWide, WideNode, WideBudget, Cert, Scenarios, Whole, Sweep, Cells, NoRow, Tree, TreeRejected, ReadFault, WriteFault, Memory}
@@ -112,12 +112,13 @@ r_sought = record { plan = order_12_plan (codes "r") r_spelled; is_form = omega 
 
 -- the worst case is printed, or a number on the way is wide
 abbrev IsPrintedOrWide : Ended → Type 0
-IsPrintedOrWide result = EndsAs Printed result ⊎ ((spot : Spot) × (result ≡ TooWide spot))
+IsPrintedOrWide result =
+    EndsAs Printed result ⊎ ((spot : Spot) × IsWideSought greatest one_demand 1 (certificate_vector order_12) spot × (result ≡ TooWide spot))
 
 its_answer : (result : Ended) → IsWorstAnswer greatest one_demand 1 (certificate_vector order_12) result → IsPrintedOrWide result
 its_answer Printed h = inl (inl refl)
 its_answer (EmptySet weights) h = absurd (h (int 8 ∷ []) one_demand_admitted)
-its_answer (TooWide spot) h = inr (spot, refl)
+its_answer (TooWide spot) h = inr (spot, h, refl)
 its_answer Optimal h = inl (inr h)
 its_answer Infeasible h = inl (inr h)
 its_answer Unbounded h = inl (inr h)

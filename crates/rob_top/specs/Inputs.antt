@@ -37,6 +37,12 @@ pub record AreVariables (m : RobustModel) (names : List Word) (numbers : List â„
   pub kept : KeepsNames m numbers
 
 module _ (call : Call) where
+  -- the words are this command line, the files that it names came, and that of its model has these bytes
+  pub record HasModelText (line : Line) (bytes : List â„•) : Type 0 where
+    pub spelled : IsSpelled call.words line
+    pub came : Each (Came call) (requests line)
+    pub file : HasFile call line own.Model bytes
+
   -- the words are this command line, the files that it names came, and that of its model reads, at the line's width, as this
   -- model
   pub record HasModel (line : Line) (m : RobustModel) : Type 0 where

@@ -54,7 +54,7 @@ module _ (call : Call) where
     pub printed : text ≡ with_rounds line.way m [] (too_wide_line m spot)
 
   -- the same on the way of `solve` and `prove` by the line's route; by cutting planes the rounds before it are told
-  -- behind its spot, and their numbers fit
+  -- behind its spot, and the numbers of their cuts fit
   pub record IsTooWideOnWay (spot : Spot) (text : List ℕ) : Type 0 where
     pub line : Line
     pub m : RobustModel

@@ -52,7 +52,7 @@ module _ (call : Call) where
 
   -- the model has the status: a certificate of it was found that proves it, by the line's route, as the last basis of the model's
   -- counterpart gives it, or the end of a run of the cutting-plane method; and it, or its plan, is printed. It has its shape and its
-  -- numbers fit, so that what `prove` prints is the text of a certificate; the numbers of the rounds fit too
+  -- numbers fit, so that what `prove` prints is the text of a certificate; the numbers of the rounds' cuts fit too
   pub record IsSolved (status : Status) (text : List ℕ) : Type 0 where
     pub line : Line
     pub m : RobustModel

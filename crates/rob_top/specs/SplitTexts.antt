@@ -3,7 +3,6 @@ use Rattle.std.specs.Prelude.{◌≡◌, ◌⊎◌, ◌++◌, ℕ, List}
 use Rattle.rob_algebra.specs.Fraction.{Fraction}
 use Rattle.rob_elab.specs.Forms.{judged_forms}
 use Rattle.rob_meaning.specs.Certificates.{optimal, infeasible, unbounded}
-use Rattle.rob_meaning.specs.Places.{Each}
 use Rattle.rob_meaning.specs.RobustModel.{RobustModel}
 use Rattle.rob_model.specs.declared.place.Spot.{Spot}
 use Rattle.rob_pieces.specs.Cuts.{Cut}
@@ -11,25 +10,19 @@ use Rattle.rob_pieces.specs.SplitModel.{split_model}
 use Rattle.rob_sets.specs.FirstWide.{IsFirstWide, NothingWide}
 use Rattle.rob_sets.specs.SetForm.{judged_set}
 use Rattle.rob_split_text.specs.SplitTexts.{HasFewTokens}
-use Rattle.rob_top.specs.Calls.{Call, Came, HasFile, requests}
+use Rattle.rob_top.specs.Calls.{Call}
 use Rattle.rob_top.specs.Endings.{IsOutside}
+use Rattle.rob_top.specs.Inputs.{HasModelText}
 use Rattle.rob_top.specs.Routes.{IsWideOnWay}
 use Rattle.rob_top.specs.Split.{EachCellAdmits, HasStatusOverPieces, IsSplitText}
 use Rattle.rob_top.specs.declared.ended.Ended.{Ended}
 use Rattle.rob_top.specs.declared.ended.Ended.TheVariants.{Optimal, Infeasible, Unbounded, EmptySet, TooWide}
-use Rattle.rob_words.specs.Commands.{Line, IsSpelled}
+use Rattle.rob_words.specs.Commands.{Line}
 use Rattle.rob_words.specs.declared.route.Route.{Route}
-use Rattle.rob_words.specs.declared.verb.Own.TheVariants as own
 
 -- the model whose text was printed
 abbrev pub written_split : {printing : Call} {text : List ℕ} → IsSplitText printing text → RobustModel
 written_split split = split_model split.m split.cuts
-
--- the words are this command line, the files that it names came, and that of its model has these bytes
-pub record HasModelText (call : Call) (line : Line) (text : List ℕ) : Type 0 where
-  pub spelled : IsSpelled call.words line
-  pub came : Each (Came call) (requests line)
-  pub file : HasFile call line own.Model text
 
 -- the call takes the text that was printed: it is the text of its model, its line has the width of the line that
 -- printed it, and it has no more tokens than a text may have

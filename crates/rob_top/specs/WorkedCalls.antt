@@ -48,11 +48,15 @@ check_call c =
     call_over (codes "check" ∷ model_name ∷ certificate_name ∷ [])
     (file_of model_name (model_text one_demand) ∷ file_of certificate_name (cert_text one_demand c) ∷ [])
 
--- `worst` on the text of a certificate of that model, and a word that may name a form
-abbrev pub worst_call : Certificate → Word → Call
-worst_call c form =
+-- `worst` on the canonical text of a model, the text of a certificate of it, and a word that may name a form
+abbrev pub worst_on : RobustModel → Certificate → Word → Call
+worst_on m c form =
     call_over (codes "worst" ∷ model_name ∷ certificate_name ∷ form ∷ [])
-    (file_of model_name (model_text one_demand) ∷ file_of certificate_name (cert_text one_demand c) ∷ [])
+    (file_of model_name (model_text m) ∷ file_of certificate_name (cert_text m c) ∷ [])
+
+-- the same on the smallest model
+abbrev pub worst_call : Certificate → Word → Call
+worst_call = worst_on one_demand
 
 -- `replay` on the text of a certificate of that model and a scenario file
 abbrev pub replay_call : Certificate → List ℕ → Call
@@ -203,3 +207,7 @@ no_order = record order_12 { status = infeasible; value = 0ℚ; plan = []; cover
 -- the plan is the least number of 62 bits: 9 less is wide
 abbrev pub order_least : Certificate
 order_least = record order_12 { plan = neg_ℚ (of_int (pos greatest)) ∷ [] }
+
+-- x = 0 and the value 0, which no item shows
+abbrev pub order_0 : Certificate
+order_0 = record order_12 { value = 0ℚ; inside = 0ℚ ∷ []; plan = 0ℚ ∷ []; covers = []; items = [] }

@@ -33,11 +33,11 @@ ghost use Rattle.rob_top.specs.ComparedEnds.{IsComparedAnswer};
 ghost use Rattle.rob_top.specs.Completeness.{IsComplete, MustEnd};
 ghost use Rattle.rob_top.specs.Endings.{EndsAs, IsEmptyAnswer, IsEmptyWholeAnswer, IsOutside, IsProvedAnswer, IsShownAnswer, IsSweepAnswer, IsUnput, NamesFault, NamesWidth};
 ghost use Rattle.rob_top.specs.Headline.{Means};
-ghost use Rattle.rob_top.specs.Inputs.{HasCertificateFile, HasModel, HasReplayFile, HasWorstFile};
+ghost use Rattle.rob_top.specs.Inputs.{HasCertificateFile, HasModel, HasModelText, HasReplayFile, HasWorstFile};
 ghost use Rattle.rob_top.specs.Narrowed.{IsNarrowed};
 ghost use Rattle.rob_top.specs.Replayed.{IsReplayed};
 ghost use Rattle.rob_top.specs.Routes.{IsWideOnWay};
-ghost use Rattle.rob_top.specs.Searched.{IsSearched, ShowsKept, certificate_vector};
+ghost use Rattle.rob_top.specs.Searched.{IsSearched, IsWideSought, ShowsKept, certificate_vector};
 ghost use Rattle.rob_top.specs.Solved.{IsEmptySet as AnswersEmptySet, IsSolved};
 ghost use Rattle.rob_top.specs.Swept.{limit_value};
 ghost use Rattle.rob_top.specs.TreeChecked.{HasTreeFile, IsTreeAccepted};
@@ -45,7 +45,7 @@ ghost use Rattle.rob_top.specs.Split.{EachCellAdmits, HasStatusOverPieces, IsPie
 ghost use Rattle.rob_top.specs.SplitEnds.{IsEmptyCellsAnswer};
 ghost use Rattle.rob_top.specs.SplitTexts.{IsNarrowOnWay, IsPiecesAnswer, TakesSplit, written_split};
 ghost use Rattle.rob_top.specs.Work.{ended_of};
-ghost use Rattle.rob_top.specs.WorkedCalls.{at_13, at_9, cells_call, check_call, cuts_call, demand_within_a_budget, empty_interval, first_text, greatest, half_a_demand, hard_and_soft, impossible_demand, narrow_call, never_calm, no_demand, no_order, order_11, order_12, order_least, replay_call, solve_call, sweep_call, text_call, two_demands, two_demands_table, whole_call, worst_call};
+ghost use Rattle.rob_top.specs.WorkedCalls.{at_13, at_9, cells_call, check_call, cuts_call, demand_within_a_budget, empty_interval, first_text, greatest, half_a_demand, hard_and_soft, impossible_demand, narrow_call, never_calm, no_demand, no_order, order_0, order_11, order_12, order_least, replay_call, solve_call, sweep_call, text_call, two_demands, two_demands_table, whole_call, worst_call, worst_on};
 ghost use Rattle.rob_top.specs.WorkedCompared.{first_summary, gen_call};
 ghost use Rattle.rob_top.specs.WorkedTrees.{cheaper_orders, tree_call, whole_orders};
 ghost use Rattle.rob_top.specs.declared.ended.Ended.{Ended};
@@ -265,6 +265,17 @@ pub fn route_laws()
     // and where the one has a status, the other doesn't answer an empty set.
     ensures one_emptiness { (a b : Call) (s : Status) (weights : List ℤ) (text other : List ℕ) (x : IsSolved a s text)
         (y : AnswersEmptySet b weights other) → x.m ≡ y.m → ⊥ }
+    // So two of them whose model's files have the same bytes have one status, and of an optimum one value,
+    ensures same_bytes { (a b : Call) (known : Known a.source) (again : Known b.source) (line other : Line)
+        (bytes : List ℕ) → HasModelText (known_call a known) line bytes → HasModelText (known_call b again) other bytes
+        → IsSolving line.verb → IsSolving other.verb → (s t : Status) (text shown : List ℕ)
+        → Means a (ended_of s) text → Means b (ended_of t) shown
+        → (x : IsSolved a s text) × (y : IsSolved b t shown) × (s ≡ t) × (s ≡ optimal → x.c.value ≡ y.c.value) }
+    // and not the one a status and the other an empty set.
+    ensures same_emptiness { (a b : Call) (known : Known a.source) (again : Known b.source) (line other : Line)
+        (bytes : List ℕ) → HasModelText (known_call a known) line bytes → HasModelText (known_call b again) other bytes
+        → IsSolving line.verb → IsSolving other.verb → (s : Status) (weights : List ℤ) (text shown : List ℕ)
+        → Means a (ended_of s) text → Means b (EmptySet weights) shown → ⊥ }
 {}
 
 /// A call of `cells` and one of `solve` or `prove` on the same model, by whichever route and at whichever widths.
@@ -341,14 +352,18 @@ pub fn worked_calls()
     // Where that model admits no scenario, by weights that show it, or a wide number of the set's program.
     ensures empty_whole { (result : Ended) → MustEnd (whole_call impossible_demand (codes "x")) result
         → IsEmptyWholeAnswer greatest impossible_demand result }
-    // `worst` prints the worst case of a row, or names a wide number;
+    // `worst` prints the worst case of a row, or names a wide number on the way to it;
     ensures worst_case { (result : Ended) → MustEnd (worst_call order_12 (codes "r")) result
-        → EndsAs Printed result ⊎ ((spot : Spot) × (result ≡ TooWide spot)) }
+        → EndsAs Printed result
+        ⊎ ((spot : Spot) × IsWideSought greatest one_demand 1 (certificate_vector order_12) spot × (result ≡ TooWide spot)) }
     // it names a word that is no form's name, and of a certificate without a plan rule 34.
     ensures formless { (result : Ended) → MustEnd (worst_call order_12 (codes "q")) result
         → EndsAs NoRow result }
     ensures unplanned { (result : Ended) → MustEnd (worst_call no_order (codes "r")) result
         → EndsAs (Cert 34 1) result }
+    // On a model without a scenario it answers by weights that show it, or a wide row of the set's program.
+    ensures empty_worst { (result : Ended) → MustEnd (worst_on empty_interval order_0 (codes "objective")) result
+        → IsEmptyAnswer greatest empty_interval result }
     // `checktree` names rule 71 of a tree's file that is empty;
     ensures treeless { (result : Ended) → MustEnd (tree_call half_a_demand []) result → EndsAs (NoTree 71 1) result }
     // it accepts a tree that proves, or names a wide number;

@@ -7,6 +7,7 @@ use Rattle.rob_top.proofs.WorkedEmptyCalls.{never_calm_is_shown}
 use Rattle.rob_top.proofs.WorkedSetCalls.{hard_and_soft_is_solved}
 use Rattle.rob_top.proofs.WorkedChecks.{order_11_is_rejected, order_12_is_accepted}
 use Rattle.rob_top.proofs.WorkedEmptyWholes.{impossible_demand_is_shown}
+use Rattle.rob_top.proofs.WorkedEmptyWorsts.{empty_interval_has_no_worst_case}
 use Rattle.rob_top.proofs.WorkedNarrows.{one_demand_has_bounds}
 use Rattle.rob_top.proofs.WorkedNarrowSolves.{empty_interval_is_cut, empty_interval_is_not_wide, one_demand_has_status, one_demand_is_not_wide}
 use Rattle.rob_top.proofs.WorkedReplays.{no_demand_is_refused, no_order_is_planless, order_least_is_wide, two_demands_are_printed, two_demands_are_replayed}
@@ -51,6 +52,7 @@ returns c = record {
   worst_case = r_has_a_worst_case;
   formless = q_is_no_form;
   unplanned = no_order_has_no_plan;
+  empty_worst = empty_interval_has_no_worst_case;
   treeless = empty_tree_is_refused;
   proved_tree = whole_orders_are_accepted;
   unproved_tree = cheaper_orders_are_rejected;
