@@ -43,8 +43,10 @@ STATUSES = {0: rf"optimal {NUMBER}\n{PLAN}", 10: r"infeasible\n", 11: r"unbounde
 ACCEPTED = rf"accepted (?:optimal {NUMBER}|infeasible|unbounded)\n"
 EMPTY = rf"empty set\n(?:{NAME} {WHOLE}\n)+"
 NODE_COUNT = r"nodes [1-9]\d*\n"
+SAID = rf"(?:optimal {NUMBER}|infeasible|unbounded)"
 BRANCHES = rf"(?:where {PLAIN} [<>]= {WHOLE}\n)*"
 
+HEADING = r"gen (?:0|[1-9]\d*) periods [2-5]\n"
 LINES = r"(?:uncertain|over|set|budget|var|adaptive|minimise|maximise|row) [ -~]*\n"
 TABLE = rf"(?:\d+ outside\n|\d+ inside(?: {NAME} {NUMBER})* objective {NUMBER}(?: {NAME} {NUMBER})*\n)*"
 BOUNDS = (r"set rows \d+ greatest \d+ bound (?:\d+|wide)\nreform rows \d+ greatest \d+ bound (?:\d+|wide)\n"
@@ -86,6 +88,9 @@ ANSWERS = {
               25: rf"too wide {ROUTE}\n"},
     "celltext": {**MODEL, **CELLS, 0: rf"(?:{LINES})+"},
     "text": {**WORDS, 0: rf"(?:{LINES})+"},
+    "gen": {**WORDS, 0: rf"{HEADING}dual {SAID}\ncuts {SAID}\n",
+            25: rf"{HEADING}dual (?:{SAID}\ncuts too wide {ROUTE}\n{ROUNDS}"
+                rf"|too wide {ROUTE}\ncuts (?:{SAID}\n|too wide {ROUTE}\n{ROUNDS}))"},
 }
 NAMING = (21, 22, 29)       # there a name is printed as it was given, with line ends too
 PATTERNS = {command: {code: re.compile(text, re.DOTALL if code in NAMING else 0) for code, text in answers.items()}
@@ -96,7 +101,7 @@ PATTERNS = {command: {code: re.compile(text, re.DOTALL if code in NAMING else 0)
 # each command's own words: m, f a file or any word; n names; s a statement; l limits, b one; c cuts; t a number
 OWN = {"rows": "m", "solve": "m", "prove": "m", "check": "mf", "replay": "mff", "worst": "mff", "whole": "mn",
        "tree": "mn", "checktree": "mnf", "sweep": "msl", "sweeptext": "msb", "cells": "mc", "celltext": "mc",
-       "narrow": "m", "text": "t"}
+       "narrow": "m", "text": "t", "gen": "t"}
 KEYWORDS = set("uncertain set budget var adaptive minimise minimize maximise maximize row in at by over objective tau "
                "model sum for to".split())
 LIMITS = {"8": 255, "16": 65535, "32": 2 ** 32 - 1, "62": 2 ** 62 - 1}

@@ -3,9 +3,12 @@ agree, and a printed text is read again."""
 import re
 
 STATUSES = (0, 10, 11)
-WIDE = 25
+TOO_LONG = 22
+BROKEN = 23
 EMPTY = 24
+WIDE = 25
 SAID = {0: b"optimal", 10: b"infeasible", 11: b"unbounded"}
+TOKEN = re.compile(rb"\w+|[<>]=|[-+*/()\[\],:=]|\n")
 
 
 class Follower:
@@ -17,6 +20,7 @@ class Follower:
             "solve": self.solved, "prove": self.proved, "whole": self.branched, "tree": self.grown,
             "check": self.checked, "checktree": self.tree_checked, "sweep": self.swept, "cells": self.split,
             "narrow": self.narrowed, "replay": self.replayed, "worst": self.searched, "text": self.generated,
+            "gen": self.compared,
         }
 
     def after(self, run):
@@ -142,19 +146,27 @@ class Follower:
         for line in run.out.splitlines()[:3]:
             _, limit, answer = line.split(b" ", 2)
             text = self.again("text of a limit", run, ["sweeptext", model, statement, limit.decode(), *options])
-            solved = self.again("model of a limit", run, ["solve", "l.rob", *options], l_rob=text.out)
-            if first_line(solved) != answer:
+            solved = self.read_again("model of a limit", run, text.out, options)
+            if solved and first_line(solved) != answer:
                 self.wrong("model of a limit", solved, f"{answer!r} in the sweep, here {first_line(solved)!r}")
-            self.solved(solved)
 
     def split(self, run):
         """The report of the cells is that of the text which `celltext` prints."""
         text = self.again("text of cells", run, ["celltext", *run.words[1:]])
-        solved = self.again("model of cells", run, ["solve", "l.rob", *run.words[3:]], l_rob=text.out)
+        solved = self.read_again("model of cells", run, text.out, run.words[3:])
         report = run.out.partition(b"\n")[2] if run.code in STATUSES else run.out
-        if (solved.code, solved.out) != (run.code, report):
+        if solved and (solved.code, solved.out) != (run.code, report):
             self.wrong("model of cells", solved, f"{report!r} of the cells, here {solved.out!r}")
+
+    def read_again(self, kind, run, text, options):
+        """What `solve` answers of a printed model; None where that is too large for a model's file, which it has to say."""
+        solved = self.again(kind, run, ["solve", "l.rob", *options], l_rob=text)
+        if len(text) > 65_536 or len(TOKEN.findall(text)) > 20_000:
+            if solved.code not in (TOO_LONG, BROKEN):
+                self.wrong(kind, solved, f"{first_line(solved)!r} of a text that is too large")
+            return None
         self.solved(solved)
+        return solved
 
     def generated(self, run):
         """The model of a number has an optimum, by both routes."""
@@ -163,6 +175,17 @@ class Follower:
             if solved.code != 0:
                 self.wrong("model of a number", solved, f"exit code {solved.code}")
             self.solved(solved)
+
+    def compared(self, run):
+        """The line of each route is what `solve` says by it of the number's model."""
+        text = self.again("model of a number", run, ["text", run.words[1]])
+        told = b""
+        for way in ("dual", "cuts"):
+            solved = self.again("route of a number", run, ["solve", "l.rob", f"--route={way}", *width(run)],
+                                l_rob=text.out)
+            told += way.encode() + b" " + (solved.out if solved.code == WIDE else first_line(solved) + b"\n")
+        if run.out.partition(b"\n")[2] != told:
+            self.wrong("summary of a number", run, f"{run.out!r}, but solve says {told!r}")
 
 
 def first_line(run):

@@ -61,11 +61,11 @@ def try_line(rng, runner):
     if rng.randrange(2):
         words.insert(0, model_words(rng, MODELS[0])[0])
     elif rng.randrange(4) == 0:
-        words = ["text", changed_word(rng, str(rng.randrange(2 ** 33))), *width(rng)]
+        words = [rng.choice(("text", "gen")), changed_word(rng, str(rng.randrange(2 ** 33))), *width(rng)]
     first = runner.run("any words", words, {"m.rob": MODELS[0].text})
     if runner.run("any words", words, first.files) != first:
         runner.keep("any words", first, "two runs differ")
-    return first if words[:1] == ["text"] else None
+    return first if words[:1] in (["text"], ["gen"]) else None
 
 
 def proof(rng, runner, model):

@@ -74,7 +74,7 @@ OPEN = (b"tree unbounded\nbest 2\nbranch x 1\nopen\nleaf\ncertificate unbounded\
 TABLES = [b"\xef\xbb\xbfd1,d2\n8, 12\t\r\n10,-10/1\r\"9\",19/2\n\n\"1\"\"0\",\"11\"\n"]
 OWN_WORDS = [line.split() for line in (
     "whole m.rob a,b_2", "sweep m.rob 01 0,1/2", "sweeptext m.rob 2 3/4", "cells m.rob d=-1/2,e1=10",
-    "celltext m.rob d=10", "text 0012", "solve m.rob --bits=16", "prove m.rob --route cuts",
+    "celltext m.rob d=10", "text 0012", "gen 0007", "solve m.rob --bits=16", "prove m.rob --route cuts",
     "worst m.rob c.cert need.le", "checktree m.rob x t.tree")]
 
 PIECES = [piece.encode() for piece in (
