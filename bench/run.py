@@ -5,6 +5,7 @@ Markdown, and ends with 1 where an answer isn't the one that is kept beside the 
 
     python3 bench/run.py                                           # crates/robust/out/robust
     python3 bench/run.py --robust first=PATH --robust second=PATH       # two builds beside each other
+    python3 bench/run.py --routes --check                           # each route, and the check of its certificate
     python3 bench/run.py --runs 1 --only lot08 --only mix          # a short look
 """
 import argparse
@@ -73,14 +74,24 @@ def agrees(found, kept):
 # ---- the tools
 
 class Tool:
-    """A program, the words that it is run with, how its output is read, and which version it is."""
+    """A program, the words that it is run with, how its output is read, and which version it is; and the ending of the
+    file beside a model that has its whole output, where one has."""
 
-    def __init__(self, name, words, answer, version):
-        self.name, self.words, self.answer, self.version = name, words, answer, version
+    def __init__(self, name, words, answer, version, output=None):
+        self.name, self.words, self.answer, self.version, self.output = name, words, answer, version, output
 
     def command(self, files):
         """The words, with the files' names in the places of MODEL, CERT, LP, SMT and ANSWER"""
         return [files.get(word, word) for word in self.words]
+
+    def fault(self, text, model, kept):
+        """What is wrong with its output for a model whose answer is kept; None where nothing is"""
+        found = self.answer(text)
+        if not agrees(found, kept):
+            return f"{self.name} says {found} of {model}; kept: {kept}"
+        if self.output and text != pathlib.Path(model).with_suffix(self.output).read_text():
+            return f"{self.name} prints of {model} another text than its file {self.output} has"
+        return None
 
 
 def first_line(*words):
@@ -94,13 +105,28 @@ def build_of(path):
     return "SHA-256 " + hashlib.sha256(pathlib.Path(path).read_bytes()).hexdigest()[:12]
 
 
-def tools(robusts, check):
-    """The builds of robust, the check of the last one's certificate, and each other solver that is on the PATH"""
-    for name, path in robusts:
-        yield Tool(name, [path, "solve", "MODEL"], answer_of_robust, build_of(path))
-    if check:
-        name, path = robusts[-1]
-        yield Tool("check", [path, "check", "MODEL", "CERT"], answer_of_check, f"of the certificate that {name} proves")
+# of each route of `solve` and `prove`: how a column is called that has it, and the ending of the file of its output
+ROUTES = {"dual": ("", ".out"), "cuts": (" by cuts", ".cuts")}
+
+
+def robust_tools(options):
+    """The builds of robust, by the default route or by each, and the check of what the last one proves by these"""
+    routes = ROUTES if options.routes else ["dual"]
+    for name, path in options.robust:
+        for route in routes:
+            called, output = ROUTES[route]
+            line = [path, "solve", "MODEL", "--route", route]
+            yield Tool(name + called, line, answer_of_robust, build_of(path), output)
+    name, path = options.robust[-1]
+    for route in routes if options.check else []:
+        called, _ = ROUTES[route]
+        line = [path, "check", "MODEL", "CERT " + route]
+        yield Tool("check" + called, line, answer_of_check, f"of the certificate that {name} proves{called}")
+
+
+def tools(options):
+    """The builds of robust and each other solver that is on the PATH"""
+    yield from robust_tools(options)
     for words, answer, version in (
         (["esolver", "-L", "-O", "ANSWER", "LP"], answer_of_esolver, ["esolver", "-v"]),
         (["glpsol", "--exact", "--lp", "LP"], answer_of_glpsol, ["glpsol", "--version"]),
@@ -149,8 +175,9 @@ def measure(tool_list, files, kept, runs, limit):
                 continue
             seconds, text = processor_seconds(tool.command(files), files, limit)
             best[tool] = seconds if seconds == OVER else min(seconds, best.get(tool, seconds))
-            if seconds != OVER and not agrees(tool.answer(text), kept):
-                print(f"{tool.name} says {tool.answer(text)} of {files['MODEL']}; kept: {kept}", file=sys.stderr)
+            fault = None if seconds == OVER else tool.fault(text, files["MODEL"], kept)
+            if fault:
+                print(fault, file=sys.stderr)
                 right = False
     cells = []
     for tool in tool_list:
@@ -166,28 +193,35 @@ def shown(seconds):
 # ---- the table
 
 def models(only):
-    """The models, with the name that each has in the table"""
+    """The models, with the name that each has in the table: those whose answer by both routes is kept beside them, so
+    none that is solved in whole numbers"""
     for folder in FOLDERS:
         for path in sorted((TOP / folder).glob("*.rob")):
             name = path.stem if folder == FOLDERS[0] else f"{folder}/{path.stem}"
-            if not only or name in only:
+            if path.with_suffix(".cuts").exists() and (not only or name in only):
                 yield name, path
 
 
-def printed(robust, command, path):
-    return subprocess.run([robust, command, str(path)], capture_output=True, text=True).stdout
+def rounds_of(path):
+    """How many rounds the kept run by cuts has"""
+    return re.search(r"^rounds (\d+)$", path.with_suffix(".cuts").read_text(), re.MULTILINE)[1]
+
+
+def printed(robust, *words):
+    return subprocess.run([robust, *map(str, words)], capture_output=True, text=True).stdout
 
 
 def write_files(path, words, folder):
-    """Writes the counterpart for each reader, and the certificate. Answers the names of a run's files, and its size."""
+    """Writes the counterpart for each reader, and certificates. Answers the names of a run's files, and its size."""
     robust = words.robust[-1][1]
     rows = printed(robust, "rows", path).splitlines()
     program = counterpart.counterpart(*counterpart.read_rows(rows), words.short)
-    files = {word: folder / word.lower() for word in ("LP", "SMT", "CERT", "ANSWER", "OUTPUT", "MEMORY")}
+    files = {word: folder / word.lower() for word in ("LP", "SMT", "ANSWER", "OUTPUT", "MEMORY")}
+    files |= {"CERT " + route: folder / f"cert.{route}" for route in ROUTES}
     files["LP"].write_text("\n".join(counterpart.as_lp(program)) + "\n")
     files["SMT"].write_text("\n".join(counterpart.as_smt(program)) + "\n")
-    if words.check:
-        files["CERT"].write_text(printed(robust, "prove", path))
+    for route in ROUTES if words.check else []:
+        files["CERT " + route].write_text(printed(robust, "prove", path, "--route", route))
     files = {word: str(file) for word, file in files.items()} | {"MODEL": str(path)}
     return files, f"{len(program.rows)} x {len(program.columns())}"
 
@@ -208,6 +242,7 @@ def words_of():
     add("--runs", type=int, default=3, help="how often each is run; the least time counts")
     add("--limit", type=int, default=60, help="the processor seconds at which a run is ended")
     add("--only", action="append", metavar="MODEL", help="a name of the table; several may be given")
+    add("--routes", action="store_true", help="a column for each route, and one for the rounds by cuts")
     add("--check", action="store_true", help="a column for the check of the last build's certificate")
     add("--short", action="store_true", help="for the others, forms without parameters are plain rows")
     words = parse.parse_args()
@@ -218,7 +253,7 @@ def words_of():
 
 def main():
     words = words_of()
-    tool_list = list(tools(words.robust, words.check))
+    tool_list = list(tools(words))
     before, right, lines = load(), True, []
     with tempfile.TemporaryDirectory() as folder:
         for name, path in models(words.only):
@@ -226,12 +261,13 @@ def main():
             kept = answer_of_robust(path.with_suffix(".out").read_text())
             cells, agreed = measure(tool_list, files, kept, words.runs, words.limit)
             right = right and agreed
-            lines.append([name, str(kept), size, *cells])
+            rounds = [rounds_of(path)] if words.routes else []
+            lines.append([name, str(kept), size, *rounds, *cells])
             print(*lines[-1], sep="  ", file=sys.stderr, flush=True)
     machine = f"{processor()}, {os.cpu_count()} processors"
     print(f"{datetime.date.today()}, {machine}, load {before} at the start and {load()} at the end.")
     print(f"Processor seconds, the least of {words.runs} runs; peak megabytes.\n")
-    heads = ["model", "value", "rows x columns", *(tool.name for tool in tool_list)]
+    heads = ["model", "value", "rows x columns", *["rounds"] * words.routes, *(tool.name for tool in tool_list)]
     for line in (heads, ["---"] * len(heads), *lines):
         print("|", " | ".join(line), "|")
     print()
