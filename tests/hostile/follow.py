@@ -159,7 +159,7 @@ class Follower:
             self.wrong("model of cells", solved, f"{report!r} of the cells, here {solved.out!r}")
 
     def read_again(self, kind, run, text, options):
-        """What `solve` answers of a printed model; None where that is too large for a model's file, which it has to say."""
+        """What `solve` answers of a printed model; None where that is too large for a model's file, as it has to say."""
         solved = self.again(kind, run, ["solve", "l.rob", *options], l_rob=text)
         if len(text) > 65_536 or len(TOKEN.findall(text)) > 20_000:
             if solved.code not in (TOO_LONG, BROKEN):

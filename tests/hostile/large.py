@@ -14,6 +14,7 @@ import tempfile
 LIMIT = 2.0
 MODEL = b"uncertain d in [8, 12]\nvar x in [0, 40]\nminimise x\nrow need: x >= d\n"
 BUDGET = MODEL.replace(b"var", b"budget 1: d at 10 by 2\nvar")
+BROAD = MODEL.replace(b"var", b"".join(b"uncertain e%d in [8, 12]\n" % k for k in range(1, 64)) + b"var")
 PLAN = b"certificate optimal\nvalue 12\nscale 1\ninside d 8\nplan x 12\ncover need d.upper 1\n"
 PROOF = PLAN + b"item objective 1 1\nat d 12\nitem need 1 1\nat d 12\nend\n"
 TEXT, FILE, TREE, WORD = 65_536, 4_194_304, 8_388_608, 131_000
@@ -58,6 +59,13 @@ def tables():
     yield "spaces of a field", (b"d\n" + b" " * FILE)[:FILE], (27, b"fault: scenarios 43 line 2\n")
 
 
+def broad_tables():
+    """A scenario file of a model with 64 parameters."""
+    header = b",".join([b"d"] + [b"e%d" % k for k in range(1, 64)])
+    records = (b",".join([b"9"] * 64) + b"\n") * 10_000
+    yield "10,000 records of 64 parameters", header + b"\n" + records, (0, b"2 inside objective 12 need 3\n")
+
+
 def trees():
     """Trees of 8 megabytes; eight times as many may be read."""
     yield "items", LEAF + b"item need 1 1\n" * (TREE // 14) + b"end\n", (12, b"rejected leaf 1 inside d.lower\n")
@@ -86,6 +94,8 @@ def calls():
         yield f"certificate, {what}", ["check", "m.rob", "f"], text, wanted
     for what, text, wanted in tables():
         yield f"scenario file, {what}", ["replay", "m.rob", "m.cert", "f"], text, wanted
+    for what, text, wanted in broad_tables():
+        yield f"scenario file, {what}", ["replay", "broad.rob", "m.cert", "f"], text, wanted
     for what, text, wanted in trees():
         yield f"tree, {what}", ["checktree", "m.rob", "x", "f"], text, wanted
     for what, line, wanted in words():
@@ -106,7 +116,7 @@ def main():
     wrong = 0
     with tempfile.TemporaryDirectory() as folder:
         os.chdir(folder)
-        for name, text in (("m.rob", MODEL), ("b.rob", BUDGET), ("m.cert", PROOF)):
+        for name, text in (("m.rob", MODEL), ("b.rob", BUDGET), ("broad.rob", BROAD), ("m.cert", PROOF)):
             pathlib.Path(name).write_bytes(text)
         for what, line, text, (code, begins) in calls():
             pathlib.Path("f").write_bytes(text)
