@@ -1,0 +1,24 @@
+pub mod ListLemmas
+pub mod FormLemmas
+pub mod NestLemmas
+pub mod DecisionLemmas
+pub mod FastLemmas
+pub mod ExpansionLemmas
+pub mod PlainLemmas
+pub mod SpendingLemmas
+pub mod WorkLemmas
+pub mod JudgeLemmas
+pub mod SearchLemmas
+pub mod ReadingLemmas
+mod Worked
+pub mod Parser
+pub mod PartsRead
+pub mod ExprParser
+pub mod LineParser
+pub mod OneStatement
+pub mod LineSizes
+pub mod Settled
+pub mod Versions
+pub mod DepthLemmas
+pub mod LineTokens
+pub mod OpenLemmas

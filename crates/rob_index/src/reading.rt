@@ -1,0 +1,44 @@
+//! Which lines read as which plain statements.
+
+ghost use Rattle.std.specs.Prelude.{◌≡◌, ℕ, ◌⊎◌, Bool, List};
+ghost use Rattle.rob_index.specs.Symbols.{Symbol};
+ghost use Rattle.rob_index.specs.Statements.{Name, Statement};
+ghost use Rattle.rob_index.specs.Reading.{Version, IsOf, LineFault, State, ReadsLines, BreaksLines};
+
+/// Lines of either version read as exactly one list of plain statements, or break exactly one rule
+/// at one line, whatever the later faults of plain statements are.
+pub fn one_reading<Known, Later>()
+    ensures some { (v : Version) (limit : ℕ) (words : List Name) (order : List Later)
+        (has_later : (before now : Known) → Statement → Later → Bool) (step : Known → Statement → Known)
+        (is_declared : Known → ℕ → Bool) (has_goal : Known → Bool)
+        (e : State limit words Known Later order has_later step is_declared (IsOf v)) (lines : List (List Symbol))
+        → ((list : List Statement) × (last : State limit words Known Later order has_later step is_declared (IsOf v))
+        × ReadsLines limit words Known Later order has_later step is_declared (IsOf v) has_goal e lines list last)
+        ⊎ ((fault : LineFault Later) × (n : ℕ)
+        × BreaksLines limit words Known Later order has_later step is_declared (IsOf v) has_goal e lines fault n) }
+    ensures list { (v : Version) (limit : ℕ) (words : List Name) (order : List Later)
+        (has_later : (before now : Known) → Statement → Later → Bool) (step : Known → Statement → Known)
+        (is_declared : Known → ℕ → Bool) (has_goal : Known → Bool)
+        (e : State limit words Known Later order has_later step is_declared (IsOf v)) (lines : List (List Symbol))
+        (l : List Statement) (f : State limit words Known Later order has_later step is_declared (IsOf v))
+        (l' : List Statement) (f' : State limit words Known Later order has_later step is_declared (IsOf v))
+        → ReadsLines limit words Known Later order has_later step is_declared (IsOf v) has_goal e lines l f
+        → ReadsLines limit words Known Later order has_later step is_declared (IsOf v) has_goal e lines l' f'
+        → (l ≡ l') × (f ≡ f') }
+    ensures fault { (v : Version) (limit : ℕ) (words : List Name) (order : List Later)
+        (has_later : (before now : Known) → Statement → Later → Bool) (step : Known → Statement → Known)
+        (is_declared : Known → ℕ → Bool) (has_goal : Known → Bool)
+        (e : State limit words Known Later order has_later step is_declared (IsOf v)) (lines : List (List Symbol))
+        (g g' : LineFault Later) (n n' : ℕ)
+        → BreaksLines limit words Known Later order has_later step is_declared (IsOf v) has_goal e lines g n
+        → BreaksLines limit words Known Later order has_later step is_declared (IsOf v) has_goal e lines g' n'
+        → (g ≡ g') × (n ≡ n') }
+    ensures not_both { (v : Version) (limit : ℕ) (words : List Name) (order : List Later)
+        (has_later : (before now : Known) → Statement → Later → Bool) (step : Known → Statement → Known)
+        (is_declared : Known → ℕ → Bool) (has_goal : Known → Bool)
+        (e : State limit words Known Later order has_later step is_declared (IsOf v)) (lines : List (List Symbol))
+        (l : List Statement) (f : State limit words Known Later order has_later step is_declared (IsOf v))
+        (g : LineFault Later) (n : ℕ)
+        → ReadsLines limit words Known Later order has_later step is_declared (IsOf v) has_goal e lines l f
+        → BreaksLines limit words Known Later order has_later step is_declared (IsOf v) has_goal e lines g n → ⊥ }
+{}
