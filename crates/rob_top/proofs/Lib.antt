@@ -35,6 +35,7 @@ pub mod GeneratedWholes
 pub mod ComparedLemmas
 pub mod ComparedWorkLemmas
 pub mod ComparedAnswerLemmas
+pub mod OneSummary
 pub mod NumberingLemmas
 pub mod PathTextLemmas
 pub mod NodeLemmas

@@ -1,5 +1,5 @@
 -- Calls of `gen`: each number is answered; and what `gen 0` prints, worked by hand.
-use Rattle.std.proofs.Common.{◌≡◌, ◌≢◌, ℕ, List, [], ◌∷◌, ◌++◌, ap, ap₂, inl, inr, refl, sym, ◌∙◌, subst, arith}
+use Rattle.std.proofs.Common.{◌≡◌, ℕ, List, [], ◌∷◌, ◌++◌, ap₂, inr, refl, ◌∙◌, subst, arith}
 use Rattle.std.specs.Fmt.{digits}
 use Rattle.std.specs.Prelude.{codes}
 use Rattle.rob_algebra.specs.Fraction.{Fraction, ratio}
@@ -10,29 +10,24 @@ use Rattle.rob_meaning.proofs.WorkedTests.{found, test_certificate}
 use Rattle.rob_meaning.specs.Certificates.{Certificate, Status, optimal}
 use Rattle.rob_meaning.specs.Places.{0ℚ, 1ℚ}
 use Rattle.rob_meaning.specs.Proves.{HasStatus}
-use Rattle.rob_top.proofs.ComparedAnswerLemmas.{one_number}
+use Rattle.rob_top.proofs.OneSummary.{summary_of}
 use Rattle.rob_top.proofs.StageLemmas.{same_status}
 use Rattle.rob_top.proofs.WorkedNumbers.{number_plain}
 use Rattle.rob_top.specs.Calls.{Call}
-use Rattle.rob_top.specs.Compared.{IsCompared, heading, status_line}
+use Rattle.rob_top.specs.Compared.{AsksFor, IsCompared, heading, status_line}
 use Rattle.rob_top.specs.ComparedEnds.{IsComparedAnswer}
 use Rattle.rob_top.specs.Completeness.{MustEnd}
-use Rattle.rob_top.specs.Generated.{TellsNumber}
 use Rattle.rob_top.specs.Headline.{Means}
-use Rattle.rob_top.specs.Ways as ways
-use Rattle.rob_top.specs.Ways.{Prints}
 use Rattle.rob_top.specs.WorkedCalls.{greatest}
 use Rattle.rob_top.specs.WorkedCompared.{first_summary, gen_call}
 use Rattle.rob_top.specs.declared.ended.Ended.{Ended}
 use Rattle.rob_top.specs.declared.ended.Ended.TheVariants.{Printed}
-use Rattle.rob_words.proofs.Spellings.{one_line}
 use Rattle.rob_words.specs.Commands.{IsSpelled, Line, own}
 use Rattle.rob_words.specs.Kinds.{IsNumber, number_of}
 use Rattle.rob_words.specs.Values.{Word}
 use Rattle.rob_words.specs.declared.route.Route.{Route}
 use Rattle.rob_words.specs.declared.route.Route.TheVariants.{Cuts, Dual}
-use Rattle.rob_words.specs.declared.verb.Verb.{Verb}
-use Rattle.rob_words.specs.declared.verb.Verb.TheVariants.{CellText, Gen, Narrow, Replay, Rows, Sweep, SweepText, Text, Worst}
+use Rattle.rob_words.specs.declared.verb.Verb.TheVariants.{Gen}
 use Rattle.rob_words.specs.declared.width.Width.TheVariants.{SixtyTwo}
 
 -- ---- gen WORD
@@ -102,15 +97,6 @@ first_call = gen_call (codes "0")
 zero_spelled : IsNumber (codes "0")
 zero_spelled = record { digits = (omega arith, (omega arith, tt)); few = omega arith; fits = omega arith }
 
-first_line : (l : Line) → IsSpelled first_call.words l → l ≡ line (codes "0")
-first_line l spelled = one_line first_call.words l (line (codes "0")) spelled (line_spelled (codes "0") zero_spelled)
-
-first_number : (l : Line) (number : ℕ) → IsSpelled first_call.words l → TellsNumber l number → number ≡ 0
-first_number l number spelled told =
-    one_number (line (codes "0")) number 0
-    (subst (λ (x : Line). TellsNumber x number) (first_line l spelled) told)
-    (record { word = codes "0"; told = refl; spells = refl })
-
 status_is : (number : ℕ) → number ≡ 0 → (status : Status) (v : Fraction) → HasStatus (generated number) status v
     → (status ≡ optimal) × (v ≡ int 31)
 status_is number e status v h =
@@ -124,9 +110,8 @@ line_is : (way : Route) (status : Status) (v : Fraction) (text : List ℕ) → t
     → (status ≡ optimal) × (v ≡ int 31) → text ≡ status_line way optimal (int 31)
 line_is way status v text printed is = printed ∙ ap₂ (λ (s : Status) (x : Fraction). status_line way s x) is.0 is.1
 
-summary_printed : (text : List ℕ) → IsCompared first_call text → text ≡ first_summary
-summary_printed text h =
-    let zero_is : h.number ≡ 0 = first_number h.line h.number h.asks.spelled h.asks.told in
+summary_printed : (text : List ℕ) (h : IsCompared first_call text) → h.number ≡ 0 → text ≡ first_summary
+summary_printed text h zero_is =
     let by_dual = line_is Dual h.status h.dual.c.value h.by_dual h.dual.printed
     (status_is h.number zero_is h.status h.dual.c.value h.dual.holds)
     in
@@ -138,20 +123,14 @@ summary_printed text h =
     (ap₂ (λ (a b : List ℕ). a ++ b) by_dual by_cuts)
     ∙ summary_is
 
-pub first_is_printed : (text : List ℕ) → Means (gen_call (codes "0")) Printed text → text ≡ first_summary
-first_is_printed text means = by means
-  where
-    other : (verb : Verb) → verb ≢ Gen → (l : Line) → IsSpelled first_call.words l → l.verb ≡ verb → text ≡ first_summary
-    other verb differ l spelled is = absurd (differ (sym is ∙ ap (λ (x : Line). x.verb) (first_line l spelled)))
+first_asks : AsksFor first_call (line (codes "0")) 0
+first_asks = record {
+  spelled = line_spelled (codes "0") zero_spelled;
+  is_gen = refl;
+  told = record { word = codes "0"; told = refl; spells = refl };
+}
 
-    by : Prints first_call text → text ≡ first_summary
-    by (ways.rows h) = other Rows (λ e. cc) h.line h.forms.model.spelled h.is_rows
-    by (ways.replayed h) = other Replay (λ e. cc) h.line h.has.certificate.file.model.spelled h.has.certificate.file.is_replay
-    by (ways.generated h) = other Text (λ e. cc) h.line h.spelled h.is_text
-    by (ways.worst_found h) =
-        other Worst (λ e. cc) h.line h.has.plan.certificate.file.forms.model.spelled h.has.plan.certificate.file.is_worst
-    by (ways.swept (inl h)) = other Sweep (λ e. cc) h.line h.has.model.spelled h.has.is_sweep
-    by (ways.swept (inr h)) = other SweepText (λ e. cc) h.line h.has.model.spelled h.has.is_text
-    by (ways.narrowed h) = other Narrow (λ e. cc) h.line h.forms.model.spelled h.is_narrow
-    by (ways.split_written h) = other CellText (λ e. cc) h.line h.has.has_cuts.has_word.model.spelled h.is_text
-    by (ways.compared h) = summary_printed text h
+pub first_is_printed : (text : List ℕ) → Means (gen_call (codes "0")) Printed text → text ≡ first_summary
+first_is_printed text means =
+    let h = summary_of first_call (line (codes "0")) 0 first_asks text means in
+    summary_printed text h.0 h.1

@@ -46,7 +46,7 @@ wide_line way m spot = route_text way ++ (codes " " ++ too_wide_line m spot)
 
 module _ (limit : ℕ) (m : RobustModel) where
   -- the model has the status: a certificate of it was found by the route, which proves it, and whose numbers fit; the
-  -- route's line tells it
+  -- route's line tells it. The certificate isn't printed
   pub record TellsStatus (way : Route) (status : Status) (text : List ℕ) : Type 0 where
     pub c : Certificate
     pub status_is : c.status ≡ status

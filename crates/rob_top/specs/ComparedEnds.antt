@@ -28,7 +28,7 @@ module _ (call : Call) (result : Ended) where
     -- it is one of these
     pub answer : (line : Line) (number : ℕ) → AsksFor call line number
         → IsComparedAnswer (limit_of line) (generated number) result
-    -- no number on the way of either route is wide, so the summary is printed
+    -- no number on the way of either route is wide, so both statuses are printed
     pub narrow : (line : Line) (number : ℕ) → AsksFor call line number
         → ((way : Route) (spot : Spot) → IsWideOnWay way (limit_of line) (generated number) spot → ⊥)
         → (result ≡ Printed) ⊎ IsUnput result

@@ -1,14 +1,13 @@
 -- The text that `celltext` printed, as the model's file of a later call, and how `solve` and `prove` may end on it.
-use Rattle.std.specs.Prelude.{◌≡◌, ◌⊎◌, ◌++◌, ℕ, List}
+use Rattle.std.specs.Prelude.{◌≡◌, ◌⊎◌, ℕ, List}
 use Rattle.rob_algebra.specs.Fraction.{Fraction}
-use Rattle.rob_elab.specs.Forms.{judged_forms}
+use Rattle.rob_dualize.specs.Models.{IsWritten, judged}
 use Rattle.rob_meaning.specs.Certificates.{optimal, infeasible, unbounded}
 use Rattle.rob_meaning.specs.RobustModel.{RobustModel}
 use Rattle.rob_model.specs.declared.place.Spot.{Spot}
 use Rattle.rob_pieces.specs.Cuts.{Cut}
 use Rattle.rob_pieces.specs.SplitModel.{split_model}
-use Rattle.rob_sets.specs.FirstWide.{IsFirstWide, NothingWide}
-use Rattle.rob_sets.specs.SetForm.{judged_set}
+use Rattle.rob_sets.specs.FirstWide.{IsFirstWide}
 use Rattle.rob_split_text.specs.SplitTexts.{HasFewTokens}
 use Rattle.rob_top.specs.Calls.{Call}
 use Rattle.rob_top.specs.Endings.{IsOutside}
@@ -41,11 +40,11 @@ IsPiecesAnswer way limit m cuts Infeasible = (v : Fraction) × HasStatusOverPiec
 IsPiecesAnswer way limit m cuts Unbounded = (v : Fraction) × HasStatusOverPieces m cuts unbounded v
 IsPiecesAnswer way limit m cuts (EmptySet weights) = EachCellAdmits m cuts → ⊥
 IsPiecesAnswer way limit m cuts (TooWide spot) =
-    IsFirstWide limit (split_model m cuts) (judged_set (split_model m cuts) ++ judged_forms (split_model m cuts)) spot
+    IsFirstWide limit (split_model m cuts) (judged (split_model m cuts)) spot
     ⊎ IsWideOnWay way limit (split_model m cuts) spot
 IsPiecesAnswer way limit m cuts ended = IsOutside ended
 
 -- no number of the model's set rows and forms is wide, and none on the route's way
 pub record IsNarrowOnWay (way : Route) (limit : ℕ) (m : RobustModel) : Type 0 where
-  pub forms : NothingWide limit m (judged_set m ++ judged_forms m)
+  pub forms : IsWritten limit m
   pub none : (spot : Spot) → IsWideOnWay way limit m spot → ⊥

@@ -29,6 +29,7 @@ ghost use Rattle.rob_split_text.specs.SplitTexts.{HasFewTokens};
 ghost use Rattle.rob_top.specs.Calls.{Call, HasFile, IsSolving, Known, known_call, limit_of};
 ghost use Rattle.rob_report.specs.NarrowText.{narrow_line};
 ghost use Rattle.rob_top.specs.Checked.{IsAccepted};
+ghost use Rattle.rob_top.specs.Compared.{AsksFor};
 ghost use Rattle.rob_top.specs.ComparedEnds.{IsComparedAnswer};
 ghost use Rattle.rob_top.specs.Completeness.{IsComplete, MustEnd};
 ghost use Rattle.rob_top.specs.Endings.{EndsAs, IsEmptyAnswer, IsEmptyWholeAnswer, IsOutside, IsProvedAnswer, IsShownAnswer, IsSweepAnswer, IsUnput, NamesFault, NamesWidth};
@@ -173,16 +174,21 @@ pub fn compared_models()
     ensures admitted { (n : ℕ) → HasScenario (generated n) }
     // and no number of the set rows and forms is wide, at each width.
     ensures written { (n limit : ℕ) → 255 ≤ limit → IsWritten limit (generated n) }
-    // Each number is answered: with a status that its model has, or a wide number on the way of a route;
+    // Each number is answered: with a status that its model has, or a wide number on the way of a route, or a put or
+    // memory is refused.
     ensures answered { (word : Word) → IsNumber word → (result : Ended) → MustEnd (gen_call word) result
         → IsComparedAnswer greatest (generated (number_of word)) result }
-    // and where both routes have a status, these lines are printed for 0.
+    // Where both routes have a status, calls on one number print one text, at whichever widths;
+    ensures one_summary { (a b : Call) (l k : Line) (n : ℕ) (text other : List ℕ) → AsksFor a l n → AsksFor b k n
+        → Means a Printed text → Means b Printed other → text ≡ other }
+    // for 0 it is these lines.
     ensures first { (text : List ℕ) → Means (gen_call (codes "0")) Printed text → text ≡ first_summary }
 {}
 
 /// The text that `celltext` printed, as the model's file of a later call at the same width, where it has no more tokens
-/// than a text may have, 20,000 with its line ends. The split model's names, counts and size ask nothing more: where
-/// one of these is over its limit `celltext` names rule 53 or 54, and prints no text.
+/// than a text may have, 20,000 with its line ends, and no more bytes than a model's file, 65,536. The split model's
+/// names, counts and size ask nothing more: where one of these is over its limit `celltext` names rule 53 or 54, and
+/// prints no text.
 pub fn celltext_then_solve()
     // It is read as the split model where it has no more tokens than that, and only there;
     ensures read { (printing : Call) (text : List ℕ) (split : IsSplitText printing text)
@@ -232,8 +238,8 @@ pub fn celltext_then_solve()
         → IsProvedAnswer (limit_of other) (written_split split) solved.c ended }
 {}
 
-/// The text that `celltext` prints of the smallest model cut at 9, worked by hand. So what `celltext_then_solve` asks
-/// of two calls is met by some.
+/// The text that `celltext` prints of the smallest model cut at 9, worked by hand. So that a call takes such a text,
+/// which `celltext_then_solve` asks, is met by some.
 pub fn worked_split_text()
     // A call of `solve` takes it.
     ensures taken { (split : IsSplitText (cells_call (codes "celltext") (codes "d=9") one_demand)

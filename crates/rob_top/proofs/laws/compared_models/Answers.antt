@@ -1,5 +1,6 @@
 use Rattle.rob_gen.proofs.GeneratedLemmas.{admitted}
 use Rattle.rob_top.proofs.GeneratedWholes.{generated_written}
+use Rattle.rob_top.proofs.OneSummary.{one_summary}
 use Rattle.rob_top.proofs.WorkedCompared.{first_is_printed, number_is_compared}
 use Rattle.rob_top.proofs.laws.compared_models.Goals as goal
 
@@ -8,5 +9,6 @@ returns c = record {
   admitted = admitted;
   written = λ n limit enough. generated_written limit enough n;
   answered = number_is_compared;
+  one_summary = one_summary;
   first = first_is_printed;
 }
