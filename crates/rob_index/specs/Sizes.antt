@@ -1,4 +1,5 @@
--- How much the plain statements of a text have, and the limits that are the same for both versions.
+-- How much the plain statements of a text have, and the limits that are the same for both versions. They are wider than
+-- those of `rob_model`, by which texts are read.
 use Rattle.std.specs.Prelude.{ℕ, ◌+◌, ◌*◌, nat_le, ◌&&◌, Bool, length, Option}
 use Rattle.rob_index.specs.Statements.{Bounds, Rel, Statement, uncertain, over, set, budget, variable, adaptive, goal, row}
 use Rattle.rob_index.specs.Statements as stated
@@ -52,8 +53,38 @@ joint_parameters z = z.parameters * (z.sets + 1)
 abbrev pub size : Sizes → ℕ
 size z = z.forms * (((z.set_rows + z.parameter_bounds * (z.sets + 1)) + 2 * (joint_parameters z + z.members)) + 1)
 
--- the limits of both versions
+-- ---- the limits, which are the same for both versions
+-- the joint parameters that a model may have
+abbrev pub most_joint_parameters : ℕ
+most_joint_parameters = 96
+
+-- the named sets that a model may have
+abbrev pub most_sets : ℕ
+most_sets = 8
+
+-- the decision columns that a model may have
+abbrev pub most_columns : ℕ
+most_columns = 600
+
+-- the row statements that a model may have
+abbrev pub most_row_statements : ℕ
+most_row_statements = 300
+
+-- the set statements and budgets that a model may have together
+abbrev pub most_set_lines : ℕ
+most_set_lines = 64
+
+-- the members that all budgets may have together
+abbrev pub most_members : ℕ
+most_members = 64
+
+-- the size that a model may have
+abbrev pub most_size : ℕ
+most_size = 12000
+
+-- none of these is passed
 abbrev pub is_within : Sizes → Bool
 is_within z =
-    nat_le (joint_parameters z) 96 && (nat_le z.sets 8 && (nat_le z.columns 600 && (nat_le z.rows 300
-    && (nat_le z.set_lines 64 && (nat_le z.members 64 && nat_le (size z) 12000)))))
+    nat_le (joint_parameters z) most_joint_parameters && (nat_le z.sets most_sets && (nat_le z.columns most_columns
+    && (nat_le z.rows most_row_statements && (nat_le z.set_lines most_set_lines
+    && (nat_le z.members most_members && nat_le (size z) most_size)))))
