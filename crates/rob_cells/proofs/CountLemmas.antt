@@ -14,10 +14,10 @@ columns_many column [] = omega arith
 columns_many column (y ∷ ys) = omega (arith, columns_many (suc column + length y.on) ys)
 
 module _ {N : Type 0} (value : N → Fraction) (m : Model N) (valid : IsValid value m) where
-  pub few_params : length m.params ≤ 64
+  pub few_params : length m.params ≤ 96
   few_params = omega (arith, valid.limits.parameters, length-map m.params (parameter_of value))
 
-  few_both : length m.vars + length m.adaptives ≤ 400
+  few_both : length m.vars + length m.adaptives ≤ 600
   few_both =
       omega (
         arith,
@@ -26,16 +26,16 @@ module _ {N : Type 0} (value : N → Fraction) (m : Model N) (valid : IsValid va
         length-map m.adaptives (adaptive_of value),
       )
     where
-      many : length (map (variable_of value) m.vars) + length (map (adaptive_of value) m.adaptives) ≤ 400
+      many : length (map (variable_of value) m.vars) + length (map (adaptive_of value) m.adaptives) ≤ 600
       many = omega (arith, valid.limits.columns, columns_many (length (map (variable_of value) m.vars)) (map (adaptive_of value) m.adaptives))
 
-  pub few_vars : length m.vars ≤ 400
+  pub few_vars : length m.vars ≤ 600
   few_vars = omega (arith, few_both)
 
-  pub few_adaptives : length m.adaptives ≤ 400
+  pub few_adaptives : length m.adaptives ≤ 600
   few_adaptives = omega (arith, few_both)
 
-  pub few_rows : length m.rows ≤ 200
+  pub few_rows : length m.rows ≤ 300
   few_rows = omega (arith, valid.limits.rows, length-map m.rows (row_of value))
 
   pub few_lines : length m.set_lines ≤ 64
@@ -46,7 +46,7 @@ pub less_of : (part whole rest of : ℕ) → part ≡ of → whole ≡ rest + of
 less_of part whole rest of p w = omega (arith, p, w)
 
 -- the number of a copy is small
-pub small_product : (a b : ℕ) → a ≤ 7 → b ≤ 400 → a * b ≤ 2800
+pub small_product : (a b : ℕ) → a ≤ 7 → b ≤ 600 → a * b ≤ 4200
 small_product a b h k =
     let one : a * b ≤ 7 * b = mul-le-mul_right b h in
     omega (arith, one, k)

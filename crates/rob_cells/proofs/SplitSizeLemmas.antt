@@ -146,20 +146,20 @@ few_times n a b h k =
     omega (arith, one, k)
 
 pub counts_few : (cells sides parameters variables columns pb vb ab members forms set_rows rows lines : ℕ) → (m : RobustModel) (cuts : List Cut)
-    → cells ≤ 8 → sides ≤ 3 → parameters ≤ 64 → variables ≤ 400 → columns ≤ 400 → pb ≤ 128 → vb ≤ 800 → ab ≤ 800 → members ≤ 64
-    → forms ≤ 5000 → set_rows ≤ 5000 → rows ≤ 200 → lines ≤ 64
+    → cells ≤ 8 → sides ≤ 3 → parameters ≤ 96 → variables ≤ 600 → columns ≤ 600 → pb ≤ 192 → vb ≤ 1200 → ab ≤ 1200 → members ≤ 64
+    → forms ≤ 5000 → set_rows ≤ 5000 → rows ≤ 300 → lines ≤ 64
     → AreSmall (counted m cuts cells sides parameters variables columns pb vb ab members forms set_rows rows lines)
 counts_few cells sides parameters variables columns pb vb ab members forms set_rows rows lines m cuts c sd p v k b vbs abs mem f r rs ls = record {
-  parameters = omega (arith, few_times (cells + 1) parameters 64 (omega (arith, c)) p);
-  columns = omega (arith, v, few_times cells (columns - variables) 400 (omega (arith, c)) (omega (arith, k)));
-  rows = omega (arith, few_times cells (1 + rows + ab) 1001 (omega (arith, c)) (omega (arith, rs, abs)));
+  parameters = omega (arith, few_times (cells + 1) parameters 96 (omega (arith, c)) p);
+  columns = omega (arith, v, few_times cells (columns - variables) 600 (omega (arith, c)) (omega (arith, k)));
+  rows = omega (arith, few_times cells (1 + rows + ab) 1501 (omega (arith, c)) (omega (arith, rs, abs)));
   set_lines = omega (arith, few_times cells (lines + sides) 67 (omega (arith, c)) (omega (arith, ls, sd)));
   members = omega (arith, few_times cells members 64 (omega (arith, c)) mem);
   forms = omega (arith, vbs, few_times cells (forms - vb) 5000 (omega (arith, c)) (omega (arith, f)));
   set_rows =
       omega (
         arith,
-        few_times (cells + 1) pb 128 (omega (arith, c)) b,
+        few_times (cells + 1) pb 192 (omega (arith, c)) b,
         few_times cells (set_rows - pb + sides) 5003 (omega (arith, c)) (omega (arith, r, sd)),
       );
 }

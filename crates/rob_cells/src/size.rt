@@ -18,13 +18,13 @@ use rob_model::{Adaptive, Model, SetLine, Var, column_count, form_count, set_row
 use rob_number::Exact;
 
 /// The joint parameters that a model may have.
-const MOST_PARAMETERS: u64 = 64;
+const MOST_PARAMETERS: u64 = 96;
 
 /// The decision columns that a model may have.
-const MOST_COLUMNS: u64 = 400;
+const MOST_COLUMNS: u64 = 600;
 
 /// The row statements that a model may have.
-const MOST_ROWS: u64 = 200;
+const MOST_ROWS: u64 = 300;
 
 /// The set statements and budgets that a model may have together.
 const MOST_SET_LINES: u64 = 64;
@@ -34,7 +34,7 @@ const MOST_MEMBERS: u64 = 64;
 
 /// The size that a model may have: its forms times one more than its set rows, joint parameters and members, the last
 /// two counted twice.
-const GREATEST_SIZE: u64 = 10_000;
+const GREATEST_SIZE: u64 = 12_000;
 
 /// What is counted of a model.
 #[derive(Clone, Copy)]
@@ -110,9 +110,9 @@ fn split_counts<N: Exact>(model: &Model<N>, cuts: &[Cut<N>]) -> Counts
 
 /// The declared bounds of the variables.
 fn variable_bounds<N: Exact>(vars: &[Var<N>]) -> u64
-    requires few { length vars.now ≤ 400 }
+    requires few { length vars.now ≤ 600 }
     ensures count { result ≡ count_of_variable_bounds (map (variable_of N.value) vars.now) }
-    ensures few { result ≤ 800 }
+    ensures few { result ≤ 1200 }
 {
     let mut count = 0;
     for var in vars {
@@ -123,9 +123,9 @@ fn variable_bounds<N: Exact>(vars: &[Var<N>]) -> u64
 
 /// The declared bounds of the adaptive variables.
 fn adaptive_bounds<N: Exact>(adaptives: &[Adaptive<N>]) -> u64
-    requires few { length adaptives.now ≤ 400 }
+    requires few { length adaptives.now ≤ 600 }
     ensures count { result ≡ count_of_adaptive_bounds (map (adaptive_of N.value) adaptives.now) }
-    ensures few { result ≤ 800 }
+    ensures few { result ≤ 1200 }
 {
     let mut count = 0;
     for adaptive in adaptives {

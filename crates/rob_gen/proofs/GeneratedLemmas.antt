@@ -52,10 +52,10 @@ test_limits m =
       size = h.1.1.1;
     })
     (both
-    (both (test_at_most (length m.parameters) 64) (both (test_at_most (length m.sets) 8)
-    (test_at_most (column_count m) 400)))
-    (both (both (test_at_most (length m.rows) 200) (test_at_most (length m.set_lines) 64))
-    (both (test_at_most (lift_count m.set_lines) 64) (test_at_most (model_size m) 10000))))
+    (both (test_at_most (length m.parameters) 96) (both (test_at_most (length m.sets) 8)
+    (test_at_most (column_count m) 600)))
+    (both (both (test_at_most (length m.rows) 300) (test_at_most (length m.set_lines) 64))
+    (both (test_at_most (lift_count m.set_lines) 64) (test_at_most (model_size m) 12000))))
 
 four_limited : (centres : ℕ → ℕ) (r : ℕ) → r < 4 → IsWithinLimits (model_over (r + 2) centres)
 unfolding ratio digits

@@ -81,7 +81,7 @@ module _ {N : Type 0} (value : N → Fraction) where
         → vars ≡ column_from (length (robust value m).variables) (robust value m).adaptives 0
     column_begins vars h = h ∙ sym (length-map m.vars (variable_of value)) ∙ sym (column_zero (length (robust value m).variables) (robust value m).adaptives)
 
-    -- the step of a count over the first few adaptive variables: the next column, which is one of the first 400
+    -- the step of a count over the first few adaptive variables: the next column, which is one of the first 600
     pub column_steps : (few : column_count (robust value m) ≤ most_columns) (n i column : ℕ) (zs : List (Adaptive N)) (y : Adaptive N) (on : List ℕ)
         → zs ≡ m.adaptives → i < length (take n zs) → y ≡ get_or (take n zs) i y → on ≡ y.on
         → column ≡ column_from (length (robust value m).variables) (robust value m).adaptives i

@@ -6,7 +6,7 @@ use Rattle.rob_meaning.specs.SetRows.{lift_count, set_rows}
 
 -- the parameters that a model may have
 abbrev pub most_parameters : ℕ
-most_parameters = 64
+most_parameters = 96
 
 -- the named sets that a model may have
 abbrev pub most_sets : ℕ
@@ -14,11 +14,11 @@ most_sets = 8
 
 -- the decision columns that a model may have
 abbrev pub most_columns : ℕ
-most_columns = 400
+most_columns = 600
 
 -- the row statements that a model may have
 abbrev pub most_rows : ℕ
-most_rows = 200
+most_rows = 300
 
 -- the set statements and budgets that a model may have together
 abbrev pub most_set_lines : ℕ
@@ -30,7 +30,7 @@ most_members = 64
 
 -- the size that a model may have
 abbrev pub most_size : ℕ
-most_size = 10000
+most_size = 12000
 
 -- the size of a model: its forms times the sum of its set rows, twice its joint parameters and members, and one, which is how
 -- many rows and multipliers its robust counterpart has together

@@ -111,7 +111,7 @@ few_from column [] = omega arith
 few_from column (y ∷ ys) = omega (arith, few_from (suc column + length y.on) ys)
 
 pub few_policies : {N : Type 0} (value : N → Fraction) (vars : ℕ) (ys : List (Adaptive N))
-    → column_from vars (map (adaptive_of value) ys) (length (map (adaptive_of value) ys)) ≤ 400 → (k : ℕ) → k < length ys → k < 2 ^ 32
+    → column_from vars (map (adaptive_of value) ys) (length (map (adaptive_of value) ys)) ≤ 600 → (k : ℕ) → k < length ys → k < 2 ^ 32
 few_policies value vars ys few k h =
     let n = few_from vars (map (adaptive_of value) ys) in
     let l = length-map ys (adaptive_of value) in

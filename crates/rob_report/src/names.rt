@@ -75,7 +75,7 @@ pub fn put_statement<N: Exact>(model: &Model<N>, index: u32, out: &mut Text) -> 
 fn condition_count<N: Exact>(model: &Model<N>) -> u32
     requires valid { IsValid N.value model.now }
     ensures count { result ≡ length (set_condition_names (robust N.value model.now)) }
-    ensures small { result ≤ 192 }
+    ensures small { result ≤ 256 }
 {
     bound_count(model.params.items()) + model.set_lines.items().len() as u32
 }

@@ -70,7 +70,7 @@ module _ {N : Type 0} (value : N → Fraction) where
       → y ≡ get_or ys k y → on ≡ y.on → on ≡ list_of (robust value m) k
   list_is m k y ys on same h is on_is = on_is ∙ list_at m.adaptives k y h (is ∙ ap (λ (zs : List (Adaptive N)). get_or zs k y) same)
 
-  -- its columns are among the first 400, and so is the variable's
+  -- its columns are among the first 600, and so is the variable's
   pub rule_few : (m : Model N) (k : ℕ) → k < length m.adaptives → column_count (robust value m) ≤ most_columns
       → column_of (robust value m) k + 1 + length (list_of (robust value m) k) ≤ most_columns
   rule_few m k h few = by (get_back m.adaptives k h)

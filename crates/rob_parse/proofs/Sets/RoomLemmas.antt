@@ -27,8 +27,8 @@ number_below p v ys (Some RowName) h = omega arith
 number_below p v ys (Some (sort.Set S)) h = omega arith
 number_below p v ys None h = omega arith
 
-room_small : (S p k : ℕ) → S ≤ 8 → p ≤ 64 → k ≤ p → S * p + k < 2 ^ 32
-room_small S p k some few small = let h : S * p ≤ 8 * 64 = mul-le-mul some few in omega (arith, h)
+room_small : (S p k : ℕ) → S ≤ 8 → p ≤ 96 → k ≤ p → S * p + k < 2 ^ 32
+room_small S p k some few small = let h : S * p ≤ 8 * 96 = mul-le-mul some few in omega (arith, h)
 
 pub has_room : (limit : ℕ) (text : List ℕ) (words : List (List ℕ)) (list : List Statement) (scope : Scope) → Reads limit text words list (earlier_of scope) → HasRoomForAll scope
 has_room limit text words list scope read =

@@ -9,13 +9,13 @@ overflow_cast-result g c =
 
 pub overflow_mul-result : goal.overflow_mul-result
 overflow_mul-result g c =
-    let few : length c.items.result.now ≤ 400
+    let few : length c.items.result.now ≤ 600
     = omega (arith, few_adaptives g.N.Exact.value c.args.model.now c.requires.valid, ap length c.items.ensures.list) in
     omega (arith, small_product (c.args.c - 1) (length c.items.result.now) (omega (arith, c.requires.few)) few)
 
 pub overflow_add-result : goal.overflow_add-result
 overflow_add-result g c =
-    let few : length c.items.result.now ≤ 400
+    let few : length c.items.result.now ≤ 600
     = omega (arith, few_adaptives g.N.Exact.value c.args.model.now c.requires.valid, ap length c.items.ensures.list) in
     omega (
       arith,

@@ -49,19 +49,19 @@ overflow_sub-set_rows g c =
 
 pub overflow_mul-result : goal.overflow_mul-result
 overflow_mul-result g c =
-    let few : length c.items.result.now ≤ 64
+    let few : length c.items.result.now ≤ 96
     = omega (arith, few_params g.N.Exact.value c.args.model.now c.requires.valid, ap length c.items.ensures.list) in
-    omega (arith, few_times (c.cell_count-cells.result + 1) (length c.items.result.now) 64 (omega (arith, c.cell_count-cells.ensures.few)) few)
+    omega (arith, few_times (c.cell_count-cells.result + 1) (length c.items.result.now) 96 (omega (arith, c.cell_count-cells.ensures.few)) few)
 
 pub overflow_mul-result-3 : goal.overflow_mul-result-3
 overflow_mul-result-3 g c =
-    let few : length c.items-7.result.now ≤ 200
+    let few : length c.items-7.result.now ≤ 300
     = omega (arith, few_rows g.N.Exact.value c.args.model.now c.requires.valid, ap length c.items-7.ensures.list) in
-    let each : 1 + length c.items-7.result.now + c.adaptive_bounds-adaptive_bounds.result ≤ 1001
+    let each : 1 + length c.items-7.result.now + c.adaptive_bounds-adaptive_bounds.result ≤ 1501
     = omega (arith, few, c.adaptive_bounds-adaptive_bounds.ensures.few) in
     omega (
       arith,
-      few_times c.cell_count-cells.result (1 + length c.items-7.result.now + c.adaptive_bounds-adaptive_bounds.result) 1001
+      few_times c.cell_count-cells.result (1 + length c.items-7.result.now + c.adaptive_bounds-adaptive_bounds.result) 1501
           (omega (arith, c.cell_count-cells.ensures.few)) each,
     )
 
@@ -95,7 +95,7 @@ overflow_add-result-11 g c =
     = kind_few (robust g.N.Exact.value c.args.model.now) c.requires.valid.limits SetRow in
     let each : c.set_row_count.result - c.bound_count-parameter_bounds.result + length c.args.cuts.now ≤ 5003
     = omega (arith, few, c.requires.three, c.set_row_count.ensures.count) in
-    let bounds : c.bound_count-parameter_bounds.result ≤ 128
+    let bounds : c.bound_count-parameter_bounds.result ≤ 192
     = omega (
       arith,
       c.bound_count-parameter_bounds.ensures.small,
@@ -104,7 +104,7 @@ overflow_add-result-11 g c =
     ) in
     omega (
       arith,
-      few_times (c.cell_count-cells.result + 1) c.bound_count-parameter_bounds.result 128 (omega (arith, c.cell_count-cells.ensures.few)) bounds,
+      few_times (c.cell_count-cells.result + 1) c.bound_count-parameter_bounds.result 192 (omega (arith, c.cell_count-cells.ensures.few)) bounds,
       few_times c.cell_count-cells.result
           (c.set_row_count.result - c.bound_count-parameter_bounds.result + length c.args.cuts.now) 5003
           (omega (arith, c.cell_count-cells.ensures.few)) each,
@@ -123,7 +123,7 @@ returns-clause-small g c =
     c.cell_count-cells.ensures.few c.requires.three
     (omega (arith, few_params value model valid, ap length c.items.ensures.list))
     (omega (arith, few_vars value model valid, ap length c.items-2.ensures.list))
-    (let few = valid.limits.columns in let e = c.column_count.ensures.count ∙ length-column_names m in subst (λ n. n ≤ 400) (sym e) few)
+    (let few = valid.limits.columns in let e = c.column_count.ensures.count ∙ length-column_names m in subst (λ n. n ≤ 600) (sym e) few)
     (omega (arith, c.bound_count-parameter_bounds.ensures.small, few_params value model valid, ap length c.items-3.ensures.list))
     c.variable_bounds-variable_bounds.ensures.few c.adaptive_bounds-adaptive_bounds.ensures.few
     (let few = valid.limits.members in
