@@ -9,5 +9,3 @@ pub mod Orders
 pub mod Pivots
 pub mod SizeLemmas
 pub mod FirstDifferences
-pub mod UpdateLemmas
-pub mod ClearingLemmas

@@ -29,11 +29,11 @@ pub fn combine_rows(
     ensures wide { OnErr result (HasWidePart limit (combination p top.now q low.now)) }
 {
     let factors = lowest(p, q);
-    write_lowest(out, factors, top, low, limit)
+    combine_lowest(out, factors, top, low, limit)
 }
 
-// The same, of factors in lowest terms: a copy of `top` where that is all, in 64 bits where the entries fit, else in 128.
-fn write_lowest(
+/// The same, of any factors of 62 bits: a copy of `top` where that is all, in 64 bits where the entries fit, else in 128.
+pub fn combine_lowest(
     out: &mut [i64],
     factors: Factors,
     top: &[i64],

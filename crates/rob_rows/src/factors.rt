@@ -1,6 +1,7 @@
 // The two factors of a combination, over their greatest common divisor.
 
 ghost use Rattle.std.specs.Prelude.{◌≡◌, ℕ, ◌^◌, ◌<◌, ◌≤◌, ◌*ℤ◌, pos, nat_abs};
+ghost use Rattle.rob_algebra.specs.Gcd.{gcd};
 ghost use Rattle.rob_rows.specs.Factors.{IsMultiple};
 
 use crate::divisor::common_divisor_64;
@@ -19,6 +20,7 @@ pub fn lowest(p: i64, q: i64) -> Factors
     ensures multiple { IsMultiple p q result }
     ensures p_size { nat_abs result.p < 2 ^ 62 }
     ensures q_size { nat_abs result.q < 2 ^ 62 }
+    ensures lowest { gcd (nat_abs result.p) (nat_abs result.q) ≤ 1 }
 {
     let common = common_divisor_64(p.unsigned_abs(), q.unsigned_abs());
     if common <= 1 {

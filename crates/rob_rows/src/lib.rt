@@ -2,7 +2,6 @@
 //! divisors, and linear programs as data.
 #![tactic(auto)]
 
-mod clearing;
 mod combination;
 mod divisor;
 mod factors;
@@ -14,12 +13,15 @@ mod pivot_row;
 mod program;
 mod reduction;
 mod sizes;
-mod updates;
+mod source;
 
-pub use clearing::PivotRow;
+pub use combination::combine_lowest;
+pub use factors::{Factors, lowest};
 pub use laws::{lexicographic_law, primitive_part_laws, program_law};
+pub use narrow::bound_of;
 pub use order::lex_cmp;
 pub use pivot_row::combine;
 pub use program::Lp;
-pub use reduction::{reduce, to_lowest_terms};
+pub use reduction::to_lowest_terms;
 pub use sizes::largest;
+pub use source::Rows;

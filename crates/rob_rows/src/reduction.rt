@@ -23,10 +23,7 @@ pub fn reduce(row: &mut [i64], limit: u64) -> Result<(), Wide>
             Err(Wide)
         };
     }
-    for entry in row.iter_mut() {
-        *entry = quotient_within(*entry as i128, common, limit)?;
-    }
-    Ok(())
+    divide(row, common, limit)
 }
 
 /// The same of a row within the limit, whose primitive part is so too.
@@ -36,10 +33,29 @@ pub fn to_lowest_terms(row: &mut [i64], limit: u64)
     ensures part { IsPrimitivePart row.new row.old }
     ensures within { IsWithin limit row.new }
 {
-    match reduce(row, limit) {
+    let common = content_of(row);
+    if common.value() <= 1 {
+        return;
+    }
+    match divide(row, common, limit) {
         Ok(()) => {}
         Err(_) => unreachable!(),
     }
+}
+
+// Divides the row by what divides all its entries.
+fn divide(row: &mut [i64], common: Divisor, limit: u64) -> Result<(), Wide>
+    requires limit { limit < 2 ^ 62 }
+    requires content { common.value ≡ content row.old }
+    requires positive { 0 < common.value }
+    ensures part { OnOk result (IsPrimitivePart row.new row.old) }
+    ensures within { OnOk result (IsWithin limit row.new) }
+    ensures wide { OnErr result (HasWidePart limit row.old) }
+{
+    for entry in row.iter_mut() {
+        *entry = quotient_within(*entry as i128, common, limit)?;
+    }
+    Ok(())
 }
 
 // The greatest common divisor of the entries. Nothing but 1 divides 1, so the search ends there.

@@ -1,0 +1,10 @@
+pub mod Schoolbook
+pub mod Signs
+pub mod Searches
+pub mod Words
+pub mod LowestFactors
+pub mod StartedContents
+pub mod DivisorLaw
+pub mod Entries
+pub mod NarrowEntries
+pub mod Quotients

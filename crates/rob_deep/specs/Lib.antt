@@ -1,0 +1,3 @@
+pub mod Bigs
+pub mod Factors
+pub mod Rows

@@ -1,0 +1,10 @@
+pub mod MappedRows
+pub mod ShortRows
+pub mod LongRows
+pub mod Listing
+pub mod SubtractedRows
+pub mod Choices
+pub mod Zeros
+pub mod ClearingLemmas
+pub mod WrittenRows
+pub mod ClearedCells

@@ -1,0 +1,71 @@
+use Rattle.std.proofs.Common.{◌≡◌, ℕ, ◌+◌, ◌≤◌, ◌<◌, inl, inr, arith, subst, length, map, nat_abs}
+use Rattle.std.proofs.lemmas.Result.{on_err_weaker}
+use Rattle.rob_linear.specs.Vectors.{at}
+use Rattle.rob_linear.specs.Multiples.{IsClearedBy}
+use Rattle.rob_entries.specs.Updates.{IsBounded}
+use Rattle.rob_entries.proofs.ClearingLemmas.{if_ok_more}
+use Rattle.rob_entries.proofs.WrittenRows.{part, stored, row_within, stored_other, stored_same}
+use Rattle.rob_entries.proofs.ClearedCells.{own_here, wide_here, cleared_here, bounded_here}
+use Rattle.rob_entries.proofs.cells.Cells.clear.Goals as goal
+
+pub clear-requires-clause-row_in : goal.clear-requires-clause-row_in
+clear-requires-clause-row_in g c =
+    let e : c.width-width.result ≡ length c.args.row.now.entries = c.width-width.ensures.width in
+    let inside : c.args.start + c.width-width.result ≤ length c.args.self.now = (let h = c.requires.inside in omega arith) in
+    record {
+      within = row_within g.E.Entry.value c.args.self.now c.self.inside.items.items c.as_mut_slice.result.now c.self.inside.items.len c.self.view_is c.as_mut_slice.ensures.value c.self.inside.items.ok.0 c.args.start c.width-width.result inside c.args.bound (λ k l. c.requires.bounded k (subst (λ n. k < n) e l));
+      low = c.requires.bounds.0;
+    }
+
+pub clear-requires-clause-own : goal.clear-requires-clause-own
+clear-requires-clause-own g c =
+    let e : c.width-width.result ≡ length c.args.row.now.entries = c.width-width.ensures.width in
+    let inside : c.args.start + c.width-width.result ≤ length c.args.self.now = (let h = c.requires.inside in omega arith) in
+    own_here g.E.Entry.value c.args.self.now c.self.inside.items.items c.as_mut_slice.result.now c.self.inside.items.len c.self.view_is c.as_mut_slice.ensures.value c.self.inside.items.ok.0 c.args.start c.width-width.result inside
+    (length c.args.row.now.entries) e c.args.place (at c.args.row.now.entries) c.requires.place_in c.requires.own
+
+pub returns-clause-cleared : goal.returns-clause-cleared
+returns-clause-cleared g c =
+    let e : c.width-width.result ≡ length c.args.row.now.entries = c.width-width.ensures.width in
+    let inside : c.args.start + c.width-width.result ≤ length c.args.self.now = (let h = c.requires.inside in omega arith) in
+    if_ok_more c.clear.result
+    (λ x. IsClearedBy (length (part c.as_mut_slice.result.now c.args.start c.width-width.result)) c.args.place (at (map g.E.Entry.value (part c.as_mut_slice.result.now c.args.start c.width-width.result))) (at c.args.row.now.entries) (at (map g.E.Entry.value c.clear.new.row)))
+    (λ x. IsClearedBy (length c.args.row.now.entries) c.args.place (λ k. at c.args.self.now (c.args.start + k)) (at c.args.row.now.entries)
+    (λ k. at (map g.E.Entry.value (stored g.E.Entry.value c.args.self.now c.self.inside.items.items c.as_mut_slice.result.now c.self.inside.items.len c.self.view_is c.as_mut_slice.ensures.value c.self.inside.items.ok.0 c.args.start c.width-width.result inside c.clear.new.row c.clear.auto.row)) (c.args.start + k)))
+    (λ x. cleared_here g.E.Entry.value c.args.self.now c.self.inside.items.items c.as_mut_slice.result.now c.self.inside.items.len c.self.view_is c.as_mut_slice.ensures.value c.self.inside.items.ok.0 c.args.start c.width-width.result inside
+    (length c.args.row.now.entries) e c.args.place (at c.args.row.now.entries) c.requires.place_in c.clear.new.row c.clear.auto.row)
+    c.clear.ensures.cleared
+
+pub returns-clause-bounded : goal.returns-clause-bounded
+returns-clause-bounded g c =
+    let e : c.width-width.result ≡ length c.args.row.now.entries = c.width-width.ensures.width in
+    let inside : c.args.start + c.width-width.result ≤ length c.args.self.now = (let h = c.requires.inside in omega arith) in
+    if_ok_more c.clear.result (λ sum. IsBounded c.args.limit (map g.E.Entry.value c.clear.new.row) sum)
+    (λ sum. (sum ≤ c.args.limit) × ((k : ℕ) → k < length c.args.row.now.entries
+    → nat_abs (at (map g.E.Entry.value (stored g.E.Entry.value c.args.self.now c.self.inside.items.items c.as_mut_slice.result.now c.self.inside.items.len c.self.view_is c.as_mut_slice.ensures.value c.self.inside.items.ok.0 c.args.start c.width-width.result inside c.clear.new.row c.clear.auto.row)) (c.args.start + k)) ≤ sum))
+    (bounded_here g.E.Entry.value c.args.self.now c.self.inside.items.items c.as_mut_slice.result.now c.self.inside.items.len c.self.view_is c.as_mut_slice.ensures.value c.self.inside.items.ok.0 c.args.start c.width-width.result inside
+    (length c.args.row.now.entries) e c.args.place (at c.args.row.now.entries) c.requires.place_in c.clear.new.row c.clear.auto.row c.args.limit)
+    c.clear.ensures.bounded
+
+pub returns-clause-others : goal.returns-clause-others
+returns-clause-others g c k o =
+    let e : c.width-width.result ≡ length c.args.row.now.entries = c.width-width.ensures.width in
+    let inside : c.args.start + c.width-width.result ≤ length c.args.self.now = (let h = c.requires.inside in omega arith) in
+    stored_other g.E.Entry.value c.args.self.now c.self.inside.items.items c.as_mut_slice.result.now c.self.inside.items.len c.self.view_is c.as_mut_slice.ensures.value c.self.inside.items.ok.0 c.args.start c.width-width.result inside c.clear.new.row c.clear.auto.row k
+    (elim o [ inl l ↦ inl l | inr h ↦ inr (omega arith) ])
+
+pub returns-clause-wide : goal.returns-clause-wide
+returns-clause-wide g c =
+    let e : c.width-width.result ≡ length c.args.row.now.entries = c.width-width.ensures.width in
+    let inside : c.args.start + c.width-width.result ≤ length c.args.self.now = (let h = c.requires.inside in omega arith) in
+    on_err_weaker c.clear.result
+    (wide_here g.E.Entry.value c.args.self.now c.self.inside.items.items c.as_mut_slice.result.now c.self.inside.items.len c.self.view_is c.as_mut_slice.ensures.value c.self.inside.items.ok.0 c.args.start c.width-width.result inside
+    (length c.args.row.now.entries) e c.args.place (at c.args.row.now.entries) c.requires.place_in c.args.limit)
+    c.clear.ensures.wide
+
+pub returns-clause-unchanged : goal.returns-clause-unchanged
+returns-clause-unchanged g c =
+    let e : c.width-width.result ≡ length c.args.row.now.entries = c.width-width.ensures.width in
+    let inside : c.args.start + c.width-width.result ≤ length c.args.self.now = (let h = c.requires.inside in omega arith) in
+    on_err_weaker c.clear.result (stored_same g.E.Entry.value c.args.self.now c.self.inside.items.items c.as_mut_slice.result.now c.self.inside.items.len c.self.view_is c.as_mut_slice.ensures.value c.self.inside.items.ok.0 c.args.start c.width-width.result inside c.clear.new.row c.clear.auto.row)
+    c.clear.ensures.unchanged

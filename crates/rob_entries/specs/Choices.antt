@@ -1,0 +1,9 @@
+-- Which column a row chooses.
+use Rattle.std.specs.Prelude.{◌≡◌, ◌⊎◌, ◌<ℤ◌, ◌≤ℤ◌, ℕ, ◌<◌, ◌≤◌, pos}
+use Rattle.rob_linear.specs.Vectors.{Columns, Vector}
+
+-- the least of the columns near the first `count` places where the row is negative, or `before` where none is less
+pub record IsLowest (row : Vector) (near : Columns) (count before result : ℕ) : Type 0 where
+  pub low : result ≤ before
+  pub found : (result ≡ before) ⊎ ((k : ℕ) × (k < count) × (near k ≡ result) × (row k <ℤ pos 0))
+  pub none_lower : (k : ℕ) → k < count → near k < result → pos 0 ≤ℤ row k

@@ -1,0 +1,197 @@
+// The numbers of rows, one row behind another. A row of a given width begins at its start.
+
+ghost use Rattle.std.specs.Prelude.{◌≡◌, ◌≢◌, ◌⊎◌, ℕ, ℤ, ◌<◌, ◌≤◌, ◌+◌, ◌-◌, ◌*ℤ◌, ◌<ℤ◌, pos, neg_ℤ, nat_abs, set, take, drop, length, slice_index_or, IfOk, OnErr};
+ghost use Rattle.rob_linear.specs.Vectors.{at};
+ghost use Rattle.rob_linear.specs.Multiples.{IsClearedBy};
+ghost use Rattle.rob_rows.specs.PrimitiveParts.{content};
+ghost use Rattle.rob_entries.specs.Choices.{IsLowest};
+ghost use Rattle.rob_entries.specs.Updates.{AreOwn, IsMultipleOf, IsWideCleared};
+
+use crate::clearing::PivotRow;
+use crate::entry::Entry;
+use crate::rows::{lowest_column, negate};
+use rob_number::Wide;
+use std::alloc::{AllocError, Global};
+use std::marker::Model;
+
+/// The numbers of rows, one row behind another. Contracts see the list of the numbers.
+#[derive(Drop)]
+pub struct Cells<E: Entry> {
+    items: Vec<E>,
+}
+
+impl<E: Entry> Model for Cells<E> {
+    ghost use Rattle.std.specs.Prelude.{List, ℤ, map};
+
+    ghost Value = { List ℤ };
+
+    ghost view = { λ cells. map E.value cells.items.items };
+}
+
+impl<E: Entry> Cells<E> {
+    // ---- make
+    /// So many zeros.
+    pub fn new(alloc: Global, count: usize) -> Result<Cells<E>, AllocError>
+        ensures size { IfOk result (λ cells. length cells ≡ count) }
+        ensures zeros { IfOk result (λ cells. (k : ℕ) → at cells k ≡ pos 0) }
+    {
+        Ok(Cells {
+            items: vec![in alloc; E::of(0); count]?,
+        })
+    }
+
+    /// Copies the other one, which has as many numbers.
+    pub fn copy_from(&mut self, other: &Cells<E>)
+        requires size { length self.old ≡ length other.now }
+        ensures same { self.new ≡ other.now }
+    {
+        self.items
+            .as_mut_slice()
+            .copy_from_slice(other.items.as_slice());
+    }
+
+    // ---- read
+    /// The number of numbers.
+    pub fn len(&self) -> usize
+        ensures len { result ≡ length self.now }
+    {
+        self.items.len()
+    }
+
+    /// The number at a place.
+    pub fn get(&self, k: usize) -> E
+        requires inside { k < length self.now }
+        ensures entry { E.value result ≡ at self.now k }
+    {
+        self.items[k]
+    }
+
+    /// The greatest size of a row's entries, 0 where there is none.
+    pub fn largest(&self, start: usize, width: usize) -> u128
+        requires inside { start + width ≤ length self.now }
+        ensures bound { (k : ℕ) → k < width → nat_abs (at self.now (start + k)) ≤ result }
+        ensures reached { 0 < result → (k : ℕ) × (k < width) × (nat_abs (at self.now (start + k)) ≡ result) }
+    {
+        E::largest(&self.items.as_slice()[start..start + width])
+    }
+
+    /// The lowest column with a negative entry among a row's first `count` places, or the given one where none is
+    /// lower.
+    pub fn lowest_negative(
+        &self,
+        start: usize,
+        near: &[usize],
+        count: usize,
+        before: usize,
+    ) -> usize
+        requires row_in { start + count ≤ length self.now }
+        requires near_in { count ≤ length near.now }
+        ensures lowest { IsLowest (λ k. at self.now (start + k)) (λ k. slice_index_or near.now k 0) count before
+            result }
+    {
+        lowest_column(&self.items.as_slice()[start..start + count], near, before)
+    }
+
+    // ---- write
+    /// Writes a number at a place.
+    pub fn set(&mut self, k: usize, entry: E)
+        requires inside { k < length self.old }
+        ensures written { self.new ≡ set self.old k (E.value entry) }
+    {
+        self.items[k] = entry;
+    }
+
+    /// Exchanges the numbers at two places.
+    pub fn swap(&mut self, a: usize, b: usize)
+        requires a_in { a < length self.old }
+        requires b_in { b < length self.old }
+        ensures swapped { self.new ≡ set (set self.old a (at self.old b)) b (at self.old a) }
+    {
+        let entry = self.items[a];
+        self.items[a] = self.items[b];
+        self.items[b] = entry;
+    }
+
+    /// Turns the signs of a row's entries round.
+    pub fn negate(&mut self, start: usize, width: usize, bound: u128)
+        requires inside { start + width ≤ length self.old }
+        requires within { (k : ℕ) → k < width → nat_abs (at self.old (start + k)) ≤ bound }
+        requires bound { bound ≤ E.top }
+        ensures row { (k : ℕ) → k < width → at self.new (start + k) ≡ neg_ℤ (at self.old (start + k)) }
+        ensures others { (k : ℕ) → (k < start) ⊎ (start + width ≤ k) → at self.new k ≡ at self.old k }
+        ensures size { length self.new ≡ length self.old }
+    {
+        negate(&mut self.items.as_mut_slice()[start..start + width], bound);
+    }
+
+    /// Divides a row by what divides all its entries, and tells the greatest of their sizes.
+    pub fn reduce(&mut self, start: usize, width: usize, limit: u128) -> u128
+        requires inside { start + width ≤ length self.old }
+        requires limit { limit ≤ E.top }
+        requires within { (k : ℕ) → k < width → nat_abs (at self.old (start + k)) ≤ limit }
+        ensures row { IsMultipleOf width (λ k. at self.old (start + k)) (λ k. at self.new (start + k)) }
+        ensures lowest { content (take width (drop start self.new)) ≤ 1 }
+        ensures bound { (k : ℕ) → k < width → nat_abs (at self.new (start + k)) ≤ result }
+        ensures reached { 0 < result → (k : ℕ) × (k < width) × (nat_abs (at self.new (start + k)) ≡ result) }
+        ensures low { result ≤ limit }
+        ensures others { (k : ℕ) → (k < start) ⊎ (start + width ≤ k) → at self.new k ≡ at self.old k }
+        ensures size { length self.new ≡ length self.old }
+    {
+        let row = &mut self.items.as_mut_slice()[start..start + width];
+        E::reduce(row, limit);
+        E::largest(row)
+    }
+
+    // ---- clear
+    /// Takes the row from `start` on, which the number bounds, as the one that clears others. The copy is in lowest
+    /// terms.
+    pub fn load(&self, row: &mut PivotRow<E>, start: usize, bound: u128)
+        requires inside { start + length row.old.entries ≤ length self.now }
+        requires within { (k : ℕ) → k < length row.old.entries → nat_abs (at self.now (start + k)) ≤ bound }
+        requires bound { bound ≤ E.top }
+        ensures entries { IsMultipleOf (length row.old.entries) (λ k. at self.now (start + k)) (at row.new.entries) }
+        ensures size { length row.new.entries ≡ length row.old.entries }
+        ensures bound { row.new.bound ≤ bound }
+    {
+        let width = row.width();
+        row.load(&self.items.as_slice()[start..start + width], bound);
+    }
+
+    /// The row from `start` on is cleared of its entry at the place, and a number is told that bounds its entries.
+    /// `Wide` where that row in lowest terms has an entry over the limit; then nothing changes.
+    pub fn clear(
+        &mut self,
+        start: usize,
+        row: &mut PivotRow<E>,
+        bound: u128,
+        place: usize,
+        limit: u128,
+    ) -> Result<u128, Wide>
+        requires inside { start + length row.old.entries ≤ length self.old }
+        requires limit { limit ≤ E.top }
+        requires bounded { (k : ℕ) → k < length row.old.entries → nat_abs (at self.old (start + k)) ≤ bound }
+        requires bounds { (bound ≤ limit) × (row.old.bound ≤ limit) }
+        requires place_in { place < length row.old.entries }
+        requires positive { pos 0 <ℤ at row.old.entries place }
+        requires own { AreOwn (λ k. at self.old (start + k)) (at row.old.entries) (length row.old.entries - 1) }
+        ensures cleared { IfOk result (λ _. IsClearedBy (length row.old.entries) place
+            (λ k. at self.old (start + k)) (at row.old.entries) (λ k. at self.new (start + k))) }
+        ensures bounded { IfOk result (λ sum. (sum ≤ limit) × ((k : ℕ) → k < length row.old.entries
+            → nat_abs (at self.new (start + k)) ≤ sum)) }
+        ensures others { (k : ℕ) → (k < start) ⊎ (start + length row.old.entries ≤ k)
+            → at self.new k ≡ at self.old k }
+        ensures size { length self.new ≡ length self.old }
+        ensures wide { OnErr result (IsWideCleared limit (length row.old.entries) place
+            (λ k. at self.old (start + k)) (at row.old.entries)) }
+        ensures unchanged { OnErr result (self.new ≡ self.old) }
+        ensures same { row.new ≡ row.old }
+    {
+        let width = row.width();
+        row.clear(
+            &mut self.items.as_mut_slice()[start..start + width],
+            bound,
+            place,
+            limit,
+        )
+    }
+}

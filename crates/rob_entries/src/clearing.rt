@@ -1,0 +1,179 @@
+// Rows that another row clears of one entry, up to positive factors: the row operation of a pivot where rows need not
+// be in lowest terms. (Edmonds 1967.)
+//     row  becomes  p * row - q * top,  with p * row[place] = q * top[place] and p above 0
+// A number that bounds the entries of each row shows where the entries' type suffices. Else the row is put in lowest
+// terms.
+
+ghost use Rattle.std.specs.Prelude.{◌≡◌, ◌≢◌, ℕ, ◌<◌, ◌≤◌, ◌-◌, ◌*ℤ◌, ◌-ℤ◌, ◌<ℤ◌, pos, nat_abs, map, length, take, IfOk, OnOk, OnErr};
+ghost use Rattle.rob_algebra.specs.Gcd.{gcd};
+ghost use Rattle.rob_linear.specs.Vectors.{at};
+ghost use Rattle.rob_linear.specs.Multiples.{IsClearedBy};
+ghost use Rattle.rob_rows.specs.PrimitiveParts.{combination, IsPrimitivePart, IsWithin, HasWidePart};
+ghost use Rattle.rob_entries.specs.Updates.{AreListed, AreOwn, IsBounded, IsNarrowBy, IsWideCleared};
+
+use crate::entry::Entry;
+use crate::updates::{combine_in_place, subtract};
+use rob_number::Wide;
+use std::alloc::{AllocError, Global};
+use std::marker::Model;
+
+/// The row that clears others: its entries in lowest terms, the places where they are not 0, and room for one row more.
+/// Contracts see the entries and the number that bounds them.
+#[derive(Drop)]
+pub struct PivotRow<E: Entry> {
+    entries: Vec<E>,
+    bound: u128,
+    places: Vec<usize>,
+    listed: usize,
+    room: Vec<E>,
+}
+
+impl<E: Entry> Model for PivotRow<E> {
+    ghost use Rattle.std.specs.Prelude.{map, length};
+    ghost use Rattle.rob_entries.specs.Updates.{Clearing, IsReady};
+
+    ghost Value = { Clearing };
+
+    ghost view = { λ row. record { entries = map E.value row.entries.items; bound = row.bound } };
+
+    ghost invariant = { λ row. IsReady (map E.value row.entries.items) row.bound row.places.items row.listed
+        (length row.room.items) };
+}
+
+impl<E: Entry> PivotRow<E> {
+    /// Room for rows of this width.
+    pub fn new(alloc: Global, width: usize) -> Result<PivotRow<E>, AllocError>
+        ensures width { IfOk result (λ row. length row.entries ≡ width) }
+    {
+        Ok(PivotRow {
+            entries: vec![in alloc; E::of(0); width]?,
+            bound: 0,
+            places: vec![in alloc; 0usize; width]?,
+            listed: 0,
+            room: vec![in alloc; E::of(0); width]?,
+        })
+    }
+
+    /// The number of entries.
+    pub fn width(&self) -> usize
+        ensures width { result ≡ length self.now.entries }
+    {
+        self.entries.len()
+    }
+
+    /// Takes this row in lowest terms, whose entries the number bounds, as the one that clears others.
+    pub fn load(&mut self, row: &[E], bound: u128)
+        requires length { length row.now ≡ length self.old.entries }
+        requires within { IsWithin bound (map E.value row.now) }
+        requires bound { bound ≤ E.top }
+        ensures part { IsPrimitivePart self.new.entries (map E.value row.now) }
+        ensures bound { self.new.bound ≤ bound }
+    {
+        self.entries.as_mut_slice().copy_from_slice(row);
+        E::reduce(self.entries.as_mut_slice(), bound);
+        self.listed = list_places(self.entries.as_slice(), self.places.as_mut_slice());
+        self.bound = E::largest(self.entries.as_slice());
+    }
+
+    // The row, p times, less q times this one.
+    fn apply(&self, row: &mut [E], p: E, q: E)
+        requires length { length row.old ≡ length self.now.entries }
+        requires positive { pos 0 <ℤ E.value p }
+        requires narrow { IsNarrowBy E.top (length row.old) (E.value p) (E.value q) (at (map E.value row.old))
+            (at self.now.entries) }
+        ensures entries { (k : ℕ) → k < length row.old → at (map E.value row.new) k
+            ≡ (E.value p *ℤ at (map E.value row.old) k) -ℤ (E.value q *ℤ at self.now.entries k) }
+    {
+        if p.size() == 1 {
+            subtract(
+                row,
+                q,
+                self.entries.as_slice(),
+                &self.places.as_slice()[..self.listed],
+            );
+        } else {
+            combine_in_place(row, p, q, self.entries.as_slice());
+        }
+    }
+
+    // The same in lowest terms, whatever sizes the products have.
+    fn apply_lowest(&mut self, row: &mut [E], p: E, q: E, limit: u128) -> Result<u128, Wide>
+        requires length { length row.old ≡ length self.old.entries }
+        requires limit { limit ≤ E.top }
+        requires positive { pos 0 <ℤ E.value p }
+        requires factors { (nat_abs (E.value p) ≤ E.top) × (nat_abs (E.value q) ≤ E.top) }
+        requires lowest { gcd (nat_abs (E.value p)) (nat_abs (E.value q)) ≤ 1 }
+        requires within { IsWithin limit (map E.value row.old) × IsWithin limit self.old.entries }
+        requires some { (k : ℕ) × (k < length row.old) × (at self.old.entries k ≢ pos 0) }
+        requires own { AreOwn (at (map E.value row.old)) (at self.old.entries) (length row.old - 1) }
+        ensures part { OnOk result (IsPrimitivePart (map E.value row.new)
+            (combination (E.value p) (map E.value row.old) (E.value q) self.old.entries)) }
+        ensures bounded { IfOk result (λ sum. IsBounded limit (map E.value row.new) sum) }
+        ensures wide { OnErr result
+            (HasWidePart limit (combination (E.value p) (map E.value row.old) (E.value q) self.old.entries)) }
+        ensures unchanged { OnErr result (row.new ≡ row.old) }
+        ensures same { self.new ≡ self.old }
+    {
+        E::combine(
+            self.room.as_mut_slice(),
+            p,
+            row,
+            q,
+            self.entries.as_slice(),
+            limit,
+        )?;
+        row.copy_from_slice(self.room.as_slice());
+        Ok(E::largest(row))
+    }
+
+    /// Clears the row's entry at the place, and tells a number that bounds the new entries. The row may be a positive
+    /// multiple of the one in lowest terms. `Wide` where that one has an entry over the limit; then the row stays.
+    pub fn clear(
+        &mut self,
+        row: &mut [E],
+        bound: u128,
+        place: usize,
+        limit: u128,
+    ) -> Result<u128, Wide>
+        requires length { length row.old ≡ length self.old.entries }
+        requires limit { limit ≤ E.top }
+        requires row_in { IsBounded limit (map E.value row.old) bound }
+        requires self_in { self.old.bound ≤ limit }
+        requires place_in { place < length row.old }
+        requires positive { pos 0 <ℤ at self.old.entries place }
+        requires own { AreOwn (at (map E.value row.old)) (at self.old.entries) (length row.old - 1) }
+        ensures cleared { IfOk result (λ _. IsClearedBy (length row.old) place (at (map E.value row.old))
+            (at self.old.entries) (at (map E.value row.new))) }
+        ensures bounded { IfOk result (λ sum. IsBounded limit (map E.value row.new) sum) }
+        ensures wide { OnErr result
+            (IsWideCleared limit (length row.old) place (at (map E.value row.old)) (at self.old.entries)) }
+        ensures unchanged { OnErr result (row.new ≡ row.old) }
+        ensures same { self.new ≡ self.old }
+    {
+        let (p, q) = E::lowest(self.entries[place], row[place]);
+        match E::bound_of(p, bound, q, self.bound, limit) {
+            Some(sum) => {
+                self.apply(row, p, q);
+                Ok(sum)
+            }
+            None => self.apply_lowest(row, p, q, limit),
+        }
+    }
+}
+
+// Lists the places where the row is not 0 at the front of `places`, and tells how many there are.
+fn list_places<E: Entry>(row: &[E], places: &mut [usize]) -> usize
+    requires room { length places.old ≡ length row.now }
+    ensures few { result ≤ length places.new }
+    ensures listed { AreListed (length row.now) (at (map E.value row.now)) (take result places.new) }
+{
+    let mut listed = 0;
+    for k in 0..row.len() {
+        let some = !row[k].is_zero();
+        if some {
+            places[listed] = k;
+            listed += 1;
+        }
+    }
+    listed
+}
