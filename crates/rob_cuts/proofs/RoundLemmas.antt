@@ -1,5 +1,6 @@
 -- What the ending of a master and what is found at its plan and its direction lead to.
-use Rattle.std.proofs.Common.{◌≡◌, inl, inr, ℕ, suc, ◌+◌, ◌<◌, ◌≤◌, ◌^◌, List, length, refl, sym, ap, ◌∙◌, subst, arith, true, false}
+use Rattle.std.proofs.Common.{◌≡◌, inl, inr, ℕ, suc, ◌+◌, ◌<◌, ◌≤◌, ◌^◌, List, length, refl, sym, ap, ◌∙◌, subst, arith, true, false, Result, Ok, Err}
+use Rattle.std.specs.Prelude.{IfOk, IfErr, MatchResult}
 use Rattle.rob_algebra.specs.Fraction.{Fraction, of_int, ◌*ℚ◌}
 use Rattle.rob_linear.specs.Vectors.{Matrix}
 use Rattle.rob_linear.specs.WideRows.{HasWideRow}
@@ -24,11 +25,14 @@ use Rattle.rob_counterpart.specs.ReadCertificates.{plan_read, bound_read, weight
 use Rattle.rob_counterpart.specs.Splitting.{plus, minus, OneIsZero}
 use Rattle.rob_counterpart.proofs.SamePaths.{wide_row_same}
 use Rattle.rob_simplex.specs.Dictionaries.{columns_of}
-use Rattle.rob_dualize.specs.Ending.{HasEnded, IsMadeAs, StopsAt}
+use Rattle.rob_dualize.specs.Ending.{HasEnded, StopsAt}
 use Rattle.rob_model.specs.declared.place.Program.TheVariants.{Master}
 use Rattle.rob_simplex.specs.Endings.{HasSolved, HasAnswered}
-use Rattle.rob_simplex.specs.Solvers.{IsMadeFor}
-use Rattle.rob_dualize.proofs.MakingLemmas.{has_ended}
+use Rattle.rob_solver.specs.Solving.{IsSolved, IsStopped}
+use Rattle.rob_solver.specs.declared.solving.Solved.{Solved}
+use Rattle.rob_solver.specs.declared.solving.Stopped.{Stopped}
+use Rattle.rob_solver.specs.declared.solving.Stopped.TheVariants as unsolved
+use Rattle.rob_cuts.specs.Stops.{HasFewRows}
 use Rattle.rob_dualize.specs.Solving.{IsLastScenario}
 use Rattle.rob_runs.specs.Cuts.{Cut, master_over}
 use Rattle.rob_runs.specs.Readings.{AreKept, covers_of_amounts, cleared_by}
@@ -62,8 +66,8 @@ module _ (m : RobustModel) (forms : Forms) (f : IsForms m forms) (rounds : List 
   pub rounds_are_rows : (k : LpKind) → HasEnded (program_of master) k s → length rounds ≡ positions s
   rounds_are_rows k h = let e = ended_as k h in sym (length-cuts rounds) ∙ sym e.same.height ∙ e.rows
 
-  pub rounds_made : (before : Solver) → IsMadeFor (program_of master) before → positions s ≡ positions before → length rounds ≡ positions s
-  rounds_made before h e = sym (length-cuts rounds) ∙ sym (rights_count forms (cuts_told rounds) master list) ∙ h.rows ∙ sym e
+  pub rounds_made : length master.b ≡ positions s → length rounds ≡ positions s
+  rounds_made h = sym (length-cuts rounds) ∙ sym (rights_count forms (cuts_told rounds) master list) ∙ h
 
   pub columns_are_pairs : (k : LpKind) → HasEnded (program_of master) k s → suc forms.columns + suc forms.columns ≡ s.columns
   columns_are_pairs k h =
@@ -187,15 +191,19 @@ module _ (m : RobustModel) (forms : Forms) (f : IsForms m forms) (rounds : List 
           unbounded_end_is m rounds t few inside admitted last s.basis (column_of s.state) (point_of s) (ray_of s) amounts step_amounts p step step_bound holds
           boundless_master k held hh hs hb
 
--- ---- how a solver made for a program ends
-abbrev made_as : (lp : Lp) (s : Solver) → IsMadeFor (program_of lp) s → IsMadeAs (program_of lp) s
-made_as lp s h = record {
+-- ---- how a program that was solved has ended
+pub ended_so : (N : Type 0) (lp : Lp) (solver : Solver) (k named : LpKind) → IsSolved {N = N} (program_of lp) (record { solver = solver; kind = k }) → k ≡ named → HasEnded (program_of lp) named solver
+ended_so N lp solver k named h e = record {
   program = program_of lp;
   same = record { height = refl; width = refl; rows = λ q k ql kl. refl; rights = λ q ql. refl; costs = λ k kl. refl };
-  made = h;
+  rows = h.rows;
+  columns = h.columns;
+  solved = subst (λ (j : LpKind). HasSolved (program_of lp) j solver) e h.answer;
+  answered = subst (λ (j : LpKind). HasAnswered j solver) e h.answered;
 }
 
-pub ended_so : (lp : Lp) (before now : Solver) → IsMadeFor (program_of lp) before → (k named : LpKind) → k ≡ named → now.columns ≡ before.columns
-    → positions now ≡ positions before → HasSolved (program_of lp) k now → HasAnswered k now → HasEnded (program_of lp) named now
-ended_so lp before now made k named e ec ep solved answered =
-    subst (λ (j : LpKind). HasEnded (program_of lp) j now) e (has_ended (program_of lp) before now (made_as lp before made) k ec ep solved answered)
+pub few_rows : {N : Type 0} (limit : ℕ) (lp : Lp) (r : Result (Solved N) (Stopped N)) → length lp.b < 2 ^ 31 → IfOk r (IsSolved (program_of lp)) → IfErr r (IsStopped limit (program_of lp))
+    → MatchResult r (λ solved. positions solved.solver < 2 ^ 31) HasFewRows
+few_rows limit lp (Ok solved) l h k = subst (λ (n : ℕ). n < 2 ^ 31) h.rows l
+few_rows limit lp (Err (unsolved.Wide solver stop)) l h k = subst (λ (n : ℕ). n < 2 ^ 31) k.0 l
+few_rows limit lp (Err unsolved.Memory) l h k = tt

@@ -1,10 +1,13 @@
 -- Why a step of the route stops: memory was refused, or a number at a place is wide.
-use Rattle.std.specs.Prelude.{◌≡◌, ℕ, suc, ◌<◌, List, [], ◌∷◌, ⊤}
+use Rattle.std.specs.Prelude.{◌≡◌, ℕ, suc, ◌<◌, ◌^◌, List, [], ◌∷◌, ⊤}
 use Rattle.rob_model.specs.declared.place.Spot.{Spot}
 use Rattle.rob_model.specs.declared.place.Spot.TheVariants.{Clearing, Sum}
 use Rattle.rob_model.specs.declared.place.Where.TheVariants as of
 use Rattle.rob_elab.specs.declared.forms.Forms.{Forms}
 use Rattle.rob_cert.specs.declared.trace.Round.{Round as Told}
+use Rattle.rob_simplex.specs.Solvers.{positions}
+use Rattle.rob_solver.specs.declared.solving.Stopped.{Stopped}
+use Rattle.rob_solver.specs.declared.solving.Stopped.TheVariants as unsolved
 use Rattle.rob_cert.specs.declared.ending.Stop.{Stop}
 use Rattle.rob_cert.specs.declared.ending.Stop.TheVariants.{EmptySet, Wide, Memory}
 use Rattle.rob_runs.specs.Cuts.{Cut}
@@ -39,3 +42,8 @@ abbrev pub stop_after : Stop → List Told → Stop
 stop_after (EmptySet weights) rounds = EmptySet weights
 stop_after (Wide place trace) rounds = Wide place (record { rounds = rounds })
 stop_after Memory rounds = Memory
+
+-- a solver that stopped has fewer than 2^31 positions
+abbrev pub HasFewRows : {N : Type 0} → Stopped N → Type 0
+HasFewRows (unsolved.Wide solver stop) = positions solver < 2 ^ 31
+HasFewRows unsolved.Memory = ⊤

@@ -17,7 +17,7 @@ use rob_cert::{Cert, Round, Status};
 use rob_dualize::told::{dual_values, exact_weights, whole};
 use rob_model::{Plan, Scenario};
 use rob_number::{Exact, List, Memory};
-use rob_simplex::Work;
+use rob_solver::Solver;
 use std::alloc::Global;
 
 /// Optimal: the plan with its covers, and the cuts with the dual values.
@@ -25,20 +25,20 @@ pub fn optimal<N: Exact>(
     alloc: Global,
     forms: u32,
     rounds: &[Round],
-    work: &Work<N>,
+    solver: &Solver<N>,
     plan: Plan<N>,
     kept: Kept<N>,
     inside: Scenario<N>,
 ) -> Result<Cert<N>, Memory>
-    requires optimum { HasOptimum work.now }
-    requires rows { length rounds.now ≡ positions work.now }
-    requires few { positions work.now < 2 ^ 31 }
+    requires optimum { HasOptimum solver.now }
+    requires rows { length rounds.now ≡ positions solver.now }
+    requires few { positions solver.now < 2 ^ 31 }
     requires fits { Each (RoundFits N.limit) rounds.now }
     ensures certificate { IfOk result (λ cert. certificate_of N.value cert
         ≡ optimal_with (scenario_of N.value inside) (covered_plan N.value plan kept)
-        (items_told forms rounds.now (dual_of work.now))) }
+        (items_told forms rounds.now (dual_of solver.now))) }
 {
-    let weights = dual_values(alloc, work, rounds.len() as u32)?;
+    let weights = dual_values(alloc, solver, rounds.len() as u32)?;
     let items = items(alloc, forms, rounds, weights.items())?;
     Ok(Cert {
         status: Status::Optimal,
@@ -59,18 +59,18 @@ pub fn infeasible<N: Exact>(
     alloc: Global,
     forms: u32,
     rounds: &[Round],
-    work: &Work<N>,
+    solver: &Solver<N>,
     inside: Scenario<N>,
 ) -> Result<Cert<N>, Memory>
-    requires weights { HasWeights work.now }
-    requires rows { length rounds.now ≡ positions work.now }
-    requires few { positions work.now < 2 ^ 31 }
+    requires weights { HasWeights solver.now }
+    requires rows { length rounds.now ≡ positions solver.now }
+    requires few { positions solver.now < 2 ^ 31 }
     requires fits { Each (RoundFits N.limit) rounds.now }
     ensures certificate { IfOk result (λ cert. certificate_of N.value cert
         ≡ infeasible_with (scenario_of N.value inside)
-        (items_told forms rounds.now (λ q. of_int (weights_of work.now q)))) }
+        (items_told forms rounds.now (λ q. of_int (weights_of solver.now q)))) }
 {
-    let weights = exact_weights(alloc, work, rounds.len() as u32)?;
+    let weights = exact_weights(alloc, solver, rounds.len() as u32)?;
     let items = items(alloc, forms, rounds, weights.items())?;
     Ok(Cert {
         status: Status::Infeasible,

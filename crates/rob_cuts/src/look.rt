@@ -26,7 +26,7 @@ use rob_elab::Forms;
 use rob_model::Plan;
 use rob_number::{Exact, Ledger, List, Memory};
 use rob_sets::SetForm;
-use rob_simplex::Work;
+use rob_solver::Solver;
 use rob_worst::Finder;
 use std::alloc::Global;
 
@@ -54,25 +54,25 @@ pub fn look_at_plan<N: Exact, L: Ledger>(
     forms: &Forms,
     set: &SetForm,
     finder: &mut Finder<N>,
-    work: &Work<N>,
+    solver: &Solver<N>,
     ledger: &mut L,
 ) -> Result<PlanLook<N>, Stop>
     requires model { AreOfModel N.limit forms.now set.now }
     requires few { IsFew (counterpart_of forms.now set.now) }
     requires finder { IsFinder set.now finder.old }
-    requires point { HasPoint work.now }
-    requires columns { suc forms.now.columns + suc forms.now.columns ≡ work.now.columns }
+    requires point { HasPoint solver.now }
+    requires columns { suc forms.now.columns + suc forms.now.columns ≡ solver.now.columns }
     requires one { (j : ℕ) → j ≤ forms.now.columns
-        → OneIsZero (point_of work.now (plus j)) (point_of work.now (minus j)) }
+        → OneIsZero (point_of solver.now (plus j)) (point_of solver.now (minus j)) }
     ensures look { (m : RobustModel) → IsModel m → IsForms m forms.now → IsSetForm m set.now
-        → MatchResult result (IsPlanLook N.limit m N.value (point_of work.now))
-        (IsScanStopped N.limit m false (plan_at m (point_of work.now))) }
+        → MatchResult result (IsPlanLook N.limit m N.value (point_of solver.now))
+        (IsScanStopped N.limit m false (plan_at m (point_of solver.now))) }
     ensures finder { IsFinder set.now finder.new }
     ensures wides { MatchResult result (λ _. L.wides ledger.new ≡ L.wides ledger.old)
         (CountsStop (L.wides ledger.old) (L.wides ledger.new)) }
     ensures counted { NeverFell L.ops L.wides ledger.old ledger.new }
 {
-    let plan = match plan(alloc, work, forms.columns) {
+    let plan = match plan(alloc, solver, forms.columns) {
         Ok(plan) => plan,
         Err(Memory) => return Err(Stop::Memory),
     };
@@ -89,25 +89,25 @@ pub fn look_at_step<N: Exact, L: Ledger>(
     forms: &Forms,
     set: &SetForm,
     finder: &mut Finder<N>,
-    work: &Work<N>,
+    solver: &Solver<N>,
     ledger: &mut L,
 ) -> Result<StepLook<N>, Stop>
     requires model { AreOfModel N.limit forms.now set.now }
     requires few { IsFew (counterpart_of forms.now set.now) }
     requires finder { IsFinder set.now finder.old }
-    requires ray { HasRay work.now }
-    requires columns { suc forms.now.columns + suc forms.now.columns ≡ work.now.columns }
+    requires ray { HasRay solver.now }
+    requires columns { suc forms.now.columns + suc forms.now.columns ≡ solver.now.columns }
     requires one { (j : ℕ) → j ≤ forms.now.columns
-        → OneIsZero (ray_of work.now (plus j)) (ray_of work.now (minus j)) }
+        → OneIsZero (ray_of solver.now (plus j)) (ray_of solver.now (minus j)) }
     ensures look { (m : RobustModel) → IsModel m → IsForms m forms.now → IsSetForm m set.now
-        → MatchResult result (IsStepLook N.limit m N.value (ray_of work.now))
-        (IsScanStopped N.limit m true (direction_at m (ray_of work.now))) }
+        → MatchResult result (IsStepLook N.limit m N.value (ray_of solver.now))
+        (IsScanStopped N.limit m true (direction_at m (ray_of solver.now))) }
     ensures finder { IsFinder set.now finder.new }
     ensures wides { MatchResult result (λ _. L.wides ledger.new ≡ L.wides ledger.old)
         (CountsStop (L.wides ledger.old) (L.wides ledger.new)) }
     ensures counted { NeverFell L.ops L.wides ledger.old ledger.new }
 {
-    let step = match direction(alloc, work, forms.columns) {
+    let step = match direction(alloc, solver, forms.columns) {
         Ok(step) => step,
         Err(Memory) => return Err(Stop::Memory),
     };

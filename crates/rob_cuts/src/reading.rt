@@ -10,59 +10,63 @@ ghost use Rattle.rob_simplex.specs.Solutions.{point_of, ray_of};
 use rob_dualize::reading::difference;
 use rob_model::Plan;
 use rob_number::{Exact, List, Memory};
-use rob_simplex::Work;
+use rob_solver::Solver;
 use std::alloc::Global;
 
 /// Pair j of the point.
-fn point_difference<N: Exact>(work: &Work<N>, j: u32) -> N
-    requires point { HasPoint work.now }
-    requires inside { suc (j + j) < work.now.columns }
-    requires few { work.now.columns < 2 ^ 31 }
-    requires one { OneIsZero (point_of work.now (plus j)) (point_of work.now (minus j)) }
-    ensures value { N.value result ≡ difference_of (point_of work.now) j }
+fn point_difference<N: Exact>(solver: &Solver<N>, j: u32) -> N
+    requires point { HasPoint solver.now }
+    requires inside { suc (j + j) < solver.now.columns }
+    requires few { solver.now.columns < 2 ^ 31 }
+    requires one { OneIsZero (point_of solver.now (plus j)) (point_of solver.now (minus j)) }
+    ensures value { N.value result ≡ difference_of (point_of solver.now) j }
 {
-    difference(work.x(2 * j), work.x(2 * j + 1))
+    difference(solver.x(2 * j), solver.x(2 * j + 1))
 }
 
 /// Pair j of the ray.
-fn ray_difference<N: Exact>(work: &Work<N>, j: u32) -> N
-    requires ray { HasRay work.now }
-    requires inside { suc (j + j) < work.now.columns }
-    requires few { work.now.columns < 2 ^ 31 }
-    requires one { OneIsZero (ray_of work.now (plus j)) (ray_of work.now (minus j)) }
-    ensures value { N.value result ≡ difference_of (ray_of work.now) j }
+fn ray_difference<N: Exact>(solver: &Solver<N>, j: u32) -> N
+    requires ray { HasRay solver.now }
+    requires inside { suc (j + j) < solver.now.columns }
+    requires few { solver.now.columns < 2 ^ 31 }
+    requires one { OneIsZero (ray_of solver.now (plus j)) (ray_of solver.now (minus j)) }
+    ensures value { N.value result ≡ difference_of (ray_of solver.now) j }
 {
-    difference(work.ray(2 * j), work.ray(2 * j + 1))
+    difference(solver.ray(2 * j), solver.ray(2 * j + 1))
 }
 
 /// The plan of the point: a number for each decision column, and the bound behind them.
-pub fn plan<N: Exact>(alloc: Global, work: &Work<N>, decisions: u32) -> Result<Plan<N>, Memory>
-    requires point { HasPoint work.now }
-    requires inside { suc decisions + suc decisions ≡ work.now.columns }
-    requires few { work.now.columns < 2 ^ 31 }
-    requires one { (j : ℕ) → j ≤ decisions → OneIsZero (point_of work.now (plus j)) (point_of work.now (minus j)) }
-    ensures columns { IfOk result (λ plan. map N.value plan.columns ≡ differences decisions (point_of work.now)) }
-    ensures bound { IfOk result (λ plan. N.value plan.bound ≡ difference_of (point_of work.now) decisions) }
+pub fn plan<N: Exact>(alloc: Global, solver: &Solver<N>, decisions: u32) -> Result<Plan<N>, Memory>
+    requires point { HasPoint solver.now }
+    requires inside { suc decisions + suc decisions ≡ solver.now.columns }
+    requires few { solver.now.columns < 2 ^ 31 }
+    requires one { (j : ℕ) → j ≤ decisions → OneIsZero (point_of solver.now (plus j)) (point_of solver.now (minus j)) }
+    ensures columns { IfOk result (λ plan. map N.value plan.columns ≡ differences decisions (point_of solver.now)) }
+    ensures bound { IfOk result (λ plan. N.value plan.bound ≡ difference_of (point_of solver.now) decisions) }
 {
     let mut columns = List::new(alloc);
     for j in 0..decisions {
-        columns.push(point_difference(work, j))?;
+        columns.push(point_difference(solver, j))?;
     }
-    let bound = point_difference(work, decisions);
+    let bound = point_difference(solver, decisions);
     Ok(Plan { columns, bound })
 }
 
 /// The direction of the ray: a number for each decision column, and the one for the bound behind them.
-pub fn direction<N: Exact>(alloc: Global, work: &Work<N>, decisions: u32) -> Result<List<N>, Memory>
-    requires ray { HasRay work.now }
-    requires inside { suc decisions + suc decisions ≡ work.now.columns }
-    requires few { work.now.columns < 2 ^ 31 }
-    requires one { (j : ℕ) → j ≤ decisions → OneIsZero (ray_of work.now (plus j)) (ray_of work.now (minus j)) }
-    ensures numbers { IfOk result (λ list. map N.value list ≡ differences (suc decisions) (ray_of work.now)) }
+pub fn direction<N: Exact>(
+    alloc: Global,
+    solver: &Solver<N>,
+    decisions: u32,
+) -> Result<List<N>, Memory>
+    requires ray { HasRay solver.now }
+    requires inside { suc decisions + suc decisions ≡ solver.now.columns }
+    requires few { solver.now.columns < 2 ^ 31 }
+    requires one { (j : ℕ) → j ≤ decisions → OneIsZero (ray_of solver.now (plus j)) (ray_of solver.now (minus j)) }
+    ensures numbers { IfOk result (λ list. map N.value list ≡ differences (suc decisions) (ray_of solver.now)) }
 {
     let mut numbers = List::new(alloc);
     for j in 0..decisions + 1 {
-        numbers.push(ray_difference(work, j))?;
+        numbers.push(ray_difference(solver, j))?;
     }
     Ok(numbers)
 }

@@ -1,6 +1,6 @@
 // A round: the master is solved, its direction and its plan are tried, and a cut or the end follows.
 
-ghost use Rattle.std.specs.Prelude.{◌≡◌, ◌≤◌, ◌<◌, ◌^◌, false, nat_abs, length, IfOk, MatchResult};
+ghost use Rattle.std.specs.Prelude.{◌≡◌, ◌≤◌, ◌<◌, ◌^◌, false, nat_abs, length, IfOk, IfErr, MatchResult};
 ghost use Rattle.rob_algebra.specs.Fraction.{of_int};
 ghost use Rattle.rob_elab.specs.Elaborated.{AreElaborated};
 ghost use Rattle.rob_elab.specs.Forms.{IsForms};
@@ -15,8 +15,9 @@ ghost use Rattle.rob_rows.specs.LinearPrograms.{program_of, IsShaped, HasNumbers
 ghost use Rattle.rob_runs.specs.Runs.{best as with_best, boundless as without_best};
 ghost use Rattle.rob_sets.specs.SetForm.{IsSetForm};
 ghost use Rattle.rob_sets.specs.declared.set_form.SetForm.{SetForm as SetRows};
-ghost use Rattle.rob_simplex.specs.Solvers.{positions, column_of, HasOptimum, HasRay, HasWeights, IsMadeFor};
+ghost use Rattle.rob_simplex.specs.Solvers.{positions, column_of, HasOptimum, HasRay, HasWeights};
 ghost use Rattle.rob_simplex.specs.Solutions.{dual_of, weights_of};
+ghost use Rattle.rob_solver.specs.Solving.{IsSolved, IsStopped, CountsSolving};
 ghost use Rattle.rob_dualize.specs.Ending.{HasEnded};
 ghost use Rattle.rob_dualize.specs.Solving.{CountsStop};
 ghost use Rattle.rob_dualize.specs.Wholes.{counterpart_of, IsFew};
@@ -28,7 +29,7 @@ ghost use Rattle.rob_cuts.specs.Made.{cut_made};
 ghost use Rattle.rob_cuts.specs.Rounds.{round_told, RoundFits};
 ghost use Rattle.rob_cuts.specs.Runs.{IsRunSoFar};
 ghost use Rattle.rob_cuts.specs.Solving.{AreOfModel};
-ghost use Rattle.rob_cuts.specs.Stops.{IsRefused};
+ghost use Rattle.rob_cuts.specs.Stops.{IsRefused, HasFewRows};
 ghost use Rattle.rob_cuts.specs.Outcomes.{IsOutcome, IsWideNext, IsEndWith};
 ghost use Rattle.rob_cuts.specs.declared.round.Outcome.TheVariants as Leads;
 
@@ -48,7 +49,7 @@ use rob_number::{Exact, Ledger, List, LpKind, Memory};
 use rob_rows::Lp;
 use rob_sets::SetForm;
 use rob_sets::error::Stop as Refusal;
-use rob_simplex::Work;
+use rob_solver::{Solved, Solver, Stopped, solve};
 use rob_worst::Finder;
 use rob_worst::refusal::count;
 use std::alloc::Global;
@@ -82,35 +83,39 @@ pub fn next_round<N: Exact, L: Ledger>(
         (CountsStop (L.wides ledger.old) (L.wides ledger.new)) }
     ensures counted { NeverFell L.ops L.wides ledger.old ledger.new }
 {
-    let mut work = match master_work::<N>(alloc, &run.master) {
-        Ok(work) => work,
-        Err(Memory) => return Err(Stop::Memory),
-    };
-    let kind = match work.solve(ledger) {
-        Ok(kind) => kind,
-        Err(stop) => {
+    let solved = match solve_master::<N, L>(alloc, &run.master, ledger) {
+        Ok(solved) => solved,
+        Err(Stopped::Wide(solver, stop)) => {
             let rows = run.rounds.items().len() as u32;
-            return Err(wide_row(alloc, &work, Program::Master, rows, position(stop)));
+            return Err(wide_row(alloc, &solver, Program::Master, rows, position(stop)));
         }
+        Err(Stopped::Memory) => return Err(Stop::Memory),
     };
-    match kind {
-        LpKind::Optimal => best(alloc, forms, set, finder, run, &work, ledger),
-        LpKind::Infeasible => or_stop(without_plan(alloc, forms, finder, run, &work)),
-        LpKind::Unbounded => boundless(alloc, forms, set, finder, run, &work, ledger),
+    let solver = &solved.solver;
+    match solved.kind {
+        LpKind::Optimal => best(alloc, forms, set, finder, run, solver, ledger),
+        LpKind::Infeasible => or_stop(without_plan(alloc, forms, finder, run, solver)),
+        LpKind::Unbounded => boundless(alloc, forms, set, finder, run, solver, ledger),
     }
 }
 
-/// A solver of the master. Memory is refused where the master's rows and columns together reach 2^31.
-fn master_work<N: Exact>(alloc: Global, master: &Lp) -> Result<Work<N>, Memory>
+/// Solves the master. Memory is refused where the master's rows and columns together reach 2^31.
+fn solve_master<N: Exact, L: Ledger>(
+    alloc: Global,
+    master: &Lp,
+    ledger: &mut L,
+) -> Result<Solved<N>, Stopped<N>>
     requires shaped { IsShaped master.now }
     requires within { HasNumbersWithin N.limit master.now }
-    ensures made { IfOk result (λ work. IsMadeFor (program_of master.now) work) }
-    ensures few { IfOk result (λ work. positions work < 2 ^ 31) }
+    ensures solved { IfOk result (IsSolved (program_of master.now)) }
+    ensures few { MatchResult result (λ solved. positions solved.solver < 2 ^ 31) HasFewRows }
+    ensures stopped { IfErr result (IsStopped N.limit (program_of master.now)) }
+    ensures counted { CountsSolving L.ops L.wides ledger.old ledger.new result }
 {
     if master.c.items().len() + master.b.items().len() >= 1 << 31 {
-        return Err(Memory);
+        return Err(Stopped::Memory);
     }
-    Work::new(alloc, master)
+    solve(alloc, master, ledger)
 }
 
 /// The master has a best plan: that is cut off, or is the optimum.
@@ -120,15 +125,15 @@ fn best<N: Exact, L: Ledger>(
     set: &SetForm,
     finder: &mut Finder<N>,
     run: &Run,
-    work: &Work<N>,
+    solver: &Solver<N>,
     ledger: &mut L,
 ) -> Result<Outcome<N>, Stop>
     requires model { AreOfModel N.limit forms.now set.now }
     requires few { IsFew (counterpart_of forms.now set.now) }
     requires finder { IsFinder set.now finder.old }
     requires run { IsRunSoFar N.limit forms.now set.now run.now }
-    requires few_rows { positions work.now < 2 ^ 31 }
-    requires ended { HasEnded (program_of run.now.master) kinds.Optimal work.now }
+    requires few_rows { positions solver.now < 2 ^ 31 }
+    requires ended { HasEnded (program_of run.now.master) kinds.Optimal solver.now }
     ensures outcome { (m : RobustModel) → IsModel m → IsForms m forms.now → IsSetForm m set.now
         → MatchResult result (IsOutcome N.value N.limit m run.now.rounds) (IsWideNext N.limit m run.now.rounds) }
     ensures finder { IsFinder set.now finder.new }
@@ -136,10 +141,10 @@ fn best<N: Exact, L: Ledger>(
         (CountsStop (L.wides ledger.old) (L.wides ledger.new)) }
     ensures counted { NeverFell L.ops L.wides ledger.old ledger.new }
 {
-    match look_at_plan(alloc, forms, set, finder, work, ledger) {
-        Ok(PlanLook::Broken(cut)) => or_stop(best_round(alloc, run, work, cut)),
+    match look_at_plan(alloc, forms, set, finder, solver, ledger) {
+        Ok(PlanLook::Broken(cut)) => or_stop(best_round(alloc, run, solver, cut)),
         Ok(PlanLook::Kept(plan, kept)) => {
-            or_stop(optimum(alloc, forms, finder, run, work, plan, kept))
+            or_stop(optimum(alloc, forms, finder, run, solver, plan, kept))
         }
         Err(stop) => Err(stop),
     }
@@ -152,15 +157,15 @@ fn boundless<N: Exact, L: Ledger>(
     set: &SetForm,
     finder: &mut Finder<N>,
     run: &Run,
-    work: &Work<N>,
+    solver: &Solver<N>,
     ledger: &mut L,
 ) -> Result<Outcome<N>, Stop>
     requires model { AreOfModel N.limit forms.now set.now }
     requires few { IsFew (counterpart_of forms.now set.now) }
     requires finder { IsFinder set.now finder.old }
     requires run { IsRunSoFar N.limit forms.now set.now run.now }
-    requires few_rows { positions work.now < 2 ^ 31 }
-    requires ended { HasEnded (program_of run.now.master) kinds.Unbounded work.now }
+    requires few_rows { positions solver.now < 2 ^ 31 }
+    requires ended { HasEnded (program_of run.now.master) kinds.Unbounded solver.now }
     ensures outcome { (m : RobustModel) → IsModel m → IsForms m forms.now → IsSetForm m set.now
         → MatchResult result (IsOutcome N.value N.limit m run.now.rounds) (IsWideNext N.limit m run.now.rounds) }
     ensures finder { IsFinder set.now finder.new }
@@ -168,13 +173,15 @@ fn boundless<N: Exact, L: Ledger>(
         (CountsStop (L.wides ledger.old) (L.wides ledger.new)) }
     ensures counted { NeverFell L.ops L.wides ledger.old ledger.new }
 {
-    let (step, held) = match look_at_step(alloc, forms, set, finder, work, ledger) {
-        Ok(StepLook::Broken(cut)) => return or_stop(boundless_round(alloc, run, work, true, cut)),
+    let (step, held) = match look_at_step(alloc, forms, set, finder, solver, ledger) {
+        Ok(StepLook::Broken(cut)) => return or_stop(boundless_round(alloc, run, solver, true, cut)),
         Ok(StepLook::Kept(step, held)) => (step, held),
         Err(stop) => return Err(stop),
     };
-    let (plan, kept) = match look_at_plan(alloc, forms, set, finder, work, ledger) {
-        Ok(PlanLook::Broken(cut)) => return or_stop(boundless_round(alloc, run, work, false, cut)),
+    let (plan, kept) = match look_at_plan(alloc, forms, set, finder, solver, ledger) {
+        Ok(PlanLook::Broken(cut)) => return or_stop(boundless_round(
+            alloc, run, solver, false, cut,
+        )),
         Ok(PlanLook::Kept(plan, kept)) => (plan, kept),
         Err(stop) => return Err(stop),
     };
@@ -208,23 +215,23 @@ fn optimum<N: Exact>(
     forms: &Forms,
     finder: &Finder<N>,
     run: &Run,
-    work: &Work<N>,
+    solver: &Solver<N>,
     plan: Plan<N>,
     kept: Kept<N>,
 ) -> Result<Outcome<N>, Memory>
     requires few { length forms.now.matrices < 2 ^ 32 }
     requires finder { (set : SetRows) × AreElaborated N.limit forms.now set × IsFewSet set × IsFinder set finder.now }
-    requires optimum { HasOptimum work.now }
-    requires rows { length run.now.rounds ≡ positions work.now }
-    requires few_rows { positions work.now < 2 ^ 31 }
+    requires optimum { HasOptimum solver.now }
+    requires rows { length run.now.rounds ≡ positions solver.now }
+    requires few_rows { positions solver.now < 2 ^ 31 }
     requires fits { Each (RoundFits N.limit) run.now.rounds }
     ensures end { IfOk result (λ outcome. IsEndWith N.value forms.now finder.now
         (λ inside. optimal_with inside (covered_plan N.value plan kept)
-        (items_told (length forms.now.matrices) run.now.rounds (dual_of work.now))) outcome) }
+        (items_told (length forms.now.matrices) run.now.rounds (dual_of solver.now))) outcome) }
 {
     let inside = finder.inside(alloc, forms)?;
     let count = forms.matrices.items().len() as u32;
-    let cert = optimal(alloc, count, run.rounds.items(), work, plan, kept, inside)?;
+    let cert = optimal(alloc, count, run.rounds.items(), solver, plan, kept, inside)?;
     Ok(Outcome::End(cert))
 }
 
@@ -234,20 +241,20 @@ fn without_plan<N: Exact>(
     forms: &Forms,
     finder: &Finder<N>,
     run: &Run,
-    work: &Work<N>,
+    solver: &Solver<N>,
 ) -> Result<Outcome<N>, Memory>
     requires few { length forms.now.matrices < 2 ^ 32 }
     requires finder { (set : SetRows) × AreElaborated N.limit forms.now set × IsFewSet set × IsFinder set finder.now }
-    requires weights { HasWeights work.now }
-    requires rows { length run.now.rounds ≡ positions work.now }
-    requires few_rows { positions work.now < 2 ^ 31 }
+    requires weights { HasWeights solver.now }
+    requires rows { length run.now.rounds ≡ positions solver.now }
+    requires few_rows { positions solver.now < 2 ^ 31 }
     requires fits { Each (RoundFits N.limit) run.now.rounds }
     ensures end { IfOk result (λ outcome. IsEndWith N.value forms.now finder.now (λ inside. infeasible_with inside
-        (items_told (length forms.now.matrices) run.now.rounds (λ q. of_int (weights_of work.now q)))) outcome) }
+        (items_told (length forms.now.matrices) run.now.rounds (λ q. of_int (weights_of solver.now q)))) outcome) }
 {
     let inside = finder.inside(alloc, forms)?;
     let count = forms.matrices.items().len() as u32;
-    let cert = infeasible(alloc, count, run.rounds.items(), work, inside)?;
+    let cert = infeasible(alloc, count, run.rounds.items(), solver, inside)?;
     Ok(Outcome::End(cert))
 }
 
@@ -255,20 +262,20 @@ fn without_plan<N: Exact>(
 fn best_round<N: Exact>(
     alloc: Global,
     run: &Run,
-    work: &Work<N>,
+    solver: &Solver<N>,
     cut: Cut,
 ) -> Result<Outcome<N>, Memory>
-    requires rows { length run.now.rounds ≡ positions work.now }
-    requires few { positions work.now < 2 ^ 31 }
+    requires rows { length run.now.rounds ≡ positions solver.now }
+    requires few { positions solver.now < 2 ^ 31 }
     requires within { nat_abs cut.base ≤ N.limit }
     ensures round { IfOk result (λ outcome. outcome ≡ Leads.Cut (round_told (record {
       kind = with_best;
       by_step = false;
-      basis = work.now.basis;
+      basis = solver.now.basis;
       cut = cut_made cut;
     }))) }
 {
-    let basis = basis(alloc, work, run.rounds.items().len() as u32)?;
+    let basis = basis(alloc, solver, run.rounds.items().len() as u32)?;
     Ok(Outcome::Cut(Round {
         kind: LpKind::Optimal,
         by_step: false,
@@ -284,28 +291,28 @@ fn best_round<N: Exact>(
 fn boundless_round<N: Exact>(
     alloc: Global,
     run: &Run,
-    work: &Work<N>,
+    solver: &Solver<N>,
     by_step: bool,
     cut: Cut,
 ) -> Result<Outcome<N>, Memory>
-    requires ray { HasRay work.now }
-    requires rows { length run.now.rounds ≡ positions work.now }
-    requires few { positions work.now < 2 ^ 31 }
+    requires ray { HasRay solver.now }
+    requires rows { length run.now.rounds ≡ positions solver.now }
+    requires few { positions solver.now < 2 ^ 31 }
     requires within { nat_abs cut.base ≤ N.limit }
     ensures round { IfOk result (λ outcome. outcome
         ≡ Leads.Cut (round_told (record {
-          kind = without_best (column_of work.now.state);
+          kind = without_best (column_of solver.now.state);
           by_step = by_step;
-          basis = work.now.basis;
+          basis = solver.now.basis;
           cut = cut_made cut;
         }))) }
 {
-    let basis = basis(alloc, work, run.rounds.items().len() as u32)?;
+    let basis = basis(alloc, solver, run.rounds.items().len() as u32)?;
     Ok(Outcome::Cut(Round {
         kind: LpKind::Unbounded,
         by_step,
         basis,
-        column: Some(work.column()),
+        column: Some(solver.column()),
         form: cut.form,
         base: cut.base,
         vector: cut.vector,

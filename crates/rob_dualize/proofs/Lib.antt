@@ -14,3 +14,4 @@ pub mod SizeLemmas
 pub mod NarrowModels
 pub mod ModelLemmas
 pub mod RowBoundLemmas
+pub mod ToldLemmas

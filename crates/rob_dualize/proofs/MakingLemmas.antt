@@ -12,9 +12,12 @@ use Rattle.rob_rows.specs.LinearPrograms.{program_of}
 use Rattle.rob_simplex.specs.Dictionaries.{columns_of}
 use Rattle.rob_linear.specs.WideRows.{HasWideRow}
 use Rattle.rob_number.specs.declared.lp_kind.LpKind.{LpKind}
-use Rattle.rob_simplex.specs.Endings.{HasSolved, HasStopped, HasAnswered}
+use Rattle.rob_simplex.specs.Endings.{HasStopped}
 use Rattle.rob_simplex.specs.declared.state.LpStop.{LpStop}
 use Rattle.rob_simplex.specs.declared.state.LpStop.TheVariants.{Wide}
+use Rattle.rob_solver.specs.Solving.{IsStopped}
+use Rattle.rob_solver.specs.declared.solving.Stopped.{Stopped}
+use Rattle.rob_solver.specs.declared.solving.Stopped.TheVariants as unsolved
 use Rattle.rob_simplex.specs.Solvers.{Solver, positions, entries}
 use Rattle.rob_simplex.specs.Solutions.{point_of}
 use Rattle.rob_sets.specs.SetForm.{IsSetForm}
@@ -29,7 +32,7 @@ use Rattle.rob_counterpart.specs.SetPrograms.{set_of}
 use Rattle.rob_counterpart.specs.Splitting.{plus, minus, OneIsZero}
 use Rattle.rob_counterpart.proofs.SetLemmas.{over_set_is, cost_is}
 use Rattle.rob_counterpart.proofs.SplitLemmas.{point_opposite, set_pair}
-use Rattle.rob_dualize.specs.Ending.{HasLastPoint, HasEnded, IsMadeAs, read_from, position_of}
+use Rattle.rob_dualize.specs.Ending.{HasLastPoint, HasEnded, IsSolvedAs, IsStoppedAs, read_from, position_of}
 use Rattle.rob_dualize.specs.Solving.{TellsWideRow}
 use Rattle.rob_elab.specs.Elaborated.{AreElaborated}
 use Rattle.rob_dualize.specs.SetSolving.{IsFewSet, IsSetOfModel}
@@ -75,10 +78,20 @@ set_pairs d s h c l =
     (own_of (system_of (set_of d)) (columns_of s.basis)) (entries s) (last_basis (set_of d) s h) (point_of s) (last_point (set_of d) s h)
 
 -- ---- the answer of a solver
-pub has_ended : (Q : Program) (before now : Solver) (h : IsMadeAs Q before) (kind : LpKind) → now.columns ≡ before.columns → positions now ≡ positions before → HasSolved h.program kind now → HasAnswered kind now
-    → HasEnded Q kind now
-has_ended Q before now h kind ec ep solved answered =
-    record { program = h.program; same = h.same; rows = h.made.rows ∙ sym ep; columns = h.made.columns ∙ sym ec; solved = solved; answered = answered }
+pub has_ended : (N : Type 0) (Q : Program) (solver : Solver) (kind : LpKind) → IsSolvedAs {N = N} Q (record { solver = solver; kind = kind }) → HasEnded Q kind solver
+has_ended N Q solver kind h = record {
+  program = h.program;
+  same = h.same;
+  rows = h.answer.rows;
+  columns = h.answer.columns;
+  solved = h.answer.answer;
+  answered = h.answer.answered;
+}
+
+-- the stop of a program with the numbers of Q
+pub has_stopped : {N : Type 0} (limit : ℕ) (P Q : Program) → AreSame P Q → (stopped : Stopped N) → IsStopped limit P stopped → IsStoppedAs limit Q stopped
+has_stopped limit P Q same (unsolved.Wide s stop) h = record { program = P; same = same; rows = h.0; wide = h.1 }
+has_stopped limit P Q same unsolved.Memory h = tt
 
 pub stopped_row : (limit : ℕ) (P : Program) (stop : LpStop) (s : Solver) → HasStopped limit P stop s → HasWideRow limit P (columns_of s.basis) (position_of stop)
 stopped_row limit P (Wide i) s h = h.1
@@ -101,7 +114,7 @@ module _ (forms : Forms) (set : SetForm) (m : RobustModel) (f : IsForms m forms)
   pub read_same : (inside : List Fraction) (k : LpKind) (s : Solver) → read_from (wholes forms set) inside k s ≡ read_from (robust_of m) inside k s
   read_same inside k s = ap (λ (q : RobustProgram). read_from q inside k s) same_wholes
 
-  pub counterpart_wide : (limit : ℕ) (before now : Solver) (h : IsMadeAs (counterpart_of forms set) before) → positions now ≡ positions before → (i : ℕ)
-      → HasWideRow limit h.program (columns_of now.basis) i → TellsWideRow limit (counterpart m) now.basis i
-  counterpart_wide limit before now h e i w =
-      wide_told limit h.program (counterpart m) (subst (λ (q : RobustProgram). AreSame h.program (reform q)) same_wholes h.same) now.basis i (e ∙ sym h.made.rows) w
+  pub counterpart_wide : (limit : ℕ) (now : Solver) (P : Program) → AreSame P (counterpart_of forms set) → P.m ≡ positions now → (i : ℕ)
+      → HasWideRow limit P (columns_of now.basis) i → TellsWideRow limit (counterpart m) now.basis i
+  counterpart_wide limit now P same rows i w =
+      wide_told limit P (counterpart m) (subst (λ (q : RobustProgram). AreSame P (reform q)) same_wholes same) now.basis i (sym rows) w

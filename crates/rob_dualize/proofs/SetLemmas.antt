@@ -14,14 +14,15 @@ use Rattle.rob_number.specs.declared.lp_kind.LpKind.TheVariants as kind
 use Rattle.rob_rows.specs.declared.program.Lp.{Lp}
 use Rattle.rob_rows.specs.LinearPrograms.{program_of}
 use Rattle.rob_simplex.specs.Dictionaries.{columns_of}
-use Rattle.rob_simplex.specs.Endings.{HasSolved, HasAnswered, HasStopped, IsOptimumOf, IsRayOf}
+use Rattle.rob_simplex.specs.Endings.{HasSolved, HasAnswered, IsOptimumOf, IsRayOf}
 use Rattle.rob_simplex.specs.Resuming.{CanResume}
-use Rattle.rob_simplex.specs.Solvers.{Solver, positions, HasPoint}
+use Rattle.rob_simplex.specs.Solvers.{Solver, positions, HasPoint, IsMadeFor}
 use Rattle.rob_simplex.specs.Solutions.{point_of, weights_of}
 use Rattle.rob_simplex.specs.declared.state.LpStop.{LpStop}
 use Rattle.rob_model.specs.declared.place.Spot.{Spot}
 use Rattle.rob_model.specs.declared.place.Spot.TheVariants as spot
 use Rattle.rob_model.specs.declared.place.Program.TheVariants as named
+use Rattle.rob_solver.proofs.SolvingLemmas.{solution}
 use Rattle.rob_cert.specs.declared.ending.Stop.{Stop}
 use Rattle.rob_cert.specs.declared.ending.Stop.TheVariants.{EmptySet, Wide, Memory}
 use Rattle.rob_counterpart.specs.Counterpart.{set_program}
@@ -36,7 +37,7 @@ use Rattle.rob_sets.specs.declared.set_form.SetRow.{SetRow}
 use Rattle.rob_sets.specs.SetProgram.{IsOverRobust, robust_set}
 use Rattle.rob_sets.specs.declared.set_form.SetForm.{SetForm}
 use Rattle.rob_sets.proofs.SetProgramLemmas.{same_program}
-use Rattle.rob_dualize.specs.Ending.{HasEnded, HasLastPoint, IsMadeAs, StopsAt, TellsWeights, position_of}
+use Rattle.rob_dualize.specs.Ending.{HasEnded, HasLastPoint, IsSolvedAs, IsStoppedAt, StopsAt, TellsWeights, position_of}
 use Rattle.rob_dualize.specs.SetSolving.{program_of_set, IsFewSet, IsSolved, IsWideInSet, HasSetCause}
 use Rattle.rob_dualize.specs.Solving.{IsLastScenario, TellsWideRow, IsWideOnPath, CountsStop, HasCause}
 use Rattle.rob_dualize.proofs.MakingLemmas.{set_pairs, stopped_row}
@@ -80,39 +81,38 @@ pub set_made : (set : SetForm) (lp : Lp) → IsOverRobust (robust_set set) (prog
 set_made set lp h = over_set_same (robust_set set) (λ c. pos 0) (program_of lp) h.over_set h.cost
 
 -- ---- its solver
-module _ (Q : Program) (before now : Solver) (made : IsMadeAs Q before) (columns : now.columns ≡ before.columns) (rows : positions now ≡ positions before) where
-  ended : (k : LpKind) → HasSolved made.program k now → HasAnswered k now → HasEnded Q k now
-  ended k s a = record {
-    program = made.program;
-    same = made.same;
-    rows = made.made.rows ∙ sym rows;
-    columns = made.made.columns ∙ sym columns;
-    solved = s;
-    answered = a;
-  }
-
-  pub solved_at_optimum : HasSolved made.program kind.Optimal now → HasAnswered kind.Optimal now → (HasPoint now → CanResume made.program now) → IsSolved Q now
-  solved_at_optimum s a r =
-      let o : IsOptimumOf made.program now = s in
+module _ (N : Type 0) (Q : Program) (now : Solver) where
+  pub solved_at_optimum : (k : LpKind) → k ≡ kind.Optimal → IsSolvedAs {N = N} Q (record { solver = now; kind = k }) → IsSolved Q now
+  solved_at_optimum k e h =
+      let o : IsOptimumOf h.program now = subst (λ (t : LpKind). HasSolved h.program t now) e h.answer.answer in
+      let a : HasAnswered kind.Optimal now = subst (λ (t : LpKind). HasAnswered t now) e h.answer.answered in
       record {
-        last = record { program = made.program; same = made.same; point = o.point; feasible = o.ends.feasible };
-        stands = r a.1;
-        rows = made.made.rows ∙ sym rows;
-        columns = made.made.columns ∙ sym columns;
+        last = record { program = h.program; same = h.same; point = o.point; feasible = o.ends.feasible };
+        stands = h.answer.resumable a.1;
+        rows = h.answer.rows;
+        columns = h.answer.columns;
       }
 
-  pub solved_at_ray : HasSolved made.program kind.Unbounded now → HasAnswered kind.Unbounded now → (HasPoint now → CanResume made.program now) → IsSolved Q now
-  solved_at_ray s a r =
-      let o : IsRayOf made.program now = s in
+  pub solved_at_ray : (k : LpKind) → k ≡ kind.Unbounded → IsSolvedAs {N = N} Q (record { solver = now; kind = k }) → IsSolved Q now
+  solved_at_ray k e h =
+      let o : IsRayOf h.program now = subst (λ (t : LpKind). HasSolved h.program t now) e h.answer.answer in
+      let a : HasAnswered kind.Unbounded now = subst (λ (t : LpKind). HasAnswered t now) e h.answer.answered in
       record {
-        last = record { program = made.program; same = made.same; point = o.point; feasible = o.ends.feasible };
-        stands = r a.1;
-        rows = made.made.rows ∙ sym rows;
-        columns = made.made.columns ∙ sym columns;
+        last = record { program = h.program; same = h.same; point = o.point; feasible = o.ends.feasible };
+        stands = h.answer.resumable a.1;
+        rows = h.answer.rows;
+        columns = h.answer.columns;
       }
 
-  pub ended_empty : HasSolved made.program kind.Infeasible now → HasAnswered kind.Infeasible now → HasEnded Q kind.Infeasible now
-  ended_empty s a = ended kind.Infeasible s a
+-- an answer of a solver that was made of the set's program
+pub answer_of_set : (N : Type 0) (set : SetForm) (lp : Lp) → IsOverRobust (robust_set set) (program_of lp) → (made now : Solver) → IsMadeFor (program_of lp) made
+    → now.columns ≡ made.columns → positions now ≡ positions made → (k : LpKind) → HasSolved (program_of lp) k now → HasAnswered k now
+    → (HasPoint now → CanResume (program_of lp) now) → IsSolvedAs {N = N} (program_of_set set) (record { solver = now; kind = k })
+answer_of_set N set lp over made now m columns rows k s a r = record {
+  program = program_of lp;
+  same = set_made set lp over;
+  answer = solution N (program_of lp) made now k m columns rows s a r;
+}
 
 -- of each pair of the point of the set's program one number is 0
 pub solved_pairs : (set : SetForm) (s : Solver) → HasLastPoint (program_of_set set) s → (c : ℕ) → c < set.columns → OneIsZero (point_of s (plus c)) (point_of s (minus c))
@@ -152,16 +152,16 @@ module _ (m : RobustModel) (set : SetForm) (is : IsSetForm m set) where
   wide_cause limit (Wide place trace) basis p h w = (subst (IsWideInSet limit m) (sym h.0) w, h.1)
   wide_cause limit Memory basis p h w = tt
 
-  pub stopped_cause : (limit : ℕ) (before now : Solver) (made : IsMadeAs (program_of_set set) before) → positions now ≡ positions before → (lp_stop : LpStop) → HasStopped limit made.program lp_stop now
+  pub stopped_cause : (limit : ℕ) (now : Solver) (lp_stop : LpStop) → IsStoppedAt limit (program_of_set set) now lp_stop
       → (p : ℕ) → p ≡ position_of lp_stop → (stop : Stop) → StopsAt now.basis named.Set p stop → HasSetCause limit m stop
-  stopped_cause limit before now made rows lp_stop h p e stop at =
-      let w : HasWideRow limit made.program (columns_of now.basis) p =
-      subst (λ (k : ℕ). HasWideRow limit made.program (columns_of now.basis) k) (sym e) (stopped_row limit made.program lp_stop now h) in
-      let same : AreSame made.program (set_program m) = of_model made.program made.same in
+  stopped_cause limit now lp_stop h p e stop at =
+      let w : HasWideRow limit h.program (columns_of now.basis) p =
+      subst (λ (k : ℕ). HasWideRow limit h.program (columns_of now.basis) k) (sym e) (stopped_row limit h.program lp_stop now h.wide) in
+      let same : AreSame h.program (set_program m) = of_model h.program h.same in
       wide_cause limit stop now.basis p at
       (record {
-        whole = rows ∙ sym made.made.rows ∙ same.height;
-        row = wide_row_same made.program (set_program m) same limit (columns_of now.basis) p w;
+        whole = sym h.rows ∙ same.height;
+        row = wide_row_same h.program (set_program m) same limit (columns_of now.basis) p w;
       })
 
 pub memory_set_cause : (limit : ℕ) (m : RobustModel) (stop : Stop) → stop ≡ Memory → HasSetCause limit m stop

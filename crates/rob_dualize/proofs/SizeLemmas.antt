@@ -30,8 +30,8 @@ few_within_limits m all set limits f st =
     let some : length all.matrices ≤ 5000 = omega (arith, kind_few m limits Form, length-form_names m) in
     let h : length set.rows ≡ length (set_rows m) = ap length st.rows ∙ length-map (set_rows m) (cleared_row m) in
     let rows : length set.rows ≤ 5000 = omega (arith, kind_few m limits SetRow, length-set_row_names m) in
-    let columns : set.columns ≤ 128 = omega (arith, st.columns, limits.parameters, limits.members) in
-    let decisions : all.columns ≤ 400 = omega (arith, f.columns, limits.columns) in
+    let columns : set.columns ≤ 160 = omega (arith, st.columns, limits.parameters, limits.members) in
+    let decisions : all.columns ≤ 600 = omega (arith, f.columns, limits.columns) in
     let u : length all.matrices * length set.rows ≤ 5000 * length set.rows = times_low (length all.matrices) 5000 (length set.rows) some in
     let v : length all.matrices * block (wholes all set) ≤ 5000 * block (wholes all set) = times_low (length all.matrices) 5000 (block (wholes all set)) some in
     omega arith

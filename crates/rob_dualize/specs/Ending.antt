@@ -15,7 +15,11 @@ use Rattle.rob_simplex.specs.Solvers.{Solver, positions, entries, IsMadeFor}
 use Rattle.rob_simplex.specs.Solutions.{point_of, dual_of, ray_of, weights_of}
 use Rattle.rob_simplex.specs.declared.state.LpStop.{LpStop}
 use Rattle.rob_simplex.specs.declared.state.LpStop.TheVariants.{Wide as At}
-use Rattle.rob_simplex.specs.Endings.{IsLastPoint, HasSolved, HasAnswered}
+use Rattle.rob_simplex.specs.Endings.{IsLastPoint, HasSolved, HasAnswered, HasStopped}
+use Rattle.rob_solver.specs.Solving.{IsSolved}
+use Rattle.rob_solver.specs.declared.solving.Solved.{Solved}
+use Rattle.rob_solver.specs.declared.solving.Stopped.{Stopped}
+use Rattle.rob_solver.specs.declared.solving.Stopped.TheVariants as unsolved
 use Rattle.rob_cert.specs.declared.ending.Stop.{Stop}
 use Rattle.rob_cert.specs.declared.ending.Stop.TheVariants.{EmptySet, Wide, Memory}
 use Rattle.rob_counterpart.specs.RobustProgram.{RobustProgram}
@@ -43,6 +47,25 @@ pub record HasEnded (Q : Program) (kind : LpKind) (s : Solver) : Type 0 where
   pub columns : program.n ≡ s.columns
   pub solved : HasSolved program kind s
   pub answered : HasAnswered kind s
+
+-- the answer is true of a program with the numbers of Q, and where there is a point another cost can be put on the rows
+pub record IsSolvedAs {N : Type 0} (Q : Program) (solved : Solved N) : Type 0 where
+  pub program : Program
+  pub same : AreSame program Q
+  pub answer : IsSolved program solved
+
+-- the row of the position that the stop names is wide at the basis where the solver stands, of a program with the
+-- numbers of Q
+pub record IsStoppedAt (limit : ℕ) (Q : Program) (s : Solver) (stop : LpStop) : Type 0 where
+  pub program : Program
+  pub same : AreSame program Q
+  pub rows : program.m ≡ positions s
+  pub wide : HasStopped limit program stop s
+
+-- why a program with the numbers of Q has no answer: such a row; want of memory is free
+abbrev pub IsStoppedAs : {N : Type 0} → ℕ → Program → Stopped N → Type 0
+IsStoppedAs limit Q (unsolved.Wide s stop) = IsStoppedAt limit Q s stop
+IsStoppedAs limit Q unsolved.Memory = ⊤
 
 -- the certificate of an ending, from the numbers that the solver tells
 abbrev pub read_from : RobustProgram → List Fraction → LpKind → Solver → Certificate

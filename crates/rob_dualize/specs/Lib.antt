@@ -6,3 +6,4 @@ pub mod SetSolving
 pub mod Models
 pub mod SmallestModel
 pub mod RowBounds
+pub mod Told

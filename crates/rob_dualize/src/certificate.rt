@@ -15,7 +15,7 @@ use rob_elab::Forms;
 use rob_model::Scenario;
 use rob_number::{Exact, List, LpKind, Memory};
 use rob_sets::SetForm;
-use rob_simplex::Work;
+use rob_solver::Solver;
 use std::alloc::Global;
 
 /// The certificate of the ending, with a scenario that is admitted.
@@ -23,20 +23,20 @@ pub fn certificate<N: Exact>(
     alloc: Global,
     forms: &Forms,
     set: &SetForm,
-    work: &Work<N>,
+    solver: &Solver<N>,
     kind: LpKind,
     inside: Scenario<N>,
 ) -> Result<Cert<N>, Memory>
     requires few { IsFew (counterpart_of forms.now set.now) }
     requires parameters { forms.now.params ≤ set.now.columns }
-    requires ended { HasEnded (counterpart_of forms.now set.now) kind work.now }
+    requires ended { HasEnded (counterpart_of forms.now set.now) kind solver.now }
     ensures certificate { IfOk result (λ cert. certificate_of N.value cert
-        ≡ read_from (wholes forms.now set.now) (scenario_of N.value inside) kind work.now) }
+        ≡ read_from (wholes forms.now set.now) (scenario_of N.value inside) kind solver.now) }
 {
     match kind {
-        LpKind::Optimal => optimal(alloc, forms, set, work, inside),
-        LpKind::Infeasible => infeasible(alloc, forms, set, work, inside),
-        LpKind::Unbounded => unbounded(alloc, forms, set, work, inside),
+        LpKind::Optimal => optimal(alloc, forms, set, solver, inside),
+        LpKind::Infeasible => infeasible(alloc, forms, set, solver, inside),
+        LpKind::Unbounded => unbounded(alloc, forms, set, solver, inside),
     }
 }
 
@@ -45,18 +45,18 @@ fn optimal<N: Exact>(
     alloc: Global,
     forms: &Forms,
     set: &SetForm,
-    work: &Work<N>,
+    solver: &Solver<N>,
     inside: Scenario<N>,
 ) -> Result<Cert<N>, Memory>
     requires few { IsFew (counterpart_of forms.now set.now) }
     requires parameters { forms.now.params ≤ set.now.columns }
-    requires ended { HasEnded (counterpart_of forms.now set.now) kind.Optimal work.now }
+    requires ended { HasEnded (counterpart_of forms.now set.now) kind.Optimal solver.now }
     ensures certificate { IfOk result (λ cert. certificate_of N.value cert
-        ≡ read_from (wholes forms.now set.now) (scenario_of N.value inside) kind.Optimal work.now) }
+        ≡ read_from (wholes forms.now set.now) (scenario_of N.value inside) kind.Optimal solver.now) }
 {
     let decisions = forms.columns as usize;
-    let x = point(alloc, work, program_columns(forms, set) as u32)?;
-    let y = dual_values(alloc, work, program_rows(forms, set) as u32)?;
+    let x = point(alloc, solver, program_columns(forms, set) as u32)?;
+    let y = dual_values(alloc, solver, program_rows(forms, set) as u32)?;
     let plan = pair_differences(alloc, x.items(), decisions)?;
     let covers = covers(alloc, forms, set, x.items())?;
     let items = items(alloc, forms, set, y.items())?;
@@ -79,16 +79,16 @@ fn infeasible<N: Exact>(
     alloc: Global,
     forms: &Forms,
     set: &SetForm,
-    work: &Work<N>,
+    solver: &Solver<N>,
     inside: Scenario<N>,
 ) -> Result<Cert<N>, Memory>
     requires few { IsFew (counterpart_of forms.now set.now) }
     requires parameters { forms.now.params ≤ set.now.columns }
-    requires ended { HasEnded (counterpart_of forms.now set.now) kind.Infeasible work.now }
+    requires ended { HasEnded (counterpart_of forms.now set.now) kind.Infeasible solver.now }
     ensures certificate { IfOk result (λ cert. certificate_of N.value cert
-        ≡ read_from (wholes forms.now set.now) (scenario_of N.value inside) kind.Infeasible work.now) }
+        ≡ read_from (wholes forms.now set.now) (scenario_of N.value inside) kind.Infeasible solver.now) }
 {
-    let weights = exact_weights(alloc, work, program_rows(forms, set) as u32)?;
+    let weights = exact_weights(alloc, solver, program_rows(forms, set) as u32)?;
     let items = items(alloc, forms, set, weights.items())?;
     Ok(Cert {
         status: Status::Infeasible,
@@ -109,18 +109,18 @@ fn unbounded<N: Exact>(
     alloc: Global,
     forms: &Forms,
     set: &SetForm,
-    work: &Work<N>,
+    solver: &Solver<N>,
     inside: Scenario<N>,
 ) -> Result<Cert<N>, Memory>
     requires few { IsFew (counterpart_of forms.now set.now) }
-    requires ended { HasEnded (counterpart_of forms.now set.now) kind.Unbounded work.now }
+    requires ended { HasEnded (counterpart_of forms.now set.now) kind.Unbounded solver.now }
     ensures certificate { IfOk result (λ cert. certificate_of N.value cert
-        ≡ read_from (wholes forms.now set.now) (scenario_of N.value inside) kind.Unbounded work.now) }
+        ≡ read_from (wholes forms.now set.now) (scenario_of N.value inside) kind.Unbounded solver.now) }
 {
     let decisions = forms.columns as usize;
     let count = program_columns(forms, set) as u32;
-    let x = point(alloc, work, count)?;
-    let r = ray(alloc, work, count)?;
+    let x = point(alloc, solver, count)?;
+    let r = ray(alloc, solver, count)?;
     let plan = pair_differences(alloc, x.items(), decisions)?;
     let step = pair_differences(alloc, r.items(), decisions)?;
     let holds = covers(alloc, forms, set, r.items())?;

@@ -12,6 +12,7 @@ pub mod reading;
 mod route;
 mod scenario;
 pub mod set_program;
+mod source;
 pub mod stop;
 pub mod told;
 
@@ -19,3 +20,4 @@ pub use bounds::model_bounds;
 pub use counterpart::reform;
 pub use model::solve_model;
 pub use route::solve_dual;
+pub use source::Counterpart;

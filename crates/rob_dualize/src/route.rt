@@ -1,26 +1,28 @@
 // The route: the set's program first, then the counterpart.
 
-ghost use Rattle.std.specs.Prelude.{◌≡◌, ℕ, IfOk};
+ghost use Rattle.std.specs.Prelude.{◌≡◌, ℕ, IfOk, IfErr};
 ghost use Rattle.rob_meaning.specs.RobustModel.{RobustModel};
 ghost use Rattle.rob_meaning.specs.WellFormed.{IsModel};
 ghost use Rattle.rob_number.specs.Counts.{NeverFell};
 ghost use Rattle.rob_sets.specs.SetForm.{IsSetForm};
 ghost use Rattle.rob_elab.specs.Elaborated.{AreElaborated};
 ghost use Rattle.rob_elab.specs.Forms.{IsForms};
-ghost use Rattle.rob_dualize.specs.Ending.{IsMadeAs};
+ghost use Rattle.rob_solver.specs.Solving.{CountsSolving};
+ghost use Rattle.rob_dualize.specs.Ending.{IsSolvedAs, IsStoppedAs};
 ghost use Rattle.rob_dualize.specs.Solving.{Solves};
 ghost use Rattle.rob_dualize.specs.Wholes.{counterpart_of, IsFew};
 
 use crate::certificate::certificate;
-use crate::counterpart::{program_rows, reform};
+use crate::counterpart::program_rows;
 use crate::scenario::scenario;
+use crate::source::Counterpart;
 use crate::stop::{or_stop, position, wide};
 use rob_cert::{Cert, Stop};
 use rob_elab::Forms;
 use rob_model::Program;
-use rob_number::{Exact, Ledger, Memory};
+use rob_number::{Exact, Ledger};
 use rob_sets::SetForm;
-use rob_simplex::Work;
+use rob_solver::{Solved, Stopped, solve};
 use std::alloc::Global;
 
 /// Solves the model of the forms and the set rows by its robust counterpart. The certificate's numbers are those of the
@@ -44,29 +46,31 @@ pub fn solve_dual<N: Exact, L: Ledger>(
         Ok(inside) => inside,
         Err(stop) => return Err(stop),
     };
-    let mut work = match counterpart_work::<N>(alloc, forms, set) {
-        Ok(work) => work,
-        Err(Memory) => return Err(Stop::Memory),
-    };
-    match work.solve(ledger) {
-        Ok(kind) => or_stop(certificate(alloc, forms, set, &work, kind, inside)),
-        Err(stop) => {
-            let rows = program_rows(forms, set) as u32;
-            Err(wide(alloc, &work, Program::Reform, rows, position(stop)))
+    let rows = program_rows(forms, set) as u32;
+    match solve_counterpart::<N, L>(alloc, forms, set, ledger) {
+        Ok(Solved { solver, kind }) => {
+            or_stop(certificate(alloc, forms, set, &solver, kind, inside))
         }
+        Err(Stopped::Wide(solver, stop)) => {
+            Err(wide(alloc, &solver, Program::Reform, rows, position(stop)))
+        }
+        Err(Stopped::Memory) => Err(Stop::Memory),
     }
 }
 
-/// A solver of the counterpart. The program itself is let go of.
-fn counterpart_work<N: Exact>(
+/// Solves the counterpart, which is told row by row.
+fn solve_counterpart<N: Exact, L: Ledger>(
     alloc: Global,
     forms: &Forms,
     set: &SetForm,
-) -> Result<Work<N>, Memory>
+    ledger: &mut L,
+) -> Result<Solved<N>, Stopped<N>>
     requires model { AreElaborated N.limit forms.now set.now }
     requires few { IsFew (counterpart_of forms.now set.now) }
-    ensures made { IfOk result (λ work. IsMadeAs (counterpart_of forms.now set.now) work) }
+    ensures solved { IfOk result (IsSolvedAs (counterpart_of forms.now set.now)) }
+    ensures stopped { IfErr result (IsStoppedAs N.limit (counterpart_of forms.now set.now)) }
+    ensures counted { CountsSolving L.ops L.wides ledger.old ledger.new result }
 {
-    let lp = reform(alloc, forms, set)?;
-    Work::new(alloc, &lp)
+    let source = Counterpart { forms, set };
+    solve(alloc, &source, ledger)
 }

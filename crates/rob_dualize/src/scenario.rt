@@ -31,11 +31,11 @@ pub fn scenario<N: Exact, L: Ledger>(
         → Finds N.value N.limit m (L.wides ledger.old) (L.wides ledger.new) result }
     ensures counted { NeverFell L.ops L.wides ledger.old ledger.new }
 {
-    let work = match solved_set::<N, L>(alloc, set, ledger) {
-        Ok(work) => work,
+    let solver = match solved_set::<N, L>(alloc, set, ledger) {
+        Ok(solver) => solver,
         Err(stop) => return Err(stop),
     };
-    match parameters(alloc, &work, forms.params) {
+    match parameters(alloc, &solver, forms.params) {
         Ok(values) => Ok(Scenario { values }),
         Err(Memory) => Err(Stop::Memory),
     }

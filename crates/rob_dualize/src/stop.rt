@@ -9,7 +9,8 @@ use crate::told::basis;
 use rob_cert::{Stop, Trace};
 use rob_model::{Program, Spot};
 use rob_number::{Exact, List, Memory};
-use rob_simplex::{LpStop, Work};
+use rob_simplex::LpStop;
+use rob_solver::Solver;
 use std::alloc::Global;
 
 /// The position of the row that is wide.
@@ -22,11 +23,17 @@ pub fn position(stop: LpStop) -> u32
 }
 
 /// The row of position i is wide at the basis where the solver stands; or memory for that basis is refused.
-pub fn wide<N: Exact>(alloc: Global, work: &Work<N>, program: Program, count: u32, i: u32) -> Stop
-    requires positions { count ≡ positions work.now }
-    ensures stop { StopsAt work.now.basis program i result }
+pub fn wide<N: Exact>(
+    alloc: Global,
+    solver: &Solver<N>,
+    program: Program,
+    count: u32,
+    i: u32,
+) -> Stop
+    requires positions { count ≡ positions solver.now }
+    ensures stop { StopsAt solver.now.basis program i result }
 {
-    match basis(alloc, work, count) {
+    match basis(alloc, solver, count) {
         Ok(columns) => wide_at(alloc, Spot::Dictionary(program, columns, i)),
         Err(Memory) => Stop::Memory,
     }

@@ -21,7 +21,7 @@ use Rattle.rob_linear.proofs.Turns.{own_low}
 use Rattle.rob_linear.proofs.MultipleStages.{multiple_last, multiple_cleared, multiple_stage_wide}
 use Rattle.rob_linear.proofs.Multiples.{parallel_refl}
 use Rattle.rob_linear.proofs.WithoutColumn.{cleared_without, parallel_without}
-use Rattle.rob_rows.specs.Updates.{IsWideCleared}
+use Rattle.rob_entries.specs.Updates.{IsWideCleared}
 use Rattle.rob_simplex.specs.Dictionaries.{Table, positions, width_of, columns_of, spare_column, rows_of, IsFree, IsAlone, IsOpen}
 use Rattle.rob_simplex.specs.Lowering.{IsLowered, amount_of, HasCleared, HasRefusedCost}
 use Rattle.rob_simplex.specs.Phases.{StandsFor}

@@ -10,7 +10,7 @@ use Rattle.rob_linear.specs.Vectors.{Vector}
 use Rattle.rob_linear.specs.Systems.{IsPrimitive}
 use Rattle.rob_linear.specs.Multiples.{IsClearedBy, IsParallel}
 use Rattle.rob_linear.proofs.Multiples.{primitive_least}
-use Rattle.rob_rows.specs.Updates.{IsWideCleared}
+use Rattle.rob_entries.specs.Updates.{IsWideCleared}
 use Rattle.rob_simplex.specs.Dictionaries.{Table, positions, width_of, columns_of, spare_column, rows_of, IsFree, IsAlone, IsOpen, ClearsTable, StopsTable}
 use Rattle.rob_simplex.specs.Lowering.{IsLowered, amount_of, HasCleared, HasRefusedCost}
 use Rattle.rob_simplex.proofs.CostStages.{cleared_parallel}

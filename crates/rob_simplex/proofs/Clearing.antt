@@ -1,17 +1,14 @@
 -- A table's rows, cleared one by one.
-use Rattle.std.proofs.Common.{◌≡◌, ◌≢◌, ℕ, ◌+◌, ◌-◌, ◌*◌, ◌^◌, ◌<◌, ◌≤◌, sym, ap, ◌∙◌, refl, subst, arith, inl, inr, List, length, set, to_z, of_z, w64}
-use Rattle.std.proofs.lemmas.Bool.{cases_eq}
-use Rattle.std.proofs.lemmas.Int.{ints}
-use Rattle.std.proofs.lemmas.List.{get_or_default, get_or-set_same, get_or-set_other, length-set}
-use borrow.Rule.Slice.PartMut.{put_mid}
-use lib.IntN.{ℤ, pos, ◌-ℤ◌, ◌*ℤ◌, nat_abs}
+use Rattle.std.proofs.Common.{◌≡◌, ◌≢◌, ℕ, ◌+◌, ◌*◌, ◌<◌, ◌≤◌, sym, ap, ◌∙◌, refl, subst, arith, inl, inr, ◌⊎◌, List, length}
+use Rattle.std.proofs.lemmas.Bool.{cases_eq, cases_order}
+use lib.IntN.{ℤ, pos, ◌-ℤ◌, ◌*ℤ◌}
 use Rattle.rob_linear.specs.Vectors.{Matrix, Vector, at}
 use Rattle.rob_linear.specs.Multiples.{IsClearedBy}
 use Rattle.rob_linear.proofs.Multiples.{zero_clears}
 use Rattle.rob_number.specs.Counts.{raised}
-use Rattle.rob_rows.specs.Updates.{IsBounded, IsWideCleared}
-use Rattle.rob_simplex.specs.Tables.{row_at, bound_at, HasBounds, AreCleared, IsStopped}
-use Rattle.rob_simplex.proofs.Places.{row_within, part, part_length, part_at, put_here, put_other, put_length}
+use Rattle.rob_entries.specs.Updates.{IsWideCleared}
+use Rattle.rob_simplex.specs.Tables.{row_at, HasBounds, AreCleared, IsStopped}
+use Rattle.rob_simplex.proofs.Places.{row_within}
 
 -- rows with the same entries are cleared alike
 pub cleared_ext : (width place : ℕ) (low low' top new new' : Vector) → ((k : ℕ) → k < width → low k ≡ low' k) → ((k : ℕ) → k < width → new k ≡ new' k) → place < width
@@ -27,58 +24,17 @@ cleared_ext width place low low' top new new' el en pl c = record {
 }
 
 -- ---- a row of the table
-module _ (limit width : ℕ) (rows : List ℤ) (bounds : List ℕ) (h : HasBounds limit width rows bounds) (i : ℕ) (il : i < length bounds) where
-  pub row_in : i * width + width ≤ length rows
-  row_in = let r = row_within (length bounds) width i il in omega (arith, h.size)
+pub row_in : (limit width : ℕ) (rows : List ℤ) (bounds : List ℕ) → HasBounds limit width rows bounds → (i : ℕ) → i < length bounds → i * width + width ≤ length rows
+row_in limit width rows bounds h i il = let r = row_within (length bounds) width i il in omega (arith, h.size)
 
-  pub part_bounded : IsBounded limit (part rows width i) (bound_at bounds i)
-  part_bounded = record {
-    low = h.low i il;
-    within = λ k d l.
-        let kl : k < width = omega (arith, part_length rows width i row_in) in
-        subst (λ t. nat_abs t ≤ bound_at bounds i) (sym (get_or_default (part rows width i) k d (pos 0) l ∙ part_at rows width i k kl)) (h.within i k il kl);
-  }
-
-  -- what is made of the row, cut out of the table
-  pub cleared_in : (place : ℕ) (top : Vector) (s : List ℤ) → place < width → length s ≡ width → IsClearedBy (length (part rows width i)) place (at (part rows width i)) top (at s)
-      → IsClearedBy width place (row_at rows width i) top (row_at (put_mid (i * width) (i * width + width - i * width) rows s) width i)
-  cleared_in place top s pl sl c =
-      cleared_ext width place (at (part rows width i)) (row_at rows width i) top (at s) (row_at (put_mid (i * width) (i * width + width - i * width) rows s) width i)
-      (λ k l. part_at rows width i k l) (λ k l. sym (put_here rows s (i * width) width k (pos 0) row_in sl l)) pl
-      (subst (λ n. IsClearedBy n place (at (part rows width i)) top (at s)) (part_length rows width i row_in) c)
-
-  pub wide_in : (place : ℕ) (top : Vector) → place < width → IsWideCleared limit (length (part rows width i)) place (at (part rows width i)) top → IsWideCleared limit width place (row_at rows width i) top
-  wide_in place top pl w =
-      let v : IsWideCleared limit width place (at (part rows width i)) top = subst (λ n. IsWideCleared limit n place (at (part rows width i)) top) (part_length rows width i row_in) w in
-      (v.0, cleared_ext width place (at (part rows width i)) (row_at rows width i) top v.0 v.0 (λ k l. part_at rows width i k l) (λ k l. refl) pl v.1, v.2, v.3)
-
-  pub others_in : (s : List ℤ) → length s ≡ width → (j k : ℕ) → j ≢ i → k < width
-      → row_at (put_mid (i * width) (i * width + width - i * width) rows s) width j k ≡ row_at rows width j k
-  others_in s sl j k d l = put_other rows s width i j k row_in sl d l
-
-  pub part_is : length (part rows width i) ≡ width
-  part_is = part_length rows width i row_in
-
-  -- a new row with its bound
-  pub put_bounds : (s : List ℤ) (sum : ℕ) → length s ≡ width → IsBounded limit s sum → HasBounds limit width (put_mid (i * width) (i * width + width - i * width) rows s) (set bounds i sum)
-  put_bounds s sum sl b =
-      let n : length (set bounds i sum) ≡ length bounds = length-set bounds i sum in
-      record {
-        size = put_length rows s (i * width) width row_in sl ∙ h.size ∙ ap (λ t. t * width) (sym n);
-        within = λ j k jl kl. elim (cases_eq j i) [
-          | inl e ↦
-              let here : row_at (put_mid (i * width) (i * width + width - i * width) rows s) width i k ≡ at s k = put_here rows s (i * width) width k (pos 0) row_in sl kl in
-              subst (λ t. nat_abs (row_at (put_mid (i * width) (i * width + width - i * width) rows s) width t k) ≤ bound_at (set bounds i sum) t) (sym e)
-              (subst (λ t. nat_abs t ≤ bound_at (set bounds i sum) i) (sym here) (subst (λ t. nat_abs (at s k) ≤ t) (sym (get_or-set_same bounds i sum 0 il)) (b.within k (pos 0) (omega arith))))
-          | inr d ↦
-              subst (λ t. nat_abs t ≤ bound_at (set bounds i sum) j) (sym (put_other rows s width i j k row_in sl d kl))
-              (subst (λ t. nat_abs (row_at rows width j k) ≤ t) (sym (get_or-set_other bounds i j sum 0 d)) (h.within j k (omega arith) kl))
-        ];
-        low = λ j jl. elim (cases_eq j i) [
-          | inl e ↦ subst (λ t. bound_at (set bounds i sum) t ≤ limit) (sym e) (subst (λ t. t ≤ limit) (sym (get_or-set_same bounds i sum 0 il)) b.low)
-          | inr d ↦ subst (λ t. t ≤ limit) (sym (get_or-set_other bounds i j sum 0 d)) (h.low j (omega arith))
-        ];
-      }
+-- numbers outside of row i stay: other rows do
+pub rows_apart : (rows new : List ℤ) (width i : ℕ) → ((k : ℕ) → (k < i * width) ⊎ (i * width + width ≤ k) → at new k ≡ at rows k) → (j k : ℕ) → j ≢ i → k < width → row_at new width j k ≡ row_at rows width j k
+rows_apart rows new width i same j k d l =
+    elim (cases_order j i) [
+      | inl c ↦ absurd (d c)
+      | inr (inl c) ↦ let b : j * width + width ≤ i * width = row_within i width j c in same (j * width + k) (inl (omega arith))
+      | inr (inr c) ↦ let b : i * width + width ≤ j * width = row_within j width i c in same (j * width + k) (inr (omega arith))
+    ]
 
 -- ---- one row more
 module _ (width e place : ℕ) (top : Vector) (pl : place < width) (rows : Matrix) where
@@ -134,10 +90,3 @@ module _ (width e place : ℕ) (top : Vector) (pl : place < width) (rows : Matri
 
 pub rises : (n : ℕ) → n ≤ raised n
 rises n = omega arith
-
--- a number of 64 bits whose bits are those of 0
-pub zero_read : (limit : ℕ) (x : ℤ) → limit < 2 ^ 62 → nat_abs x ≤ limit → of_z w64 x ≡ of_z w64 (pos 0) → x ≡ pos 0
-zero_read limit x high h e =
-    let s : to_z w64 (of_z w64 x) ≡ x = omega (arith, ints) in
-    let z : to_z w64 (of_z w64 (pos 0)) ≡ pos 0 = omega (arith, ints) in
-    sym s ∙ ap (to_z w64) e ∙ z

@@ -194,7 +194,6 @@ module _ (limit n : ℕ) (basis places near : List ℕ) (table : List ℤ) (boun
     exchanged_sound new news h ln = record {
       few = subst (λ t. n + t < 2 ^ 31) (sym same_length) sound.few;
       limit_low = sound.limit_low;
-      limit_high = sound.limit_high;
       count = ln ∙ sound.count ∙ ap (λ t. t + 2) (sym same_length);
       bounded = h;
       places_size = length-set (set places y (n + 3 + a)) x (n + 3 + b) ∙ length-set places y (n + 3 + a) ∙ sound.places_size ∙ ap (λ t. n + t + 4) (sym same_length);

@@ -1,56 +1,15 @@
 -- Entries of a dictionary's rows, as its code reads them, and the first negative one.
-use Rattle.std.proofs.Common.{◌≡◌, ℕ, ◌+◌, ◌*◌, ◌^◌, ◌<◌, ◌≤◌, min, sym, ap, ◌∙◌, subst, arith, inl, inr, List, length, get_or, nat_abs, to_z, of_z, w64}
+use Rattle.std.proofs.Common.{◌≡◌, ℕ, ◌+◌, ◌*◌, ◌<◌, ◌≤◌, sym, ap, ◌∙◌, subst, arith, inl, inr, List, length, nat_abs}
 use Rattle.std.proofs.lemmas.Bool.{cases_eq, cases_lt}
-use Rattle.std.proofs.lemmas.Int.{ints, by_lt_z}
-use Rattle.std.proofs.lemmas.List.{get_or_default}
 use lib.IntN.{ℤ, pos}
 use lib.Signed.{◌<ℤ◌, ◌≤ℤ◌}
-use Rattle.rob_linear.specs.Vectors.{Vector, Columns}
+use Rattle.rob_linear.specs.Vectors.{at}
 use Rattle.rob_linear.proofs.CondensedSigns.{condensed_first, condensed_none}
 use Rattle.rob_simplex.specs.Tables.{row_at, bound_at}
-use Rattle.rob_simplex.specs.Dictionaries.{Table, columns_of, basic_columns, right_column, read_row, rows_of, IsSound, IsLowest, FirstNegative}
-use Rattle.rob_simplex.proofs.Places.{row_within, seen_within}
+use Rattle.rob_simplex.specs.Dictionaries.{Table, columns_of, basic_columns, right_column, read_row, rows_of, IsSound, FirstNegative}
+use Rattle.rob_entries.specs.Choices.{IsLowest}
+use Rattle.rob_simplex.proofs.Places.{row_within}
 use Rattle.rob_simplex.proofs.TableClearing.{read_near, read_own, read_none}
-
--- ---- the lowest column, one place more
-pub lowest_more : (row : Vector) (near : Columns) (k before best next : ℕ) → IsLowest row near k before best → (pos 0 ≤ℤ row k → next ≡ best) → (row k <ℤ pos 0 → next ≡ min best (near k)) → IsLowest row near (k + 1) before next
-lowest_more row near k before best next h stays lower =
-    by_lt_z (row k) (pos 0)
-    (λ neg.
-    let e : next ≡ min best (near k) = lower neg in
-    let l : best ≤ before = h.low in
-    record {
-      low = omega arith;
-      found = elim (cases_lt (near k) best) [
-        | inl c ↦ inr (k, omega arith, omega arith, neg)
-        | inr c ↦
-            let s : next ≡ best = omega arith in
-            elim h.found [ inl f ↦ inl (s ∙ f) | inr f ↦ let fl : f.0 < k = f.1 in inr (f.0, omega arith, f.2 ∙ sym s, f.3) ]
-      ];
-      none_lower = λ j jl jn. elim (cases_eq j k) [
-        | inl s ↦ absurd (let t : near j ≡ near k = ap near s in omega arith)
-        | inr d ↦ h.none_lower j (omega arith) (omega arith)
-      ];
-    })
-    (λ neg.
-    let nonneg : pos 0 ≤ℤ row k = omega (arith, ints) in
-    let s : next ≡ best = stays nonneg in
-    let l : best ≤ before = h.low in
-    record {
-      low = omega arith;
-      found = elim h.found [ inl f ↦ inl (s ∙ f) | inr f ↦ let fl : f.0 < k = f.1 in inr (f.0, omega arith, f.2 ∙ sym s, f.3) ];
-      none_lower = λ j jl jn. elim (cases_eq j k) [
-        | inl t ↦ subst (λ x. pos 0 ≤ℤ row x) (sym t) nonneg
-        | inr d ↦ h.none_lower j (omega arith) (omega arith)
-      ];
-    })
-
-pub lowest_ext : (row row' : Vector) (near : Columns) (count before best : ℕ) → ((k : ℕ) → k < count → row k ≡ row' k) → IsLowest row near count before best → IsLowest row' near count before best
-lowest_ext row row' near count before best e h = record {
-  low = h.low;
-  found = elim h.found [ inl f ↦ inl f | inr f ↦ inr (f.0, f.1, f.2, subst (λ t. t <ℤ pos 0) (e f.0 f.1) f.3) ];
-  none_lower = λ k l n. subst (λ t. pos 0 ≤ℤ t) (e k l) (h.none_lower k l n);
-}
 
 module _ (limit n : ℕ) (basis places near : List ℕ) (table : List ℤ) (bounds : List ℕ) (room : ℕ) (sound : IsSound limit n basis places near table bounds room) (i : ℕ) (il : i ≤ length basis) where
   abbrev pub shown : Table
@@ -62,27 +21,23 @@ module _ (limit n : ℕ) (basis places near : List ℕ) (table : List ℤ) (boun
   pub row_inside : i * (n + 4) + (n + 4) ≤ length table
   row_inside = let r = row_within (length bounds) (n + 4) i bound_in in omega (arith, sound.bounded.size)
 
-  number : (k : ℕ) → k < n + 4 → (x : ℤ) → x ≡ get_or table (i * (n + 4) + k) x → (to_z w64 (of_z w64 x) ≡ row_at table (n + 4) i k) × (nat_abs (to_z w64 (of_z w64 x)) ≤ limit)
+  number : (k : ℕ) → k < n + 4 → (x : ℤ) → x ≡ row_at table (n + 4) i k → nat_abs x ≤ limit
   number k l x e =
-      let s : x ≡ row_at table (n + 4) i k = e ∙ get_or_default table (i * (n + 4) + k) x (pos 0) (let r = row_inside in omega arith) in
       let small : nat_abs (row_at table (n + 4) i k) ≤ bound_at bounds i = sound.bounded.within i k bound_in l in
       let low : bound_at bounds i ≤ limit = sound.bounded.low i bound_in in
-      let smaller : nat_abs x ≤ limit = subst (λ t. nat_abs t ≤ limit) (sym s) (omega arith) in
-      let high : limit < 2 ^ 62 = sound.limit_high in
-      let seen : to_z w64 (of_z w64 x) ≡ x = seen_within limit x (omega arith) smaller in
-      (seen ∙ s, subst (λ t. nat_abs t ≤ limit) (sym seen) smaller)
+      subst (λ t. nat_abs t ≤ limit) (sym e) (omega arith)
 
-  pub near_value : (column p : ℕ) → p ≡ columns_of places column → p < n + 3 → (x : ℤ) → x ≡ get_or table (i * (n + 4) + p) x
-      → (to_z w64 (of_z w64 x) ≡ rows_of shown i column) × (nat_abs (to_z w64 (of_z w64 x)) ≤ limit)
-  near_value column p ep l x e =
-      let v = number p (omega arith) x e in
-      (v.0 ∙ ap (row_at table (n + 4) i) ep ∙ sym (read_near (n + 3) (columns_of places) i (row_at table (n + 4) i) column (omega arith)), v.1)
+  pub near_value : (column p : ℕ) → p ≡ columns_of places column → p < n + 3 → (x : ℤ) → x ≡ at table (i * (n + 4) + p) → (x ≡ rows_of shown i column) × (nat_abs x ≤ limit)
+  near_value column p ep l x e = (
+    e ∙ ap (row_at table (n + 4) i) ep ∙ sym (read_near (n + 3) (columns_of places) i (row_at table (n + 4) i) column (omega arith)),
+    number p (omega arith) x e,
+  )
 
-  pub own_value : (column p : ℕ) → p ≡ columns_of places column → p ≡ n + 3 + i → (x : ℤ) → x ≡ get_or table (i * (n + 4) + (n + 3)) x
-      → (to_z w64 (of_z w64 x) ≡ rows_of shown i column) × (nat_abs (to_z w64 (of_z w64 x)) ≤ limit)
-  own_value column p ep l x e =
-      let v = number (n + 3) (omega arith) x e in
-      (v.0 ∙ sym (read_own (n + 3) (columns_of places) i (row_at table (n + 4) i) column (sym ep ∙ l)), v.1)
+  pub own_value : (column p : ℕ) → p ≡ columns_of places column → p ≡ n + 3 + i → (x : ℤ) → x ≡ at table (i * (n + 4) + (n + 3)) → (x ≡ rows_of shown i column) × (nat_abs x ≤ limit)
+  own_value column p ep l x e = (
+    e ∙ sym (read_own (n + 3) (columns_of places) i (row_at table (n + 4) i) column (sym ep ∙ l)),
+    number (n + 3) (omega arith) x e,
+  )
 
   -- ---- the first negative entry
   module _ (own : pos 0 ≤ℤ rows_of shown i (basic_columns n basis i)) (best : ℕ) (lowest : IsLowest (row_at table (n + 4) i) (columns_of near) (n + 2) (n + length basis) best) where

@@ -22,7 +22,7 @@ use Rattle.rob_linear.proofs.Beside.{put_same, put_other}
 use Rattle.rob_linear.proofs.BesideColumns.{holds_stands, stands_multiple_same}
 use Rattle.rob_linear.proofs.BesideLoops.{beside_needs}
 use Rattle.rob_linear.proofs.BesideBack.{begun_stands, begun_wide, begun_cost_wide}
-use Rattle.rob_rows.specs.Updates.{IsWideCleared}
+use Rattle.rob_entries.specs.Updates.{IsWideCleared}
 use Rattle.rob_simplex.specs.Dictionaries.{Table, positions, width_of, columns_of, spare_column, rows_of, kept_row_of, IsFree, IsAlone, IsOpen, ClearsTable, StopsTable}
 use Rattle.rob_simplex.specs.Phases.{IsOpenBeside}
 use Rattle.rob_simplex.specs.Explicit.{InExplicit}

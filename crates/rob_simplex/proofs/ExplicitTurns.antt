@@ -29,7 +29,7 @@ use Rattle.rob_linear.proofs.WideRows.{exchange_inside}
 use Rattle.rob_linear.proofs.BesideLoops.{beside_needs}
 use Rattle.rob_linear.proofs.Multiples.{multiple_rows_exist, rows_parallel, unbounded_parallel, factors_clear, pivot_wide, multiple_turn}
 use Rattle.rob_linear.proofs.MultiplePhases.{kept_multiple}
-use Rattle.rob_rows.specs.Updates.{IsWideCleared}
+use Rattle.rob_entries.specs.Updates.{IsWideCleared}
 use Rattle.rob_simplex.specs.Dictionaries.{Table, positions, width_of, columns_of, basic_columns, spare_column, shape, rows_of, kept_row_of, IsFree, IsClosed, IsPivoted, FirstNegative}
 use Rattle.rob_simplex.specs.Explicit.{HoldsExplicit, InExplicit, EndsExplicit, HasTurnedExplicit, turn_after, rank_left_explicit, turns_left_explicit}
 use Rattle.rob_simplex.proofs.Replacing.{basic_low, basic_high}

@@ -1,6 +1,5 @@
 -- The first phase on a dictionary: its start, and what is left of it once the auxiliary column has left.
 use Rattle.std.proofs.Common.{◌≡◌, ◌≢◌, ℕ, zero, suc, ◌+◌, ◌<◌, ◌≤◌, sym, ap, ◌∙◌, subst, arith, inl, inr, List, length}
-use Rattle.std.specs.Prelude.{Result, MatchResult}
 use Rattle.std.proofs.lemmas.Bool.{cases_lt}
 use Rattle.std.proofs.lemmas.Int.{ints}
 use lib.IntN.{ℤ, pos, ◌*ℤ◌}
@@ -21,11 +20,11 @@ use Rattle.rob_linear.proofs.BesideLoops.{beside_starts, slacks_start}
 use Rattle.rob_linear.proofs.WithoutColumn.{slacks_without}
 use Rattle.rob_linear.proofs.Costs.{with_objective_low, with_objective_at}
 use Rattle.rob_linear.proofs.MultiplePhases.{change_multiple}
-use Rattle.rob_number.specs.Counts.{CountsWide, raised}
 use Rattle.rob_simplex.specs.Dictionaries.{Table, positions, width_of, columns_of, spare_column, shape, rows_of, kept_row_of, IsFree}
 use Rattle.rob_simplex.specs.Phases.{InSecond, InBeside, HasLeft}
 use Rattle.rob_simplex.specs.Starts.{IsStartingTable}
 use Rattle.rob_simplex.specs.Explicit.{HoldsExplicit}
+use Rattle.rob_simplex.specs.Counting.{CountsRows}
 use Rattle.rob_simplex.proofs.Replacing.{basic_low, basic_high}
 
 -- rows that are multiples of rows that stand
@@ -46,7 +45,7 @@ stands_equal_rows S basis rows rows' g e s =
     (λ i il. record { p = pos 1; q = pos 1; p_positive = omega (arith, ints); q_positive = omega (arith, ints); same = λ k kl. ap (λ z. pos 1 *ℤ z) (sym (e i k il (omega arith))) }) s
 
 -- ---- the start
-module _ (limit : ℕ) (P : Program) (t : Table) (h : IsStartingTable limit P t) where
+module _ (P : Program) (t : Table) (h : IsStartingTable P t) where
   starting : AreStarting P (rows_of t)
   starting i il k kl = h.rows i k il kl
 
@@ -181,9 +180,6 @@ module _ (P : Program) (t t' : Table) (h : HoldsExplicit P t) (out : ¬ (HasAuxi
         | inr l ↦ let e : i ≡ P.m = omega arith in ap (λ v. rows_of t' v (spare_column P.n P.m)) e ∙ at_objective (spare_column P.n P.m) ∙ h.kept_zero
       ]
 
--- ---- the ledger's counts of two calls, of which the first has raised no count of wide rows
-pub counts_after : {S T E : Type 0} (ops_of wides_of : S → ℕ) (a b c : S) (result : Result T E) → ops_of a ≤ ops_of b → wides_of b ≡ wides_of a → CountsWide ops_of wides_of b c result → CountsWide ops_of wides_of a c result
-counts_after ops_of wides_of a b c result l e h = record {
-  ops = omega (arith, l, h.ops);
-  wides = subst (λ w. MatchResult result (λ _. wides_of c ≡ w) (λ _. wides_of c ≡ raised w)) e h.wides;
-}
+-- ---- the ledger's counts of two calls
+pub counts_after : {S : Type 0} (ops_of wides_of : S → ℕ) (a b c : S) → ops_of a ≤ ops_of b → wides_of b ≡ wides_of a → CountsRows ops_of wides_of b c → CountsRows ops_of wides_of a c
+counts_after ops_of wides_of a b c l e h = record { ops = omega (arith, l, h.ops); wides = h.wides ∙ e }

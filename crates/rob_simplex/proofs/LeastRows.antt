@@ -1,11 +1,10 @@
 -- The sign of a row's key, and the least row so far.
-use Rattle.std.proofs.Common.{◌≡◌, ℕ, zero, suc, ◌+◌, ◌<◌, ◌≤◌, sym, ap, ◌∙◌, subst, arith, inl, inr, Option, Some, None, Bool, IsTrue, ◌↔◌, false, to_z, of_z, w64, ◌^◌}
-use Rattle.std.specs.Prelude.{nat_abs}
+use Rattle.std.proofs.Common.{◌≡◌, ℕ, zero, suc, ◌+◌, ◌<◌, ◌≤◌, sym, ap, ◌∙◌, subst, arith, inl, inr, Option, Some, None, Bool, IsTrue, ◌↔◌, false}
 use Rattle.std.proofs.lemmas.Int.{ints}
 use Rattle.std.proofs.lemmas.Bool.{cases_eq}
 use Rattle.std.proofs.lemmas.Bool.Decides.{nat_tests}
 use Rattle.std.specs.Option.{IfSome, MatchOption}
-use lib.IntN.{ℤ, pos, neg_ℤ, ◌-ℤ◌}
+use lib.IntN.{ℤ, pos, neg_ℤ}
 use lib.Signed.{◌<ℤ◌}
 use Rattle.rob_linear.specs.Vectors.{Matrix, Vector}
 use Rattle.rob_linear.specs.Programs.{auxiliary_tag}
@@ -16,13 +15,7 @@ use Rattle.rob_linear.proofs.Choices.{before_not_self}
 use Rattle.rob_simplex.specs.Dictionaries.{shape, IsLower, MayBeLeast, Decided}
 use Rattle.rob_simplex.proofs.RatioLemmas.{lex_decided, lex_none}
 
--- ---- numbers turned round
-pub negated : (z : ℤ) → nat_abs z < 2 ^ 62 → to_z w64 (of_z w64 (pos 0 -ℤ z)) ≡ neg_ℤ z
-negated z h =
-    let low : z <ℤ pos (2 ^ 62) = omega (arith, ints) in
-    let high : neg_ℤ (pos (2 ^ 62)) <ℤ z = omega (arith, ints) in
-    omega (arith, ints)
-
+-- ---- a number turned round
 pub negative_of : (z : ℤ) → pos 0 <ℤ neg_ℤ z → z <ℤ pos 0
 negative_of z h = omega (arith, ints)
 

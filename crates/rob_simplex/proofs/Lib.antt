@@ -1,5 +1,6 @@
 pub mod Places
 pub mod Clearing
+pub mod ClearingTops
 pub mod Replacing
 pub mod WrittenBack
 pub mod TableClearing
@@ -17,9 +18,11 @@ pub mod FirstPhase
 pub mod Positions
 pub mod Quotients
 pub mod LowestRows
+pub mod ShortParts
 pub mod SolverRows
 pub mod LastPoints
 pub mod Solved
+pub mod JudgingLemmas
 pub mod WeightLemmas
 pub mod ColumnLemmas
 pub mod Told
@@ -28,6 +31,7 @@ pub mod FirstTurns
 pub mod ExplicitTurns
 pub mod ExplicitStart
 pub mod PathsFrom
+pub mod Causes
 pub mod LoweredRows
 pub mod CostStages
 pub mod BasicColumns
@@ -37,3 +41,4 @@ pub mod LoweredTables
 pub mod ClearedObjective
 pub mod CopiedTables
 pub mod FreeColumns
+pub mod OwnEntries

@@ -13,7 +13,7 @@ use Rattle.rob_linear.specs.CondensedRows.{IsPlaced}
 use Rattle.rob_linear.specs.Stages.{unit_row}
 use Rattle.rob_linear.proofs.Stages.{unit_one, unit_zero}
 use Rattle.rob_linear.proofs.CondensedNumbers.{entry_primitive}
-use Rattle.rob_rows.specs.Updates.{IsWideCleared}
+use Rattle.rob_entries.specs.Updates.{IsWideCleared}
 use Rattle.rob_simplex.specs.Dictionaries.{read_row}
 use Rattle.rob_simplex.specs.Lowering.{IsLowered, IsWideLowered, step_row}
 use Rattle.rob_simplex.proofs.TableClearing.{read_near, read_own, read_none}

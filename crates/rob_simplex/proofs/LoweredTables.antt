@@ -1,5 +1,5 @@
 -- A dictionary whose objective's row loses an amount in a column, or becomes that of the cost 0.
-use Rattle.std.proofs.Common.{◌≡◌, ◌≢◌, ℕ, suc, ◌+◌, ◌^◌, ◌<◌, ◌≤◌, sym, refl, ap, ◌∙◌, subst, arith, inl, inr, List, length, nat_abs, to_z, of_z, w64}
+use Rattle.std.proofs.Common.{◌≡◌, ◌≢◌, ℕ, suc, ◌+◌, ◌<◌, ◌≤◌, sym, refl, ap, ◌∙◌, subst, arith, inl, inr, List, length}
 use Rattle.std.proofs.lemmas.Bool.{cases_eq, cases_lt}
 use Rattle.std.proofs.lemmas.Bool.Decides.{nat_tests}
 use lib.IntN.{ℤ, pos, ◌*ℤ◌}
@@ -7,22 +7,13 @@ use Rattle.rob_linear.specs.Vectors.{Vector}
 use Rattle.rob_linear.specs.Systems.{IsPrimitive}
 use Rattle.rob_linear.specs.Stages.{unit_row}
 use Rattle.rob_linear.proofs.Stages.{unit_one, unit_zero}
-use Rattle.rob_simplex.specs.Tables.{row_at, bound_at, HasBounds}
+use Rattle.rob_simplex.specs.Tables.{row_at}
 use Rattle.rob_simplex.specs.Lowering.{IsLowered, IsWideLowered, step_row, amount_of}
 use Rattle.rob_simplex.specs.Dictionaries.{columns_of, basic_columns, rows_of, IsSound, IsFree}
 use Rattle.rob_simplex.proofs.EditLemmas.{table_with, free_place, objective_place}
 use Rattle.rob_simplex.proofs.LoweredRows.{lowered_read, wide_lowered_read}
-use Rattle.rob_simplex.proofs.Places.{seen_within}
 use Rattle.rob_simplex.proofs.Replacing.{basic_high}
 use Rattle.rob_simplex.proofs.TableClearing.{read_near, read_own, read_none}
-
--- an entry of a table, as an index reads it
-pub entry_seen : (limit width : ℕ) (rows : List ℤ) (bounds : List ℕ) → HasBounds limit width rows bounds → limit < 2 ^ 62 → (i k : ℕ) → i < length bounds → k < width
-    → to_z w64 (of_z w64 (row_at rows width i k)) ≡ row_at rows width i k
-entry_seen limit width rows bounds h high i k il kl =
-    let small : nat_abs (row_at rows width i k) ≤ bound_at bounds i = h.within i k il kl in
-    let low : bound_at bounds i ≤ limit = h.low i il in
-    seen_within limit (row_at rows width i k) (omega arith) (omega arith)
 
 module _ (limit n : ℕ) (basis places near : List ℕ) (table : List ℤ) (bounds : List ℕ) (room : ℕ) (sound : IsSound limit n basis places near table bounds room) where
   -- the objective's own entry

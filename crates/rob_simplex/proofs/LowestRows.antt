@@ -55,7 +55,7 @@ module _ (n : ℕ) (r : Vector) (k : ℕ) (kl : k < n) (positive : pos 0 <ℤ r 
 positive_size : (z : ℤ) → pos 0 <ℤ z → pos (nat_abs z) ≡ z
 positive_size z h = omega (arith, ints)
 
-same_quotient : (x y p q : ℤ) → pos 0 <ℤ p → pos 0 <ℤ q → x *ℤ q ≡ y *ℤ p → of_pair x (nat_abs p) ≡ of_pair y (nat_abs q)
+pub same_quotient : (x y p q : ℤ) → pos 0 <ℤ p → pos 0 <ℤ q → x *ℤ q ≡ y *ℤ p → of_pair x (nat_abs p) ≡ of_pair y (nat_abs q)
 same_quotient x y p q pp pq e =
     (of_pair_eq x y (nat_abs p) (nat_abs q) (omega (arith, ints)) (omega (arith, ints))).1
     (ap (λ t. x *ℤ t) (positive_size q pq) ∙ e ∙ ap (λ t. y *ℤ t) (sym (positive_size p pp)))

@@ -8,7 +8,7 @@ use lib.IntN.{ℤ, pos, ◌-ℤ◌, ◌*ℤ◌}
 use lib.Signed.{◌<ℤ◌}
 use Rattle.rob_algebra.specs.Integer.{mul_assoc, mul_left_comm, mul-sub, mul-zero, one-mul, mul-pos_z, mul_cancel_zero, mul_cancel_lt, *ℤ_comm}
 use Rattle.rob_linear.specs.Multiples.{IsClearedBy}
-use Rattle.rob_rows.specs.Updates.{IsWideCleared}
+use Rattle.rob_entries.specs.Updates.{IsWideCleared}
 use Rattle.rob_simplex.specs.Dictionaries.{Table, positions, width_of, columns_of, basic_columns, right_column, spare_column, rows_of, kept_row_of, IsFree, IsAlone, IsOpen, IsClosed, IsPivoted, IsBegunPivot, ClearsTable, StopsTable}
 use Rattle.rob_simplex.proofs.Replacing.{basic_low, basic_high}
 
@@ -70,6 +70,17 @@ free_opened t row column s spare rl free structural = record {
   not_right = subst (λ k. column ≢ right_column t.columns k) (sym (length-set t.basis row s)) free.not_right;
 }
 
+-- the spare column is free where no position is open
+pub closed_free : (t : Table) (s : ℕ) → s ≡ spare_column t.columns (positions t) → IsClosed t → IsFree t.columns t.basis s
+closed_free t s e h = record {
+  inside = omega arith;
+  not_basic = λ i il x. elim (cases_lt i (positions t)) [
+    | inl l ↦ h.free i l (sym (basic_low t.columns t.basis i l) ∙ x ∙ e)
+    | inr l ↦ let b : basic_columns t.columns t.basis i ≡ suc (t.columns + positions t) = basic_high t.columns t.basis i l in absurd (omega arith)
+  ];
+  not_right = λ x. absurd (omega arith);
+}
+
 module _ (t0 t1 t2 : Table) (row column s : ℕ) (spare : s ≡ spare_column t0.columns (positions t0)) (rl : row < positions t0) (closed : IsClosed t0)
     (b1 : t1.basis ≡ t0.basis) (n1 : t1.columns ≡ t0.columns)
     (r1 : (d : ℤ) × (pos 0 <ℤ d) × ((c : ℕ) → d *ℤ rows_of t1 row c ≡ rows_of t0 row c))
@@ -90,6 +101,9 @@ module _ (t0 t1 t2 : Table) (row column s : ℕ) (spare : s ≡ spare_column t0.
 
   same2 : (i c : ℕ) → i ≤ positions t0 → c < width_of t0 → rows_of t2 i c ≡ rows_of t1 i c
   same2 i c il cl = r2 alone1 i c (omega (arith, m1)) (omega (arith, m1, n1))
+
+  pub same_rows : (i c : ℕ) → i ≤ positions t1 → c < width_of t1 → rows_of t2 i c ≡ rows_of t1 i c
+  same_rows i c il cl = r2 alone1 i c il cl
 
   other2 : (i c : ℕ) → i ≤ positions t0 → i ≢ row → c < width_of t0 → rows_of t2 i c ≡ rows_of t0 i c
   other2 i c il d cl = same2 i c il cl ∙ o1 i c il d

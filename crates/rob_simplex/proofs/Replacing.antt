@@ -214,7 +214,6 @@ module _ (limit n : ℕ) (basis places near : List ℕ) (table : List ℤ) (boun
   replaced_sound = record {
     few = subst (λ t. n + t < 2 ^ 31) (sym same_length) sound.few;
     limit_low = sound.limit_low;
-    limit_high = sound.limit_high;
     count = sound.count ∙ ap (λ t. t + 2) (sym same_length);
     bounded = bounds_same;
     places_size = length-set (set places left place) column (n + 3 + row) ∙ length-set places left place ∙ sound.places_size ∙ ap (λ t. n + t + 4) (sym same_length);

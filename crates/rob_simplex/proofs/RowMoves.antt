@@ -183,3 +183,23 @@ module _ (rows empty new : List ℤ) (width i p w : ℕ) (wl : w + 1 ≡ width) 
       written_bounds limit width rows new bounds (set bounds i 1) i 1 h
       (ap length e ∙ length-set (set empty (i * width + p) (pos 1)) (i * width + w) (pos 1) ∙ length-set empty (i * width + p) (pos 1) ∙ le)
       ib refl low unit_low unit_others
+
+-- ---- how many numbers there are after a write
+pub set_size : (rows new : List ℤ) (k : ℕ) (z : ℤ) (n : ℕ) → length rows ≡ n → new ≡ set rows k z → length new ≡ n
+set_size rows new k z n h e = ap length e ∙ length-set rows k z ∙ h
+
+pub swap_size : (rows new : List ℤ) (a b : ℕ) (x y : ℤ) (n : ℕ) → length rows ≡ n → new ≡ set (set rows a x) b y → length new ≡ n
+swap_size rows new a b x y n h e = ap length e ∙ length-set (set rows a x) b y ∙ length-set rows a x ∙ h
+
+-- ---- numbers written at one place of a row after another
+module _ (rows start : List ℤ) (width i k : ℕ) (z : ℤ) (il : i * width + width ≤ length rows) (kl : k < width) (new : List ℤ) (e : new ≡ set rows (i * width + k) z) where
+  pub written_more : (f : ℕ → ℤ) (low : ℕ) → z ≡ f k → ((j : ℕ) → low ≤ j → j < k → row_at rows width i j ≡ f j) → (j : ℕ) → low ≤ j → j < k + 1 → row_at new width i j ≡ f j
+  written_more f low h done j lj jk =
+      ap (λ (t : List ℤ). row_at t width i j) e
+      ∙ elim (cases_eq j k) [
+        | inl s ↦ subst (λ (x : ℕ). row_at (set rows (i * width + k) z) width i x ≡ f x) (sym s) (set_here rows width i k z (omega arith) ∙ h)
+        | inr d ↦ set_elsewhere rows width i k i j z kl (omega arith) (inl d) ∙ done j lj (omega arith)
+      ]
+
+  pub written_elsewhere : (j c : ℕ) → c < width → (c ≢ k) ⊎ (j ≢ i) → row_at rows width j c ≡ row_at start width j c → row_at new width j c ≡ row_at start width j c
+  written_elsewhere j c cl d h = ap (λ (t : List ℤ). row_at t width j c) e ∙ set_elsewhere rows width i k j c z kl cl d ∙ h

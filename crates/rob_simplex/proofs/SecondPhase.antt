@@ -26,7 +26,7 @@ use Rattle.rob_linear.proofs.CondensedNumbers.{primitive_without}
 use Rattle.rob_linear.proofs.Measure.{rank_rises, rank_below}
 use Rattle.rob_linear.proofs.Multiples.{factors_clear, pivot_wide, multiple_turn}
 use Rattle.rob_linear.proofs.Phases.{place_low, place_high}
-use Rattle.rob_rows.specs.Updates.{IsWideCleared}
+use Rattle.rob_entries.specs.Updates.{IsWideCleared}
 use Rattle.rob_simplex.specs.Dictionaries.{Table, positions, width_of, columns_of, basic_columns, spare_column, shape, rows_of, IsFree, IsClosed, IsPivoted, FirstNegative}
 use Rattle.rob_simplex.specs.Phases.{StandsFor, TurnsOn, HasRefused, EndsIn, rank_left, turns_left}
 use Rattle.rob_simplex.proofs.Replacing.{basic_low, basic_high}

@@ -5,7 +5,7 @@ use Rattle.std.specs.Int.{◌∣◌}
 use lib.IntN.{pos, ◌*ℤ◌}
 use lib.Signed.{◌<ℤ◌, ◌≤ℤ◌}
 use Rattle.rob_linear.specs.Vectors.{Matrix, Vector, Columns}
-use Rattle.rob_linear.specs.Systems.{EndsOptimal, EndsUnbounded, IsNonnegative}
+use Rattle.rob_linear.specs.Systems.{IsBasis, EndsOptimal, EndsUnbounded, IsNonnegative}
 use Rattle.rob_linear.specs.Programs.{Program, system_of, auxiliary_of, ShowsEmpty}
 use Rattle.rob_linear.specs.Turns.{own_of, Enters, StandsWith}
 use Rattle.rob_linear.specs.Paths.{HasAuxiliary, Last, LastFrom, EndsAtOptimum, EndsAtRay}
@@ -142,6 +142,12 @@ module _ (P : Program) (s : Solver) (h : StandsFor P s.dictionary) where
 
   pub objective_entry : pos 0 <ℤ rows_of s.dictionary (positions s) (suc (s.columns + positions s))
   objective_entry = sized_objective s P.a P.b P.c stood
+
+  -- the rows that are shown are those of the basis
+  pub shown_basis : IsBasis (system_of P) (own_of (system_of P) (columns_of s.basis)) (entries s)
+  shown_basis =
+      subst (λ (Q : Program). IsBasis (system_of Q) (own_of (system_of Q) (columns_of s.basis)) (entries s)) program_is
+      (shown_stands s P.a P.b P.c stood.stands).is_basis
 
 -- ---- at the end of the program's path, and of one that goes on from a basis
 pub optimum : (P : Program) (s : Solver) → InSecond P s.dictionary → s.state ≡ Optimal → EndsIn P None s.dictionary → IsOptimumOf P s

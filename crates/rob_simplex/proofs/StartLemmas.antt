@@ -1,5 +1,5 @@
 -- The dictionary that a program starts from.
-use Rattle.std.proofs.Common.{◌≡◌, ◌≢◌, ℕ, suc, ◌+◌, ◌-◌, ◌*◌, ◌^◌, ◌<◌, ◌≤◌, sym, refl, ap, ◌∙◌, subst, arith, inl, inr, List, [], length, replicate, get_or, nat_abs}
+use Rattle.std.proofs.Common.{◌≡◌, ℕ, suc, ◌+◌, ◌-◌, ◌*◌, ◌^◌, ◌<◌, ◌≤◌, sym, refl, ap, ◌∙◌, subst, arith, inl, inr, List, length, replicate, nat_abs}
 use Rattle.std.proofs.lemmas.Bool.{cases_eq, cases_lt}
 use Rattle.std.proofs.lemmas.List.{get_or-replicate, length-replicate}
 use Rattle.std.proofs.lemmas.Bool.Decides.{nat_tests}
@@ -12,7 +12,6 @@ use Rattle.rob_linear.proofs.TwoPhases.{kept_one, kept_zero}
 use Rattle.rob_simplex.specs.Tables.{row_at, bound_at, HasBounds}
 use Rattle.rob_simplex.specs.Dictionaries.{columns_of, basic_columns, spare_column, read_row, IsSound}
 use Rattle.rob_simplex.specs.Starts.{start_place, start_column, start_entry, IsStartingTable}
-use Rattle.rob_simplex.proofs.Places.{row_within}
 use Rattle.rob_simplex.proofs.Replacing.{basic_low, basic_high}
 use Rattle.rob_simplex.proofs.TableClearing.{read_near, read_own, read_none}
 
@@ -47,29 +46,26 @@ entry_within n limit low x y h hx hy one k = elim (cases_lt k n) [
   ]
 ]
 
--- one row more
-pub rows_more : (n : ℕ) (left : List (List ℤ)) (right : List ℤ) (i : ℕ) (rows new : List ℤ) → ((k : ℕ) → k < n + 4 → row_at new (n + 4) i k ≡ start_entry n (at (get_or left i [])) (neg_ℤ (pos 1)) (at right i) k)
-    → ((j k : ℕ) → j ≢ i → k < n + 4 → row_at new (n + 4) j k ≡ row_at rows (n + 4) j k)
-    → ((j k : ℕ) → j < i → k < n + 4 → row_at rows (n + 4) j k ≡ start_entry n (at (get_or left j [])) (neg_ℤ (pos 1)) (at right j) k)
-    → (j k : ℕ) → j < i + 1 → k < n + 4 → row_at new (n + 4) j k ≡ start_entry n (at (get_or left j [])) (neg_ℤ (pos 1)) (at right j) k
-rows_more n left right i rows new here others done j k jl kl = elim (cases_eq j i) [
-  | inl e ↦ subst (λ (x : ℕ). row_at new (n + 4) x k ≡ start_entry n (at (get_or left x [])) (neg_ℤ (pos 1)) (at right x) k) (sym e) (here k kl)
-  | inr d ↦ others j k d kl ∙ done j k (omega arith) kl
-]
-
 -- rows of zeros
-pub zero_bounds : (limit width count : ℕ) (rows : List ℤ) (bounds : List ℕ) → rows ≡ replicate (count * width) (pos 0) → bounds ≡ replicate count 0 → HasBounds limit width rows bounds
-zero_bounds limit width count rows bounds er eb =
+pub zero_bounds : (limit width count : ℕ) (rows : List ℤ) (bounds : List ℕ) → length rows ≡ count * width → ((k : ℕ) → at rows k ≡ pos 0) → bounds ≡ replicate count 0 → HasBounds limit width rows bounds
+zero_bounds limit width count rows bounds lr zeros eb =
     let lb : length bounds ≡ count = ap length eb ∙ length-replicate count 0 in
-    let lr : length rows ≡ count * width = ap length er ∙ length-replicate (count * width) (pos 0) in
     record {
       size = lr ∙ ap (λ t. t * width) (sym lb);
-      within = λ i k il kl.
-          let rw : i * width + width ≤ count * width = row_within count width i (omega arith) in
-          let z : row_at rows width i k ≡ pos 0 = ap (λ (s : List ℤ). row_at s width i k) er ∙ get_or-replicate (count * width) (i * width + k) (pos 0) (pos 0) (omega arith) in
-          subst (λ t. nat_abs t ≤ bound_at bounds i) (sym z) (omega arith);
+      within = λ i k il kl. subst (λ t. nat_abs t ≤ bound_at bounds i) (sym (zeros (i * width + k))) (omega arith);
       low = λ i il. let z : bound_at bounds i ≡ 0 = ap (λ (s : List ℕ). bound_at s i) eb ∙ get_or-replicate count i 0 0 (omega arith) in omega arith;
     }
+
+-- the greatest size of entries that are within a limit
+pub largest_within : (limit width size : ℕ) (f : ℕ → ℤ) → ((k : ℕ) → k < width → nat_abs (f k) ≤ limit) → (0 < size → (k : ℕ) × (k < width) × (nat_abs (f k) ≡ size)) → size ≤ limit
+largest_within limit width size f small reached = elim (cases_lt 0 size) [
+  | inl l ↦
+      let r = reached l in
+      let b : nat_abs (f r.0) ≤ limit = small r.0 r.1 in
+      let e : nat_abs (f r.0) ≡ size = r.2 in
+      omega arith
+  | inr l ↦ omega arith
+]
 
 -- ---- the maps
 place_low : (n m c : ℕ) → c < n → start_place n m c ≡ c
@@ -214,12 +210,11 @@ module _ (n : ℕ) (basis places near : List ℕ) (slacks : (i : ℕ) → i < le
         (λ l. let e : columns_of places (suc (suc (suc (n + length basis)))) ≡ n + 1 = at_spare in absurd (omega arith));
   }
 
-  pub start_is_sound : (limit : ℕ) (table : List ℤ) (bounds : List ℕ) (room : ℕ) → n + length basis < 2 ^ 31 → 1 ≤ limit → limit < 2 ^ 62 → length bounds ≡ length basis + 2 → HasBounds limit (n + 4) table bounds
+  pub start_is_sound : (limit : ℕ) (table : List ℤ) (bounds : List ℕ) (room : ℕ) → n + length basis < 2 ^ 31 → 1 ≤ limit → length bounds ≡ length basis + 2 → HasBounds limit (n + 4) table bounds
       → length places ≡ n + length basis + 4 → length near ≡ n + 3 → room ≡ n + 4 → IsSound limit n basis places near table bounds room
-  start_is_sound limit table bounds room few low high count h ps ns rs = record {
+  start_is_sound limit table bounds room few low count h ps ns rs = record {
     few = few;
     limit_low = low;
-    limit_high = high;
     count = count;
     bounded = h;
     places_size = ps;
@@ -311,9 +306,8 @@ module _ (n : ℕ) (basis places near : List ℕ) (slacks : (i : ℕ) → i < le
       | inr l ↦ let e : i ≡ length basis = omega arith in ap (λ (i : ℕ). row_at table (n + 4) i (n + 1)) e ∙ objective (n + 1) (omega arith) ∙ entry_spare n (λ j. neg_ℤ (c j)) (pos 0) (pos 0)
     ]
 
-    pub starting : (limit : ℕ) → IsStartingTable limit P (record { limit = limit; columns = n; basis = basis; places = places; table = table })
+    pub starting : (limit : ℕ) → IsStartingTable P (record { limit = limit; columns = n; basis = basis; places = places; table = table })
     starting limit = record {
-      limit_is = refl;
       columns_are = refl;
       rows_are = refl;
       slacks = slacks;
@@ -336,11 +330,11 @@ sound_carry limit n b b' p p' r r' t t' s s' room eb ep er et es h =
     (subst (λ (x : List ℕ). IsSound limit n b p r t x room) (sym es) h))))
 
 pub starting_carry : (limit n : ℕ) (b b' p p' : List ℕ) (t t' : List ℤ) (m' n' : ℕ) (a : ℕ → ℕ → ℤ) (right cost : ℕ → ℤ) → b' ≡ b → p' ≡ p → t' ≡ t → length b ≡ m' → n ≡ n'
-    → IsStartingTable limit (record { m = length b; n = n; a = a; b = right; c = cost }) (record { limit = limit; columns = n; basis = b; places = p; table = t })
-    → IsStartingTable limit (record { m = m'; n = n'; a = a; b = right; c = cost }) (record { limit = limit; columns = n; basis = b'; places = p'; table = t' })
+    → IsStartingTable (record { m = length b; n = n; a = a; b = right; c = cost }) (record { limit = limit; columns = n; basis = b; places = p; table = t })
+    → IsStartingTable (record { m = m'; n = n'; a = a; b = right; c = cost }) (record { limit = limit; columns = n; basis = b'; places = p'; table = t' })
 starting_carry limit n b b' p p' t t' m' n' a right cost eb ep et em en h =
-    subst (λ (x : List ℕ). IsStartingTable limit (record { m = m'; n = n'; a = a; b = right; c = cost }) (record { limit = limit; columns = n; basis = x; places = p'; table = t' })) (sym eb)
-    (subst (λ (x : List ℕ). IsStartingTable limit (record { m = m'; n = n'; a = a; b = right; c = cost }) (record { limit = limit; columns = n; basis = b; places = x; table = t' })) (sym ep)
-    (subst (λ (x : List ℤ). IsStartingTable limit (record { m = m'; n = n'; a = a; b = right; c = cost }) (record { limit = limit; columns = n; basis = b; places = p; table = x })) (sym et)
-    (subst (λ (x : ℕ). IsStartingTable limit (record { m = x; n = n'; a = a; b = right; c = cost }) (record { limit = limit; columns = n; basis = b; places = p; table = t })) em
-    (subst (λ (x : ℕ). IsStartingTable limit (record { m = length b; n = x; a = a; b = right; c = cost }) (record { limit = limit; columns = n; basis = b; places = p; table = t })) en h))))
+    subst (λ (x : List ℕ). IsStartingTable (record { m = m'; n = n'; a = a; b = right; c = cost }) (record { limit = limit; columns = n; basis = x; places = p'; table = t' })) (sym eb)
+    (subst (λ (x : List ℕ). IsStartingTable (record { m = m'; n = n'; a = a; b = right; c = cost }) (record { limit = limit; columns = n; basis = b; places = x; table = t' })) (sym ep)
+    (subst (λ (x : List ℤ). IsStartingTable (record { m = m'; n = n'; a = a; b = right; c = cost }) (record { limit = limit; columns = n; basis = b; places = p; table = x })) (sym et)
+    (subst (λ (x : ℕ). IsStartingTable (record { m = x; n = n'; a = a; b = right; c = cost }) (record { limit = limit; columns = n; basis = b; places = p; table = t })) em
+    (subst (λ (x : ℕ). IsStartingTable (record { m = length b; n = x; a = a; b = right; c = cost }) (record { limit = limit; columns = n; basis = b; places = p; table = t })) en h))))

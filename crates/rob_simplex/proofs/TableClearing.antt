@@ -14,10 +14,11 @@ use Rattle.rob_linear.specs.Systems.{IsPrimitive}
 use Rattle.rob_linear.specs.CondensedRows.{IsPlaced}
 use Rattle.rob_linear.specs.Multiples.{IsClearedBy}
 use Rattle.rob_linear.proofs.CondensedNumbers.{entry_primitive}
-use Rattle.rob_rows.specs.Updates.{IsWideCleared}
-use Rattle.rob_simplex.proofs.Replacing.{free_low, left_at}
+use Rattle.rob_entries.specs.Updates.{IsMultipleOf, IsWideCleared}
+use Rattle.rob_simplex.proofs.Replacing.{free_low, left_at, basic_high}
+use Rattle.rob_simplex.proofs.ClearingTops.{cleared_whole}
 use Rattle.rob_simplex.specs.Tables.{row_at, AreCleared, IsStopped}
-use Rattle.rob_simplex.specs.Dictionaries.{Table, columns_of, basic_columns, spare_column, read_row, rows_of, IsSound, IsFree, IsOpen, ClearsTable, StopsTable}
+use Rattle.rob_simplex.specs.Dictionaries.{Table, columns_of, basic_columns, spare_column, read_row, rows_of, IsSound, IsFree, IsOpen, KeepsOwn, ClearsTable, StopsTable}
 
 -- ---- reading a row
 pub read_near : (w : ℕ) (places : Columns) (i : ℕ) (r : Vector) (c : ℕ) → places c < w → read_row w places i r c ≡ r (places c)
@@ -113,20 +114,22 @@ module _ (limit n : ℕ) (basis places near : List ℕ) (table : List ℤ) (boun
   pub positive_there : pos 0 <ℤ rows_of before row column → pos 0 <ℤ row_at table (n + 4) row (columns_of places column)
   positive_there h = subst (λ t. pos 0 <ℤ t) (read_near (n + 3) (columns_of places) row (row_at table (n + 4) row) column free_place) h
 
-  module _ (entries : List ℤ) (top_is : (k : ℕ) → k < n + 4 → at entries k ≡ row_at table (n + 4) row k) (x : ℕ) (ex : x ≡ columns_of places column) where
+  -- each row before `count` but this one has a last number
+  pub own_left : (count : ℕ) → count ≤ length basis + 2 → KeepsOwn count before row → (i : ℕ) → i < count → i ≢ row → row_at table (n + 4) i (n + 3) ≢ pos 0
+  own_left count cl h i il d z = elim (cases_lt (length basis) i) [
+    | inl l ↦
+        let e : i ≡ suc (length basis) = omega arith in
+        let o : columns_of places (suc (n + length basis)) ≡ n + 3 + length basis = ap (columns_of places) (sym (basic_high n basis (length basis) (omega arith))) ∙ sound.placed.basic_at (length basis) (omega arith) in
+        (h.kept (omega arith)).1 (read_own (n + 3) (columns_of places) (length basis) (row_at table (n + 4) (suc (length basis))) (suc (n + length basis)) o ∙ ap (λ j. row_at table (n + 4) j (n + 3)) (sym e) ∙ z)
+    | inr l ↦ h.rows i il l d (read_own (n + 3) (columns_of places) i (row_at table (n + 4) i) (basic_columns n basis i) (sound.placed.basic_at i l) ∙ z)
+  ]
+
+  module _ (entries : List ℤ) (m : IsMultipleOf (n + 4) (row_at table (n + 4) row) (at entries)) (x : ℕ) (ex : x ≡ columns_of places column) where
     at_top : (low new : Vector) → IsClearedBy (n + 4) x low (at entries) new → IsClearedBy (suc (n + 3)) (columns_of places column) low (row_at table (n + 4) row) new
     at_top low new c =
         let e : n + 4 ≡ suc (n + 3) = omega arith in
-        let d : IsClearedBy (suc (n + 3)) (columns_of places column) low (at entries) new = subst (λ k. IsClearedBy k (columns_of places column) low (at entries) new) e (subst (λ y. IsClearedBy (n + 4) y low (at entries) new) ex c) in
-        record {
-          divisor = d.divisor;
-          p = d.p;
-          q = d.q;
-          divides = d.divides;
-          positive = d.positive;
-          entries = λ k l. d.entries k l ∙ ap (λ t. (d.p *ℤ low k) -ℤ (d.q *ℤ t)) (top_is k (omega arith));
-          cleared = d.cleared;
-        }
+        subst (λ k. IsClearedBy k (columns_of places column) low (row_at table (n + 4) row) new) e
+        (subst (λ y. IsClearedBy (n + 4) y low (row_at table (n + 4) row) new) ex (cleared_whole (n + 4) x (row_at table (n + 4) row) (at entries) m low new c))
 
     row_cleared : (j i : ℕ) (new : List ℤ) → j ≢ row → IsClearedBy (n + 4) x (row_at table (n + 4) i) (at entries) (row_at new (n + 4) i)
         → IsClearedBy (n + length basis + 4) column (read_row (n + 3) (columns_of places) j (row_at table (n + 4) i)) (rows_of before row) (read_row (n + 3) (columns_of places) j (row_at new (n + 4) i))

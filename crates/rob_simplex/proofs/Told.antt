@@ -1,14 +1,17 @@
 -- The numbers that a solver tells.
-use Rattle.std.proofs.Common.{◌≡◌, ◌≢◌, ℕ, suc, sym, refl, ap, ap₂, subst, ◌∙◌, ◌+◌, ◌<◌, arith, Some, None}
+use Rattle.std.proofs.Common.{◌≡◌, ◌≢◌, ℕ, suc, sym, refl, ap, ap₂, subst, ◌∙◌, ◌+◌, ◌<◌, arith, Option, Some, None, IfSome}
 use Rattle.std.proofs.lemmas.Bool.Decides.{nat_tests}
 use lib.IntN.{pos, neg_ℤ, nat_abs}
 use lib.Signed.{◌<ℤ◌}
 use Rattle.rob_algebra.specs.Fraction.{of_int, of_pair}
+use Rattle.rob_algebra.specs.Width.{Fits}
 use Rattle.rob_algebra.proofs.Parts.{of_int-one}
 use Rattle.rob_linear.specs.Programs.{auxiliary_place}
-use Rattle.rob_simplex.specs.Dictionaries.{columns_of, rows_of}
-use Rattle.rob_simplex.specs.Solvers.{Solver, positions, sized_as, entries, column_of}
+use Rattle.rob_simplex.specs.Dictionaries.{columns_of, rows_of, right_column}
+use Rattle.rob_simplex.specs.Judging.{ratio_of, objective_column, Tells}
+use Rattle.rob_simplex.specs.Solvers.{Solver, positions, sized_as, entries, column_of, growing_of, HasRay, HasOptimum}
 use Rattle.rob_simplex.specs.Solutions.{position_of, at_position, over_own, over_objective, point_of, ray_of, dual_of, value_of}
+use Rattle.rob_simplex.proofs.Positions.{position_is}
 use Rattle.rob_simplex.proofs.SolverRows.{over_same, minus_over_same, low_place, high_place}
 
 -- ---- the objective's row
@@ -79,3 +82,29 @@ ray_none s j d h = of_int-one (pos 0) 1 refl ∙ ap (λ o. at_position o (over_o
 
 pub ray_here : (s : Solver) (j : ℕ) → j ≡ column_of s.state → of_pair (pos 1) 1 ≡ ray_of s j
 ray_here s j e = let r : ray_of s j ≡ of_int (pos 1) = grind (arith, nat_tests) in of_int-one (pos 1) 1 refl ∙ sym r
+
+-- ---- what is told fits
+module _ (limit : ℕ) (s : Solver) (told : Tells limit (growing_of s.state) s.dictionary) where
+  pub fits_point : (i j right : ℕ) → right ≡ s.columns + positions s + 2 → Some i ≡ position_of s.basis j → j < s.columns → Fits limit (ratio_of s.dictionary i right (columns_of s.basis i))
+  fits_point i j right e h jl =
+      let p = position_is s.basis j i h in
+      let r : right_column s.columns (positions s) ≡ right = omega arith in
+      subst (λ k. Fits limit (ratio_of s.dictionary i k (columns_of s.basis i))) r ((told.rows i p.0).point (subst (λ k. k < s.columns) (sym p.1) jl))
+
+  pub fits_ray : (i j column : ℕ) → HasRay s → column ≡ column_of s.state → Some i ≡ position_of s.basis j → j < s.columns → Fits limit (ratio_of s.dictionary i column (columns_of s.basis i))
+  fits_ray i j column ray e h jl =
+      let p = position_is s.basis j i h in
+      let some : growing_of s.state ≡ Some (column_of s.state) = ap growing_of ray in
+      let x : IfSome (growing_of s.state) (λ k. Fits limit (ratio_of s.dictionary i k (columns_of s.basis i))) = (told.rows i p.0).ray (subst (λ k. k < s.columns) (sym p.1) jl) in
+      subst (λ k. Fits limit (ratio_of s.dictionary i k (columns_of s.basis i))) (sym e) (subst (λ (o : Option ℕ). IfSome o (λ k. Fits limit (ratio_of s.dictionary i k (columns_of s.basis i)))) some x)
+
+  pub fits_dual : HasOptimum s → (i k : ℕ) → i < positions s → k ≡ s.columns + i → Fits limit (ratio_of s.dictionary (positions s) k (objective_column s.dictionary))
+  fits_dual state i k l e =
+      let none : growing_of s.state ≡ None = ap growing_of state in
+      subst (λ c. Fits limit (ratio_of s.dictionary (positions s) c (objective_column s.dictionary))) (sym e) ((told.objective none).dual i l)
+
+  pub fits_value : HasOptimum s → (k : ℕ) → k ≡ s.columns + positions s + 2 → Fits limit (ratio_of s.dictionary (positions s) k (objective_column s.dictionary))
+  fits_value state k e =
+      let none : growing_of s.state ≡ None = ap growing_of state in
+      let r : right_column s.columns (positions s) ≡ k = omega arith in
+      subst (λ c. Fits limit (ratio_of s.dictionary (positions s) c (objective_column s.dictionary))) r (told.objective none).value

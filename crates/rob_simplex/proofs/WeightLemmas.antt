@@ -1,5 +1,5 @@
 -- The weights: the slack entries of the row that ended the first phase, over what divides them all.
-use Rattle.std.proofs.Common.{◌≡◌, ◌≢◌, ℕ, suc, ◌+◌, ◌<◌, ◌≤◌, sym, ap, ◌∙◌, subst, arith, inl, inr, List, length, set, get_or}
+use Rattle.std.proofs.Common.{◌≡◌, ◌≢◌, ℕ, suc, ◌+◌, ◌<◌, ◌≤◌, sym, refl, ap, ◌∙◌, subst, arith, inl, inr, List, [], ◌∷◌, length, take, drop, set, get_or}
 use Rattle.std.proofs.Math.Nat.{eq-one_of_dvd-one}
 use Rattle.std.proofs.lemmas.Bool.{cases_eq}
 use Rattle.std.proofs.lemmas.Bool.Decides.{nat_tests}
@@ -34,6 +34,14 @@ use Rattle.rob_simplex.proofs.FirstPhase.{auxiliary_free, set_is}
 -- a list whose entries are within the limit
 pub within_from : (limit : ℕ) (w : List ℤ) → ((i : ℕ) → i < length w → nat_abs (at w i) ≤ limit) → IsWithin limit w
 within_from limit w h i d l = subst (λ z. nat_abs z ≤ limit) (sym (get_or_default w i d (pos 0) l)) (h i l)
+
+-- a list, cut out of itself
+take_length : (w : List ℤ) → take (length w) w ≡ w
+take_length [] = refl
+take_length (x ∷ w) = ap (λ t. x ∷ t) (take_length w)
+
+pub take_whole : (w : List ℤ) (n : ℕ) → length w ≡ n → take n (drop 0 w) ≡ w
+take_whole w n e = ap (λ k. take k w) (sym e) ∙ take_length w
 
 -- one entry more is written
 pub slack_more : (w : List ℤ) (f : Vector) (k limit : ℕ) (z : ℤ) → k < length w → ((j : ℕ) → j < k → (at w j ≡ f j) × (nat_abs (at w j) ≤ limit)) → z ≡ f k → nat_abs z ≤ limit

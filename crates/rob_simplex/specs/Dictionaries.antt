@@ -12,7 +12,7 @@ use Rattle.rob_linear.specs.Turns.{ComesBefore, key}
 use Rattle.rob_linear.specs.Beside.{IsLexNegative}
 use Rattle.rob_linear.specs.CondensedRows.{IsPlaced}
 use Rattle.rob_linear.specs.Multiples.{IsParallel, IsClearedBy}
-use Rattle.rob_rows.specs.Updates.{IsWideCleared}
+use Rattle.rob_entries.specs.Updates.{IsWideCleared}
 use Rattle.rob_simplex.specs.Tables.{row_at, HasBounds}
 
 -- what contracts see: the limit, the number of structural columns, the basic column of each position, the place of each column, and
@@ -59,7 +59,6 @@ kept_row_of t = read_row (t.columns + 3) (columns_of t.places) (positions t) (ro
 pub record IsSound (limit n : ℕ) (basis places near : List ℕ) (table : List ℤ) (bounds : List ℕ) (room : ℕ) : Type 0 where
   pub few : n + length basis < 2 ^ 31
   pub limit_low : 1 ≤ limit
-  pub limit_high : limit < 2 ^ 62
   pub count : length bounds ≡ length basis + 2
   pub bounded : HasBounds limit (n + 4) table bounds
   pub places_size : length places ≡ n + length basis + 4
@@ -88,6 +87,16 @@ pub record IsOpen (t : Table) (row : ℕ) : Type 0 where
   pub spare : columns_of t.basis row ≡ spare_column t.columns (positions t)
   pub zero : rows_of t row (spare_column t.columns (positions t)) ≡ pos 0
 
+-- the rows before `count` but this one have entries in their own columns; the kept one is 0 in the spare column
+pub record KeepsOwn (count : ℕ) (t : Table) (row : ℕ) : Type 0 where
+  pub rows :
+      (i : ℕ) → i < count → i ≤ positions t → i ≢ row
+      → rows_of t i (basic_columns t.columns t.basis i) ≢ pos 0
+  pub kept :
+      suc (positions t) < count
+      → (kept_row_of t (spare_column t.columns (positions t)) ≡ pos 0)
+      × (kept_row_of t (suc (t.columns + positions t)) ≢ pos 0)
+
 -- of the rows before `count` but this one each is cleared; the others stay. The kept row is the last one
 pub record ClearsTable (count : ℕ) (t t' : Table) (row column : ℕ) : Type 0 where
   pub cleared : (i : ℕ) → i < count → i ≤ positions t → i ≢ row → IsClearedBy (width_of t) column (rows_of t i) (rows_of t row) (rows_of t' i)
@@ -105,12 +114,6 @@ pub record StopsTable (limit count : ℕ) (t t' : Table) (row column i : ℕ) : 
   pub wide_kept : i ≡ suc (positions t) → IsWideCleared limit (width_of t) column (kept_row_of t) (rows_of t row)
 
 -- ---- choices
--- the least of the columns near the first `count` places where the row is negative, or `before` where none is less
-pub record IsLowest (row : Vector) (near : Columns) (count before result : ℕ) : Type 0 where
-  pub low : result ≤ before
-  pub found : (result ≡ before) ⊎ ((k : ℕ) × (k < count) × (near k ≡ result) × (row k <ℤ pos 0))
-  pub none_lower : (k : ℕ) → k < count → near k < result → pos 0 ≤ℤ row k
-
 -- the first of so many columns with a negative entry
 pub record FirstNegative (count : ℕ) (row : Vector) (column : ℕ) : Type 0 where
   pub inside : column < count

@@ -1,6 +1,6 @@
 -- What a solver has shown of its program.
 -- Chvatal, Linear Programming (1983), chapters 3, 5 and 9.
-use Rattle.std.specs.Prelude.{◌≡◌, ℕ, ◌<◌, ◌+◌}
+use Rattle.std.specs.Prelude.{◌≡◌, ◌⊎◌, ℕ, ◌<◌, ◌+◌, nat_abs}
 use Rattle.rob_number.specs.declared.lp_kind.LpKind.{LpKind}
 use Rattle.rob_number.specs.declared.lp_kind.LpKind.TheVariants as kind
 use Rattle.rob_linear.specs.Vectors.{Matrix, Columns}
@@ -15,6 +15,7 @@ use Rattle.rob_simplex.specs.declared.state.LpStop.{LpStop}
 use Rattle.rob_simplex.specs.declared.state.LpStop.TheVariants.{Wide}
 use Rattle.rob_simplex.specs.Dictionaries.{columns_of}
 use Rattle.rob_simplex.specs.Solvers.{Solver, entries, column_of, HasPoint, HasOptimum, HasRay, HasWeights, IsMadeFor}
+use Rattle.rob_simplex.specs.PathEnds.{PathStops}
 use Rattle.rob_simplex.specs.Solutions.{point_of, ray_of, dual_of, value_of, weights_of}
 
 -- the solver was made for a program, and has not solved yet
@@ -94,3 +95,19 @@ HasSolved P kind.Unbounded s = IsRayOf P s
 -- the solver stands at a basis on the path, where the row of that position is wide
 abbrev pub HasStopped : ℕ → Program → LpStop → Solver → Type 0
 HasStopped limit P (Wide position) s = (s.state ≡ Stopped) × HasWideRow limit P (columns_of s.basis) position
+
+-- no point is feasible, as weights without a common divisor show at the end of the path's first phase, and one of them is
+-- over the limit
+pub record HasWideWeight (limit : ℕ) (P : Program) (s : Solver) (i : ℕ) : Type 0 where
+  pub position : i ≡ P.m
+  pub last : Last P (columns_of s.basis)
+  pub ending : IsFirstPhaseEnd P s
+  pub primitive : IsPrimitive P.m (weights_of s)
+  pub weight : ℕ
+  pub inside : weight < P.m
+  pub wide : limit < nat_abs (weights_of s weight)
+
+-- why the solver stopped: the row of that position has an entry over the limit of its own rows; or at the last basis of
+-- the path a number is told there that is over the limit of what is told: of an optimum, of a ray, or of weights
+abbrev pub IsCaused : ℕ → Program → LpStop → Solver → Type 0
+IsCaused limit P (Wide position) s = PathStops limit P s.dictionary position ⊎ HasWideWeight limit P s position

@@ -5,7 +5,7 @@ use Rattle.rob_linear.specs.Vectors.{Vector}
 use Rattle.rob_linear.specs.Systems.{IsPrimitive}
 use Rattle.rob_linear.specs.Stages.{unit_row}
 use Rattle.rob_linear.specs.Multiples.{IsClearedBy}
-use Rattle.rob_rows.specs.Updates.{IsWideCleared}
+use Rattle.rob_entries.specs.Updates.{IsWideCleared}
 use Rattle.rob_simplex.specs.Dictionaries.{Table, positions, width_of, rows_of}
 
 -- the amount is subtracted in that column, up to a positive factor

@@ -11,6 +11,7 @@ use Rattle.rob_simplex.specs.declared.state.State.TheVariants.{Stopped}
 use Rattle.rob_simplex.specs.declared.state.LpStop.{LpStop}
 use Rattle.rob_simplex.specs.declared.state.LpStop.TheVariants.{Wide}
 use Rattle.rob_simplex.specs.Dictionaries.{columns_of}
+use Rattle.rob_simplex.specs.PathEnds.{PathStopsFrom}
 use Rattle.rob_simplex.specs.Phases.{StandsFor}
 use Rattle.rob_simplex.specs.Solvers.{Solver, HasPoint}
 use Rattle.rob_simplex.specs.Endings.{IsOptimumAt, IsRayAt}
@@ -31,3 +32,8 @@ HasResumed P start kind.Unbounded s = IsRayAt (LastFrom P start) P s
 abbrev pub HasStoppedFrom : ℕ → Program → Columns → LpStop → Solver → Type 0
 HasStoppedFrom limit P start (Wide position) s =
     (s.state ≡ Stopped) × HasWideRowFrom limit P start (columns_of s.basis) position
+
+-- why the solver stopped: that row, or that stage, has an entry over the limit of its own rows; or at the last basis of
+-- that path a number is told at that position that is over the limit of what is told
+abbrev pub IsCausedFrom : ℕ → Program → Columns → LpStop → Solver → Type 0
+IsCausedFrom limit P start (Wide position) s = PathStopsFrom limit P start s.dictionary position

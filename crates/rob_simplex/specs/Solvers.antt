@@ -1,5 +1,5 @@
 -- What contracts see of a solver: its state, its dictionary and its weights.
-use Rattle.std.specs.Prelude.{◌≡◌, ℕ, suc, ◌<◌, ◌+◌, ◌^◌, ℤ, pos, ◌<ℤ◌, List, length, ⊤}
+use Rattle.std.specs.Prelude.{◌≡◌, ℕ, suc, ◌<◌, ◌+◌, ◌^◌, ℤ, pos, ◌<ℤ◌, List, length, ⊤, Option, Some, None}
 use Rattle.rob_linear.specs.Vectors.{Matrix}
 use Rattle.rob_linear.specs.Programs.{Program}
 use Rattle.rob_linear.specs.Beside.{without_column}
@@ -8,6 +8,7 @@ use Rattle.rob_simplex.specs.declared.state.State.{State}
 use Rattle.rob_simplex.specs.declared.state.State.TheVariants.{New, Optimal, Infeasible, Unbounded, Stopped}
 use Rattle.rob_simplex.specs.Dictionaries.{Table, rows_of, columns_of, sized}
 use Rattle.rob_simplex.specs.LowestTerms.{lowest_terms}
+use Rattle.rob_simplex.specs.Judging.{Tells}
 use Rattle.rob_simplex.specs.Starts.{IsStartingTable}
 
 -- the state; the dictionary, with the number of structural columns and the basic column of each position; the weights
@@ -60,23 +61,32 @@ HasRay s = s.state ≡ Unbounded (column_of s.state)
 abbrev pub HasWeights : Solver → Type 0
 HasWeights s = s.state ≡ Infeasible
 
--- what always holds: of the limit, the program's size and the weights; where there is a point, entries that are divided by
--- are positive
-pub record IsSound (limit : ℕ) (s : Solver) : Type 0 where
-  pub limit_is : s.limit ≡ limit
+-- and there is one
+abbrev pub growing_of : State → Option ℕ
+growing_of (Unbounded column) = Some column
+growing_of New = None
+growing_of Optimal = None
+growing_of Infeasible = None
+growing_of Stopped = None
+
+-- what always holds, of rows within `top` and of what they tell within `limit`: of the program's size and the weights; where
+-- there is a point, entries that are divided by are positive, and what is told of it fits
+pub record IsSound (top limit : ℕ) (s : Solver) : Type 0 where
+  pub limit_is : s.limit ≡ top
   pub few : s.columns + positions s < 2 ^ 31
   pub weights_size : length s.weights ≡ positions s
-  pub weights_within : IsWithin limit s.weights
+  pub weights_within : HasWeights s → IsWithin limit s.weights
   pub own :
       HasPoint s → (i : ℕ) → i < positions s
       → (columns_of s.basis i < s.columns + positions s) × (pos 0 <ℤ rows_of s.dictionary i (columns_of s.basis i))
   pub column : column_of s.state < 2 ^ 31
   pub growing : HasRay s → column_of s.state < s.columns + positions s
   pub objective : HasPoint s → pos 0 <ℤ rows_of s.dictionary (positions s) (suc (s.columns + positions s))
+  pub told : HasPoint s → Tells limit (growing_of s.state) s.dictionary
 
 -- the solver was made for the program, and has not solved yet
 pub record IsMadeFor (P : Program) (s : Solver) : Type 0 where
   pub state : s.state ≡ New
   pub rows : P.m ≡ positions s
   pub columns : P.n ≡ s.columns
-  pub starting : IsStartingTable s.limit P s.dictionary
+  pub starting : IsStartingTable P s.dictionary

@@ -20,8 +20,7 @@ start_entry n low auxiliary right k =
     cond (nat_lt k n) (low k) (cond (nat_eq k n) auxiliary (cond (nat_eq k (n + 1)) (pos 0) (cond (nat_eq k (n + 2)) right (pos 1))))
 
 -- the dictionary has the program's starting rows
-pub record IsStartingTable (limit : ℕ) (P : Program) (t : Table) : Type 0 where
-  pub limit_is : t.limit ≡ limit
+pub record IsStartingTable (P : Program) (t : Table) : Type 0 where
   pub columns_are : t.columns ≡ P.n
   pub rows_are : positions t ≡ P.m
   pub slacks : (i : ℕ) → i < P.m → columns_of t.basis i ≡ P.n + i

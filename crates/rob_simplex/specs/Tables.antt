@@ -2,7 +2,7 @@
 use Rattle.std.specs.Prelude.{◌≡◌, ◌≢◌, ℕ, ◌<◌, ◌≤◌, ◌+◌, ◌*◌, ℤ, List, length, nat_abs, slice_index_or}
 use Rattle.rob_linear.specs.Vectors.{Matrix, Vector, at}
 use Rattle.rob_linear.specs.Multiples.{IsClearedBy}
-use Rattle.rob_rows.specs.Updates.{IsWideCleared}
+use Rattle.rob_entries.specs.Updates.{IsWideCleared}
 
 -- entry k of row i of a table with rows of this width
 abbrev pub row_at : List ℤ → ℕ → Matrix

@@ -5,8 +5,9 @@ ghost use Rattle.rob_simplex.specs.Dictionaries.{positions, columns_of};
 ghost use Rattle.rob_simplex.specs.Solutions.{position_of as place_of};
 
 use crate::dictionary::Dictionary;
+use rob_entries::Entry;
 
-impl Dictionary {
+impl<E: Entry> Dictionary<E> {
     /// The number of structural columns.
     pub fn columns(&self) -> usize
         ensures columns { result ≡ self.now.columns }

@@ -1,21 +1,24 @@
 // A new cost, put on a dictionary that stands, column by column.
 
-ghost use Rattle.std.specs.Prelude.{◌≡◌, ◌≢◌, ◌<◌, ◌≤◌, ◌+◌, ◌^◌, ◌<ℤ◌, ◌*ℤ◌, ℕ, suc, pos, nat_abs, length, OnOk, OnErr, IfErr, MatchResult};
+ghost use Rattle.std.specs.Prelude.{◌≡◌, ◌≢◌, ◌<◌, ◌≤◌, ◌+◌, ◌-◌, ◌^◌, ◌<ℤ◌, ◌*ℤ◌, ℕ, suc, pos, nat_abs, length, OnOk, OnErr, IfErr, MatchResult};
 ghost use Rattle.rob_linear.specs.Vectors.{at};
 ghost use Rattle.rob_linear.specs.Programs.{Program, with_cost};
 ghost use Rattle.rob_linear.specs.Stages.{truncated, unit_row};
 ghost use Rattle.rob_linear.specs.WideRows.{IsOwnWideAt, HasWideRowFrom};
-ghost use Rattle.rob_number.specs.Counts.{CountsWide};
+ghost use Rattle.rob_simplex.specs.Counting.{CountsRows};
 ghost use Rattle.rob_rows.specs.PrimitiveParts.{IsWithin};
-ghost use Rattle.rob_simplex.specs.Dictionaries.{positions, width_of, columns_of, rows_of, IsFree, IsOpen, IsAlone};
+ghost use Rattle.rob_simplex.specs.Dictionaries.{positions, width_of, columns_of, rows_of, IsFree, IsOpen, IsAlone, KeepsOwn};
 ghost use Rattle.rob_simplex.specs.Lowering.{IsLowered, IsWideLowered, amount_of, HasCleared, HasRefusedCost};
 ghost use Rattle.rob_simplex.specs.Phases.{StandsFor, EndsFrom};
+ghost use Rattle.rob_simplex.specs.Judging.{Tells};
+ghost use Rattle.rob_simplex.specs.PathEnds.{PathStopsFrom};
 
 use crate::dictionary::Dictionary;
 use crate::lowering::{Lowering, Step, lower_row, write_step};
-use rob_number::{Ledger, Wide};
+use rob_entries::Entry;
+use rob_number::{Exact, Ledger, Wide};
 
-impl Dictionary {
+impl<E: Entry> Dictionary<E> {
     // Makes the objective's row that of the cost 0: 1 in its own column, and 0 elsewhere.
     fn drop_cost(&mut self)
         ensures objective { (c : ℕ) → c < width_of self.old
@@ -24,33 +27,26 @@ impl Dictionary {
         ensures basis { self.new.basis ≡ self.old.basis }
         ensures columns { self.new.columns ≡ self.old.columns }
         ensures limit { self.new.limit ≡ self.old.limit }
-        ensures bound { self.new.limit < 2 ^ 62 }
     {
         let n = self.columns;
         let step = Step {
             one: n + 3,
             place: n + 3,
-            number: 1,
+            number: E::of(1),
         };
         let m = self.basis.len();
-        write_step(
-            self.rows.as_mut_slice(),
-            self.bounds.as_mut_slice(),
-            m,
-            step,
-            n,
-            self.limit,
-        );
+        write_step(&mut self.rows, self.bounds.as_mut_slice(), m, step, n);
     }
 
     // Takes the factor times the objective's entry off the entry of a column that is not basic, in the objective's row.
     // `Wide` where that row in lowest terms then has an entry over the limit; the row is then open.
-    fn lower(&mut self, column: usize, factor: i64) -> Result<(), Wide>
+    fn lower<L: Ledger>(&mut self, column: usize, factor: i64, ledger: &mut L) -> Result<(), Wide>
         requires free { IsFree self.old.columns self.old.basis column }
         requires way { IsFree self.old.columns self.old.basis (self.old.columns + positions self.old) }
         requires other { column ≢ self.old.columns + positions self.old }
-        requires factor { nat_abs factor ≤ self.old.limit }
+        requires factor { nat_abs factor < 2 ^ 62 }
         requires zero { rows_of self.old (positions self.old) (self.old.columns + positions self.old) ≡ pos 0 }
+        requires own { rows_of self.old (positions self.old) (suc (self.old.columns + positions self.old)) ≢ pos 0 }
         ensures lowered { OnOk result (IsLowered (width_of self.old) column
             (amount_of self.old factor) (rows_of self.old (positions self.old))
             (rows_of self.new (positions self.old))) }
@@ -60,6 +56,8 @@ impl Dictionary {
         ensures basis { self.new.basis ≡ self.old.basis }
         ensures columns { self.new.columns ≡ self.old.columns }
         ensures limit { self.new.limit ≡ self.old.limit }
+        ensures ops { L.ops ledger.old ≤ L.ops ledger.new }
+        ensures wides { L.wides ledger.new ≡ L.wides ledger.old }
     {
         let m = self.basis.len();
         let place = self.places[column];
@@ -69,14 +67,14 @@ impl Dictionary {
             place,
             way,
             n: self.columns,
-            limit: self.limit,
         };
         lower_row(
-            self.rows.as_mut_slice(),
+            &mut self.rows,
             self.bounds.as_mut_slice(),
             &mut self.pivot_row,
             there,
             factor,
+            ledger,
         )
     }
 
@@ -96,8 +94,9 @@ impl Dictionary {
         requires positive { pos 0 <ℤ rows_of self.old i column }
         requires alone { IsAlone self.old i column }
         requires zero { rows_of self.old (positions self.old) (self.old.columns + positions self.old) ≡ pos 0 }
+        requires own { KeepsOwn (positions self.old + 1) self.old i }
         requires small { (k c : ℕ) → k ≤ positions self.old → nat_abs (rows_of self.old k c) ≤ self.old.limit }
-        requires factor { nat_abs factor ≤ self.old.limit }
+        requires factor { nat_abs factor < 2 ^ 62 }
         ensures cleared { OnOk result (HasCleared self.old self.new i column factor) }
         ensures wide { OnErr result (HasRefusedCost self.old.limit self.old i column factor) }
         ensures basis { self.new.basis ≡ self.old.basis }
@@ -106,7 +105,7 @@ impl Dictionary {
         ensures ops { L.ops ledger.old ≤ L.ops ledger.new }
         ensures wides { L.wides ledger.new ≡ L.wides ledger.old }
     {
-        self.lower(column, factor)?;
+        self.lower(column, factor, ledger)?;
         let count = self.basis.len() + 1;
         match self.clear_others(i, column, count, ledger) {
             Ok(()) => Ok(()),
@@ -125,7 +124,7 @@ impl Dictionary {
         requires stands { (P : Program) × StandsFor (truncated P column) self.old }
         requires column_in { column < self.old.columns }
         requires basic { (i < positions self.old) × (columns_of self.old.basis i ≡ column) }
-        requires factor { nat_abs factor ≤ self.old.limit }
+        requires factor { nat_abs factor < 2 ^ 62 }
         ensures put { (P : Program) → P.c column ≡ factor → StandsFor (truncated P column) self.old
             → OnOk result (StandsFor (truncated P (suc column)) self.new) }
         ensures wide { (P : Program) → P.c column ≡ factor → StandsFor (truncated P column) self.old
@@ -148,7 +147,7 @@ impl Dictionary {
     fn put_in<L: Ledger>(&mut self, column: usize, factor: i64, ledger: &mut L) -> Result<(), Wide>
         requires stands { (P : Program) × StandsFor (truncated P column) self.old }
         requires column_in { column < self.old.columns }
-        requires factor { nat_abs factor ≤ self.old.limit }
+        requires factor { nat_abs factor < 2 ^ 62 }
         ensures put { (P : Program) → P.c column ≡ factor → StandsFor (truncated P column) self.old
             → OnOk result (StandsFor (truncated P (suc column)) self.new) }
         ensures wide { (P : Program) → P.c column ≡ factor → StandsFor (truncated P column) self.old
@@ -163,7 +162,7 @@ impl Dictionary {
             return Ok(());
         }
         match self.position_of(column) {
-            None => self.lower(column, factor),
+            None => self.lower(column, factor, ledger),
             Some(i) => self.put_in_basic(i, column, factor, ledger),
         }
     }
@@ -173,7 +172,7 @@ impl Dictionary {
     fn put_on<L: Ledger>(&mut self, cost: &[i64], ledger: &mut L) -> Result<(), Wide>
         requires stands { (P : Program) × StandsFor P self.old }
         requires size { length cost.now ≡ self.old.columns }
-        requires within { IsWithin self.old.limit cost.now }
+        requires within { IsWithin (2 ^ 62 - 1) cost.now }
         ensures put { (P : Program) → StandsFor P self.old
             → OnOk result (StandsFor (with_cost P (at cost.now)) self.new) }
         ensures wide { (P : Program) → StandsFor P self.old
@@ -196,28 +195,34 @@ impl Dictionary {
 
     /// Puts the cost on the dictionary, and turns until the path from the basis that stands ends: with `None` where no
     /// column improves the objective, else with the column that improves it without limit. An `Err` names a row that is
-    /// wide at the basis that is then told: its own, or a stage of the objective's.
-    pub fn go_on<L: Ledger>(&mut self, cost: &[i64], ledger: &mut L) -> Result<Option<usize>, usize>
+    /// wide at the basis that is then told: its own, or a stage of the objective's. Rows may be wider than `N`; the
+    /// numbers that the last ones tell fit it.
+    pub fn go_on<N: Exact, L: Ledger>(
+        &mut self,
+        cost: &[i64],
+        ledger: &mut L,
+    ) -> Result<Option<usize>, usize>
         requires stands { (P : Program) × StandsFor P self.old }
         requires size { length cost.now ≡ self.old.columns }
-        requires within { IsWithin self.old.limit cost.now }
+        requires within { IsWithin N.limit cost.now }
+        requires limit { N.limit ≤ self.old.limit }
         ensures told { (P : Program) → StandsFor P self.old
             → MatchResult result
-            (λ ending. EndsFrom (with_cost P (at cost.now)) (columns_of self.old.basis) ending self.new)
-            (λ i. HasWideRowFrom self.old.limit (with_cost P (at cost.now)) (columns_of self.old.basis)
+            (λ ending. EndsFrom (with_cost P (at cost.now)) (columns_of self.old.basis) ending self.new
+            × Tells N.limit ending self.new)
+            (λ i. HasWideRowFrom N.limit (with_cost P (at cost.now)) (columns_of self.old.basis)
             (columns_of self.new.basis) i) }
+        ensures caused { (P : Program) → StandsFor P self.old
+            → IfErr result (PathStopsFrom N.limit (with_cost P (at cost.now)) (columns_of self.old.basis) self.new) }
         ensures position { IfErr result (λ i. i ≤ positions self.old) }
         ensures positions { positions self.new ≡ positions self.old }
         ensures columns { self.new.columns ≡ self.old.columns }
         ensures limit { self.new.limit ≡ self.old.limit }
-        ensures counted { CountsWide L.ops L.wides ledger.old ledger.new result }
+        ensures counted { CountsRows L.ops L.wides ledger.old ledger.new }
     {
         match self.put_on(cost, ledger) {
-            Ok(()) => self.improve(ledger),
-            Err(_) => {
-                ledger.wide();
-                Err(self.basis.len())
-            }
+            Ok(()) => self.improve_and_judge::<N, L>(ledger),
+            Err(_) => Err(self.basis.len()),
         }
     }
 }

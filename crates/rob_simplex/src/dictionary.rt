@@ -2,38 +2,37 @@
 //
 // A row has n + 4 numbers: n + 2 entries of the columns that are not basic, one of which is a spare column of zeros, then the
 // right side, and last its own entry. `places` tells where a column stands, or n + 3 and its position where it is basic;
-// `near` tells the column at each place.
+// `near` tells the column at each place. The limit of the rows is the greatest that their entries allow.
 
-use rob_rows::PivotRow;
+use rob_entries::{Cells, Entry, PivotRow};
 use std::marker::Model;
 
 /// The rows of a basis up to positive factors, with their maps and bounds, and the memory that pivots work in.
 #[derive(Drop)]
-pub struct Dictionary {
-    pub limit: u64,
+pub struct Dictionary<E: Entry> {
     pub columns: usize,
     pub basis: Vec<usize>,
     pub places: Vec<usize>,
     pub near: Vec<usize>,
-    pub rows: Vec<i64>,
-    pub bounds: Vec<u64>,
-    pub pivot_row: PivotRow,
+    pub rows: Cells<E>,
+    pub bounds: Vec<u128>,
+    pub pivot_row: PivotRow<E>,
 }
 
-impl Model for Dictionary {
+impl<E: Entry> Model for Dictionary<E> {
     ghost use Rattle.std.specs.Prelude.{length};
     ghost use Rattle.rob_simplex.specs.Dictionaries.{Table, IsSound};
 
     ghost Value = { Table };
 
     ghost view = { λ d. record {
-      limit = d.limit;
+      limit = E.top;
       columns = d.columns;
       basis = d.basis.items;
       places = d.places.items;
-      table = d.rows.items;
+      table = d.rows;
     } };
 
-    ghost invariant = { λ d. IsSound d.limit d.columns d.basis.items d.places.items d.near.items d.rows.items d.bounds.items
+    ghost invariant = { λ d. IsSound E.top d.columns d.basis.items d.places.items d.near.items d.rows d.bounds.items
         (length d.pivot_row.entries) };
 }

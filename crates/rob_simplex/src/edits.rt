@@ -6,8 +6,9 @@ ghost use Rattle.rob_simplex.specs.Dictionaries.{positions, width_of, columns_of
 
 use crate::dictionary::Dictionary;
 use crate::row_moves::{copy_row, empty_place, exchange_rows, write_unit};
+use rob_entries::Entry;
 
-impl Dictionary {
+impl<E: Entry> Dictionary<E> {
     /// Two positions exchange their rows and columns.
     pub fn exchange(&mut self, a: usize, b: usize)
         requires a_in { a < positions self.old }
@@ -21,13 +22,7 @@ impl Dictionary {
         ensures limit { self.new.limit ≡ self.old.limit }
     {
         let width = self.columns + 4;
-        exchange_rows(
-            self.rows.as_mut_slice(),
-            self.bounds.as_mut_slice(),
-            a,
-            b,
-            width,
-        );
+        exchange_rows(&mut self.rows, self.bounds.as_mut_slice(), a, b, width);
         let first = self.basis[a];
         let second = self.basis[b];
         self.basis[a] = second;
@@ -50,7 +45,7 @@ impl Dictionary {
         let width = self.columns + 4;
         let place = self.places[column];
         let count = self.basis.len() + 1;
-        empty_place(self.rows.as_mut_slice(), place, width, count);
+        empty_place(&mut self.rows, place, width, count);
     }
 
     /// Keeps the objective's row behind it.
@@ -63,13 +58,7 @@ impl Dictionary {
     {
         let width = self.columns + 4;
         let m = self.basis.len();
-        copy_row(
-            self.rows.as_mut_slice(),
-            self.bounds.as_mut_slice(),
-            m,
-            m + 1,
-            width,
-        );
+        copy_row(&mut self.rows, self.bounds.as_mut_slice(), m, m + 1, width);
     }
 
     /// Writes the kept row back to the objective's position.
@@ -82,13 +71,7 @@ impl Dictionary {
     {
         let width = self.columns + 4;
         let m = self.basis.len();
-        copy_row(
-            self.rows.as_mut_slice(),
-            self.bounds.as_mut_slice(),
-            m + 1,
-            m,
-            width,
-        );
+        copy_row(&mut self.rows, self.bounds.as_mut_slice(), m + 1, m, width);
     }
 
     /// Writes the auxiliary objective to the objective's row: 1 in the auxiliary column and in its own.
@@ -107,12 +90,6 @@ impl Dictionary {
         let width = self.columns + 4;
         let m = self.basis.len();
         let place = self.places[self.columns + m];
-        write_unit(
-            self.rows.as_mut_slice(),
-            self.bounds.as_mut_slice(),
-            m,
-            place,
-            width,
-        );
+        write_unit(&mut self.rows, self.bounds.as_mut_slice(), m, place, width);
     }
 }

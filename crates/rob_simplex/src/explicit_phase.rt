@@ -4,13 +4,14 @@
 ghost use Rattle.std.specs.Prelude.{◌≡◌, ◌≤◌, IfOk, IfErr, MatchResult};
 ghost use Rattle.rob_linear.specs.Programs.{Program};
 ghost use Rattle.rob_linear.specs.WideRows.{HasWideRow};
-ghost use Rattle.rob_number.specs.Counts.{CountsWide};
+ghost use Rattle.rob_simplex.specs.Counting.{CountsRows};
 ghost use Rattle.rob_simplex.specs.Dictionaries.{positions, columns_of};
 ghost use Rattle.rob_simplex.specs.Phases.{IsOpenBeside};
 ghost use Rattle.rob_simplex.specs.Explicit.{InExplicit, HasTurnedExplicit, FirstTurns, turn_after};
 
 use crate::dictionary::Dictionary;
 use crate::first_phase::FirstEnding;
+use rob_entries::Entry;
 use rob_number::Ledger;
 
 /// What a basis of the explicit form does next.
@@ -24,7 +25,7 @@ pub enum ExplicitTurn {
     Stays,
 }
 
-impl Dictionary {
+impl<E: Entry> Dictionary<E> {
     /// Goes on in the explicit form, where position q is open, to the end of the first phase. An `Err` names a
     /// row that is wide at the basis that is then told.
     pub fn explicit_turns<L: Ledger>(
@@ -41,7 +42,7 @@ impl Dictionary {
         ensures positions { positions self.new ≡ positions self.old }
         ensures columns { self.new.columns ≡ self.old.columns }
         ensures limit { self.new.limit ≡ self.old.limit }
-        ensures counted { CountsWide L.ops L.wides ledger.old ledger.new result }
+        ensures counted { CountsRows L.ops L.wides ledger.old ledger.new }
     {
         match self.bring_in(q, ledger) {
             Ok(()) => self.drive_out(ledger),
@@ -61,7 +62,7 @@ impl Dictionary {
         ensures positions { positions self.new ≡ positions self.old }
         ensures columns { self.new.columns ≡ self.old.columns }
         ensures limit { self.new.limit ≡ self.old.limit }
-        ensures counted { CountsWide L.ops L.wides ledger.old ledger.new result }
+        ensures counted { CountsRows L.ops L.wides ledger.old ledger.new }
     {
         let m = self.basis.len();
         let auxiliary = self.columns + m;
@@ -71,10 +72,7 @@ impl Dictionary {
         self.replace(q, auxiliary);
         match cleared {
             Ok(()) => Ok(()),
-            Err(i) => {
-                ledger.wide();
-                Err(i.min(m))
-            }
+            Err(i) => Err(i.min(m)),
         }
     }
 
@@ -89,7 +87,7 @@ impl Dictionary {
         ensures positions { positions self.new ≡ positions self.old }
         ensures columns { self.new.columns ≡ self.old.columns }
         ensures limit { self.new.limit ≡ self.old.limit }
-        ensures counted { CountsWide L.ops L.wides ledger.old ledger.new result }
+        ensures counted { CountsRows L.ops L.wides ledger.old ledger.new }
     {
         'turns: loop {
             match self.turn_explicit(ledger) {
@@ -101,10 +99,7 @@ impl Dictionary {
                     return Ok(FirstEnding::Feasible);
                 }
                 Ok(ExplicitTurn::Stays) => {}
-                Err(i) => {
-                    ledger.wide();
-                    return Err(i);
-                }
+                Err(i) => return Err(i),
             }
         }
     }

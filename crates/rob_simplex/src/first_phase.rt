@@ -4,13 +4,14 @@
 ghost use Rattle.std.specs.Prelude.{◌≡◌, ◌<◌, ◌≤◌, ◌+◌, IfOk, IfErr, MatchResult};
 ghost use Rattle.rob_linear.specs.Programs.{Program};
 ghost use Rattle.rob_linear.specs.WideRows.{HasWideRow};
-ghost use Rattle.rob_number.specs.Counts.{CountsWide};
+ghost use Rattle.rob_simplex.specs.Counting.{CountsRows};
 ghost use Rattle.rob_simplex.specs.Dictionaries.{positions, columns_of, rows_of, FirstNegative};
 ghost use Rattle.rob_simplex.specs.Phases.{InBeside, HasTurnedBeside, IsOpenBeside, EndsBeside};
 ghost use Rattle.rob_simplex.specs.Starts.{IsStartingTable};
 ghost use Rattle.rob_simplex.specs.Explicit.{FirstTurns, FirstEnds};
 
 use crate::dictionary::Dictionary;
+use rob_entries::Entry;
 use rob_number::Ledger;
 
 /// How the first phase ends.
@@ -33,12 +34,12 @@ pub enum Beside {
     Open,
 }
 
-impl Dictionary {
+impl<E: Entry> Dictionary<E> {
     /// The first phase, from the starting rows. The auxiliary column is 0 where it is out. An `Err` names the first
     /// row that would be wide at the basis that is then told.
     pub fn first_phase<L: Ledger>(&mut self, ledger: &mut L) -> Result<FirstEnding, usize>
-        requires starts { (P : Program) × IsStartingTable self.old.limit P self.old }
-        ensures ended { (P : Program) → IsStartingTable self.old.limit P self.old
+        requires starts { (P : Program) × IsStartingTable P self.old }
+        ensures ended { (P : Program) → IsStartingTable P self.old
             → MatchResult result
             (λ ending. FirstEnds P ending self.new)
             (λ i. HasWideRow self.old.limit P (columns_of self.new.basis) i) }
@@ -46,7 +47,7 @@ impl Dictionary {
         ensures positions { positions self.new ≡ positions self.old }
         ensures columns { self.new.columns ≡ self.old.columns }
         ensures limit { self.new.limit ≡ self.old.limit }
-        ensures counted { CountsWide L.ops L.wides ledger.old ledger.new result }
+        ensures counted { CountsRows L.ops L.wides ledger.old ledger.new }
     {
         match self.first_turns(ledger) {
             Ok(FirstEnding::Feasible) => {
@@ -61,8 +62,8 @@ impl Dictionary {
 
     // Its turns. The least row tells whether the auxiliary column is needed.
     fn first_turns<L: Ledger>(&mut self, ledger: &mut L) -> Result<FirstEnding, usize>
-        requires starts { (P : Program) × IsStartingTable self.old.limit P self.old }
-        ensures ended { (P : Program) → IsStartingTable self.old.limit P self.old
+        requires starts { (P : Program) × IsStartingTable P self.old }
+        ensures ended { (P : Program) → IsStartingTable P self.old
             → MatchResult result
             (λ ending. FirstTurns P ending self.new)
             (λ i. HasWideRow self.old.limit P (columns_of self.new.basis) i) }
@@ -70,7 +71,7 @@ impl Dictionary {
         ensures positions { positions self.new ≡ positions self.old }
         ensures columns { self.new.columns ≡ self.old.columns }
         ensures limit { self.new.limit ≡ self.old.limit }
-        ensures counted { CountsWide L.ops L.wides ledger.old ledger.new result }
+        ensures counted { CountsRows L.ops L.wides ledger.old ledger.new }
     {
         let Some(q) = self.least() else {
             return Ok(FirstEnding::Feasible);

@@ -8,21 +8,22 @@ ghost use Rattle.rob_linear.specs.Beside.{IsLexNegative, IsLeast, HasNoLeast};
 ghost use Rattle.rob_simplex.specs.Dictionaries.{positions, rows_of, width_of, shape, IsLower, MayBeLeast, Decided};
 
 use crate::dictionary::Dictionary;
+use crate::ratio_test::is_positive;
+use rob_entries::Entry;
+use std::cmp::Ordering;
 
 // Whether a number is below 0; none for 0.
-fn is_below(a: i64) -> Option<bool>
-    ensures sign { MatchOption result (a ≡ pos 0) (λ below. Decided below (neg_ℤ a)) }
+fn is_below<E: Entry>(a: E) -> Option<bool>
+    ensures sign { MatchOption result (E.value a ≡ pos 0) (λ below. Decided below (neg_ℤ (E.value a))) }
 {
-    if a < 0 {
-        return Some(true);
+    match a.sign() {
+        Ordering::Less => Some(true),
+        Ordering::Equal => None,
+        Ordering::Greater => Some(false),
     }
-    if a > 0 {
-        return Some(false);
-    }
-    None
 }
 
-impl Dictionary {
+impl<E: Entry> Dictionary<E> {
     // Whether the first number of a row's right side and slack entries that is not 0 is negative.
     fn is_negative(&self, i: usize) -> bool
         requires row_in { i < positions self.now }
@@ -44,13 +45,12 @@ impl Dictionary {
     }
 
     // Minus the entry of a row in a column.
-    fn minus_entry(&self, i: usize, column: usize) -> i64
+    fn minus_entry(&self, i: usize, column: usize) -> E
         requires row_in { i ≤ positions self.now }
         requires column_in { column < width_of self.now }
-        ensures entry { result ≡ neg_ℤ (rows_of self.now i column) }
+        ensures entry { E.value result ≡ neg_ℤ (rows_of self.now i column) }
     {
-        let _ = &self.limit;
-        -self.entry(i, column)
+        self.entry(i, column).minus()
     }
 
     // Whether row i may be the least, and comes before the best row so far. Its sign is looked at last.
@@ -62,7 +62,7 @@ impl Dictionary {
             ↔ IsLower self.now.columns (positions self.now) (rows_of self.now) column i best }
     {
         let divisor = self.minus_entry(i, column);
-        if divisor <= 0 {
+        if !is_positive(divisor) {
             return false;
         }
         match best {
@@ -80,10 +80,10 @@ impl Dictionary {
         ensures below { OnTrue result
             (MayBeLeast self.now.columns (positions self.now) (rows_of self.now) column i) }
     {
-        if self.minus_entry(i, column) <= 0 {
+        if !is_positive(self.minus_entry(i, column)) {
             return false;
         }
-        if self.minus_entry(i, self.columns + self.basis.len() + 2) <= 0 {
+        if !is_positive(self.minus_entry(i, self.columns + self.basis.len() + 2)) {
             return false;
         }
         true
@@ -104,7 +104,8 @@ impl Dictionary {
         None
     }
 
-    /// The least row, if there is one. Rows are looked at from the last one on, as in the ratio test.
+    /// The least row, if there is one. Behind the search for a row to begin with, rows are looked at from the last one
+    /// on, as in the ratio test.
     pub fn least(&self) -> Option<usize>
         ensures least { MatchOption result
             (HasNoLeast (shape self.now.columns (positions self.now)) (self.now.columns + positions self.now) (rows_of self.now))

@@ -11,6 +11,7 @@ mod entering;
 mod entries;
 mod explicit_phase;
 mod first_phase;
+mod judging;
 mod least_row;
 mod lowering;
 mod path;

@@ -3,15 +3,16 @@
 ghost use Rattle.std.specs.Prelude.{◌≡◌, ◌≤◌, IfErr, MatchResult};
 ghost use Rattle.rob_linear.specs.Programs.{Program};
 ghost use Rattle.rob_linear.specs.WideRows.{HasWideRow};
-ghost use Rattle.rob_number.specs.Counts.{CountsWide};
+ghost use Rattle.rob_simplex.specs.Counting.{CountsRows};
 ghost use Rattle.rob_simplex.specs.Dictionaries.{positions, columns_of};
 ghost use Rattle.rob_simplex.specs.Starts.{IsStartingTable};
 ghost use Rattle.rob_simplex.specs.Phases.{InSecond};
-ghost use Rattle.rob_simplex.specs.PathEnds.{PathEnds};
+ghost use Rattle.rob_simplex.specs.PathEnds.{PathEnds, PathTells, PathStops};
 
 use crate::dictionary::Dictionary;
 use crate::first_phase::FirstEnding;
-use rob_number::Ledger;
+use rob_entries::Entry;
+use rob_number::{Exact, Ledger};
 
 /// How a path ends.
 #[derive(Clone, Copy, Drop)]
@@ -24,42 +25,47 @@ pub enum Ending {
     Unbounded(usize),
 }
 
-impl Dictionary {
+impl<E: Entry> Dictionary<E> {
     /// Follows the path from the slack columns and the starting rows to its last basis. An `Err` names a row that is
-    /// wide at the basis that is then told.
-    pub fn follow<L: Ledger>(&mut self, ledger: &mut L) -> Result<Ending, usize>
-        requires starts { (P : Program) × IsStartingTable self.old.limit P self.old }
-        ensures told { (P : Program) → IsStartingTable self.old.limit P self.old
+    /// wide at the basis that is then told. Rows may be wider than `N`; the numbers that the last ones tell of a point
+    /// fit it.
+    pub fn follow<N: Exact, L: Ledger>(&mut self, ledger: &mut L) -> Result<Ending, usize>
+        requires starts { (P : Program) × IsStartingTable P self.old }
+        requires limit { N.limit ≤ self.old.limit }
+        ensures told { (P : Program) → IsStartingTable P self.old
             → MatchResult result
-            (λ ending. PathEnds P ending self.new)
-            (λ i. HasWideRow self.old.limit P (columns_of self.new.basis) i) }
+            (λ ending. PathEnds P ending self.new × PathTells N.limit ending self.new)
+            (λ i. HasWideRow N.limit P (columns_of self.new.basis) i) }
+        ensures caused { (P : Program) → IsStartingTable P self.old → IfErr result (PathStops N.limit P self.new) }
         ensures position { IfErr result (λ i. i ≤ positions self.old) }
         ensures positions { positions self.new ≡ positions self.old }
         ensures columns { self.new.columns ≡ self.old.columns }
         ensures limit { self.new.limit ≡ self.old.limit }
-        ensures counted { CountsWide L.ops L.wides ledger.old ledger.new result }
+        ensures counted { CountsRows L.ops L.wides ledger.old ledger.new }
     {
         match self.first_phase(ledger) {
-            Ok(FirstEnding::Feasible) => self.improve_to_end(ledger),
+            Ok(FirstEnding::Feasible) => self.improve_to_end::<N, L>(ledger),
             Ok(FirstEnding::Infeasible(row)) => Ok(Ending::Infeasible(row)),
             Err(i) => Err(i),
         }
     }
 
     // The second phase, and how it ends.
-    fn improve_to_end<L: Ledger>(&mut self, ledger: &mut L) -> Result<Ending, usize>
+    fn improve_to_end<N: Exact, L: Ledger>(&mut self, ledger: &mut L) -> Result<Ending, usize>
         requires stands { (P : Program) × InSecond P self.old }
+        requires limit { N.limit ≤ self.old.limit }
         ensures told { (P : Program) → InSecond P self.old
             → MatchResult result
-            (λ ending. PathEnds P ending self.new)
-            (λ i. HasWideRow self.old.limit P (columns_of self.new.basis) i) }
+            (λ ending. PathEnds P ending self.new × PathTells N.limit ending self.new)
+            (λ i. HasWideRow N.limit P (columns_of self.new.basis) i) }
+        ensures caused { (P : Program) → InSecond P self.old → IfErr result (PathStops N.limit P self.new) }
         ensures position { IfErr result (λ i. i ≤ positions self.old) }
         ensures positions { positions self.new ≡ positions self.old }
         ensures columns { self.new.columns ≡ self.old.columns }
         ensures limit { self.new.limit ≡ self.old.limit }
-        ensures counted { CountsWide L.ops L.wides ledger.old ledger.new result }
+        ensures counted { CountsRows L.ops L.wides ledger.old ledger.new }
     {
-        match self.improve(ledger) {
+        match self.improve_and_judge::<N, L>(ledger) {
             Ok(None) => Ok(Ending::Optimal),
             Ok(Some(column)) => Ok(Ending::Unbounded(column)),
             Err(i) => Err(i),

@@ -2,14 +2,15 @@
 
 ghost use Rattle.std.specs.Prelude.{◌≡◌, ◌≢◌, ◌<◌, ◌≤◌, ◌+◌, ◌<ℤ◌, ℕ, suc, pos, nat_abs, set, length, OnOk, IfErr};
 ghost use Rattle.rob_linear.specs.Multiples.{IsClearedBy};
-ghost use Rattle.rob_rows.specs.Updates.{IsWideCleared};
-ghost use Rattle.rob_simplex.specs.Dictionaries.{positions, width_of, spare_column, rows_of, kept_row_of, IsFree, IsOpen, IsClosed, IsPivoted, IsBegunPivot, ClearsTable, StopsTable};
+ghost use Rattle.rob_entries.specs.Updates.{IsWideCleared};
+ghost use Rattle.rob_simplex.specs.Dictionaries.{positions, width_of, spare_column, rows_of, kept_row_of, IsFree, IsOpen, IsClosed, IsPivoted, IsBegunPivot, KeepsOwn, ClearsTable, StopsTable};
 
 use crate::dictionary::Dictionary;
 use crate::table::{Place, clear_rows};
+use rob_entries::Entry;
 use rob_number::Ledger;
 
-impl Dictionary {
+impl<E: Entry> Dictionary<E> {
     /// Clears the column in all rows before `count` but this one, whose position is open. After an `Err`, which names
     /// the first row that would be wide, the rows before it are cleared, and the others are as they were.
     pub fn clear_others<L: Ledger>(
@@ -24,6 +25,7 @@ impl Dictionary {
         requires open { IsOpen self.old row }
         requires count { count ≤ positions self.old + 2 }
         requires positive { pos 0 <ℤ rows_of self.old row column }
+        requires own { KeepsOwn count self.old row }
         ensures cleared { OnOk result (ClearsTable count self.old self.new row column) }
         ensures stopped { IfErr result (λ i. StopsTable self.old.limit count self.old self.new row column i) }
         ensures basis { self.new.basis ≡ self.old.basis }
@@ -34,18 +36,14 @@ impl Dictionary {
     {
         let width = self.columns + 4;
         let start = row * width;
-        self.pivot_row.load(
-            &self.rows.as_slice()[start..start + width],
-            self.bounds[row],
-        );
+        self.rows.load(&mut self.pivot_row, start, self.bounds[row]);
         let place = Place {
             row,
             place: self.places[column],
             width,
-            limit: self.limit,
         };
         clear_rows(
-            self.rows.as_mut_slice(),
+            &mut self.rows,
             self.bounds.as_mut_slice(),
             &mut self.pivot_row,
             place,
@@ -69,6 +67,7 @@ impl Dictionary {
         requires closed { IsClosed self.old }
         requires count { (positions self.old < count) × (count ≤ positions self.old + 2) }
         requires positive { pos 0 <ℤ rows_of self.old row column }
+        requires own { KeepsOwn count self.old row }
         ensures pivoted { OnOk result (IsPivoted self.old self.new row column) }
         ensures closed { OnOk result (IsClosed self.new) }
         ensures kept { OnOk result (kept_row_of self.old (spare_column self.old.columns (positions self.old)) ≡ pos 0
@@ -116,6 +115,7 @@ impl Dictionary {
         requires closed { IsClosed self.old }
         requires count { (positions self.old < count) × (count ≤ positions self.old + 2) }
         requires positive { pos 0 <ℤ rows_of self.old row column }
+        requires own { KeepsOwn count self.old row }
         ensures pivoted { OnOk result (IsPivoted self.old self.new row column) }
         ensures closed { OnOk result (IsClosed self.new) }
         ensures kept { OnOk result (kept_row_of self.old (spare_column self.old.columns (positions self.old)) ≡ pos 0

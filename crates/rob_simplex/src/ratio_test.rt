@@ -6,55 +6,55 @@ ghost use Rattle.rob_linear.specs.Turns.{ComesBefore, Leaves};
 ghost use Rattle.rob_simplex.specs.Dictionaries.{positions, width_of, rows_of, shape, GoesFirst, Decided, IsFree};
 
 use crate::dictionary::Dictionary;
+use rob_entries::Entry;
+use std::cmp::Ordering;
 
-// a * b
-fn product(a: i64, b: i64) -> i128
-    ensures value { result ≡ a *ℤ b }
+/// Whether a number is above 0.
+pub fn is_positive<E: Entry>(a: E) -> bool
+    ensures positive { IsTrue result ↔ (pos 0 <ℤ E.value a) }
 {
-    a as i128 * b as i128
+    a.sign().is_gt()
 }
 
 // Whether a over p is less than b over q, for positive divisors; none where they are the same. Most entries are 0, so
 // that is looked at first.
-fn is_less(a: i64, p: i64, b: i64, q: i64) -> Option<bool>
-    ensures order { MatchOption result ((p *ℤ b) -ℤ (q *ℤ a) ≡ pos 0) (λ less. Decided less ((p *ℤ b) -ℤ (q *ℤ a))) }
+fn is_less<E: Entry>(a: E, p: E, b: E, q: E) -> Option<bool>
+    ensures order { MatchOption result
+        ((E.value p *ℤ E.value b) -ℤ (E.value q *ℤ E.value a) ≡ pos 0)
+        (λ less. Decided less ((E.value p *ℤ E.value b) -ℤ (E.value q *ℤ E.value a))) }
 {
-    if a == 0 {
-        if b == 0 {
+    if a.is_zero() {
+        if b.is_zero() {
             return None;
         }
     }
-    let first = product(a, q);
-    let second = product(b, p);
-    if first < second {
-        return Some(true);
+    match E::order(a, p, b, q) {
+        Ordering::Less => Some(true),
+        Ordering::Equal => None,
+        Ordering::Greater => Some(false),
     }
-    if second < first {
-        return Some(false);
-    }
-    None
 }
 
-impl Dictionary {
+impl<E: Entry> Dictionary<E> {
     // Whether entries in a column, over the rows' divisors, decide which of two rows comes first.
-    fn is_less_at(&self, column: usize, i: usize, p: i64, e: usize, q: i64) -> Option<bool>
+    fn is_less_at(&self, column: usize, i: usize, p: E, e: usize, q: E) -> Option<bool>
         requires column_in { column < width_of self.now }
         requires i_in { i < positions self.now }
         requires e_in { e < positions self.now }
         ensures order { MatchOption result
-            ((p *ℤ rows_of self.now e column) -ℤ (q *ℤ rows_of self.now i column) ≡ pos 0)
-            (λ less. Decided less ((p *ℤ rows_of self.now e column) -ℤ (q *ℤ rows_of self.now i column))) }
+            ((E.value p *ℤ rows_of self.now e column) -ℤ (E.value q *ℤ rows_of self.now i column) ≡ pos 0)
+            (λ less. Decided less ((E.value p *ℤ rows_of self.now e column) -ℤ (E.value q *ℤ rows_of self.now i column))) }
     {
         is_less(self.entry(i, column), p, self.entry(e, column), q)
     }
 
     // Whether row i comes before row e, each over its divisor. Slack entries count only where the right sides are in the
     // same ratio.
-    pub fn comes_before(&self, i: usize, p: i64, e: usize, q: i64) -> bool
+    pub fn comes_before(&self, i: usize, p: E, e: usize, q: E) -> bool
         requires i_in { i < positions self.now }
         requires e_in { e < positions self.now }
         ensures decides { IsTrue result ↔ ComesBefore (shape self.now.columns (positions self.now))
-            (rows_of self.now i) p (rows_of self.now e) q }
+            (rows_of self.now i) (E.value p) (rows_of self.now e) (E.value q) }
     {
         let m = self.basis.len();
         match self.is_less_at(self.columns + m + 2, i, p, e, q) {
@@ -79,7 +79,7 @@ impl Dictionary {
             ↔ GoesFirst self.now.columns (positions self.now) (rows_of self.now) column i best }
     {
         let entry = self.entry(i, column);
-        if entry <= 0 {
+        if !is_positive(entry) {
             return false;
         }
         match best {

@@ -4,11 +4,14 @@ ghost use Rattle.std.specs.Prelude.{◌≡◌, ◌≤◌, IfOk, IfErr, MatchResu
 ghost use Rattle.rob_linear.specs.Programs.{Program};
 ghost use Rattle.rob_linear.specs.WideRows.{HasWideRowFrom};
 ghost use Rattle.rob_simplex.specs.Dictionaries.{positions, columns_of};
-ghost use Rattle.rob_number.specs.Counts.{CountsWide};
+ghost use Rattle.rob_simplex.specs.Counting.{CountsRows};
 ghost use Rattle.rob_simplex.specs.Phases.{StandsFor, HasTurned, HasRefused, EndsFrom};
+ghost use Rattle.rob_simplex.specs.Judging.{Tells};
+ghost use Rattle.rob_simplex.specs.PathEnds.{PathStopsFrom};
 
 use crate::dictionary::Dictionary;
-use rob_number::Ledger;
+use rob_entries::Entry;
+use rob_number::{Exact, Ledger};
 
 /// What a basis does next.
 #[derive(Clone, Copy, Drop)]
@@ -21,7 +24,7 @@ pub enum Turn {
     Replaced,
 }
 
-impl Dictionary {
+impl<E: Entry> Dictionary<E> {
     // Makes the next turn, if there is one. After an `Err`, which names a row that is wide there, the basis is the next
     // one and the rows are open.
     fn advance<L: Ledger>(&mut self, ledger: &mut L) -> Result<Turn, usize>
@@ -62,18 +65,44 @@ impl Dictionary {
         ensures positions { positions self.new ≡ positions self.old }
         ensures columns { self.new.columns ≡ self.old.columns }
         ensures limit { self.new.limit ≡ self.old.limit }
-        ensures counted { CountsWide L.ops L.wides ledger.old ledger.new result }
+        ensures counted { CountsRows L.ops L.wides ledger.old ledger.new }
     {
         'turns: loop {
             match self.advance(ledger) {
                 Ok(Turn::Optimal) => return Ok(None),
                 Ok(Turn::Unbounded(column)) => return Ok(Some(column)),
                 Ok(Turn::Replaced) => {}
-                Err(i) => {
-                    ledger.wide();
-                    return Err(i);
-                }
+                Err(i) => return Err(i),
             }
+        }
+    }
+
+    /// The same, and the numbers that the last rows tell are judged at the width of `N`: an `Err` names the first
+    /// position whose row tells one that doesn't fit, or a row that was wide.
+    pub fn improve_and_judge<N: Exact, L: Ledger>(
+        &mut self,
+        ledger: &mut L,
+    ) -> Result<Option<usize>, usize>
+        requires stands { (P : Program) × StandsFor P self.old }
+        requires limit { N.limit ≤ self.old.limit }
+        ensures told { (P : Program) → StandsFor P self.old
+            → MatchResult result
+            (λ ending. EndsFrom P (columns_of self.old.basis) ending self.new × Tells N.limit ending self.new)
+            (λ i. HasWideRowFrom N.limit P (columns_of self.old.basis) (columns_of self.new.basis) i) }
+        ensures caused { (P : Program) → StandsFor P self.old
+            → IfErr result (PathStopsFrom N.limit P (columns_of self.old.basis) self.new) }
+        ensures position { IfErr result (λ i. i ≤ positions self.old) }
+        ensures positions { positions self.new ≡ positions self.old }
+        ensures columns { self.new.columns ≡ self.old.columns }
+        ensures limit { self.new.limit ≡ self.old.limit }
+        ensures counted { CountsRows L.ops L.wides ledger.old ledger.new }
+    {
+        match self.improve(ledger) {
+            Ok(growing) => match self.judge::<N>(growing) {
+                None => Ok(growing),
+                Some(i) => Err(i),
+            },
+            Err(i) => Err(i),
         }
     }
 }

@@ -1,56 +1,51 @@
 // The dictionary that a program starts from: a row for each constraint, with 1 in its own slack column, and the objective's
 // row with minus the cost. -1 stands in the auxiliary column of each constraint's row.
 
-ghost use Rattle.std.specs.Prelude.{◌≡◌, ◌≢◌, ◌<◌, ◌≤◌, ◌+◌, ◌^◌, ℕ, [], pos, neg_ℤ, nat_abs, slice_index_or, length, IfOk};
+ghost use Rattle.std.specs.Prelude.{◌≡◌, ◌≢◌, ◌⊎◌, ◌<◌, ◌≤◌, ◌+◌, ◌-◌, ◌*◌, ◌^◌, ℕ, [], pos, neg_ℤ, nat_abs, slice_index_or, length, IfOk};
 ghost use Rattle.rob_linear.specs.Vectors.{at};
-ghost use Rattle.rob_rows.specs.LinearPrograms.{IsShaped, HasNumbersWithin, program_of};
+ghost use Rattle.rob_rows.specs.LinearPrograms.{HasNumbersWithin, program_of};
 ghost use Rattle.rob_simplex.specs.Tables.{row_at, HasBounds};
 ghost use Rattle.rob_simplex.specs.Starts.{start_entry, IsStartingTable};
 
 use crate::dictionary::Dictionary;
+use crate::row_moves::write_number;
 use crate::starting_places::{number_near, number_places, number_slacks};
-use rob_number::{List, Memory};
-use rob_rows::{Lp, PivotRow, largest};
+use rob_entries::{Cells, Entry, PivotRow};
+use rob_number::Memory;
+use rob_rows::Rows;
 use std::alloc::Global;
 
-impl Dictionary {
-    /// The starting rows of a program, with all memory that solving it needs.
-    pub fn new(alloc: Global, lp: &Lp, limit: u64) -> Result<Dictionary, Memory>
-        requires shaped { IsShaped lp.now }
-        requires few { length lp.now.c + length lp.now.b < 2 ^ 31 }
-        requires limit_in { (1 ≤ limit) × (limit < 2 ^ 62) }
-        requires numbers { HasNumbersWithin limit lp.now }
-        ensures starts { IfOk result (λ dictionary. IsStartingTable limit (program_of lp.now) dictionary) }
+impl<E: Entry> Dictionary<E> {
+    /// The starting rows of the program that the source tells, with all memory that solving it needs. The source is
+    /// asked for one row at a time.
+    pub fn new<R: Rows>(alloc: Global, source: &R) -> Result<Dictionary<E>, Memory>
+        requires ready { R.ready source.now }
+        requires few { length (R.lp source.now).c + length (R.lp source.now).b < 2 ^ 31 }
+        requires numbers { HasNumbersWithin (2 ^ 62 - 1) (R.lp source.now) }
+        ensures starts { IfOk result (λ dictionary. IsStartingTable (program_of (R.lp source.now)) dictionary) }
+        ensures limit { IfOk result (λ dictionary. dictionary.limit ≡ E.top) }
     {
-        let n = lp.c.items().len();
-        let m = lp.b.items().len();
+        let n = source.columns();
+        let m = source.rows();
         let width = n + 4;
         let mut basis = vec![in alloc; 0usize; m]?;
         let mut places = vec![in alloc; 0usize; n + m + 4]?;
         let mut near = vec![in alloc; 0usize; n + 3]?;
-        let mut rows = vec![in alloc; 0i64; (m + 2) * width]?;
-        let mut bounds = vec![in alloc; 0u64; m + 2]?;
+        let mut rows = Cells::new(alloc, (m + 2) * width)?;
+        let mut bounds = vec![in alloc; 0u128; m + 2]?;
         let pivot_row = PivotRow::new(alloc, width)?;
         number_slacks(basis.as_mut_slice(), n);
         number_places(places.as_mut_slice(), n, m);
         number_near(near.as_mut_slice(), n, m);
-        write_rows(
-            rows.as_mut_slice(),
+        let mut numbers = vec![in alloc; 0i64; n]?;
+        write_program(
+            &mut rows,
             bounds.as_mut_slice(),
-            lp.a.items(),
-            lp.b.items(),
-            n,
-            limit,
-        );
-        write_cost(
-            rows.as_mut_slice(),
-            bounds.as_mut_slice(),
+            source,
+            numbers.as_mut_slice(),
             m,
-            lp.c.items(),
-            limit,
         );
         Ok(Dictionary {
-            limit,
             columns: n,
             basis,
             places,
@@ -84,10 +79,9 @@ fn constraint_entry(numbers: &[i64], right: i64, k: usize) -> i64
 }
 
 // One entry of the objective's condensed row.
-fn cost_entry(cost: &[i64], bound: u64, k: usize) -> i64
+fn cost_entry(cost: &[i64], k: usize) -> i64
     requires few { length cost.now < 2 ^ 31 }
-    requires bound { bound < 2 ^ 62 }
-    requires within { (k : ℕ) → k < length cost.now → nat_abs (at cost.now k) ≤ bound }
+    requires within { (k : ℕ) → k < length cost.now → nat_abs (at cost.now k) < 2 ^ 62 }
     ensures value { result ≡ start_entry (length cost.now) (λ k. neg_ℤ (at cost.now k)) (pos 0) (pos 0) k }
 {
     let n = cost.len();
@@ -100,149 +94,177 @@ fn cost_entry(cost: &[i64], bound: u64, k: usize) -> i64
     1
 }
 
-// Writes the structural entries of a condensed row.
-fn write_structural(row: &mut [i64], numbers: &[i64])
-    requires room { length numbers.now ≤ length row.old }
-    ensures entries { (k : ℕ) → k < length numbers.now → at row.new k ≡ at numbers.now k }
+// Writes the structural entries of row i.
+fn write_structural<E: Entry>(rows: &mut Cells<E>, i: usize, width: usize, numbers: &[i64])
+    requires inside { i * width + width ≤ length rows.old }
+    requires room { length numbers.now ≤ width }
+    requires within { (k : ℕ) → k < length numbers.now → nat_abs (at numbers.now k) < 2 ^ 62 }
+    ensures entries { (k : ℕ) → k < length numbers.now → row_at rows.new width i k ≡ at numbers.now k }
+    ensures others { (j k : ℕ) → j ≢ i → k < width → row_at rows.new width j k ≡ row_at rows.old width j k }
+    ensures size { length rows.new ≡ length rows.old }
 {
+    let _ = rows.len();
     for k in 0..numbers.len() {
-        row[k] = numbers[k];
+        write_number(rows, i * width + k, numbers[k]);
     }
 }
 
 // Writes what stands behind them in a constraint's row.
-fn write_behind(row: &mut [i64], numbers: &[i64], right: i64)
+fn write_behind<E: Entry>(rows: &mut Cells<E>, i: usize, numbers: &[i64], right: i64)
     requires few { length numbers.now < 2 ^ 31 }
-    requires room { length numbers.now ≤ length row.old }
-    ensures entries { (k : ℕ) → length numbers.now ≤ k → k < length row.old
-        → at row.new k ≡ start_entry (length numbers.now) (at numbers.now) (neg_ℤ (pos 1)) right k }
-    ensures others { (k : ℕ) → k < length numbers.now → at row.new k ≡ at row.old k }
+    requires inside { i * (length numbers.now + 4) + (length numbers.now + 4) ≤ length rows.old }
+    requires within { (k : ℕ) → k < length numbers.now → nat_abs (at numbers.now k) < 2 ^ 62 }
+    requires right { nat_abs right < 2 ^ 62 }
+    ensures entries { (k : ℕ) → length numbers.now ≤ k → k < length numbers.now + 4
+        → row_at rows.new (length numbers.now + 4) i k
+        ≡ start_entry (length numbers.now) (at numbers.now) (neg_ℤ (pos 1)) right k }
+    ensures others { (j k : ℕ) → k < length numbers.now + 4 → (j ≢ i) ⊎ (k < length numbers.now)
+        → row_at rows.new (length numbers.now + 4) j k ≡ row_at rows.old (length numbers.now + 4) j k }
+    ensures size { length rows.new ≡ length rows.old }
 {
-    for k in numbers.len()..row.len() {
-        row[k] = constraint_entry(numbers, right, k);
+    let _ = rows.len();
+    let n = numbers.len();
+    for k in n..n + 4 {
+        write_number(rows, i * (n + 4) + k, constraint_entry(numbers, right, k));
     }
 }
 
-// Writes a constraint's condensed row.
-fn write_constraint(row: &mut [i64], numbers: &[i64], right: i64)
-    requires few { length numbers.now < 2 ^ 31 }
-    requires room { length numbers.now ≤ length row.old }
-    ensures row { (k : ℕ) → k < length row.old
-        → at row.new k ≡ start_entry (length numbers.now) (at numbers.now) (neg_ℤ (pos 1)) right k }
-{
-    write_structural(row, numbers);
-    write_behind(row, numbers, right);
-}
-
-// Writes the objective's condensed row.
-fn write_objective(row: &mut [i64], cost: &[i64], bound: u64)
+// Writes the objective's condensed row as row i.
+fn write_objective<E: Entry>(rows: &mut Cells<E>, i: usize, cost: &[i64])
     requires few { length cost.now < 2 ^ 31 }
-    requires bound { bound < 2 ^ 62 }
-    requires within { (k : ℕ) → k < length cost.now → nat_abs (at cost.now k) ≤ bound }
-    ensures row { (k : ℕ) → k < length row.old
-        → at row.new k ≡ start_entry (length cost.now) (λ k. neg_ℤ (at cost.now k)) (pos 0) (pos 0) k }
-{
-    for k in 0..row.len() {
-        row[k] = cost_entry(cost, bound, k);
-    }
-}
-
-// Writes row i of the table, with its bound.
-fn write_row(
-    rows: &mut [i64],
-    bounds: &mut [u64],
-    i: usize,
-    numbers: &[i64],
-    right: i64,
-    n: usize,
-    limit: u64,
-)
-    requires few { n < 2 ^ 31 }
-    requires size { length numbers.now ≡ n }
-    requires bounded { HasBounds limit (n + 4) rows.old bounds.old }
-    requires inside { i < length bounds.old }
-    requires limit { 1 ≤ limit }
-    requires within { (k : ℕ) → k < n → nat_abs (at numbers.now k) ≤ limit }
-    requires right { nat_abs right ≤ limit }
-    ensures row { (k : ℕ) → k < n + 4
-        → row_at rows.new (n + 4) i k ≡ start_entry n (at numbers.now) (neg_ℤ (pos 1)) right k }
-    ensures others { (j k : ℕ) → j ≢ i → k < n + 4 → row_at rows.new (n + 4) j k ≡ row_at rows.old (n + 4) j k }
-    ensures bounded { HasBounds limit (n + 4) rows.new bounds.new }
-{
-    let start = i * (n + 4);
-    let row = &mut rows[start..start + (n + 4)];
-    write_constraint(row, numbers, right);
-    bounds[i] = largest(row);
-}
-
-// Writes the objective's row, with its bound.
-fn write_cost(rows: &mut [i64], bounds: &mut [u64], i: usize, cost: &[i64], limit: u64)
-    requires few { length cost.now < 2 ^ 31 }
-    requires bounded { HasBounds limit (length cost.now + 4) rows.old bounds.old }
-    requires inside { i < length bounds.old }
-    requires limit { (1 ≤ limit) × (limit < 2 ^ 62) }
-    requires within { (k : ℕ) → k < length cost.now → nat_abs (at cost.now k) ≤ limit }
+    requires inside { i * (length cost.now + 4) + (length cost.now + 4) ≤ length rows.old }
+    requires within { (k : ℕ) → k < length cost.now → nat_abs (at cost.now k) < 2 ^ 62 }
     ensures row { (k : ℕ) → k < length cost.now + 4 → row_at rows.new (length cost.now + 4) i k
         ≡ start_entry (length cost.now) (λ k. neg_ℤ (at cost.now k)) (pos 0) (pos 0) k }
     ensures others { (j k : ℕ) → j ≢ i → k < length cost.now + 4
         → row_at rows.new (length cost.now + 4) j k ≡ row_at rows.old (length cost.now + 4) j k }
-    ensures bounded { HasBounds limit (length cost.now + 4) rows.new bounds.new }
+    ensures size { length rows.new ≡ length rows.old }
 {
+    let _ = rows.len();
     let width = cost.len() + 4;
-    let start = i * width;
-    let row = &mut rows[start..start + width];
-    write_objective(row, cost, limit);
-    bounds[i] = largest(row);
-}
-
-// Writes the rows of the constraints, with their bounds.
-fn write_rows(
-    rows: &mut [i64],
-    bounds: &mut [u64],
-    left: &[List<i64>],
-    right: &[i64],
-    n: usize,
-    limit: u64,
-)
-    requires few { n < 2 ^ 31 }
-    requires size { length left.now ≡ length right.now }
-    requires sizes { (i : ℕ) → i < length left.now → length (slice_index_or left.now i []) ≡ n }
-    requires bounded { HasBounds limit (n + 4) rows.old bounds.old }
-    requires inside { length right.now ≤ length bounds.old }
-    requires limit { 1 ≤ limit }
-    requires within { (i k : ℕ) → i < length left.now → k < n → nat_abs (at (slice_index_or left.now i []) k) ≤ limit }
-    requires right { (i : ℕ) → i < length right.now → nat_abs (at right.now i) ≤ limit }
-    ensures rows { (i k : ℕ) → i < length right.now → k < n + 4 → row_at rows.new (n + 4) i k
-        ≡ start_entry n (at (slice_index_or left.now i [])) (neg_ℤ (pos 1)) (at right.now i) k }
-    ensures bounded { HasBounds limit (n + 4) rows.new bounds.new }
-{
-    for i in 0..right.len() {
-        write_given_row(rows, bounds, left, right, i, n, limit);
+    for k in 0..width {
+        write_number(rows, i * width + k, cost_entry(cost, k));
     }
 }
 
-// Writes the row of constraint i, with its bound.
-fn write_given_row(
-    rows: &mut [i64],
-    bounds: &mut [u64],
-    left: &[List<i64>],
-    right: &[i64],
+/// Writes the row of a constraint as row i, with its bound.
+fn write_row<E: Entry>(
+    rows: &mut Cells<E>,
+    bounds: &mut [u128],
     i: usize,
-    n: usize,
-    limit: u64,
+    numbers: &[i64],
+    right: i64,
 )
-    requires few { n < 2 ^ 31 }
-    requires row_in { (i < length left.now) × (i < length right.now) }
-    requires size { length (slice_index_or left.now i []) ≡ n }
-    requires bounded { HasBounds limit (n + 4) rows.old bounds.old }
+    requires few { length numbers.now < 2 ^ 31 }
+    requires bounded { HasBounds E.top (length numbers.now + 4) rows.old bounds.old }
     requires inside { i < length bounds.old }
-    requires limit { 1 ≤ limit }
-    requires within { (k : ℕ) → k < n → nat_abs (at (slice_index_or left.now i []) k) ≤ limit }
-    requires right { nat_abs (at right.now i) ≤ limit }
-    ensures row { (k : ℕ) → k < n + 4 → row_at rows.new (n + 4) i k
-        ≡ start_entry n (at (slice_index_or left.now i [])) (neg_ℤ (pos 1)) (at right.now i) k }
-    ensures others { (j k : ℕ) → j ≢ i → k < n + 4 → row_at rows.new (n + 4) j k ≡ row_at rows.old (n + 4) j k }
-    ensures bounded { HasBounds limit (n + 4) rows.new bounds.new }
+    requires within { (k : ℕ) → k < length numbers.now → nat_abs (at numbers.now k) < 2 ^ 62 }
+    requires right { nat_abs right < 2 ^ 62 }
+    ensures row { (k : ℕ) → k < length numbers.now + 4 → row_at rows.new (length numbers.now + 4) i k
+        ≡ start_entry (length numbers.now) (at numbers.now) (neg_ℤ (pos 1)) right k }
+    ensures others { (j k : ℕ) → j ≢ i → k < length numbers.now + 4
+        → row_at rows.new (length numbers.now + 4) j k ≡ row_at rows.old (length numbers.now + 4) j k }
+    ensures bounded { HasBounds E.top (length numbers.now + 4) rows.new bounds.new }
 {
-    write_row(rows, bounds, i, left[i].items(), right[i], n, limit);
+    let width = numbers.len() + 4;
+    write_structural(rows, i, width, numbers);
+    write_behind(rows, i, numbers, right);
+    let _ = rows.len();
+    bounds[i] = rows.largest(i * width, width);
+}
+
+// Writes the objective's row, with its bound.
+fn write_cost<E: Entry>(rows: &mut Cells<E>, bounds: &mut [u128], i: usize, cost: &[i64])
+    requires few { length cost.now < 2 ^ 31 }
+    requires bounded { HasBounds E.top (length cost.now + 4) rows.old bounds.old }
+    requires inside { i < length bounds.old }
+    requires within { (k : ℕ) → k < length cost.now → nat_abs (at cost.now k) < 2 ^ 62 }
+    ensures row { (k : ℕ) → k < length cost.now + 4 → row_at rows.new (length cost.now + 4) i k
+        ≡ start_entry (length cost.now) (λ k. neg_ℤ (at cost.now k)) (pos 0) (pos 0) k }
+    ensures others { (j k : ℕ) → j ≢ i → k < length cost.now + 4
+        → row_at rows.new (length cost.now + 4) j k ≡ row_at rows.old (length cost.now + 4) j k }
+    ensures bounded { HasBounds E.top (length cost.now + 4) rows.new bounds.new }
+{
+    write_objective(rows, i, cost);
+    let _ = rows.len();
+    let width = cost.len() + 4;
+    bounds[i] = rows.largest(i * width, width);
+}
+
+// Writes the rows of the constraints and, behind them, the objective's, with their bounds. Each is told into `numbers`.
+fn write_program<E: Entry, R: Rows>(
+    rows: &mut Cells<E>,
+    bounds: &mut [u128],
+    source: &R,
+    numbers: &mut [i64],
+    m: usize,
+)
+    requires ready { R.ready source.now }
+    requires few { length numbers.old < 2 ^ 31 }
+    requires columns { length numbers.old ≡ length (R.lp source.now).c }
+    requires constraints { m ≡ length (R.lp source.now).b }
+    requires numbers { HasNumbersWithin (2 ^ 62 - 1) (R.lp source.now) }
+    requires bounded { HasBounds E.top (length numbers.old + 4) rows.old bounds.old }
+    requires inside { m < length bounds.old }
+    ensures constraints { (i k : ℕ) → i < m → k < length numbers.old + 4 → row_at rows.new (length numbers.old + 4) i k
+        ≡ start_entry (length numbers.old) (at (slice_index_or (R.lp source.now).a i [])) (neg_ℤ (pos 1))
+        (at (R.lp source.now).b i) k }
+    ensures objective { (k : ℕ) → k < length numbers.old + 4 → row_at rows.new (length numbers.old + 4) m k
+        ≡ start_entry (length numbers.old) (λ j. neg_ℤ (at (R.lp source.now).c j)) (pos 0) (pos 0) k }
+    ensures bounded { HasBounds E.top (length numbers.old + 4) rows.new bounds.new }
+{
+    write_rows(rows, bounds, source, numbers, m);
+    source.write_cost(numbers);
+    write_cost(rows, bounds, m, numbers);
+}
+
+// Writes the rows of the constraints, with their bounds. Each is told into `numbers`.
+fn write_rows<E: Entry, R: Rows>(
+    rows: &mut Cells<E>,
+    bounds: &mut [u128],
+    source: &R,
+    numbers: &mut [i64],
+    m: usize,
+)
+    requires ready { R.ready source.now }
+    requires few { length numbers.old < 2 ^ 31 }
+    requires columns { length numbers.old ≡ length (R.lp source.now).c }
+    requires constraints { m ≡ length (R.lp source.now).b }
+    requires numbers { HasNumbersWithin (2 ^ 62 - 1) (R.lp source.now) }
+    requires bounded { HasBounds E.top (length numbers.old + 4) rows.old bounds.old }
+    requires inside { m ≤ length bounds.old }
+    ensures rows { (i k : ℕ) → i < m → k < length numbers.old + 4 → row_at rows.new (length numbers.old + 4) i k
+        ≡ start_entry (length numbers.old) (at (slice_index_or (R.lp source.now).a i [])) (neg_ℤ (pos 1))
+        (at (R.lp source.now).b i) k }
+    ensures bounded { HasBounds E.top (length numbers.old + 4) rows.new bounds.new }
+{
+    for i in 0..m {
+        write_told_row(rows, bounds, source, numbers, i);
+    }
+}
+
+// Writes the row of constraint i, with its bound. It is told into `numbers`.
+fn write_told_row<E: Entry, R: Rows>(
+    rows: &mut Cells<E>,
+    bounds: &mut [u128],
+    source: &R,
+    numbers: &mut [i64],
+    i: usize,
+)
+    requires ready { R.ready source.now }
+    requires few { length numbers.old < 2 ^ 31 }
+    requires columns { length numbers.old ≡ length (R.lp source.now).c }
+    requires row_in { i < length (R.lp source.now).b }
+    requires numbers { HasNumbersWithin (2 ^ 62 - 1) (R.lp source.now) }
+    requires bounded { HasBounds E.top (length numbers.old + 4) rows.old bounds.old }
+    requires inside { i < length bounds.old }
+    ensures row { (k : ℕ) → k < length numbers.old + 4 → row_at rows.new (length numbers.old + 4) i k
+        ≡ start_entry (length numbers.old) (at (slice_index_or (R.lp source.now).a i [])) (neg_ℤ (pos 1))
+        (at (R.lp source.now).b i) k }
+    ensures others { (j k : ℕ) → j ≢ i → k < length numbers.old + 4
+        → row_at rows.new (length numbers.old + 4) j k ≡ row_at rows.old (length numbers.old + 4) j k }
+    ensures bounded { HasBounds E.top (length numbers.old + 4) rows.new bounds.new }
+{
+    let right = source.write_row(i, numbers);
+    write_row(rows, bounds, i, numbers, right);
 }

@@ -15,10 +15,10 @@ pub enum State {
     Stopped,
 }
 
-/// Why `solve` stopped.
+/// Why `solve` or `resume` stopped.
 #[derive(Debug, PartialEq, Eq, Clone, Copy)]
 pub enum LpStop {
-    /// The row of this position, for the basis that is then told, has a number over the limit. Positions count the rows
-    /// from 0; the objective's is behind the last row.
+    /// A row of this position, for the basis that is then told, or at the objective's a stage, has a number over the
+    /// limit. Positions count the rows from 0; the objective's is behind the last row.
     Wide(u32),
 }

@@ -10,17 +10,18 @@ ghost use Rattle.rob_simplex.specs.Explicit.{FirstEnds};
 ghost use Rattle.rob_simplex.specs.PathEnds.{AreWeights};
 
 use crate::dictionary::Dictionary;
-use rob_rows::to_lowest_terms;
+use rob_entries::{Cells, Entry};
 
-impl Dictionary {
+impl<E: Entry> Dictionary<E> {
     /// Writes the weights, the slack entries of the row that ended the first phase over what divides them all, and tells
     /// the path's basis: where the auxiliary column was kept out of it, it comes to this row's position.
-    pub fn show_weights(&mut self, row: usize, weights: &mut [i64])
+    pub fn show_weights(&mut self, row: usize, weights: &mut Cells<E>)
         requires ends { (P : Program) × FirstEnds P (Infeasible row) self.old }
         requires size { length weights.old ≡ positions self.old }
         ensures shown { (P : Program) → FirstEnds P (Infeasible row) self.old
             → AreWeights P self.new.basis weights.new }
         ensures within { IsWithin self.old.limit weights.new }
+        ensures size { length weights.new ≡ length weights.old }
         ensures positions { positions self.new ≡ positions self.old }
         ensures columns { self.new.columns ≡ self.old.columns }
         ensures limit { self.new.limit ≡ self.old.limit }
@@ -30,28 +31,30 @@ impl Dictionary {
     }
 
     // The slack entries of a row, over what divides them all.
-    fn lowest_slacks(&self, row: usize, weights: &mut [i64])
+    fn lowest_slacks(&self, row: usize, weights: &mut Cells<E>)
         requires row_in { row ≤ positions self.now }
         requires size { length weights.old ≡ positions self.now }
         ensures weights { (d : ℤ) × (pos 0 <ℤ d) × ((i : ℕ) → i < positions self.now
             → d *ℤ at weights.new i ≡ rows_of self.now row (self.now.columns + i)) }
         ensures lowest { content weights.new ≤ 1 }
         ensures within { IsWithin self.now.limit weights.new }
+        ensures size { length weights.new ≡ length weights.old }
     {
         self.slacks(row, weights);
-        to_lowest_terms(weights, self.limit);
+        let _ = weights.reduce(0, self.basis.len(), E::TOP);
     }
 
     // The slack entries of a row.
-    fn slacks(&self, row: usize, weights: &mut [i64])
+    fn slacks(&self, row: usize, weights: &mut Cells<E>)
         requires row_in { row ≤ positions self.now }
         requires size { length weights.old ≡ positions self.now }
         ensures weights { (i : ℕ) → i < positions self.now
             → at weights.new i ≡ rows_of self.now row (self.now.columns + i) }
         ensures within { IsWithin self.now.limit weights.new }
+        ensures size { length weights.new ≡ length weights.old }
     {
-        for i in 0..weights.len() {
-            weights[i] = self.entry(row, self.columns + i);
+        for i in 0..self.basis.len() {
+            weights.set(i, self.entry(row, self.columns + i));
         }
     }
 

@@ -1,57 +1,61 @@
 // The solver: its memory, and its answers.
 
-ghost use Rattle.std.specs.Prelude.{◌≡◌, ◌+◌, ◌^◌, ◌<◌, ◌≤◌, suc, neg_ℤ, nat_abs, length, IfOk, MatchResult};
+ghost use Rattle.std.specs.Prelude.{◌≡◌, ◌+◌, ◌^◌, ◌<◌, ◌≤◌, suc, neg_ℤ, nat_abs, length, IfOk, IfErr, MatchResult};
 ghost use Rattle.rob_algebra.specs.Fraction.{of_pair};
-ghost use Rattle.rob_rows.specs.LinearPrograms.{IsShaped, HasNumbersWithin, program_of};
+ghost use Rattle.rob_rows.specs.LinearPrograms.{HasNumbersWithin, program_of};
 ghost use Rattle.rob_simplex.specs.Solvers.{positions, HasPoint, HasOptimum, HasRay, HasWeights, column_of, IsMadeFor};
 ghost use Rattle.rob_simplex.specs.Solutions.{point_of, ray_of, dual_of, value_of, weights_of};
 ghost use Rattle.rob_linear.specs.Vectors.{at};
 ghost use Rattle.rob_rows.specs.PrimitiveParts.{IsWithin};
 ghost use Rattle.rob_linear.specs.Programs.{Program, with_cost};
-ghost use Rattle.rob_number.specs.Counts.{CountsWide};
+ghost use Rattle.rob_simplex.specs.Counting.{CountsRows};
 ghost use Rattle.rob_simplex.specs.Dictionaries.{width_of, columns_of, rows_of};
-ghost use Rattle.rob_simplex.specs.Endings.{IsFresh, HasAnswered, HasSolved, HasStopped};
-ghost use Rattle.rob_simplex.specs.Resuming.{CanResume, HasResumed, HasStoppedFrom};
+ghost use Rattle.rob_algebra.specs.Width.{Fits};
+ghost use Rattle.rob_simplex.specs.Judging.{ratio_of, objective_column};
+ghost use Rattle.rob_simplex.specs.Endings.{IsFresh, HasAnswered, HasSolved, HasStopped, IsCaused};
+ghost use Rattle.rob_simplex.specs.Resuming.{CanResume, HasResumed, HasStoppedFrom, IsCausedFrom};
 
 use crate::dictionary::Dictionary;
 use crate::path::Ending;
 use crate::solution::quotient;
 use crate::state::{LpStop, State};
+use rob_entries::{Cells, Entry};
 use rob_number::{Exact, Ledger, LpKind, Memory};
-use rob_rows::Lp;
+use rob_rows::Rows;
 use std::alloc::Global;
 use std::marker::{Model, PhantomData};
 
-/// A solver of one linear program by the simplex method on whole rows. It takes all its memory when it is made.
+/// A solver of one linear program by the simplex method on condensed rows of whole numbers. It takes all its memory
+/// when it is made. Rows may be wider than the numbers that are told, which have the width of `N`.
 #[derive(Drop)]
-pub struct Work<N: Exact> {
-    dictionary: Dictionary,
-    weights: Vec<i64>,
+pub struct Work<N: Exact, E: Entry> {
+    dictionary: Dictionary<E>,
+    weights: Cells<E>,
     state: State,
     number: PhantomData<N>,
 }
 
-impl<N: Exact> Model for Work<N> {
+impl<N: Exact, E: Entry> Model for Work<N, E> {
     ghost use Rattle.rob_simplex.specs.Solvers.{Solver, IsSound};
 
     ghost Value = { Solver };
 
-    ghost view = { λ w. record { state = w.state; dictionary = w.dictionary; weights = w.weights.items } };
+    ghost view = { λ w. record { state = w.state; dictionary = w.dictionary; weights = w.weights } };
 
-    ghost invariant = { λ w. IsSound N.limit
-        (record { state = w.state; dictionary = w.dictionary; weights = w.weights.items }) };
+    ghost invariant = { λ w. IsSound E.top N.limit
+        (record { state = w.state; dictionary = w.dictionary; weights = w.weights }) };
 }
 
-impl<N: Exact> Work<N> {
-    /// Makes a solver of the program: all memory that it will ever need.
-    pub fn new(alloc: Global, lp: &Lp) -> Result<Work<N>, Memory>
-        requires shaped { IsShaped lp.now }
-        requires few { length lp.now.c + length lp.now.b < 2 ^ 31 }
-        requires numbers { HasNumbersWithin N.limit lp.now }
-        ensures made { IfOk result (λ work. IsMadeFor (program_of lp.now) work) }
+impl<N: Exact, E: Entry> Work<N, E> {
+    /// Makes a solver of the program that the source tells, row by row: all memory that it will ever need.
+    pub fn new<R: Rows>(alloc: Global, source: &R) -> Result<Work<N, E>, Memory>
+        requires ready { R.ready source.now }
+        requires few { length (R.lp source.now).c + length (R.lp source.now).b < 2 ^ 31 }
+        requires numbers { HasNumbersWithin N.limit (R.lp source.now) }
+        ensures made { IfOk result (λ work. IsMadeFor (program_of (R.lp source.now)) work) }
     {
-        let dictionary = Dictionary::new(alloc, lp, N::LIMIT as u64)?;
-        let weights = vec![in alloc; 0i64; lp.b.items().len()]?;
+        let dictionary = Dictionary::new(alloc, source)?;
+        let weights = Cells::new(alloc, source.rows())?;
         Ok(Work {
             dictionary,
             weights,
@@ -66,21 +70,28 @@ impl<N: Exact> Work<N> {
         requires fresh { IsFresh self.old }
         ensures solved { (P : Program) → IsMadeFor P self.old
             → MatchResult result (λ kind. HasSolved P kind self.new) (λ stop. HasStopped N.limit P stop self.new) }
+        ensures caused { (P : Program) → IsMadeFor P self.old
+            → IfErr result (λ stop. IsCaused N.limit P stop self.new) }
         ensures answered { IfOk result (λ kind. HasAnswered kind self.new) }
         ensures resumable { (P : Program) → IsMadeFor P self.old
             → IfOk result (λ kind. HasPoint self.new → CanResume P self.new) }
         ensures columns { self.new.columns ≡ self.old.columns }
         ensures positions { positions self.new ≡ positions self.old }
-        ensures counted { CountsWide L.ops L.wides ledger.old ledger.new result }
+        ensures limit { self.new.limit ≡ self.old.limit }
+        ensures counted { CountsRows L.ops L.wides ledger.old ledger.new }
     {
-        match self.dictionary.follow(ledger) {
+        match self.dictionary.follow::<N, L>(ledger) {
             Ok(Ending::Optimal) => {
                 self.state = State::Optimal;
                 Ok(LpKind::Optimal)
             }
             Ok(Ending::Infeasible(row)) => {
-                self.dictionary
-                    .show_weights(row, self.weights.as_mut_slice());
+                self.dictionary.show_weights(row, &mut self.weights);
+                let m = self.dictionary.positions();
+                if self.weights.largest(0, m) > N::LIMIT as u128 {
+                    self.state = State::Stopped;
+                    return Err(LpStop::Wide(m as u32));
+                }
                 self.state = State::Infeasible;
                 Ok(LpKind::Infeasible)
             }
@@ -106,14 +117,17 @@ impl<N: Exact> Work<N> {
         ensures resumed { (P : Program) → CanResume P self.old → MatchResult result
             (λ kind. HasResumed (with_cost P (at cost.now)) (columns_of self.old.basis) kind self.new)
             (λ stop. HasStoppedFrom N.limit (with_cost P (at cost.now)) (columns_of self.old.basis) stop self.new) }
+        ensures caused { (P : Program) → CanResume P self.old → IfErr result
+            (λ stop. IsCausedFrom N.limit (with_cost P (at cost.now)) (columns_of self.old.basis) stop self.new) }
         ensures answered { IfOk result (λ kind. HasAnswered kind self.new) }
         ensures resumable { (P : Program) → CanResume P self.old
             → IfOk result (λ kind. CanResume (with_cost P (at cost.now)) self.new) }
         ensures columns { self.new.columns ≡ self.old.columns }
         ensures positions { positions self.new ≡ positions self.old }
-        ensures counted { CountsWide L.ops L.wides ledger.old ledger.new result }
+        ensures limit { self.new.limit ≡ self.old.limit }
+        ensures counted { CountsRows L.ops L.wides ledger.old ledger.new }
     {
-        match self.dictionary.go_on(cost, ledger) {
+        match self.dictionary.go_on::<N, L>(cost, ledger) {
             Ok(None) => {
                 self.state = State::Optimal;
                 Ok(LpKind::Optimal)
@@ -129,18 +143,25 @@ impl<N: Exact> Work<N> {
         }
     }
 
-    /// Afterwards this solver stands as the other one does: every call on it answers what it answers on the other. Both
-    /// were made of programs of one size. It takes no memory.
-    pub fn set_to(&mut self, other: &Work<N>)
+    /// Afterwards this solver stands as the other one does: it is equal to it in all that contracts see. Both were
+    /// made of programs of one size. It takes no memory.
+    pub fn set_to(&mut self, other: &Work<N, E>)
         requires columns { self.old.columns ≡ other.now.columns }
         requires positions { positions self.old ≡ positions other.now }
         ensures same { self.new ≡ other.now }
     {
         self.state = other.state;
         self.dictionary.copy_from(&other.dictionary);
-        self.weights
-            .as_mut_slice()
-            .copy_from_slice(other.weights.as_slice());
+        self.weights.copy_from(&other.weights);
+    }
+
+    /// The limit of its rows: the greatest that their entries allow.
+    pub fn limit(&self) -> u128
+        ensures limit { result ≡ self.now.limit }
+        ensures top { self.now.limit ≡ E.top }
+    {
+        let _ = &self.state;
+        E::TOP
     }
 
     /// The basic column of a position, counted from 0: structural columns first, then the slack columns, then the
@@ -161,7 +182,7 @@ impl<N: Exact> Work<N> {
         let right = self.dictionary.columns() + self.dictionary.positions() + 2;
         match self.dictionary.position_of(j as usize) {
             Some(i) => self.over_own(right, i),
-            None => quotient(0, 1),
+            None => quotient::<N, E>(E::of(0), E::of(1)),
         }
     }
 
@@ -170,6 +191,7 @@ impl<N: Exact> Work<N> {
         requires point { HasPoint self.now }
         requires inside { i < positions self.now }
         requires column { column < width_of self.now.dictionary }
+        requires fits { Fits N.limit (ratio_of self.now.dictionary i column (columns_of self.now.basis i)) }
         ensures value { N.value result ≡ of_pair (rows_of self.now.dictionary i column)
             (nat_abs (rows_of self.now.dictionary i (columns_of self.now.basis i))) }
     {
@@ -185,12 +207,13 @@ impl<N: Exact> Work<N> {
         requires point { HasPoint self.now }
         requires inside { i < positions self.now }
         requires column { column < width_of self.now.dictionary }
+        requires fits { Fits N.limit (ratio_of self.now.dictionary i column (columns_of self.now.basis i)) }
         ensures value { N.value result ≡ of_pair (neg_ℤ (rows_of self.now.dictionary i column))
             (nat_abs (rows_of self.now.dictionary i (columns_of self.now.basis i))) }
     {
         let own = self.dictionary.basic(i);
         quotient(
-            -self.dictionary.entry(i, column),
+            self.dictionary.entry(i, column).minus(),
             self.dictionary.entry(i, own),
         )
     }
@@ -216,6 +239,8 @@ impl<N: Exact> Work<N> {
     fn over_objective(&self, column: usize) -> N
         requires optimum { HasOptimum self.now }
         requires column { column < width_of self.now.dictionary }
+        requires fits { Fits N.limit
+            (ratio_of self.now.dictionary (positions self.now) column (objective_column self.now.dictionary)) }
         ensures value { N.value result ≡ of_pair (rows_of self.now.dictionary (positions self.now) column)
             (nat_abs (rows_of self.now.dictionary (positions self.now) (suc (self.now.columns + positions self.now)))) }
     {
@@ -234,7 +259,7 @@ impl<N: Exact> Work<N> {
         ensures weight { result ≡ weights_of self.now i }
         ensures within { nat_abs result ≤ N.limit }
     {
-        self.weights[i as usize]
+        self.weights.get(i as usize).whole().unwrap()
     }
 
     /// How much a structural column grows along the ray.
@@ -245,11 +270,11 @@ impl<N: Exact> Work<N> {
     {
         let column = self.growing();
         if j as usize == column {
-            return quotient(1, 1);
+            return quotient::<N, E>(E::of(1), E::of(1));
         }
         match self.dictionary.position_of(j as usize) {
             Some(i) => self.minus_over_own(column, i),
-            None => quotient(0, 1),
+            None => quotient::<N, E>(E::of(0), E::of(1)),
         }
     }
 

@@ -92,7 +92,7 @@ fn solved(alloc: Global, lp: &Lp, ledger: &mut Tally) -> Result<End, Memory> {
     if !few || !lp.is_shaped() || !lp.is_within(Frac::<62>::LIMIT as u64) {
         return Ok(End::Refused);
     }
-    let mut work: Work<Frac<62>> = Work::new(alloc, lp)?;
+    let mut work: Work<Frac<62>, i64> = Work::new(alloc, lp)?;
     Ok(match work.solve(ledger) {
         Ok(LpKind::Optimal) => End::Optimal(work.value()),
         Ok(LpKind::Infeasible) => End::Infeasible,

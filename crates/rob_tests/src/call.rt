@@ -1,6 +1,6 @@
 // The calls of the cases.
 
-use crate::{narrow, number, outside, rows, simplex, words};
+use crate::{deep, narrow, number, outside, rows, simplex, solver, words};
 use rob_case::Trouble;
 use rob_case::text::keyword;
 use rob_number::Frac;
@@ -42,6 +42,18 @@ fn of_line(alloc: Global, word: &str, rest: &str) -> Result<Option<String>, Trou
         "combined" => Ok(Some(simplex::combined::<Most>(alloc, rest)?)),
         "base-8" => Ok(Some(simplex::based::<Eight>(alloc, rest)?)),
         "bound" => Ok(Some(narrow::bound(alloc, rest)?)),
+        _ => of_more(alloc, word, rest),
+    }
+}
+
+/// Calls on rows of numbers of up to 126 bits, on programs solved by them, and on words.
+fn of_more(alloc: Global, word: &str, rest: &str) -> Result<Option<String>, Trouble> {
+    match word {
+        "deep-row" => Ok(Some(deep::combined(alloc, rest)?)),
+        "deep-lowest" => Ok(Some(deep::reduced(alloc, rest)?)),
+        "deep-order" => Ok(Some(deep::order(alloc, rest)?)),
+        "deeper" => Ok(Some(solver::solved::<Most>(alloc, rest)?)),
+        "deeper-8" => Ok(Some(solver::solved::<Eight>(alloc, rest)?)),
         _ => of_words(alloc, word, rest),
     }
 }

@@ -3,12 +3,14 @@
 #![tactic(auto)]
 
 mod call;
+mod deep;
 mod narrow;
 mod number;
 mod outside;
 mod program;
 mod rows;
 mod simplex;
+mod solver;
 mod words;
 
 use rob_case::text::keyword;

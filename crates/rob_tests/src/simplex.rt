@@ -15,7 +15,7 @@ use rob_simplex::Work;
 use std::alloc::Global;
 
 /// A solver of a program.
-fn made<N: Exact>(alloc: Global, lp: &Lp) -> Result<Work<N>, Trouble>
+fn made<N: Exact>(alloc: Global, lp: &Lp) -> Result<Work<N, i64>, Trouble>
     ensures made { IfOk result (λ work. IsMadeFor (program_of lp.now) work) }
 {
     if lp.c.items().len() + lp.b.items().len() >= 1 << 31 {
@@ -33,7 +33,7 @@ fn made<N: Exact>(alloc: Global, lp: &Lp) -> Result<Work<N>, Trouble>
 /// The point, the dual values and the value of a program that has an optimum.
 fn optimum<N: Exact>(
     alloc: Global,
-    work: &Work<N>,
+    work: &Work<N, i64>,
     columns: u32,
     rows: u32,
 ) -> Result<String, Trouble>
@@ -56,7 +56,7 @@ fn optimum<N: Exact>(
 }
 
 /// The ray of an unbounded program, and the column that grows.
-fn ray<N: Exact>(alloc: Global, work: &Work<N>, columns: u32) -> Result<String, Trouble>
+fn ray<N: Exact>(alloc: Global, work: &Work<N, i64>, columns: u32) -> Result<String, Trouble>
     requires ray { HasRay work.now }
     requires columns { columns ≡ work.now.columns }
 {
@@ -69,7 +69,7 @@ fn ray<N: Exact>(alloc: Global, work: &Work<N>, columns: u32) -> Result<String, 
 }
 
 /// The weights that show that a program is infeasible.
-fn weights<N: Exact>(alloc: Global, work: &Work<N>, rows: u32) -> Result<String, Trouble>
+fn weights<N: Exact>(alloc: Global, work: &Work<N, i64>, rows: u32) -> Result<String, Trouble>
     requires weights { HasWeights work.now }
     requires rows { rows ≡ positions work.now }
 {
@@ -99,7 +99,7 @@ pub(crate) fn solved<N: Exact>(alloc: Global, line: &str) -> Result<String, Trou
 fn resumed_from<N: Exact>(
     alloc: Global,
     lp: &Lp,
-    work: &Work<N>,
+    work: &Work<N, i64>,
     cost: &[i64],
 ) -> Result<String, Trouble>
     requires resumable { (P : Program) × CanResume P work.now }
@@ -144,7 +144,7 @@ pub(crate) fn resumed<N: Exact>(alloc: Global, line: &str) -> Result<String, Tro
 /// combined before.
 fn combined_from<N: Exact>(
     alloc: Global,
-    work: &mut Work<N>,
+    work: &mut Work<N, i64>,
     cost: &[i64],
     columns: usize,
     before: u64,

@@ -1,6 +1,5 @@
 -- What a finder's calls answer, from what their steps answer.
-use Rattle.std.proofs.Common.{◌≡◌, ℕ, ◌<◌, List, map, length, sym, ap, ◌∙◌, subst, arith, Bool, inl, inr, Result, Ok, Err}
-use Rattle.std.specs.Prelude.{IfOk, MatchResult}
+use Rattle.std.proofs.Common.{◌≡◌, ℕ, ◌<◌, List, map, length, sym, ap, ◌∙◌, subst, Bool, inl, inr, Result, Ok, Err}
 use lib.IntN.{ℤ}
 use Rattle.rob_algebra.specs.Fraction.{Fraction, of_int}
 use Rattle.rob_linear.specs.Vectors.{at}
@@ -13,7 +12,6 @@ use Rattle.rob_meaning.specs.Vectors.{dot}
 use Rattle.rob_meaning.specs.RobustModel.{RobustModel}
 use Rattle.rob_number.specs.declared.lp_kind.LpKind.{LpKind}
 use Rattle.rob_number.specs.declared.lp_kind.LpKind.TheVariants as kind
-use Rattle.rob_number.specs.declared.memory.Memory.{Memory as NoMemory}
 use Rattle.rob_simplex.specs.Dictionaries.{columns_of}
 use Rattle.rob_simplex.specs.Endings.{HasAnswered}
 use Rattle.rob_simplex.specs.Resuming.{HasResumed, HasStoppedFrom}
@@ -24,7 +22,6 @@ use Rattle.rob_counterpart.specs.Counterpart.{set_program}
 use Rattle.rob_counterpart.specs.ReadNumbers.{differences}
 use Rattle.rob_counterpart.specs.WorstCases.{row_amounts}
 use Rattle.rob_cert.specs.declared.ending.Stop.{Stop}
-use Rattle.rob_cert.specs.declared.ending.Stop.TheVariants.{Memory}
 use Rattle.rob_cert.specs.declared.ending.Worst.{Worst}
 use Rattle.rob_cert.specs.declared.ending.Worst.TheVariants.{At, Along}
 use Rattle.rob_runs.specs.Searches.{FindsScenario, FindsRay, search_at}
@@ -35,9 +32,8 @@ use Rattle.rob_sets.specs.SetForm.{IsSetForm}
 use Rattle.rob_sets.specs.declared.set_form.SetForm.{SetForm}
 use Rattle.rob_dualize.specs.Ending.{StopsAt, IsMadeAs, position_of}
 use Rattle.rob_dualize.specs.Solving.{CountsStop, HasScenario}
-use Rattle.rob_dualize.proofs.SolvingLemmas.{refused_counted}
 use Rattle.rob_dualize.specs.SetSolving.{program_of_set, IsSolved}
-use Rattle.rob_worst.specs.Finders.{HasSearched}
+use Rattle.rob_worst.specs.Finders.{HasSearched, HasStoppedSearch}
 use Rattle.rob_dualize.specs.SetSolving.{HasSetCause}
 use Rattle.rob_worst.specs.Finding.{Tells, HasSearchCause, Searches, FindsWorst}
 use Rattle.rob_worst.specs.Refusals.{program_for}
@@ -45,7 +41,7 @@ use Rattle.rob_worst.specs.Tasks.{IsTaskOf}
 use Rattle.rob_worst.specs.declared.task.Task.{Task}
 use Rattle.rob_worst.proofs.SearchLemmas.{scenario_found, ray_found, peak_found, wide_found}
 use Rattle.rob_dualize.proofs.SetLemmas.{of_model, rows_count}
-use Rattle.rob_worst.proofs.StopLemmas.{memory_cause, row_cause}
+use Rattle.rob_worst.proofs.StopLemmas.{row_cause}
 
 -- ---- going on from the set's last basis
 module _ (Q : Program) (solved : Solver) (h : IsSolved Q solved) (start now : Solver) (same : start ≡ solved) (rows : positions now ≡ positions start) (columns : now.columns ≡ start.columns) where
@@ -71,6 +67,17 @@ module _ (Q : Program) (solved : Solver) (h : IsSolved Q solved) (start now : So
     columns = h.columns ∙ sym (ap (λ (s : Solver). s.columns) same) ∙ sym columns;
     resumed = r;
     answered = a;
+  }
+
+  pub stopped_search : (limit : ℕ) (cost : List ℤ) (stop : LpStop) → HasStoppedFrom limit (with_cost h.last.program (at cost)) (columns_of start.basis) stop now → HasStoppedSearch limit Q cost stop now
+  stopped_search limit cost stop w = record {
+    program = h.last.program;
+    same = h.last.same;
+    start = columns_of start.basis;
+    last = starts;
+    without = starts_without;
+    rows = now_rows;
+    stopped = w;
   }
 
 -- ---- what is told
@@ -119,14 +126,11 @@ module _ {N : Type 0} (value : N → Fraction) (m : RobustModel) (set : SetForm)
 
 -- ---- a row that is wide
 pub row_stop : (limit : ℕ) (m : RobustModel) (set : SetForm) → IsSetForm m set → (step : Bool) (i : ℕ) (z : List Fraction) (task : Task) → IsTaskOf m step i z task
-    → (solved : Solver) (h : IsSolved (program_of_set set) solved) (start now : Solver) → start ≡ solved → positions now ≡ positions start → now.columns ≡ start.columns
-    → (lp_stop : LpStop) → HasStoppedFrom limit (with_cost h.last.program (at task.cost)) (columns_of start.basis) lp_stop now
+    → (now : Solver) (lp_stop : LpStop) → HasStoppedSearch limit (program_of_set set) task.cost lp_stop now
     → (p : ℕ) → p ≡ position_of lp_stop → (stop : Stop) → StopsAt now.basis (program_for task.by_step task.form) p stop → HasSearchCause limit m step i z stop
-row_stop limit m set is step i z task t solved h start now same rows columns lp_stop w p e stop at_row =
+row_stop limit m set is step i z task t now lp_stop h p e stop at_row =
     let wide : TellsWideRow limit (search_at m i z) now.basis (position_of lp_stop) =
-    wide_found limit m i z task.cost now t.costs h.last.program (of_model m set is h.last.program h.last.same) (columns_of start.basis)
-    (starts (program_of_set set) solved h start now same rows columns) (starts_without (program_of_set set) solved h start now same rows columns)
-    (now_rows (program_of_set set) solved h start now same rows columns) lp_stop w in
+    wide_found limit m i z task.cost now t.costs h.program (of_model m set is h.program h.same) h.start h.last h.without h.rows lp_stop h.stopped in
     row_cause limit m step i z stop now.basis p
     (subst (λ (f : ℕ). StopsAt now.basis (program_for step f) p stop) t.form
     (subst (λ (b : Bool). StopsAt now.basis (program_for b task.form) p stop) t.step at_row))
@@ -137,10 +141,8 @@ module _ {N : Type 0} (value : N → Fraction) (limit : ℕ) (m : RobustModel) (
   pub search_stopped : (stop : Stop) → HasSearchCause limit m step i z stop → CountsStop before now stop → Searches value limit m step i z before now (Err stop)
   search_stopped stop h k = record { found = tt; stopped = h; counted = k }
 
-  pub search_told : (answer : Result (Worst N) NoMemory) → IfOk answer (Tells value m i z) → (result : Result (Worst N) Stop) → MatchResult result (λ x. answer ≡ Ok x) (λ stop. stop ≡ Memory)
-      → now ≡ before → Searches value limit m step i z before now result
-  search_told answer h (Ok x) is e = record { found = subst (λ (r : Result (Worst N) NoMemory). IfOk r (Tells value m i z)) is h; stopped = tt; counted = e }
-  search_told answer h (Err stop) is e = search_stopped stop (memory_cause limit m step i z stop is) (refused_counted before now stop (omega arith) is)
+  pub search_found : (worst : Worst N) → Tells value m i z worst → now ≡ before → Searches value limit m step i z before now (Ok worst)
+  search_found worst h e = record { found = h; stopped = tt; counted = e }
 
   -- ---- with the set's program solved first
   pub set_stopped : (stop : Stop) → HasSetCause limit m stop → CountsStop before now stop → FindsWorst value limit m step i z before now (Err stop)

@@ -1,22 +1,33 @@
 -- What a finder holds, and how a search on it ends.
-use Rattle.std.specs.Prelude.{◌≡◌, ℤ, List}
+use Rattle.std.specs.Prelude.{◌≡◌, ◌<◌, ℕ, ℤ, Bool, List, length}
+use Rattle.rob_algebra.specs.Fraction.{Fraction}
 use Rattle.rob_linear.specs.Vectors.{Columns, at}
 use Rattle.rob_linear.specs.Programs.{Program, with_cost}
 use Rattle.rob_linear.specs.Paths.{Last, HasAuxiliary}
+use Rattle.rob_meaning.specs.Forms.{matrices, form_columns}
+use Rattle.rob_meaning.specs.RobustModel.{RobustModel}
 use Rattle.rob_counterpart.specs.SamePrograms.{AreSame}
 use Rattle.rob_number.specs.declared.lp_kind.LpKind.{LpKind}
+use Rattle.rob_cert.specs.declared.ending.Worst.{Worst}
+use Rattle.rob_sets.specs.SetForm.{IsSetForm}
 use Rattle.rob_sets.specs.declared.set_form.SetForm.{SetForm}
 use Rattle.rob_simplex.specs.Endings.{HasAnswered}
-use Rattle.rob_simplex.specs.Resuming.{HasResumed}
+use Rattle.rob_simplex.specs.Resuming.{HasResumed, HasStoppedFrom}
 use Rattle.rob_simplex.specs.Solvers.{Solver, positions}
+use Rattle.rob_simplex.specs.declared.state.LpStop.{LpStop}
 use Rattle.rob_dualize.specs.SetSolving.{program_of_set, IsSolved}
+use Rattle.rob_worst.specs.Finding.{Tells}
+use Rattle.rob_worst.specs.Tasks.{IsTaskOf}
 use Rattle.rob_worst.specs.declared.finder.Finder.{Finder}
+use Rattle.rob_worst.specs.declared.task.Task.{Task}
 
 -- the finder's first solver stands at the last basis of a program with the numbers of Q; the second one has its size
+-- and rows of its depth
 pub record IsFinderFor {N : Type 0} (Q : Program) (f : Finder N) : Type 0 where
   pub solved : IsSolved Q f.solved
   pub search_rows : positions f.search ≡ positions f.solved
   pub search_columns : f.search.columns ≡ f.solved.columns
+  pub search_limit : f.search.limit ≡ f.solved.limit
 
 -- it is a finder for this set
 abbrev pub IsFinder : {N : Type 0} → SetForm → Finder N → Type 0
@@ -33,3 +44,19 @@ pub record HasSearched (Q : Program) (cost : List ℤ) (kind : LpKind) (s : Solv
   pub columns : program.n ≡ s.columns
   pub resumed : HasResumed (with_cost program (at cost)) start kind s
   pub answered : HasAnswered kind s
+
+-- the solver went on so, and stands where a row is wide, or a stage of the objective's
+pub record HasStoppedSearch (limit : ℕ) (Q : Program) (cost : List ℤ) (stop : LpStop) (s : Solver) : Type 0 where
+  pub program : Program
+  pub same : AreSame program Q
+  pub start : Columns
+  pub last : Last program start
+  pub without : ¬ (HasAuxiliary program start)
+  pub rows : program.m ≡ positions s
+  pub stopped : HasStoppedFrom limit (with_cost program (at cost)) start stop s
+
+-- what is told is what the task asks for, of each model with this set
+abbrev pub TellsTask : {N : Type 0} → (N → Fraction) → SetForm → Task → Worst N → Type 0
+TellsTask value set task worst =
+    (m : RobustModel) → IsSetForm m set → (step : Bool) (i : ℕ) → i < length (matrices m) → (z : List Fraction)
+    → length z ≡ form_columns m → IsTaskOf m step i z task → Tells value m i z worst

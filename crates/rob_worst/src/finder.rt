@@ -20,17 +20,16 @@ ghost use Rattle.rob_worst.specs.Finding.{HasConstantWithin, HasSearchCause, Sea
 ghost use Rattle.rob_worst.specs.Tasks.{FitsSet, IsTaskOf};
 ghost use Rattle.rob_worst.specs.Vectors.{plan_of, step_of};
 
-use crate::reading::told;
-use crate::refusal::{count, program};
+use crate::refusal::count;
+use crate::searching::{go_deeper, go_on};
 use crate::task::{Task, plan_task, step_task};
 use rob_cert::{Stop, Worst};
-use rob_dualize::set_program::{parameters, set_work, solved_set};
-use rob_dualize::stop::{or_stop, position, wide};
+use rob_dualize::set_program::{alike_set, parameters, solved_set};
 use rob_elab::Forms;
 use rob_model::{Plan, Scenario};
 use rob_number::{Exact, Ledger, Memory};
 use rob_sets::SetForm;
-use rob_simplex::Work;
+use rob_solver::Solver;
 use std::alloc::Global;
 
 /// Finds worst scenarios over one uncertainty set. The set's program is solved once; each search goes on from there
@@ -39,9 +38,9 @@ use std::alloc::Global;
 #[derive(Drop)]
 pub struct Finder<N: Exact> {
     /// Stands at the last basis of the set's program.
-    solved: Work<N>,
+    solved: Solver<N>,
     /// Is set to it, and goes on.
-    search: Work<N>,
+    search: Solver<N>,
 }
 
 impl<N: Exact> Finder<N> {
@@ -58,13 +57,13 @@ impl<N: Exact> Finder<N> {
             (CountsStop (L.wides ledger.old) (L.wides ledger.new)) }
         ensures counted { NeverFell L.ops L.wides ledger.old ledger.new }
     {
-        let search = match set_work::<N>(alloc, set) {
-            Ok(search) => search,
-            Err(Memory) => return Err(Stop::Memory),
+        let solved = match solved_set::<N, L>(alloc, set, ledger) {
+            Ok(solved) => solved,
+            Err(stop) => return Err(stop),
         };
-        match solved_set(alloc, set, ledger) {
-            Ok(solved) => Ok(Finder { solved, search }),
-            Err(stop) => Err(stop),
+        match alike_set(alloc, set, &solved) {
+            Ok(search) => Ok(Finder { solved, search }),
+            Err(Memory) => Err(Stop::Memory),
         }
     }
 
@@ -133,6 +132,7 @@ impl<N: Exact> Finder<N> {
         task: Result<Task, Stop>,
         ledger: &mut L,
     ) -> Result<Worst<N>, Stop>
+        requires model { IsSetOfModel N.limit set.now }
         requires few { IsFewSet set.now }
         requires finder { IsFinder set.now self.old }
         requires task { IfOk task (λ task. FitsSet N.limit set.now.columns task) }
@@ -152,13 +152,10 @@ impl<N: Exact> Finder<N> {
             }
         };
         self.search.set_to(&self.solved);
-        match self.search.resume(task.cost.items(), ledger) {
-            Ok(kind) => or_stop(told(alloc, set, &task, kind, &self.search)),
-            Err(stop) => {
-                let rows = set.rows.items().len() as u32;
-                let program = program(task.by_step, task.form);
-                Err(wide(alloc, &self.search, program, rows, position(stop)))
-            }
+        match go_on(alloc, set, &task, &mut self.search, ledger) {
+            Ok(Ok(worst)) => Ok(worst),
+            Ok(Err(stop)) => go_deeper(alloc, set, &task, &self.search, stop, ledger),
+            Err(Memory) => Err(Stop::Memory),
         }
     }
 

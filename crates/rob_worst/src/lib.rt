@@ -6,6 +6,7 @@ mod cost;
 pub mod finder;
 mod reading;
 pub mod refusal;
+mod searching;
 mod single;
 pub mod slack;
 mod task;

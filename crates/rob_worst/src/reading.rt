@@ -23,7 +23,7 @@ use rob_dualize::told::{basis, dual_values, ray, whole};
 use rob_model::Scenario;
 use rob_number::{Exact, List, LpKind, Memory};
 use rob_sets::SetForm;
-use rob_simplex::Work;
+use rob_solver::Solver;
 use std::alloc::Global;
 
 /// What the search tells: the worst scenario, or a ray.
@@ -32,19 +32,19 @@ pub fn told<N: Exact>(
     set: &SetForm,
     task: &Task,
     kind: LpKind,
-    work: &Work<N>,
+    solver: &Solver<N>,
 ) -> Result<Worst<N>, Memory>
     requires few { IsFewSet set.now }
     requires task { FitsSet N.limit set.now.columns task.now }
-    requires searched { HasSearched (program_of_set set.now) task.now.cost kind work.now }
+    requires searched { HasSearched (program_of_set set.now) task.now.cost kind solver.now }
     ensures told { IfOk result (λ worst. (m : RobustModel) → IsSetForm m set.now
         → (step : Bool) (i : ℕ) → i < length (matrices m) → (z : List Fraction) → length z ≡ form_columns m
         → IsTaskOf m step i z task.now → Tells N.value m i z worst) }
     ensures within { IfOk result (HasConstantWithin N.limit) }
 {
     match kind {
-        LpKind::Optimal => greatest(alloc, set, task, work),
-        LpKind::Infeasible | LpKind::Unbounded => along(alloc, set, task, work),
+        LpKind::Optimal => greatest(alloc, set, task, solver),
+        LpKind::Infeasible | LpKind::Unbounded => along(alloc, set, task, solver),
     }
 }
 
@@ -53,23 +53,23 @@ fn greatest<N: Exact>(
     alloc: Global,
     set: &SetForm,
     task: &Task,
-    work: &Work<N>,
+    solver: &Solver<N>,
 ) -> Result<Worst<N>, Memory>
     requires few { IsFewSet set.now }
     requires task { FitsSet N.limit set.now.columns task.now }
-    requires searched { HasSearched (program_of_set set.now) task.now.cost kinds.Optimal work.now }
+    requires searched { HasSearched (program_of_set set.now) task.now.cost kinds.Optimal solver.now }
     ensures told { IfOk result (λ worst. (m : RobustModel) → IsSetForm m set.now
         → (step : Bool) (i : ℕ) → i < length (matrices m) → (z : List Fraction) → length z ≡ form_columns m
         → IsTaskOf m step i z task.now → Tells N.value m i z worst) }
     ensures within { IfOk result (HasConstantWithin N.limit) }
 {
     let rows = set.rows.items().len() as u32;
-    let values = parameters(alloc, work, task.params)?;
-    let basis = basis(alloc, work, rows)?;
-    let amounts = dual_values(alloc, work, rows)?;
+    let values = parameters(alloc, solver, task.params)?;
+    let basis = basis(alloc, solver, rows)?;
+    let amounts = dual_values(alloc, solver, rows)?;
     Ok(Worst::At {
         scale: whole(task.common),
-        peak: work.value(),
+        peak: solver.value(),
         constant: task.constant,
         scenario: Scenario { values },
         basis,
@@ -82,34 +82,34 @@ fn along<N: Exact>(
     alloc: Global,
     set: &SetForm,
     task: &Task,
-    work: &Work<N>,
+    solver: &Solver<N>,
 ) -> Result<Worst<N>, Memory>
     requires few { IsFewSet set.now }
     requires task { FitsSet N.limit set.now.columns task.now }
-    requires searched { HasSearched (program_of_set set.now) task.now.cost kinds.Unbounded work.now }
+    requires searched { HasSearched (program_of_set set.now) task.now.cost kinds.Unbounded solver.now }
     ensures told { IfOk result (λ worst. (m : RobustModel) → IsSetForm m set.now
         → (step : Bool) (i : ℕ) → i < length (matrices m) → (z : List Fraction) → length z ≡ form_columns m
         → IsTaskOf m step i z task.now → Tells N.value m i z worst) }
     ensures within { IfOk result (HasConstantWithin N.limit) }
 {
     let rows = set.rows.items().len() as u32;
-    let ray = direction(alloc, work, task.params)?;
-    let basis = basis(alloc, work, rows)?;
+    let ray = direction(alloc, solver, task.params)?;
+    let basis = basis(alloc, solver, rows)?;
     Ok(Worst::Along {
         ray,
         basis,
-        column: work.column(),
+        column: solver.column(),
     })
 }
 
 /// The differences of the first pairs of the solver's ray.
-fn direction<N: Exact>(alloc: Global, work: &Work<N>, count: u32) -> Result<List<N>, Memory>
-    requires ray { HasRay work.now }
+fn direction<N: Exact>(alloc: Global, solver: &Solver<N>, count: u32) -> Result<List<N>, Memory>
+    requires ray { HasRay solver.now }
     requires few { count < 2 ^ 31 }
-    requires inside { count + count ≤ work.now.columns }
-    requires pairs { (c : ℕ) → c < count → OneIsZero (ray_of work.now (plus c)) (ray_of work.now (minus c)) }
-    ensures parameters { IfOk result (λ list. map N.value list ≡ differences count (ray_of work.now)) }
+    requires inside { count + count ≤ solver.now.columns }
+    requires pairs { (c : ℕ) → c < count → OneIsZero (ray_of solver.now (plus c)) (ray_of solver.now (minus c)) }
+    ensures parameters { IfOk result (λ list. map N.value list ≡ differences count (ray_of solver.now)) }
 {
-    let numbers = ray(alloc, work, 2 * count)?;
+    let numbers = ray(alloc, solver, 2 * count)?;
     pair_differences(alloc, numbers.items(), count as usize)
 }

@@ -25,7 +25,7 @@ returns g c =
         λ m set model f st is. c.in_ok-inside.ensures.scenario m set model f st is,
         c.in_ok-cert.ensures.certificate
             ∙ ap₂ (λ (n : ℕ) (rounds : List Told).
-            infeasible_with (scenario_of value c.in_ok-inside.inside) (items_told n rounds (λ q. of_int (weights_of c.args.work.now q))))
+            infeasible_with (scenario_of value c.in_ok-inside.inside) (items_told n rounds (λ q. of_int (weights_of c.args.solver.now q))))
             (ap length c.items.ensures.list) c.items-2.ensures.list,
       );
     }

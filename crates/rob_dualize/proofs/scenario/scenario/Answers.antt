@@ -22,11 +22,11 @@ returns-in-Err-clause-found g c = λ m model f st.
 
 pub parameters-requires-clause-pairs : goal.parameters-requires-clause-pairs
 parameters-requires-clause-pairs g c = λ k l.
-    solved_pairs c.args.set.now c.in-Ok.work c.in-Ok.ensures.solved.last k (omega (arith, parameters_low c.args.forms.now c.args.set.now c.requires.model))
+    solved_pairs c.args.set.now c.in-Ok.solver c.in-Ok.ensures.solved.last k (omega (arith, parameters_low c.args.forms.now c.args.set.now c.requires.model))
 
 pub returns-in-Ok-parameters-clause-found : goal.returns-in-Ok-parameters-clause-found
 returns-in-Ok-parameters-clause-found g c = λ m model f st.
-    let s = c.in-Ok.work in
+    let s = c.in-Ok.solver in
     let e : map g.N.Exact.value c.in-Ok-parameters.values ≡ scenario_read m (point_of s) =
     c.in-Ok-parameters.ensures.parameters ∙ ap (λ k. differences k (point_of s)) f.params in
     let found = solved_scenario m c.args.set.now st model s c.in-Ok.ensures.solved in

@@ -5,4 +5,4 @@ use Rattle.rob_dualize.proofs.told.basis.Given as goal
 
 -- the columns so far
 abbrev pub invariant-loop-i : goal.invariant-loop-i
-invariant-loop-i g l = l.columns ≡ tabulate l.i (columns_of l.work.basis)
+invariant-loop-i g l = l.columns ≡ tabulate l.i (columns_of l.solver.basis)

@@ -5,4 +5,4 @@ use Rattle.rob_dualize.proofs.told.dual_values.Given as goal
 
 -- the numbers so far
 abbrev pub invariant-loop-i : goal.invariant-loop-i
-invariant-loop-i g l = map g.N.Exact.value l.numbers ≡ tabulate l.i (dual_of l.work)
+invariant-loop-i g l = map g.N.Exact.value l.numbers ≡ tabulate l.i (dual_of l.solver)

@@ -6,4 +6,4 @@ use Rattle.rob_dualize.proofs.told.exact_weights.Given as goal
 
 -- the numbers so far
 abbrev pub invariant-loop-i : goal.invariant-loop-i
-invariant-loop-i g l = map g.N.Exact.value l.numbers ≡ tabulate l.i (λ i. of_int (weights_of l.work i))
+invariant-loop-i g l = map g.N.Exact.value l.numbers ≡ tabulate l.i (λ i. of_int (weights_of l.solver i))

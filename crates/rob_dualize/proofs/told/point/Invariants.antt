@@ -5,4 +5,4 @@ use Rattle.rob_dualize.proofs.told.point.Given as goal
 
 -- the numbers so far
 abbrev pub invariant-loop-j : goal.invariant-loop-j
-invariant-loop-j g l = map g.N.Exact.value l.numbers ≡ tabulate l.j (point_of l.work)
+invariant-loop-j g l = map g.N.Exact.value l.numbers ≡ tabulate l.j (point_of l.solver)

@@ -6,6 +6,6 @@ use Rattle.rob_dualize.proofs.told.weights.Given as goal
 -- the weights so far
 abbrev pub invariant-loop-i : goal.invariant-loop-i
 invariant-loop-i g l = record {
-  told : l.numbers ≡ tabulate l.i (weights_of l.work);
+  told : l.numbers ≡ tabulate l.i (weights_of l.solver);
   within : Each (λ weight. nat_abs weight ≤ g.N.Exact.limit) l.numbers;
 }

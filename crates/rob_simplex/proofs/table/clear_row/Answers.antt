@@ -1,27 +1,35 @@
-use Rattle.std.proofs.Common.{◌≡◌, ◌∙◌, length}
+use Rattle.std.proofs.Common.{◌≡◌, ◌⊎◌, ◌<◌, ◌≤◌, ◌+◌, ◌*◌, ◌∙◌, ℕ, subst, sym, refl, set}
 use Rattle.rob_linear.specs.Vectors.{at}
+use Rattle.rob_linear.specs.Multiples.{IsClearedBy}
+use Rattle.rob_entries.specs.Updates.{IsWideCleared}
 use Rattle.rob_rows.proofs.Reductions.{on_err}
-use Rattle.rob_simplex.proofs.Clearing.{cleared_in, wide_in, others_in, part_is, put_bounds}
+use Rattle.rob_simplex.specs.Tables.{row_at}
+use Rattle.rob_simplex.proofs.Clearing.{rows_apart}
+use Rattle.rob_simplex.proofs.RowMoves.{written_bounds}
 use Rattle.rob_simplex.proofs.table.clear_row.Goals as goal
 
 pub returns-in_err-bounds-clause-wide : goal.returns-in_err-bounds-clause-wide
-returns-in_err-bounds-clause-wide c =
+returns-in_err-bounds-clause-wide g c =
+    let et : c.TOP.result ≡ g.E.Entry.top = c.TOP.ensures ∙ g.met.E.Entry.top_told in
     on_err c.from_residual.result
-    (wide_in c.args.place.limit c.args.place.width c.args.rows.now c.args.bounds.now c.requires.bounded c.args.i c.requires.inside c.args.place.place (at c.args.pivot_row.now.entries) c.requires.place_in
-    c.in_err-bounds.ensures.wide)
+    (subst (λ (l : ℕ). IsWideCleared l c.args.place.width c.args.place.place (row_at c.args.rows.now c.args.place.width c.args.i) (at c.args.pivot_row.now.entries)) et
+    (subst (λ (n : ℕ). IsWideCleared c.TOP.result n c.args.place.place (row_at c.args.rows.now c.args.place.width c.args.i) (at c.args.pivot_row.now.entries)) c.requires.width c.in_err-bounds.ensures.wide))
 
 pub returns-clause-cleared : goal.returns-clause-cleared
-returns-clause-cleared c =
-    let sl : length c.clear.new.row ≡ c.args.place.width = c.clear.auto.row ∙ part_is c.args.place.limit c.args.place.width c.args.rows.now c.args.bounds.now c.requires.bounded c.args.i c.requires.inside in
-    cleared_in c.args.place.limit c.args.place.width c.args.rows.now c.args.bounds.now c.requires.bounded c.args.i c.requires.inside c.args.place.place (at c.args.pivot_row.now.entries) c.clear.new.row
-    c.requires.place_in sl c.in_ok-bounds.ensures.cleared
+returns-clause-cleared g c =
+    subst (λ (n : ℕ). IsClearedBy n c.args.place.place (row_at c.args.rows.now c.args.place.width c.args.i) (at c.args.pivot_row.now.entries) (row_at c.clear.new.self c.args.place.width c.args.i)) c.requires.width
+    c.in_ok-bounds.ensures.cleared
 
 pub returns-clause-others : goal.returns-clause-others
-returns-clause-others c =
-    let sl : length c.clear.new.row ≡ c.args.place.width = c.clear.auto.row ∙ part_is c.args.place.limit c.args.place.width c.args.rows.now c.args.bounds.now c.requires.bounded c.args.i c.requires.inside in
-    others_in c.args.place.limit c.args.place.width c.args.rows.now c.args.bounds.now c.requires.bounded c.args.i c.requires.inside c.clear.new.row sl
+returns-clause-others g c =
+    rows_apart c.args.rows.now c.clear.new.self c.args.place.width c.args.i
+    (λ k d. c.clear.ensures.others k (subst (λ (n : ℕ). (k < c.args.i * c.args.place.width) ⊎ (c.args.i * c.args.place.width + n ≤ k)) (sym c.requires.width) d))
 
 pub returns-clause-bounded : goal.returns-clause-bounded
-returns-clause-bounded c =
-    let sl : length c.clear.new.row ≡ c.args.place.width = c.clear.auto.row ∙ part_is c.args.place.limit c.args.place.width c.args.rows.now c.args.bounds.now c.requires.bounded c.args.i c.requires.inside in
-    put_bounds c.args.place.limit c.args.place.width c.args.rows.now c.args.bounds.now c.requires.bounded c.args.i c.requires.inside c.clear.new.row c.in_ok-bounds.field-0 sl c.in_ok-bounds.ensures.bounded
+returns-clause-bounded g c =
+    let et : c.TOP.result ≡ g.E.Entry.top = c.TOP.ensures ∙ g.met.E.Entry.top_told in
+    let apart = rows_apart c.args.rows.now c.clear.new.self c.args.place.width c.args.i
+    (λ k d. c.clear.ensures.others k (subst (λ (n : ℕ). (k < c.args.i * c.args.place.width) ⊎ (c.args.i * c.args.place.width + n ≤ k)) (sym c.requires.width) d)) in
+    written_bounds g.E.Entry.top c.args.place.width c.args.rows.now c.clear.new.self c.args.bounds.now (set c.args.bounds.now c.args.i c.in_ok-bounds.field-0) c.args.i c.in_ok-bounds.field-0 c.requires.bounded c.clear.ensures.size c.requires.inside refl
+    (subst (λ (l : ℕ). c.in_ok-bounds.field-0 ≤ l) et c.in_ok-bounds.ensures.bounded.0)
+    (λ k l. c.in_ok-bounds.ensures.bounded.1 k (subst (λ (n : ℕ). k < n) (sym c.requires.width) l)) apart

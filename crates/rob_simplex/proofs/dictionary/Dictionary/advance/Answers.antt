@@ -4,6 +4,8 @@ use lib.Signed.{◌≤ℤ◌}
 use Rattle.rob_simplex.specs.Dictionaries.{Table, positions, rows_of, FirstNegative}
 use Rattle.rob_simplex.proofs.SecondPhase.{IsSmall, entering_free, turn_second, turns_on, turns_fall, wide_second, ends_optimal}
 use Rattle.rob_simplex.proofs.EntryLemmas.{small_entries}
+use Rattle.rob_simplex.proofs.JudgingLemmas.{stands_own}
+use Rattle.rob_simplex.proofs.OwnEntries.{own_positive, keeps_positive}
 use Rattle.rob_simplex.proofs.dictionary.Dictionary.advance.Goals as goal
 
 pub returns-in_default-clause-turned : goal.returns-in_default-clause-turned
@@ -17,11 +19,16 @@ pivot-requires-clause-free g c =
     entering_free c.requires.stands.0 c.args.self.now c.requires.stands.1 c.in-Some.column
     (subst (λ (i : ℕ). FirstNegative (c.args.self.now.columns + positions c.args.self.now) (rows_of c.args.self.now i) c.in-Some.column) em c.in-Some.ensures.first)
 
+pub pivot-requires-clause-own : goal.pivot-requires-clause-own
+pivot-requires-clause-own g c =
+    let em : c.len-m.result ≡ positions c.args.self.now = c.len-m.ensures ∙ c.self.inside.basis.ok.0 ∙ ap (λ (t : Table). positions t) c.self.view_is in
+    keeps_positive (c.len-m.result + 1) c.in-Some-leaving.row c.args.self.now (omega (arith, em)) (own_positive c.args.self.now (stands_own c.requires.stands.0 c.args.self.now c.requires.stands.1))
+
 pub returns-in-Ok-clause-turned : goal.returns-in-Ok-clause-turned
 returns-in-Ok-clause-turned g c P h =
     let em : c.len-m.result ≡ positions c.args.self.now = c.len-m.ensures ∙ c.self.inside.basis.ok.0 ∙ ap (λ (t : Table). positions t) c.self.view_is in
     let first = subst (λ (i : ℕ). FirstNegative (c.args.self.now.columns + positions c.args.self.now) (rows_of c.args.self.now i) c.in-Some.column) em c.in-Some.ensures.first in
-    let small : IsSmall c.args.self.now = subst IsSmall c.self.view_is (small_entries c.self.inside.limit c.self.inside.columns c.self.inside.basis.items c.self.inside.places.items c.self.inside.near.items c.self.inside.rows.items c.self.inside.bounds.items
+    let small : IsSmall c.args.self.now = subst IsSmall c.self.view_is (small_entries g.E.Entry.top c.self.inside.columns c.self.inside.basis.items c.self.inside.places.items c.self.inside.near.items c.self.inside.rows c.self.inside.bounds.items
     (length c.self.inside.pivot_row.entries) c.self.invariant) in (
       turn_second P c.args.self.now h c.in-Some.column first c.in-Some-leaving.row c.in-Some-leaving.ensures.first c.pivot.new.self c.in-Ok.ensures.pivoted c.in-Ok.ensures.closed c.pivot.ensures.basis c.pivot.ensures.columns,
       turns_on P c.args.self.now h c.in-Some.column first c.in-Some-leaving.row c.in-Some-leaving.ensures.first c.pivot.new.self c.pivot.ensures.basis,

@@ -5,12 +5,12 @@ use Rattle.rob_simplex.proofs.ColumnLemmas.{basic_few}
 use Rattle.rob_simplex.proofs.dictionary.Dictionary.basic.Goals as goal
 
 pub returns-clause-column : goal.returns-clause-column
-returns-clause-column c =
+returns-clause-column g c =
     let il = subst (λ (t : Table). c.args.i < positions t) (sym c.self.view_is) c.requires.inside in
     read_at c.self.inside.basis.items c.args.i c.index.result.now il c.index.ensures ∙ ap (λ (t : Table). columns_of t.basis c.args.i) c.self.view_is
 
 pub returns-clause-few : goal.returns-clause-few
-returns-clause-few c =
+returns-clause-few g c =
     let il = subst (λ (t : Table). c.args.i < positions t) (sym c.self.view_is) c.requires.inside in
     subst (λ k. k < 2 ^ 32) (sym (read_at c.self.inside.basis.items c.args.i c.index.result.now il c.index.ensures))
-    (basic_few c.self.inside.limit c.self.inside.columns c.self.inside.basis.items c.self.inside.places.items c.self.inside.near.items c.self.inside.rows.items c.self.inside.bounds.items (length c.self.inside.pivot_row.entries) c.self.invariant c.args.i il)
+    (basic_few g.E.Entry.top c.self.inside.columns c.self.inside.basis.items c.self.inside.places.items c.self.inside.near.items c.self.inside.rows c.self.inside.bounds.items (length c.self.inside.pivot_row.entries) c.self.invariant c.args.i il)

@@ -2,6 +2,7 @@ use Rattle.std.proofs.Common.{◌≡◌, ℕ, ◌+◌, ◌∙◌, sym, ap, subst
 use Rattle.rob_linear.specs.WideRows.{HasWideRow}
 use Rattle.rob_simplex.specs.Dictionaries.{Table, positions, columns_of, IsFree}
 use Rattle.rob_simplex.proofs.ExplicitStart.{IsPrepared, prepared, open_free, ready_free, ready_open, ready_positive, explicit_begins, begins_refused}
+use Rattle.rob_simplex.proofs.OwnEntries.{keeps_prepared}
 use Rattle.rob_simplex.proofs.dictionary.Dictionary.bring_in.Goals as goal
 
 pub write_auxiliary-requires : goal.write_auxiliary-requires
@@ -41,6 +42,16 @@ clear_others-cleared-requires-clause-positive g c =
     prepared c.args.self.now c.keep_objective.new.self c.write_auxiliary.new.self c.keep_objective.ensures.kept c.keep_objective.ensures.rows c.keep_objective.ensures.basis c.keep_objective.ensures.columns
     c.write_auxiliary.ensures.auxiliary c.write_auxiliary.ensures.own c.write_auxiliary.ensures.zero c.write_auxiliary.ensures.rows c.write_auxiliary.ensures.kept c.write_auxiliary.ensures.basis c.write_auxiliary.ensures.columns in
     ready_positive c.requires.opened.0 c.args.q c.args.self.now c.requires.opened.1 c.write_auxiliary.new.self prep (c.self.inside.columns + c.len-m.result) is
+
+pub clear_others-cleared-requires-clause-own : goal.clear_others-cleared-requires-clause-own
+clear_others-cleared-requires-clause-own g c =
+    let em : c.len-m.result ≡ positions c.args.self.now = c.len-m.ensures ∙ c.self.inside.basis.ok.0 ∙ ap (λ (t : Table). positions t) c.self.view_is in
+    let en : c.self.inside.columns ≡ c.args.self.now.columns = ap (λ (t : Table). t.columns) c.self.view_is in
+    let is : c.self.inside.columns + c.len-m.result ≡ c.args.self.now.columns + positions c.args.self.now = omega arith in
+    let prep : IsPrepared c.args.self.now.columns (positions c.args.self.now) c.args.self.now c.write_auxiliary.new.self =
+    prepared c.args.self.now c.keep_objective.new.self c.write_auxiliary.new.self c.keep_objective.ensures.kept c.keep_objective.ensures.rows c.keep_objective.ensures.basis c.keep_objective.ensures.columns
+    c.write_auxiliary.ensures.auxiliary c.write_auxiliary.ensures.own c.write_auxiliary.ensures.zero c.write_auxiliary.ensures.rows c.write_auxiliary.ensures.kept c.write_auxiliary.ensures.basis c.write_auxiliary.ensures.columns in
+    keeps_prepared c.requires.opened.0 c.args.q c.args.self.now c.requires.opened.1 (c.len-m.result + 2) c.write_auxiliary.new.self prep
 
 pub replace-requires-clause-free : goal.replace-requires-clause-free
 replace-requires-clause-free g c =

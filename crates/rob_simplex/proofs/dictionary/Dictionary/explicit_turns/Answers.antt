@@ -18,4 +18,4 @@ returns-in-Ok-clause-position g c = subst (λ (m : ℕ). IfErr c.drive_out.resul
 
 pub returns-in-Ok-clause-counted : goal.returns-in-Ok-clause-counted
 returns-in-Ok-clause-counted g c =
-    counts_after g.L.Ledger.ops g.L.Ledger.wides c.args.ledger.now c.bring_in.new.ledger c.drive_out.new.ledger c.drive_out.result c.in-Ok.ensures.counted.ops c.in-Ok.ensures.counted.wides c.drive_out.ensures.counted
+    counts_after g.L.Ledger.ops g.L.Ledger.wides c.args.ledger.now c.bring_in.new.ledger c.drive_out.new.ledger c.bring_in.ensures.counted.ops c.bring_in.ensures.counted.wides c.drive_out.ensures.counted

@@ -1,25 +1,44 @@
-use Rattle.std.proofs.Common.{◌≡◌, ℕ, ap, ◌∙◌, subst, length, List}
-use Rattle.std.specs.Prelude.{MatchResult}
+use Rattle.std.proofs.Common.{◌≡◌, ◌≤◌, ◌-◌, ◌^◌, ap, sym, ◌∙◌, subst, inl, length, List, ℕ}
+use Rattle.std.specs.Prelude.{IfErr, MatchResult}
 use Rattle.rob_linear.specs.Vectors.{at}
 use Rattle.rob_linear.specs.Programs.{with_cost}
 use Rattle.rob_linear.specs.WideRows.{HasWideRowFrom}
 use Rattle.rob_simplex.specs.Dictionaries.{Table, positions, columns_of}
+use Rattle.rob_simplex.specs.Judging.{Tells}
+use Rattle.rob_simplex.specs.PathEnds.{PathStopsFrom}
 use Rattle.rob_simplex.specs.Phases.{EndsFrom}
+use Rattle.rob_simplex.proofs.JudgingLemmas.{wide_below_from, within_above}
 use Rattle.rob_simplex.proofs.NewCosts.{cost_refused}
 use Rattle.rob_simplex.proofs.dictionary.Dictionary.go_on.Goals as goal
 
-pub improve-requires : goal.improve-requires
-improve-requires g c = record { stands = (with_cost c.requires.stands.0 (at c.args.cost.now), c.in-Ok.ensures.put c.requires.stands.0 c.requires.stands.1) }
+pub put_on-requires-clause-within : goal.put_on-requires-clause-within
+put_on-requires-clause-within g c = within_above g.N.Exact.limit (2 ^ 62 - 1) g.met.N.Exact.limit_high c.args.cost.now c.requires.within
+
+pub improve_and_judge-requires : goal.improve_and_judge-requires
+improve_and_judge-requires g c = record {
+  stands = (with_cost c.requires.stands.0 (at c.args.cost.now), c.in-Ok.ensures.put c.requires.stands.0 c.requires.stands.1);
+  limit = subst (λ l. g.N.Exact.limit ≤ l) (sym c.put_on.ensures.limit) c.requires.limit;
+}
 
 pub returns-in-Ok-clause-told : goal.returns-in-Ok-clause-told
 returns-in-Ok-clause-told g c P h =
-    let told = c.improve.ensures.told (with_cost P (at c.args.cost.now)) (c.in-Ok.ensures.put P h) in
-    subst (λ (b : List ℕ). MatchResult c.improve.result (λ e. EndsFrom (with_cost P (at c.args.cost.now)) (columns_of b) e c.improve.new.self)
-    (λ i. HasWideRowFrom c.args.self.now.limit (with_cost P (at c.args.cost.now)) (columns_of b) (columns_of c.improve.new.self.basis) i)) c.put_on.ensures.basis
-    (subst (λ (l : ℕ). MatchResult c.improve.result (λ e. EndsFrom (with_cost P (at c.args.cost.now)) (columns_of c.put_on.new.self.basis) e c.improve.new.self)
-    (λ i. HasWideRowFrom l (with_cost P (at c.args.cost.now)) (columns_of c.put_on.new.self.basis) (columns_of c.improve.new.self.basis) i)) c.put_on.ensures.limit told)
+    subst (λ (b : List ℕ). MatchResult c.improve_and_judge.result (λ e. EndsFrom (with_cost P (at c.args.cost.now)) (columns_of b) e c.improve_and_judge.new.self × Tells g.N.Exact.limit e c.improve_and_judge.new.self)
+    (λ i. HasWideRowFrom g.N.Exact.limit (with_cost P (at c.args.cost.now)) (columns_of b) (columns_of c.improve_and_judge.new.self.basis) i)) c.put_on.ensures.basis
+    (c.improve_and_judge.ensures.told (with_cost P (at c.args.cost.now)) (c.in-Ok.ensures.put P h))
 
 pub returns-in-Err-clause-told : goal.returns-in-Err-clause-told
 returns-in-Err-clause-told g c P h =
     let em : c.len.result ≡ positions c.put_on.new.self = c.len.ensures ∙ c.self.inside.basis.ok.0 ∙ ap (λ (t : Table). positions t) c.self.view_is in
-    cost_refused c.args.self.now.limit P (at c.args.cost.now) c.args.self.now c.put_on.new.self.basis c.len.result h c.put_on.ensures.basis (em ∙ ap length c.put_on.ensures.basis ∙ h.rows_are) (c.in-Err.ensures.wide P h)
+    wide_below_from g.N.Exact.limit c.args.self.now.limit c.requires.limit (with_cost P (at c.args.cost.now)) (columns_of c.args.self.now.basis) (columns_of c.put_on.new.self.basis) c.len.result
+    (cost_refused c.args.self.now.limit P (at c.args.cost.now) c.args.self.now c.put_on.new.self.basis c.len.result h c.put_on.ensures.basis (em ∙ ap length c.put_on.ensures.basis ∙ h.rows_are) (c.in-Err.ensures.wide P h))
+
+pub returns-in-Ok-clause-caused : goal.returns-in-Ok-clause-caused
+returns-in-Ok-clause-caused g c P h =
+    subst (λ (b : List ℕ). IfErr c.improve_and_judge.result (PathStopsFrom g.N.Exact.limit (with_cost P (at c.args.cost.now)) (columns_of b) c.improve_and_judge.new.self)) c.put_on.ensures.basis
+    (c.improve_and_judge.ensures.caused (with_cost P (at c.args.cost.now)) (c.in-Ok.ensures.put P h))
+
+pub returns-in-Err-clause-caused : goal.returns-in-Err-clause-caused
+returns-in-Err-clause-caused g c P h =
+    let em : c.len.result ≡ positions c.put_on.new.self = c.len.ensures ∙ c.self.inside.basis.ok.0 ∙ ap (λ (t : Table). positions t) c.self.view_is in
+    inl (subst (λ l. HasWideRowFrom l (with_cost P (at c.args.cost.now)) (columns_of c.args.self.now.basis) (columns_of c.put_on.new.self.basis) c.len.result) (sym c.put_on.ensures.limit)
+    (cost_refused c.args.self.now.limit P (at c.args.cost.now) c.args.self.now c.put_on.new.self.basis c.len.result h c.put_on.ensures.basis (em ∙ ap length c.put_on.ensures.basis ∙ h.rows_are) (c.in-Err.ensures.wide P h)))

@@ -6,7 +6,7 @@ use Rattle.rob_simplex.proofs.dictionary.Dictionary.least.Goals as goal
 use Rattle.rob_simplex.proofs.dictionary.Dictionary.least.Goals.{then-is_lower, else-is_lower}
 
 pub loop-seen-preserved : goal.loop-seen-preserved
-loop-seen-preserved c =
+loop-seen-preserved g c =
     let t = c.args.self.now in
     let n = c.args.self.now.columns in
     let m = positions c.args.self.now in
@@ -27,7 +27,7 @@ loop-seen-preserved c =
     ]
 
 pub loop-seen-init : goal.loop-seen-init
-loop-seen-init c =
+loop-seen-init g c =
     let t = c.args.self.now in
     let en : c.self.inside.columns ≡ c.args.self.now.columns = ap (λ (t : Table). t.columns) c.self.view_is in
     let em : c.len-m.result ≡ positions c.args.self.now = c.len-m.ensures ∙ c.self.inside.basis.ok.0 ∙ ap (λ (t : Table). positions t) c.self.view_is in
@@ -36,7 +36,7 @@ loop-seen-init c =
     (subst (λ k. IfSome c.first_below_zero-best.result (λ e. (e < positions t) × MayBeLeast t.columns (positions t) (rows_of t) k e)) ec c.first_below_zero-best.ensures.below)
 
 pub returns : goal.returns
-returns c =
+returns g c =
     let em : c.len-m.result ≡ positions c.args.self.now = c.len-m.ensures ∙ c.self.inside.basis.ok.0 ∙ ap (λ (t : Table). positions t) c.self.view_is in
     let e : c.loop-seen.seen ≡ positions c.args.self.now = omega arith in
     record {

@@ -5,7 +5,7 @@ use Rattle.rob_simplex.proofs.dictionary.Dictionary.leaving.Goals as goal
 use Rattle.rob_simplex.proofs.dictionary.Dictionary.leaving.Goals.{then-goes_first, else-goes_first}
 
 pub loop-seen-preserved : goal.loop-seen-preserved
-loop-seen-preserved c =
+loop-seen-preserved g c =
     let t = c.args.self.now in
     let n = c.args.self.now.columns in
     let m = positions c.args.self.now in
@@ -23,7 +23,7 @@ loop-seen-preserved c =
     ]
 
 pub returns : goal.returns
-returns c =
+returns g c =
     let em : c.len-m.result ≡ positions c.args.self.now = c.len-m.ensures ∙ c.self.inside.basis.ok.0 ∙ ap (λ (t : Table). positions t) c.self.view_is in
     let e : c.loop-seen.seen ≡ positions c.args.self.now = omega arith in
     record {

@@ -1,10 +1,30 @@
-use Rattle.std.proofs.Common.{◌≡◌, ℕ, ◌+◌, ◌<◌, ◌≤◌, ◌∙◌, ap, subst, arith, length}
+use Rattle.std.proofs.Common.{◌≡◌, ℕ, ◌+◌, ◌<◌, ◌≤◌, ◌∙◌, ap, sym, subst, arith, length, List, set}
 use Rattle.std.specs.Prelude.{◌≢◌}
 use Rattle.std.proofs.lemmas.List.{length-set}
-use Rattle.rob_rows.specs.Updates.{IsWideCleared}
-use Rattle.rob_simplex.specs.Dictionaries.{Table, positions, width_of, spare_column, rows_of, kept_row_of}
-use Rattle.rob_simplex.proofs.PivotLemmas.{opened, positive2, free_after, next_basis, pivoted, closed4, begun, wide_begun, kept_cleared, kept_wide}
+use Rattle.rob_entries.specs.Updates.{IsWideCleared}
+use Rattle.rob_simplex.specs.Dictionaries.{Table, positions, width_of, basic_columns, spare_column, rows_of, kept_row_of, IsFree}
+use Rattle.rob_simplex.proofs.OwnEntries.{keeps_rows, keeps_set}
+use Rattle.rob_simplex.proofs.PivotLemmas.{closed_free, free_opened, same_rows, opened, positive2, free_after, next_basis, pivoted, closed4, begun, wide_begun, kept_cleared, kept_wide}
 use Rattle.rob_simplex.proofs.dictionary.Dictionary.pivot_or_open.Goals as goal
+
+pub replace-requires-clause-free : goal.replace-requires-clause-free
+replace-requires-clause-free g c =
+    let s = c.self.inside.columns + c.len.result + 3 in
+    let en : c.self.inside.columns ≡ c.args.self.now.columns = ap (λ (t : Table). t.columns) c.self.view_is ∙ c.make_primitive.ensures.columns in
+    let em : c.len.result ≡ positions c.args.self.now = c.len.ensures ∙ c.self.inside.basis.ok.0 ∙ ap (λ (t : Table). positions t) c.self.view_is ∙ ap length c.make_primitive.ensures.basis in
+    let es : c.self.inside.columns + c.len.result + 3 ≡ spare_column c.args.self.now.columns (positions c.args.self.now) = omega arith in
+    subst (λ (n : ℕ). IsFree n c.make_primitive.new.self.basis (c.self.inside.columns + c.len.result + 3)) (sym c.make_primitive.ensures.columns)
+    (subst (λ (b : List ℕ). IsFree c.args.self.now.columns b (c.self.inside.columns + c.len.result + 3)) (sym c.make_primitive.ensures.basis) (closed_free c.args.self.now s es c.requires.closed))
+
+pub clear_others-requires-clause-free : goal.clear_others-requires-clause-free
+clear_others-requires-clause-free g c =
+    let s = c.self.inside.columns + c.len.result + 3 in
+    let en : c.self.inside.columns ≡ c.args.self.now.columns = ap (λ (t : Table). t.columns) c.self.view_is ∙ c.make_primitive.ensures.columns in
+    let em : c.len.result ≡ positions c.args.self.now = c.len.ensures ∙ c.self.inside.basis.ok.0 ∙ ap (λ (t : Table). positions t) c.self.view_is ∙ ap length c.make_primitive.ensures.basis in
+    let es : c.self.inside.columns + c.len.result + 3 ≡ spare_column c.args.self.now.columns (positions c.args.self.now) = omega arith in
+    subst (λ (n : ℕ). IsFree n c.replace.new.self.basis c.args.column) (sym (c.replace.ensures.columns ∙ c.make_primitive.ensures.columns))
+    (subst (λ (b : List ℕ). IsFree c.args.self.now.columns b c.args.column) (sym (c.replace.ensures.basis ∙ ap (λ (b : List ℕ). set b c.args.row s) c.make_primitive.ensures.basis))
+    (free_opened c.args.self.now c.args.row c.args.column s es c.requires.row_in c.requires.free c.requires.structural))
 
 pub clear_others-requires-clause-open : goal.clear_others-requires-clause-open
 clear_others-requires-clause-open g c =
@@ -13,6 +33,21 @@ clear_others-requires-clause-open g c =
     let em : c.len.result ≡ positions c.args.self.now = c.len.ensures ∙ c.self.inside.basis.ok.0 ∙ ap (λ (t : Table). positions t) c.self.view_is ∙ ap length c.make_primitive.ensures.basis in
     let es : c.self.inside.columns + c.len.result + 3 ≡ spare_column c.args.self.now.columns (positions c.args.self.now) = omega arith in
     opened c.args.self.now c.make_primitive.new.self c.replace.new.self c.args.row c.args.column s es c.requires.row_in c.requires.closed c.make_primitive.ensures.basis c.make_primitive.ensures.columns c.make_primitive.ensures.row c.make_primitive.ensures.others c.replace.ensures.basis c.replace.ensures.columns c.replace.ensures.rows
+
+pub clear_others-requires-clause-own : goal.clear_others-requires-clause-own
+clear_others-requires-clause-own g c =
+    let s = c.self.inside.columns + c.len.result + 3 in
+    let n1 : c.self.inside.columns ≡ c.make_primitive.new.self.columns = ap (λ (t : Table). t.columns) c.self.view_is in
+    let p1 : c.len.result ≡ positions c.make_primitive.new.self = c.len.ensures ∙ c.self.inside.basis.ok.0 ∙ ap (λ (t : Table). positions t) c.self.view_is in
+    let en : c.self.inside.columns ≡ c.args.self.now.columns = n1 ∙ c.make_primitive.ensures.columns in
+    let em : c.len.result ≡ positions c.args.self.now = p1 ∙ ap length c.make_primitive.ensures.basis in
+    let es : c.self.inside.columns + c.len.result + 3 ≡ spare_column c.args.self.now.columns (positions c.args.self.now) = omega arith in
+    let e1 : spare_column c.make_primitive.new.self.columns (positions c.make_primitive.new.self) ≡ c.self.inside.columns + c.len.result + 3 = omega arith in
+    let inside = subst (λ (t : Table). (i : ℕ) → i ≤ positions t → basic_columns t.columns t.basis i < width_of t) c.self.view_is c.self.invariant.placed.basic_in in
+    keeps_set c.args.count c.args.row s c.make_primitive.new.self c.replace.new.self c.replace.ensures.basis c.replace.ensures.columns
+    (same_rows c.args.self.now c.make_primitive.new.self c.replace.new.self c.args.row c.args.column s es c.requires.row_in c.requires.closed c.make_primitive.ensures.basis c.make_primitive.ensures.columns c.make_primitive.ensures.row c.make_primitive.ensures.others c.replace.ensures.basis c.replace.ensures.columns c.replace.ensures.rows)
+    inside (λ z. c.replace.ensures.kept (ap (kept_row_of c.make_primitive.new.self) (sym e1) ∙ z))
+    (keeps_rows c.args.count c.args.row c.args.self.now c.make_primitive.new.self c.make_primitive.ensures.basis c.make_primitive.ensures.columns c.make_primitive.ensures.others c.make_primitive.ensures.kept c.requires.own)
 
 pub clear_others-requires-clause-positive : goal.clear_others-requires-clause-positive
 clear_others-requires-clause-positive g c =

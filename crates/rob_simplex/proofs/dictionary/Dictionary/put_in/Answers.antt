@@ -1,6 +1,8 @@
-use Rattle.std.proofs.Common.{◌≡◌, ◌∙◌, ap, sym, subst, arith, OnOk, OnErr, to_z, of_z, w64}
+use Rattle.std.proofs.Common.{◌≡◌, ◌+◌, suc, ◌∙◌, ap, sym, subst, arith, OnOk, OnErr, to_z, of_z, w64}
 use Rattle.std.proofs.lemmas.Result.{on_ok_weaker, on_err_weaker}
-use Rattle.std.proofs.lemmas.Int.{to_z-of_z}
+use Rattle.std.proofs.lemmas.Int.{ints, to_z-of_z}
+use lib.Signed.{◌<ℤ◌}
+use Rattle.rob_simplex.proofs.JudgingLemmas.{stands_own}
 use lib.IntN.{ℤ, pos}
 use Rattle.rob_linear.specs.Stages.{truncated}
 use Rattle.rob_simplex.specs.Dictionaries.{positions, width_of, rows_of}
@@ -20,6 +22,11 @@ lower-requires-clause-way g c = way_free (truncated c.requires.stands.0 c.args.c
 
 pub lower-requires-clause-zero : goal.lower-requires-clause-zero
 lower-requires-clause-zero g c = way_zero (truncated c.requires.stands.0 c.args.column) c.args.self.now c.requires.stands.1
+
+pub lower-requires-clause-own : goal.lower-requires-clause-own
+lower-requires-clause-own g c z =
+    let o : pos 0 <ℤ rows_of c.args.self.now (positions c.args.self.now) (suc (c.args.self.now.columns + positions c.args.self.now)) = (stands_own (truncated c.requires.stands.0 c.args.column) c.args.self.now c.requires.stands.1).objective in
+    absurd (omega (arith, ints))
 
 pub put_in_basic-requires-clause-basic : goal.put_in_basic-requires-clause-basic
 put_in_basic-requires-clause-basic g c = position_is c.args.self.now.basis c.args.column c.in-Some.i c.in-Some.ensures.position

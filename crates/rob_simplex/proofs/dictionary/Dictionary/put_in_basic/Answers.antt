@@ -1,9 +1,12 @@
-use Rattle.std.proofs.Common.{◌≡◌, ℕ, ◌+◌, ◌<◌, ◌∙◌, ap, sym, subst, arith, List, to_z, of_z, w64}
+use Rattle.std.proofs.Common.{◌≡◌, ◌≢◌, ℕ, ◌+◌, ◌<◌, ◌≤◌, ◌∙◌, ap, sym, subst, arith, length, List, to_z, of_z, w64}
 use Rattle.std.proofs.lemmas.Result.{on_ok_weaker, on_err_weaker}
 use Rattle.std.proofs.lemmas.Int.{to_z-of_z}
 use Rattle.std.specs.Prelude.{OnOk, OnErr}
 use lib.IntN.{ℤ}
-use Rattle.rob_simplex.specs.Dictionaries.{Table, positions, spare_column, IsFree}
+use Rattle.std.proofs.lemmas.List.{length-set}
+use Rattle.rob_simplex.specs.Dictionaries.{Table, positions, width_of, basic_columns, spare_column, rows_of, kept_row_of, IsFree}
+use Rattle.rob_simplex.proofs.JudgingLemmas.{stands_own}
+use Rattle.rob_simplex.proofs.OwnEntries.{own_positive, keeps_positive, keeps_set}
 use Rattle.rob_simplex.specs.Lowering.{HasCleared, HasRefusedCost}
 use Rattle.rob_linear.specs.Stages.{truncated}
 use Rattle.rob_simplex.proofs.FreeColumns.{spare_free}
@@ -89,6 +92,20 @@ lower_and_clear-cleared-requires-clause-zero g c =
     let s = c.self.inside.columns + c.len.result + 3 in
     let es : c.self.inside.columns + c.len.result + 3 ≡ spare_column c.args.self.now.columns (positions c.args.self.now) = omega arith in
     zero1 c.requires.stands.0 c.args.column jl c.args.self.now h c.args.i c.requires.basic.0 c.requires.basic.1 s es c.replace.new.self c.replace.ensures.basis c.replace.ensures.columns c.replace.ensures.rows
+
+pub lower_and_clear-cleared-requires-clause-own : goal.lower_and_clear-cleared-requires-clause-own
+lower_and_clear-cleared-requires-clause-own g c =
+    let h = c.requires.stands.1 in
+    let en : c.self.inside.columns ≡ c.args.self.now.columns = ap (λ (t : Table). t.columns) c.self.view_is in
+    let em : c.len.result ≡ positions c.args.self.now = c.len.ensures ∙ c.self.inside.basis.ok.0 ∙ ap (λ (t : Table). positions t) c.self.view_is in
+    let s = c.self.inside.columns + c.len.result + 3 in
+    let es : c.self.inside.columns + c.len.result + 3 ≡ spare_column c.args.self.now.columns (positions c.args.self.now) = omega arith in
+    let m1 : positions c.replace.new.self ≡ positions c.args.self.now = ap length c.replace.ensures.basis ∙ length-set c.args.self.now.basis c.args.i s in
+    let inside = subst (λ (t : Table). (k : ℕ) → k ≤ positions t → basic_columns t.columns t.basis k < width_of t) c.self.view_is c.self.invariant.placed.basic_in in
+    let alone = (λ (k : ℕ) (kl : k ≤ positions c.args.self.now) (d : k ≢ c.args.i). ap (rows_of c.args.self.now k) es ∙ h.closed.zero k kl) in
+    keeps_set (positions c.replace.new.self + 1) c.args.i s c.args.self.now c.replace.new.self c.replace.ensures.basis c.replace.ensures.columns (c.replace.ensures.rows alone) inside
+    (λ z. c.replace.ensures.kept (ap (kept_row_of c.args.self.now) es ∙ z))
+    (keeps_positive (positions c.replace.new.self + 1) c.args.i c.args.self.now (omega (arith, m1)) (own_positive c.args.self.now (stands_own (truncated c.requires.stands.0 c.args.column) c.args.self.now h)))
 
 pub replace-requires-2-clause-free : goal.replace-requires-2-clause-free
 replace-requires-2-clause-free g c =

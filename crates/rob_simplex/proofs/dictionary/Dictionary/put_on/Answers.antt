@@ -1,4 +1,4 @@
-use Rattle.std.proofs.Common.{◌≡◌, ℕ, ◌≤◌, ◌∙◌, refl, sym, subst, arith, List, nat_abs, get_or, add-one, to_z, of_z, w64}
+use Rattle.std.proofs.Common.{◌≡◌, ℕ, ◌-◌, ◌^◌, ◌≤◌, ◌∙◌, refl, sym, subst, arith, List, nat_abs, get_or, add-one, to_z, of_z, w64}
 use lib.IntN.{pos}
 use Rattle.rob_linear.specs.Vectors.{at}
 use Rattle.rob_linear.specs.Programs.{with_cost}
@@ -25,8 +25,8 @@ put_in-requires-clause-stands g c = (with_cost c.requires.stands.0 (at c.args.co
 
 pub loop-k-preserved : goal.loop-k-preserved
 loop-k-preserved g c =
-    let small : nat_abs (get_or c.args.cost.now c.loop-k.k (pos 0)) ≤ c.args.self.now.limit = c.requires.within c.loop-k.k (pos 0) c.loop-k-test.true in
-    let seen : to_z w64 (of_z w64 (get_or c.args.cost.now c.loop-k.k (pos 0))) ≡ get_or c.args.cost.now c.loop-k.k (pos 0) = seen_within c.args.self.now.limit (get_or c.args.cost.now c.loop-k.k (pos 0)) (omega (arith, c.drop_cost.ensures.bound, c.drop_cost.ensures.limit)) small in
+    let small : nat_abs (get_or c.args.cost.now c.loop-k.k (pos 0)) ≤ 2 ^ 62 - 1 = c.requires.within c.loop-k.k (pos 0) c.loop-k-test.true in
+    let seen : to_z w64 (of_z w64 (get_or c.args.cost.now c.loop-k.k (pos 0))) ≡ get_or c.args.cost.now c.loop-k.k (pos 0) = seen_within (2 ^ 62 - 1) (get_or c.args.cost.now c.loop-k.k (pos 0)) (omega arith) small in
     record {
       stands = λ P h. subst (λ (k : ℕ). StandsFor (truncated (with_cost P (at c.args.cost.now)) k) c.put_in.new.self) (sym (add-one c.loop-k.k)) (c.in-Ok.ensures.put (with_cost P (at c.args.cost.now)) (sym seen) (c.loop-k.invariant.stands P h));
       basis = c.put_in.ensures.basis ∙ c.loop-k.invariant.basis;
@@ -38,8 +38,8 @@ loop-k-preserved g c =
 
 pub returns-in-Err-clause-wide : goal.returns-in-Err-clause-wide
 returns-in-Err-clause-wide g c P h =
-    let small : nat_abs (get_or c.args.cost.now c.loop-k.k (pos 0)) ≤ c.args.self.now.limit = c.requires.within c.loop-k.k (pos 0) c.loop-k-test.true in
-    let seen : to_z w64 (of_z w64 (get_or c.args.cost.now c.loop-k.k (pos 0))) ≡ get_or c.args.cost.now c.loop-k.k (pos 0) = seen_within c.args.self.now.limit (get_or c.args.cost.now c.loop-k.k (pos 0)) (omega (arith, c.drop_cost.ensures.bound, c.drop_cost.ensures.limit)) small in
+    let small : nat_abs (get_or c.args.cost.now c.loop-k.k (pos 0)) ≤ 2 ^ 62 - 1 = c.requires.within c.loop-k.k (pos 0) c.loop-k-test.true in
+    let seen : to_z w64 (of_z w64 (get_or c.args.cost.now c.loop-k.k (pos 0))) ≡ get_or c.args.cost.now c.loop-k.k (pos 0) = seen_within (2 ^ 62 - 1) (get_or c.args.cost.now c.loop-k.k (pos 0)) (omega arith) small in
     subst (λ (b : List ℕ). IsOwnWideAt c.args.self.now.limit (with_cost P (at c.args.cost.now)) (columns_of b) P.m) c.loop-k.invariant.basis
     (subst (λ (l : ℕ). IsOwnWideAt l (with_cost P (at c.args.cost.now)) (columns_of c.loop-k.self.basis) P.m) c.loop-k.invariant.limit
     (c.in-Err.ensures.wide (with_cost P (at c.args.cost.now)) (sym seen) (c.loop-k.invariant.stands P h)))

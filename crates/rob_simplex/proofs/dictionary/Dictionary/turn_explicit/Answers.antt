@@ -8,6 +8,7 @@ use Rattle.rob_simplex.specs.Explicit.{HasTurnedExplicit}
 use Rattle.rob_simplex.proofs.WrittenBack.{read_at}
 use Rattle.rob_simplex.proofs.SecondPhase.{IsSmall}
 use Rattle.rob_simplex.proofs.EntryLemmas.{small_entries}
+use Rattle.rob_simplex.proofs.OwnEntries.{keeps_explicit}
 use Rattle.rob_simplex.proofs.ExplicitTurns.{explicit_own, explicit_free, explicit_bounded, explicit_turned, explicit_refused, explicit_ends}
 use Rattle.rob_simplex.proofs.dictionary.Dictionary.turn_explicit.Goals as goal
 
@@ -36,12 +37,15 @@ pivot-requires-clause-free g c =
     explicit_free c.requires.stands.0 c.args.self.now c.requires.stands.1.holds c.in-Some.column
     (subst (λ (i : ℕ). FirstNegative (c.args.self.now.columns + positions c.args.self.now) (rows_of c.args.self.now i) c.in-Some.column) em c.in-Some.ensures.first)
 
+pub pivot-requires-clause-own : goal.pivot-requires-clause-own
+pivot-requires-clause-own g c = keeps_explicit c.requires.stands.0 (c.len-m.result + 2) c.in-Some-leaving.row c.args.self.now c.requires.stands.1.holds
+
 pub returns-in-Ok-clause-turned : goal.returns-in-Ok-clause-turned
 returns-in-Ok-clause-turned g c P h =
     let em : c.len-m.result ≡ positions c.args.self.now = c.len-m.ensures ∙ c.self.inside.basis.ok.0 ∙ ap (λ (t : Table). positions t) c.self.view_is in
     let en : c.self.inside.columns ≡ c.args.self.now.columns = ap (λ (t : Table). t.columns) c.self.view_is in
     let small : IsSmall c.args.self.now = subst IsSmall c.self.view_is
-    (small_entries c.self.inside.limit c.self.inside.columns c.self.inside.basis.items c.self.inside.places.items c.self.inside.near.items c.self.inside.rows.items c.self.inside.bounds.items (length c.self.inside.pivot_row.entries) c.self.invariant) in
+    (small_entries g.E.Entry.top c.self.inside.columns c.self.inside.basis.items c.self.inside.places.items c.self.inside.near.items c.self.inside.rows c.self.inside.bounds.items (length c.self.inside.pivot_row.entries) c.self.invariant) in
     let row_in : c.in-Some-leaving.row < positions c.args.self.now = c.in-Some-leaving.ensures.first.inside in
     let ei : length c.self.inside.basis.items ≡ positions c.args.self.now = ap (λ (t : Table). positions t) c.self.view_is in
     let el : c.index-left.result.now ≡ columns_of c.args.self.now.basis c.in-Some-leaving.row =

@@ -1,13 +1,15 @@
-use Rattle.std.proofs.Common.{sym, refl, ap, ◌∙◌, subst, arith}
+use Rattle.std.proofs.Common.{◌≤◌, sym, refl, ap, ◌∙◌, subst, arith}
 use Rattle.rob_linear.specs.Vectors.{at}
 use Rattle.rob_linear.specs.Programs.{with_cost}
 use Rattle.rob_linear.specs.Paths.{LastFrom}
-use Rattle.rob_rows.specs.PrimitiveParts.{IsWithin}
 use Rattle.rob_simplex.specs.Endings.{IsOptimumAt, IsRayAt}
 use Rattle.rob_linear.specs.WideRows.{HasWideRowFrom}
 use Rattle.rob_simplex.specs.declared.state.State.TheVariants.{Optimal, Unbounded}
 use Rattle.rob_simplex.specs.Dictionaries.{columns_of}
+use Rattle.rob_simplex.specs.Judging.{Tells}
+use Rattle.rob_simplex.specs.PathEnds.{PathStopsFrom}
 use Rattle.rob_simplex.specs.Phases.{EndsFrom}
+use Rattle.rob_simplex.proofs.JudgingLemmas.{limit_below}
 use Rattle.rob_simplex.specs.Solvers.{Solver}
 use Rattle.rob_simplex.proofs.Solved.{optimum_from, ray_from}
 use Rattle.rob_simplex.proofs.Solving.{resumed_stands, sound_optimal, sound_unbounded, sound_stopped}
@@ -15,68 +17,75 @@ use Rattle.rob_simplex.proofs.work.Work.resume.Goals as goal
 
 pub go_on-requires : goal.go_on-requires
 go_on-requires g c =
-    let v : Solver = record { state = c.self.inside.state; dictionary = c.self.inside.dictionary; weights = c.self.inside.weights.items } in
+    let v : Solver = record { state = c.self.inside.state; dictionary = c.self.inside.dictionary; weights = c.self.inside.weights } in
     record {
       stands = (c.requires.stands.0, resumed_stands c.requires.stands.0 v c.args.self.now c.self.view_is c.requires.stands.1);
       size = c.requires.size ∙ sym (ap (λ (u : Solver). u.columns) c.self.view_is);
-      within = subst (λ l. IsWithin l c.args.cost.now) (sym c.self.invariant.limit_is) c.requires.within;
+      within = c.requires.within;
+      limit = subst (λ l. g.N.Exact.limit ≤ l) (sym c.self.invariant.limit_is) (limit_below g.N.Exact.limit g.E.Entry.top g.met.N.Exact.limit_high g.met.E.Entry.top_low);
     }
 
 pub invariant_of-self : goal.invariant_of-self
 invariant_of-self g c =
-    let v : Solver = record { state = c.self.inside.state; dictionary = c.self.inside.dictionary; weights = c.self.inside.weights.items } in
+    let v : Solver = record { state = c.self.inside.state; dictionary = c.self.inside.dictionary; weights = c.self.inside.weights } in
     let P = c.requires.stands.0 in
-    let told = subst (λ e. EndsFrom (with_cost P (at c.args.cost.now)) (columns_of c.self.inside.dictionary.basis) e c.go_on.new.self) c.in-Ok-None.field-0-is (c.in-Ok-None.ensures.told P (resumed_stands P v c.args.self.now c.self.view_is c.requires.stands.1)) in
-    sound_optimal g.N.Exact.limit v c.self.invariant c.go_on.new.self c.self.inside.weights.items c.go_on.ensures.limit c.go_on.ensures.columns c.go_on.ensures.positions c.self.invariant.weights_size c.self.invariant.weights_within (with_cost P (at c.args.cost.now)) told.own
+    let told = subst (λ e. EndsFrom (with_cost P (at c.args.cost.now)) (columns_of c.self.inside.dictionary.basis) e c.go_on.new.self × Tells g.N.Exact.limit e c.go_on.new.self) c.in-Ok-None.field-0-is (c.in-Ok-None.ensures.told P (resumed_stands P v c.args.self.now c.self.view_is c.requires.stands.1)) in
+    sound_optimal g.E.Entry.top g.N.Exact.limit v c.self.invariant c.go_on.new.self c.self.inside.weights c.go_on.ensures.limit c.go_on.ensures.columns c.go_on.ensures.positions c.self.invariant.weights_size (with_cost P (at c.args.cost.now)) told.0.own told.1
 
 pub invariant_of-self-in-Ok-Some : goal.invariant_of-self-in-Ok-Some
 invariant_of-self-in-Ok-Some g c =
-    let v : Solver = record { state = c.self.inside.state; dictionary = c.self.inside.dictionary; weights = c.self.inside.weights.items } in
+    let v : Solver = record { state = c.self.inside.state; dictionary = c.self.inside.dictionary; weights = c.self.inside.weights } in
     let P = c.requires.stands.0 in
-    let told = subst (λ e. EndsFrom (with_cost P (at c.args.cost.now)) (columns_of c.self.inside.dictionary.basis) e c.go_on.new.self) c.in-Ok-Some.field-0-is (c.in-Ok-Some.ensures.told P (resumed_stands P v c.args.self.now c.self.view_is c.requires.stands.1)) in
-    sound_unbounded g.N.Exact.limit v c.self.invariant c.go_on.new.self c.self.inside.weights.items c.go_on.ensures.limit c.go_on.ensures.columns c.go_on.ensures.positions c.self.invariant.weights_size c.self.invariant.weights_within (with_cost P (at c.args.cost.now)) told.own c.in-Ok-Some.column told.ends.0.inside
+    let told = subst (λ e. EndsFrom (with_cost P (at c.args.cost.now)) (columns_of c.self.inside.dictionary.basis) e c.go_on.new.self × Tells g.N.Exact.limit e c.go_on.new.self) c.in-Ok-Some.field-0-is (c.in-Ok-Some.ensures.told P (resumed_stands P v c.args.self.now c.self.view_is c.requires.stands.1)) in
+    sound_unbounded g.E.Entry.top g.N.Exact.limit v c.self.invariant c.go_on.new.self c.self.inside.weights c.go_on.ensures.limit c.go_on.ensures.columns c.go_on.ensures.positions c.self.invariant.weights_size (with_cost P (at c.args.cost.now)) told.0.own c.in-Ok-Some.column told.0.ends.0.inside told.1
 
 pub invariant_of-self-in-Err : goal.invariant_of-self-in-Err
 invariant_of-self-in-Err g c =
-    let v : Solver = record { state = c.self.inside.state; dictionary = c.self.inside.dictionary; weights = c.self.inside.weights.items } in
-    sound_stopped g.N.Exact.limit v c.self.invariant c.go_on.new.self c.self.inside.weights.items c.go_on.ensures.limit c.go_on.ensures.columns c.go_on.ensures.positions c.self.invariant.weights_size c.self.invariant.weights_within
+    let v : Solver = record { state = c.self.inside.state; dictionary = c.self.inside.dictionary; weights = c.self.inside.weights } in
+    sound_stopped g.E.Entry.top g.N.Exact.limit v c.self.invariant c.go_on.new.self c.self.inside.weights c.go_on.ensures.limit c.go_on.ensures.columns c.go_on.ensures.positions c.self.invariant.weights_size
 
 pub returns-in-Ok-None-clause-resumed : goal.returns-in-Ok-None-clause-resumed
 returns-in-Ok-None-clause-resumed g c P h =
-    let v : Solver = record { state = c.self.inside.state; dictionary = c.self.inside.dictionary; weights = c.self.inside.weights.items } in
-    let told = subst (λ e. EndsFrom (with_cost P (at c.args.cost.now)) (columns_of c.self.inside.dictionary.basis) e c.go_on.new.self) c.in-Ok-None.field-0-is (c.in-Ok-None.ensures.told P (resumed_stands P v c.args.self.now c.self.view_is h)) in
-    let s : Solver = record { state = Optimal; dictionary = c.go_on.new.self; weights = c.self.inside.weights.items } in
+    let v : Solver = record { state = c.self.inside.state; dictionary = c.self.inside.dictionary; weights = c.self.inside.weights } in
+    let told = subst (λ e. EndsFrom (with_cost P (at c.args.cost.now)) (columns_of c.self.inside.dictionary.basis) e c.go_on.new.self × Tells g.N.Exact.limit e c.go_on.new.self) c.in-Ok-None.field-0-is (c.in-Ok-None.ensures.told P (resumed_stands P v c.args.self.now c.self.view_is h)) in
+    let s : Solver = record { state = Optimal; dictionary = c.go_on.new.self; weights = c.self.inside.weights } in
     subst (λ (u : Solver). IsOptimumAt (LastFrom (with_cost P (at c.args.cost.now)) (columns_of u.basis)) (with_cost P (at c.args.cost.now)) s) c.self.view_is
-    (optimum_from (with_cost P (at c.args.cost.now)) (columns_of c.self.inside.dictionary.basis) s refl told)
+    (optimum_from (with_cost P (at c.args.cost.now)) (columns_of c.self.inside.dictionary.basis) s refl told.0)
 
 pub returns-in-Ok-Some-clause-resumed : goal.returns-in-Ok-Some-clause-resumed
 returns-in-Ok-Some-clause-resumed g c P h =
-    let v : Solver = record { state = c.self.inside.state; dictionary = c.self.inside.dictionary; weights = c.self.inside.weights.items } in
-    let told = subst (λ e. EndsFrom (with_cost P (at c.args.cost.now)) (columns_of c.self.inside.dictionary.basis) e c.go_on.new.self) c.in-Ok-Some.field-0-is (c.in-Ok-Some.ensures.told P (resumed_stands P v c.args.self.now c.self.view_is h)) in
-    let s : Solver = record { state = Unbounded c.in-Ok-Some.column; dictionary = c.go_on.new.self; weights = c.self.inside.weights.items } in
+    let v : Solver = record { state = c.self.inside.state; dictionary = c.self.inside.dictionary; weights = c.self.inside.weights } in
+    let told = subst (λ e. EndsFrom (with_cost P (at c.args.cost.now)) (columns_of c.self.inside.dictionary.basis) e c.go_on.new.self × Tells g.N.Exact.limit e c.go_on.new.self) c.in-Ok-Some.field-0-is (c.in-Ok-Some.ensures.told P (resumed_stands P v c.args.self.now c.self.view_is h)) in
+    let s : Solver = record { state = Unbounded c.in-Ok-Some.column; dictionary = c.go_on.new.self; weights = c.self.inside.weights } in
     subst (λ (u : Solver). IsRayAt (LastFrom (with_cost P (at c.args.cost.now)) (columns_of u.basis)) (with_cost P (at c.args.cost.now)) s) c.self.view_is
-    (ray_from (with_cost P (at c.args.cost.now)) (columns_of c.self.inside.dictionary.basis) s refl told)
+    (ray_from (with_cost P (at c.args.cost.now)) (columns_of c.self.inside.dictionary.basis) s refl told.0)
 
 pub returns-in-Err-clause-resumed : goal.returns-in-Err-clause-resumed
 returns-in-Err-clause-resumed g c P h =
-    let v : Solver = record { state = c.self.inside.state; dictionary = c.self.inside.dictionary; weights = c.self.inside.weights.items } in
+    let v : Solver = record { state = c.self.inside.state; dictionary = c.self.inside.dictionary; weights = c.self.inside.weights } in
     let told = c.in-Err.ensures.told P (resumed_stands P v c.args.self.now c.self.view_is h) in (
       refl,
       subst (λ (u : Solver). HasWideRowFrom g.N.Exact.limit (with_cost P (at c.args.cost.now)) (columns_of u.basis) (columns_of c.go_on.new.self.basis) c.in-Err.row) c.self.view_is
-          (subst (λ l. HasWideRowFrom l (with_cost P (at c.args.cost.now)) (columns_of c.self.inside.dictionary.basis) (columns_of c.go_on.new.self.basis) c.in-Err.row) c.self.invariant.limit_is told),
+          told,
     )
 
 pub returns-in-Ok-None-clause-resumable : goal.returns-in-Ok-None-clause-resumable
 returns-in-Ok-None-clause-resumable g c P h =
-    let v : Solver = record { state = c.self.inside.state; dictionary = c.self.inside.dictionary; weights = c.self.inside.weights.items } in
-    let told = subst (λ e. EndsFrom (with_cost P (at c.args.cost.now)) (columns_of c.self.inside.dictionary.basis) e c.go_on.new.self) c.in-Ok-None.field-0-is (c.in-Ok-None.ensures.told P (resumed_stands P v c.args.self.now c.self.view_is h)) in
-    record { point = tt; own = told.own }
+    let v : Solver = record { state = c.self.inside.state; dictionary = c.self.inside.dictionary; weights = c.self.inside.weights } in
+    let told = subst (λ e. EndsFrom (with_cost P (at c.args.cost.now)) (columns_of c.self.inside.dictionary.basis) e c.go_on.new.self × Tells g.N.Exact.limit e c.go_on.new.self) c.in-Ok-None.field-0-is (c.in-Ok-None.ensures.told P (resumed_stands P v c.args.self.now c.self.view_is h)) in
+    record { point = tt; own = told.0.own }
 
 pub returns-in-Ok-Some-clause-resumable : goal.returns-in-Ok-Some-clause-resumable
 returns-in-Ok-Some-clause-resumable g c P h =
-    let v : Solver = record { state = c.self.inside.state; dictionary = c.self.inside.dictionary; weights = c.self.inside.weights.items } in
-    let told = subst (λ e. EndsFrom (with_cost P (at c.args.cost.now)) (columns_of c.self.inside.dictionary.basis) e c.go_on.new.self) c.in-Ok-Some.field-0-is (c.in-Ok-Some.ensures.told P (resumed_stands P v c.args.self.now c.self.view_is h)) in
-    record { point = tt; own = told.own }
+    let v : Solver = record { state = c.self.inside.state; dictionary = c.self.inside.dictionary; weights = c.self.inside.weights } in
+    let told = subst (λ e. EndsFrom (with_cost P (at c.args.cost.now)) (columns_of c.self.inside.dictionary.basis) e c.go_on.new.self × Tells g.N.Exact.limit e c.go_on.new.self) c.in-Ok-Some.field-0-is (c.in-Ok-Some.ensures.told P (resumed_stands P v c.args.self.now c.self.view_is h)) in
+    record { point = tt; own = told.0.own }
 
 pub overflow_cast-result : goal.overflow_cast-result
 overflow_cast-result g c = omega (arith, c.in-Err.ensures.position, c.self.invariant.few)
+
+pub returns-in-Err-clause-caused : goal.returns-in-Err-clause-caused
+returns-in-Err-clause-caused g c P h =
+    let v : Solver = record { state = c.self.inside.state; dictionary = c.self.inside.dictionary; weights = c.self.inside.weights } in
+    subst (λ (u : Solver). PathStopsFrom g.N.Exact.limit (with_cost P (at c.args.cost.now)) (columns_of u.basis) c.go_on.new.self c.in-Err.row) c.self.view_is
+    (c.in-Err.ensures.caused P (resumed_stands P v c.args.self.now c.self.view_is h))

@@ -1,24 +1,14 @@
-use Rattle.std.proofs.Common.{◌∙◌, ap, sym, subst, length, take, drop, ◌++◌}
+use Rattle.std.proofs.Common.{◌∙◌, sym, subst}
 use Rattle.rob_simplex.specs.Solvers.{Solver, IsSound}
-use Rattle.rob_simplex.proofs.WrittenBack.{written_back}
 use Rattle.rob_simplex.proofs.CopiedTables.{same_solver}
 use Rattle.rob_simplex.proofs.work.Work.set_to.Goals as goal
 
 pub returns : goal.returns
-returns g c =
-    let ew = written_back c.copy_from_slice.new.self c.self.inside.weights.items c.self.inside.weights.len (c.copy_from_slice.auto.self ∙ ap length c.as_mut_slice.ensures.value ∙ sym c.self.inside.weights.ok.0)
-    ∙ c.copy_from_slice.ensures.after ∙ c.as_slice.ensures.value in
-    record {
-      same = same_solver c.other.inside.state c.copy_from.new.self c.other.inside.dictionary
-          (take c.self.inside.weights.len (c.copy_from_slice.new.self ++ drop (length c.copy_from_slice.new.self) c.self.inside.weights.items)) c.other.inside.weights.items c.copy_from.ensures.same ew
-          ∙ c.other.view_is;
-    }
+returns g c = record {
+  same = same_solver c.other.inside.state c.copy_from.new.self c.other.inside.dictionary c.copy_from-2.new.self c.other.inside.weights c.copy_from.ensures.same c.copy_from-2.ensures.same ∙ c.other.view_is;
+}
 
 pub invariant_of-self : goal.invariant_of-self
 invariant_of-self g c =
-    let ew = written_back c.copy_from_slice.new.self c.self.inside.weights.items c.self.inside.weights.len (c.copy_from_slice.auto.self ∙ ap length c.as_mut_slice.ensures.value ∙ sym c.self.inside.weights.ok.0)
-    ∙ c.copy_from_slice.ensures.after ∙ c.as_slice.ensures.value in
-    subst (λ (s : Solver). IsSound g.N.Exact.limit s)
-    (sym (same_solver c.other.inside.state c.copy_from.new.self c.other.inside.dictionary
-    (take c.self.inside.weights.len (c.copy_from_slice.new.self ++ drop (length c.copy_from_slice.new.self) c.self.inside.weights.items)) c.other.inside.weights.items c.copy_from.ensures.same ew))
-    c.other.invariant
+    subst (λ (s : Solver). IsSound g.E.Entry.top g.N.Exact.limit s)
+    (sym (same_solver c.other.inside.state c.copy_from.new.self c.other.inside.dictionary c.copy_from-2.new.self c.other.inside.weights c.copy_from.ensures.same c.copy_from-2.ensures.same)) c.other.invariant

@@ -2,7 +2,11 @@ use Rattle.std.proofs.Common.{◌<◌, List, length, subst, ap, ◌∙◌, suc, 
 use lib.IntN.{ℤ}
 use Rattle.rob_worst.specs.Vectors.{plan_of}
 use Rattle.rob_worst.proofs.VectorLemmas.{plan_count}
+use Rattle.rob_dualize.proofs.MakingLemmas.{set_of_one}
 use Rattle.rob_worst.proofs.finder.Finder.at_plan.Goals as goal
+
+pub search-requires-clause-model : goal.search-requires-clause-model
+search-requires-clause-model g c = set_of_one c.args.forms.now c.args.set.now c.requires.model
 
 pub returns-clause-answer : goal.returns-clause-answer
 returns-clause-answer g c = λ m model f s.

@@ -1,0 +1,52 @@
+use Rattle.std.proofs.Common.{◌≡◌, length, arith}
+use Rattle.std.proofs.lemmas.Result.{IfErr-weaker}
+use Rattle.rob_linear.specs.Programs.{Program}
+use Rattle.rob_rows.specs.LinearPrograms.{program_of}
+use Rattle.rob_counterpart.proofs.TabulateLemmas.{length-tabulate}
+use Rattle.rob_solver.specs.Solving.{IsSolved, IsStopped}
+use Rattle.rob_dualize.specs.Ending.{IsSolvedAs, IsStoppedAs}
+use Rattle.rob_dualize.specs.Told.{listed}
+use Rattle.rob_dualize.specs.Wholes.{wholes, counterpart_of}
+use Rattle.rob_dualize.proofs.CounterpartLists.{listed_same, reform_within}
+use Rattle.rob_dualize.proofs.MakingLemmas.{ok_weaker, has_stopped}
+use Rattle.rob_dualize.proofs.Soundness.{elaborated_weaker, forms_sound, set_sound, form_fits, left_fits, right_fits, sense_small}
+use Rattle.rob_dualize.proofs.ToldLemmas.{listed_is}
+use Rattle.rob_dualize.proofs.route.solve_counterpart.Goals as goal
+
+pub solve-requires-clause-ready : goal.solve-requires-clause-ready
+solve-requires-clause-ready g c =
+    let model = elaborated_weaker 4611686018427387903 c.args.forms.now c.args.set.now g.met.N.Exact.limit_high c.requires.model in
+    record {
+      sound_forms = forms_sound c.args.forms.now c.args.set.now model;
+      sound_set = set_sound c.args.forms.now c.args.set.now model;
+      few = c.requires.few;
+    }
+
+pub solve-requires-clause-few : goal.solve-requires-clause-few
+solve-requires-clause-few g c =
+    let Q : Program = counterpart_of c.args.forms.now c.args.set.now in
+    let n : length (listed Q).c ≡ Q.n = length-tabulate Q.n Q.c in
+    let m : length (listed Q).b ≡ Q.m = length-tabulate Q.m Q.b in
+    omega (arith, n, m, c.requires.few)
+
+pub solve-requires-clause-numbers : goal.solve-requires-clause-numbers
+solve-requires-clause-numbers g c =
+    let limit = g.N.Exact.limit in
+    let h = c.requires.model.forms_fit in
+    let k = c.requires.model.set_fits in
+    let Q : Program = counterpart_of c.args.forms.now c.args.set.now in
+    reform_within (wholes c.args.forms.now c.args.set.now) limit (form_fits limit c.args.forms.now c.args.set.now h k) (left_fits limit c.args.forms.now c.args.set.now h k)
+    (right_fits limit c.args.forms.now c.args.set.now h k) (sense_small limit c.args.forms.now g.met.N.Exact.limit_low) (listed Q) (listed_is Q)
+
+pub returns-clause-solved : goal.returns-clause-solved
+returns-clause-solved g c =
+    let Q : Program = counterpart_of c.args.forms.now c.args.set.now in
+    ok_weaker (IsSolved (program_of (listed Q))) (IsSolvedAs Q) (λ s h. record { program = program_of (listed Q); same = listed_same Q (listed Q) (listed_is Q); answer = h })
+    c.solve.result c.solve.ensures.solved
+
+pub returns-clause-stopped : goal.returns-clause-stopped
+returns-clause-stopped g c =
+    let Q : Program = counterpart_of c.args.forms.now c.args.set.now in
+    IfErr-weaker c.solve.result (IsStopped g.N.Exact.limit (program_of (listed Q))) (IsStoppedAs g.N.Exact.limit Q)
+    (has_stopped g.N.Exact.limit (program_of (listed Q)) Q (listed_same Q (listed Q) (listed_is Q)))
+    c.solve.ensures.stopped

@@ -1,0 +1,41 @@
+-- What is known of a program that was solved over narrow rows or over deep ones, or over neither.
+use Rattle.std.specs.Prelude.{◌≡◌, ℕ, ◌≤◌, Result, MatchResult, ⊤}
+use Rattle.rob_linear.specs.Programs.{Program}
+use Rattle.rob_number.specs.Counts.{raised}
+use Rattle.rob_simplex.specs.Endings.{HasSolved, HasAnswered, HasStopped, IsCaused}
+use Rattle.rob_simplex.specs.Resuming.{CanResume}
+use Rattle.rob_simplex.specs.Solvers.{positions, HasPoint}
+use Rattle.rob_solver.specs.Depths.{deep_limit}
+use Rattle.rob_solver.specs.declared.solving.Solved.{Solved}
+use Rattle.rob_solver.specs.declared.solving.Stopped.{Stopped}
+use Rattle.rob_solver.specs.declared.solving.Stopped.TheVariants.{Wide, Memory}
+
+-- the answer is true of the program, and where there is a point another cost can be put on the rows
+pub record IsSolved {N : Type 0} (P : Program) (solved : Solved N) : Type 0 where
+  pub rows : P.m ≡ positions solved.solver
+  pub columns : P.n ≡ solved.solver.columns
+  pub answer : HasSolved P solved.kind solved.solver
+  pub answered : HasAnswered solved.kind solved.solver
+  pub resumable : HasPoint solved.solver → CanResume P solved.solver
+
+-- the solver stands at a basis on the program's path where the row of the told position is wide; want of memory is free
+abbrev pub IsStopped : {N : Type 0} → ℕ → Program → Stopped N → Type 0
+IsStopped limit P (Wide solver stop) = (P.m ≡ positions solver) × HasStopped limit P stop solver
+IsStopped limit P Memory = ⊤
+
+-- why: the rows are deep ones, and the row of that position has an entry over their limit, 2^126 - 1; or at the last
+-- basis of the program's path a number is told there that is over the limit of what is told
+abbrev pub IsCausedDeep : {N : Type 0} → ℕ → Program → Stopped N → Type 0
+IsCausedDeep limit P (Wide solver stop) = (solver.limit ≡ deep_limit) × IsCaused limit P stop solver
+IsCausedDeep limit P Memory = ⊤
+
+-- wide results were raised once where a row is told to be wide, and else stand
+abbrev pub CountsStopped : {N : Type 0} → ℕ → ℕ → Stopped N → Type 0
+CountsStopped before now (Wide solver stop) = now ≡ raised before
+CountsStopped before now Memory = now ≡ before
+
+-- of a ledger's two counts, the operations never fell, and the wide results rose exactly where a row is told to be wide
+pub record CountsSolving {S N : Type 0} (ops_of wides_of : S → ℕ) (before now : S)
+    (result : Result (Solved N) (Stopped N)) : Type 0 where
+  pub ops : ops_of before ≤ ops_of now
+  pub wides : MatchResult result (λ _. wides_of now ≡ wides_of before) (CountsStopped (wides_of before) (wides_of now))

@@ -1,0 +1,131 @@
+// A search, from the last basis of the set's program: on the rows that stand, and on deeper ones where those stop.
+
+ghost use Rattle.std.specs.Prelude.{◌≡◌, ◌<◌, ℕ, Bool, List, length, IfOk, IfSome, MatchResult};
+ghost use Rattle.rob_algebra.specs.Fraction.{Fraction};
+ghost use Rattle.rob_meaning.specs.Forms.{matrices, form_columns};
+ghost use Rattle.rob_meaning.specs.RobustModel.{RobustModel};
+ghost use Rattle.rob_number.specs.Counts.{NeverFell};
+ghost use Rattle.rob_sets.specs.SetForm.{IsSetForm};
+ghost use Rattle.rob_simplex.specs.Counting.{CountsRows};
+ghost use Rattle.rob_simplex.specs.Solvers.{positions};
+ghost use Rattle.rob_dualize.specs.SetSolving.{program_of_set, IsFewSet, IsSetOfModel, IsSolved};
+ghost use Rattle.rob_dualize.specs.Solving.{CountsStop};
+ghost use Rattle.rob_worst.specs.Finders.{HasStoppedSearch, TellsTask};
+ghost use Rattle.rob_worst.specs.Finding.{HasConstantWithin, HasSearchCause, Searches};
+ghost use Rattle.rob_worst.specs.Tasks.{FitsSet, IsTaskOf};
+
+use crate::reading::told;
+use crate::refusal::program;
+use crate::task::Task;
+use rob_cert::{Stop, Worst};
+use rob_dualize::set_program::deep_set;
+use rob_dualize::stop::{position, wide};
+use rob_number::{Exact, Ledger, Memory};
+use rob_sets::SetForm;
+use rob_simplex::LpStop;
+use rob_solver::Solver;
+use std::alloc::Global;
+
+/// Goes on with the task's cost from the last basis of the set's program, where the solver stands, and tells what is
+/// found there; or the rows stop it. A stop is not counted.
+pub fn go_on<N: Exact, L: Ledger>(
+    alloc: Global,
+    set: &SetForm,
+    task: &Task,
+    solver: &mut Solver<N>,
+    ledger: &mut L,
+) -> Result<Result<Worst<N>, LpStop>, Memory>
+    requires few { IsFewSet set.now }
+    requires task { FitsSet N.limit set.now.columns task.now }
+    requires solved { IsSolved (program_of_set set.now) solver.old }
+    ensures told { IfOk result (λ answer. MatchResult answer (TellsTask N.value set.now task.now)
+        (λ stop. HasStoppedSearch N.limit (program_of_set set.now) task.now.cost stop solver.new)) }
+    ensures within { IfOk result (λ answer. IfOk answer (HasConstantWithin N.limit)) }
+    ensures columns { solver.new.columns ≡ solver.old.columns }
+    ensures positions { positions solver.new ≡ positions solver.old }
+    ensures limit { solver.new.limit ≡ solver.old.limit }
+    ensures counted { CountsRows L.ops L.wides ledger.old ledger.new }
+{
+    match solver.resume(task.cost.items(), ledger) {
+        Ok(kind) => match told(alloc, set, task, kind, solver) {
+            Ok(worst) => Ok(Ok(worst)),
+            Err(Memory) => Err(Memory),
+        },
+        Err(stop) => Ok(Err(stop)),
+    }
+}
+
+/// The search where the rows stopped it: on deep rows, which are let go of behind the answer. Where the rows that
+/// stopped are deep ones, or deep ones don't lead to the last basis of the set's program, that stop is the answer.
+pub fn go_deeper<N: Exact, L: Ledger>(
+    alloc: Global,
+    set: &SetForm,
+    task: &Task,
+    search: &Solver<N>,
+    stop: LpStop,
+    ledger: &mut L,
+) -> Result<Worst<N>, Stop>
+    requires model { IsSetOfModel N.limit set.now }
+    requires few { IsFewSet set.now }
+    requires task { FitsSet N.limit set.now.columns task.now }
+    requires rows { length set.now.rows ≡ positions search.now }
+    requires stopped { HasStoppedSearch N.limit (program_of_set set.now) task.now.cost stop search.now }
+    ensures answer { (m : RobustModel) → IsSetForm m set.now
+        → (step : Bool) (i : ℕ) → i < length (matrices m) → (z : List Fraction) → length z ≡ form_columns m
+        → IsTaskOf m step i z task.now
+        → Searches N.value N.limit m step i z (L.wides ledger.old) (L.wides ledger.new) result }
+    ensures within { IfOk result (HasConstantWithin N.limit) }
+    ensures counted { NeverFell L.ops L.wides ledger.old ledger.new }
+{
+    match deeper(alloc, set, search, ledger) {
+        Ok(Some(mut deep)) => match go_on(alloc, set, task, &mut deep, ledger) {
+            Ok(Ok(worst)) => Ok(worst),
+            Ok(Err(stop)) => Err(refused(alloc, set, task, &deep, stop, ledger)),
+            Err(Memory) => Err(Stop::Memory),
+        },
+        Ok(None) => Err(refused(alloc, set, task, search, stop, ledger)),
+        Err(Memory) => Err(Stop::Memory),
+    }
+}
+
+/// A solver of the set's program over deep rows that stands at its last basis; nothing where the other one's rows are
+/// deep, or these don't lead there.
+fn deeper<N: Exact, L: Ledger>(
+    alloc: Global,
+    set: &SetForm,
+    other: &Solver<N>,
+    ledger: &mut L,
+) -> Result<Option<Solver<N>>, Memory>
+    requires model { IsSetOfModel N.limit set.now }
+    requires few { IsFewSet set.now }
+    ensures solved { IfOk result (λ found. IfSome found (λ solver. IsSolved (program_of_set set.now) solver)) }
+    ensures counted { CountsRows L.ops L.wides ledger.old ledger.new }
+{
+    if other.is_deep() {
+        return Ok(None);
+    }
+    deep_set(alloc, set, ledger)
+}
+
+/// The stop at the row where the solver stands, counted.
+fn refused<N: Exact, L: Ledger>(
+    alloc: Global,
+    set: &SetForm,
+    task: &Task,
+    solver: &Solver<N>,
+    stop: LpStop,
+    ledger: &mut L,
+) -> Stop
+    requires few { IsFewSet set.now }
+    requires rows { length set.now.rows ≡ positions solver.now }
+    requires stopped { HasStoppedSearch N.limit (program_of_set set.now) task.now.cost stop solver.now }
+    ensures cause { (m : RobustModel) → IsSetForm m set.now → (step : Bool) (i : ℕ) → (z : List Fraction)
+        → IsTaskOf m step i z task.now → HasSearchCause N.limit m step i z result }
+    ensures wides { CountsStop (L.wides ledger.old) (L.wides ledger.new) result }
+    ensures counted { NeverFell L.ops L.wides ledger.old ledger.new }
+{
+    ledger.wide();
+    let rows = set.rows.items().len() as u32;
+    let program = program(task.by_step, task.form);
+    wide(alloc, solver, program, rows, position(stop))
+}
