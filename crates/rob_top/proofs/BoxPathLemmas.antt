@@ -1,4 +1,5 @@
--- A path of branches that certificates allow: what its branches name, and what a spot of the box behind it names, is the model's.
+-- A path of branches that certificates allow: what its branches name, and what
+-- a spot of the box behind it names, is the model's.
 use Rattle.std.proofs.Common.{◌≡◌, ℕ, ◌<◌, List, [], ◌∷◌, ◌++◌, length, map, T, refl, sym, ap, subst, inl, inr, ◌⊎◌}
 use Rattle.rob_dualize.specs.Models.{IsWideIn, judged}
 use Rattle.rob_dualize.specs.Solving.{IsWideOnPath}
@@ -35,7 +36,8 @@ module _ (names : List ℕ) where
 
   -- its branches are on columns
   pub path_columns : (m n : RobustModel) (path : List declared.Branch) → T (are_bounded m.variables names)
-      → IsAllowedPath n names (map branch_of path) → Each (λ (b : declared.Branch). b.column < length (column_names m)) path
+      → IsAllowedPath n names (map branch_of path)
+      → Each (λ (b : declared.Branch). b.column < length (column_names m)) path
   path_columns m n [] bounded h = tt
   path_columns m n (b ∷ path) bounded h = (
     column_inside m names b.column bounded (allowed_named n (branch_of b) h.0),
@@ -43,7 +45,8 @@ module _ (names : List ℕ) where
   )
 
   -- the box has as many forms and set rows
-  pub path_counts : (m : RobustModel) (path : List Branch) → T (are_bounded m.variables names) → IsAllowedPath m names path
+  pub path_counts : (m : RobustModel) (path : List Branch) → T (are_bounded m.variables names)
+      → IsAllowedPath m names path
       → HasCountsOf (box m path) m
   path_counts m [] bounded h = same_self m
   path_counts m (b ∷ path) bounded h =
@@ -72,7 +75,8 @@ module _ (a b : RobustModel) (same : HasCountsOf a b) (lines : length a.set_line
   judged_moves (coefficients w e) h = where_moves w h
   judged_moves (clearing w numbers) h = where_moves w h
 
-  pub first_moves : (limit : ℕ) (n : RobustModel) (all : List Judged) (spot : Spot) → IsFirstWide limit n all spot → IsSpotOf a spot
+  pub first_moves : (limit : ℕ) (n : RobustModel) (all : List Judged) (spot : Spot)
+      → IsFirstWide limit n all spot → IsSpotOf a spot
       → IsSpotOf b spot
   first_moves limit n all spot first h =
       subst (λ (s : Spot). IsSpotOf b s) first.named
@@ -83,11 +87,21 @@ first_of_both : (limit : ℕ) (m : RobustModel) (xs ys : List Judged) (spot : Sp
     → IsFirstWide limit m xs spot ⊎ IsFirstWide limit m ys spot
 first_of_both limit m xs ys spot h = by xs h.before h.order h.none_before
   where
-    left : (zs before after : List Judged) → zs ≡ before ++ h.here ∷ after → NothingWide limit m before → IsFirstWide limit m zs spot
+    left : (zs before after : List Judged) → zs ≡ before ++ h.here ∷ after → NothingWide limit m before
+        → IsFirstWide limit m zs spot
     left zs before after order none =
-        record { before = before; here = h.here; after = after; order = order; none_before = none; wide = h.wide; named = h.named }
+        record {
+          before = before;
+          here = h.here;
+          after = after;
+          order = order;
+          none_before = none;
+          wide = h.wide;
+          named = h.named;
+        }
 
-    one_more : (z : Judged) (zs : List Judged) → (IsWideThere limit m z → ⊥) → IsFirstWide limit m zs spot → IsFirstWide limit m (z ∷ zs) spot
+    one_more : (z : Judged) (zs : List Judged) → (IsWideThere limit m z → ⊥) → IsFirstWide limit m zs spot
+        → IsFirstWide limit m (z ∷ zs) spot
     one_more z zs narrow k = record {
       before = z ∷ k.before;
       here = k.here;
@@ -108,9 +122,11 @@ first_of_both limit m xs ys spot h = by xs h.before h.order h.none_before
         let rest : zs ++ ys ≡ before ++ h.here ∷ h.after = cc in
         more z b same none.0 (by zs before rest none.1)
       where
-        more : (z b : Judged) → z ≡ b → (IsWideThere limit m b → ⊥) → IsFirstWide limit m zs spot ⊎ IsFirstWide limit m ys spot
+        more : (z b : Judged) → z ≡ b → (IsWideThere limit m b → ⊥) → IsFirstWide limit m zs spot
+            ⊎ IsFirstWide limit m ys spot
             → IsFirstWide limit m (z ∷ zs) spot ⊎ IsFirstWide limit m ys spot
-        more z b same narrow (inl k) = inl (one_more z zs (subst (λ (j : Judged). IsWideThere limit m j → ⊥) (sym same) narrow) k)
+        more z b same narrow (inl k) =
+            inl (one_more z zs (subst (λ (j : Judged). IsWideThere limit m j → ⊥) (sym same) narrow) k)
         more z b same narrow (inr k) = inr k
 
 pub judged_spot : (limit : ℕ) (m : RobustModel) (spot : Spot) → IsFirstWide limit m (judged m) spot → IsSpotOf m spot
@@ -139,9 +155,11 @@ spot_in limit m spot (inl first) = judged_spot limit m spot first
 spot_in limit m spot (inr wide) = program_spot limit m m spot wide.1
 
 -- what is wide in the box is told by the model's names
-pub box_spot : (limit : ℕ) (m : RobustModel) (names : List ℕ) (path : List Branch) (spot : Spot) → T (are_bounded m.variables names)
+pub box_spot : (limit : ℕ) (m : RobustModel) (names : List ℕ) (path : List Branch) (spot : Spot)
+    → T (are_bounded m.variables names)
     → IsAllowedPath m names path → IsWideIn limit (box m path) spot → IsSpotOf m spot
 box_spot limit m names path spot bounded allowed (inl first) =
-    first_moves (box m path) m (path_counts names m path bounded allowed) (ap length (path_lines_same m path)) limit (box m path)
+    first_moves (box m path) m (path_counts names m path bounded allowed)
+    (ap length (path_lines_same m path)) limit (box m path)
     (judged (box m path)) spot first (judged_spot limit (box m path) spot first)
 box_spot limit m names path spot bounded allowed (inr wide) = program_spot limit (box m path) m spot wide.1

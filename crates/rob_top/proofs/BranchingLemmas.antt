@@ -22,14 +22,15 @@ use Rattle.rob_tree.specs.Shape.{HasTreeShape}
 use Rattle.rob_tree.specs.View.{branch_of}
 use Rattle.rob_tree.specs.declared.error.TreeStop.{TreeStop}
 use Rattle.rob_tree.specs.declared.error.TreeStop.TheVariants as ungrown
-use Rattle.rob_top.specs.Answers.{whole_text}
+use Rattle.rob_top.specs.Answers.{whole_fault_text}
 use Rattle.rob_top.specs.Branched.{IsBranched, IsPrintedTree, no_ranges, no_variables}
-use Rattle.rob_top.specs.Calls.{Call, Count, IsBranching, count, word_of}
+use Rattle.rob_top.specs.Calls.{Call, Count, IsBranching, count}
+use Rattle.rob_top.specs.Files.{word_of}
 use Rattle.rob_top.specs.Headline.{Means}
 use Rattle.rob_top.specs.Inputs.{AreVariables}
 use Rattle.rob_top.specs.Replies.{Replies}
 use Rattle.rob_top.specs.Work.{AnswersModel, AnswersNames, AnswersVariables, IsCallAt, ended_of}
-use Rattle.rob_top.specs.Refusing.{IsUngrownOf, RepliesUngrown}
+use Rattle.rob_top.specs.WorkStops.{IsUngrownOf, RepliesUngrown}
 use Rattle.rob_top.specs.Ways.{branched, while_branching, while_growing}
 use Rattle.rob_top.specs.declared.ended.Ended.{Ended}
 use Rattle.rob_top.specs.declared.ended.Ended.TheVariants.{Whole}
@@ -45,7 +46,8 @@ use Rattle.rob_words.specs.declared.verb.Own.TheVariants as own
 use Rattle.rob_words.specs.declared.verb.Verb.{Verb}
 
 -- a status is an answer of a tree
-means_branched : (call : Call) (status : Status) (text : List ℕ) → IsBranched call status text → Means call (ended_of status) text
+means_branched : (call : Call) (status : Status) (text : List ℕ) → IsBranched call status text
+    → Means call (ended_of status) text
 means_branched call optimal text h = branched h
 means_branched call infeasible text h = branched h
 means_branched call unbounded text h = branched h
@@ -58,7 +60,8 @@ module _ (m : RobustModel) (names : List ℕ) where
   abbrev IsNobody : Type 0
   IsNobody = (numbers : List ℕ) → AreTheirs numbers → ⊥
 
-  pub numbers_found : (o : Option (List ℕ)) (found numbers : List ℕ) → o ≡ Some found → numbers ≡ found → MatchOption o IsNobody AreTheirs
+  pub numbers_found : (o : Option (List ℕ)) (found numbers : List ℕ) → o ≡ Some found → numbers ≡ found
+      → MatchOption o IsNobody AreTheirs
       → AreTheirs numbers
   numbers_found None found numbers e same h = absurd (let no : None ≡ Some found = e in cc)
   numbers_found (Some others) found numbers e same h =
@@ -70,7 +73,8 @@ module _ (m : RobustModel) (names : List ℕ) where
 
 -- ---- rules of named variables
 -- no rule is broken where a broken one is told and another answer came
-pub no_rule : (m : RobustModel) (numbers : List ℕ) → ((rule : ℕ) → whole_rule m numbers ≡ Some rule → ⊥) → whole_rule m numbers ≡ None
+pub no_rule : (m : RobustModel) (numbers : List ℕ) → ((rule : ℕ) → whole_rule m numbers ≡ Some rule → ⊥)
+    → whole_rule m numbers ≡ None
 no_rule m numbers none = by (whole_rule m numbers) refl
   where
     by : (o : Option ℕ) → whole_rule m numbers ≡ o → whole_rule m numbers ≡ None
@@ -80,7 +84,8 @@ no_rule m numbers none = by (whole_rule m numbers) refl
 -- so a tree that has grown says that none is
 pub grown_keeps : {X : Type 0} (m : RobustModel) (numbers : List ℕ) (r : Result X TreeStop) (t : X) → r ≡ Ok t
     → ((rule : ℕ) → whole_rule m numbers ≡ Some rule → r ≡ Err (ungrown.Rule rule)) → whole_rule m numbers ≡ None
-grown_keeps m numbers r t is told = no_rule m numbers (λ rule e. let clash : Ok t ≡ Err (ungrown.Rule rule) = sym is ∙ told rule e in cc)
+grown_keeps m numbers r t is told =
+    no_rule m numbers (λ rule e. let clash : Ok t ≡ Err (ungrown.Rule rule) = sym is ∙ told rule e in cc)
 
 -- and a stop is that of a broken rule, where one is
 pub stop_told : {X : Type 0} (m : RobustModel) (numbers : List ℕ) (r : Result X TreeStop) (s : TreeStop) → r ≡ Err s
@@ -97,9 +102,11 @@ module _ (limit : ℕ) (m : RobustModel) where
     is_here wides call line at = subst (λ (v : Verb). IsBranching v) (sym at.verb_is) is_branching
 
     -- ---- a tree that has grown
-    pub tree_answers : (wides : Count) (t : Tree) (r : Result Reply Want) → whole_rule m numbers ≡ None → IsGrown m numbers t
+    pub tree_answers : (wides : Count) (t : Tree) (r : Result Reply Want)
+        → whole_rule m numbers ≡ None → IsGrown m numbers t
         → HasWholeStatus m numbers t.status t.value → HasTreeShape limit m numbers t → TreeFits limit m t
-        → IsWritten limit m → AreBoxesWritten limit m t.root → IfOk r (λ reply. reply.ended ≡ ended_of t.status) → IfOk r (λ reply. IsPrintedTree verb m numbers t reply.text)
+        → IsWritten limit m → AreBoxesWritten limit m t.root → IfOk r (λ reply. reply.ended ≡ ended_of t.status)
+        → IfOk r (λ reply. IsPrintedTree verb m numbers t reply.text)
         → IfOk r (AnswersVariables limit wides m verb numbers)
     tree_answers wides t (Err want) keeps grown holds shape fits written boxes is printed = tt
     tree_answers wides t (Ok reply) keeps grown holds shape fits written boxes is printed = λ call line at has.
@@ -123,7 +130,8 @@ module _ (limit : ℕ) (m : RobustModel) where
         }))
 
     -- ---- no tree has grown
-    stop_answers : (before now : ℕ) (s : TreeStop) (reply : Reply) → HasCause limit m numbers s → RoseIfWide before now s
+    stop_answers : (before now : ℕ) (s : TreeStop) (reply : Reply) → HasCause limit m numbers s
+        → RoseIfWide before now s
         → ((rule : ℕ) → whole_rule m numbers ≡ Some rule → s ≡ ungrown.Rule rule) → RepliesUngrown m s reply
         → AnswersVariables limit (count before now) m verb numbers reply
     stop_answers before now (ungrown.Rule rule) reply cause rose told is = λ call line at has.
@@ -142,7 +150,8 @@ module _ (limit : ℕ) (m : RobustModel) where
           names = numbers;
           has = record {
             named = has;
-            keeps = no_rule m numbers (λ rule e. let no : ungrown.EmptySet weights ≡ ungrown.Rule rule = told rule e in cc);
+            keeps = no_rule m numbers
+                (λ rule e. let no : ungrown.EmptySet weights ≡ ungrown.Rule rule = told rule e in cc);
           };
           branches = is_here (count before now) call line at;
           written = subst (λ (l : ℕ). IsWritten l m) (sym at.limit_is) cause.0;
@@ -158,7 +167,8 @@ module _ (limit : ℕ) (m : RobustModel) where
           names = numbers;
           has = record {
             named = has;
-            keeps = no_rule m numbers (λ rule e. let no : ungrown.Wide path spot ≡ ungrown.Rule rule = told rule e in cc);
+            keeps = no_rule m numbers
+                (λ rule e. let no : ungrown.Wide path spot ≡ ungrown.Rule rule = told rule e in cc);
           };
           branches = is_here (count before now) call line at;
           comes = cause.0;
@@ -169,14 +179,16 @@ module _ (limit : ℕ) (m : RobustModel) where
         }))
     stop_answers before now ungrown.Memory reply cause rose told is = absurd is
 
-    pub stopped_answers : (before now : ℕ) (s : TreeStop) (r : Result Reply Want) → HasCause limit m numbers s → RoseIfWide before now s
+    pub stopped_answers : (before now : ℕ) (s : TreeStop) (r : Result Reply Want) → HasCause limit m numbers s
+        → RoseIfWide before now s
         → ((rule : ℕ) → whole_rule m numbers ≡ Some rule → s ≡ ungrown.Rule rule) → IfOk r (RepliesUngrown m s)
         → IfOk r (AnswersVariables limit (count before now) m verb numbers)
     stopped_answers before now s (Err want) cause rose told is = tt
     stopped_answers before now s (Ok reply) cause rose told is = stop_answers before now s reply cause rose told is
 
   -- what a stop names is the model's
-  pub stop_named : (numbers : List ℕ) (s : TreeStop) → ((rule : ℕ) → whole_rule m numbers ≡ Some rule → s ≡ ungrown.Rule rule)
+  pub stop_named : (numbers : List ℕ) (s : TreeStop)
+      → ((rule : ℕ) → whole_rule m numbers ≡ Some rule → s ≡ ungrown.Rule rule)
       → HasCause limit m numbers s → IsUngrownOf m s
   stop_named numbers (ungrown.Rule rule) told cause = tt
   stop_named numbers (ungrown.EmptySet weights) told cause = sym (length-map weights of_int) ∙ cause.1.shown.shows.count
@@ -185,8 +197,11 @@ module _ (limit : ℕ) (m : RobustModel) where
       no_rule m numbers (λ rule e. let no : ungrown.Wide path spot ≡ ungrown.Rule rule = told rule e in cc)
       in
       let bounded : KeepsBothBounds m numbers = kept_bounds m numbers keeps in
-      let allowed : IsAllowedPath m numbers (map branch_of path) = comes_allowed m numbers start cause.0.0 (map branch_of path) cause.0.1 in
-      (box_spot limit m numbers (map branch_of path) spot bounded allowed cause.2, path_columns numbers m m path bounded allowed)
+      let allowed : IsAllowedPath m numbers (map branch_of path) =
+      comes_allowed m numbers start cause.0.0 (map branch_of path) cause.0.1 in (
+        box_spot limit m numbers (map branch_of path) spot bounded allowed cause.2,
+        path_columns numbers m m path bounded allowed,
+      )
   stop_named numbers ungrown.Memory told cause = tt
 
   -- ---- a list of names
@@ -198,7 +213,8 @@ module _ (limit : ℕ) (m : RobustModel) where
       h call line at (record { model = has; names = parts_of names; told = told; variables = are })
 
   pub no_variables_answer : (wides : Count) (verb : Verb) (names : List ℕ) (r : Result Reply Want) → IsBranching verb
-      → ((numbers : List ℕ) → AreVariables m (parts_of names) numbers → ⊥) → IfOk r (Replies (Whole 61) (whole_text 61))
+      → ((numbers : List ℕ) → AreVariables m (parts_of names) numbers → ⊥)
+      → IfOk r (Replies (Whole 61) (whole_fault_text 61))
       → IfOk r (AnswersNames limit wides m verb names)
   no_variables_answer wides verb names (Err want) is_branching none is = tt
   no_variables_answer wides verb names (Ok reply) is_branching none is = λ call line at has told.
@@ -211,9 +227,11 @@ module _ (limit : ℕ) (m : RobustModel) where
       })
 
   -- the command has such a list among its own words
-  pub names_answer : (wides : Count) (verb : Verb) (texts : Texts) (words : List Word) (names : Word) (r : Result Reply Want) → IsBranching verb
+  pub names_answer : (wides : Count) (verb : Verb) (texts : Texts) (words : List Word) (names : Word)
+      (r : Result Reply Want) → IsBranching verb
       → words ≡ map string_bytes texts.words.items
-      → ((word : Word) → word_of own.Names (own_of verb) words ≡ Some word → names ≡ word) → IfOk r (AnswersNames limit wides m verb names)
+      → ((word : Word) → word_of own.Names (own_of verb) words ≡ Some word → names ≡ word)
+      → IfOk r (AnswersNames limit wides m verb names)
       → IfOk r (AnswersModel limit wides m verb texts)
   names_answer wides verb texts words names (Err want) is_branching same told h = tt
   names_answer wides verb texts words names (Ok reply) is_branching same told h = λ call line at came has.
@@ -221,6 +239,7 @@ module _ (limit : ℕ) (m : RobustModel) where
       h call line at has
       (record {
         word = names;
-        told = word_came call line texts verb own.Names words names at.verb_is came (has_names line.verb here) same told;
+        told = word_came call line texts verb own.Names words names at.verb_is came
+            (has_names line.verb here) same told;
         parts = refl;
       })

@@ -38,8 +38,9 @@ use Rattle.rob_report.specs.Places.{IsPlaceOf}
 use Rattle.rob_report.specs.Spots.{rejected_line, too_wide_line}
 use Rattle.rob_sets.proofs.SubexpressionLemmas.{each_both}
 use Rattle.rob_top.proofs.DefaultRoutes.{told_alone}
-use Rattle.rob_top.specs.Answers.{accepted_text, certificate_text}
-use Rattle.rob_top.specs.Calls.{Call, Count, HasFile, count, limit_of}
+use Rattle.rob_top.specs.Answers.{accepted_text, certificate_fault_text}
+use Rattle.rob_top.specs.Calls.{Call, Count, count, limit_of}
+use Rattle.rob_top.specs.Files.{HasFile}
 use Rattle.rob_top.specs.Headline.{Means}
 use Rattle.rob_top.specs.Refused.{checking}
 use Rattle.rob_top.specs.Replies.{Replies}
@@ -64,7 +65,8 @@ each_mapped : {A B : Type 0} (P : B → Type 0) (f : A → B) (xs : List A) → 
 each_mapped P f [] h = tt
 each_mapped P f (x ∷ xs) h = (h.0, each_mapped P f xs h.1)
 
-filtered_more : {A : Type 0} (P : A → Type 0) (b : Bool) (x : A) (xs : List A) → P x → Each P xs → Each P (if b then x ∷ xs else xs)
+filtered_more : {A : Type 0} (P : A → Type 0) (b : Bool) (x : A) (xs : List A) → P x → Each P xs
+    → Each P (if b then x ∷ xs else xs)
 filtered_more P true x xs h k = (h, k)
 filtered_more P false x xs h k = k
 
@@ -76,8 +78,10 @@ module _ (limit : ℕ) (m : RobustModel) where
   abbrev IsNamed : Condition → Type 0
   IsNamed c = IsPlaceOf m c.place
 
-  set_named : (place : ℕ → Place) (s : Fraction) (p : List Fraction) → ((i : ℕ) → i < length (set_conditions m) → IsPlaceOf m (place i))
-      → (k : ℕ) (cs : List SetCondition) → k + length cs ≤ length (set_conditions m) → Each IsNamed (set_tests limit m place s p k cs)
+  set_named : (place : ℕ → Place) (s : Fraction) (p : List Fraction)
+      → ((i : ℕ) → i < length (set_conditions m) → IsPlaceOf m (place i))
+      → (k : ℕ) (cs : List SetCondition) → k + length cs ≤ length (set_conditions m)
+      → Each IsNamed (set_tests limit m place s p k cs)
   set_named place s p named k [] h = tt
   set_named place s p named k (c ∷ cs) h = (named k (omega arith), set_named place s p named (suc k) cs (omega arith))
 
@@ -96,18 +100,21 @@ module _ (limit : ℕ) (m : RobustModel) where
       let n = column_count m in
       let one = sum_test limit (matrices m) m.sense n value c.items in
       each_both IsNamed (map one (numbers_from 1 (suc n))) (one zero ∷ [])
-      (each_mapped IsNamed one (numbers_from 1 (suc n)) (numbers_each (λ j. IsPlaceOf m (At.Sum j)) 1 (suc n) (λ j low high. omega arith)))
+      (each_mapped IsNamed one (numbers_from 1 (suc n))
+      (numbers_each (λ j. IsPlaceOf m (At.Sum j)) 1 (suc n) (λ j low high. omega arith)))
       (omega arith, tt)
 
   -- the places of a covering's conditions
-  sign_named : (g : Covering) (i : ℕ) → i < length (forms m) → (c : meaning.Cover) → IsCoverOf m c → IsNamed (sign_test g i c)
+  sign_named : (g : Covering) (i : ℕ) → i < length (forms m) → (c : meaning.Cover) → IsCoverOf m c
+      → IsNamed (sign_test g i c)
   sign_named g i h c is = by g.covered
     where
       by : (covered : Covered) → IsPlaceOf m (sign_place covered i c.set_row)
       by Plan = record { form = h; set_row = is.set_row }
       by Step = record { form = h; set_row = is.set_row }
 
-  sum_named : (covered : Covered) (i k : ℕ) → i < length (forms m) → k ≤ set_column_count m → IsPlaceOf m (cover_place covered i k)
+  sum_named : (covered : Covered) (i k : ℕ) → i < length (forms m) → k ≤ set_column_count m
+      → IsPlaceOf m (cover_place covered i k)
   sum_named Plan i k h few = record { form = h; column = few }
   sum_named Step i k h few = record { form = h; column = few }
 
@@ -119,17 +126,21 @@ module _ (limit : ℕ) (m : RobustModel) where
       let one = column_test limit set g i form mine in
       each_both IsNamed (map (sign_test g i) mine) (column_tests limit set g i form mine)
       (each_mapped IsNamed (sign_test g i) mine
-      (each_map (IsCoverOf m) (λ c. IsNamed (sign_test g i c)) (sign_named g i h) mine (each_filtered (IsCoverOf m) _ g.covers are.each)))
+      (each_map (IsCoverOf m) (λ c. IsNamed (sign_test g i c)) (sign_named g i h) mine
+      (each_filtered (IsCoverOf m) _ g.covers are.each)))
       (each_both IsNamed (map one (numbers_from zero (set_column_count m))) (constant_test limit set g i form mine ∷ [])
       (each_mapped IsNamed one (numbers_from zero (set_column_count m))
-      (numbers_each (λ k. IsNamed (one k)) zero (set_column_count m) (λ k low high. sum_named g.covered i (suc k) h (omega arith))))
+      (numbers_each (λ k. IsNamed (one k)) zero (set_column_count m)
+      (λ k low high. sum_named g.covered i (suc k) h (omega arith))))
       (sum_named g.covered i zero h (omega arith), tt))
 
-  covers_named : (g : Covering) → AreCoversOf m g.covers → (i : ℕ) (all : List (List (List ℤ))) → i + length all ≤ length (forms m)
+  covers_named : (g : Covering) → AreCoversOf m g.covers → (i : ℕ) (all : List (List (List ℤ)))
+      → i + length all ≤ length (forms m)
       → Each IsNamed (cover_tests limit (lifted m) g i all)
   covers_named g are i [] h = tt
   covers_named g are i (form ∷ all) h =
-      each_both IsNamed (form_tests limit (lifted m) g i (fractions form) (covers_of i g.covers)) (cover_tests limit (lifted m) g (suc i) all)
+      each_both IsNamed (form_tests limit (lifted m) g i (fractions form) (covers_of i g.covers))
+      (cover_tests limit (lifted m) g (suc i) all)
       (form_named g are i (fractions form) (omega arith))
       (covers_named g are (suc i) all (omega arith))
 
@@ -137,20 +148,29 @@ module _ (limit : ℕ) (m : RobustModel) where
   covering_named g are = covers_named g are zero (matrices m) (omega (arith, length-map (forms m) (matrix_of m)))
 
   base_named : (c : Certificate) → Each IsNamed (base_tests limit m c)
-  base_named c = each_both IsNamed (inside_tests limit m c.inside) (items_tests limit m zero c.items) (inside_named c.inside) (items_named zero c.items)
+  base_named c =
+      each_both IsNamed (inside_tests limit m c.inside) (items_tests limit m zero c.items) (inside_named c.inside)
+      (items_named zero c.items)
 
-  conditions_named : (c : Certificate) → HasShape m c → (status : Status) → Each IsNamed (conditions_as limit m status c)
+  conditions_named : (c : Certificate) → HasShape m c → (status : Status)
+      → Each IsNamed (conditions_as limit m status c)
   conditions_named c shape optimal = (
     tt,
-    each_both IsNamed (base_tests limit m c) (items_sum_tests limit m (Some c.value) c ++ covering_tests limit m (plan_covering c)) (base_named c)
-        (each_both IsNamed (items_sum_tests limit m (Some c.value) c) (covering_tests limit m (plan_covering c)) (sums_named (Some c.value) c)
+    each_both IsNamed (base_tests limit m c)
+        (items_sum_tests limit m (Some c.value) c ++ covering_tests limit m (plan_covering c)) (base_named c)
+        (each_both IsNamed (items_sum_tests limit m (Some c.value) c) (covering_tests limit m (plan_covering c))
+        (sums_named (Some c.value) c)
         (covering_named (plan_covering c) shape.covers)),
   )
-  conditions_named c shape infeasible = each_both IsNamed (base_tests limit m c) (items_sum_tests limit m None c) (base_named c) (sums_named None c)
+  conditions_named c shape infeasible =
+      each_both IsNamed (base_tests limit m c) (items_sum_tests limit m None c) (base_named c) (sums_named None c)
   conditions_named c shape unbounded = (
     tt,
-    each_both IsNamed (base_tests limit m c) (covering_tests limit m (plan_covering c) ++ (move_test m.sense c ∷ covering_tests limit m (step_covering c))) (base_named c)
-        (each_both IsNamed (covering_tests limit m (plan_covering c)) (move_test m.sense c ∷ covering_tests limit m (step_covering c))
+    each_both IsNamed (base_tests limit m c)
+        (covering_tests limit m (plan_covering c) ++ (move_test m.sense c ∷ covering_tests limit m (step_covering c)))
+        (base_named c)
+        (each_both IsNamed (covering_tests limit m (plan_covering c))
+        (move_test m.sense c ∷ covering_tests limit m (step_covering c))
         (covering_named (plan_covering c) shape.covers) (tt, covering_named (step_covering c) shape.holds)),
   )
 
@@ -160,7 +180,8 @@ module _ (limit : ℕ) (m : RobustModel) where
   NamesPlace (verdicts.Rejected place) = IsPlaceOf m place
   NamesPlace (verdicts.TooWide place) = IsPlaceOf m place
 
-  decided_named : (place : Place) (holds : Option Bool) (rest : Verdict) → IsPlaceOf m place → NamesPlace rest → NamesPlace (decided place holds rest)
+  decided_named : (place : Place) (holds : Option Bool) (rest : Verdict) → IsPlaceOf m place → NamesPlace rest
+      → NamesPlace (decided place holds rest)
   decided_named place (Some true) rest h k = k
   decided_named place (Some false) rest h k = h
   decided_named place None rest h k = h
@@ -172,17 +193,21 @@ module _ (limit : ℕ) (m : RobustModel) where
   names_place : (c : Certificate) → HasShape m c → NamesPlace (verdict_of limit m c)
   names_place c shape = verdict_named (conditions_as limit m c.status c) (conditions_named c shape c.status)
 
-  pub rejected_place : (c : Certificate) (v : Verdict) (place : Place) → HasShape m c → v ≡ verdict_of limit m c → v ≡ verdicts.Rejected place → IsPlaceOf m place
+  pub rejected_place : (c : Certificate) (v : Verdict) (place : Place) → HasShape m c → v ≡ verdict_of limit m c
+      → v ≡ verdicts.Rejected place → IsPlaceOf m place
   rejected_place c v place shape is e = subst (λ (w : Verdict). NamesPlace w) (sym is ∙ e) (names_place c shape)
 
-  pub too_wide_place : (c : Certificate) (v : Verdict) (place : Place) → HasShape m c → v ≡ verdict_of limit m c → v ≡ verdicts.TooWide place → IsPlaceOf m place
+  pub too_wide_place : (c : Certificate) (v : Verdict) (place : Place) → HasShape m c → v ≡ verdict_of limit m c
+      → v ≡ verdicts.TooWide place → IsPlaceOf m place
   too_wide_place c v place shape is e = subst (λ (w : Verdict). NamesPlace w) (sym is ∙ e) (names_place c shape)
 
 -- ---- the answers
 module _ (limit : ℕ) (m : RobustModel) where
   -- the command is `check`, so the file of the certificate came
-  pub file_answers : (wides : Count) (verb : Verb) (texts : Texts) (text : List ℕ) (r : Result Reply Want) → verb ≡ Check
-      → text ≡ texts.certificate.items → IfOk r (AnswersFile limit wides m text) → IfOk r (AnswersWhole limit wides m verb texts)
+  pub file_answers : (wides : Count) (verb : Verb) (texts : Texts) (text : List ℕ) (r : Result Reply Want)
+      → verb ≡ Check
+      → text ≡ texts.certificate.items → IfOk r (AnswersFile limit wides m text)
+      → IfOk r (AnswersWhole limit wides m verb texts)
   file_answers wides verb texts text (Err want) e same h = tt
   file_answers wides verb texts text (Ok reply) e same h = λ call line at came has.
       let here : line.verb ≡ Check = at.verb_is ∙ e in
@@ -192,11 +217,14 @@ module _ (limit : ℕ) (m : RobustModel) where
       (record {
         forms = has;
         is_check = here;
-        file = subst (λ (list : List ℕ). HasFile call line own.Certificate list) (sym same) (file_came call line texts own.Certificate _ refl came names);
+        file = subst (λ (list : List ℕ). HasFile call line own.Certificate list) (sym same)
+            (file_came call line texts own.Certificate _ refl came names);
       })
 
-  pub rule_answers : (wides : Count) (text : List ℕ) (rule number : ℕ) (r : Result Reply Want) → HasCause (naming_of m) limit start text 1 (Rule rule number)
-      → IfOk r (Replies (Cert rule number) (certificate_text rule number)) → IfOk r (AnswersFile limit wides m text)
+  pub rule_answers : (wides : Count) (text : List ℕ) (rule number : ℕ) (r : Result Reply Want)
+      → HasCause (naming_of m) limit start text 1 (Rule rule number)
+      → IfOk r (Replies (Cert rule number) (certificate_fault_text rule number))
+      → IfOk r (AnswersFile limit wides m text)
   rule_answers wides text rule number (Err want) broken is = tt
   rule_answers wides text rule number (Ok reply) broken is = λ call line at file.
       subst (λ (ended : Ended). Means call ended reply.text) (sym is.0)
@@ -209,18 +237,28 @@ module _ (limit : ℕ) (m : RobustModel) where
         printed = is.1;
       }))
 
-  pub certificate_answers : (before middle now : ℕ) (text : List ℕ) (c : Certificate) (r : Result Reply Want) → before ≤ middle → IsTextOf m c text → FitsLines limit m c
+  pub certificate_answers : (before middle now : ℕ) (text : List ℕ) (c : Certificate) (r : Result Reply Want)
+      → before ≤ middle → IsTextOf m c text → FitsLines limit m c
       → IfOk r (AnswersCertificate limit (count middle now) m c) → IfOk r (AnswersFile limit (count before now) m text)
   certificate_answers before middle now text c (Err want) least is fits h = tt
   certificate_answers before middle now text c (Ok reply) least is fits h = λ call line at file.
-      h call line (call_within limit (count middle now) (count before now) Check call line (rose_earlier before middle now least) at)
-      (record { bytes = text; file = file; text = is; fits = subst (λ (l : ℕ). FitsLines l m c) (sym at.limit_is) fits })
+      h call line
+      (call_within limit (count middle now) (count before now) Check call line
+      (rose_earlier before middle now least) at)
+      (record {
+        bytes = text;
+        file = file;
+        text = is;
+        fits = subst (λ (l : ℕ). FitsLines l m c) (sym at.limit_is) fits;
+      })
 
   module _ (c : Certificate) (v : Verdict) (is : v ≡ verdict_of limit m c) where
-    verdict_is : (call : Call) (line : Line) (same : Verdict) → limit_of line ≡ limit → v ≡ same → verdict_of (limit_of line) m c ≡ same
+    verdict_is : (call : Call) (line : Line) (same : Verdict) → limit_of line ≡ limit → v ≡ same
+        → verdict_of (limit_of line) m c ≡ same
     verdict_is call line same at e = ap (λ (l : ℕ). verdict_of l m c) at ∙ sym is ∙ e
 
-    pub accepted_answers : (wides : Count) (r : Result Reply Want) → v ≡ verdicts.Accepted → Judges (Proves m c) v → OnAccepted v (HasStatus m c.status c.value)
+    pub accepted_answers : (wides : Count) (r : Result Reply Want) → v ≡ verdicts.Accepted → Judges (Proves m c) v
+        → OnAccepted v (HasStatus m c.status c.value)
         → IfOk r (Replies Accepted (accepted_text c)) → IfOk r (AnswersCertificate limit wides m c)
     accepted_answers wides (Err want) e judged holds said = tt
     accepted_answers wides (Ok reply) e judged holds said = λ call line at read.
@@ -236,7 +274,8 @@ module _ (limit : ℕ) (m : RobustModel) where
           printed = said.1;
         }))
 
-    pub rejected_answers : (wides : Count) (place : Place) (r : Result Reply Want) → v ≡ verdicts.Rejected place → Judges (Proves m c) v
+    pub rejected_answers : (wides : Count) (place : Place) (r : Result Reply Want)
+        → v ≡ verdicts.Rejected place → Judges (Proves m c) v
         → IfOk r (Replies (Rejected place) (rejected_line m place)) → IfOk r (AnswersCertificate limit wides m c)
     rejected_answers wides place (Err want) e judged said = tt
     rejected_answers wides place (Ok reply) e judged said = λ call line at read.
@@ -251,16 +290,20 @@ module _ (limit : ℕ) (m : RobustModel) where
           printed = said.1;
         })
 
-    pub too_wide_answers : (before now : ℕ) (place : Place) (r : Result Reply Want) → v ≡ verdicts.TooWide place → RoseIfWide before now v
-        → IfOk r (Replies (TooWide (spot.Check place)) (too_wide_line m (spot.Check place))) → IfOk r (AnswersCertificate limit (count before now) m c)
+    pub too_wide_answers : (before now : ℕ) (place : Place) (r : Result Reply Want) → v ≡ verdicts.TooWide place
+        → RoseIfWide before now v
+        → IfOk r (Replies (TooWide (spot.Check place)) (too_wide_line m (spot.Check place)))
+        → IfOk r (AnswersCertificate limit (count before now) m c)
     too_wide_answers before now place (Err want) e counted said = tt
     too_wide_answers before now place (Ok reply) e counted said = λ call line at read.
-        let rose : RoseIfWide before now (verdicts.TooWide place) = subst (λ (w : Verdict). RoseIfWide before now w) e counted in
+        let rose : RoseIfWide before now (verdicts.TooWide place) =
+        subst (λ (w : Verdict). RoseIfWide before now w) e counted in
         subst (λ (ended : Ended). Means call ended reply.text) (sym said.0)
         (in_model (record {
           line = line;
           m = m;
           wide = checking c place read refl (verdict_is call line (verdicts.TooWide place) at.limit_is e);
           raised = at.raised rose;
-          printed = told_alone call line m read.file.forms.model (ap takes_route at.verb_is) reply.text (too_wide_line m (spot.Check place)) said.1;
+          printed = told_alone call line m read.file.forms.model (ap takes_route at.verb_is) reply.text
+              (too_wide_line m (spot.Check place)) said.1;
         }))

@@ -63,7 +63,8 @@ pub solves_no_tree : (verb : Verb) → verb ≡ CheckTree → IsSolving verb →
 solves_no_tree verb e h = let no : IsSolving CheckTree = subst (λ (v : Verb). IsSolving v) e h in search (no, rules)
 
 pub makes_no_tree : (verb : Verb) → verb ≡ CheckTree → IsElaborating verb → ⊥
-makes_no_tree verb e h = let no : IsElaborating CheckTree = subst (λ (v : Verb). IsElaborating v) e h in search (no, rules)
+makes_no_tree verb e h =
+    let no : IsElaborating CheckTree = subst (λ (v : Verb). IsElaborating v) e h in search (no, rules)
 
 pub rows_not_tree : (verb : Verb) → verb ≡ Rows → verb ≡ CheckTree → ⊥
 rows_not_tree verb = two_verbs Rows CheckTree verb (λ e. cc)

@@ -1,5 +1,5 @@
 -- No other answer of `gen` may come.
-use Rattle.std.proofs.Common.{◌≡◌, ℕ, List, ap, inl, inr, ◌⊎◌, refl, sym, ◌∙◌, subst}
+use Rattle.std.proofs.Common.{◌≡◌, ℕ, ap, inl, inr, ◌⊎◌, refl, sym, ◌∙◌, subst}
 use Rattle.std.specs.Prelude.{Some}
 use Rattle.rob_gen.specs.Generated.{generated}
 use Rattle.rob_meaning.specs.RobustModel.{RobustModel}
@@ -13,13 +13,11 @@ use Rattle.rob_top.specs.Compared.{AsksFor}
 use Rattle.rob_top.specs.ComparedEnds.{IsComparedAnswer, MustEndCompared}
 use Rattle.rob_top.specs.Endings.{IsUnput}
 use Rattle.rob_top.specs.Generated.{TellsNumber}
-use Rattle.rob_top.specs.Headline.{Means}
 use Rattle.rob_top.specs.Routes.{IsWideOnWay}
 use Rattle.rob_top.specs.declared.ended.Ended.{Ended}
 use Rattle.rob_top.specs.declared.ended.Ended.TheVariants.{Optimal, Infeasible, Unbounded, Printed, Accepted, Rejected, Words, Missing, TooLong, Model, EmptySet, TooWide, WideNode, WideBudget, Cert, Scenarios, Whole, Sweep, Cells, NoRow, Tree, TreeRejected, ReadFault, WriteFault, Memory}
 use Rattle.rob_words.specs.Commands.{Line}
 use Rattle.rob_words.specs.Kinds.{number_of}
-use Rattle.rob_words.specs.Values.{Word}
 use Rattle.rob_words.specs.declared.route.Route.{Route}
 use Rattle.rob_words.specs.declared.verb.Verb.TheVariants.{Gen, Text}
 
@@ -36,7 +34,8 @@ module _ (limit : ℕ) (m : RobustModel) where
   unput_answer ended (inr e) = subst (IsComparedAnswer limit m) (sym e) (inr refl)
 
   -- where no number is wide, the summary is printed
-  narrow_answer : ((way : Route) (spot : Spot) → IsWideOnWay way limit m spot → ⊥) → (ended : Ended) → IsComparedAnswer limit m ended
+  narrow_answer : ((way : Route) (spot : Spot) → IsWideOnWay way limit m spot → ⊥) → (ended : Ended)
+      → IsComparedAnswer limit m ended
       → (ended ≡ Printed) ⊎ IsUnput ended
   narrow_answer narrow Printed h = inl refl
   narrow_answer narrow (TooWide spot) h = absurd (narrow h.0 spot h.1)
@@ -65,13 +64,15 @@ module _ (limit : ℕ) (m : RobustModel) where
   narrow_answer narrow Memory h = inr h
 
 module _ (call : Call) (known : Known call.source) (ended : Ended) (comes : Comes call ended) where
-  answer_ends : (line : Line) (number : ℕ) → AsksFor call line number → IsComparedAnswer (limit_of line) (generated number) ended
+  answer_ends : (line : Line) (number : ℕ) → AsksFor call line number
+      → IsComparedAnswer (limit_of line) (generated number) ended
   answer_ends line number asks = all comes
     where
       by : NumberCourse call line ended ⊎ (ended ≡ Memory) → IsComparedAnswer (limit_of line) (generated number) ended
       by (inl (writes_model is e)) = absurd (two_verbs Text Gen line.verb (λ e. cc) is asks.is_gen)
       by (inl (compares other told answer)) =
-          subst (λ (n : ℕ). IsComparedAnswer (limit_of line) (generated n) ended) (one_number line other number told.told asks.told) answer
+          subst (λ (n : ℕ). IsComparedAnswer (limit_of line) (generated n) ended)
+          (one_number line other number told.told asks.told) answer
       by (inr e) = unput_answer (limit_of line) (generated number) ended (inr e)
 
       all : Comes call ended → IsComparedAnswer (limit_of line) (generated number) ended
@@ -81,5 +82,6 @@ module _ (call : Call) (known : Known call.source) (ended : Ended) (comes : Come
   pub compared_ends : MustEndCompared call ended
   compared_ends = record {
     answer = answer_ends;
-    narrow = λ line number asks none. narrow_answer (limit_of line) (generated number) none ended (answer_ends line number asks);
+    narrow = λ line number asks none.
+        narrow_answer (limit_of line) (generated number) none ended (answer_ends line number asks);
   }

@@ -1,8 +1,7 @@
 -- The answers of `gen`: what its summary means, from what the two routes told.
-use Rattle.std.proofs.Common.{◌≡◌, ℕ, ◌≤◌, List, ◌++◌, Option, Some, None, Result, Ok, Err, IfOk, IfSome, ap, inl, inr, refl, sym, ◌∙◌, subst, arith}
+use Rattle.std.proofs.Common.{◌≡◌, ℕ, List, ◌++◌, Option, Some, None, Result, Ok, Err, IfOk, refl, sym, subst}
 use Rattle.rob_algebra.specs.Fraction.{Fraction}
 use Rattle.rob_cert.specs.Apart.{FitsLines}
-use Rattle.rob_dualize.specs.Models.{IsWritten, judged}
 use Rattle.rob_cert.specs.declared.trace.Round.{Round}
 use Rattle.rob_cuts.specs.Rounds.{RoundFits}
 use Rattle.rob_gen.specs.Generated.{generated}
@@ -17,8 +16,8 @@ use Rattle.rob_model.specs.declared.place.Spot.{Spot}
 use Rattle.rob_number.specs.declared.memory.Memory.{Memory as Want}
 use Rattle.rob_top.proofs.StageLemmas.{same_status}
 use Rattle.rob_top.specs.Calls.{Call, Count, WasRaised, limit_of}
-use Rattle.rob_top.specs.Compared.{AsksFor, TellsEither, TellsFirst, TellsStatus, TellsWide, a_spot, a_status, by_counterpart, by_cutting, heading, status_line, wide_line}
-use Rattle.rob_top.specs.ComparedWork.{AnswersNumber, IsCounted, RepliesCompared, Tells, first_ended}
+use Rattle.rob_top.specs.Compared.{AsksFor, TellsEither, TellsStatus, TellsWide, a_spot, a_status, by_counterpart, by_cutting, heading, status_line, wide_line}
+use Rattle.rob_top.specs.ComparedWork.{AnswersNumber, RoseAtSpot, RepliesCompared, IsLineOf, first_ended}
 use Rattle.rob_top.specs.Generated.{TellsNumber}
 use Rattle.rob_top.specs.Headline.{Means}
 use Rattle.rob_top.specs.Routes.{IsFound, IsWideBy, with_rounds}
@@ -32,10 +31,12 @@ use Rattle.rob_words.specs.declared.verb.Verb.TheVariants.{Gen}
 
 module _ (limit : ℕ) (m : RobustModel) where
   -- ---- what a route tells
-  pub tells_found : (way : Route) (c : Certificate) (rounds : List Round) (spot : Option Spot) (text : List ℕ) → IsModel m
-      → IsFound way m c rounds → FitsLines limit m c → spot ≡ None → text ≡ status_line way c.status c.value → Tells limit m way spot text
+  pub tells_found : (way : Route) (c : Certificate) (rounds : List Round) (spot : Option Spot) (text : List ℕ)
+      → IsModel m
+      → IsFound way m c rounds → FitsLines limit m c → spot ≡ None → text ≡ status_line way c.status c.value
+      → IsLineOf limit m way spot text
   tells_found way c rounds spot text model found fits e is =
-      subst (λ (o : Option Spot). Tells limit m way o text) (sym e) (
+      subst (λ (o : Option Spot). IsLineOf limit m way o text) (sym e) (
         c.status,
         record {
           c = c;
@@ -48,27 +49,37 @@ module _ (limit : ℕ) (m : RobustModel) where
         },
       )
 
-  pub tells_spot : (way : Route) (spot : Spot) (told : Option Spot) (text : List ℕ) → TellsWide limit m way spot text → told ≡ Some spot
-      → Tells limit m way told text
-  tells_spot way spot told text h e = subst (λ (o : Option Spot). Tells limit m way o text) (sym e) h
+  pub tells_spot : (way : Route) (spot : Spot) (told : Option Spot) (text : List ℕ)
+      → TellsWide limit m way spot text → told ≡ Some spot
+      → IsLineOf limit m way told text
+  tells_spot way spot told text h e = subst (λ (o : Option Spot). IsLineOf limit m way o text) (sym e) h
 
   -- the result of a route: with a certificate, or with a wide number
-  pub found_tells : {T : Type 0} (way : Route) (c : Certificate) (rounds : List Round) (spot : T → Option Spot) (text : T → List ℕ)
-      (r : Result T Want) → IsModel m → IsFound way m c rounds → FitsLines limit m c → IfOk r (λ told. text told ≡ status_line way c.status c.value)
-      → IfOk r (λ told. spot told ≡ None) → IfOk r (λ told. Tells limit m way (spot told) (text told))
+  pub found_tells : {T : Type 0} (way : Route) (c : Certificate) (rounds : List Round)
+      (spot : T → Option Spot) (text : T → List ℕ)
+      (r : Result T Want) → IsModel m → IsFound way m c rounds → FitsLines limit m c
+      → IfOk r (λ told. text told ≡ status_line way c.status c.value)
+      → IfOk r (λ told. spot told ≡ None) → IfOk r (λ told. IsLineOf limit m way (spot told) (text told))
   found_tells way c rounds spot text (Err want) model found fits is none = tt
   found_tells way c rounds spot text (Ok told) model found fits is none =
       tells_found way c rounds (spot told) (text told) model found fits none is
 
-  pub wide_tells : {T : Type 0} (way : Route) (place : Spot) (rounds : List Round) (spot : T → Option Spot) (text : T → List ℕ) (r : Result T Want)
+  pub wide_tells : {T : Type 0} (way : Route) (place : Spot) (rounds : List Round) (spot : T → Option Spot)
+      (text : T → List ℕ) (r : Result T Want)
       → IsWideBy way limit m place rounds → Each (RoundFits limit) rounds
       → IfOk r (λ told. text told ≡ with_rounds way m rounds (wide_line way m place))
-      → IfOk r (λ told. spot told ≡ Some place) → IfOk r (λ told. Tells limit m way (spot told) (text told))
+      → IfOk r (λ told. spot told ≡ Some place) → IfOk r (λ told. IsLineOf limit m way (spot told) (text told))
   wide_tells way place rounds spot text (Err want) wide fits is some = tt
   wide_tells way place rounds spot text (Ok told) wide fits is some =
-      tells_spot way place (spot told) (text told) (record { rounds = rounds; wide = wide; rounds_fit = fits; printed = is }) some
+      tells_spot way place (spot told) (text told) (record {
+        rounds = rounds;
+        wide = wide;
+        rounds_fit = fits;
+        printed = is;
+      }) some
 
-  either_of : (way : Route) (told : Option Spot) (text : List ℕ) → Tells limit m way told text → TellsEither limit m way text
+  either_of : (way : Route) (told : Option Spot) (text : List ℕ) → IsLineOf limit m way told text
+      → TellsEither limit m way text
   either_of way None text h = a_status h.0 h.1
   either_of way (Some spot) text h = a_spot spot h
 
@@ -80,7 +91,8 @@ module _ (limit : ℕ) (m : RobustModel) where
   one_value a v w h k is =
       one_optimum m v w (subst (λ (s : Status). HasStatus m s v) is h) (subst (λ (s : Status). HasStatus m s w) is k)
 
-  pub same_told : (way : Route) (a b : Status) (text : List ℕ) → a ≡ b → TellsStatus limit m way a text → TellsStatus limit m way b text
+  pub same_told : (way : Route) (a b : Status) (text : List ℕ) → a ≡ b → TellsStatus limit m way a text
+      → TellsStatus limit m way b text
   same_told way a b text e h = subst (λ (s : Status). TellsStatus limit m way s text) e h
 
 -- ---- the summary
@@ -95,8 +107,9 @@ module _ (line : Line) (number : ℕ) (is_gen : line.verb ≡ Gen) (told : Tells
     asks : AsksFor call line number
     asks = record { spelled = spelled; is_gen = is_gen; told = told }
 
-    means_first : (dual cuts : Option Spot) (by_dual by_cuts text : List ℕ) → Tells limit m Dual dual by_dual → Tells limit m Cuts cuts by_cuts
-        → IsCounted wides dual → IsCounted wides cuts → text ≡ heading number ++ (by_dual ++ by_cuts)
+    means_first : (dual cuts : Option Spot) (by_dual by_cuts text : List ℕ) → IsLineOf limit m Dual dual by_dual
+        → IsLineOf limit m Cuts cuts by_cuts
+        → RoseAtSpot wides dual → RoseAtSpot wides cuts → text ≡ heading number ++ (by_dual ++ by_cuts)
         → Means call (first_ended dual cuts) text
     means_first (Some spot) cuts by_dual by_cuts text h k raised other is =
         in_summary (record {
@@ -139,9 +152,11 @@ module _ (line : Line) (number : ℕ) (is_gen : line.verb ≡ Gen) (told : Tells
   summary_means : (reply : Reply) → RepliesCompared limit wides number reply → AnswersNumber line wides reply
   summary_means reply h call spelled same =
       subst (λ (ended : Ended). Means call ended reply.text) (sym h.replies.0)
-      (means_first call spelled same h.dual h.cuts h.by_dual h.by_cuts reply.text h.dual_told h.cuts_told h.dual_counted h.cuts_counted
+      (means_first call spelled same h.dual h.cuts h.by_dual h.by_cuts reply.text h.dual_told h.cuts_told
+      h.dual_counted h.cuts_counted
       h.replies.1)
 
-  pub compared_answers : (r : Result Reply Want) → IfOk r (RepliesCompared limit wides number) → IfOk r (AnswersNumber line wides)
+  pub compared_answers : (r : Result Reply Want) → IfOk r (RepliesCompared limit wides number)
+      → IfOk r (AnswersNumber line wides)
   compared_answers (Err want) h = tt
   compared_answers (Ok reply) h = summary_means reply h

@@ -1,4 +1,5 @@
--- How a call must end: what its words and files decide, in one record; and what follows for the text that `prove` prints.
+-- How a call must end: what its words and files decide, in one record; and what
+-- follows for the text that `prove` prints.
 use Rattle.std.proofs.Common.{◌≡◌, ℕ, ◌-◌, ◌^◌, List, [], refl, sym, ◌∙◌, ap, subst, inl, inr, ◌⊎◌}
 use Rattle.rob_cert.specs.Apart.{FitsLines}
 use Rattle.rob_cert.specs.Shape.{HasShape}
@@ -25,7 +26,7 @@ use Rattle.rob_reach.specs.WholeStatus.{HasWholeStatus}
 use Rattle.rob_runs.specs.Spots.{IsWideSlack}
 use Rattle.rob_sweep.specs.Stops.{KeepsRules}
 use Rattle.rob_top.proofs.AnswerLemmas.{no_command}
-use Rattle.rob_top.proofs.ComingLemmas.{Comes, comes_ends}
+use Rattle.rob_top.proofs.ComingLemmas.{Comes, comes_ends, ends_in}
 use Rattle.rob_top.proofs.ComparedAnswerLemmas.{compared_ends}
 use Rattle.rob_top.proofs.KnownInputs.{known_again}
 use Rattle.rob_top.proofs.KnownLemmas.{means_known}
@@ -34,7 +35,8 @@ use Rattle.rob_top.proofs.GeneratedLemmas.{generated_decides}
 use Rattle.rob_top.proofs.NarrowAnswerLemmas.{has_status, narrow_decides, no_wide_answer, shown_answer}
 use Rattle.rob_top.proofs.ReplayAnswerLemmas.{planless_decides, replay_decides}
 use Rattle.rob_top.proofs.StageLemmas.{broken_answer}
-use Rattle.rob_top.proofs.TrueAnswerLemmas.{empty_decides, missing_decides, rows_decide, rule_decides, solve_decides, status_decides, too_long_decides, verdict_decides, well, wide_decides}
+use Rattle.rob_top.proofs.AbsentAnswerLemmas.{missing_decides, too_long_decides}
+use Rattle.rob_top.proofs.TrueAnswerLemmas.{empty_decides, rows_decide, rule_decides, solve_decides, status_decides, verdict_decides, well, wide_decides}
 use Rattle.rob_top.proofs.WholeAnswerLemmas.{some_whole_status, whole_decides, whole_empty_decides, whole_status_decides, whole_wide_decides}
 use Rattle.rob_top.proofs.WorstAnswerLemmas.{unnamed_decides, unplanned_decides, worst_decides, worst_empty_decides, worst_printed_decides, worst_slack_decides}
 use Rattle.rob_top.proofs.TreeAnswerLemmas.{accepted_tree, breaking_decides, judged_tree, proved_tree, tree_broken_decides, tree_verdict_decides, unproved_tree}
@@ -64,7 +66,8 @@ use Rattle.rob_words.specs.declared.width.Width.{Width}
 
 -- one answer, where no file is read
 comes_printed : (call : Call) (ended : Ended) → Comes call ended
-    → ((text : List ℕ) → Means call ended text → (ended ≡ Printed) ⊎ (ended ≡ Memory)) → (ended ≡ Printed) ⊎ IsUnput ended
+    → ((text : List ℕ) → Means call ended text → (ended ≡ Printed) ⊎ (ended ≡ Memory))
+    → (ended ≡ Printed) ⊎ IsUnput ended
 comes_printed call ended (inl h) decides = by (decides h.0 h.1)
   where
     by : (ended ≡ Printed) ⊎ (ended ≡ Memory) → (ended ≡ Printed) ⊎ IsUnput ended
@@ -79,12 +82,14 @@ module _ (limit : ℕ) (m : RobustModel) (c : Certificate) where
   proved_outside ended (inr (inl e)) = subst (λ (x : Ended). IsProvedAnswer limit m c x) (sym e) (inr (inl refl))
   proved_outside ended (inr (inr e)) = subst (λ (x : Ended). IsProvedAnswer limit m c x) (sym e) (inr (inr refl))
 
-  proved_ends : IsModel m → HasShape m c → Proves m c → (ended : Ended) → EndsAs (verdict_ended (verdict_of limit m c)) ended
+  proved_ends : IsModel m → HasShape m c → Proves m c → (ended : Ended)
+      → EndsAs (verdict_ended (verdict_of limit m c)) ended
       → IsProvedAnswer limit m c ended
   proved_ends model shape proves ended (inr outside) = proved_outside ended outside
   proved_ends model shape proves ended (inl e) = by (verdict_of limit m c) refl
     where
-      at : (v : Verdict) → verdict_of limit m c ≡ v → IsProvedAnswer limit m c (verdict_ended v) → IsProvedAnswer limit m c ended
+      at : (v : Verdict) → verdict_of limit m c ≡ v → IsProvedAnswer limit m c (verdict_ended v)
+          → IsProvedAnswer limit m c ended
       at v h answer = subst (λ (x : Ended). IsProvedAnswer limit m c x) (sym (e ∙ ap verdict_ended h)) answer
 
       by : (v : Verdict) → verdict_of limit m c ≡ v → IsProvedAnswer limit m c ended
@@ -106,27 +111,25 @@ module _ (call : Call) (known : Known call.source) (ended : Ended) (comes : Come
 
   module _ (line : Line) (m : RobustModel) where
     solving_ends : HasForms call line m → IsSolving line.verb → IsSolveAnswer line.way (limit_of line) m ended
-    solving_ends has solves = by comes
-      where
-        by : Comes call ended → IsSolveAnswer line.way (limit_of line) m ended
-        by (inl h) = solve_decides call known line m has solves ended h.0 h.1
-        by (inr (inl e)) = subst (λ (x : Ended). IsSolveAnswer line.way (limit_of line) m x) (sym e) (inr (inl refl))
-        by (inr (inr e)) = subst (λ (x : Ended). IsSolveAnswer line.way (limit_of line) m x) (sym e) (inr (inr refl))
+    solving_ends has solves =
+        ends_in call (λ (x : Ended). IsSolveAnswer line.way (limit_of line) m x) ended
+        (inr (inl refl)) (inr (inr refl)) comes
+        (solve_decides call known line m has solves ended)
 
     empty_ends : HasForms call line m → IsSolving line.verb → IsEmptySet m → IsEmptyAnswer (limit_of line) m ended
-    empty_ends has solves none = by comes
-      where
-        by : Comes call ended → IsEmptyAnswer (limit_of line) m ended
-        by (inl h) = empty_decides call known line m has solves none ended h.0 h.1
-        by (inr (inl e)) = subst (λ (x : Ended). IsEmptyAnswer (limit_of line) m x) (sym e) (inr (inl refl))
-        by (inr (inr e)) = subst (λ (x : Ended). IsEmptyAnswer (limit_of line) m x) (sym e) (inr (inr refl))
+    empty_ends has solves none =
+        ends_in call (λ (x : Ended). IsEmptyAnswer (limit_of line) m x) ended (inr (inl refl)) (inr (inr refl)) comes
+        (empty_decides call known line m has solves none ended)
 
     -- a narrow model has no wide number on the way by the counterpart
-    none_on_way : line.way ≡ Dual → IsNarrowModel (limit_of line) m → (spot : Spot) → IsWideOnWay line.way (limit_of line) m spot → ⊥
+    none_on_way : line.way ≡ Dual → IsNarrowModel (limit_of line) m → (spot : Spot)
+        → IsWideOnWay line.way (limit_of line) m spot → ⊥
     none_on_way by_dual narrow spot wide =
-        narrow_spot (limit_of line) m spot narrow (subst (λ (w : Route). IsWideOnWay w (limit_of line) m spot) by_dual wide)
+        narrow_spot (limit_of line) m spot narrow
+        (subst (λ (w : Route). IsWideOnWay w (limit_of line) m spot) by_dual wide)
 
-    narrow_spot_ends : (spot : Spot) → HasForms call line m → IsSolving line.verb → line.way ≡ Dual → IsNarrowModel (limit_of line) m
+    narrow_spot_ends : (spot : Spot) → HasForms call line m → IsSolving line.verb → line.way ≡ Dual
+        → IsNarrowModel (limit_of line) m
         → ended ≡ TooWide spot → ⊥
     narrow_spot_ends spot has solves by_dual narrow =
         no_wide_answer (limit_of line) m narrow ended spot
@@ -146,37 +149,28 @@ module _ (call : Call) (known : Known call.source) (ended : Ended) (comes : Come
 
     module _ (names : List ℕ) (has : HasWholeVariables call line m names) (is : IsBranching line.verb) where
       whole_ends : IsWholeAnswer (limit_of line) m names ended
-      whole_ends = by comes
-        where
-          by : Comes call ended → IsWholeAnswer (limit_of line) m names ended
-          by (inl h) = whole_decides call known line m names has is ended h.0 h.1
-          by (inr (inl e)) = subst (λ (x : Ended). IsWholeAnswer (limit_of line) m names x) (sym e) (inr (inl refl))
-          by (inr (inr e)) = subst (λ (x : Ended). IsWholeAnswer (limit_of line) m names x) (sym e) (inr (inr refl))
+      whole_ends =
+          ends_in call (λ (x : Ended). IsWholeAnswer (limit_of line) m names x) ended
+          (inr (inl refl)) (inr (inr refl)) comes
+          (whole_decides call known line m names has is ended)
 
       whole_empty_ends : IsEmptySet m → IsEmptyWholeAnswer (limit_of line) m ended
-      whole_empty_ends none = by comes
-        where
-          by : Comes call ended → IsEmptyWholeAnswer (limit_of line) m ended
-          by (inl h) = whole_empty_decides call known line m names has is none ended h.0 h.1
-          by (inr (inl e)) = subst (λ (x : Ended). IsEmptyWholeAnswer (limit_of line) m x) (sym e) (inr (inl refl))
-          by (inr (inr e)) = subst (λ (x : Ended). IsEmptyWholeAnswer (limit_of line) m x) (sym e) (inr (inr refl))
+      whole_empty_ends none =
+          ends_in call (λ (x : Ended). IsEmptyWholeAnswer (limit_of line) m x) ended
+          (inr (inl refl)) (inr (inr refl)) comes
+          (whole_empty_decides call known line m names has is none ended)
 
     module _ (c : Certificate) (form : ℕ) (has : HasSought call line m c form) where
       worst_ends : IsWorstAnswer (limit_of line) m form (certificate_vector c) ended
-      worst_ends = by comes
-        where
-          by : Comes call ended → IsWorstAnswer (limit_of line) m form (certificate_vector c) ended
-          by (inl h) = worst_decides call known line m c form has ended h.0 h.1
-          by (inr (inl e)) = subst (λ (x : Ended). IsWorstAnswer (limit_of line) m form (certificate_vector c) x) (sym e) (inr (inl refl))
-          by (inr (inr e)) = subst (λ (x : Ended). IsWorstAnswer (limit_of line) m form (certificate_vector c) x) (sym e) (inr (inr refl))
+      worst_ends =
+          ends_in call (λ (x : Ended). IsWorstAnswer (limit_of line) m form (certificate_vector c) x) ended
+          (inr (inl refl)) (inr (inr refl)) comes
+          (worst_decides call known line m c form has ended)
 
       worst_empty_ends : IsEmptySet m → IsEmptyAnswer (limit_of line) m ended
-      worst_empty_ends none = by comes
-        where
-          by : Comes call ended → IsEmptyAnswer (limit_of line) m ended
-          by (inl h) = worst_empty_decides call known line m c form has none ended h.0 h.1
-          by (inr (inl e)) = subst (λ (x : Ended). IsEmptyAnswer (limit_of line) m x) (sym e) (inr (inl refl))
-          by (inr (inr e)) = subst (λ (x : Ended). IsEmptyAnswer (limit_of line) m x) (sym e) (inr (inr refl))
+      worst_empty_ends none =
+          ends_in call (λ (x : Ended). IsEmptyAnswer (limit_of line) m x) ended (inr (inl refl)) (inr (inr refl)) comes
+          (worst_empty_decides call known line m c form has none ended)
 
       worst_slack_ends : IsWideSlack (limit_of line) m form (certificate_vector c)
           → NamesWideSought (limit_of line) m form (certificate_vector c) ended
@@ -186,7 +180,8 @@ module _ (call : Call) (known : Known call.source) (ended : Ended) (comes : Come
           by (inl h) = worst_slack_decides call known line m c form has wide ended h.0 h.1
           by (inr e) = inr (inr e)
 
-    whole_status_ends : (names : List ℕ) (u : List Fraction) → HasWholeVariables call line m names → IsBranching line.verb → Admits m u
+    whole_status_ends : (names : List ℕ) (u : List Fraction) → HasWholeVariables call line m names
+        → IsBranching line.verb → Admits m u
         → IsNarrowBelow (limit_of line) m names
         → (status : Status) × (v : Fraction) × HasWholeStatus m names status v × EndsAs (ended_of status) ended
     whole_status_ends names u has is admitted narrow =
@@ -198,7 +193,8 @@ module _ (call : Call) (known : Known call.source) (ended : Ended) (comes : Come
               (whole_status_decides call known line m names has is u admitted narrow s.0 s.1 s.2 ended),
         )
 
-    tree_verdict_ends : (names : List ℕ) (t : Tree) → HasTree call line m names t → IsTreeAnswer (limit_of line) m names t ended
+    tree_verdict_ends : (names : List ℕ) (t : Tree) → HasTree call line m names t
+        → IsTreeAnswer (limit_of line) m names t ended
     tree_verdict_ends names t has = by comes
       where
         by : Comes call ended → IsTreeAnswer (limit_of line) m names t ended
@@ -207,19 +203,19 @@ module _ (call : Call) (known : Known call.source) (ended : Ended) (comes : Come
 
     sweep_ends : (n : ℕ) (gs : List Fraction) → HasSweep call line m n gs → KeepsRules m.set_lines n gs
         → IsSweepAnswer (limit_of line) m n gs ended
-    sweep_ends n gs has keeps = by comes
-      where
-        by : Comes call ended → IsSweepAnswer (limit_of line) m n gs ended
-        by (inl h) = sweep_decides call known line m n gs has keeps ended h.0 h.1
-        by (inr (inl e)) = subst (λ (x : Ended). IsSweepAnswer (limit_of line) m n gs x) (sym e) (inr (inl refl))
-        by (inr (inr e)) = subst (λ (x : Ended). IsSweepAnswer (limit_of line) m n gs x) (sym e) (inr (inr refl))
+    sweep_ends n gs has keeps =
+        ends_in call (λ (x : Ended). IsSweepAnswer (limit_of line) m n gs x) ended
+        (inr (inl refl)) (inr (inr refl)) comes
+        (sweep_decides call known line m n gs has keeps ended)
 
     module _ (c : Certificate) (has : HasCertificate call line m c) where
       read_model : IsModel m
       read_model = well call known line m has.file.forms.model
 
       verdict_ends : EndsAs (verdict_ended (verdict_of (limit_of line) m c)) ended
-      verdict_ends = comes_ends call (verdict_ended (verdict_of (limit_of line) m c)) ended comes (verdict_decides call known line m c has ended)
+      verdict_ends =
+          comes_ends call (verdict_ended (verdict_of (limit_of line) m c)) ended comes
+          (verdict_decides call known line m c has ended)
 
       verdict_at : (v : Verdict) → verdict_of (limit_of line) m c ≡ v → EndsAs (verdict_ended v) ended
       verdict_at v e = subst (λ (x : Verdict). EndsAs (verdict_ended x) ended) e verdict_ends
@@ -247,16 +243,21 @@ module _ (call : Call) (known : Known call.source) (ended : Ended) (comes : Come
     solving = solving_ends;
     empty = empty_ends;
     status = λ line m status v u has solves holds admitted narrow.
-        comes_ends call _ ended comes (status_decides call known line m has solves status v holds u admitted narrow ended);
+        comes_ends call _ ended comes
+        (status_decides call known line m has solves status v holds u admitted narrow ended);
     narrow = λ line m has is. comes_ends call Printed ended comes (narrow_decides call known line m has is ended);
     narrow_spot = narrow_spot_ends;
     narrow_status = narrow_status_ends;
-    narrow_empty = λ line m has solves narrow none. shown_answer (limit_of line) m narrow ended (empty_ends line m has solves none);
+    narrow_empty =
+        λ line m has solves narrow none.
+        shown_answer (limit_of line) m narrow ended (empty_ends line m has solves none);
     broken = λ line m bytes rule number has breaks.
-        comes_ends call (Cert rule number) ended comes (rule_decides call known line m bytes rule number has breaks ended);
+        comes_ends call (Cert rule number) ended comes
+        (rule_decides call known line m bytes rule number has breaks ended);
     verdict = verdict_ends;
     proved = λ line m c has proves.
-        proved_ends (limit_of line) m c (read_model line m c has) has.text.shape proves ended (verdict_ends line m c has);
+        proved_ends (limit_of line) m c (read_model line m c has) has.text.shape proves ended
+        (verdict_ends line m c has);
     accepted = λ line m c has narrow proves.
         verdict_at line m c has verdicts.Accepted ((decided line m c has narrow).accepted.1 proves);
     rejected = rejected_ends;
@@ -269,16 +270,20 @@ module _ (call : Call) (known : Known call.source) (ended : Ended) (comes : Come
         comes_ends call (Whole rule) ended comes (breaking_decides call known line m rule breaks ended);
     whole = whole_ends;
     whole_wide = λ line m names spot has is first.
-        comes_ends call (WideNode [] spot) ended comes (whole_wide_decides call known line m names has is spot first ended);
+        comes_ends call (WideNode [] spot) ended comes
+        (whole_wide_decides call known line m names has is spot first ended);
     whole_empty = whole_empty_ends;
     whole_status = whole_status_ends;
     no_plan = λ line m rule number gives_none.
-        comes_ends call (Cert rule number) ended comes (unplanned_decides call known line m rule number gives_none ended);
-    no_row = λ line m c name none. comes_ends call NoRow ended comes (unnamed_decides call known line m c name none ended);
+        comes_ends call (Cert rule number) ended comes
+        (unplanned_decides call known line m rule number gives_none ended);
+    no_row = λ line m c name none.
+        comes_ends call NoRow ended comes (unnamed_decides call known line m c name none ended);
     worst = worst_ends;
     worst_empty = worst_empty_ends;
     worst_printed = λ line m c form u has admitted narrow.
-        comes_ends call Printed ended comes (worst_printed_decides call known line m c form has u admitted narrow ended);
+        comes_ends call Printed ended comes
+        (worst_printed_decides call known line m c form has u admitted narrow ended);
     worst_slack = worst_slack_ends;
     tree_broken = λ line m names bytes rule number has breaks.
         comes_ends call (TreeRule rule number) ended comes
@@ -299,7 +304,8 @@ module _ (call : Call) (known : Known call.source) (ended : Ended) (comes : Come
         comes_ends call Printed ended comes (narrow_sweep_decides call known line m n gs has keeps narrow ended);
     limit_rule = λ line m n g has none.
         comes_ends call (Sweep 81) ended comes (limit_rule_decides call known line m n g has none ended);
-    limited = λ line m n g has budget. comes_ends call Printed ended comes (limit_decides call known line m n g has budget ended);
+    limited = λ line m n g has budget.
+        comes_ends call Printed ended comes (limit_decides call known line m n g has budget ended);
     split = split_ends call known ended comes;
     compared = compared_ends call known ended comes;
     generated = λ line spelled is. comes_printed call ended comes (generated_decides call known line spelled is ended);
@@ -355,17 +361,21 @@ module _ (proving : Call) (status : Status) (text : List ℕ) (solved : IsSolved
   pub printed_text : solved.line.verb ≡ Prove → IsTextOf solved.m solved.c text
   printed_text is_prove = record {
     shape = solved.shape;
-    spelled = subst (λ (v : Verb). IsPrinted proving v solved.line.way solved.m solved.c solved.rounds text) is_prove solved.printed;
+    spelled = subst (λ (v : Verb). IsPrinted proving v solved.line.way solved.m solved.c solved.rounds text)
+        is_prove solved.printed;
   }
 
   pub printed_fits : (line : Line) → line.width ≡ solved.line.width → FitsLines (limit_of line) solved.m solved.c
-  printed_fits line width = subst (λ (w : Width). FitsLines (2 ^ bits_of w - 1) solved.m solved.c) (sym width) solved.fits
+  printed_fits line width =
+      subst (λ (w : Width). FitsLines (2 ^ bits_of w - 1) solved.m solved.c) (sym width) solved.fits
 
 -- ---- as the file of a certificate
-module _ (proving checking : Call) (known : Known checking.source) (status : Status) (text : List ℕ) (solved : IsSolved proving status text)
+module _ (proving checking : Call) (known : Known checking.source) (status : Status) (text : List ℕ)
+    (solved : IsSolved proving status text)
     (line : Line) (ended : Ended) where
   printed_certificate : solved.line.verb ≡ Prove → line.width ≡ solved.line.width
-      → HasCertificateFile (known_call checking known) line solved.m text → HasCertificate (known_call checking known) line solved.m solved.c
+      → HasCertificateFile (known_call checking known) line solved.m text
+      → HasCertificate (known_call checking known) line solved.m solved.c
   printed_certificate is_prove width file = record {
     bytes = text;
     file = file;

@@ -1,9 +1,9 @@
 -- The cuts that a word spells, read from the left; and that it spells one list of cuts.
-use Rattle.std.proofs.Common.{pos, ◌≡◌, ◌≤◌, ◌<◌, ◌==◌, ◌+◌, ◌∙◌, ℕ, List, [], ◌∷◌, ◌++◌, length, map, Option, None, Some, Bool, true, false, inl, inr, refl, sym, ap, subst, arith, append_assoc}
+use Rattle.std.proofs.Common.{pos, ◌≡◌, ◌≤◌, ◌<◌, ◌==◌, ◌+◌, ◌∙◌, ℕ, List, [], ◌∷◌, ◌++◌, length, map, Option, None, Some, Bool, true, false, inl, inr, refl, sym, ap, subst, arith}
 use Rattle.std.proofs.lemmas.Bool.{cases_Bool}
-use Rattle.std.proofs.lemmas.List.{append-nil, length-append, length-map, map-append}
+use Rattle.std.proofs.lemmas.List.{length-map, map-append}
 use Rattle.std.proofs.lemmas.Option.{get_or_from_slice_get, slice_get-get_or, slice_get_within}
-use Rattle.std.specs.Prelude.{MatchOption, slice_get}
+use Rattle.std.specs.Prelude.{slice_get}
 use Rattle.rob_algebra.specs.Fraction.{of_pair}
 use Rattle.rob_cert.proofs.CoverLemmas.{one_number}
 use Rattle.rob_cert.specs.Spelling.{name_at}
@@ -13,10 +13,11 @@ use Rattle.rob_meaning.specs.WellFormed.{IsModel}
 use Rattle.rob_model.proofs.OwnNames.{parameters_distinct}
 use Rattle.rob_model.specs.Naming.{Finds, FindsOwn}
 use Rattle.rob_pieces.specs.Cuts.{AreCuts, Cut}
+use Rattle.rob_top.proofs.ToldLemmas as lists
 use Rattle.rob_top.specs.Split.{AreCutsAt, IsCutAt, signed_value}
 use Rattle.rob_words.specs.Cuts.{IsCut, IsCutList, SpellsCut, cut_level, cut_name, has_sign, unsigned}
 use Rattle.rob_words.specs.Limits.{numerator_of}
-use Rattle.rob_words.specs.Names.{AreAll, in_front, is_comma, parts_behind, parts_of}
+use Rattle.rob_words.specs.Names.{in_front, is_comma, parts_behind, parts_of}
 use Rattle.rob_words.specs.Values.{Word}
 use Rattle.rob_words.specs.declared.cuts.CutWord.{CutWord}
 
@@ -42,7 +43,8 @@ module _ (m : RobustModel) where
     cut_once : (word : Word) (a b : Cut) → IsCutAt m word a → IsCutAt m word b → a ≡ b
     cut_once word a b h k =
         let number : a.parameter ≡ b.parameter =
-        one_number (parameter_names m) a.parameter b.parameter (parameters_distinct m model named) (names_in a.parameter h.inside)
+        one_number (parameter_names m) a.parameter b.parameter (parameters_distinct m model named)
+        (names_in a.parameter h.inside)
         (names_in b.parameter k.inside) (h.named ∙ sym k.named)
         in
         let level : a.level ≡ b.level = h.level ∙ sym k.level in
@@ -64,7 +66,8 @@ module _ (m : RobustModel) where
   cuts_inside (word ∷ list) (c ∷ cuts) h = (h.0.inside, cuts_inside list cuts h.1)
 
   -- ---- the cut of a word
-  pub cut_told : (word : Word) (told : CutWord) (name : Word) (k : ℕ) (cut : Cut) → SpellsCut word told → name ≡ told.name.now
+  pub cut_told : (word : Word) (told : CutWord) (name : Word) (k : ℕ) (cut : Cut)
+      → SpellsCut word told → name ≡ told.name.now
       → Finds (parameter_names m) name (Some k) → cut.parameter ≡ k
       → cut.level ≡ signed_value told.negative (of_pair (pos told.numerator) told.denominator) → IsCutAt m word cut
   cut_told word told name k cut spells name_is finds number level =
@@ -86,7 +89,8 @@ module _ (m : RobustModel) where
             spells.denominator;
       }
 
-  pub cut_missing : (word : Word) → FindsOwn (parameter_names m) (cut_name word) None → (cut : Cut) → IsCutAt m word cut → ⊥
+  pub cut_missing : (word : Word) → FindsOwn (parameter_names m) (cut_name word) None → (cut : Cut)
+      → IsCutAt m word cut → ⊥
   cut_missing word own cut h =
       let inside : cut.parameter < length (parameter_names m) =
       subst (λ n. cut.parameter < n) (sym (length-map m.parameters (λ (p : Parameter). p.name))) h.inside
@@ -96,85 +100,66 @@ module _ (m : RobustModel) where
       in
       cc
 
-  -- ---- cuts one by one: of all words those in front of the rest spell these cuts, 3 at most
-  pub record HasTold (greatest : ℕ) (all : List Word) (told : List Cut) (rest : List Word) : Type 0 where
-    pub adds : (more : List Cut) → AreCutsAt m rest more → AreCutsAt m all (told ++ more)
-    pub has : (cuts : List Cut) → AreCutsAt m all cuts → (more : List Cut) × AreCutsAt m rest more
-    pub list : AreAll (IsCut greatest) all → AreAll (IsCut greatest) rest
-    pub counted : length told + length rest ≡ length all
-    pub few : length told ≤ 3
+  -- ---- cuts one by one: of all words those in front of the rest spell these
+  -- cuts, 3 at most; the rest are cuts, where all are
+  abbrev pub HasTold : ℕ → List Word → List Cut → List Word → Type 0
+  HasTold greatest all cuts rest = lists.HasTold (IsCut greatest) (AreCutsAt m) 3 all cuts rest
 
   pub told_nothing : (greatest : ℕ) (all : List Word) → HasTold greatest all [] all
-  told_nothing greatest all = record {
-    adds = λ more h. h;
-    has = λ cuts h. (cuts, h);
-    list = λ h. h;
-    counted = omega arith;
-    few = omega arith;
-  }
+  told_nothing greatest all = lists.told_nothing (IsCut greatest) (AreCutsAt m) 3 all
 
-  module _ (greatest : ℕ) (all : List Word) (told : List Cut) where
-    -- the next word stands in front of the rest
-    pub told_part : (o : Option Word) (word first : Word) (behind : Option Word) → HasTold greatest all told (parts_behind o)
-        → o ≡ Some word → parts_of word ≡ first ∷ parts_behind behind → HasTold greatest all told (first ∷ parts_behind behind)
-    told_part o word first behind read is parts =
-        subst (λ (rest : List Word). HasTold greatest all told rest) (ap parts_behind is ∙ parts) read
+  module _ (greatest : ℕ) (all : List Word) (cuts : List Cut) where
+    pub told_part : (o : Option Word) (word first : Word) (behind : Option Word)
+        → HasTold greatest all cuts (parts_behind o)
+        → o ≡ Some word → parts_of word ≡ first ∷ parts_behind behind
+        → HasTold greatest all cuts (first ∷ parts_behind behind)
+    told_part = lists.told_part (IsCut greatest) (AreCutsAt m) 3 all cuts
 
     -- none is left
-    pub told_all : (o : Option Word) → HasTold greatest all told (parts_behind o) → o ≡ None → 0 < length all
-        → AreCutsAt m all told × ((0 < length told) × (length told ≤ 3))
+    pub told_all : (o : Option Word) → HasTold greatest all cuts (parts_behind o) → o ≡ None → 0 < length all
+        → AreCutsAt m all cuts × ((0 < length cuts) × (length cuts ≤ 3))
     told_all o read is some =
-        let end = subst (λ (rest : List Word). HasTold greatest all told rest) (ap parts_behind is) read in (
-          subst (λ (cuts : List Cut). AreCutsAt m all cuts) (append-nil told) (end.adds [] tt),
+        let end = lists.told_end (IsCut greatest) (AreCutsAt m) 3 all cuts o read is in (
+          lists.told_all (IsCut greatest) (AreCutsAt m) 3 all cuts end tt,
           (
-            (let counted : length told + 0 ≡ length all = end.counted in omega (arith, counted, some)),
+            (let counted : length cuts + 0 ≡ length all = end.counted in omega (arith, counted, some)),
             end.few,
           ),
         )
 
-    module _ (first : Word) (rest : List Word) (read : HasTold greatest all told (first ∷ rest)) where
-      pub told_more : (cut : Cut) → IsCutAt m first cut → (length told ≡ 3 → ⊥) → HasTold greatest all (told ++ cut ∷ []) rest
+    module _ (first : Word) (rest : List Word) (read : HasTold greatest all cuts (first ∷ rest)) where
+      pub told_more : (cut : Cut) → IsCutAt m first cut → (length cuts ≡ 3 → ⊥)
+          → HasTold greatest all (cuts ++ cut ∷ []) rest
       told_more cut is more =
-          let grown : length (told ++ cut ∷ []) ≡ length told + 1 = length-append told (cut ∷ []) in
-          record {
-            adds = λ cuts h.
-                subst (λ (xs : List Cut). AreCutsAt m all xs) (sym (append_assoc told (cut ∷ []) cuts)) (read.adds (cut ∷ cuts) (is, h));
-            has = λ cuts h. (let left = read.has cuts h in behind left.0 left.1);
-            list = λ h. (read.list h).1;
-            counted = (let counted : length told + length (first ∷ rest) ≡ length all = read.counted in omega (arith, counted, grown));
-            few = under (length told) (length (told ++ cut ∷ [])) grown read.few more;
-          }
+          lists.told_more (IsCut greatest) (AreCutsAt m) 3 all cuts first rest read cut
+          (λ behind h. (is, h)) behind more
         where
-          under : (a b : ℕ) → b ≡ a + 1 → a ≤ 3 → (a ≡ 3 → ⊥) → b ≤ 3
-          under a b e few more = grind arith
-
-          behind : (cuts : List Cut) → AreCutsAt m (first ∷ rest) cuts → (more : List Cut) × AreCutsAt m rest more
+          behind : (list : List Cut) → AreCutsAt m (first ∷ rest) list → (more : List Cut) × AreCutsAt m rest more
           behind [] h = absurd h
-          behind (c ∷ cuts) h = (cuts, h.1)
+          behind (c ∷ list) h = (list, h.1)
 
       -- there are 3 already
-      pub too_many : (word : Word) → all ≡ parts_of word → length told ≡ 3 → IsCutList greatest word → ⊥
-      too_many word is full list =
-          let counted : length told + length (first ∷ rest) ≡ length all = read.counted in
-          let same : length all ≡ length (parts_of word) = ap (λ (xs : List Word). length xs) is in
-          absurd (omega (arith, counted, same, full, list.few))
+      pub too_many : (word : Word) → all ≡ parts_of word → length cuts ≡ 3 → IsCutList greatest word → ⊥
+      too_many = lists.too_many (IsCut greatest) (AreCutsAt m) 3 all cuts first rest read
 
       -- the next word is the cut of no parameter
       pub no_cut : (word : Word) → all ≡ parts_of word → (IsCut greatest first → (cut : Cut) → IsCutAt m first cut → ⊥)
-          → IsCutList greatest word → (cuts : List Cut) → AreCutsAt m all cuts → ⊥
-      no_cut word is none list cuts h =
-          let left = read.has cuts h in
-          by left.0 left.1 (read.list (subst (λ (xs : List Word). AreAll (IsCut greatest) xs) (sym is) list.parts)).0
+          → IsCutList greatest word → (list : List Cut) → AreCutsAt m all list → ⊥
+      no_cut word is none words list h =
+          let left = read.has list h in
+          by left.0 left.1 (lists.next_part (IsCut greatest) (AreCutsAt m) 3 all cuts first rest read word is words)
         where
-          by : (cuts : List Cut) → AreCutsAt m (first ∷ rest) cuts → IsCut greatest first → ⊥
+          by : (more : List Cut) → AreCutsAt m (first ∷ rest) more → IsCut greatest first → ⊥
           by [] h cut = h
-          by (c ∷ cuts) h cut = none cut c h.0
+          by (c ∷ more) h cut = none cut c h.0
 
 -- ---- what was found of a word of cuts
-pub not_three_told : {A B : Type 0} (f : A → B) (xs ys : List A) → xs ≡ ys → (length xs ≡ 3 → ⊥) → length (map f ys) ≡ 3 → ⊥
+pub not_three_told : {A B : Type 0} (f : A → B) (xs ys : List A) → xs ≡ ys → (length xs ≡ 3 → ⊥)
+    → length (map f ys) ≡ 3 → ⊥
 not_three_told f xs ys same other full = other (ap (λ zs. length zs) same ∙ sym (length-map ys f) ∙ full)
 
-pub told_grown : {A B : Type 0} (f : A → B) (xs ys : List A) (x : A) → ys ≡ xs ++ x ∷ [] → map f xs ++ f x ∷ [] ≡ map f ys
+pub told_grown : {A B : Type 0} (f : A → B) (xs ys : List A) (x : A) → ys ≡ xs ++ x ∷ []
+    → map f xs ++ f x ∷ [] ≡ map f ys
 told_grown f xs ys x e = sym (ap (map f) e ∙ map-append f xs (x ∷ []))
 
 pub told_count : {A B : Type 0} (f : A → B) (xs : List A) → (0 < length (map f xs)) × (length (map f xs) ≤ 3)
@@ -196,11 +181,6 @@ module _ {X : Type 0} (f : X → Cut) (m : RobustModel) (limit : ℕ) (word : Wo
   abbrev pub AreTold : List X → Type 0
   AreTold cuts = AreCutsAt m (parts_of word) (map f cuts) × ((0 < length cuts) × (length cuts ≤ 3))
 
-  pub found_cuts : (found : Option (List X)) (cuts : List X) → found ≡ Some cuts → MatchOption found NoneTold AreTold → AreTold cuts
-  found_cuts found cuts is h = subst (λ (o : Option (List X)). MatchOption o NoneTold AreTold) is h
-
-  pub found_none : (found : Option (List X)) → found ≡ None → MatchOption found NoneTold AreTold → NoneTold
-  found_none found is h = subst (λ (o : Option (List X)). MatchOption o NoneTold AreTold) is h
-
-  pub are_moved : (list cuts : List X) → list ≡ cuts → AreCutsAt m (parts_of word) (map f cuts) → AreCutsAt m (parts_of word) (map f list)
+  pub are_moved : (list cuts : List X) → list ≡ cuts → AreCutsAt m (parts_of word) (map f cuts)
+      → AreCutsAt m (parts_of word) (map f list)
   are_moved list cuts e h = subst (λ (xs : List X). AreCutsAt m (parts_of word) (map f xs)) (sym e) h

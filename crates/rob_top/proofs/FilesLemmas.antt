@@ -10,7 +10,8 @@ use Rattle.rob_meaning.specs.Places.{Each}
 use Rattle.rob_outside.specs.Fetches.{Fetch, fetch_of, logged}
 use Rattle.rob_outside.specs.Files.{File, Finds, Found, whole, missing, too_long, found_at, found_of}
 use Rattle.rob_outside.specs.declared.shelf.Fetched.{Fetched}
-use Rattle.rob_top.specs.Calls.{Call, Came, Count, IsFoundIn, Request, Source, WasRaised, answer_to, behind, count, file_of, files_of, first_or, later, most_of, request_of, requests, source_of, with_first}
+use Rattle.rob_top.specs.Calls.{Call, Count, Source, WasRaised, behind, count, source_of}
+use Rattle.rob_top.specs.Files.{Came, IsFoundIn, Request, answer_to, file_of, files_of, first_or, later, most_of, request_of, requests, with_first}
 use Rattle.rob_top.specs.Headline.{Means}
 use Rattle.rob_top.specs.Replies.{AreFound, Asks, AsksOnce, CameIn, IsAbsence, IsAbsentAmong, IsFetched, IsGot, IsNothing, text_of, with_file, with_text}
 use Rattle.rob_top.specs.declared.ended.Ended.{Ended}
@@ -44,9 +45,11 @@ pub got_bytes : (source : Source) (request : Request) (faults : Count) (got : Go
 got_bytes source request faults got bytes e h = subst (λ (g : Got). IsGot source request faults g) e h
 
 -- of the files that the words name, those before this one came, and this one didn't
-pub means_absent : (call : Call) (line : Line) (before : List Request) (request : Request) (behind : List Request) (faults : Count)
+pub means_absent : (call : Call) (line : Line) (before : List Request) (request : Request)
+    (behind : List Request) (faults : Count)
     (ended : Ended) (text : List ℕ) → IsSpelled call.words line → requests line ≡ before ++ request ∷ behind
-    → Each (Came call) before → (WasRaised faults → WasRaised call.read_faults) → IsAbsence call.source request faults ended text
+    → Each (Came call) before → (WasRaised faults → WasRaised call.read_faults)
+    → IsAbsence call.source request faults ended text
     → Means call ended text
 means_absent call line before request behind faults Missing text spelled order came raised h = (
   request.name,
@@ -89,7 +92,8 @@ means_absent call line before request behind faults Unbounded text spelled order
 means_absent call line before request behind faults Printed text spelled order came raised h = absurd h
 means_absent call line before request behind faults Accepted text spelled order came raised h = absurd h
 means_absent call line before request behind faults (Rejected place) text spelled order came raised h = absurd h
-means_absent call line before request behind faults (TreeRejected number fault) text spelled order came raised h = absurd h
+means_absent call line before request behind faults (TreeRejected number fault) text spelled order came raised h =
+    absurd h
 means_absent call line before request behind faults Words text spelled order came raised h = absurd h
 means_absent call line before request behind faults (Model rule number) text spelled order came raised h = absurd h
 means_absent call line before request behind faults (EmptySet weights) text spelled order came raised h = absurd h
@@ -110,7 +114,8 @@ means_absent call line before request behind faults Memory text spelled order ca
 
 -- what stands behind a list that another grew from
 pub behind_grown : (before now added : List Fetch) → now ≡ before ++ added → behind before now ≡ added
-behind_grown before now added e = ap (λ (list : List Fetch). drop (length before) list) e ∙ drop-append_seam before added
+behind_grown before now added e =
+    ap (λ (list : List Fetch). drop (length before) list) e ∙ drop-append_seam before added
 
 -- the file where it is the first
 abbrev pub first : Request → Request
@@ -125,7 +130,8 @@ answer_here request found more =
     rw most_same (rw same refl)
 
 -- what one fetch answered is what is found
-pub found_by_result : {E : Type 0} (told : Option (List File)) (request : Request) (before now : List Fetch) (result : Result Fetched E)
+pub found_by_result : {E : Type 0} (told : Option (List File)) (request : Request) (before now : List Fetch)
+    (result : Result Fetched E)
     → Finds told request.name request.most result → now ≡ before ++ logged request.name request.most result
     → IfOk result (λ fetched. IsFoundIn (source_of told before now) (first request) (found_of fetched))
 found_by_result told request before now (Err error) finds e = tt
@@ -148,7 +154,8 @@ module _ (told : Option (List File)) (request : Request) (files : List Request) 
   here = fetch_of request.name request.most one.found
 
   pub grown_all : now ≡ before ++ here ∷ rest.added
-  grown_all = rest.grown ∙ ap (λ (list : List Fetch). list ++ rest.added) one.grown ∙ append_assoc before (here ∷ []) rest.added
+  grown_all =
+      rest.grown ∙ ap (λ (list : List Fetch). list ++ rest.added) one.grown ∙ append_assoc before (here ∷ []) rest.added
 
   all : behind before now ≡ here ∷ rest.added
   all = behind_grown before now (here ∷ rest.added) grown_all
@@ -160,7 +167,8 @@ module _ (told : Option (List File)) (request : Request) (files : List Request) 
     h.0,
     subst (λ (list : List Fetch). answer_to (first request) list ≡ Some found) (sym all)
         (answer_here request one.found rest.added ∙ sym (answer_here request one.found [])
-        ∙ subst (λ (list : List Fetch). answer_to (first request) list ≡ Some found) (behind_grown before middle (here ∷ []) one.grown) h.1),
+        ∙ subst (λ (list : List Fetch). answer_to (first request) list ≡ Some found)
+        (behind_grown before middle (here ∷ []) one.grown) h.1),
   )
 
   -- what the later fetches found of a file is what is found of it behind the first
@@ -169,10 +177,12 @@ module _ (told : Option (List File)) (request : Request) (files : List Request) 
   found_behind other found h = (
     h.0,
     subst (λ (list : List Fetch). answer_to (later other) list ≡ Some found) (sym all)
-        (subst (λ (list : List Fetch). answer_to other list ≡ Some found) (behind_grown middle now rest.added rest.grown) h.1),
+        (subst (λ (list : List Fetch). answer_to other list ≡ Some found)
+        (behind_grown middle now rest.added rest.grown) h.1),
   )
 
-  came_behind : (list : List Request) → Each (CameIn (source_of told middle now)) list → Each (CameIn (source_of told before now)) (map later list)
+  came_behind : (list : List Request) → Each (CameIn (source_of told middle now)) list
+      → Each (CameIn (source_of told before now)) (map later list)
   came_behind [] h = tt
   came_behind (r ∷ list) h = ((h.0.0, found_behind r (whole h.0.0) h.0.1), came_behind list h.1)
 
@@ -208,21 +218,31 @@ module _ (told : Option (List File)) (request : Request) (files : List Request) 
 -- ---- the files of own words
 
 -- there are none
-none_found : (source : Source) (kinds : List Own) (names : List Word) (texts : Texts) → (length kinds ≡ 0) ⊎ (length names ≡ 0)
+none_found : (source : Source) (kinds : List Own) (names : List Word) (texts : Texts)
+    → (length kinds ≡ 0) ⊎ (length names ≡ 0)
     → AreFound source kinds names texts
-none_found source [] names texts e = record { came = tt; found = λ kind r named. absurd (let no : None ≡ Some r = named in cc) }
-none_found source (kind ∷ kinds) [] texts e = record { came = tt; found = λ other r named. absurd (let no : None ≡ Some r = named in cc) }
+none_found source [] names texts e = record {
+  came = tt;
+  found = λ kind r named. absurd (let no : None ≡ Some r = named in cc);
+}
+none_found source (kind ∷ kinds) [] texts e = record {
+  came = tt;
+  found = λ other r named. absurd (let no : None ≡ Some r = named in cc);
+}
 none_found source (kind ∷ kinds) (name ∷ names) texts (inl e) = absurd (omega (arith, e))
 none_found source (kind ∷ kinds) (name ∷ names) texts (inr e) = absurd (omega (arith, e))
 
-pub none_fetched : (source : Source) (faults : Count) (kinds : List Own) (names : List Word) (found_files : Files) → IsNothing found_files
+pub none_fetched : (source : Source) (faults : Count) (kinds : List Own) (names : List Word) (found_files : Files)
+    → IsNothing found_files
     → (length kinds ≡ 0) ⊎ (length names ≡ 0) → IsFetched kinds names source faults found_files
 none_fetched source faults kinds names (files.Texts texts) none e = none_found source kinds names texts e
 none_fetched source faults kinds names (files.Answer reply) none e = absurd none
 
 -- the first didn't come
-pub first_absent : (kind : Own) (most : ℕ) → most_of kind ≡ Some most → (kinds : List Own) (name : Word) (names : List Word)
-    (source : Source) (faults : Count) (reply : Reply) → IsAbsence source (file_of most name) faults reply.ended reply.text
+pub first_absent : (kind : Own) (most : ℕ) → most_of kind ≡ Some most
+    → (kinds : List Own) (name : Word) (names : List Word)
+    (source : Source) (faults : Count) (reply : Reply)
+    → IsAbsence source (file_of most name) faults reply.ended reply.text
     → IsFetched (kind ∷ kinds) (name ∷ names) source faults (files.Answer reply)
 first_absent kind most bound kinds name names source faults reply h = record {
   before = [];
@@ -234,23 +254,29 @@ first_absent kind most bound kinds name names source faults reply h = record {
 }
 
 -- the first names no file
-pub passed_over : (kind : Own) → most_of kind ≡ None → (kinds : List Own) (name : Word) (names : List Word) (source : Source) (faults : Count)
-    (found_files : Files) → IsFetched kinds names source faults found_files → IsFetched (kind ∷ kinds) (name ∷ names) source faults found_files
+pub passed_over : (kind : Own) → most_of kind ≡ None
+    → (kinds : List Own) (name : Word) (names : List Word) (source : Source) (faults : Count)
+    (found_files : Files) → IsFetched kinds names source faults found_files
+    → IsFetched (kind ∷ kinds) (name ∷ names) source faults found_files
 passed_over kind none kinds name names source faults (files.Texts texts) h = record {
   came = subst (λ (o : Option ℕ). Each (CameIn source) (with_first o name (files_of kinds names))) (sym none) h.came;
   found = λ other r named.
       h.found other r
-      (subst (λ (o : Option ℕ). first_or o (sameb the_type kind other) name (request_of other kinds names) ≡ Some r) none named);
+      (subst (λ (o : Option ℕ). first_or o (sameb the_type kind other) name (request_of other kinds names) ≡ Some r)
+      none named);
 }
 passed_over kind none kinds name names source faults (files.Answer reply) h =
-    subst (λ (o : Option ℕ). IsAbsentAmong source (with_first o name (files_of kinds names)) faults reply.ended reply.text) (sym none) h
+    subst (λ (o : Option ℕ). IsAbsentAmong source (with_first o name (files_of kinds names)) faults reply.ended
+    reply.text) (sym none) h
 
 -- the first came, and then those behind it were asked for
-module _ (told later_told : Option (List File)) (same : later_told ≡ told) (kind : Own) (most : ℕ) (bound : most_of kind ≡ Some most)
+module _ (told later_told : Option (List File)) (same : later_told ≡ told) (kind : Own) (most : ℕ)
+    (bound : most_of kind ≡ Some most)
     (kinds : List Own) (name : Word) (names : List Word)
     (before middle now : List Fetch) (one : AsksOnce (file_of most name) before middle)
     (rest : Asks (files_of kinds names) middle now) (bytes : Vec ℕ Global)
-    (found : IsFoundIn (source_of told before middle) (file_of most name) (whole bytes.items)) (start between end : ℕ) (rose : start ≤ between) where
+    (found : IsFoundIn (source_of told before middle) (file_of most name) (whole bytes.items)) (start between end : ℕ)
+    (rose : start ≤ between) where
   abbrev request : Request
   request = file_of most name
 
@@ -263,7 +289,8 @@ module _ (told later_told : Option (List File)) (same : later_told ≡ told) (ki
   first_came : IsFoundIn earlier request (whole bytes.items)
   first_came = found_longer told request (files_of kinds names) before middle now one rest (whole bytes.items) found
 
-  all_found : (texts : Texts) → AreFound behind_it kinds names texts → AreFound earlier (kind ∷ kinds) (name ∷ names) (with_text kind bytes texts)
+  all_found : (texts : Texts) → AreFound behind_it kinds names texts
+      → AreFound earlier (kind ∷ kinds) (name ∷ names) (with_text kind bytes texts)
   all_found texts h = record {
     came = subst (λ (o : Option ℕ). Each (CameIn earlier) (with_first o name (files_of kinds names))) (sym bound) (
       (bytes.items, first_came),
@@ -271,7 +298,8 @@ module _ (told later_told : Option (List File)) (same : later_told ≡ told) (ki
     );
     found = λ other r named.
         by other r (sameb the_type kind other) refl
-        (subst (λ (o : Option ℕ). first_or o (sameb the_type kind other) name (request_of other kinds names) ≡ Some r) bound named);
+        (subst (λ (o : Option ℕ). first_or o (sameb the_type kind other) name (request_of other kinds names) ≡ Some r)
+        bound named);
   }
     where
       by : (other : Own) (r : Request) (b : Bool) → sameb the_type kind other ≡ b
@@ -279,16 +307,21 @@ module _ (told later_told : Option (List File)) (same : later_told ≡ told) (ki
           → IsFoundIn earlier r (whole (text_of other (with_text kind bytes texts)))
       by other r true e named =
           let alike : request ≡ r = cc in
-          subst (λ (o : Own). IsFoundIn earlier r (whole (text_of o (with_text kind bytes texts)))) (same_true the_type tt kind other e)
+          subst (λ (o : Own). IsFoundIn earlier r (whole (text_of o (with_text kind bytes texts))))
+          (same_true the_type tt kind other e)
           (subst (λ (q : Request). IsFoundIn earlier q (whole (text_of kind (with_text kind bytes texts)))) alike
-          (subst (λ (list : List ℕ). IsFoundIn earlier request (whole list)) (sym (text_of-same kind most bound bytes texts)) first_came))
+          (subst (λ (list : List ℕ). IsFoundIn earlier request (whole list))
+          (sym (text_of-same kind most bound bytes texts)) first_came))
       by other r false e named =
           let s = later_request (request_of other kinds names) r named in
           subst (λ (q : Request). IsFoundIn earlier q (whole (text_of other (with_text kind bytes texts)))) (sym s.2)
-          (subst (λ (list : List ℕ). IsFoundIn earlier (later s.0) (whole list)) (sym (text_of-other kind other bytes texts e))
-          (found_behind told request (files_of kinds names) before middle now one rest s.0 (whole (text_of other texts)) (h.found other s.0 s.1)))
+          (subst (λ (list : List ℕ). IsFoundIn earlier (later s.0) (whole list))
+          (sym (text_of-other kind other bytes texts e))
+          (found_behind told request (files_of kinds names) before middle now one rest s.0 (whole (text_of other texts))
+          (h.found other s.0 s.1)))
 
-  one_absent : (reply : Reply) → IsAbsentAmong behind_it (files_of kinds names) (count between end) reply.ended reply.text
+  one_absent : (reply : Reply)
+      → IsAbsentAmong behind_it (files_of kinds names) (count between end) reply.ended reply.text
       → IsAbsentAmong earlier (request ∷ map later (files_of kinds names)) (count start end) reply.ended reply.text
   one_absent reply h = record {
     before = request ∷ map later h.before;
@@ -301,18 +334,23 @@ module _ (told later_told : Option (List File)) (same : later_told ≡ told) (ki
       (bytes.items, first_came),
       came_behind told request (files_of kinds names) before middle now one rest h.before h.came,
     );
-    absent = absence_behind told request (files_of kinds names) before middle now one rest h.request (count start end) (count between end)
+    absent = absence_behind told request (files_of kinds names) before middle now one rest h.request
+        (count start end) (count between end)
         reply.ended reply.text (λ r. rose_earlier start between end rose r) h.absent;
   }
 
-  pub more_fetched : (found_files : Files) → IsFetched kinds names (source_of later_told middle now) (count between end) found_files
+  pub more_fetched : (found_files : Files)
+      → IsFetched kinds names (source_of later_told middle now) (count between end) found_files
       → IsFetched (kind ∷ kinds) (name ∷ names) earlier (count start end) (with_file kind bytes found_files)
   more_fetched (files.Texts texts) h =
       all_found texts (subst (λ (t : Option (List File)). AreFound (source_of t middle now) kinds names texts) same h)
   more_fetched (files.Answer reply) h =
-      subst (λ (o : Option ℕ). IsAbsentAmong earlier (with_first o name (files_of kinds names)) (count start end) reply.ended reply.text) (sym bound)
+      subst (λ (o : Option ℕ). IsAbsentAmong earlier (with_first o name (files_of kinds names)) (count start end)
+      reply.ended reply.text) (sym bound)
       (one_absent reply
-      (subst (λ (t : Option (List File)). IsAbsentAmong (source_of t middle now) (files_of kinds names) (count between end) reply.ended reply.text) same h))
+      (subst (λ (t : Option (List File)).
+      IsAbsentAmong (source_of t middle now) (files_of kinds names) (count between end) reply.ended reply.text) same
+      h))
 
 -- ---- the first of own words, and those behind it
 

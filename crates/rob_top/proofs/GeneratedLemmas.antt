@@ -17,7 +17,8 @@ use Rattle.rob_words.specs.Commands.{Line, IsSpelled}
 use Rattle.rob_words.specs.declared.verb.Verb.TheVariants.{Gen, Text}
 
 -- ---- the answer of `text`
-pub generated_answers : (line : Line) (wides : Count) (r : Result Reply Want) → line.verb ≡ Text → IfOk r (RepliesGenerated line)
+pub generated_answers : (line : Line) (wides : Count) (r : Result Reply Want) → line.verb ≡ Text
+    → IfOk r (RepliesGenerated line)
     → IfOk r (AnswersNumber line wides)
 generated_answers line wides (Err want) is h = tt
 generated_answers line wides (Ok reply) is h = λ call spelled wides_is.
@@ -45,7 +46,8 @@ module _ (call : Call) (known : Known call.source) (line : Line) (spelled : IsSp
           absurd (number_none_absent call known h.line h.spelled line spelled none h.before h.request h.behind h.order)
       by (broken rule number t h e) = absurd (number_here call known h.line h.spelled line spelled none h.bytes h.file)
       by (read l m h course) = absurd (number_here call known l h.spelled line spelled none h.bytes h.file)
-      by (answers_number l sp reads_none course) = inl (number_course_at call l line ended (one_line call.words l line sp spelled) course)
+      by (answers_number l sp reads_none course) =
+          inl (number_course_at call l line ended (one_line call.words l line sp spelled) course)
       by (failed names e) = absurd (number_names_none call known line spelled line spelled none names)
       by (wanting e) = inr e
 

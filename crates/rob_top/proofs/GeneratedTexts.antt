@@ -115,7 +115,8 @@ module _ (limit : ℕ) (high : 14 ≤ limit) where
     test_set_line (budget bound (h ∷ hs)) =
         both (test_plain bound) (test_each (IsReadableMember limit names) test_member (h ∷ hs))
 
-    abbrev test_adaptive : (y : AdaptiveVariable) → Option (Each (λ k. k < length names.parameters) y.on × (IsBound limit y.lower × IsBound limit y.upper))
+    abbrev test_adaptive : (y : AdaptiveVariable)
+        → Option (Each (λ k. k < length names.parameters) y.on × (IsBound limit y.lower × IsBound limit y.upper))
     test_adaptive y =
         both (test_each (λ k. k < length names.parameters) (λ k. test_below k (length names.parameters)) y.on)
         (both (test_within y.lower) (test_within y.upper))
@@ -139,7 +140,8 @@ module _ (limit : ℕ) (high : 14 ≤ limit) where
         (test_each (λ (x : Variable). IsBound limit x.lower × IsBound limit x.upper)
         (λ x. both (test_within x.lower) (test_within x.upper)) w.variables)))
         (both
-        (test_each (λ (y : AdaptiveVariable). Each (λ k. k < length names.parameters) y.on × (IsBound limit y.lower × IsBound limit y.upper))
+        (test_each (λ (y : AdaptiveVariable). Each (λ k. k < length names.parameters) y.on
+        × (IsBound limit y.lower × IsBound limit y.upper))
         test_adaptive w.adaptives)
         (both (test_readable w.objective)
         (test_each (λ (r : Row). IsReadable limit names r.left × IsReadable limit names r.right)
@@ -157,7 +159,8 @@ abbrev test_written : (m : RobustModel) → Option (IsWritten m)
 test_written m =
     so (λ h. record { written = h.0.0; members = h.0.1; shallow = h.1.0; few = h.1.1 })
     (both (both (test_model (written_model m)) (test_each HasDistinctMembers test_members (written_model m).set_lines))
-    (both (test_each (IsShallow 0) (test_shallow 0) (lines_of m)) (test_at_most (length (ended (lines_of m))) most_tokens)))
+    (both (test_each (IsShallow 0) (test_shallow 0) (lines_of m))
+    (test_at_most (length (ended (lines_of m))) most_tokens)))
 
 twelve_written : (r : ℕ) → r < 12 → IsWritten (generated r)
 unfolding ratio digits
@@ -225,4 +228,5 @@ module _ (limit : ℕ) (high : 14 ≤ limit) (wide : limit < 2 ^ 62) where
         placed = four_placed (centre n) (n % 4) (below_four n);
         parts = by_twelve (λ m. HasReadableParts limit (naming_of m) (written_model m)) twelve_parts n;
       })
-      w.written (well_named n) (four_spelled (centre n) (n % 4) (below_four n)) w.members (within_limits n) w.shallow w.few
+      w.written (well_named n) (four_spelled (centre n) (n % 4) (below_four n)) w.members
+      (within_limits n) w.shallow w.few

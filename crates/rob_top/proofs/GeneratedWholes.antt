@@ -1,15 +1,15 @@
 -- The set rows and forms of a number's model have no wide number: those of its set rows are whole and at most 255 in
 -- size, and a form's coefficients are, since it is a sum of leaves. The twelve models are tested one by one.
-use Rattle.std.proofs.Common.{◌≡◌, ℕ, ◌+◌, ◌<◌, ◌≤◌, Bool, true, false, refl, sym, ◌∙◌, ap, ap₂, subst, arith, inl, inr, ◌⊎◌}
+use Rattle.std.proofs.Common.{◌≡◌, ℕ, ◌+◌, ◌<◌, ◌≤◌, Bool, true, false, refl, sym, ◌∙◌, ap, ap₂, subst, arith, inl, inr}
 use Rattle.std.proofs.lemmas.Int.{ints}
 use Rattle.std.specs.Prelude.{zero, suc, ℤ, pos, ◌+ℤ◌, ◌*ℤ◌, ◌/◌, nat_abs, List, [], ◌∷◌, ◌++◌, length, Option, Some, None}
 use Rattle.std.specs.Fmt.{digits}
 use Rattle.rob_algebra.proofs.Parts.{add-wholes, neg_parts, of_int-parts}
-use Rattle.rob_algebra.specs.Fraction.{Fraction, of_int, ratio, ◌+ℚ◌, ◌*ℚ◌, neg_ℚ}
+use Rattle.rob_algebra.specs.Fraction.{Fraction, of_int, ratio, ◌+ℚ◌, ◌*ℚ◌}
 use Rattle.rob_algebra.specs.Gcd.{gcd}
 use Rattle.rob_algebra.specs.Integer.{mul-one}
 use Rattle.rob_algebra.specs.Width.{IsWide, IsWideWhole}
-use Rattle.rob_dualize.specs.Models.{IsWritten, judged}
+use Rattle.rob_dualize.specs.Models.{IsWritten}
 use Rattle.rob_elab.specs.Forms.{judged_forms, judged_from}
 use Rattle.rob_gen.proofs.GeneratedLemmas.{by_twelve}
 use Rattle.rob_gen.specs.Generated.{generated}
@@ -72,7 +72,8 @@ unit_bit (suc k) zero = (false, refl)
 unit_bit (suc k) (suc j) = unit_bit k j
 
 abbrev test_size : (size : ℕ) (x : Fraction) → Option (IsWhole size x)
-test_size size x = so (λ h. record { den = h.0; num = h.1 }) (both (test_count x.den 1) (test_at_most (nat_abs x.num) size))
+test_size size x =
+    so (λ h. record { den = h.0; num = h.1 }) (both (test_count x.den 1) (test_at_most (nat_abs x.num) size))
 
 bits_whole : (x y : Bool) → Found (test_size 1 (bit x *ℚ bit y))
 unfolding ratio
@@ -225,7 +226,8 @@ module _ (limit : ℕ) (wide_enough : 255 ≤ limit) where
         clears (entries (entries_of m (table m e)))
         (entries_whole (entries_of m (table m e))
         (each_tabulate (Each (IsWhole 255)) (form_rows m) (λ k. tabulate (form_columns m) (λ j. table m e k j))
-        (λ k some. each_tabulate (IsWhole 255) (form_columns m) (λ j. table m e k j) (λ j more. small_whole m e h k j))))
+        (λ k some. each_tabulate (IsWhole 255) (form_columns m) (λ j. table m e k j)
+        (λ j more. small_whole m e h k j))))
         wide
 
     forms_narrow : (i : ℕ) (es : List Expression) → Each (IsSmallForm m) es → NothingWide limit m (judged_from m i es)

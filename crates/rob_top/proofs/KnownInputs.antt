@@ -9,8 +9,9 @@ use Rattle.rob_outside.specs.Fetches.{Fetch}
 use Rattle.rob_outside.specs.Files.{File, Found, whole, found_at}
 use Rattle.rob_reach.specs.Trees.{Tree}
 use Rattle.rob_top.specs.Branched.{BreaksWhole, no_ranges, no_variables}
-use Rattle.rob_top.specs.Calls.{Call, Came, HasFile, IsFirstAbsent, IsFoundIn, Known, Request, Source, answer_to, by_fetches, by_files, known_call, known_source, requests}
-use Rattle.rob_top.specs.Inputs.{HasCertificate, HasCertificateFile, HasForms, HasModel, HasPlan, HasReplayCertificate, HasReplayFile, HasScenarios, HasSought, HasVariables, HasWholeVariables, HasWorstCertificate, HasWorstFile}
+use Rattle.rob_top.specs.Calls.{Call, Known, Source, by_fetches, by_files, known_call, known_source}
+use Rattle.rob_top.specs.Files.{Came, HasFile, IsFirstAbsent, IsFoundIn, Request, answer_to, requests}
+use Rattle.rob_top.specs.Inputs.{HasCertificate, HasCertificateFile, HasForms, HasModel, HasPlan, HasReplayCertificate, HasReplayFile, HasScenarioFile, HasSought, HasVariables, HasWholeVariables, HasWorstCertificate, HasWorstFile}
 use Rattle.rob_top.specs.Refused.{IsWideSpot, checking, elaborating, replaying, searching}
 use Rattle.rob_top.specs.Replayed.{LacksPlan, planless, unread}
 use Rattle.rob_top.specs.Searched.{GivesNoPlan, NamesNoForm, claims_none, misread}
@@ -25,7 +26,8 @@ pub known_again : {source : Source} (known : Known source) → Known (known_sour
 known_again (by_files files e) = by_files files refl
 known_again (by_fetches fetches e) = by_fetches fetches refl
 
-found_in_part : {source : Source} (known : Known source) (request : Request) (found : Found) → IsFoundIn source request found
+found_in_part : {source : Source} (known : Known source) (request : Request) (found : Found)
+    → IsFoundIn source request found
     → IsFoundIn (known_source known) request found
 found_in_part (by_files files e) request found h =
     (subst (λ (t : Option (List File)). IfSome t (λ fs. found_at request.name request.most fs ≡ found)) e h.0, tt)
@@ -53,7 +55,8 @@ module _ (call : Call) (known : Known call.source) where
     named = h.named;
   }
 
-  pub file_held : (line : Line) (kind : Own) (bytes : List ℕ) → HasFile call line kind bytes → HasFile part line kind bytes
+  pub file_held : (line : Line) (kind : Own) (bytes : List ℕ) → HasFile call line kind bytes
+      → HasFile part line kind bytes
   file_held line kind bytes h = record {
     request = h.request;
     named = h.named;
@@ -90,10 +93,13 @@ module _ (call : Call) (known : Known call.source) where
       file = file_held line own.Certificate bytes h.file;
     }
 
-    pub replay_certificate_known : (c : Certificate) → HasReplayCertificate call line m c → HasReplayCertificate part line m c
-    replay_certificate_known c h = record { bytes = h.bytes; file = replay_file_known h.bytes h.file; text = h.text; fits = h.fits }
+    pub replay_certificate_known : (c : Certificate) → HasReplayCertificate call line m c
+        → HasReplayCertificate part line m c
+    replay_certificate_known c h =
+        record { bytes = h.bytes; file = replay_file_known h.bytes h.file; text = h.text; fits = h.fits }
 
-    pub scenarios_known : (c : Certificate) (bytes : List ℕ) → HasScenarios call line m c bytes → HasScenarios part line m c bytes
+    pub scenarios_known : (c : Certificate) (bytes : List ℕ) → HasScenarioFile call line m c bytes
+        → HasScenarioFile part line m c bytes
     scenarios_known c bytes h = record {
       certificate = replay_certificate_known c h.certificate;
       has_plan = h.has_plan;
@@ -115,7 +121,8 @@ module _ (call : Call) (known : Known call.source) where
     pub whole_known : (numbers : List ℕ) → HasWholeVariables call line m numbers → HasWholeVariables part line m numbers
     whole_known numbers h = record { named = variables_known numbers h.named; keeps = h.keeps }
 
-    pub tree_file_known : (names bytes : List ℕ) → HasTreeFile call line m names bytes → HasTreeFile part line m names bytes
+    pub tree_file_known : (names bytes : List ℕ) → HasTreeFile call line m names bytes
+        → HasTreeFile part line m names bytes
     tree_file_known names bytes h = record {
       variables = whole_known names h.variables;
       is_checktree = h.is_checktree;
@@ -123,7 +130,8 @@ module _ (call : Call) (known : Known call.source) where
     }
 
     pub tree_known : (names : List ℕ) (t : Tree) → HasTree call line m names t → HasTree part line m names t
-    tree_known names t h = record { bytes = h.bytes; file = tree_file_known names h.bytes h.file; text = h.text; fits = h.fits }
+    tree_known names t h =
+        record { bytes = h.bytes; file = tree_file_known names h.bytes h.file; text = h.text; fits = h.fits }
 
     pub breaking_known : (rule : ℕ) → BreaksWhole call line m rule → BreaksWhole part line m rule
     breaking_known rule (no_variables names h told none e) = no_variables names (model_known h) told none e
@@ -136,8 +144,10 @@ module _ (call : Call) (known : Known call.source) where
       file = file_held line own.Certificate bytes h.file;
     }
 
-    pub worst_certificate_known : (c : Certificate) → HasWorstCertificate call line m c → HasWorstCertificate part line m c
-    worst_certificate_known c h = record { bytes = h.bytes; file = worst_file_known h.bytes h.file; text = h.text; fits = h.fits }
+    pub worst_certificate_known : (c : Certificate) → HasWorstCertificate call line m c
+        → HasWorstCertificate part line m c
+    worst_certificate_known c h =
+        record { bytes = h.bytes; file = worst_file_known h.bytes h.file; text = h.text; fits = h.fits }
 
     pub plan_known : (c : Certificate) → HasPlan call line m c → HasPlan part line m c
     plan_known c h = record { certificate = worst_certificate_known c h.certificate; has_plan = h.has_plan }

@@ -1,16 +1,18 @@
--- An answer means the same where less is known of the files. So what follows from a part of what is known follows from all.
-use Rattle.std.proofs.Common.{ℕ, List, inl, inr}
+-- An answer means the same where less is known of the files. So what follows
+-- from a part of what is known follows from all.
+use Rattle.std.proofs.Common.{ℕ, List}
 use Rattle.rob_meaning.specs.Certificates.{Status, optimal, infeasible, unbounded}
 use Rattle.rob_outside.specs.Files.{missing, too_long}
 use Rattle.rob_top.specs.Branched.{IsBranched}
-use Rattle.rob_top.specs.Calls.{Call, Known, known_call, requests}
+use Rattle.rob_top.specs.Calls.{Call, Known, known_call}
+use Rattle.rob_top.specs.Files.{requests}
 use Rattle.rob_top.specs.Compared.{AsksFor}
 use Rattle.rob_top.specs.Headline.{Means}
 use Rattle.rob_top.specs.Replayed.{IsReplayed}
 use Rattle.rob_top.specs.Searched.{IsSearched}
 use Rattle.rob_top.specs.Solved.{IsSolved}
-use Rattle.rob_top.specs.Swept.{IsSwept}
-use Rattle.rob_top.specs.Ways.{FindsStatus, solved, branched, rows, replayed, generated, compared, worst_found, swept, narrowed, a_certificate, a_tree, while_solving, while_branching, while_searching, in_model, on_way, while_growing, while_checking, not_checked, not_replayed, not_searched, pieced, split_written, in_cells, in_split, in_summary}
+use Rattle.rob_top.specs.Swept.{IsLimited, IsPriced}
+use Rattle.rob_top.specs.Ways.{FindsStatus, solved, branched, rows, replayed, generated, compared, worst_found, priced, limited, narrowed, a_certificate, a_tree, while_solving, while_branching, while_searching, in_model, on_way, while_growing, while_checking, not_checked, not_replayed, not_searched, pieced, split_written, in_cells, in_split, in_summary}
 use Rattle.rob_top.specs.declared.ended.Ended.{Ended}
 use Rattle.rob_top.specs.declared.ended.Ended.TheVariants.{Optimal, Infeasible, Unbounded, Printed, Accepted, Rejected, Words, Missing, TooLong, Model, EmptySet, TooWide, WideNode, WideBudget, Cert, Scenarios, Whole, Sweep, Cells, Tree as TreeRule, TreeRejected, NoRow, ReadFault, WriteFault, Memory}
 use Rattle.rob_words.specs.Commands.{Line}
@@ -92,8 +94,8 @@ module _ (call : Call) (known : Known call.source) where
     kept = h.kept;
   }
 
-  swept_known : (text : List ℕ) → IsSwept call text → IsSwept part text
-  swept_known text (inl h) = inl (record {
+  priced_known : (text : List ℕ) → IsPriced call text → IsPriced part text
+  priced_known text h = record {
     line = h.line;
     m = h.m;
     n = h.n;
@@ -107,8 +109,10 @@ module _ (call : Call) (known : Known call.source) where
     harder = h.harder;
     fits = h.fits;
     printed = h.printed;
-  })
-  swept_known text (inr h) = inr (record {
+  }
+
+  limited_known : (text : List ℕ) → IsLimited call text → IsLimited part text
+  limited_known text h = record {
     line = h.line;
     m = h.m;
     n = h.n;
@@ -116,7 +120,7 @@ module _ (call : Call) (known : Known call.source) where
     has = (limit_known call known) h.line h.m h.n h.g h.has;
     budget = h.budget;
     printed = h.printed;
-  })
+  }
 
   asks_known : (line : Line) (number : ℕ) → AsksFor call line number → AsksFor part line number
   asks_known line number h = record { spelled = h.spelled; is_gen = h.is_gen; told = h.told }
@@ -162,7 +166,8 @@ module _ (call : Call) (known : Known call.source) where
     printed = h.printed;
   })
   means_known Printed text (worst_found h) = worst_found (searched_known text h)
-  means_known Printed text (swept h) = swept (swept_known text h)
+  means_known Printed text (priced h) = priced (priced_known text h)
+  means_known Printed text (limited h) = limited (limited_known text h)
   means_known Accepted text (a_certificate h) = a_certificate (record {
     line = h.line;
     m = h.m;

@@ -15,6 +15,7 @@ pub mod FrameLemmas
 pub mod PutLemmas
 pub mod LinesLemmas
 pub mod DefaultRoutes
+pub mod BeforeLemmas
 pub mod RouteLemmas
 pub mod SolvingLemmas
 pub mod NumberCourseLemmas
@@ -25,6 +26,7 @@ pub mod WorstAnswerLemmas
 pub mod WorstSlackLemmas
 pub mod SearchingLemmas
 pub mod SearchStops
+pub mod AbsentAnswerLemmas
 pub mod TrueAnswerLemmas
 pub mod ReplayAnswerLemmas
 pub mod ProvedReplays
@@ -47,8 +49,8 @@ pub mod TreePlaceLemmas
 pub mod TreeCheckLemmas
 pub mod TreeAnswerLemmas
 pub mod PrintedTreeLemmas
+pub mod ToldLemmas
 pub mod LimitLemmas
-pub mod BeforeLemmas
 pub mod ComingLemmas
 pub mod SplitCourseLemmas
 pub mod SplitKnownLemmas
@@ -82,6 +84,8 @@ pub mod WorkedEmptyCalls
 pub mod WorkedChecks
 pub mod WorkedReplays
 pub mod WorkedWorsts
+pub mod WorkedSlacks
+pub mod WorkedSearches
 pub mod WorkedNumbers
 pub mod WorkedCompared
 pub mod WorkedNarrows

@@ -16,23 +16,27 @@ before_end byte text is = rw is refl
 before_other : (byte : ℕ) (text : List ℕ) → is_line_end byte ≡ false → before (byte ∷ text) ≡ 1 + before text
 before_other byte text other = rw other refl
 
-lines_end : (byte : ℕ) (text : List ℕ) → is_line_end byte ≡ true → text_lines (byte ∷ text) ≡ (byte ∷ []) ∷ text_lines text
+lines_end : (byte : ℕ) (text : List ℕ) → is_line_end byte ≡ true
+    → text_lines (byte ∷ text) ≡ (byte ∷ []) ∷ text_lines text
 lines_end byte text is = rw is refl
 
-lines_other : (byte : ℕ) (text : List ℕ) → is_line_end byte ≡ false → text_lines (byte ∷ text) ≡ in_front byte (text_lines text)
+lines_other : (byte : ℕ) (text : List ℕ) → is_line_end byte ≡ false
+    → text_lines (byte ∷ text) ≡ in_front byte (text_lines text)
 lines_other byte text other = rw other refl
 
 -- the first line of the text has so many bytes before its line end
 abbrev Begins : List ℕ → ℕ → Type 0
 Begins text count = text_lines text ≡ take (suc count) text ∷ text_lines (drop (suc count) text)
 
-begins_end : (byte : ℕ) (text : List ℕ) (count : ℕ) → is_line_end byte ≡ true → count ≡ before (byte ∷ text) → Begins (byte ∷ text) count
+begins_end : (byte : ℕ) (text : List ℕ) (count : ℕ) → is_line_end byte ≡ true → count ≡ before (byte ∷ text)
+    → Begins (byte ∷ text) count
 begins_end byte text zero is e = lines_end byte text is
 begins_end byte text (suc count) is e =
     let none : suc count ≡ 0 = e ∙ before_end byte text is in absurd (omega (arith, none))
 
 begins_other : (byte : ℕ) (text : List ℕ) (count : ℕ) → ((n : ℕ) → n ≡ before text → n < length text → Begins text n)
-    → is_line_end byte ≡ false → count ≡ before (byte ∷ text) → count < length (byte ∷ text) → Begins (byte ∷ text) count
+    → is_line_end byte ≡ false → count ≡ before (byte ∷ text) → count < length (byte ∷ text)
+    → Begins (byte ∷ text) count
 begins_other byte text zero rest other e less =
     let some : 0 ≡ 1 + before text = e ∙ before_other byte text other in absurd (omega (arith, some))
 begins_other byte text (suc count) rest other e less =
@@ -49,7 +53,8 @@ begins (byte ∷ text) count e less =
     ]
 
 alone_other : (byte : ℕ) (text : List ℕ) → (0 < length text → length text ≤ before text → text_lines text ≡ text ∷ [])
-    → is_line_end byte ≡ false → length (byte ∷ text) ≤ before (byte ∷ text) → text_lines (byte ∷ text) ≡ (byte ∷ text) ∷ []
+    → is_line_end byte ≡ false → length (byte ∷ text) ≤ before (byte ∷ text)
+    → text_lines (byte ∷ text) ≡ (byte ∷ text) ∷ []
 alone_other byte [] rest other most = lines_other byte [] other
 alone_other byte (next ∷ text) rest other most =
     let more : before (byte ∷ next ∷ text) ≡ 1 + before (next ∷ text) = before_other byte (next ∷ text) other in
@@ -65,7 +70,8 @@ alone (byte ∷ text) some most =
     ]
 
 -- where a line end is found, the text up to it is the first line
-pub first_line_at : (text line behind : List ℕ) (count : ℕ) → Some count ≡ position is_line_end text → line ≡ take (count + 1) text
+pub first_line_at : (text line behind : List ℕ) (count : ℕ) → Some count ≡ position is_line_end text
+    → line ≡ take (count + 1) text
     → behind ≡ drop (count + 1) text → text_lines text ≡ line ∷ text_lines behind
 first_line_at text line behind count e front back =
     let here : (count ≡ before text) × (count < length text) = grind (arith, nat_tests) in

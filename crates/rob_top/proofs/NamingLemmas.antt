@@ -5,7 +5,8 @@ use denote.Enum.Bare.{same_true, sameb}
 use Rattle.rob_meaning.specs.RobustModel.{RobustModel}
 use Rattle.rob_top.proofs.OwnLemmas.{has_kind, second_of}
 use Rattle.rob_top.specs.Branched.{BreaksWhole, no_ranges, no_variables}
-use Rattle.rob_top.specs.Calls.{Call, IsBranching, branches, word_of}
+use Rattle.rob_top.specs.Calls.{Call, IsBranching, branches}
+use Rattle.rob_top.specs.Files.{word_of}
 use Rattle.rob_top.specs.Inputs.{TellsNames}
 use Rattle.rob_words.proofs.EachValue.{each_value}
 use Rattle.rob_words.specs.Commands.{Line}
@@ -40,11 +41,13 @@ names_verb verb h =
     (second_of (not (has_kind Names (own_of verb))) (branches verb || sameb verb_type verb CheckTree)
     (each_value enum is_either refl verb) (ap not h))
   where
-    by : (b : Bool) → branches verb ≡ b → (b || sameb verb_type verb CheckTree) ≡ true → IsBranching verb ⊎ (verb ≡ CheckTree)
+    by : (b : Bool) → branches verb ≡ b → (b || sameb verb_type verb CheckTree) ≡ true
+        → IsBranching verb ⊎ (verb ≡ CheckTree)
     by true e k = inl e
     by false e k = inr (same_true verb_type tt verb CheckTree k)
 
-telling_verb : (line : Line) (names : List Word) → TellsNames line names → IsBranching line.verb ⊎ (line.verb ≡ CheckTree)
+telling_verb : (line : Line) (names : List Word) → TellsNames line names → IsBranching line.verb
+    ⊎ (line.verb ≡ CheckTree)
 telling_verb line names h = names_verb line.verb (word_kind Names (own_of line.verb) line.own h.word h.told)
 
 -- so do the words of variables that break a rule

@@ -2,6 +2,7 @@
 use Rattle.std.proofs.Common.{◌≡◌, ◌≢◌, pos, ◌&&◌, ◌↔◌, ◌⊎◌, ℕ, ◌++◌, Bool, true, false, List, Option, Some, None, Result, Ok, Err, IfOk, codes, inl, inr, refl, sym, ◌∙◌, ap₂, subst}
 use Rattle.std.specs.Prelude.{is_some}
 use Rattle.rob_algebra.specs.Fraction.{Fraction, of_int}
+use Rattle.rob_cert.proofs.PartLemmas.{both_true}
 use Rattle.rob_counterpart.proofs.CompletenessLemmas.{some_status}
 use Rattle.rob_dualize.proofs.SolvingLemmas.{narrow_spot}
 use Rattle.rob_dualize.specs.RowBounds.{AreBothWithin, TellsBounds}
@@ -50,10 +51,6 @@ not_none_some : {A : Type 0} (o : Option A) → o ≢ None → is_some o ≡ tru
 not_none_some None h = absurd (h refl)
 not_none_some (Some x) h = refl
 
-both_true : (a b : Bool) → (a && b) ≡ true → (a ≡ true) × (b ≡ true)
-both_true true b h = (refl, h)
-both_true false b h = cc
-
 true_both : (a b : Bool) → a ≡ true → b ≡ true → (a && b) ≡ true
 true_both true b e h = h
 true_both false b e h = cc
@@ -82,19 +79,24 @@ told_narrow limit m told text h narrow is =
       narrow = told_yes told limit m narrow;
       printed = is
           ∙ ap₂ (λ (front rest : List ℕ). front ++ (rest ++ narrow_line yes))
-          (ap₂ (λ (rows : ℕ) (bound : Option ℕ). bound_line (codes "set") rows told.set.greatest bound) h.set.rows h.set.bound)
-          (ap₂ (λ (rows : ℕ) (bound : Option ℕ). bound_line (codes "reform") rows told.counterpart.greatest bound) h.counterpart.rows
+          (ap₂ (λ (rows : ℕ) (bound : Option ℕ). bound_line (codes "set") rows told.set.greatest bound) h.set.rows
+          h.set.bound)
+          (ap₂ (λ (rows : ℕ) (bound : Option ℕ). bound_line (codes "reform") rows told.counterpart.greatest bound)
+          h.counterpart.rows
           h.counterpart.bound);
     }
 
 -- the reply for a model whose forms and set rows these are
-pub of_model : (m : RobustModel) (r : Result Reply Want) (forms : Forms) (set : SetForm) (limit : ℕ) → IsForms m forms → IsSetForm m set
-    → IfOk r (λ reply. (k : RobustModel) → IsForms k forms → IsSetForm k set → RepliesNarrow limit k reply) → IfOk r (RepliesNarrow limit m)
+pub of_model : (m : RobustModel) (r : Result Reply Want) (forms : Forms) (set : SetForm) (limit : ℕ)
+    → IsForms m forms → IsSetForm m set
+    → IfOk r (λ reply. (k : RobustModel) → IsForms k forms → IsSetForm k set → RepliesNarrow limit k reply)
+    → IfOk r (RepliesNarrow limit m)
 of_model m (Err want) forms set limit f st h = tt
 of_model m (Ok reply) forms set limit f st h = h m f st
 
 -- the reply of the work is the answer of the command
-pub narrow_answers : (limit : ℕ) (m : RobustModel) (wides : Count) (verb : Verb) (texts : Texts) (r : Result Reply Want) → verb ≡ Narrow
+pub narrow_answers : (limit : ℕ) (m : RobustModel) (wides : Count) (verb : Verb) (texts : Texts) (r : Result Reply Want)
+    → verb ≡ Narrow
     → IfOk r (RepliesNarrow limit m) → IfOk r (AnswersWhole limit wides m verb texts)
 narrow_answers limit m wides verb texts (Err want) e is = tt
 narrow_answers limit m wides verb texts (Ok reply) e is = λ call line at came has.
@@ -108,9 +110,12 @@ narrow_answers limit m wides verb texts (Ok reply) e is = λ call line at came h
     }))
 
 -- ---- no other answer may come
-pub narrow_decides : (call : Call) (known : Known call.source) (line : Line) (m : RobustModel) → HasForms call line m → line.verb ≡ Narrow
-    → (ended : Ended) (text : List ℕ) → Means call ended text → (ended ≡ Printed) ⊎ ((ended ≡ ReadFault) ⊎ (ended ≡ Memory))
-narrow_decides call known line m has is ended text means = first_of_two by (course_of call known line m has.model ended text means)
+pub narrow_decides : (call : Call) (known : Known call.source) (line : Line) (m : RobustModel)
+    → HasForms call line m → line.verb ≡ Narrow
+    → (ended : Ended) (text : List ℕ) → Means call ended text → (ended ≡ Printed)
+    ⊎ ((ended ≡ ReadFault) ⊎ (ended ≡ Memory))
+narrow_decides call known line m has is ended text means =
+    first_of_two by (course_of call known line m has.model ended text means)
   where
     by : Course call line m ended → ended ≡ Printed
     by (finds status v u inside forms solves holds e) = absurd (solves_no_narrow line.verb is solves)
@@ -132,18 +137,22 @@ narrow_decides call known line m has is ended text means = first_of_two by (cour
 -- ---- `solve` and `prove` of a narrow model
 module _ (limit : ℕ) (m : RobustModel) (narrow : IsNarrowModel limit m) where
   pub no_wide_answer : (ended : Ended) (spot : Spot) → IsSolveAnswer Dual limit m ended → ended ≡ TooWide spot → ⊥
-  no_wide_answer ended spot h e = narrow_spot limit m spot narrow (subst (λ (x : Ended). IsSolveAnswer Dual limit m x) e h)
+  no_wide_answer ended spot h e =
+      narrow_spot limit m spot narrow (subst (λ (x : Ended). IsSolveAnswer Dual limit m x) e h)
 
   pub shown_answer : (ended : Ended) → IsEmptyAnswer limit m ended → IsShownAnswer m ended
   shown_answer (EmptySet weights) h = h
-  shown_answer (TooWide (Dictionary program.Set basis i)) h = absurd (narrow_spot limit m (Dictionary program.Set basis i) narrow h)
+  shown_answer (TooWide (Dictionary program.Set basis i)) h =
+      absurd (narrow_spot limit m (Dictionary program.Set basis i) narrow h)
   shown_answer other h = h
 
 -- a model with a scenario has a status
-pub has_status : (m : RobustModel) → IsModel m → (u : List Fraction) → Admits m u → (status : Status) × (v : Fraction) × HasStatus m status v
+pub has_status : (m : RobustModel) → IsModel m → (u : List Fraction) → Admits m u → (status : Status)
+    × (v : Fraction) × HasStatus m status v
 has_status m model u admitted = by (some_status m model u admitted)
   where
-    by : ((v : Fraction) × IsOptimal m v) ⊎ (IsInfeasible m ⊎ IsUnbounded m) → (status : Status) × (v : Fraction) × HasStatus m status v
+    by : ((v : Fraction) × IsOptimal m v) ⊎ (IsInfeasible m ⊎ IsUnbounded m) → (status : Status)
+        × (v : Fraction) × HasStatus m status v
     by (inl h) = (optimal, h.0, h.1)
     by (inr (inl h)) = (infeasible, of_int (pos 0), h)
     by (inr (inr h)) = (unbounded, of_int (pos 0), h)

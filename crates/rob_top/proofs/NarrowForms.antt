@@ -1,4 +1,5 @@
--- Tests that no number is wide with 62 bits on the way to a model's set rows and forms, whose sides are a parameter or a variable.
+-- Tests that no number is wide with 62 bits on the way to a model's set rows
+-- and forms, whose sides are a parameter or a variable.
 use Rattle.std.proofs.Common.{◌≡◌, ◌∙◌, ap₂, subst, arith, inl, inr, ◌⊎◌}
 use Rattle.std.proofs.lemmas.Bool.{leb-true}
 use Rattle.std.specs.Prelude.{ℕ, zero, suc, ◌<◌, ◌≤◌, ◌-◌, ◌^◌, leb, nat_abs, Bool, true, false, List, [], ◌∷◌, Option, Some, None, refl}

@@ -17,7 +17,8 @@ use Rattle.rob_top.specs.declared.nodes.Walk.{Walk}
 use Rattle.rob_top.specs.declared.nodes.Walk.TheVariants as walk
 
 -- a leaf of the first list is at its place in both; one of the second stands behind the first
-leaf_at_left : (xs ys : List trees.Leaf) (i : ℕ) (l : trees.Leaf) → leaf_at xs i ≡ Some l → leaf_at (xs ++ ys) i ≡ Some l
+leaf_at_left : (xs ys : List trees.Leaf) (i : ℕ) (l : trees.Leaf) → leaf_at xs i ≡ Some l
+    → leaf_at (xs ++ ys) i ≡ Some l
 leaf_at_left [] ys i l e = cc
 leaf_at_left (x ∷ xs) ys zero l e = cc
 leaf_at_left (x ∷ xs) ys (suc zero) l e = e
@@ -47,19 +48,22 @@ module _ {N : Type 0} (of : N → Fraction) (xs ys : List trees.Leaf) (i : ℕ) 
   at_right (suc left) e some = ap (leaf_at (xs ++ ys)) e ∙ leaf_at_right xs ys left
 
   -- what is left behind the first node is sought in the second
-  pub walk_right : (left : ℕ) (w : Walk N) → i ≡ length xs + left → 0 < left → IsWalk of ys left w → IsWalk of (xs ++ ys) i w
+  pub walk_right : (left : ℕ) (w : Walk N) → i ≡ length xs + left → 0 < left → IsWalk of ys left w
+      → IsWalk of (xs ++ ys) i w
   walk_right left (walk.Here cert) e some h = (h.0, at_right left e some ∙ h.1, h.2)
   walk_right left walk.Open e some h = (h.0, at_right left e some ∙ h.1, h.2)
   walk_right left (walk.Behind more) e some h = omega (arith, e, h, length-append xs ys)
 
 -- a leaf that has a property has a number, and stands there
-pub leaf_here : (P : trees.Leaf → Type 0) (ls : List trees.Leaf) (i : ℕ) → HasLeaf P ls i → (l : trees.Leaf) × (leaf_at ls i ≡ Some l) × P l
+pub leaf_here : (P : trees.Leaf → Type 0) (ls : List trees.Leaf) (i : ℕ) → HasLeaf P ls i → (l : trees.Leaf)
+    × (leaf_at ls i ≡ Some l) × P l
 leaf_here P [] i h = absurd h
 leaf_here P (l ∷ ls) zero h = absurd h
 leaf_here P (l ∷ ls) (suc zero) h = (l, refl, h)
 leaf_here P (l ∷ ls) (suc (suc i)) h = leaf_here P ls (suc i) h
 
-pub leaf_has : (P : trees.Leaf → Type 0) (ls : List trees.Leaf) (i : ℕ) (l : trees.Leaf) → leaf_at ls i ≡ Some l → P l → HasLeaf P ls i
+pub leaf_has : (P : trees.Leaf → Type 0) (ls : List trees.Leaf) (i : ℕ) (l : trees.Leaf)
+    → leaf_at ls i ≡ Some l → P l → HasLeaf P ls i
 leaf_has P [] i l e h = absurd (let no : None ≡ Some l = e in cc)
 leaf_has P (x ∷ ls) zero l e h = absurd (let no : None ≡ Some l = e in cc)
 leaf_has P (x ∷ ls) (suc zero) l e h = let same : l ≡ x = cc in subst P same h
@@ -71,7 +75,8 @@ leaf_some [] i l e = absurd (let no : None ≡ Some l = e in cc)
 leaf_some (x ∷ ls) zero l e = absurd (let no : None ≡ Some l = e in cc)
 leaf_some (x ∷ ls) (suc i) l e = omega arith
 
-pub leaf_within : (ls : List trees.Leaf) (i : ℕ) (l : trees.Leaf) → leaf_at ls i ≡ Some l → (left : ℕ) → i ≡ length ls + left → 0 < left → ⊥
+pub leaf_within : (ls : List trees.Leaf) (i : ℕ) (l : trees.Leaf) → leaf_at ls i ≡ Some l → (left : ℕ)
+    → i ≡ length ls + left → 0 < left → ⊥
 leaf_within [] i l e left is some = let no : None ≡ Some l = e in cc
 leaf_within (x ∷ ls) zero l e left is some = omega (arith, is)
 leaf_within (x ∷ []) (suc zero) l e left is some = omega (arith, is)
@@ -81,7 +86,8 @@ leaf_within (x ∷ ls) (suc (suc i)) l e left is some = leaf_within ls (suc i) l
 -- ---- one leaf
 module _ {N : Type 0} (of : N → Fraction) (box : RobustModel) (node : Node N) where
   pub walk_leaf : (cert : Cert N) (number : ℕ) → node ≡ Leaf cert → number ≡ 1
-      → (l : trees.Leaf) × (leaf_at (leaves box (node_of of node)) number ≡ Some l) × (l.certificate ≡ Some (certificate_of of cert))
+      → (l : trees.Leaf) × (leaf_at (leaves box (node_of of node)) number ≡ Some l)
+      × (l.certificate ≡ Some (certificate_of of cert))
   walk_leaf cert number e n = (
     record { box = box; certificate = Some (certificate_of of cert) },
     ap (λ (x : Node N). leaf_at (leaves box (node_of of x)) number) e
@@ -110,13 +116,15 @@ module _ {N : Type 0} (of : N → Fraction) (box : RobustModel) (node below abov
   all : (i : ℕ) (w : Walk N) → IsWalk of (front ++ back) i w → IsWalk of (leaves box (node_of of node)) i w
   all i w h = subst (λ (n : trees.Node). IsWalk of (leaves box n) i w) (sym is) h
 
-  pub walk_here : (x : Node N) (i : ℕ) (cert : _) → x ≡ below → IsWalk of (leaves (box_below box column k) (node_of of x)) i (walk.Here cert)
+  pub walk_here : (x : Node N) (i : ℕ) (cert : _) → x ≡ below
+      → IsWalk of (leaves (box_below box column k) (node_of of x)) i (walk.Here cert)
       → IsWalk of (leaves box (node_of of node)) i (walk.Here cert)
   walk_here x i cert same h =
       all i (walk.Here cert) (here_left of front back i (certificate_of of cert.now)
       (subst (λ (y : Node N). IsWalk of (leaves (box_below box column k) (node_of of y)) i (walk.Here cert)) same h))
 
-  pub walk_left_open : (x : Node N) (i : ℕ) → x ≡ below → IsWalk of (leaves (box_below box column k) (node_of of x)) i walk.Open
+  pub walk_left_open : (x : Node N) (i : ℕ) → x ≡ below
+      → IsWalk of (leaves (box_below box column k) (node_of of x)) i walk.Open
       → IsWalk of (leaves box (node_of of node)) i walk.Open
   walk_left_open x i same h =
       all i walk.Open (open_left of front back i
@@ -126,6 +134,8 @@ module _ {N : Type 0} (of : N → Fraction) (box : RobustModel) (node below abov
       → IsWalk of (leaves (box_below box column k) (node_of of x)) i (walk.Behind left) → 0 < left
       → IsWalk of (leaves (box_above box column k) (node_of of y)) left w → IsWalk of (leaves box (node_of of node)) i w
   walk_behind x y i left w same alike h some g =
-      let there = subst (λ (z : Node N). IsWalk of (leaves (box_below box column k) (node_of of z)) i (walk.Behind left)) same h in
+      let there =
+      subst (λ (z : Node N). IsWalk of (leaves (box_below box column k) (node_of of z)) i (walk.Behind left)) same
+      h in
       all i w (walk_right of front back i left w there some
       (subst (λ (z : Node N). IsWalk of (leaves (box_above box column k) (node_of of z)) left w) alike g))

@@ -21,7 +21,8 @@ pub data NumberCourse (call : Call) (line : Line) (ended : Ended) : Type 0 where
   compares : (number : ℕ) → AsksFor call line number → IsComparedAnswer (limit_of line) (generated number) ended
       → NumberCourse call line ended
 
-pub number_course_at : (call : Call) (l line : Line) (ended : Ended) → l ≡ line → NumberCourse call l ended → NumberCourse call line ended
+pub number_course_at : (call : Call) (l line : Line) (ended : Ended) → l ≡ line → NumberCourse call l ended
+    → NumberCourse call line ended
 number_course_at call l line ended same h = subst (λ (x : Line). NumberCourse call x ended) same h
 
 module _ (call : Call) where
@@ -29,7 +30,8 @@ module _ (call : Call) where
   compared_course text h = compares h.number h.asks (h.status, h.dual.c.value, h.dual.holds)
 
   -- the first spot that is told is that of the counterpart, or of the cutting planes
-  pub wide_compared_course : (spot : Spot) (text : List ℕ) (h : IsWideCompared call spot text) → NumberCourse call h.line (TooWide spot)
+  pub wide_compared_course : (spot : Spot) (text : List ℕ) (h : IsWideCompared call spot text)
+      → NumberCourse call h.line (TooWide spot)
   wide_compared_course spot text h = compares h.number h.asks (by h.first)
     where
       m : RobustModel

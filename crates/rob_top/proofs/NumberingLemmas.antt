@@ -1,5 +1,5 @@
--- The numbers of named variables: what is known of a list of names that was read up to some name, and that there is one list
--- of numbers.
+-- The numbers of named variables: what is known of a list of names that was
+-- read up to some name, and that there is one list of numbers.
 use Rattle.std.proofs.Common.{◌≡◌, ◌≢◌, ℕ, suc, ◌<◌, ◌≤◌, List, [], ◌∷◌, ◌++◌, map, length, Option, Some, None, IfSome, refl, sym, ◌∙◌, ap, subst, inl, inr, arith, append_assoc}
 use Rattle.std.proofs.lemmas.List.{append-nil, append_cancel_left, map-append}
 use Rattle.std.proofs.lemmas.Option.{get_or_from_slice_get, slice_get-get_or}
@@ -35,13 +35,16 @@ left None = 0
 left (Some word) = suc (length word)
 
 -- less is left behind the first part
-pub left_less : (o behind : Option (List ℕ)) (word : List ℕ) → o ≡ Some word → IfSome behind (λ rest. length rest < length word)
+pub left_less : (o behind : Option (List ℕ)) (word : List ℕ) → o ≡ Some word
+    → IfSome behind (λ rest. length rest < length word)
     → left behind < left o
 left_less o None word is h = subst (λ (x : Option (List ℕ)). 0 < left x) (sym is) (omega arith)
-left_less o (Some rest) word is h = subst (λ (x : Option (List ℕ)). suc (length rest) < left x) (sym is) (omega (arith, h))
+left_less o (Some rest) word is h =
+    subst (λ (x : Option (List ℕ)). suc (length rest) < left x) (sym is) (omega (arith, h))
 
 -- what holds of the bytes of what is there holds of what they are
-pub some_mapped : {A : Type 0} (f : A → List ℕ) (P : List ℕ → Type 0) (o : Option A) → IfSome o (λ a. P (f a)) → IfSome (option_map f o) P
+pub some_mapped : {A : Type 0} (f : A → List ℕ) (P : List ℕ → Type 0) (o : Option A) → IfSome o (λ a. P (f a))
+    → IfSome (option_map f o) P
 some_mapped f P None h = tt
 some_mapped f P (Some a) h = h
 
@@ -58,7 +61,8 @@ module _ (m : RobustModel) where
   pub named_found : (name : Name) (k : ℕ) → slice_get (column_names m) k ≡ Some name → name_of k ≡ name
   named_found name k e = get_or_from_slice_get (column_names m) k name [] e
 
-  pub variable_found : (name : Name) (found : Option ℕ) → FindsOwn (column_names m) name found → (k : ℕ) → k < length m.variables
+  pub variable_found : (name : Name) (found : Option ℕ) → FindsOwn (column_names m) name found → (k : ℕ)
+      → k < length m.variables
       → name_of k ≡ name → found ≡ Some k
   variable_found name found own k inside is =
       own k (slice_get-get_or (column_names m) k [] (column_in k inside) ∙ ap Some is)
@@ -70,10 +74,12 @@ module _ (m : RobustModel) where
     pub alone : (k : ℕ) → k < length m.variables → name_of k ≡ name → k ≡ j
 
   pub variable_is : (name : Name) (j : ℕ)
-      → (j < length m.variables) × (name_of j ≡ name) × ((k : ℕ) → k < length m.variables → name_of k ≡ name → k ≡ j) → IsVariable name j
+      → (j < length m.variables) × (name_of j ≡ name)
+      × ((k : ℕ) → k < length m.variables → name_of k ≡ name → k ≡ j) → IsVariable name j
   variable_is name j h = record { inside = h.0; named = h.1; alone = h.2 }
 
-  pub found_variable : (name : Name) (found : Option ℕ) (j : ℕ) → Finds (column_names m) name found → FindsOwn (column_names m) name found
+  pub found_variable : (name : Name) (found : Option ℕ) (j : ℕ) → Finds (column_names m) name found
+      → FindsOwn (column_names m) name found
       → found ≡ Some j → j < length m.variables → IsVariable name j
   found_variable name None j finds own e inside = absurd (let no : None ≡ Some j = e in cc)
   found_variable name (Some i) j finds own e inside = record {
@@ -84,7 +90,8 @@ module _ (m : RobustModel) where
 
   -- ---- names one by one
 
-  -- a list of names was read up to `rest`, and these are the numbers of those before it; each numbering of all begins with them
+  -- a list of names was read up to `rest`, and these are the numbers of those
+  -- before it; each numbering of all begins with them
   pub record HasRead (all : List Name) (numbers : List ℕ) (rest : List Name) : Type 0 where
     pub named : map name_of numbers ++ rest ≡ all
     pub kept : KeepsNames m numbers
@@ -115,15 +122,18 @@ module _ (m : RobustModel) where
     apart_more = distinct_apart numbers more (subst (λ list. AreDistinct list) is_more are.kept.distinct)
 
   -- the next of them is the number of the next name
-  next_number : (all : List Name) (numbers : List ℕ) (name : Name) (rest : List Name) (ns : List ℕ) → HasRead all numbers (name ∷ rest)
-      → AreVariables m all ns → (k : ℕ) × (more : List ℕ) × (ns ≡ numbers ++ k ∷ more) × (k < length m.variables) × (name_of k ≡ name)
+  next_number : (all : List Name) (numbers : List ℕ) (name : Name) (rest : List Name) (ns : List ℕ)
+      → HasRead all numbers (name ∷ rest)
+      → AreVariables m all ns → (k : ℕ) × (more : List ℕ) × (ns ≡ numbers ++ k ∷ more)
+      × (k < length m.variables) × (name_of k ≡ name)
       × Each (λ j. j ≢ k) numbers
   next_number all numbers name rest ns read are =
       by (more all numbers (name ∷ rest) read ns are) (is_more all numbers (name ∷ rest) read ns are)
       (named_more all numbers (name ∷ rest) read ns are) (inside_more all numbers (name ∷ rest) read ns are)
       (apart_more all numbers (name ∷ rest) read ns are)
     where
-      by : (list : List ℕ) → ns ≡ numbers ++ list → map name_of list ≡ name ∷ rest → Each (λ j. j < length m.variables) list
+      by : (list : List ℕ) → ns ≡ numbers ++ list → map name_of list ≡ name ∷ rest
+          → Each (λ j. j < length m.variables) list
           → Apart numbers list → (k : ℕ) × (more : List ℕ) × (ns ≡ numbers ++ k ∷ more) × (k < length m.variables)
           × (name_of k ≡ name) × Each (λ j. j ≢ k) numbers
       by [] is named inside apart = absurd (let no : [] ≡ name ∷ rest = named in cc)
@@ -137,19 +147,22 @@ module _ (m : RobustModel) where
       )
 
   -- the next part of the list's text is the next name
-  pub at_part : (all : List Name) (numbers : List ℕ) (o : Option (List ℕ)) (word name : List ℕ) (behind : Option (List ℕ))
+  pub at_part : (all : List Name) (numbers : List ℕ) (o : Option (List ℕ)) (word name : List ℕ)
+      (behind : Option (List ℕ))
       → HasRead all numbers (parts_behind o) → o ≡ Some word → parts_of word ≡ name ∷ parts_behind behind
       → HasRead all numbers (name ∷ parts_behind behind)
   at_part all numbers o word name behind read is parts =
       subst (λ (rest : List Name). HasRead all numbers rest) (ap parts_behind is ∙ parts) read
 
   -- no part is left
-  pub at_end : (all : List Name) (numbers : List ℕ) (o : Option (List ℕ)) → HasRead all numbers (parts_behind o) → o ≡ None
+  pub at_end : (all : List Name) (numbers : List ℕ) (o : Option (List ℕ))
+      → HasRead all numbers (parts_behind o) → o ≡ None
       → HasRead all numbers []
   at_end all numbers o read is = subst (λ (rest : List Name). HasRead all numbers rest) (ap parts_behind is) read
 
   -- a name that is no variable's
-  pub read_no_variable : (all : List Name) (numbers : List ℕ) (name : Name) (rest : List Name) → HasRead all numbers (name ∷ rest)
+  pub read_no_variable : (all : List Name) (numbers : List ℕ) (name : Name) (rest : List Name)
+      → HasRead all numbers (name ∷ rest)
       → ((k : ℕ) → k < length m.variables → name_of k ≡ name → ⊥) → (ns : List ℕ) → AreVariables m all ns → ⊥
   read_no_variable all numbers name rest read none ns are =
       let next = next_number all numbers name rest ns read are in none next.0 next.3 next.4
@@ -160,7 +173,8 @@ module _ (m : RobustModel) where
   not_among (i ∷ numbers) j k e (inr here) apart = not_among numbers j k e here apart.1
 
   -- a name that stands twice
-  pub read_twice : (all : List Name) (numbers : List ℕ) (name : Name) (rest : List Name) (j : ℕ) → HasRead all numbers (name ∷ rest)
+  pub read_twice : (all : List Name) (numbers : List ℕ) (name : Name) (rest : List Name) (j : ℕ)
+      → HasRead all numbers (name ∷ rest)
       → IsVariable name j → IsIn j numbers → (ns : List ℕ) → AreVariables m all ns → ⊥
   read_twice all numbers name rest j read is here ns are =
       let next = next_number all numbers name rest ns read are in
@@ -171,7 +185,8 @@ module _ (m : RobustModel) where
   apart_one (i ∷ numbers) j out = ((λ e. out (inl (sym e)), tt), apart_one numbers j (λ h. out (inr h)))
 
   -- one name more
-  pub read_more : (all : List Name) (numbers : List ℕ) (name : Name) (rest : List Name) (j : ℕ) → HasRead all numbers (name ∷ rest)
+  pub read_more : (all : List Name) (numbers : List ℕ) (name : Name) (rest : List Name) (j : ℕ)
+      → HasRead all numbers (name ∷ rest)
       → IsVariable name j → (IsIn j numbers → ⊥) → HasRead all (numbers ++ j ∷ []) rest
   read_more all numbers name rest j read is out = record {
     named =
@@ -185,7 +200,8 @@ module _ (m : RobustModel) where
     begins = λ ns are.
         let next = next_number all numbers name rest ns read are in (
           next.1,
-          next.2 ∙ ap (λ k. numbers ++ k ∷ next.1) (is.alone next.0 next.3 next.4) ∙ sym (append_assoc numbers (j ∷ []) next.1),
+          next.2 ∙ ap (λ k. numbers ++ k ∷ next.1) (is.alone next.0 next.3 next.4)
+              ∙ sym (append_assoc numbers (j ∷ []) next.1),
         );
   }
 
@@ -205,7 +221,8 @@ module _ (m : RobustModel) where
         one_number (column_names m) i j (columns_distinct m model is_named) (column_in i h.0) (column_in j k.0)
         (first_is (name_of i) (name_of j) (map name_of a) (map name_of b) e)
         in
-        let more : a ≡ b = same_numbers a b (rest_is (name_of i) (name_of j) (map name_of a) (map name_of b) e) h.1 k.1 in
+        let more : a ≡ b =
+        same_numbers a b (rest_is (name_of i) (name_of j) (map name_of a) (map name_of b) e) h.1 k.1 in
         ap (λ n. n ∷ a) one ∙ ap (λ list. j ∷ list) more
 
     pub one_numbering : (names : List Name) (a b : List ℕ) → AreVariables m names a → AreVariables m names b → a ≡ b

@@ -1,5 +1,6 @@
--- What a call of `gen` prints for a number, where both routes have a status: one text, whichever the call and its width.
-use Rattle.std.proofs.Common.{◌≡◌, ◌≢◌, ℕ, List, ◌++◌, ap, ap₂, inl, inr, refl, sym, ◌∙◌, subst}
+-- What a call of `gen` prints for a number, where both routes have a status:
+-- one text, whichever the call and its width.
+use Rattle.std.proofs.Common.{◌≡◌, ◌≢◌, ℕ, List, ◌++◌, ap, ap₂, refl, sym, ◌∙◌, subst}
 use Rattle.rob_algebra.specs.Fraction.{Fraction}
 use Rattle.rob_gen.specs.Generated.{generated}
 use Rattle.rob_meaning.specs.Certificates.{Status, optimal, infeasible, unbounded}
@@ -35,22 +36,26 @@ module _ (call : Call) (l : Line) (n : ℕ) (asks : AsksFor call l n) where
       other : (verb : Verb) → verb ≢ Gen → (k : Line) → IsSpelled call.words k → k.verb ≡ verb
           → (h : IsCompared call text) × (h.number ≡ n)
       other verb differ k spelled is =
-          absurd (differ (sym is ∙ ap (λ (x : Line). x.verb) (one_line call.words k l spelled asks.spelled) ∙ asks.is_gen))
+          absurd (differ
+          (sym is ∙ ap (λ (x : Line). x.verb) (one_line call.words k l spelled asks.spelled) ∙ asks.is_gen))
 
       by : Prints call text → (h : IsCompared call text) × (h.number ≡ n)
       by (ways.rows h) = other Rows (λ e. cc) h.line h.forms.model.spelled h.is_rows
-      by (ways.replayed h) = other Replay (λ e. cc) h.line h.has.certificate.file.model.spelled h.has.certificate.file.is_replay
+      by (ways.replayed h) =
+          other Replay (λ e. cc) h.line h.has.certificate.file.model.spelled h.has.certificate.file.is_replay
       by (ways.generated h) = other Text (λ e. cc) h.line h.spelled h.is_text
       by (ways.worst_found h) =
-          other Worst (λ e. cc) h.line h.has.plan.certificate.file.forms.model.spelled h.has.plan.certificate.file.is_worst
-      by (ways.swept (inl h)) = other Sweep (λ e. cc) h.line h.has.model.spelled h.has.is_sweep
-      by (ways.swept (inr h)) = other SweepText (λ e. cc) h.line h.has.model.spelled h.has.is_text
+          other Worst (λ e. cc) h.line h.has.plan.certificate.file.forms.model.spelled
+          h.has.plan.certificate.file.is_worst
+      by (ways.priced h) = other Sweep (λ e. cc) h.line h.has.model.spelled h.has.is_sweep
+      by (ways.limited h) = other SweepText (λ e. cc) h.line h.has.model.spelled h.has.is_text
       by (ways.narrowed h) = other Narrow (λ e. cc) h.line h.forms.model.spelled h.is_narrow
       by (ways.split_written h) = other CellText (λ e. cc) h.line h.has.has_cuts.has_word.model.spelled h.is_text
       by (ways.compared h) = (h, number_is h.line h.number h.asks)
 
 -- ---- the line of a route is the same
-line_alike : (way : Route) (s : Status) (v w : Fraction) → (s ≡ optimal → v ≡ w) → status_line way s v ≡ status_line way s w
+line_alike : (way : Route) (s : Status) (v w : Fraction) → (s ≡ optimal → v ≡ w)
+    → status_line way s v ≡ status_line way s w
 line_alike way optimal v w e = ap (λ (x : Fraction). status_line way optimal x) (e refl)
 line_alike way infeasible v w e = refl
 line_alike way unbounded v w e = refl
@@ -66,10 +71,12 @@ told_alike m way limit limit' s t text other x y =
     ∙ sym y.printed
 
 -- ---- so the text is
-alike : (a b : Call) (n : ℕ) (text other : List ℕ) (x : IsCompared a text) (y : IsCompared b other) → x.number ≡ n → y.number ≡ n
+alike : (a b : Call) (n : ℕ) (text other : List ℕ) (x : IsCompared a text) (y : IsCompared b other)
+    → x.number ≡ n → y.number ≡ n
     → text ≡ other
 alike a b n text other x y first second =
-    let tells : (way : Route) (limit : ℕ) (s : Status) (line : List ℕ) (k : ℕ) → k ≡ n → TellsStatus limit (generated k) way s line
+    let tells : (way : Route) (limit : ℕ) (s : Status) (line : List ℕ) (k : ℕ) → k ≡ n
+    → TellsStatus limit (generated k) way s line
     → TellsStatus limit (generated n) way s line =
     λ way limit s line k e h. subst (λ (i : ℕ). TellsStatus limit (generated i) way s line) e h
     in
@@ -84,7 +91,8 @@ alike a b n text other x y first second =
     (tells Cuts (limit_of y.line) y.status y.by_cuts y.number second y.cuts)
     in
     x.printed
-    ∙ ap₂ (λ (k : ℕ) (lines : List ℕ). heading k ++ lines) (first ∙ sym second) (ap₂ (λ (p q : List ℕ). p ++ q) duals cuts)
+    ∙ ap₂ (λ (k : ℕ) (lines : List ℕ). heading k ++ lines) (first ∙ sym second)
+    (ap₂ (λ (p q : List ℕ). p ++ q) duals cuts)
     ∙ sym y.printed
 
 pub one_summary : (a b : Call) (l k : Line) (n : ℕ) (text other : List ℕ) → AsksFor a l n → AsksFor b k n

@@ -2,7 +2,8 @@
 use Rattle.std.proofs.Common.{◌≡◌, ◌||◌, ℕ, Bool, true, false, not, refl, sym, ◌∙◌, ap, subst, arith, List, [], ◌∷◌, length, Option, Some, None, Vec, Global, map, rules, string_bytes, inl, inr, ◌⊎◌}
 use Rattle.std.specs.Prelude.{if◌then◌else◌, option_map}
 use denote.Enum.Bare.{same_true, sameb}
-use Rattle.rob_top.specs.Calls.{Call, HasFile, IsBranching, IsOnModel, Request, branches, file_of, files_of, first_or, later, most_of, reads_model, request_of, requests, word_of}
+use Rattle.rob_top.specs.Calls.{Call, IsBranching, IsOnModel, branches, reads_model}
+use Rattle.rob_top.specs.Files.{HasFile, Request, file_of, files_of, first_or, later, most_of, request_of, requests, word_of}
 use Rattle.rob_top.specs.Replies.{HasTexts, text_of, with_text}
 use Rattle.rob_top.specs.declared.files.Texts.{Texts}
 use Rattle.rob_words.specs.Commands.{Line}
@@ -34,7 +35,8 @@ is_named v = not (reads_model v) || has_kind Model (own_of v)
 
 pub has_model : (verb : Verb) → IsOnModel verb → has_kind Model (own_of verb) ≡ true
 has_model verb reads =
-    second_of (not (reads_model verb)) (has_kind Model (own_of verb)) (each_value enum is_named refl verb) (ap not reads)
+    second_of (not (reads_model verb)) (has_kind Model (own_of verb))
+    (each_value enum is_named refl verb) (ap not reads)
 
 -- one that grows a tree has a list of names
 abbrev is_naming : Verb → Bool
@@ -57,9 +59,11 @@ on_number verb e = by (sameb verb_type verb Text) refl either
   where
     either : (sameb verb_type verb Text || sameb verb_type verb Gen) ≡ true
     either =
-        second_of (reads_model verb) (sameb verb_type verb Text || sameb verb_type verb Gen) (each_value enum is_read refl verb) e
+        second_of (reads_model verb) (sameb verb_type verb Text || sameb verb_type verb Gen)
+        (each_value enum is_read refl verb) e
 
-    by : (b : Bool) → sameb verb_type verb Text ≡ b → (b || sameb verb_type verb Gen) ≡ true → (verb ≡ Text) ⊎ (verb ≡ Gen)
+    by : (b : Bool) → sameb verb_type verb Text ≡ b → (b || sameb verb_type verb Gen) ≡ true
+        → (verb ≡ Text) ⊎ (verb ≡ Gen)
     by true is h = inl (same_true verb_type tt verb Text is)
     by false is h = inr (same_true verb_type tt verb Gen h)
 
@@ -76,10 +80,12 @@ no_request : (words : List Word) → request_of Model (Number ∷ []) words ≡ 
 no_request [] = refl
 no_request (word ∷ words) = refl
 
-pub number_no_file : (call : Call) (line : Line) (bytes : List ℕ) → reads_model line.verb ≡ false → HasFile call line Model bytes → ⊥
+pub number_no_file : (call : Call) (line : Line) (bytes : List ℕ) → reads_model line.verb ≡ false
+    → HasFile call line Model bytes → ⊥
 number_no_file call line bytes reads_none h =
     let named : request_of Model (Number ∷ []) line.own ≡ Some h.request =
-    subst (λ (kinds : List Own). request_of Model kinds line.own ≡ Some h.request) (takes_number line.verb reads_none) h.named
+    subst (λ (kinds : List Own). request_of Model kinds line.own ≡ Some h.request)
+    (takes_number line.verb reads_none) h.named
     in
     let clash : None ≡ Some h.request = sym (no_request line.own) ∙ named in
     cc
@@ -107,13 +113,15 @@ request_there kind most bound (other ∷ kinds) (name ∷ names) count has =
         → (has_kind kind kinds ≡ true → (r : Request) × (request_of kind kinds names ≡ Some r))
         → (r : Request) × (first_or o same name (request_of kind kinds names) ≡ Some r)
     by true alike None none h behind =
-        absurd (let no : None ≡ Some most = sym none ∙ ap most_of (same_true the_type tt other kind alike) ∙ bound in cc)
+        absurd (let no : None ≡ Some most =
+        sym none ∙ ap most_of (same_true the_type tt other kind alike) ∙ bound in cc)
     by true alike (Some n) is h behind = (file_of n name, refl)
     by false alike None none h behind = behind h
     by false alike (Some n) is h behind = let r = behind h in (later r.0, ap (option_map later) r.1)
 
 -- words of which one is of a kind have a word of that kind
-pub word_there : (kind : Own) (kinds : List Own) (words : List Word) → length words ≡ length kinds → has_kind kind kinds ≡ true
+pub word_there : (kind : Own) (kinds : List Own) (words : List Word) → length words ≡ length kinds
+    → has_kind kind kinds ≡ true
     → (w : Word) × (word_of kind kinds words ≡ Some w)
 word_there kind [] words count has = absurd (search (has, rules))
 word_there kind (other ∷ kinds) [] count has = absurd (omega (arith, count))
@@ -127,25 +135,30 @@ word_there kind (other ∷ kinds) (word ∷ words) count has =
     by false h behind = behind h
 
 -- a word that the command's own words give for a kind is the line's
-pub word_came : (call : Call) (line : Line) (texts : Texts) (verb : Verb) (kind : Own) (words : List Word) (word : Word) → line.verb ≡ verb
+pub word_came : (call : Call) (line : Line) (texts : Texts) (verb : Verb) (kind : Own) (words : List Word) (word : Word)
+    → line.verb ≡ verb
     → HasTexts call line texts → has_kind kind (own_of line.verb) ≡ true → words ≡ map string_bytes texts.words.items
-    → ((other : Word) → word_of kind (own_of verb) words ≡ Some other → word ≡ other) → word_of kind (own_of line.verb) line.own ≡ Some word
+    → ((other : Word) → word_of kind (own_of verb) words ≡ Some other → word ≡ other)
+    → word_of kind (own_of line.verb) line.own ≡ Some word
 word_came call line texts verb kind words word is came has same told =
     let there = word_there kind (own_of line.verb) line.own came.spelled.1.count has in
     let here : word_of kind (own_of verb) words ≡ Some there.0 =
-    ap (λ (list : List Word). word_of kind (own_of verb) list) (same ∙ came.words) ∙ ap (λ (v : Verb). word_of kind (own_of v) line.own) (sym is) ∙ there.1
+    ap (λ (list : List Word). word_of kind (own_of verb) list) (same ∙ came.words)
+    ∙ ap (λ (v : Verb). word_of kind (own_of v) line.own) (sym is) ∙ there.1
     in
     there.1 ∙ ap Some (sym (told there.0 here))
 
 -- the file of a kind that the line names came with the text of that kind
-pub file_came : (call : Call) (line : Line) (texts : Texts) (kind : Own) (most : ℕ) → most_of kind ≡ Some most → HasTexts call line texts
+pub file_came : (call : Call) (line : Line) (texts : Texts) (kind : Own) (most : ℕ) → most_of kind ≡ Some most
+    → HasTexts call line texts
     → has_kind kind (own_of line.verb) ≡ true → HasFile call line kind (text_of kind texts)
 file_came call line texts kind most bound came has =
     let r = request_there kind most bound (own_of line.verb) line.own came.spelled.1.count has in
     record { request = r.0; named = r.1; found = came.found kind r.0 r.1 }
 
 -- a file behind the first stands among those behind it
-pub later_request : (o : Option Request) (r : Request) → option_map later o ≡ Some r → (s : Request) × (o ≡ Some s) × (r ≡ later s)
+pub later_request : (o : Option Request) (r : Request) → option_map later o ≡ Some r → (s : Request)
+    × (o ≡ Some s) × (r ≡ later s)
 later_request None r e = absurd (let no : None ≡ Some r = e in cc)
 later_request (Some s) r e = let same : later s ≡ r = cc in (s, refl, sym same)
 

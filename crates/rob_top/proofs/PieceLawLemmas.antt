@@ -44,7 +44,8 @@ module _ (m : RobustModel) (cuts : List Cut) where
   each_number h tau = (same_in_all m cuts (h tau).0, plan_is_piece m cuts (h tau).0 tau (h tau).1)
 
 module _ (cutting solving : Call) where
-  pub no_worse : (text other : List ℕ) (x : IsPieced cutting optimal text) (y : IsSolved solving optimal other) → x.m ≡ y.m
+  pub no_worse : (text other : List ℕ) (x : IsPieced cutting optimal text) (y : IsSolved solving optimal other)
+      → x.m ≡ y.m
       → IsNoWorse x.m.sense x.c.value y.c.value
   no_worse text other x y same =
       never_worse x.m x.cuts y.c.value x.c.value (subst (λ k. IsOptimal k y.c.value) (sym same) y.holds) x.holds

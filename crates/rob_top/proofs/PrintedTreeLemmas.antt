@@ -20,7 +20,8 @@ use Rattle.rob_words.specs.declared.verb.Verb.{Verb}
 use Rattle.rob_words.specs.declared.verb.Verb.TheVariants as verb
 use Rattle.rob_words.specs.declared.width.Width.{Width}
 
-module _ (growing checking : Call) (known : Known checking.source) (status : Status) (text : List ℕ) (b : IsBranched growing status text)
+module _ (growing checking : Call) (known : Known checking.source) (status : Status) (text : List ℕ)
+    (b : IsBranched growing status text)
     (line : Line) (width : line.width ≡ b.line.width) where
   printed_tree : b.line.verb ≡ verb.Tree → HasTreeFile (known_call checking known) line b.m b.names text
       → HasTree (known_call checking known) line b.m b.names b.t
@@ -34,12 +35,15 @@ module _ (growing checking : Call) (known : Known checking.source) (status : Sta
     fits = subst (λ (w : Width). TreeFits (2 ^ bits_of w - 1) b.m b.t) (sym width) b.fits;
   }
 
-  pub grown_then_checked : b.line.verb ≡ verb.Tree → HasTreeFile (known_call checking known) line b.m b.names text → (ended : Ended)
-      → MustEnd (known_call checking known) ended → EndsAs Accepted ended ⊎ NamesWidth (limit_of line) b.m b.names b.t ended
+  pub grown_then_checked : b.line.verb ≡ verb.Tree
+      → HasTreeFile (known_call checking known) line b.m b.names text → (ended : Ended)
+      → MustEnd (known_call checking known) ended → EndsAs Accepted ended
+      ⊎ NamesWidth (limit_of line) b.m b.names b.t ended
   grown_then_checked is file ended must = must.tree_proved line b.m b.names b.t (printed_tree is file) b.proves
 
 -- a tree that is accepted claims the status that a tree has grown for, and the value of an optimum
-pub accepted_status : (growing checking : Call) (status : Status) (text shown : List ℕ) (b : IsBranched growing status text)
+pub accepted_status : (growing checking : Call) (status : Status) (text shown : List ℕ)
+    (b : IsBranched growing status text)
     (a : IsTreeAccepted checking shown) → a.m ≡ b.m → a.names ≡ b.names
     → (a.t.status ≡ status) × (status ≡ optimal → a.t.value ≡ b.t.value)
 accepted_status growing checking status text shown b a same alike = (one, value)

@@ -14,7 +14,7 @@ use Rattle.rob_top.proofs.SoughtLemmas.{forms_unplanned}
 use Rattle.rob_top.proofs.StageLemmas.{lacking_model, one_model_read}
 use Rattle.rob_top.specs.Calls.{Call, Known, known_call}
 use Rattle.rob_top.specs.Headline.{Means}
-use Rattle.rob_top.specs.Inputs.{HasModel, HasReplayCertificate, HasReplayFile, HasScenarios}
+use Rattle.rob_top.specs.Inputs.{HasModel, HasReplayCertificate, HasReplayFile, HasScenarioFile}
 use Rattle.rob_top.specs.Replayed.{IsReplayed, LacksPlan, planless, unread}
 use Rattle.rob_top.specs.Solved.{IsSolved}
 use Rattle.rob_top.specs.Ways.{not_checked, not_replayed, not_searched}
@@ -24,7 +24,8 @@ use Rattle.rob_words.specs.Commands.{Line, IsSpelled}
 use Rattle.rob_words.specs.declared.verb.Verb.TheVariants.{Check, Prove, Worst}
 
 module _ (proving replaying : Call) (status : Status) (text : List ℕ) (solved : IsSolved proving status text)
-    (is_prove : solved.line.verb ≡ Prove) (known : Known replaying.source) (line : Line) (width : line.width ≡ solved.line.width)
+    (is_prove : solved.line.verb ≡ Prove) (known : Known replaying.source) (line : Line)
+    (width : line.width ≡ solved.line.width)
     (file : HasReplayFile (known_call replaying known) line solved.m text) where
   abbrev told : Call
   told = known_call replaying known
@@ -51,12 +52,15 @@ module _ (proving replaying : Call) (status : Status) (text : List ℕ) (solved 
   certificate_here : (l : Line) (m : RobustModel) (c : Certificate) → HasReplayCertificate told l m c → c ≡ solved.c
   certificate_here l m c h =
       let on_line = subst (λ (x : Line). HasReplayCertificate told x m c) (line_here l h.file.model.spelled) h in
-      let on_model = subst (λ (x : RobustModel). HasReplayCertificate told line x c) (model_here l m h.file.model) on_line in
+      let on_model =
+      subst (λ (x : RobustModel). HasReplayCertificate told line x c) (model_here l m h.file.model) on_line in
       one_certificate told told_source line solved.m c solved.c on_model printed
 
-  pub shows_value : (shown : List ℕ) (r : IsReplayed replaying shown) → Each (ShowsBound solved.m solved.c.value) r.lines
+  pub shows_value : (shown : List ℕ) (r : IsReplayed replaying shown)
+      → Each (ShowsBound solved.m solved.c.value) r.lines
   shows_value shown r =
-      let has : HasScenarios told r.line r.m r.c r.bytes = scenarios_known replaying known r.line r.m r.c r.bytes r.has in
+      let has : HasScenarioFile told r.line r.m r.c r.bytes =
+      scenarios_known replaying known r.line r.m r.c r.bytes r.has in
       let same : r.m ≡ solved.m = model_here r.line r.m has.certificate.file.model in
       let alike : r.c ≡ solved.c = certificate_here r.line r.m r.c has.certificate in
       subst (λ (c : Certificate). Each (ShowsBound solved.m c.value) r.lines) alike
@@ -67,7 +71,8 @@ module _ (proving replaying : Call) (status : Status) (text : List ℕ) (solved 
   abbrev SaysInfeasible : ℕ → ℕ → Type 0
   SaysInfeasible rule number = (rule ≡ 34) × ((number ≡ 1) × (status ≡ infeasible))
 
-  lacks_here : (rule number : ℕ) (l : Line) (m : RobustModel) → LacksPlan told l m rule number → LacksPlan told line solved.m rule number
+  lacks_here : (rule number : ℕ) (l : Line) (m : RobustModel) → LacksPlan told l m rule number
+      → LacksPlan told line solved.m rule number
   lacks_here rule number l m h =
       let has : HasModel told l m = lacking_model told l m rule number h in
       subst (λ (x : RobustModel). LacksPlan told line x rule number) (model_here l m has)
@@ -76,17 +81,25 @@ module _ (proving replaying : Call) (status : Status) (text : List ℕ) (solved 
   lack_says : (rule number : ℕ) → LacksPlan told line solved.m rule number → SaysInfeasible rule number
   lack_says rule number (unread bytes other breach) =
       absurd (no_breach told told_source line solved.m solved.c bytes rule number printed other breach)
-  lack_says rule number (planless c h is r n) =
-      (r, (n, sym solved.status_is ∙ ap (λ (x : Certificate). x.status) (sym (certificate_here line solved.m c h)) ∙ is))
+  lack_says rule number (planless c h is r n) = (
+    r,
+    (
+      n,
+      sym solved.status_is
+          ∙ ap (λ (x : Certificate). x.status) (sym (certificate_here line solved.m c h)) ∙ is,
+    ),
+  )
 
-  pub refused_says : (rule number : ℕ) (shown : List ℕ) → Means replaying (Cert rule number) shown → SaysInfeasible rule number
+  pub refused_says : (rule number : ℕ) (shown : List ℕ) → Means replaying (Cert rule number) shown
+      → SaysInfeasible rule number
   refused_says rule number shown means = by (means_known replaying known (Cert rule number) shown means)
     where
       by : Means told (Cert rule number) shown → SaysInfeasible rule number
       by (not_checked h) =
           absurd
           (check_not_replay line.verb
-          (subst (λ (l : Line). l.verb ≡ Check) (line_here h.line h.file.forms.model.spelled) h.file.is_check) file.is_replay)
+          (subst (λ (l : Line). l.verb ≡ Check) (line_here h.line h.file.forms.model.spelled) h.file.is_check)
+          file.is_replay)
       by (not_replayed h) = lack_says rule number (lacks_here rule number h.line h.m h.lacks)
       by (not_searched h) =
           let forms = forms_unplanned told h.line h.m rule number h.gives_none in

@@ -22,7 +22,8 @@ use Rattle.rob_words.specs.Commands.{Line, IsSpelled}
 use Rattle.rob_words.specs.declared.verb.Verb.TheVariants.{Check, Prove, Replay}
 
 module _ (proving searching : Call) (status : Status) (text : List ℕ) (solved : IsSolved proving status text)
-    (is_prove : solved.line.verb ≡ Prove) (known : Known searching.source) (line : Line) (width : line.width ≡ solved.line.width)
+    (is_prove : solved.line.verb ≡ Prove) (known : Known searching.source) (line : Line)
+    (width : line.width ≡ solved.line.width)
     (file : HasWorstFile (known_call searching known) line solved.m text) where
   abbrev told : Call
   told = known_call searching known
@@ -49,10 +50,12 @@ module _ (proving searching : Call) (status : Status) (text : List ℕ) (solved 
   certificate_here : (l : Line) (m : RobustModel) (c : Certificate) → HasWorstCertificate told l m c → c ≡ solved.c
   certificate_here l m c h =
       let on_line = subst (λ (x : Line). HasWorstCertificate told x m c) (line_here l h.file.forms.model.spelled) h in
-      let on_model = subst (λ (x : RobustModel). HasWorstCertificate told line x c) (model_here l m h.file.forms.model) on_line in
+      let on_model =
+      subst (λ (x : RobustModel). HasWorstCertificate told line x c) (model_here l m h.file.forms.model) on_line in
       one_certificate told told_source line solved.m c solved.c on_model printed
 
-  pub shows_kept : (shown : List ℕ) (r : IsSearched searching shown) → ShowsKept solved.m r.form (certificate_vector solved.c) shown
+  pub shows_kept : (shown : List ℕ) (r : IsSearched searching shown)
+      → ShowsKept solved.m r.form (certificate_vector solved.c) shown
   shows_kept shown r =
       let has : HasSought told r.line r.m r.c r.form = sought_known searching known r.line r.m r.c r.form r.has in
       let same : r.m ≡ solved.m = model_here r.line r.m has.plan.certificate.file.forms.model in
@@ -65,7 +68,8 @@ module _ (proving searching : Call) (status : Status) (text : List ℕ) (solved 
   abbrev SaysInfeasible : ℕ → ℕ → Type 0
   SaysInfeasible rule number = (rule ≡ 34) × ((number ≡ 1) × (status ≡ infeasible))
 
-  gives_here : (rule number : ℕ) (l : Line) (m : RobustModel) → GivesNoPlan told l m rule number → GivesNoPlan told line solved.m rule number
+  gives_here : (rule number : ℕ) (l : Line) (m : RobustModel) → GivesNoPlan told l m rule number
+      → GivesNoPlan told line solved.m rule number
   gives_here rule number l m h =
       let has : HasModel told l m = (forms_unplanned told l m rule number h).model in
       subst (λ (x : RobustModel). GivesNoPlan told line x rule number) (model_here l m has)
@@ -74,20 +78,29 @@ module _ (proving searching : Call) (status : Status) (text : List ℕ) (solved 
   none_says : (rule number : ℕ) → GivesNoPlan told line solved.m rule number → SaysInfeasible rule number
   none_says rule number (misread bytes other breach) =
       absurd (no_breach told told_source line solved.m solved.c bytes rule number printed other breach)
-  none_says rule number (claims_none c h is r n) =
-      (r, (n, sym solved.status_is ∙ ap (λ (x : Certificate). x.status) (sym (certificate_here line solved.m c h)) ∙ is))
+  none_says rule number (claims_none c h is r n) = (
+    r,
+    (
+      n,
+      sym solved.status_is
+          ∙ ap (λ (x : Certificate). x.status) (sym (certificate_here line solved.m c h)) ∙ is,
+    ),
+  )
 
-  pub unplanned_says : (rule number : ℕ) (shown : List ℕ) → Means searching (Cert rule number) shown → SaysInfeasible rule number
+  pub unplanned_says : (rule number : ℕ) (shown : List ℕ) → Means searching (Cert rule number) shown
+      → SaysInfeasible rule number
   unplanned_says rule number shown means = by (means_known searching known (Cert rule number) shown means)
     where
       by : Means told (Cert rule number) shown → SaysInfeasible rule number
       by (not_checked h) =
           absurd
           (check_not_worst line.verb
-          (subst (λ (l : Line). l.verb ≡ Check) (line_here h.line h.file.forms.model.spelled) h.file.is_check) file.is_worst)
+          (subst (λ (l : Line). l.verb ≡ Check) (line_here h.line h.file.forms.model.spelled) h.file.is_check)
+          file.is_worst)
       by (not_replayed h) =
           absurd
           (replay_not_worst line.verb
-          (subst (λ (l : Line). l.verb ≡ Replay) (line_here h.line (lacking_model told h.line h.m rule number h.lacks).spelled)
+          (subst (λ (l : Line). l.verb ≡ Replay)
+          (line_here h.line (lacking_model told h.line h.m rule number h.lacks).spelled)
           (lacking_verb told h.line h.m rule number h.lacks)) file.is_worst)
       by (not_searched h) = none_says rule number (gives_here rule number h.line h.m h.gives_none)

@@ -25,8 +25,9 @@ use Rattle.rob_replay.specs.View.{Gives}
 use Rattle.rob_report.specs.Spots.{too_wide_line}
 use Rattle.rob_report.specs.Tables.{table_of}
 use Rattle.rob_top.proofs.DefaultRoutes.{told_alone}
-use Rattle.rob_top.specs.Answers.{certificate_text, scenarios_text}
-use Rattle.rob_top.specs.Calls.{Count, HasFile, count}
+use Rattle.rob_top.specs.Answers.{certificate_fault_text, scenarios_fault_text}
+use Rattle.rob_top.specs.Calls.{Count, count}
+use Rattle.rob_top.specs.Files.{HasFile}
 use Rattle.rob_top.specs.Headline.{Means}
 use Rattle.rob_top.specs.Refused.{replaying}
 use Rattle.rob_top.specs.Replayed.{planless, unread}
@@ -51,7 +52,8 @@ pub optimal_planned : (s : Status) → s ≡ status.Optimal → status_of s ≢ 
 optimal_planned s e lacking = let clash : status_of status.Optimal ≡ infeasible = ap status_of (sym e) ∙ lacking in cc
 
 pub unbounded_planned : (s : Status) → s ≡ status.Unbounded → status_of s ≢ infeasible
-unbounded_planned s e lacking = let clash : status_of status.Unbounded ≡ infeasible = ap status_of (sym e) ∙ lacking in cc
+unbounded_planned s e lacking =
+    let clash : status_of status.Unbounded ≡ infeasible = ap status_of (sym e) ∙ lacking in cc
 
 module _ (limit : ℕ) (m : RobustModel) where
   -- ---- a certificate with a plan, and a scenario file
@@ -75,13 +77,16 @@ module _ (limit : ℕ) (m : RobustModel) where
           lines = lines;
           table = subst (λ (l : ℕ). IsTable l m c.plan table.0 lines) (sym at.limit_is) table.2;
           narrow = subst (λ (l : ℕ). outcome l m c.plan table.0 ≡ Ok lines) (sym at.limit_is)
-              (ap (λ (rows : List (List (List ℕ))). outcome limit m c.plan rows) (one_file text table.0 gives.0 table.1 gives.1) ∙ gives.2);
+              (ap (λ (rows : List (List (List ℕ))). outcome limit m c.plan rows)
+              (one_file text table.0 gives.0 table.1 gives.1) ∙ gives.2);
           bounded = bounded;
           printed = is.1;
         }))
 
-    pub record_answers : (wides : Count) (rule number : ℕ) (r : Result Reply Want) → Gives (outcome limit m c.plan) text (Err (breaks rule number))
-        → IfOk r (Replies (Scenarios rule number) (scenarios_text rule number)) → IfOk r (AnswersScenarios limit wides m c text)
+    pub record_answers : (wides : Count) (rule number : ℕ) (r : Result Reply Want)
+        → Gives (outcome limit m c.plan) text (Err (breaks rule number))
+        → IfOk r (Replies (Scenarios rule number) (scenarios_fault_text rule number))
+        → IfOk r (AnswersScenarios limit wides m c text)
     record_answers wides rule number (Err want) gives is = tt
     record_answers wides rule number (Ok reply) gives is = λ call line at has.
         subst (λ (ended : Ended). Means call ended reply.text) (sym is.0)
@@ -91,11 +96,13 @@ module _ (limit : ℕ) (m : RobustModel) where
           c = c;
           bytes = text;
           has = has;
-          refused = subst (λ (l : ℕ). Gives (outcome l m c.plan) text (Err (breaks rule number))) (sym at.limit_is) gives;
+          refused = subst (λ (l : ℕ). Gives (outcome l m c.plan) text (Err (breaks rule number)))
+              (sym at.limit_is) gives;
           printed = is.1;
         })
 
-    pub wide_answers : (before now number : ℕ) (r : Result Reply Want) → Gives (outcome limit m c.plan) text (Err (is_wide number)) → Rose before now
+    pub wide_answers : (before now number : ℕ) (r : Result Reply Want)
+        → Gives (outcome limit m c.plan) text (Err (is_wide number)) → Rose before now
         → IfOk r (Replies (TooWide (spot.Replay number)) (too_wide_line m (spot.Replay number)))
         → IfOk r (AnswersScenarios limit (count before now) m c text)
     wide_answers before now number (Err want) gives rose is = tt
@@ -104,27 +111,33 @@ module _ (limit : ℕ) (m : RobustModel) where
         (in_model (record {
           line = line;
           m = m;
-          wide = replaying c text number has refl (subst (λ (l : ℕ). Gives (outcome l m c.plan) text (Err (is_wide number))) (sym at.limit_is) gives);
+          wide = replaying c text number has refl
+              (subst (λ (l : ℕ). Gives (outcome l m c.plan) text (Err (is_wide number))) (sym at.limit_is) gives);
           raised = at.raised rose;
-          printed = told_alone call line m has.certificate.file.model (ap takes_route at.verb_is) reply.text (too_wide_line m (spot.Replay number)) is.1;
+          printed = told_alone call line m has.certificate.file.model (ap takes_route at.verb_is) reply.text
+              (too_wide_line m (spot.Replay number)) is.1;
         }))
 
     -- ---- a certificate, with a plan or without one
-    pub planless_answers : (wides : Count) (r : Result Reply Want) → c.status ≡ infeasible → IfOk r (Replies (Cert 34 1) (certificate_text 34 1))
+    pub planless_answers : (wides : Count) (r : Result Reply Want) → c.status ≡ infeasible
+        → IfOk r (Replies (Cert 34 1) (certificate_fault_text 34 1))
         → IfOk r (AnswersPlan limit wides m c text)
     planless_answers wides (Err want) none is = tt
     planless_answers wides (Ok reply) none is = λ call line at read file.
         subst (λ (ended : Ended). Means call ended reply.text) (sym is.0)
         (not_replayed (record { line = line; m = m; lacks = planless c read none refl refl; printed = is.1 }))
 
-    pub plan_answers : (wides : Count) (r : Result Reply Want) → c.status ≢ infeasible → IfOk r (AnswersScenarios limit wides m c text)
+    pub plan_answers : (wides : Count) (r : Result Reply Want) → c.status ≢ infeasible
+        → IfOk r (AnswersScenarios limit wides m c text)
         → IfOk r (AnswersPlan limit wides m c text)
     plan_answers wides (Err want) some h = tt
-    plan_answers wides (Ok reply) some h = λ call line at read file. h call line at (record { certificate = read; has_plan = some; file = file })
+    plan_answers wides (Ok reply) some h =
+        λ call line at read file. h call line at (record { certificate = read; has_plan = some; file = file })
 
   -- ---- a certificate's text
   pub unread_answers : (wides : Count) (certificate text : List ℕ) (rule number : ℕ) (r : Result Reply Want)
-      → HasCause (naming_of m) limit start certificate 1 (Rule rule number) → IfOk r (Replies (Cert rule number) (certificate_text rule number))
+      → HasCause (naming_of m) limit start certificate 1 (Rule rule number)
+      → IfOk r (Replies (Cert rule number) (certificate_fault_text rule number))
       → IfOk r (AnswersReplay limit wides m certificate text)
   unread_answers wides certificate text rule number (Err want) broken is = tt
   unread_answers wides certificate text rule number (Ok reply) broken is = λ call line at file scenarios.
@@ -132,22 +145,34 @@ module _ (limit : ℕ) (m : RobustModel) where
       (not_replayed (record {
         line = line;
         m = m;
-        lacks = unread certificate file (subst (λ (l : ℕ). HasCause (naming_of m) l start certificate 1 (Rule rule number)) (sym at.limit_is) broken);
+        lacks = unread certificate file
+            (subst (λ (l : ℕ). HasCause (naming_of m) l start certificate 1 (Rule rule number))
+            (sym at.limit_is) broken);
         printed = is.1;
       }))
 
-  pub read_answers : (before middle now : ℕ) (certificate text : List ℕ) (c : Certificate) (r : Result Reply Want) → before ≤ middle
+  pub read_answers : (before middle now : ℕ) (certificate text : List ℕ) (c : Certificate) (r : Result Reply Want)
+      → before ≤ middle
       → IsTextOf m c certificate → FitsLines limit m c → IfOk r (AnswersPlan limit (count middle now) m c text)
       → IfOk r (AnswersReplay limit (count before now) m certificate text)
   read_answers before middle now certificate text c (Err want) least is fits h = tt
   read_answers before middle now certificate text c (Ok reply) least is fits h = λ call line at file scenarios.
-      h call line (call_within limit (count middle now) (count before now) Replay call line (rose_earlier before middle now least) at)
-      (record { bytes = certificate; file = file; text = is; fits = subst (λ (l : ℕ). FitsLines l m c) (sym at.limit_is) fits })
+      h call line
+      (call_within limit (count middle now) (count before now) Replay call line
+      (rose_earlier before middle now least) at)
+      (record {
+        bytes = certificate;
+        file = file;
+        text = is;
+        fits = subst (λ (l : ℕ). FitsLines l m c) (sym at.limit_is) fits;
+      })
       scenarios
 
   -- ---- the command is `replay`, so the files of the certificate and of scenarios came
-  pub replay_answers : (wides : Count) (verb : Verb) (texts : Texts) (certificate text : List ℕ) (r : Result Reply Want) → verb ≡ Replay
-      → certificate ≡ texts.certificate.items → text ≡ texts.scenarios.items → IfOk r (AnswersReplay limit wides m certificate text)
+  pub replay_answers : (wides : Count) (verb : Verb) (texts : Texts) (certificate text : List ℕ) (r : Result Reply Want)
+      → verb ≡ Replay
+      → certificate ≡ texts.certificate.items → text ≡ texts.scenarios.items
+      → IfOk r (AnswersReplay limit wides m certificate text)
       → IfOk r (AnswersModel limit wides m verb texts)
   replay_answers wides verb texts certificate text (Err want) e same alike h = tt
   replay_answers wides verb texts certificate text (Ok reply) e same alike h = λ call line at came has.
@@ -162,4 +187,5 @@ module _ (limit : ℕ) (m : RobustModel) where
         file = subst (λ (list : List ℕ). HasFile call line own.Certificate list) (sym same)
             (file_came call line texts own.Certificate _ refl came (names own.Certificate refl));
       })
-      (subst (λ (list : List ℕ). HasFile call line own.Scenarios list) (sym alike) (file_came call line texts own.Scenarios _ refl came (names own.Scenarios refl)))
+      (subst (λ (list : List ℕ). HasFile call line own.Scenarios list) (sym alike)
+      (file_came call line texts own.Scenarios _ refl came (names own.Scenarios refl)))

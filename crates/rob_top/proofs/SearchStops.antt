@@ -35,20 +35,22 @@ use Rattle.rob_top.specs.Headline.{Means}
 use Rattle.rob_top.specs.Refused.{searching}
 use Rattle.rob_top.specs.Searched.{IsWideSought, certificate_vector, in_search, in_set}
 use Rattle.rob_top.specs.Work.{AnswersSought, RepliesWorst}
-use Rattle.rob_top.specs.Refusing.{IsStopOf, RepliesStop}
+use Rattle.rob_top.specs.WorkStops.{IsStopOf, RepliesStop}
 use Rattle.rob_top.specs.Ways.{in_model, while_searching}
 use Rattle.rob_top.specs.declared.ended.Ended.{Ended}
 use Rattle.rob_top.specs.declared.reply.Reply.{Reply}
 use Rattle.rob_words.specs.declared.route.Route.TheVariants.{Dual}
 
 -- the vector has a number for each column of a form
-pub given_size : {N : Type 0} (value : N → Fraction) (m : RobustModel) (plan : Plan N) → length plan.columns ≡ column_count m
+pub given_size : {N : Type 0} (value : N → Fraction) (m : RobustModel) (plan : Plan N)
+    → length plan.columns ≡ column_count m
     → length (plan_of value plan) ≡ form_columns m
 given_size value m plan e =
     omega (arith, e, length-map plan.columns value, length-append (map value plan.columns) (value plan.bound ∷ []))
 
 -- a certificate with a plan has a number for each decision column
-pub plan_length : (m : RobustModel) (c : Certificate) → HasShape m c → c.status ≢ infeasible → length c.plan ≡ column_count m
+pub plan_length : (m : RobustModel) (c : Certificate) → HasShape m c → c.status ≢ infeasible
+    → length c.plan ≡ column_count m
 plan_length m c shape some = by c.status shape.parts some
   where
     by : (status : Status) → HasParts m status c → status ≢ infeasible → length c.plan ≡ column_count m
@@ -56,7 +58,8 @@ plan_length m c shape some = by c.status shape.parts some
     by infeasible h some = absurd (some refl)
     by unbounded h some = h.plan
 
-pub planned_size : {N : Type 0} (value : N → Fraction) (m : RobustModel) (c : Certificate) (plan : List N) → HasShape m c
+pub planned_size : {N : Type 0} (value : N → Fraction) (m : RobustModel) (c : Certificate) (plan : List N)
+    → HasShape m c
     → c.plan ≡ map value plan → c.status ≢ infeasible → length plan ≡ column_count m
 planned_size value m c plan shape same some = sym (ap length same ∙ length-map plan value) ∙ plan_length m c shape some
 
@@ -113,7 +116,8 @@ module _ (limit : ℕ) (m : RobustModel) (form : ℕ) (c : Certificate) where
   abbrev z : List Fraction
   z = certificate_vector c
 
-  wide_sought : (place : Spot) (trace : _) → HasCause limit m false form z (stop.Wide place trace) → IsWideSought limit m form z place
+  wide_sought : (place : Spot) (trace : _) → HasCause limit m false form z (stop.Wide place trace)
+      → IsWideSought limit m form z place
   wide_sought place trace (inl h) = in_set h.0
   wide_sought place trace (inr h) = in_search h.0 h.1.0
 
@@ -138,9 +142,11 @@ module _ (limit : ℕ) (m : RobustModel) (form : ℕ) (c : Certificate) where
       (in_model (record {
         line = line;
         m = m;
-        wide = searching c form has (subst (λ (l : ℕ). IsWideSought l m form z place) (sym at.limit_is) (wide_sought place trace cause));
+        wide = searching c form has
+            (subst (λ (l : ℕ). IsWideSought l m form z place) (sym at.limit_is) (wide_sought place trace cause));
         raised = at.raised rose;
-        printed = told_alone call line m has.plan.certificate.file.forms.model (ap takes_route at.verb_is) reply.text (too_wide_line m place) is.1;
+        printed = told_alone call line m has.plan.certificate.file.forms.model (ap takes_route at.verb_is) reply.text
+            (too_wide_line m place) is.1;
       }))
   stop_answers before now stop.Memory reply cause counts is = absurd is
 
@@ -148,15 +154,19 @@ module _ (limit : ℕ) (m : RobustModel) (form : ℕ) (c : Certificate) where
 module _ {N : Type 0} (value : N → Fraction) (limit : ℕ) (m : RobustModel) (form : ℕ) (plan : Plan N) where
   abbrev AnswersPlan : ℕ → ℕ → Reply → Type 0
   AnswersPlan before now reply =
-      (c : Certificate) → plan_of value plan ≡ certificate_vector c → AnswersSought limit (count before now) m c form reply
+      (c : Certificate) → plan_of value plan ≡ certificate_vector c
+      → AnswersSought limit (count before now) m c form reply
 
-  pub stopped_search : (before now : ℕ) (s : Stop) (r : Result Reply Want) → HasCause limit m false form (plan_of value plan) s
+  pub stopped_search : (before now : ℕ) (s : Stop) (r : Result Reply Want)
+      → HasCause limit m false form (plan_of value plan) s
       → CountsStop before now s → IfOk r (RepliesStop m Dual s) → IfOk r (AnswersPlan before now)
   stopped_search before now s (Err want) cause counts is = tt
   stopped_search before now s (Ok reply) cause counts is = λ c same.
-      stop_answers limit m form c before now s reply (subst (λ (z : List Fraction). HasCause limit m false form z s) same cause) counts is
+      stop_answers limit m form c before now s reply
+      (subst (λ (z : List Fraction). HasCause limit m false form z s) same cause) counts is
 
-  pub found_search : ((x : N) → Fits limit (value x)) → IsModel m → form < length (forms m) → length (plan_of value plan) ≡ form_columns m → (before middle now : ℕ)
+  pub found_search : ((x : N) → Fits limit (value x)) → IsModel m → form < length (forms m)
+      → length (plan_of value plan) ≡ form_columns m → (before middle now : ℕ)
       (worst : ending.Worst N) (r : Result Reply Want) → middle ≡ before → Tells value m form (plan_of value plan) worst
       → IfOk r (RepliesWorst limit m form (count middle now) value worst) → IfOk r (AnswersPlan before now)
   found_search fits model some size before middle now worst (Err want) kept tells is = tt
@@ -167,13 +177,15 @@ module _ {N : Type 0} (value : N → Fraction) (limit : ℕ) (m : RobustModel) (
       (subst (λ n. RepliesWorst limit m form (count n now) value worst reply) kept is)
 
   -- at the plan of a certificate
-  pub sought_answers : (before now : ℕ) (c : Certificate) (r : Result Reply Want) → plan_of value plan ≡ certificate_vector c
+  pub sought_answers : (before now : ℕ) (c : Certificate) (r : Result Reply Want)
+      → plan_of value plan ≡ certificate_vector c
       → IfOk r (AnswersPlan before now) → IfOk r (AnswersSought limit (count before now) m c form)
   sought_answers before now c (Err want) same h = tt
   sought_answers before now c (Ok reply) same h = h c same
 
   -- no count falls
-  pub search_counted : (z : List Fraction) (before now : ℕ) (r : Result (ending.Worst N) Stop) → FindsWorst value limit m false form z before now r
+  pub search_counted : (z : List Fraction) (before now : ℕ) (r : Result (ending.Worst N) Stop)
+      → FindsWorst value limit m false form z before now r
       → before ≤ now
   search_counted z before now r h = by r h.counted
     where

@@ -43,8 +43,9 @@ use Rattle.rob_worst.specs.Finding.{Tells}
 use Rattle.rob_top.proofs.OwnLemmas.{file_came, has_form, has_kind, word_came}
 use Rattle.rob_top.proofs.WorkLemmas.{call_of_verb, call_within, rose_earlier}
 use Rattle.rob_top.proofs.WorstSlackLemmas.{bound_slack, fitting_slack, scale_some, worst_found_at}
-use Rattle.rob_top.specs.Answers.{certificate_text, no_row_text}
-use Rattle.rob_top.specs.Calls.{Count, HasFile, count, limit_of, word_of}
+use Rattle.rob_top.specs.Answers.{certificate_fault_text, no_row_text}
+use Rattle.rob_top.specs.Calls.{Count, count, limit_of}
+use Rattle.rob_top.specs.Files.{HasFile, word_of}
 use Rattle.rob_top.specs.Headline.{Means}
 use Rattle.rob_top.specs.Refused.{searching}
 use Rattle.rob_top.specs.Replies.{Replies}
@@ -70,11 +71,13 @@ all_fit value limit fits (x ∷ xs) = (fits x, all_fit value limit fits xs)
 -- ---- the number of a name
 
 -- the name that is found at a number stands there
-pub name_found : (names : List Name) (name : Name) (k : ℕ) → Finds names name (Some k) → (k < length names) × (name_at names k ≡ name)
+pub name_found : (names : List Name) (name : Name) (k : ℕ) → Finds names name (Some k) → (k < length names)
+    × (name_at names k ≡ name)
 name_found names name k finds = (slice_get_within names k name finds.0, get_or_from_slice_get names k name [] finds.0)
 
 -- one that isn't found stands nowhere
-pub name_missing : (names : List Name) (name : Name) → Finds names name None → (k : ℕ) → k < length names → name_at names k ≢ name
+pub name_missing : (names : List Name) (name : Name) → Finds names name None → (k : ℕ) → k < length names
+    → name_at names k ≢ name
 name_missing names name finds k inside =
     each_get (λ other. other ≢ name) names k (name_at names k) (slice_get-get_or names k [] inside) finds
 
@@ -84,9 +87,11 @@ form_matrix m form h = omega (arith, h, length-map (forms m) (matrix_of m))
 
 module _ (limit : ℕ) (m : RobustModel) where
   -- ---- the texts of a call
-  pub search_answers : (wides : Count) (verb : Verb) (texts : Texts) (certificate : List ℕ) (words : List Word) (name : Word) (r : Result Reply Want)
+  pub search_answers : (wides : Count) (verb : Verb) (texts : Texts) (certificate : List ℕ) (words : List Word)
+      (name : Word) (r : Result Reply Want)
       → verb ≡ Worst → certificate ≡ texts.certificate.items → words ≡ map string_bytes texts.words.items
-      → ((word : Word) → word_of own.Form (own_of verb) words ≡ Some word → name ≡ word) → IfOk r (AnswersSearch limit wides m certificate name)
+      → ((word : Word) → word_of own.Form (own_of verb) words ≡ Some word → name ≡ word)
+      → IfOk r (AnswersSearch limit wides m certificate name)
       → IfOk r (AnswersWhole limit wides m verb texts)
   search_answers wides verb texts certificate words name (Err want) e same alike told h = tt
   search_answers wides verb texts certificate words name (Ok reply) e same alike told h = λ call line at came has.
@@ -107,7 +112,8 @@ module _ (limit : ℕ) (m : RobustModel) where
   module _ (name : Word) where
     pub misread_answers : (wides : Count) (certificate : List ℕ) (rule number : ℕ) (r : Result Reply Want)
         → text.HasCause (naming_of m) limit start certificate 1 (Rule rule number)
-        → IfOk r (Replies (Cert rule number) (certificate_text rule number)) → IfOk r (AnswersSearch limit wides m certificate name)
+        → IfOk r (Replies (Cert rule number) (certificate_fault_text rule number))
+        → IfOk r (AnswersSearch limit wides m certificate name)
     misread_answers wides certificate rule number (Err want) broken is = tt
     misread_answers wides certificate rule number (Ok reply) broken is = λ call line at file told.
         subst (λ (ended : Ended). Means call ended reply.text) (sym is.0)
@@ -115,35 +121,48 @@ module _ (limit : ℕ) (m : RobustModel) where
           line = line;
           m = m;
           gives_none = misread certificate file
-              (subst (λ (l : ℕ). text.HasCause (naming_of m) l start certificate 1 (Rule rule number)) (sym at.limit_is) broken);
+              (subst (λ (l : ℕ). text.HasCause (naming_of m) l start certificate 1 (Rule rule number))
+              (sym at.limit_is) broken);
           printed = is.1;
         }))
 
-    pub read_answers : (before middle now : ℕ) (certificate : List ℕ) (c : Certificate) (r : Result Reply Want) → before ≤ middle
+    pub read_answers : (before middle now : ℕ) (certificate : List ℕ) (c : Certificate) (r : Result Reply Want)
+        → before ≤ middle
         → IsTextOf m c certificate → FitsLines limit m c → IfOk r (AnswersSearched limit (count middle now) m c name)
         → IfOk r (AnswersSearch limit (count before now) m certificate name)
     read_answers before middle now certificate c (Err want) least is fits h = tt
     read_answers before middle now certificate c (Ok reply) least is fits h = λ call line at file told.
-        h call line (call_within limit (count middle now) (count before now) Worst call line (rose_earlier before middle now least) at)
-        (record { bytes = certificate; file = file; text = is; fits = subst (λ (l : ℕ). FitsLines l m c) (sym at.limit_is) fits })
+        h call line
+        (call_within limit (count middle now) (count before now) Worst call line
+        (rose_earlier before middle now least) at)
+        (record {
+          bytes = certificate;
+          file = file;
+          text = is;
+          fits = subst (λ (l : ℕ). FitsLines l m c) (sym at.limit_is) fits;
+        })
         told
 
     -- ---- a certificate, with a plan or without one
     module _ (c : Certificate) (wides : Count) where
-      pub claims_none_answers : (r : Result Reply Want) → c.status ≡ infeasible → IfOk r (Replies (Cert 34 1) (certificate_text 34 1))
+      pub claims_none_answers : (r : Result Reply Want) → c.status ≡ infeasible
+          → IfOk r (Replies (Cert 34 1) (certificate_fault_text 34 1))
           → IfOk r (AnswersSearched limit wides m c name)
       claims_none_answers (Err want) none is = tt
       claims_none_answers (Ok reply) none is = λ call line at read told.
           subst (λ (ended : Ended). Means call ended reply.text) (sym is.0)
           (not_searched (record { line = line; m = m; gives_none = claims_none c read none refl refl; printed = is.1 }))
 
-      pub planned_answers : (r : Result Reply Want) → c.status ≢ infeasible → IfOk r (AnswersPlanned limit wides m c name)
+      pub planned_answers : (r : Result Reply Want) → c.status ≢ infeasible
+          → IfOk r (AnswersPlanned limit wides m c name)
           → IfOk r (AnswersSearched limit wides m c name)
       planned_answers (Err want) some h = tt
-      planned_answers (Ok reply) some h = λ call line at read told. h call line at (record { certificate = read; has_plan = some }) told
+      planned_answers (Ok reply) some h =
+          λ call line at read told. h call line at (record { certificate = read; has_plan = some }) told
 
       -- ---- the form of the name, or none
-      pub no_row_answers : (r : Result Reply Want) → Finds (form_names m) name None → IfOk r (Replies NoRow (no_row_text name))
+      pub no_row_answers : (r : Result Reply Want) → Finds (form_names m) name None
+          → IfOk r (Replies NoRow (no_row_text name))
           → IfOk r (AnswersPlanned limit wides m c name)
       no_row_answers (Err want) finds is = tt
       no_row_answers (Ok reply) finds is = λ call line at plan told.
@@ -172,7 +191,8 @@ module _ (limit : ℕ) (m : RobustModel) where
 
     -- the worst case, as it is printed
     printed_answers : (wides : Count) (reply : Reply) (text : List ℕ) → ShowsWorst limit m form z text
-        → (HasBound m c.plan c.value → ShowsKept m form z text) → Replies Printed text reply → AnswersSought limit wides m c form reply
+        → (HasBound m c.plan c.value → ShowsKept m form z text) → Replies Printed text reply
+        → AnswersSought limit wides m c form reply
     printed_answers wides reply text shows kept is = λ call line at has.
         subst (λ (ended : Ended). Means call ended reply.text) (sym is.0)
         (worst_found (record {
@@ -192,7 +212,8 @@ module _ (limit : ℕ) (m : RobustModel) where
       is_worst : IsWorstScenario m form z scenario (slack_of scale peak constant)
       is_worst = worst_found_at m model form some z size scale peak constant scenario basis amounts tells
 
-      kept_shown : HasBound m c.plan c.value → ShowsKept m form z (greatest_text m form (slack_of scale peak constant) scenario)
+      kept_shown : HasBound m c.plan c.value
+          → ShowsKept m form z (greatest_text m form (slack_of scale peak constant) scenario)
       kept_shown bound = (
         scenario,
         slack_of scale peak constant,
@@ -202,24 +223,29 @@ module _ (limit : ℕ) (m : RobustModel) where
         refl,
       )
 
-      slack_wide : IsWide limit (peak +ℚ constant) ⊎ IsWide limit (slack_of scale peak constant) → IsWideSlack limit m form z
+      slack_wide : IsWide limit (peak +ℚ constant) ⊎ IsWide limit (slack_of scale peak constant)
+          → IsWideSlack limit m form z
       slack_wide h = record {
         basis = basis;
         scenario = scenario;
         amounts = amounts;
         found = tells.found;
-        wide = subst (λ k. IsWide limit (dot amounts (set_limits m) +ℚ k) ⊎ IsWide limit (slack_of (cleared_by z) (dot amounts (set_limits m)) k))
+        wide = subst (λ k. IsWide limit (dot amounts (set_limits m) +ℚ k)
+            ⊎ IsWide limit (slack_of (cleared_by z) (dot amounts (set_limits m)) k))
             tells.constant_is
             (subst (λ p. IsWide limit (p +ℚ constant) ⊎ IsWide limit (slack_of (cleared_by z) p constant)) tells.peak_is
-            (subst (λ s. IsWide limit (peak +ℚ constant) ⊎ IsWide limit (slack_of s peak constant)) tells.denominator_is h));
+            (subst (λ s. IsWide limit (peak +ℚ constant) ⊎ IsWide limit (slack_of s peak constant))
+            tells.denominator_is h));
       }
 
       slack_answers : (wides : Count) (reply : Reply) → Each (Fits limit) scenario
-          → RepliesSlack limit m form wides scale peak constant scenario reply → AnswersSought limit wides m c form reply
+          → RepliesSlack limit m form wides scale peak constant scenario reply
+          → AnswersSought limit wides m c form reply
       slack_answers wides reply fit (inl h) =
           printed_answers wides reply (greatest_text m form (slack_of scale peak constant) scenario)
           (attained basis scenario amounts (slack_of scale peak constant) tells.found is_worst (h.1.1, fit)
-          (fitting_slack m model form some z size limit scale peak constant scenario basis amounts tells h.1.0 h.1.1) refl)
+          (fitting_slack m model form some z size limit scale peak constant scenario basis amounts tells h.1.0 h.1.1)
+          refl)
           kept_shown h.0
       slack_answers wides reply fit (inr h) = λ call line at has.
           subst (λ (ended : Ended). Means call ended reply.text) (sym h.0.0)
@@ -230,7 +256,8 @@ module _ (limit : ℕ) (m : RobustModel) where
                 (subst (λ (l : ℕ). IsWideSought l m form z (spot.Sum (where_at.Cost form) 0)) (sym at.limit_is)
                 (in_slack (scenario, is_worst.admitted) refl (slack_wide h.2)));
             raised = at.raised h.1;
-            printed = told_alone call line m has.plan.certificate.file.forms.model (ap takes_route at.verb_is) reply.text
+            printed = told_alone call line m has.plan.certificate.file.forms.model
+                (ap takes_route at.verb_is) reply.text
                 (too_wide_line m (spot.Sum (where_at.Cost form) 0)) h.0.1;
           }))
 
@@ -242,24 +269,30 @@ module _ (limit : ℕ) (m : RobustModel) where
         (lt_le_trans_ℚ 0ℚ 1ℚ 0ℚ zero_lt_one
         (le_trans_ℚ 1ℚ (form_at m form 1ℚ u.0 z) 0ℚ u.2 (bound_at m model c.plan c.value bound u.0 u.1 form)))
 
-    ray_answers : (wides : Count) (reply : Reply) (basis : List ℕ) (column : ℕ) (ray : List Fraction) → FindsRay m form z basis column ray
-        → Each (Fits limit) ray → Replies Printed (along_text m form ray) reply → AnswersSought limit wides m c form reply
+    ray_answers : (wides : Count) (reply : Reply) (basis : List ℕ) (column : ℕ) (ray : List Fraction)
+        → FindsRay m form z basis column ray
+        → Each (Fits limit) ray → Replies Printed (along_text m form ray) reply
+        → AnswersSought limit wides m c form reply
     ray_answers wides reply basis column ray found fit is =
         let along : HasNoGreatestAlong m form z ray = told_along m model form some z size basis column ray found in
         printed_answers wides reply (along_text m form ray) (endless basis column ray found along fit refl)
         (λ bound. absurd (no_ray ray along bound)) is
 
     pub found_answers_as : {N : Type 0} (value : N → Fraction) → ((x : N) → Fits limit (value x)) → (wides : Count)
-        (worst : ending.Worst N) (reply : Reply) → Tells value m form z worst → RepliesWorst limit m form wides value worst reply
+        (worst : ending.Worst N) (reply : Reply) → Tells value m form z worst
+        → RepliesWorst limit m form wides value worst reply
         → AnswersSought limit wides m c form reply
     found_answers_as value fits wides (At scale peak constant scenario basis amounts) reply tells is =
-        slack_answers (value scale) (value peak) (of_int constant) (scenario_of value scenario) basis (map value amounts) tells wides reply
+        slack_answers (value scale) (value peak) (of_int constant) (scenario_of value scenario) basis
+        (map value amounts) tells wides reply
         (all_fit value limit fits scenario.values) is
     found_answers_as value fits wides (Along ray basis column) reply tells is =
         ray_answers wides reply basis column (map value ray) tells (all_fit value limit fits ray) is
 
   -- what the search tells can be divided by its scale
-  pub told_scale : {N : Type 0} (value : N → Fraction) (form : ℕ) (z : List Fraction) (worst : ending.Worst N) → Tells value m form z worst
+  pub told_scale : {N : Type 0} (value : N → Fraction) (form : ℕ) (z : List Fraction) (worst : ending.Worst N)
+      → Tells value m form z worst
       → HasScale value worst
-  told_scale value form z (At scale peak constant scenario basis amounts) tells = scale_some z (value scale) tells.denominator_is
+  told_scale value form z (At scale peak constant scenario basis amounts) tells =
+      scale_some z (value scale) tells.denominator_is
   told_scale value form z (Along ray basis column) tells = tt

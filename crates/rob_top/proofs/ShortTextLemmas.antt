@@ -1,6 +1,6 @@
 -- The texts of a command's files are short enough to be read.
 use Rattle.std.proofs.Common.{◌≡◌, ◌≤◌, ◌^◌, ℕ, length, None, Some, ap, arith, Vec, Global}
-use Rattle.rob_top.specs.Calls.{most_of}
+use Rattle.rob_top.specs.Files.{most_of}
 use Rattle.rob_top.specs.Replies.{IsNothing, with_file}
 use Rattle.rob_top.specs.Work.{IsShortFetch}
 use Rattle.rob_top.specs.declared.files.Files.{Files}
@@ -31,11 +31,27 @@ few_bytes own.Limits most bound = absurd (let no : None ≡ Some most = bound in
 few_bytes own.Cuts most bound = absurd (let no : None ≡ Some most = bound in cc)
 few_bytes own.Tree most bound = let e : 67108864 ≡ most = cc in omega (arith, e)
 
-short_with : (kind : Own) (bytes : Vec ℕ Global) (found_files : Files) → length bytes.items ≤ 2 ^ 30 → IsShortFetch found_files
+short_with : (kind : Own) (bytes : Vec ℕ Global) (found_files : Files) → length bytes.items ≤ 2 ^ 30
+    → IsShortFetch found_files
     → IsShortFetch (with_file kind bytes found_files)
-short_with own.Model bytes (files.Texts texts) few h = record { model = few; certificate = h.certificate; scenarios = h.scenarios; tree = h.tree }
-short_with own.Certificate bytes (files.Texts texts) few h = record { model = h.model; certificate = few; scenarios = h.scenarios; tree = h.tree }
-short_with own.Scenarios bytes (files.Texts texts) few h = record { model = h.model; certificate = h.certificate; scenarios = few; tree = h.tree }
+short_with own.Model bytes (files.Texts texts) few h = record {
+  model = few;
+  certificate = h.certificate;
+  scenarios = h.scenarios;
+  tree = h.tree;
+}
+short_with own.Certificate bytes (files.Texts texts) few h = record {
+  model = h.model;
+  certificate = few;
+  scenarios = h.scenarios;
+  tree = h.tree;
+}
+short_with own.Scenarios bytes (files.Texts texts) few h = record {
+  model = h.model;
+  certificate = h.certificate;
+  scenarios = few;
+  tree = h.tree;
+}
 short_with own.Number bytes (files.Texts texts) few h = h
 short_with own.Names bytes (files.Texts texts) few h = h
 short_with own.Form bytes (files.Texts texts) few h = h
@@ -43,7 +59,12 @@ short_with own.Statement bytes (files.Texts texts) few h = h
 short_with own.Limit bytes (files.Texts texts) few h = h
 short_with own.Limits bytes (files.Texts texts) few h = h
 short_with own.Cuts bytes (files.Texts texts) few h = h
-short_with own.Tree bytes (files.Texts texts) few h = record { model = h.model; certificate = h.certificate; scenarios = h.scenarios; tree = few }
+short_with own.Tree bytes (files.Texts texts) few h = record {
+  model = h.model;
+  certificate = h.certificate;
+  scenarios = h.scenarios;
+  tree = few;
+}
 short_with kind bytes (files.Answer reply) few h = tt
 
 pub more_short : (kind : Own) (most : ℕ) → most_of kind ≡ Some most → (bytes : Vec ℕ Global) (found_files : Files)

@@ -41,7 +41,8 @@ spelled_leaves : (limit : ℕ) (m box : RobustModel) (node : Node) → IsSpelled
     → Each (λ l. IfSome l.certificate (HasShape m)) (leaves box node)
 spelled_leaves limit m box (leaf c) h = (h, tt)
 spelled_leaves limit m box (split j k below above) h =
-    each_append (λ l. IfSome l.certificate (HasShape m)) (leaves (box_below box j k) below) (leaves (box_above box j k) above)
+    each_append (λ l. IfSome l.certificate (HasShape m)) (leaves (box_below box j k) below)
+    (leaves (box_above box j k) above)
     (spelled_leaves limit m (box_below box j k) below h.2) (spelled_leaves limit m (box_above box j k) above h.3)
 spelled_leaves limit m box left_open h = (tt, tt)
 
@@ -57,7 +58,8 @@ abbrev Showing : List ℕ → Tree → Status → Leaf → Type 0
 Showing names t s l =
     (c : Certificate) × (l.certificate ≡ Some c) × Shows s t.value c × IsWholeOn names c.plan
 
-module _ (m : RobustModel) (names : List ℕ) (t : Tree) (proves : ProvesTree m names t) (some : t.status ≢ infeasible) where
+module _ (m : RobustModel) (names : List ℕ) (t : Tree) (proves : ProvesTree m names t)
+    (some : t.status ≢ infeasible) where
   showing : HasLeaf (Showing names t t.status) (leaves m t.root) t.best
   showing = by t.status refl proves.shows
     where
@@ -128,20 +130,24 @@ module _ (m : RobustModel) (names : List ℕ) (t : Tree) where
   abbrev IsShownText : List ℕ → Type 0
   IsShownText text = (c : Certificate) × IsShownBy m names t c × (text ≡ report_of m c)
 
-  pub optimal_plan : (s : Status) (r : Result (List ℕ) Want) → s ≡ optimal → IfOk r IsShownText → IfOk r (IsPlanText m names t s)
+  pub optimal_plan : (s : Status) (r : Result (List ℕ) Want) → s ≡ optimal → IfOk r IsShownText
+      → IfOk r (IsPlanText m names t s)
   optimal_plan s (Err want) e h = tt
   optimal_plan s (Ok text) e h = subst (λ (x : Status). IsPlanText m names t x text) (sym e) h
 
-  pub unbounded_plan : (s : Status) (r : Result (List ℕ) Want) → s ≡ unbounded → IfOk r IsShownText → IfOk r (IsPlanText m names t s)
+  pub unbounded_plan : (s : Status) (r : Result (List ℕ) Want) → s ≡ unbounded → IfOk r IsShownText
+      → IfOk r (IsPlanText m names t s)
   unbounded_plan s (Err want) e h = tt
   unbounded_plan s (Ok text) e h = subst (λ (x : Status). IsPlanText m names t x text) (sym e) h
 
-  pub infeasible_plan : (s : Status) (r : Result (List ℕ) Want) → s ≡ infeasible → IfOk r (λ text. text ≡ line (codes "infeasible"))
+  pub infeasible_plan : (s : Status) (r : Result (List ℕ) Want) → s ≡ infeasible
+      → IfOk r (λ text. text ≡ line (codes "infeasible"))
       → IfOk r (IsPlanText m names t s)
   infeasible_plan s (Err want) e h = tt
   infeasible_plan s (Ok text) e h = subst (λ (x : Status). IsPlanText m names t x text) (sym e) h
 
-  pub shown_report : (proves : ProvesTree m names t) (some : t.status ≢ infeasible) → IsModel m → (c : Certificate) (l : Leaf)
+  pub shown_report : (proves : ProvesTree m names t) (some : t.status ≢ infeasible) → IsModel m
+      → (c : Certificate) (l : Leaf)
       → leaf_at (leaves m t.root) t.best ≡ Some l → l.certificate ≡ Some c → (r : Result (List ℕ) Want)
       → IfOk r (λ text. text ≡ report_of m c) → IfOk r IsShownText
   shown_report proves some model c l here has (Err want) h = tt
@@ -151,7 +157,8 @@ module _ (m : RobustModel) (names : List ℕ) (t : Tree) where
       → text ≡ plan ++ nodes_line count → IsReport m names t text
   report_told plan text count h e is = (plan, h, is ∙ ap (λ n. plan ++ nodes_line n) e)
 
-  pub report_printed : (verb : Verb) (r : Result (List ℕ) Want) → verb ≡ Whole → IfOk r (IsReport m names t) → IfOk r (IsPrintedTree verb m names t)
+  pub report_printed : (verb : Verb) (r : Result (List ℕ) Want) → verb ≡ Whole → IfOk r (IsReport m names t)
+      → IfOk r (IsPrintedTree verb m names t)
   report_printed verb (Err want) e h = tt
   report_printed verb (Ok text) e h = subst (λ (v : Verb). IsPrintedTree v m names t text) (sym e) h
 

@@ -24,7 +24,8 @@ use Rattle.rob_words.specs.declared.route.Route.{Route}
 module _ (way : Route) (limit : ℕ) (m : RobustModel) where
   -- the status, or a wide number on the way of the route
   abbrev pub IsSolvedOrWide : Ended → Type 0
-  IsSolvedOrWide result = EndsAs Optimal result ⊎ ((spot : Spot) × IsWideOnWay way limit m spot × (result ≡ TooWide spot))
+  IsSolvedOrWide result =
+      EndsAs Optimal result ⊎ ((spot : Spot) × IsWideOnWay way limit m spot × (result ≡ TooWide spot))
 
   pub optimal_or_wide : (v : Fraction) (u : List Fraction) → HasStatus m optimal v → Admits m u → (result : Ended)
       → IsSolveAnswer way limit m result → IsSolvedOrWide result

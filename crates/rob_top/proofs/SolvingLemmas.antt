@@ -1,5 +1,5 @@
 -- The answers of `solve` and `prove`, from what their route answers.
-use Rattle.std.proofs.Common.{◌≡◌, ◌≢◌, ℕ, suc, ◌+◌, ◌*◌, ◌^◌, ◌<◌, ◌≤◌, nat_abs, List, length, Result, Ok, Err, IfOk, refl, subst, sym, ap, ◌∙◌, arith}
+use Rattle.std.proofs.Common.{◌≡◌, ◌≢◌, ℕ, suc, ◌+◌, ◌*◌, ◌^◌, ◌<◌, ◌≤◌, nat_abs, List, length, Result, Ok, Err, IfOk, refl, subst, sym, ap, arith}
 use Rattle.std.proofs.Math.Nat.{mul-le-mul}
 use Rattle.std.proofs.lemmas.List.{length-map}
 use Rattle.std.specs.Prelude.{MatchResult}
@@ -52,7 +52,7 @@ use Rattle.rob_top.specs.Replies.{Replies}
 use Rattle.rob_top.specs.Routes.{HasStopCause, IsFound, IsFoundBy, IsWideBy, SolvesBy, with_rounds}
 use Rattle.rob_top.specs.Solved.{IsKept, IsPrinted, IsSolved}
 use Rattle.rob_top.specs.Work.{AnswersRoute, ended_of}
-use Rattle.rob_top.specs.Refusing.{RepliesStop}
+use Rattle.rob_top.specs.WorkStops.{RepliesStop}
 use Rattle.rob_top.specs.Ways.{on_way, solved, while_solving}
 use Rattle.rob_top.specs.declared.ended.Ended.{Ended}
 use Rattle.rob_top.specs.declared.reply.Reply.{Reply}
@@ -63,10 +63,10 @@ use Rattle.rob_words.specs.declared.verb.Verb.TheVariants.{Solve, Prove}
 
 -- ---- the counterpart of a model within the limits has few rows and columns
 
-few_in_all : (f r c n s : ℕ) → f ≤ 5000 → r ≤ 5000 → c ≤ 128 → n ≤ 400 → s ≡ suc (c + c)
+few_in_all : (f r c n s : ℕ) → f ≤ 5000 → r ≤ 5000 → c ≤ 160 → n ≤ 600 → s ≡ suc (c + c)
     → ((suc n + suc n) + (f * r)) + (f * s) < 2 ^ 31
 few_in_all f r c n s hf hr hc hn e =
-    let short : s ≤ 257 = omega arith in
+    let short : s ≤ 321 = omega arith in
     omega (arith, mul-le-mul hf hr, mul-le-mul hf short)
 
 module _ (m : RobustModel) (limits : IsWithinLimits m) where
@@ -99,14 +99,18 @@ solve_counted {N = N} way value limit m before now r h = by r h.counted
 
 -- ---- what a certificate that proves says of its plan
 module _ (m : RobustModel) (model : IsModel m) where
-  covered_bound : (c : Certificate) → Admits m c.inside → length c.plan ≡ column_count m → 0ℚ <ℚ c.scale → EachCovered m c.covers c.scale (plan_vector 1ℚ c.plan c.value) → HasBound m c.plan c.value
+  covered_bound : (c : Certificate) → Admits m c.inside → length c.plan ≡ column_count m → 0ℚ <ℚ c.scale
+      → EachCovered m c.covers c.scale (plan_vector 1ℚ c.plan c.value) → HasBound m c.plan c.value
   covered_bound c inside columns some covered =
       at_bound m model c.plan c.value c.inside inside columns
       (λ u admitted i k.
-      covered_at m model i k c.scale (plan_vector 1ℚ c.plan c.value) (amounts_of m c.covers i) (covered i k) 1ℚ u some zero_le_one (admits_meets m model u admitted))
+      covered_at m model i k c.scale (plan_vector 1ℚ c.plan c.value) (amounts_of m c.covers i) (covered i k) 1ℚ u some
+      zero_le_one (admits_meets m model u admitted))
 
-  kept_as : (call : Call) (c : Certificate) (status : Status) → ProvesAs status m c → HasStatus m status c.value → IsKept call m c status
-  kept_as call c optimal h true_of = optimum_is_worst_case m c.plan c.value true_of (covered_bound c h.inside h.columns h.scale h.covered)
+  kept_as : (call : Call) (c : Certificate) (status : Status) → ProvesAs status m c → HasStatus m status c.value
+      → IsKept call m c status
+  kept_as call c optimal h true_of =
+      optimum_is_worst_case m c.plan c.value true_of (covered_bound c h.inside h.columns h.scale h.covered)
   kept_as call c infeasible h true_of = tt
   kept_as call c unbounded h true_of = covered_bound c h.inside h.columns h.scale h.covered
 
@@ -124,17 +128,22 @@ solves_as : (verb same : Verb) → verb ≡ same → IsSolving same → IsSolvin
 solves_as verb same e h = subst (λ (v : Verb). IsSolving v) (sym e) h
 
 -- ---- the certificate that was found
-pub solution_fits : {N : Type 0} (value : N → Fraction) (limit : ℕ) → ((x : N) → Fits limit (value x)) → (m : RobustModel) (cert : Cert N)
+pub solution_fits : {N : Type 0} (value : N → Fraction) (limit : ℕ) → ((x : N) → Fits limit (value x))
+    → (m : RobustModel) (cert : Cert N)
     → FitsLines limit m (certificate_of value cert)
-solution_fits {N = N} value limit fits m cert = let found : Result (Cert N) Stop = Ok cert in answer_fits value limit fits m found
+solution_fits {N = N} value limit fits m cert =
+    let found : Result (Cert N) Stop = Ok cert in answer_fits value limit fits m found
 
 module _ (limit : ℕ) (m : RobustModel) (model : IsModel m) (way : Route) (c : Certificate) (rounds : List Round)
     (found : IsFound way m c rounds) (fits : FitsLines limit m c) (rounds_fit : Each (RoundFits limit) rounds) where
-  means_solved : (call : Call) (line : Line) (text : List ℕ) (status : Status) → limit_of line ≡ limit → line.way ≡ way → c.status ≡ status
-      → HasForms call line m → IsSolving line.verb → IsPrinted call line.verb line.way m c rounds text → Means call (ended_of status) text
+  means_solved : (call : Call) (line : Line) (text : List ℕ) (status : Status) → limit_of line ≡ limit
+      → line.way ≡ way → c.status ≡ status
+      → HasForms call line m → IsSolving line.verb → IsPrinted call line.verb line.way m c rounds text
+      → Means call (ended_of status) text
   means_solved call line text status at by_way e has solves printed =
       let proves : ProvesAs status m c = subst (λ (s : Status). ProvesAs s m c) e found.proves in
-      let holds : HasStatus m status c.value = subst (λ (s : Status). HasStatus m s c.value) e (certificate_true m model c found.proves) in
+      let holds : HasStatus m status c.value =
+      subst (λ (s : Status). HasStatus m s c.value) e (certificate_true m model c found.proves) in
       by status (record {
         line = line;
         m = m;
@@ -169,19 +178,23 @@ module _ (limit : ℕ) (m : RobustModel) (model : IsModel m) (way : Route) (c : 
   is_certificate call verb w text e h = subst (λ (v : Verb). IsPrinted call v w m c rounds text) (sym e) h
 
   pub report_answers : (wides : Count) (r : Result Reply Want)
-      → IfOk r (Replies (ended_of c.status) (with_rounds way m rounds (report_of m c))) → IfOk r (AnswersRoute limit wides m Solve way)
+      → IfOk r (Replies (ended_of c.status) (with_rounds way m rounds (report_of m c)))
+      → IfOk r (AnswersRoute limit wides m Solve way)
   report_answers wides (Err want) is = tt
   report_answers wides (Ok reply) is = λ call line at by_way has.
       subst (λ (ended : Ended). Means call ended reply.text) (sym is.0)
-      (means_solved call line reply.text c.status at.limit_is by_way refl has (solves_as line.verb Solve at.verb_is refl)
+      (means_solved call line reply.text c.status at.limit_is by_way refl has
+      (solves_as line.verb Solve at.verb_is refl)
       (is_report call line.verb line.way reply.text at.verb_is by_way is.1))
 
-  pub certificate_answers : (wides : Count) (r : Result Reply Want) → IfOk r (Replies (ended_of c.status) (cert_text m c))
+  pub certificate_answers : (wides : Count) (r : Result Reply Want)
+      → IfOk r (Replies (ended_of c.status) (cert_text m c))
       → IfOk r (AnswersRoute limit wides m Prove way)
   certificate_answers wides (Err want) is = tt
   certificate_answers wides (Ok reply) is = λ call line at by_way has.
       subst (λ (ended : Ended). Means call ended reply.text) (sym is.0)
-      (means_solved call line reply.text c.status at.limit_is by_way refl has (solves_as line.verb Prove at.verb_is refl)
+      (means_solved call line reply.text c.status at.limit_is by_way refl has
+      (solves_as line.verb Prove at.verb_is refl)
       (is_certificate call line.verb line.way reply.text at.verb_is is.1))
 
 -- ---- the route stopped
@@ -189,7 +202,8 @@ module _ (limit : ℕ) (m : RobustModel) where
   stop_answers : (before now : ℕ) (verb : Verb) (way : Route) (s : Stop) (reply : Reply) → IsSolving verb
       → HasStopCause way limit m s → StopFits limit s → CountsStop before now s → RepliesStop m way s reply
       → AnswersRoute limit (count before now) m verb way reply
-  stop_answers before now verb way (stop.EmptySet weights) reply solves cause fits counts is = λ call line at by_way has.
+  stop_answers before now verb way (stop.EmptySet weights) reply solves cause fits counts is =
+      λ call line at by_way has.
       subst (λ (ended : Ended). Means call ended reply.text) (sym is.0)
       (while_solving (record {
         line = line;
@@ -200,7 +214,8 @@ module _ (limit : ℕ) (m : RobustModel) where
         fits = subst (λ (l : ℕ). Each (λ weight. nat_abs weight ≤ l) weights) (sym at.limit_is) cause.fits;
         printed = is.1;
       }))
-  stop_answers before now verb way (stop.Wide place trace) reply solves cause fits counts is = λ call line at by_way has.
+  stop_answers before now verb way (stop.Wide place trace) reply solves cause fits counts is =
+      λ call line at by_way has.
       let rose : Rose before now = omega (arith, counts) in
       let here : IsWideBy way (limit_of line) m place trace.rounds =
       subst (λ (l : ℕ). IsWideBy way l m place trace.rounds) (sym at.limit_is) cause
@@ -215,7 +230,8 @@ module _ (limit : ℕ) (m : RobustModel) where
         wide = subst (λ (w : Route). IsWideBy w (limit_of line) m place trace.rounds) (sym by_way) here;
         raised = at.raised rose;
         rounds_fit = subst (λ (l : ℕ). Each (RoundFits l) trace.rounds) (sym at.limit_is) fits;
-        printed = subst (λ (w : Route). reply.text ≡ with_rounds w m trace.rounds (too_wide_line m place)) (sym by_way) is.1;
+        printed = subst (λ (w : Route). reply.text ≡ with_rounds w m trace.rounds (too_wide_line m place)) (sym by_way)
+            is.1;
       }))
   stop_answers before now verb way stop.Memory reply solves cause fits counts is = absurd is
 
@@ -223,4 +239,5 @@ module _ (limit : ℕ) (m : RobustModel) where
       → HasStopCause way limit m s → StopFits limit s → CountsStop before now s → IfOk r (RepliesStop m way s)
       → IfOk r (AnswersRoute limit (count before now) m verb way)
   stopped_answers before now verb way s (Err want) solves cause fits counts is = tt
-  stopped_answers before now verb way s (Ok reply) solves cause fits counts is = stop_answers before now verb way s reply solves cause fits counts is
+  stopped_answers before now verb way s (Ok reply) solves cause fits counts is =
+      stop_answers before now verb way s reply solves cause fits counts is

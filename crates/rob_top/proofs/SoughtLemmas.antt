@@ -10,7 +10,8 @@ use Rattle.rob_words.specs.Values.{Word}
 
 module _ (call : Call) (line : Line) (m : RobustModel) where
   -- the file of a certificate
-  pub file_sought : (c : Certificate) (form : ℕ) (h : HasSought call line m c form) → HasWorstFile call line m h.plan.certificate.bytes
+  pub file_sought : (c : Certificate) (form : ℕ) (h : HasSought call line m c form)
+      → HasWorstFile call line m h.plan.certificate.bytes
   file_sought c form h = h.plan.certificate.file
 
   -- the set rows and forms of the model

@@ -13,7 +13,7 @@ use Rattle.rob_pieces.specs.Cuts.{AreCuts, Cut}
 use Rattle.rob_pieces.specs.SplitModel.{split_model}
 use Rattle.rob_sets.specs.FirstWide.{IsFirstWide}
 use Rattle.rob_top.proofs.BeforeLemmas.{before_it}
-use Rattle.rob_top.proofs.ComingLemmas.{Comes, comes_ends}
+use Rattle.rob_top.proofs.ComingLemmas.{Comes, comes_ends, ends_in}
 use Rattle.rob_top.proofs.CommandLemmas.{branches_no_split, check_no_split, makes_no_split, narrow_no_split, replay_no_split, rows_no_split, solves_no_split, sweeps_no_split, tree_no_split, two_verbs, worst_no_split}
 use Rattle.rob_top.proofs.CourseLemmas.{Course, bounds, branching, checking_tree, finds, judges, lacks_plan, prints, refuses, replays, searches, shows_empty, splitting, sweeping, wide_number, wide_row}
 use Rattle.rob_top.proofs.CutTellingLemmas.{cuts_at_once, cuts_inside}
@@ -41,7 +41,8 @@ two_splits : (verb : Verb) → verb ≡ Cells → verb ≡ CellText → ⊥
 two_splits verb = two_verbs Cells CellText verb (λ e. cc)
 
 -- ---- one rule is broken first
-one_broken : (m : RobustModel) (cuts : List Cut) (rule other : ℕ) → BreaksRule m cuts rule → BreaksRule m cuts other → rule ≡ other
+one_broken : (m : RobustModel) (cuts : List Cut) (rule other : ℕ) → BreaksRule m cuts rule
+    → BreaksRule m cuts other → rule ≡ other
 one_broken m cuts rule other (inl h) (inl k) = h.0 ∙ sym k.0
 one_broken m cuts rule other (inl h) (inr (inl k)) = absurd (h.1 k.1.0)
 one_broken m cuts rule other (inl h) (inr (inr k)) = absurd (h.1 k.1.0)
@@ -59,7 +60,8 @@ none_broken m cuts rule (inr (inl h)) keeps = h.1.1 keeps.names
 none_broken m cuts rule (inr (inr h)) keeps = h.1.1.1 keeps.limits
 
 -- a model has one status over pieces
-pub same_piece_status : (m : RobustModel) (cuts : List Cut) (a b : Status) (v w : Fraction) → HasStatusOverPieces m cuts a v
+pub same_piece_status : (m : RobustModel) (cuts : List Cut) (a b : Status) (v w : Fraction)
+    → HasStatusOverPieces m cuts a v
     → HasStatusOverPieces m cuts b w → a ≡ b
 same_piece_status m cuts optimal optimal v w h k = refl
 same_piece_status m cuts optimal infeasible v w h k = absurd (piece_not_infeasible m cuts v h k)
@@ -101,10 +103,12 @@ module _ (call : Call) (known : Known call.source) (line : Line) (m : RobustMode
   cuts_once : (a b : List Cut) → HasCuts call line m a → HasCuts call line m b → a ≡ b
   cuts_once a b h k =
       let word : h.word ≡ k.word = word_once h.word k.word h.has_word k.has_word in
-      cuts_at_once m (well call known line m h.has_word.model) (named call known line m h.has_word.model) (parts_of k.word) a b
+      cuts_at_once m (well call known line m h.has_word.model)
+      (named call known line m h.has_word.model) (parts_of k.word) a b
       (subst (λ (w : Word). AreCutsAt m (parts_of w) a) word h.are) k.are
 
-  no_cuts : (word : Word) (cuts : List Cut) → HasCutWord call line m word → ((list : List Cut) → AreCutsAt m (parts_of word) list → ⊥)
+  no_cuts : (word : Word) (cuts : List Cut) → HasCutWord call line m word
+      → ((list : List Cut) → AreCutsAt m (parts_of word) list → ⊥)
       → HasCuts call line m cuts → ⊥
   no_cuts word cuts has none h =
       none cuts (subst (λ (w : Word). AreCutsAt m (parts_of w) cuts) (word_once h.word word h.has_word has) h.are)
@@ -115,7 +119,8 @@ module _ (call : Call) (known : Known call.source) (line : Line) (m : RobustMode
   one_rule rule other (named_set word has some e) (of_split cuts h breaks) = absurd (some h.alone)
   one_rule rule other (no_parameter word has alone none e) (named_set w too some d) = absurd (some alone)
   one_rule rule other (no_parameter word has alone none e) (no_parameter w too only nothing d) = e ∙ sym d
-  one_rule rule other (no_parameter word has alone none e) (of_split cuts h breaks) = absurd (no_cuts word cuts has none h)
+  one_rule rule other (no_parameter word has alone none e) (of_split cuts h breaks) =
+      absurd (no_cuts word cuts has none h)
   one_rule rule other (of_split cuts h breaks) (named_set w too some d) = absurd (some h.alone)
   one_rule rule other (of_split cuts h breaks) (no_parameter w too alone none d) = absurd (no_cuts w cuts too none h)
   one_rule rule other (of_split a h breaks) (of_split b k too) =
@@ -125,13 +130,15 @@ module _ (call : Call) (known : Known call.source) (line : Line) (m : RobustMode
   no_break rule cuts (named_set word has some e) h = some h.has_cuts.alone
   no_break rule cuts (no_parameter word has alone none e) h = no_cuts word cuts has none h.has_cuts
   no_break rule cuts (of_split other k breaks) h =
-      none_broken m cuts rule (subst (λ (list : List Cut). BreaksRule m list rule) (cuts_once other cuts k h.has_cuts) breaks) h.keeps
+      none_broken m cuts rule
+      (subst (λ (list : List Cut). BreaksRule m list rule) (cuts_once other cuts k h.has_cuts) breaks) h.keeps
 
   split_once : (a b : List Cut) → HasSplit call line m a → HasSplit call line m b → a ≡ b
   split_once a b h k = cuts_once a b h.has_cuts k.has_cuts
 
   -- ---- a rule is broken
-  breaking_cells_decides : (rule : ℕ) → BreaksCells call line m rule → (ended : Ended) (text : List ℕ) → Means call ended text
+  breaking_cells_decides : (rule : ℕ) → BreaksCells call line m rule
+      → (ended : Ended) (text : List ℕ) → Means call ended text
       → (ended ≡ CellsRule rule) ⊎ ((ended ≡ ReadFault) ⊎ (ended ≡ Memory))
   breaking_cells_decides rule broken ended text means =
       first_of_two by
@@ -172,15 +179,18 @@ module _ (call : Call) (known : Known call.source) (line : Line) (m : RobustMode
       moved : (P : List Cut → Type 0) (list : List Cut) → HasSplit call line m list → P list → P cuts
       moved P list h p = subst P (split_once list cuts h has) p
 
-      status_answer : (status : Status) (v : Fraction) → HasStatusOverPieces m cuts status v → IsCellsAnswer (limit_of line) m cuts (ended_of status)
+      status_answer : (status : Status) (v : Fraction) → HasStatusOverPieces m cuts status v
+          → IsCellsAnswer (limit_of line) m cuts (ended_of status)
       status_answer optimal v h = (v, h)
       status_answer infeasible v h = (v, h)
       status_answer unbounded v h = (v, h)
 
-      answer_is : (ended other : Ended) → ended ≡ other → IsCellsAnswer (limit_of line) m cuts other → IsCellsAnswer (limit_of line) m cuts ended
+      answer_is : (ended other : Ended) → ended ≡ other → IsCellsAnswer (limit_of line) m cuts other
+          → IsCellsAnswer (limit_of line) m cuts ended
       answer_is ended other e h = subst (λ (x : Ended). IsCellsAnswer (limit_of line) m cuts x) (sym e) h
 
-      pub cells_decides : (ended : Ended) (text : List ℕ) → Means call ended text → IsCellsAnswer (limit_of line) m cuts ended
+      pub cells_decides : (ended : Ended) (text : List ℕ) → Means call ended text
+          → IsCellsAnswer (limit_of line) m cuts ended
       cells_decides ended text means = all (here ended text means)
         where
           by : SplitCourse call line m ended → IsCellsAnswer (limit_of line) m cuts ended
@@ -195,13 +205,15 @@ module _ (call : Call) (known : Known call.source) (line : Line) (m : RobustMode
               (moved (λ (cs : List Cut). IsWideIn (limit_of line) (split_model m cs) spot) list h wide)
           by (writes_split list h other e) = absurd (two_splits line.verb is other)
 
-          all : SplitCourse call line m ended ⊎ ((ended ≡ ReadFault) ⊎ (ended ≡ Memory)) → IsCellsAnswer (limit_of line) m cuts ended
+          all : SplitCourse call line m ended ⊎ ((ended ≡ ReadFault) ⊎ (ended ≡ Memory))
+              → IsCellsAnswer (limit_of line) m cuts ended
           all (inl course) = by course
           all (inr (inl e)) = answer_is ended ReadFault e (inl refl)
           all (inr (inr e)) = answer_is ended Memory e (inr (inr refl))
 
       -- a number of the split model's set rows and forms is wide
-      wide_cells_decides : (spot : Spot) → IsFirstWide (limit_of line) (split_model m cuts) (judged (split_model m cuts)) spot → (ended : Ended)
+      wide_cells_decides : (spot : Spot)
+          → IsFirstWide (limit_of line) (split_model m cuts) (judged (split_model m cuts)) spot → (ended : Ended)
           (text : List ℕ) → Means call ended text → (ended ≡ TooWide spot) ⊎ ((ended ≡ ReadFault) ⊎ (ended ≡ Memory))
       wide_cells_decides spot first ended text means = first_of_two by (here ended text means)
         where
@@ -212,8 +224,10 @@ module _ (call : Call) (known : Known call.source) (line : Line) (m : RobustMode
 
           one : (other : Spot) → IsWideIn (limit_of line) (split_model m cuts) other → TooWide other ≡ TooWide spot
           one other (inl h) =
-              ap (λ (s : Spot). TooWide s) (first_once (limit_of line) (split_model m cuts) (judged (split_model m cuts)) other spot h first)
-          one other (inr h) = absurd (none_first (limit_of line) (split_model m cuts) (judged (split_model m cuts)) spot h.0 first)
+              ap (λ (s : Spot). TooWide s)
+              (first_once (limit_of line) (split_model m cuts) (judged (split_model m cuts)) other spot h first)
+          one other (inr h) =
+              absurd (none_first (limit_of line) (split_model m cuts) (judged (split_model m cuts)) spot h.0 first)
 
           by : SplitCourse call line m ended → ended ≡ TooWide spot
           by (breaks_cells rule h e) = absurd (no_break rule cuts h has)
@@ -224,11 +238,13 @@ module _ (call : Call) (known : Known call.source) (line : Line) (m : RobustMode
           by (writes_split list h other e) = absurd (two_splits line.verb is other)
 
       -- not each cell holds an admitted scenario
-      empty_is : (ended other : Ended) → ended ≡ other → IsEmptyCellsAnswer (limit_of line) m cuts other → IsEmptyCellsAnswer (limit_of line) m cuts ended
+      empty_is : (ended other : Ended) → ended ≡ other → IsEmptyCellsAnswer (limit_of line) m cuts other
+          → IsEmptyCellsAnswer (limit_of line) m cuts ended
       empty_is ended other e h = subst (λ (x : Ended). IsEmptyCellsAnswer (limit_of line) m cuts x) (sym e) h
 
       none_joint : (EachCellAdmits m cuts → ⊥) → IsEmptySet (split_model m cuts)
-      none_joint none w admitted = none (each_admits m (well call known line m has_here) cuts has.keeps are_here w admitted)
+      none_joint none w admitted =
+          none (each_admits m (well call known line m has_here) cuts has.keeps are_here w admitted)
 
       empty_cells_decides : (EachCellAdmits m cuts → ⊥) → (ended : Ended) (text : List ℕ) → Means call ended text
           → IsEmptyCellsAnswer (limit_of line) m cuts ended
@@ -247,7 +263,8 @@ module _ (call : Call) (known : Known call.source) (line : Line) (m : RobustMode
               (moved (λ (cs : List Cut). IsWideIn (limit_of line) (split_model m cs) spot) list h wide))
           by (writes_split list h other e) = absurd (two_splits line.verb is other)
 
-          all : SplitCourse call line m ended ⊎ ((ended ≡ ReadFault) ⊎ (ended ≡ Memory)) → IsEmptyCellsAnswer (limit_of line) m cuts ended
+          all : SplitCourse call line m ended ⊎ ((ended ≡ ReadFault) ⊎ (ended ≡ Memory))
+              → IsEmptyCellsAnswer (limit_of line) m cuts ended
           all (inl course) = by course
           all (inr (inl e)) = empty_is ended ReadFault e (inl refl)
           all (inr (inr e)) = empty_is ended Memory e (inr (inr refl))
@@ -266,11 +283,13 @@ module _ (call : Call) (known : Known call.source) (line : Line) (m : RobustMode
           by (shows_empty_cell list weights h also written shown none e) =
               absurd (moved (λ (cs : List Cut). EachCellAdmits m cs → ⊥) list h none each)
           by (wide_cell list spot h also wide e) =
-              absurd (narrow spot (moved (λ (cs : List Cut). IsWideIn (limit_of line) (split_model m cs) spot) list h wide))
+              absurd (narrow spot
+              (moved (λ (cs : List Cut). IsWideIn (limit_of line) (split_model m cs) spot) list h wide))
           by (writes_split list h other e) = absurd (two_splits line.verb is other)
 
       -- the model has a status over pieces
-      some_piece_status : EachCellAdmits m cuts → (status : Status) × (v : Fraction) × HasStatusOverPieces m cuts status v
+      some_piece_status : EachCellAdmits m cuts → (status : Status) × (v : Fraction)
+          × HasStatusOverPieces m cuts status v
       some_piece_status each =
           let model = well call known line m has_here in
           let w = admits_each m model cuts has.keeps are_here each in
@@ -278,22 +297,19 @@ module _ (call : Call) (known : Known call.source) (line : Line) (m : RobustMode
           (s.0, s.1, status_over_pieces m model cuts has.keeps are_here s.0 s.1 s.2)
 
 module _ (call : Call) (known : Known call.source) (ended : Ended) (comes : Comes call ended) where
-  module _ (line : Line) (m : RobustModel) (cuts : List Cut) (has : HasSplit call line m cuts) (is : line.verb ≡ Cells) where
+  module _ (line : Line) (m : RobustModel) (cuts : List Cut) (has : HasSplit call line m cuts)
+      (is : line.verb ≡ Cells) where
     cells_end : IsCellsAnswer (limit_of line) m cuts ended
-    cells_end = by comes
-      where
-        by : Comes call ended → IsCellsAnswer (limit_of line) m cuts ended
-        by (inl h) = cells_decides call known line m cuts has is ended h.0 h.1
-        by (inr (inl e)) = subst (λ (x : Ended). IsCellsAnswer (limit_of line) m cuts x) (sym e) (inr (inl refl))
-        by (inr (inr e)) = subst (λ (x : Ended). IsCellsAnswer (limit_of line) m cuts x) (sym e) (inr (inr refl))
+    cells_end =
+        ends_in call (λ (x : Ended). IsCellsAnswer (limit_of line) m cuts x) ended
+        (inr (inl refl)) (inr (inr refl)) comes
+        (cells_decides call known line m cuts has is ended)
 
     empty_cells_end : (EachCellAdmits m cuts → ⊥) → IsEmptyCellsAnswer (limit_of line) m cuts ended
-    empty_cells_end none = by comes
-      where
-        by : Comes call ended → IsEmptyCellsAnswer (limit_of line) m cuts ended
-        by (inl h) = empty_cells_decides call known line m cuts has is none ended h.0 h.1
-        by (inr (inl e)) = subst (λ (x : Ended). IsEmptyCellsAnswer (limit_of line) m cuts x) (sym e) (inr (inl refl))
-        by (inr (inr e)) = subst (λ (x : Ended). IsEmptyCellsAnswer (limit_of line) m cuts x) (sym e) (inr (inr refl))
+    empty_cells_end none =
+        ends_in call (λ (x : Ended). IsEmptyCellsAnswer (limit_of line) m cuts x) ended
+        (inr (inl refl)) (inr (inr refl)) comes
+        (empty_cells_decides call known line m cuts has is none ended)
 
     pieces_end : EachCellAdmits m cuts → IsNarrowSplit (limit_of line) m cuts
         → (status : Status) × (v : Fraction) × HasStatusOverPieces m cuts status v × EndsAs (ended_of status) ended
@@ -315,5 +331,6 @@ module _ (call : Call) (known : Known call.source) (ended : Ended) (comes : Come
         comes_ends call (TooWide spot) ended comes (wide_cells_decides call known line m cuts has is spot first ended);
     empty = empty_cells_end;
     status = pieces_end;
-    written = λ line m cuts has is. comes_ends call Printed ended comes (written_decides call known line m cuts has is ended);
+    written = λ line m cuts has is.
+        comes_ends call Printed ended comes (written_decides call known line m cuts has is ended);
   }

@@ -16,7 +16,8 @@ module _ (call : Call) (known : Known call.source) where
 
   module _ (line : Line) (m : RobustModel) where
     word_known : (word : Word) → HasCutWord call line m word → HasCutWord part line m word
-    word_known word h = record { model = model_known call known line m h.model; is_splitting = h.is_splitting; told = h.told }
+    word_known word h =
+        record { model = model_known call known line m h.model; is_splitting = h.is_splitting; told = h.told }
 
     cuts_known : (cuts : List Cut) → HasCuts call line m cuts → HasCuts part line m cuts
     cuts_known cuts h = record { word = h.word; has_word = word_known h.word h.has_word; alone = h.alone; are = h.are }
@@ -26,11 +27,13 @@ module _ (call : Call) (known : Known call.source) where
 
     breaking_cells_known : (rule : ℕ) → BreaksCells call line m rule → BreaksCells part line m rule
     breaking_cells_known rule (named_set word has some e) = named_set word (word_known word has) some e
-    breaking_cells_known rule (no_parameter word has alone none e) = no_parameter word (word_known word has) alone none e
+    breaking_cells_known rule (no_parameter word has alone none e) =
+        no_parameter word (word_known word has) alone none e
     breaking_cells_known rule (of_split cuts has breaks) = of_split cuts (cuts_known cuts has) breaks
 
   pub no_cells_known : (rule : ℕ) (text : List ℕ) → IsNoCells call rule text → IsNoCells part rule text
-  no_cells_known rule text h = record { line = h.line; m = h.m; breaks = breaking_cells_known h.line h.m rule h.breaks; printed = h.printed }
+  no_cells_known rule text h =
+      record { line = h.line; m = h.m; breaks = breaking_cells_known h.line h.m rule h.breaks; printed = h.printed }
 
   pub pieced_known : (status : Status) (text : List ℕ) → IsPieced call status text → IsPieced part status text
   pieced_known status text h = record {
@@ -67,7 +70,8 @@ module _ (call : Call) (known : Known call.source) where
     printed = h.printed;
   }
 
-  pub empty_cell_known : (weights : List ℤ) (text : List ℕ) → IsEmptyCell call weights text → IsEmptyCell part weights text
+  pub empty_cell_known : (weights : List ℤ) (text : List ℕ) → IsEmptyCell call weights text
+      → IsEmptyCell part weights text
   empty_cell_known weights text h = record {
     line = h.line;
     m = h.m;

@@ -1,5 +1,5 @@
--- The text that `celltext` printed is read as the split model, by each later call at the same width; so what `solve` and `prove`
--- answer of it is true of the first model over pieces.
+-- The text that `celltext` printed is read as the split model, by each later call at the same width; so what `solve`
+-- and `prove` answer of it is true of the first model over pieces.
 use Rattle.std.proofs.Common.{◌≡◌, ◌⊎◌, ◌∙◌, ◌-◌, ◌^◌, ◌<◌, ◌≤◌, ◌++◌, ℕ, suc, Bool, true, false, List, [], ◌∷◌, length, pos, inl, inr, refl, sym, ap, subst, arith}
 use Rattle.rob_algebra.specs.Fraction.{Fraction, of_pair}
 use Rattle.rob_algebra.specs.Width.{Fits}
@@ -32,7 +32,8 @@ use Rattle.rob_top.proofs.SplittingLemmas.{admits_each, kind_kept, split_model_i
 use Rattle.rob_top.proofs.StageLemmas.{broken_here, file_once, one_model_read}
 use Rattle.rob_top.proofs.TrueAnswerLemmas.{course_of, lacking_verb}
 use Rattle.rob_top.proofs.WorkLemmas.{limit_is}
-use Rattle.rob_top.specs.Calls.{Call, HasFile, IsSolving, Known, known_call, limit_of}
+use Rattle.rob_top.specs.Calls.{Call, IsSolving, Known, known_call, limit_of}
+use Rattle.rob_top.specs.Files.{HasFile}
 use Rattle.rob_top.specs.Completeness.{MustEnd}
 use Rattle.rob_top.specs.Endings.{EndsAs, IsProvedAnswer}
 use Rattle.rob_top.specs.Headline.{Means}
@@ -59,20 +60,24 @@ use Rattle.rob_words.specs.declared.width.Width.{Width}
 
 -- ---- the numbers of cuts
 module _ (limit : ℕ) (low : 1 ≤ limit) where
-  level_fits : (word : Word) → IsCut limit word → Fits limit (signed_value (has_sign (cut_level word)) (limit_value (unsigned (cut_level word))))
+  level_fits : (word : Word) → IsCut limit word
+      → Fits limit (signed_value (has_sign (cut_level word)) (limit_value (unsigned (cut_level word))))
   level_fits word cut = by (has_sign (cut_level word))
     where
-      size : Fits limit (of_pair (pos (numerator_of (unsigned (cut_level word)))) (denominator_of (unsigned (cut_level word))))
+      size : Fits limit
+          (of_pair (pos (numerator_of (unsigned (cut_level word)))) (denominator_of (unsigned (cut_level word))))
       size =
           let f = limit_fits limit (unsigned (cut_level word)) low cut.level in
-          pair_fits limit (numerator_of (unsigned (cut_level word))) (denominator_of (unsigned (cut_level word))) f.positive f.numerator f.denominator
+          pair_fits limit (numerator_of (unsigned (cut_level word))) (denominator_of (unsigned (cut_level word)))
+          f.positive f.numerator f.denominator
 
       by : (sign : Bool) → Fits limit (signed_value sign (limit_value (unsigned (cut_level word))))
       by true = negated_fits limit (limit_value (unsigned (cut_level word))) size
       by false = size
 
   module _ (m : RobustModel) where
-    levels_fit : (words : List Word) (cuts : List Cut) → AreAll (IsCut limit) words → AreCutsAt m words cuts → HaveFittingLevels limit cuts
+    levels_fit : (words : List Word) (cuts : List Cut) → AreAll (IsCut limit) words → AreCutsAt m words cuts
+        → HaveFittingLevels limit cuts
     levels_fit words [] all are = tt
     levels_fit [] (c ∷ cuts) all are = absurd are
     levels_fit (word ∷ words) (c ∷ cuts) all are =
@@ -134,19 +139,22 @@ module _ (printing : Call) (text : List ℕ) (split : IsSplitText printing text)
   pub printed_reads : HasFewTokens s → ReadsModel limit text s
   printed_reads few =
       subst (λ (bytes : List ℕ). ReadsModel limit bytes s) (sym split.printed)
-      (split_text_reads limit has.bytes m split.cuts low small has.reads keeps.alone three are cuts_fit keeps.names keeps.limits few)
+      (split_text_reads limit has.bytes m split.cuts low small has.reads keeps.alone three are cuts_fit
+      keeps.names keeps.limits few)
 
   -- exactly where it has no more tokens than a text may have
   pub printed_few : ReadsModel limit text s → HasFewTokens s
   printed_few reads =
-      split_text_few limit has.bytes m split.cuts low small has.reads keeps.alone three are cuts_fit keeps.names keeps.limits s
+      split_text_few limit has.bytes m split.cuts low small has.reads keeps.alone three are cuts_fit
+      keeps.names keeps.limits s
       (subst (λ (bytes : List ℕ). ReadsModel limit bytes s) split.printed reads)
 
   over_pieces : (status : Status) (v : Fraction) → HasStatus s status v → HasStatusOverPieces m split.cuts status v
   over_pieces = status_over_pieces m model split.cuts keeps are
 
   -- ---- a later call
-  module _ (later : Call) (known : Known later.source) (line : Line) (takes : TakesSplit split (known_call later known) line) where
+  module _ (later : Call) (known : Known later.source) (line : Line)
+      (takes : TakesSplit split (known_call later known) line) where
     abbrev told : Call
     told = known_call later known
 
@@ -168,7 +176,8 @@ module _ (printing : Call) (text : List ℕ) (split : IsSplitText printing text)
 
     -- and no other
     pub taken_once : (l : Line) (other : RobustModel) → HasModel later l other → other ≡ s
-    taken_once l other h = one_model_read told l line other s (known_again known) (model_known later known l other h) taken_model
+    taken_once l other h =
+        one_model_read told l line other s (known_again known) (model_known later known l other h) taken_model
 
     -- no rule of its text is named
     pub taken_unbroken : (rule number : ℕ) (shown : List ℕ) → Means later (Model rule number) shown → ⊥
@@ -184,7 +193,8 @@ module _ (printing : Call) (text : List ℕ) (split : IsSplitText printing text)
         → HasStatusOverPieces m split.cuts status solved.c.value
     taken_status status shown solved =
         over_pieces status solved.c.value
-        (subst (λ (x : RobustModel). HasStatus x status solved.c.value) (taken_once solved.line solved.m solved.forms.model) solved.holds)
+        (subst (λ (x : RobustModel). HasStatus x status solved.c.value)
+        (taken_once solved.line solved.m solved.forms.model) solved.holds)
 
     -- ---- each answer of `solve` and `prove`
     module _ (solves : IsSolving line.verb) where
@@ -194,26 +204,31 @@ module _ (printing : Call) (text : List ℕ) (split : IsSplitText printing text)
       answer_is : (ended other : Ended) → ended ≡ other → IsAnswer other → IsAnswer ended
       answer_is ended other e h = subst IsAnswer (sym e) h
 
-      status_answer : (status : Status) (v : Fraction) → HasStatusOverPieces m split.cuts status v → IsAnswer (ended_of status)
+      status_answer : (status : Status) (v : Fraction) → HasStatusOverPieces m split.cuts status v
+          → IsAnswer (ended_of status)
       status_answer optimal v h = (v, h)
       status_answer infeasible v h = (v, h)
       status_answer unbounded v h = (v, h)
 
       pub taken_answer : (ended : Ended) (shown : List ℕ) → Means later ended shown → IsAnswer ended
       taken_answer ended shown means =
-          all (course_of told (known_again known) line s taken_model ended shown (means_known later known ended shown means))
+          all (course_of told (known_again known) line s taken_model ended shown
+          (means_known later known ended shown means))
         where
           by : Course told line s ended → IsAnswer ended
-          by (finds status v u inside forms is holds e) = answer_is ended (ended_of status) e (status_answer status v (over_pieces status v holds))
+          by (finds status v u inside forms is holds e) =
+              answer_is ended (ended_of status) e (status_answer status v (over_pieces status v holds))
           by (shows_empty weights forms is shown e) =
-              answer_is ended (EmptySet weights) e (λ each. let w = admits_each m model split.cuts keeps are each in shown.empty w.0 w.1)
+              answer_is ended (EmptySet weights) e (λ each. let w =
+              admits_each m model split.cuts keeps are each in shown.empty w.0 w.1)
           by (prints forms is e) = absurd (solves_no_rows line.verb is solves)
           by (judges c h e) = absurd (solves_no_check line.verb h.file.is_check solves)
           by (refuses bytes rule number h breach e) = absurd (solves_no_check line.verb h.is_check solves)
           by (wide_number spot makes h e) = answer_is ended (TooWide spot) e (inl h)
           by (wide_row spot forms is wide e) = answer_is ended (TooWide spot) e (inr wide)
           by (replays c bytes rows h file e) = absurd (solves_no_replay line.verb h.certificate.file.is_replay solves)
-          by (lacks_plan rule number h e) = absurd (solves_no_replay line.verb (lacking_verb told line s rule number h) solves)
+          by (lacks_plan rule number h e) =
+              absurd (solves_no_replay line.verb (lacking_verb told line s rule number h) solves)
           by (branching is course) = absurd (solves_no_branch line.verb solves is)
           by (searches is course) = absurd (solves_no_worst line.verb is solves)
           by (checking_tree is course) = absurd (solves_no_tree line.verb is solves)
@@ -227,8 +242,10 @@ module _ (printing : Call) (text : List ℕ) (split : IsSplitText printing text)
           all (inr (inr e)) = answer_is ended Memory e (inr (inr refl))
 
       -- the status has to come, where each cell holds an admitted scenario and no number is wide
-      pub taken_has_status : EachCellAdmits m split.cuts → IsNarrowOnWay line.way (limit_of line) s → (ended : Ended) → MustEnd told ended
-          → (status : Status) × (v : Fraction) × HasStatusOverPieces m split.cuts status v × EndsAs (ended_of status) ended
+      pub taken_has_status : EachCellAdmits m split.cuts → IsNarrowOnWay line.way (limit_of line) s
+          → (ended : Ended) → MustEnd told ended
+          → (status : Status) × (v : Fraction) × HasStatusOverPieces m split.cuts status v
+          × EndsAs (ended_of status) ended
       taken_has_status each narrow ended must =
           let w = admits_each m model split.cuts keeps are each in
           let forms : HasForms told line s = record { model = taken_model; none_wide = narrow.forms } in
@@ -240,14 +257,18 @@ module _ (printing : Call) (text : List ℕ) (split : IsSplitText printing text)
           )
 
   -- ---- a certificate that `prove` printed of it, in a call of `check` that takes it too
-  module _ (proving : Call) (known : Known proving.source) (line : Line) (takes : TakesSplit split (known_call proving known) line)
-      (checking : Call) (again : Known checking.source) (other : Line) (takes_too : TakesSplit split (known_call checking again) other) where
-    pub taken_certificate : (status : Status) (certificate : List ℕ) (solved : IsSolved proving status certificate) → solved.line.verb ≡ Prove
+  module _ (proving : Call) (known : Known proving.source) (line : Line)
+      (takes : TakesSplit split (known_call proving known) line)
+      (checking : Call) (again : Known checking.source) (other : Line)
+      (takes_too : TakesSplit split (known_call checking again) other) where
+    pub taken_certificate : (status : Status) (certificate : List ℕ) (solved : IsSolved proving status certificate)
+        → solved.line.verb ≡ Prove
         → other.verb ≡ Check → HasFile (known_call checking again) other own.Certificate certificate → (ended : Ended)
         → MustEnd (known_call checking again) ended → IsProvedAnswer (limit_of other) s solved.c ended
     taken_certificate status certificate solved is_prove is_check file ended must =
         let same : solved.m ≡ s = taken_once proving known line takes solved.line solved.m solved.forms.model in
-        let one : solved.line ≡ line = one_line proving.words solved.line line solved.forms.model.spelled takes.given.spelled in
+        let one : solved.line ≡ line =
+        one_line proving.words solved.line line solved.forms.model.spelled takes.given.spelled in
         let width : other.width ≡ solved.line.width =
         takes_too.width ∙ sym takes.width ∙ sym (ap (λ (l : Line). l.width) one) in
         let forms : HasForms (known_call checking again) other solved.m = record {
@@ -255,7 +276,8 @@ module _ (printing : Call) (text : List ℕ) (split : IsSplitText printing text)
               subst (λ (x : RobustModel). HasModel (known_call checking again) other x) (sym same)
               (taken_model checking again other takes_too);
           none_wide =
-              subst (λ (w : Width). NothingWide (2 ^ bits_of w - 1) solved.m (judged_set solved.m ++ judged_forms solved.m)) (sym width)
+              subst (λ (w : Width). NothingWide (2 ^ bits_of w - 1) solved.m
+              (judged_set solved.m ++ judged_forms solved.m)) (sym width)
               solved.forms.none_wide;
         } in
         subst (λ (x : RobustModel). IsProvedAnswer (limit_of other) x solved.c ended) same

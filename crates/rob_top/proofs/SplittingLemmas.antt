@@ -1,5 +1,5 @@
 -- The answers of `cells` and `celltext`, from what the words tell and what the work on the split model answers.
-use Rattle.std.proofs.Common.{◌≡◌, ◌≢◌, ◌≤◌, ◌||◌, ◌⊎◌, ℕ, nat_abs, Bool, true, false, not, List, [], ◌∷◌, ◌++◌, length, map, Option, Some, None, Result, Ok, Err, IfOk, inl, inr, refl, subst, sym, ap, ◌∙◌}
+use Rattle.std.proofs.Common.{◌≡◌, ◌≢◌, ◌≤◌, ◌||◌, ◌⊎◌, ℕ, nat_abs, Bool, true, false, not, List, [], ◌∷◌, ◌++◌, length, Option, Some, None, Result, Ok, Err, IfOk, inl, inr, refl, subst, sym, ap, ◌∙◌}
 use Rattle.std.specs.Prelude.{if◌then◌else◌}
 use Rattle.std.proofs.lemmas.List.{length-map}
 use denote.Enum.Bare.{same_true, sameb}
@@ -31,10 +31,11 @@ use Rattle.rob_top.proofs.OwnLemmas.{has_kind, second_of, word_there}
 use Rattle.rob_top.proofs.RouteLemmas.{no_rounds}
 use Rattle.rob_top.proofs.SolvingLemmas.{proved_bound}
 use Rattle.rob_top.proofs.WorkLemmas.{call_within, rose_earlier}
-use Rattle.rob_top.specs.Calls.{Call, Count, count, limit_of, word_of}
+use Rattle.rob_top.specs.Calls.{Call, Count, count, limit_of}
+use Rattle.rob_top.specs.Files.{word_of}
 use Rattle.rob_top.specs.Headline.{Means}
 use Rattle.rob_top.specs.Inputs.{HasModel}
-use Rattle.rob_top.specs.Refusing.{IsStopOf, RepliesStop}
+use Rattle.rob_top.specs.WorkStops.{IsStopOf, RepliesStop}
 use Rattle.rob_top.specs.Replies.{Replies}
 use Rattle.rob_top.specs.Split.{AreCutsAt, EachCellAdmits, HasCuts, HasCutWord, HasSplit, HasStatusOverPieces, IsPieceKept, IsPieced, IsSplitting, TellsCuts, cells_fault_text, cells_line, named_set, no_parameter, of_split, splits}
 use Rattle.rob_top.specs.SplitWork.{AnswersCutWord, AnswersCuts, RepliesPieces, RepliesSplit}
@@ -62,14 +63,16 @@ use Rattle.rob_write.specs.Canonical.{model_text}
 -- ---- the word of cuts
 
 -- a word of a kind among words of their kinds is one of the kind
-pub kind_kept : (greatest : ℕ) (kind : Own) (kinds : List Own) (words : List Word) (w : Word) → AreOfKinds greatest kinds words
+pub kind_kept : (greatest : ℕ) (kind : Own) (kinds : List Own) (words : List Word) (w : Word)
+    → AreOfKinds greatest kinds words
     → word_of kind kinds words ≡ Some w → IsOfKind greatest kind w
 kind_kept greatest kind [] words w h e = absurd (let no : None ≡ Some w = e in cc)
 kind_kept greatest kind (other ∷ kinds) [] w h e = absurd (let no : None ≡ Some w = e in cc)
 kind_kept greatest kind (other ∷ kinds) (word ∷ words) w h e =
     by (sameb the_type other kind) refl e (kind_kept greatest kind kinds words w h.1)
   where
-    by : (same : Bool) → sameb the_type other kind ≡ same → (if same then Some word else word_of kind kinds words) ≡ Some w
+    by : (same : Bool) → sameb the_type other kind ≡ same
+        → (if same then Some word else word_of kind kinds words) ≡ Some w
         → (word_of kind kinds words ≡ Some w → IsOfKind greatest kind w) → IsOfKind greatest kind w
     by true alike is behind =
         let same : word ≡ w = cc in
@@ -80,7 +83,8 @@ kind_kept greatest kind (other ∷ kinds) (word ∷ words) w h e =
 cut_list : (limit : ℕ) (wides : Count) (verb : Verb) (call : Call) (line : Line) (m : RobustModel) (word : Word)
     → IsCallAt limit wides verb call line → HasModel call line m → TellsCuts line word → IsCutList limit word
 cut_list limit wides verb call line m word at has told =
-    subst (λ (l : ℕ). IsCutList l word) at.limit_is (kind_kept (limit_of line) Cuts (own_of line.verb) line.own word has.spelled.1.kinds told)
+    subst (λ (l : ℕ). IsCutList l word) at.limit_is
+    (kind_kept (limit_of line) Cuts (own_of line.verb) line.own word has.spelled.1.kinds told)
 
 -- a command that cuts has a word of cuts
 abbrev tells_cuts : Verb → Bool
@@ -97,9 +101,11 @@ is_either v = not (splits v) || (sameb verb_type v Cells || sameb verb_type v Ce
 either_verb : (verb : Verb) → IsSplitting verb → (verb ≡ Cells) ⊎ (verb ≡ CellText)
 either_verb verb is =
     by (sameb verb_type verb Cells) refl
-    (second_of (not (splits verb)) (sameb verb_type verb Cells || sameb verb_type verb CellText) (each_value enum is_either refl verb) (ap not is))
+    (second_of (not (splits verb)) (sameb verb_type verb Cells || sameb verb_type verb CellText)
+    (each_value enum is_either refl verb) (ap not is))
   where
-    by : (b : Bool) → sameb verb_type verb Cells ≡ b → (b || sameb verb_type verb CellText) ≡ true → (verb ≡ Cells) ⊎ (verb ≡ CellText)
+    by : (b : Bool) → sameb verb_type verb Cells ≡ b → (b || sameb verb_type verb CellText) ≡ true
+        → (verb ≡ Cells) ⊎ (verb ≡ CellText)
     by true e k = inl (same_true verb_type tt verb Cells e)
     by false e k = inr (same_true verb_type tt verb CellText k)
 
@@ -107,38 +113,49 @@ splits_as : (verb same : Verb) → verb ≡ same → IsSplitting same → IsSpli
 splits_as verb same e h = subst (λ (v : Verb). IsSplitting v) (sym e) h
 
 module _ (limit : ℕ) (m : RobustModel) (verb : Verb) (is : IsSplitting verb) where
-  has_word : (wides : Count) (call : Call) (line : Line) (word : Word) → IsCallAt limit wides verb call line → HasModel call line m
+  has_word : (wides : Count) (call : Call) (line : Line) (word : Word)
+      → IsCallAt limit wides verb call line → HasModel call line m
       → TellsCuts line word → HasCutWord call line m word
   has_word wides call line word at has told =
       record { model = has; is_splitting = splits_as line.verb verb at.verb_is is; told = told }
 
   -- ---- the command's own words are the line's
-  pub told_words : (wides : Count) (words : List Word) (o : Option Word) (word : Word) (r : Result Reply Want) → o ≡ word_of Cuts (own_of verb) words
+  pub told_words : (wides : Count) (words : List Word) (o : Option Word) (word : Word) (r : Result Reply Want)
+      → o ≡ word_of Cuts (own_of verb) words
       → o ≡ Some word → IfOk r (AnswersCutWord limit wides m verb word) → IfOk r (AnswersWords limit wides m verb words)
   told_words wides words o word (Err want) same e h = tt
   told_words wides words o word (Ok reply) same e h = λ call line at has own_is.
       h call line at has
-      (ap (λ (v : Verb). word_of Cuts (own_of v) line.own) at.verb_is ∙ ap (λ (ws : List Word). word_of Cuts (own_of verb) ws) own_is
+      (ap (λ (v : Verb). word_of Cuts (own_of v) line.own) at.verb_is
+      ∙ ap (λ (ws : List Word). word_of Cuts (own_of verb) ws) own_is
       ∙ sym same ∙ e)
 
-  pub untold_words : (wides : Count) (words : List Word) (o : Option Word) (r : Result Reply Want) → o ≡ word_of Cuts (own_of verb) words
+  pub untold_words : (wides : Count) (words : List Word) (o : Option Word) (r : Result Reply Want)
+      → o ≡ word_of Cuts (own_of verb) words
       → o ≡ None → IfOk r (AnswersWords limit wides m verb words)
   untold_words wides words o (Err want) same e = tt
   untold_words wides words o (Ok reply) same e = λ call line at has own_is.
       let there = word_there Cuts (own_of verb) words
-      (ap (λ (ws : List Word). length ws) (sym own_is) ∙ has.spelled.1.count ∙ ap (λ (v : Verb). length (own_of v)) at.verb_is)
+      (ap (λ (ws : List Word). length ws) (sym own_is) ∙ has.spelled.1.count
+      ∙ ap (λ (v : Verb). length (own_of v)) at.verb_is)
       (cuts_there verb is)
       in
       let no : None ≡ Some there.0 = sym e ∙ same ∙ there.1 in
       absurd (let x : ⊥ = cc in x)
 
   -- ---- rules 51 and 52
-  pub named_answers : (wides : Count) (word : Word) (r : Result Reply Want) → m.sets ≢ [] → IfOk r (Replies (CellsRule 51) (cells_fault_text 51))
+  pub named_answers : (wides : Count) (word : Word) (r : Result Reply Want) → m.sets ≢ []
+      → IfOk r (Replies (CellsRule 51) (cells_fault_text 51))
       → IfOk r (AnswersCutWord limit wides m verb word)
   named_answers wides word (Err want) some says = tt
   named_answers wides word (Ok reply) some says = λ call line at has told.
       subst (λ (ended : Ended). Means call ended reply.text) (sym says.0)
-      (record { line = line; m = m; breaks = named_set word (has_word wides call line word at has told) some refl; printed = says.1 })
+      (record {
+        line = line;
+        m = m;
+        breaks = named_set word (has_word wides call line word at has told) some refl;
+        printed = says.1;
+      })
 
   pub unknown_answers : (wides : Count) (word : Word) (r : Result Reply Want) → m.sets ≡ []
       → (IsCutList limit word → (cuts : List Cut) → AreCutsAt m (parts_of word) cuts → ⊥)
@@ -160,8 +177,15 @@ module _ (limit : ℕ) (m : RobustModel) (verb : Verb) (is : IsSplitting verb) w
       → IfOk r (AnswersCutWord limit (count before now) m verb word)
   cuts_answers before middle now word cuts (Err want) alone are least h = tt
   cuts_answers before middle now word cuts (Ok reply) alone are least h = λ call line at has told.
-      h call line (call_within limit (count middle now) (count before now) verb call line (rose_earlier before middle now least) at)
-      (record { word = word; has_word = has_word (count before now) call line word at has told; alone = alone; are = are })
+      h call line
+      (call_within limit (count middle now) (count before now) verb call line
+      (rose_earlier before middle now least) at)
+      (record {
+        word = word;
+        has_word = has_word (count before now) call line word at has told;
+        alone = alone;
+        are = are;
+      })
 
   -- the split model breaks a rule
   pub rule_answers : (wides : Count) (cuts : List Cut) (rule : ℕ) (r : Result Reply Want) → BreaksRule m cuts rule
@@ -172,13 +196,15 @@ module _ (limit : ℕ) (m : RobustModel) (verb : Verb) (is : IsSplitting verb) w
       (record { line = line; m = m; breaks = of_split cuts has breaks; printed = says.1 })
 
 -- ---- what the split model means
-over_pieces : (m : RobustModel) (cuts : List Cut) (s : RobustModel) → HasPieceStatus m cuts s → (status : Status) (v : Fraction)
+over_pieces : (m : RobustModel) (cuts : List Cut) (s : RobustModel) → HasPieceStatus m cuts s
+    → (status : Status) (v : Fraction)
     → HasStatus s status v → HasStatusOverPieces m cuts status v
 over_pieces m cuts s pieces optimal v h = (pieces.optimal v).0 h
 over_pieces m cuts s pieces infeasible v h = pieces.infeasible.0 h
 over_pieces m cuts s pieces unbounded v h = pieces.unbounded.0 h
 
-module _ (m : RobustModel) (model : IsModel m) (cuts : List Cut) (keeps : KeepsRules m cuts) (are : AreCuts m cuts) where
+module _ (m : RobustModel) (model : IsModel m) (cuts : List Cut) (keeps : KeepsRules m cuts)
+    (are : AreCuts m cuts) where
   abbrev s : RobustModel
   s = split_model m cuts
 
@@ -209,7 +235,8 @@ module _ (m : RobustModel) (model : IsModel m) (cuts : List Cut) (keeps : KeepsR
     has_split call line has = record { has_cuts = has; keeps = keeps }
 
     -- ---- a certificate was found
-    means_pieced : (call : Call) (line : Line) (text : List ℕ) (c : Certificate) (status : Status) → limit_of line ≡ limit → line.verb ≡ Cells
+    means_pieced : (call : Call) (line : Line) (text : List ℕ) (c : Certificate) (status : Status)
+        → limit_of line ≡ limit → line.verb ≡ Cells
         → HasCuts call line m cuts → IsWritten limit s → IsSolution s c → FitsLines limit s c → c.status ≡ status
         → text ≡ cells_line (cell_count cuts) ++ report_of s c → Means call (ended_of status) text
     means_pieced call line text c status at is has written found fits e printed =
@@ -244,8 +271,10 @@ module _ (m : RobustModel) (model : IsModel m) (cuts : List Cut) (keeps : KeepsR
         by unbounded h = pieced h
 
     -- ---- the route stopped
-    means_stopped : (call : Call) (line : Line) (reply : Reply) (before now : ℕ) (cause_of : Stop) → IsCallAt limit (count before now) Cells call line
-        → HasCuts call line m cuts → HasModelCause limit s cause_of → RoseIfStopped before now cause_of → RepliesStop s Dual cause_of reply
+    means_stopped : (call : Call) (line : Line) (reply : Reply) (before now : ℕ) (cause_of : Stop)
+        → IsCallAt limit (count before now) Cells call line
+        → HasCuts call line m cuts → HasModelCause limit s cause_of → RoseIfStopped before now cause_of
+        → RepliesStop s Dual cause_of reply
         → Means call reply.ended reply.text
     means_stopped call line reply before now (stop.EmptySet weights) at has cause rose says =
         subst (λ (ended : Ended). Means call ended reply.text) (sym says.0)
@@ -279,11 +308,13 @@ module _ (m : RobustModel) (model : IsModel m) (cuts : List Cut) (keeps : KeepsR
         → AnswersCuts limit (count before now) m Cells cuts reply
     cells_answers before now reply (inl h) = λ call line at has.
         subst (λ (ended : Ended). Means call ended reply.text) (sym h.replies.0)
-        (means_pieced call line reply.text h.c h.c.status at.limit_is at.verb_is has h.written h.found h.fits refl h.replies.1)
+        (means_pieced call line reply.text h.c h.c.status at.limit_is at.verb_is has h.written h.found
+        h.fits refl h.replies.1)
     cells_answers before now reply (inr h) = λ call line at has.
         means_stopped call line reply before now h.stop at has h.cause h.rose h.replies
 
-    text_answers : (wides : Count) (reply : Reply) → Replies Printed (model_text s) reply → AnswersCuts limit wides m CellText cuts reply
+    text_answers : (wides : Count) (reply : Reply) → Replies Printed (model_text s) reply
+        → AnswersCuts limit wides m CellText cuts reply
     text_answers wides reply says = λ call line at has.
         subst (λ (ended : Ended). Means call ended reply.text) (sym says.0)
         (split_written (record {
@@ -298,7 +329,8 @@ module _ (m : RobustModel) (model : IsModel m) (cuts : List Cut) (keeps : KeepsR
         }))
 
     -- ---- all of it
-    pub split_answers : (before now : ℕ) (verb : Verb) (other : RobustModel) (cells : ℕ) (r : Result Reply Want) → IsSplitting verb → other ≡ s
+    pub split_answers : (before now : ℕ) (verb : Verb) (other : RobustModel) (cells : ℕ) (r : Result Reply Want)
+        → IsSplitting verb → other ≡ s
         → cells ≡ cell_count cuts → IfOk r (RepliesSplit limit (count before now) other cells verb)
         → IfOk r (AnswersCuts limit (count before now) m verb cuts)
     split_answers before now verb other cells (Err want) is same counted h = tt
@@ -325,25 +357,33 @@ module _ (limit : ℕ) (m : RobustModel) where
   model_stop_of (stop.Wide place trace) h = (spot_in limit m place h.0, no_rounds m trace.rounds h.1)
   model_stop_of stop.Memory h = tt
 
-  pub plan_replies : (wides : Count) (cells : ℕ) (c : Certificate) (r : Result Reply Want) → IsWritten limit m → IsSolution m c → FitsLines limit m c
-      → IfOk r (Replies (ended_of c.status) (cells_line cells ++ report_of m c)) → IfOk r (RepliesPieces limit wides m cells)
+  pub plan_replies : (wides : Count) (cells : ℕ) (c : Certificate) (r : Result Reply Want) → IsWritten limit m
+      → IsSolution m c → FitsLines limit m c
+      → IfOk r (Replies (ended_of c.status) (cells_line cells ++ report_of m c))
+      → IfOk r (RepliesPieces limit wides m cells)
   plan_replies wides cells c (Err want) written found fits says = tt
   plan_replies wides cells c (Ok reply) written found fits says =
       inl (record { c = c; written = written; found = found; fits = fits; replies = says })
 
-  pub stop_replies : (before now : ℕ) (cells : ℕ) (cause_of : Stop) (r : Result Reply Want) → HasModelCause limit m cause_of
-      → RoseIfStopped before now cause_of → IfOk r (RepliesStop m Dual cause_of) → IfOk r (RepliesPieces limit (count before now) m cells)
+  pub stop_replies : (before now : ℕ) (cells : ℕ) (cause_of : Stop) (r : Result Reply Want)
+      → HasModelCause limit m cause_of
+      → RoseIfStopped before now cause_of → IfOk r (RepliesStop m Dual cause_of)
+      → IfOk r (RepliesPieces limit (count before now) m cells)
   stop_replies before now cells cause_of (Err want) cause rose says = tt
   stop_replies before now cells cause_of (Ok reply) cause rose says =
       inr (record { stop = cause_of; cause = cause; rose = rose; replies = says })
 
 -- the reply to the command that is known
-pub pieces_replies : (limit : ℕ) (wides : Count) (m : RobustModel) (cells : ℕ) (verb : Verb) (r : Result Reply Want) → verb ≡ Cells
+pub pieces_replies : (limit : ℕ) (wides : Count) (m : RobustModel) (cells : ℕ) (verb : Verb) (r : Result Reply Want)
+    → verb ≡ Cells
     → IfOk r (RepliesPieces limit wides m cells) → IfOk r (RepliesSplit limit wides m cells verb)
 pieces_replies limit wides m cells verb (Err want) e h = tt
-pieces_replies limit wides m cells verb (Ok reply) e h = subst (λ (v : Verb). RepliesSplit limit wides m cells v reply) (sym e) h
+pieces_replies limit wides m cells verb (Ok reply) e h =
+    subst (λ (v : Verb). RepliesSplit limit wides m cells v reply) (sym e) h
 
-pub text_replies : (limit : ℕ) (wides : Count) (m : RobustModel) (cells : ℕ) (verb : Verb) (r : Result Reply Want) → verb ≡ CellText
+pub text_replies : (limit : ℕ) (wides : Count) (m : RobustModel) (cells : ℕ) (verb : Verb) (r : Result Reply Want)
+    → verb ≡ CellText
     → IfOk r (Replies Printed (model_text m)) → IfOk r (RepliesSplit limit wides m cells verb)
 text_replies limit wides m cells verb (Err want) e h = tt
-text_replies limit wides m cells verb (Ok reply) e h = subst (λ (v : Verb). RepliesSplit limit wides m cells v reply) (sym e) h
+text_replies limit wides m cells verb (Ok reply) e h =
+    subst (λ (v : Verb). RepliesSplit limit wides m cells v reply) (sym e) h

@@ -1,5 +1,5 @@
--- A model has one status, and none where no scenario is admitted: what two answers say of each other, of one call, or of two calls
--- of `solve` and `prove` on one model, or on the same bytes.
+-- A model has one status, and none where no scenario is admitted: what two answers say of each other, of one call, or
+-- of two calls of `solve` and `prove` on one model, or on the same bytes.
 use Rattle.std.proofs.Common.{◌≡◌, ◌∙◌, ℕ, ℤ, List, subst, sym}
 use Rattle.rob_algebra.specs.Fraction.{Fraction}
 use Rattle.rob_meaning.proofs.StatusLemmas.{one_optimum}
@@ -41,7 +41,8 @@ status_by call optimal text h = h
 status_by call infeasible text h = h
 status_by call unbounded text h = h
 
-solve_status : (way : Route) (limit : ℕ) (m : RobustModel) (b : Status) → IsSolveAnswer way limit m (ended_of b) → (w : Fraction) × HasStatus m b w
+solve_status : (way : Route) (limit : ℕ) (m : RobustModel) (b : Status) → IsSolveAnswer way limit m (ended_of b)
+    → (w : Fraction) × HasStatus m b w
 solve_status way limit m optimal h = h
 solve_status way limit m infeasible h = h
 solve_status way limit m unbounded h = h
@@ -64,13 +65,16 @@ one_status call a b text other known h k = by (status_by call a text h)
   where
     by : FindsStatus call a text → a ≡ b
     by (solved s) =
-        let w = solve_status s.line.way _ s.m b (solve_decides call known s.line s.m s.forms s.solves (ended_of b) other k) in
+        let w = solve_status s.line.way _ s.m b
+        (solve_decides call known s.line s.m s.forms s.solves (ended_of b) other k) in
         same_status s.m a b s.c.value w.0 s.holds w.1
     by (branched s) =
-        let w = tree_status _ s.m s.names b (whole_decides call known s.line s.m s.names s.has s.branches (ended_of b) other k) in
+        let w = tree_status _ s.m s.names b
+        (whole_decides call known s.line s.m s.names s.has s.branches (ended_of b) other k) in
         same_whole_status s.m s.names a b s.t.value w.0 s.holds w.1
     by (pieced s) =
-        let w = piece_status _ s.m s.cuts b (cells_decides call known s.line s.m s.cuts s.has s.is_cells (ended_of b) other k) in
+        let w = piece_status _ s.m s.cuts b
+        (cells_decides call known s.line s.m s.cuts s.has s.is_cells (ended_of b) other k) in
         same_piece_status s.m s.cuts a b s.c.value w.0 s.holds w.1
 
 pub not_empty : (call : Call) (status : Status) (weights : List ℤ) (text other : List ℕ) → Known call.source
@@ -87,7 +91,8 @@ not_empty call status weights text other known h empty = by (status_by call stat
     by (pieced s) = cells_decides call known s.line s.m s.cuts s.has s.is_cells (EmptySet weights) other empty s.admits
 
 -- two calls on one model have one status, and an optimum one value, whichever their routes
-pub one_answer : (a b : Call) (s t : Status) (text other : List ℕ) (x : IsSolved a s text) (y : IsSolved b t other) → x.m ≡ y.m
+pub one_answer : (a b : Call) (s t : Status) (text other : List ℕ) (x : IsSolved a s text) (y : IsSolved b t other)
+    → x.m ≡ y.m
     → (s ≡ t) × (s ≡ optimal → x.c.value ≡ y.c.value)
 one_answer a b s t text other x y same = (statuses, λ is. values is statuses)
   where
@@ -103,14 +108,16 @@ one_answer a b s t text other x y same = (statuses, λ is. values is statuses)
         (subst (λ (k : Status). HasStatus y.m k y.c.value) (sym alike ∙ is) y.holds)
 
 -- and none has a status where no scenario is admitted
-pub one_emptiness : (a b : Call) (s : Status) (weights : List ℤ) (text other : List ℕ) (x : IsSolved a s text) (y : IsEmptySet b weights other)
+pub one_emptiness : (a b : Call) (s : Status) (weights : List ℤ) (text other : List ℕ) (x : IsSolved a s text)
+    (y : IsEmptySet b weights other)
     → x.m ≡ y.m → ⊥
 one_emptiness a b s weights text other x y same =
     y.shown.empty x.c.inside
     (subst (λ (k : RobustModel). Admits k x.c.inside) same (inside_admitted x.m x.c x.c.status x.proves))
 
 -- ---- a call of `solve` or `prove` whose model's file has these bytes
-module _ (call : Call) (known : Known call.source) (line : Line) (bytes : List ℕ) (has : HasModelText (known_call call known) line bytes)
+module _ (call : Call) (known : Known call.source) (line : Line) (bytes : List ℕ)
+    (has : HasModelText (known_call call known) line bytes)
     (solves : IsSolving line.verb) where
   this_line : (l : Line) (m : RobustModel) → HasModel call l m → l ≡ line
   this_line l m h = one_line call.words l line h.spelled has.spelled

@@ -50,12 +50,14 @@ one_broken m n gs rule other (inr h) (inl k) = absurd (k.1 h.1.0)
 one_broken m n gs rule other (inr h) (inr k) = h.0 ∙ sym k.0
 
 -- and none where they are kept
-none_broken : (m : RobustModel) (n : ℕ) (gs : List Fraction) (rule : ℕ) → BreaksRule m.set_lines n gs rule → KeepsRules m.set_lines n gs → ⊥
+none_broken : (m : RobustModel) (n : ℕ) (gs : List Fraction) (rule : ℕ) → BreaksRule m.set_lines n gs rule
+    → KeepsRules m.set_lines n gs → ⊥
 none_broken m n gs rule (inl h) keeps = h.1 keeps.budget
 none_broken m n gs rule (inr h) keeps = h.1.1 keeps.rises
 
 -- a limit with a wide number is none of those without
-each_at : (P : Fraction → Type 0) (before after : List Fraction) (here : Fraction) → Each P (before ++ here ∷ after) → P here
+each_at : (P : Fraction → Type 0) (before after : List Fraction) (here : Fraction)
+    → Each P (before ++ here ∷ after) → P here
 each_at P [] after here h = h.0
 each_at P (g ∷ before) after here h = each_at P before after here h.1
 
@@ -97,9 +99,11 @@ module _ (call : Call) (known : Known call.source) (line : Line) (m : RobustMode
     broken_here rule (at_limits k hs other breaks) = moved (λ i xs. BreaksRule m.set_lines i xs rule) k hs other breaks
     broken_here rule (at_limit k g other none e) = absurd (two_sweeps line.verb has.is_sweep other.is_text)
 
-    pub sweep_rule_decides : (rule : ℕ) → BreaksRule m.set_lines n gs rule → (ended : Ended) (text : List ℕ) → Means call ended text
+    pub sweep_rule_decides : (rule : ℕ) → BreaksRule m.set_lines n gs rule
+        → (ended : Ended) (text : List ℕ) → Means call ended text
         → (ended ≡ Sweep rule) ⊎ ((ended ≡ ReadFault) ⊎ (ended ≡ Memory))
-    sweep_rule_decides rule broken ended text means = first_of_two by (sweep_course has.model sweeps_here ended text means)
+    sweep_rule_decides rule broken ended text means =
+        first_of_two by (sweep_course has.model sweeps_here ended text means)
       where
         by : SweepCourse call line m ended → ended ≡ Sweep rule
         by (breaks_rule other h e) = e ∙ ap (λ r. Sweep r) (one_broken m n gs other rule (broken_here other h) broken)
@@ -114,7 +118,8 @@ module _ (call : Call) (known : Known call.source) (line : Line) (m : RobustMode
           → IsSweepAnswer (limit_of line) m n gs ended
       answer_is ended other e h = subst (λ (x : Ended). IsSweepAnswer (limit_of line) m n gs x) (sym e) h
 
-      pub sweep_decides : (ended : Ended) (text : List ℕ) → Means call ended text → IsSweepAnswer (limit_of line) m n gs ended
+      pub sweep_decides : (ended : Ended) (text : List ℕ) → Means call ended text
+          → IsSweepAnswer (limit_of line) m n gs ended
       sweep_decides ended text means = all (sweep_course has.model sweeps_here ended text means)
         where
           by : SweepCourse call line m ended → IsSweepAnswer (limit_of line) m n gs ended
@@ -126,25 +131,31 @@ module _ (call : Call) (known : Known call.source) (line : Line) (m : RobustMode
               (moved (λ i xs. IsWideAt (limit_of line) m i xs number spot) k hs other wide)
           by (writes_limit k g other budget e) = absurd (two_sweeps line.verb has.is_sweep other.is_text)
 
-          all : SweepCourse call line m ended ⊎ ((ended ≡ ReadFault) ⊎ (ended ≡ Memory)) → IsSweepAnswer (limit_of line) m n gs ended
+          all : SweepCourse call line m ended ⊎ ((ended ≡ ReadFault) ⊎ (ended ≡ Memory))
+              → IsSweepAnswer (limit_of line) m n gs ended
           all (inl course) = by course
           all (inr (inl e)) = answer_is ended ReadFault e (inl refl)
           all (inr (inr e)) = answer_is ended Memory e (inr (inr refl))
 
-      narrow_here : IsNarrowAt (limit_of line) m n gs → (number : ℕ) (spot : Spot) → IsWideAt (limit_of line) m n gs number spot → ⊥
+      narrow_here : IsNarrowAt (limit_of line) m n gs → (number : ℕ) (spot : Spot)
+          → IsWideAt (limit_of line) m n gs number spot → ⊥
       narrow_here narrow number spot wide =
-          each_at (λ g. (s : Spot) → IsWideIn (limit_of line) (with_budget m n g) s → ⊥) wide.before wide.after wide.here
+          each_at (λ g. (s : Spot) → IsWideIn (limit_of line) (with_budget m n g) s → ⊥)
+          wide.before wide.after wide.here
           (subst (λ (xs : List Fraction). IsNarrowAt (limit_of line) m n xs) wide.order narrow) spot wide.wide
 
-      pub narrow_sweep_decides : IsNarrowAt (limit_of line) m n gs → (ended : Ended) (text : List ℕ) → Means call ended text
+      pub narrow_sweep_decides : IsNarrowAt (limit_of line) m n gs
+          → (ended : Ended) (text : List ℕ) → Means call ended text
           → (ended ≡ Printed) ⊎ ((ended ≡ ReadFault) ⊎ (ended ≡ Memory))
-      narrow_sweep_decides narrow ended text means = first_of_two by (sweep_course has.model sweeps_here ended text means)
+      narrow_sweep_decides narrow ended text means =
+          first_of_two by (sweep_course has.model sweeps_here ended text means)
         where
           by : SweepCourse call line m ended → ended ≡ Printed
           by (breaks_rule other h e) = absurd (none_broken m n gs other (broken_here other h) keeps)
           by (prices k hs other kept written e) = e
           by (wide_limit k hs number spot other kept wide e) =
-              absurd (narrow_here narrow number spot (moved (λ i xs. IsWideAt (limit_of line) m i xs number spot) k hs other wide))
+              absurd (narrow_here narrow number spot
+              (moved (λ i xs. IsWideAt (limit_of line) m i xs number spot) k hs other wide))
           by (writes_limit k g other budget e) = e
 
   -- ---- `sweeptext`
@@ -155,8 +166,10 @@ module _ (call : Call) (known : Known call.source) (line : Line) (m : RobustMode
     no_sweep_here : (k : ℕ) (hs : List Fraction) → HasSweep call line m k hs → ⊥
     no_sweep_here k hs other = two_sweeps line.verb other.is_sweep has.is_text
 
-    same_budget : (k : ℕ) (h : Fraction) → HasLimit call line m k h → IsBudgetAt m.set_lines k → IsBudgetAt m.set_lines n
-    same_budget k h other budget = subst (λ (i : ℕ). IsBudgetAt m.set_lines i) (statement_once line k n other.statement has.statement) budget
+    same_budget : (k : ℕ) (h : Fraction) → HasLimit call line m k h → IsBudgetAt m.set_lines k
+        → IsBudgetAt m.set_lines n
+    same_budget k h other budget =
+        subst (λ (i : ℕ). IsBudgetAt m.set_lines i) (statement_once line k n other.statement has.statement) budget
 
     pub limit_rule_decides : (IsBudgetAt m.set_lines n → ⊥) → (ended : Ended) (text : List ℕ) → Means call ended text
         → (ended ≡ Sweep 81) ⊎ ((ended ≡ ReadFault) ⊎ (ended ≡ Memory))
@@ -176,7 +189,9 @@ module _ (call : Call) (known : Known call.source) (line : Line) (m : RobustMode
         by : SweepCourse call line m ended → ended ≡ Printed
         by (breaks_rule other (at_limits k hs it breaks) e) = absurd (no_sweep_here k hs it)
         by (breaks_rule other (at_limit k h it other_none is) e) =
-            absurd (other_none (subst (λ (i : ℕ). IsBudgetAt m.set_lines i) (statement_once line n k has.statement it.statement) budget))
+            absurd (other_none
+            (subst (λ (i : ℕ). IsBudgetAt m.set_lines i)
+            (statement_once line n k has.statement it.statement) budget))
         by (prices k hs other keeps written e) = e
         by (wide_limit k hs number spot other keeps wide e) = absurd (no_sweep_here k hs other)
         by (writes_limit k h other there e) = e

@@ -19,14 +19,15 @@ use Rattle.rob_sweep.specs.declared.answer.SweepAnswer.TheVariants.{Optimal, Inf
 use Rattle.rob_sweep.specs.declared.answer.SweepStop.{SweepStop}
 use Rattle.rob_sweep.specs.declared.answer.SweepStop.TheVariants as unswept
 use Rattle.rob_top.specs.Answers.{wide_budget_text, words_text}
-use Rattle.rob_top.specs.Calls.{Call, Count, count, limit_of, word_of}
+use Rattle.rob_top.specs.Calls.{Call, Count, count, limit_of}
+use Rattle.rob_top.specs.Files.{word_of}
 use Rattle.rob_top.specs.Headline.{Means}
 use Rattle.rob_top.specs.Inputs.{HasModel}
 use Rattle.rob_top.specs.Replies.{Replies}
 use Rattle.rob_top.specs.Swept.{HasLimit, ValueFits, at_limit, at_limits, limit_value}
 use Rattle.rob_top.specs.Work.{AnswersModel, AnswersSweep, AnswersWords, IsCallAt}
-use Rattle.rob_top.specs.Refusing.{RepliesLimit, RepliesUnswept}
-use Rattle.rob_top.specs.Ways.{swept}
+use Rattle.rob_top.specs.WorkStops.{RepliesLimit, RepliesUnswept}
+use Rattle.rob_top.specs.Ways.{priced, limited}
 use Rattle.rob_top.specs.declared.ended.Ended.{Ended}
 use Rattle.rob_top.specs.declared.ended.Ended.TheVariants.{Printed, WideBudget, Words}
 use Rattle.rob_top.specs.declared.files.Texts.{Texts}
@@ -70,7 +71,8 @@ three_words greatest kind (a ∷ b ∷ c ∷ d ∷ words) count kinds = absurd (
 
 module _ (limit : ℕ) (wides : Count) (m : RobustModel) (verb : Verb) (kind : Own)
     (own_is : own_of verb ≡ own.Model ∷ own.Statement ∷ kind ∷ []) where
-  pub three_of : (call : Call) (line : Line) → IsCallAt limit wides verb call line → HasModel call line m → HasThree limit kind line.own
+  pub three_of : (call : Call) (line : Line) → IsCallAt limit wides verb call line → HasModel call line m
+      → HasThree limit kind line.own
   three_of call line at has =
       let kinds_are : own_of line.verb ≡ own.Model ∷ own.Statement ∷ kind ∷ [] = ap own_of at.verb_is ∙ own_is in
       let parts = has.spelled.1 in
@@ -79,7 +81,8 @@ module _ (limit : ℕ) (wides : Count) (m : RobustModel) (verb : Verb) (kind : O
       (subst (λ (l : ℕ). AreOfKinds l (own_of line.verb) line.own) at.limit_is parts.kinds))
 
   -- words that aren't such are those of no call
-  pub no_line_answers : (words : List Word) (r : Result Reply Want) → (HasThree limit kind words → ⊥) → IfOk r (Replies Words words_text)
+  pub no_line_answers : (words : List Word) (r : Result Reply Want) → (HasThree limit kind words → ⊥)
+      → IfOk r (Replies Words words_text)
       → IfOk r (AnswersWords limit wides m verb words)
   no_line_answers words (Err want) none is = tt
   no_line_answers words (Ok reply) none is = λ call line at has same.
@@ -119,14 +122,16 @@ swept_count m n [] (a ∷ answers) h = absurd h
 swept_count m n (g ∷ gs) [] h = absurd h
 swept_count m n (g ∷ gs) (a ∷ answers) h = ap suc (swept_count m n gs answers h.1)
 
-pub answers_count : {X Y : Type 0} (value : X → Fraction) (view : Y → SweepAnswer) (m : RobustModel) (n : ℕ) (xs : List X)
+pub answers_count : {X Y : Type 0} (value : X → Fraction) (view : Y → SweepAnswer)
+    (m : RobustModel) (n : ℕ) (xs : List X)
     (ys zs : List Y) → zs ≡ ys → Swept m n (map value xs) (map view ys) → length zs ≡ length xs
 answers_count value view m n xs ys zs same h =
     ap (λ list. length list) same
     ∙ (sym (length-map ys view) ∙ (swept_count m n (map value xs) (map view ys) h ∙ length-map xs value))
 
 -- the values of numbers fit
-pub answers_fit : {N : Type 0} (value : N → Fraction) (limit : ℕ) → ((x : N) → Fits limit (value x)) → (answers : List (answer.SweepAnswer N))
+pub answers_fit : {N : Type 0} (value : N → Fraction) (limit : ℕ) → ((x : N) → Fits limit (value x))
+    → (answers : List (answer.SweepAnswer N))
     → Each (ValueFits limit) (map (answer_of value) answers)
 answers_fit value limit fits [] = tt
 answers_fit value limit fits (Optimal v ∷ answers) = (fits v, answers_fit value limit fits answers)
@@ -136,24 +141,39 @@ answers_fit value limit fits (Empty ∷ answers) = (tt, answers_fit value limit 
 
 -- why a sweep stopped at a wide number
 pub wide_cause : (limit : ℕ) (m : RobustModel) (n : ℕ) (gs : List Fraction) (s : SweepStop) (number : ℕ) (spot : Spot)
-    → s ≡ unswept.Wide number spot → HasCause limit m n gs s → KeepsRules m.set_lines n gs × IsWideAt limit m n gs number spot
+    → s ≡ unswept.Wide number spot → HasCause limit m n gs s → KeepsRules m.set_lines n gs
+    × IsWideAt limit m n gs number spot
 wide_cause limit m n gs s number spot is cause = subst (λ (x : SweepStop). HasCause limit m n gs x) is cause
 
 -- ---- `sweep`
 module _ (limit : ℕ) (m : RobustModel) where
   -- the words tell the statement and the limits
-  pub sweep_told : (before middle now : ℕ) (words : List Word) (file number behind : Word) (n : ℕ) (gs : List Fraction) (r : Result Reply Want)
+  pub sweep_told : (before middle now : ℕ) (words : List Word) (file number behind : Word) (n : ℕ)
+      (gs : List Fraction) (r : Result Reply Want)
       → words ≡ file ∷ number ∷ behind ∷ [] → n ≡ number_of number → gs ≡ map limit_value (parts_of behind)
       → before ≤ middle → IfOk r (AnswersSweep limit (count middle now) m n gs)
       → IfOk r (AnswersWords limit (count before now) m verbs.Sweep words)
   sweep_told before middle now words file number behind n gs (Err want) words_are n_is gs_are least h = tt
-  sweep_told before middle now words file number behind n gs (Ok reply) words_are n_is gs_are least h = λ call line at has same.
-      h call line (call_within limit (count middle now) (count before now) verbs.Sweep call line (rose_earlier before middle now least) at)
+  sweep_told before middle now words file number behind n gs (Ok reply) words_are n_is gs_are least h =
+      λ call line at has same.
+      h call line
+      (call_within limit (count middle now) (count before now) verbs.Sweep call line
+      (rose_earlier before middle now least) at)
       (record {
         model = has;
         is_sweep = at.verb_is;
-        statement = record { word = number; told = told own.Statement call line at (same ∙ words_are) number refl; spells = n_is };
-        limits_are = record { word = behind; told = told own.Limits call line at (same ∙ words_are) behind refl; parts = gs_are };
+        statement =
+            record {
+              word = number;
+              told = told own.Statement call line at (same ∙ words_are) number refl;
+              spells = n_is;
+            };
+        limits_are =
+            record {
+              word = behind;
+              told = told own.Limits call line at (same ∙ words_are) behind refl;
+              parts = gs_are;
+            };
       })
     where
       told : (kind : Own) (call : Call) (line : Line) → IsCallAt limit (count before now) verbs.Sweep call line
@@ -166,12 +186,14 @@ module _ (limit : ℕ) (m : RobustModel) where
 
   -- the answers are printed
   pub priced_answers : (wides : Count) (n : ℕ) (gs : List Fraction) (answers : List SweepAnswer) (r : Result Reply Want)
-      → KeepsRules m.set_lines n gs → AreWritten limit m n gs → Swept m n gs answers → EachAnswer NamesEmpty m n gs answers
-      → EachGrowsHarder m.sense answers → Each (ValueFits limit) answers → IfOk r (Replies Printed (sweep_text gs answers)) → IfOk r (AnswersSweep limit wides m n gs)
+      → KeepsRules m.set_lines n gs → AreWritten limit m n gs → Swept m n gs answers
+      → EachAnswer NamesEmpty m n gs answers
+      → EachGrowsHarder m.sense answers → Each (ValueFits limit) answers
+      → IfOk r (Replies Printed (sweep_text gs answers)) → IfOk r (AnswersSweep limit wides m n gs)
   priced_answers wides n gs answers (Err want) keeps written each empty harder fit is = tt
   priced_answers wides n gs answers (Ok reply) keeps written each empty harder fit is = λ call line at has.
       subst (λ (ended : Ended). Means call ended reply.text) (sym is.0)
-      (swept (inl (record {
+      (priced (record {
         line = line;
         m = m;
         n = n;
@@ -185,10 +207,11 @@ module _ (limit : ℕ) (m : RobustModel) where
         harder = harder;
         fits = subst (λ (l : ℕ). Each (ValueFits l) answers) (sym at.limit_is) fit;
         printed = is.1;
-      })))
+      }))
 
   -- the sweep stopped
-  stop_answers : (before now n : ℕ) (gs : List Fraction) (s : SweepStop) (reply : Reply) → HasCause limit m n gs s → CountsStop before now s
+  stop_answers : (before now n : ℕ) (gs : List Fraction) (s : SweepStop) (reply : Reply) → HasCause limit m n gs s
+      → CountsStop before now s
       → RepliesUnswept limit m n gs s reply → AnswersSweep limit (count before now) m n gs reply
   stop_answers before now n gs (unswept.Rule rule) reply cause counted is = λ call line at has.
       subst (λ (ended : Ended). Means call ended reply.text) (sym is.0)
@@ -198,7 +221,8 @@ module _ (limit : ℕ) (m : RobustModel) where
       subst (λ (l : ℕ). IsWideAt l m n gs number spot) (sym at.limit_is) cause.1
       in
       let says : Replies (WideBudget number spot) (wide_budget_text m n wide.here spot) reply =
-      subst (λ (l : ℕ). (h : IsWideAt l m n gs number spot) → Replies (WideBudget number spot) (wide_budget_text m n h.here spot) reply)
+      subst (λ (l : ℕ). (h : IsWideAt l m n gs number spot)
+      → Replies (WideBudget number spot) (wide_budget_text m n h.here spot) reply)
       (sym at.limit_is) is wide
       in
       subst (λ (ended : Ended). Means call ended reply.text) (sym says.0)
@@ -215,13 +239,16 @@ module _ (limit : ℕ) (m : RobustModel) where
       })
   stop_answers before now n gs unswept.Memory reply cause counted is = absurd is
 
-  pub unswept_answers : (before now n : ℕ) (gs : List Fraction) (s : SweepStop) (r : Result Reply Want) → HasCause limit m n gs s
-      → CountsStop before now s → IfOk r (RepliesUnswept limit m n gs s) → IfOk r (AnswersSweep limit (count before now) m n gs)
+  pub unswept_answers : (before now n : ℕ) (gs : List Fraction) (s : SweepStop) (r : Result Reply Want)
+      → HasCause limit m n gs s
+      → CountsStop before now s → IfOk r (RepliesUnswept limit m n gs s)
+      → IfOk r (AnswersSweep limit (count before now) m n gs)
   unswept_answers before now n gs s (Err want) cause counted is = tt
   unswept_answers before now n gs s (Ok reply) cause counted is = stop_answers before now n gs s reply cause counted is
 
   -- ---- `sweeptext`
-  pub limit_told : (before now : ℕ) (words : List Word) (file number behind : Word) (n : ℕ) (g : Fraction) (r : Result Reply Want)
+  pub limit_told : (before now : ℕ) (words : List Word) (file number behind : Word) (n : ℕ)
+      (g : Fraction) (r : Result Reply Want)
       → words ≡ file ∷ number ∷ behind ∷ [] → n ≡ number_of number → g ≡ limit_value behind
       → IfOk r (RepliesLimit m n g) → IfOk r (AnswersWords limit (count before now) m verbs.SweepText words)
   limit_told before now words file number behind n g (Err want) words_are n_is g_is h = tt
@@ -230,8 +257,17 @@ module _ (limit : ℕ) (m : RobustModel) where
       (record {
         model = has;
         is_text = at.verb_is;
-        statement = record { word = number; told = told own.Statement call line at (same ∙ words_are) number refl; spells = n_is };
-        limit_is = record { word = behind; told = told own.Limit call line at (same ∙ words_are) behind refl; spells = g_is };
+        statement =
+            record {
+              word = number;
+              told = told own.Statement call line at (same ∙ words_are) number refl;
+              spells = n_is;
+            };
+        limit_is = record {
+          word = behind;
+          told = told own.Limit call line at (same ∙ words_are) behind refl;
+          spells = g_is;
+        };
       })
       h
     where
@@ -243,10 +279,11 @@ module _ (limit : ℕ) (m : RobustModel) where
           ap (λ (v : Verb). word_of kind (own_of v) line.own) at.verb_is
           ∙ ap (λ (ws : List Word). word_of kind (own_of verbs.SweepText) ws) own_is ∙ e
 
-      by : (call : Call) (line : Line) → HasLimit call line m n g → RepliesLimit m n g reply → Means call reply.ended reply.text
+      by : (call : Call) (line : Line) → HasLimit call line m n g → RepliesLimit m n g reply
+          → Means call reply.ended reply.text
       by call line has (inl is) =
           subst (λ (ended : Ended). Means call ended reply.text) (sym is.1.0)
-          (swept (inr (record { line = line; m = m; n = n; g = g; has = has; budget = is.0; printed = is.1.1 })))
+          (limited (record { line = line; m = m; n = n; g = g; has = has; budget = is.0; printed = is.1.1 }))
       by call line has (inr is) =
           subst (λ (ended : Ended). Means call ended reply.text) (sym is.1.0)
           (record { line = line; m = m; breaks = at_limit n g has is.0 refl; printed = is.1.1 })
@@ -259,13 +296,16 @@ module _ (limit : ℕ) (m : RobustModel) where
   limit_at (g ∷ before) after here k d e =
       ap (λ (i : ℕ). get_or ((g ∷ before) ++ here ∷ after) i d) e ∙ limit_at before after here (length before) d refl
 
-  pub wide_here : (n : ℕ) (gs : List Fraction) (number : ℕ) (spot : Spot) (g d : Fraction) (h : IsWideAt limit m n gs number spot)
+  pub wide_here : (n : ℕ) (gs : List Fraction) (number : ℕ) (spot : Spot) (g d : Fraction)
+      (h : IsWideAt limit m n gs number spot)
       → g ≡ get_or gs (number - 1) d → h.here ≡ g
   wide_here n gs number spot g d h is =
       let back : number - 1 ≡ length h.before = omega (arith, h.counted) in
-      sym (is ∙ ap (λ (xs : List Fraction). get_or xs (number - 1) d) h.order ∙ limit_at h.before h.after h.here (number - 1) d back)
+      sym (is ∙ ap (λ (xs : List Fraction). get_or xs (number - 1) d) h.order
+      ∙ limit_at h.before h.after h.here (number - 1) d back)
 
-  pub wide_there : (n : ℕ) (gs : List Fraction) (number : ℕ) (spot : Spot) (g d : Fraction) (h : IsWideAt limit m n gs number spot)
+  pub wide_there : (n : ℕ) (gs : List Fraction) (number : ℕ) (spot : Spot) (g d : Fraction)
+      (h : IsWideAt limit m n gs number spot)
       → g ≡ get_or gs (number - 1) d → IsSpotOf (with_budget m n g) spot
   wide_there n gs number spot g d h is =
       spot_in limit (with_budget m n g) spot
@@ -292,9 +332,11 @@ module _ (limit : ℕ) (m : RobustModel) where
       → words ≡ map string_bytes texts.words.items → IfOk r (AnswersWords limit wides m verb words)
       → IfOk r (AnswersModel limit wides m verb texts)
   words_answer wides verb texts words (Err want) same h = tt
-  words_answer wides verb texts words (Ok reply) same h = λ call line at came has. h call line at has (sym (same ∙ came.words))
+  words_answer wides verb texts words (Ok reply) same h =
+      λ call line at came has. h call line at has (sym (same ∙ came.words))
 
-  pub words_answer_at : (wides : Count) (verb other : Verb) (texts : Texts) (words : List Word) (r : Result Reply Want) → verb ≡ other
+  pub words_answer_at : (wides : Count) (verb other : Verb) (texts : Texts) (words : List Word) (r : Result Reply Want)
+      → verb ≡ other
       → words ≡ map string_bytes texts.words.items → IfOk r (AnswersWords limit wides m other words)
       → IfOk r (AnswersModel limit wides m verb texts)
   words_answer_at wides verb other texts words r e same h =

@@ -55,14 +55,16 @@ module _ (call : Call) (known : Known call.source) (line : Line) (m : RobustMode
       by (checking_tree too course) = course
 
   -- ---- a broken rule of the named variables
-  tree_rule_decides : (rule : ℕ) → line.verb ≡ CheckTree → BreaksWhole call line m rule → (ended : Ended) (text : List ℕ)
+  tree_rule_decides : (rule : ℕ) → line.verb ≡ CheckTree → BreaksWhole call line m rule
+      → (ended : Ended) (text : List ℕ)
       → Means call ended text → (ended ≡ Whole rule) ⊎ ((ended ≡ ReadFault) ⊎ (ended ≡ Memory))
   tree_rule_decides rule is broken ended text means =
       first_of_two by (tree_course (model_of call known line m rule broken) is ended text means)
     where
       by : TreeCourse call line m ended → ended ≡ Whole rule
       by (breaks_names other h e) = e ∙ ap (λ r. Whole r) (one_rule call known line m other rule h broken)
-      by (breaks_text names bytes other number h breach e) = absurd (no_break call known line m rule names broken h.variables)
+      by (breaks_text names bytes other number h breach e) =
+          absurd (no_break call known line m rule names broken h.variables)
       by (judges_tree names t h answer) = absurd (no_break call known line m rule names broken h.file.variables)
 
   pub breaking_decides : (rule : ℕ) → BreaksWhole call line m rule → (ended : Ended) (text : List ℕ)
@@ -75,10 +77,12 @@ module _ (call : Call) (known : Known call.source) (line : Line) (m : RobustMode
       by (inr is) = tree_rule_decides rule is broken
 
   -- ---- the text of a tree
-  same_file : (names others bytes more : List ℕ) → HasTreeFile call line m names bytes → HasTreeFile call line m others more → bytes ≡ more
+  same_file : (names others bytes more : List ℕ) → HasTreeFile call line m names bytes
+      → HasTreeFile call line m others more → bytes ≡ more
   same_file names others bytes more h k = file_once call line own.Tree bytes more known h.file k.file
 
-  same_names : (names others bytes more : List ℕ) → HasTreeFile call line m names bytes → HasTreeFile call line m others more
+  same_names : (names others bytes more : List ℕ) → HasTreeFile call line m names bytes
+      → HasTreeFile call line m others more
       → names ≡ others
   same_names names others bytes more h k = whole_once call known line m names others h.variables k.variables
 
@@ -90,14 +94,16 @@ module _ (call : Call) (known : Known call.source) (line : Line) (m : RobustMode
     bounds = kept_bounds m names file.variables.keeps
 
     -- one that is the text of a tree breaks no rule
-    no_breach : (t : Tree) (rule number : ℕ) → IsTextOfTree (limit_of line) m names t bytes → TreeFits (limit_of line) m t
+    no_breach : (t : Tree) (rule number : ℕ) → IsTextOfTree (limit_of line) m names t bytes
+        → TreeFits (limit_of line) m t
         → Breaks (limit_of line) m names bytes rule number → ⊥
     no_breach t rule number is fits breach =
         laws.breaks_none m (limit_of line) names (well call known line m has_model) (named call known line m has_model)
         (in_words call known line m has_model) (most call known line m) bounds t bytes is fits rule number breach
 
     -- it is that of one tree
-    one_tree : (t u : Tree) → IsTextOfTree (limit_of line) m names t bytes → IsTextOfTree (limit_of line) m names u bytes
+    one_tree : (t u : Tree) → IsTextOfTree (limit_of line) m names t bytes
+        → IsTextOfTree (limit_of line) m names u bytes
         → TreeFits (limit_of line) m t → TreeFits (limit_of line) m u → t ≡ u
     one_tree t u =
         laws.read_once m (limit_of line) names (well call known line m has_model) (named call known line m has_model)
@@ -114,15 +120,21 @@ module _ (call : Call) (known : Known call.source) (line : Line) (m : RobustMode
     breach_here : (others more : List ℕ) (rule number : ℕ) → HasTreeFile call line m others more
         → Breaks (limit_of line) m others more rule number → Breaks (limit_of line) m names bytes rule number
     breach_here others more rule number k breach =
-        subst (λ (ns : List ℕ). Breaks (limit_of line) m ns bytes rule number) (same_names others names more bytes k file)
-        (subst (λ (list : List ℕ). Breaks (limit_of line) m others list rule number) (same_file others names more bytes k file) breach)
+        subst (λ (ns : List ℕ). Breaks (limit_of line) m ns bytes rule number)
+        (same_names others names more bytes k file)
+        (subst (λ (list : List ℕ). Breaks (limit_of line) m others list rule number)
+        (same_file others names more bytes k file) breach)
 
-    text_here : (others : List ℕ) (u : Tree) (k : HasTree call line m others u) → IsTextOfTree (limit_of line) m names u bytes
+    text_here : (others : List ℕ) (u : Tree) (k : HasTree call line m others u)
+        → IsTextOfTree (limit_of line) m names u bytes
     text_here others u k =
-        subst (λ (ns : List ℕ). IsTextOfTree (limit_of line) m ns u bytes) (same_names others names k.bytes bytes k.file file)
-        (subst (λ (list : List ℕ). IsTextOfTree (limit_of line) m others u list) (same_file others names k.bytes bytes k.file file) k.text)
+        subst (λ (ns : List ℕ). IsTextOfTree (limit_of line) m ns u bytes)
+        (same_names others names k.bytes bytes k.file file)
+        (subst (λ (list : List ℕ). IsTextOfTree (limit_of line) m others u list)
+        (same_file others names k.bytes bytes k.file file) k.text)
 
-    pub tree_broken_decides : (rule number : ℕ) → Breaks (limit_of line) m names bytes rule number → (ended : Ended) (text : List ℕ)
+    pub tree_broken_decides : (rule number : ℕ) → Breaks (limit_of line) m names bytes rule number
+        → (ended : Ended) (text : List ℕ)
         → Means call ended text → (ended ≡ TreeRule rule number) ⊎ ((ended ≡ ReadFault) ⊎ (ended ≡ Memory))
     tree_broken_decides rule number broken ended text means =
         first_of_two by (tree_course has_model file.is_checktree ended text means)
@@ -140,22 +152,28 @@ module _ (call : Call) (known : Known call.source) (line : Line) (m : RobustMode
       where
         by : TreeCourse call line m ended → IsTreeAnswer (limit_of line) m names t ended
         by (breaks_names other h e) = absurd (no_break call known line m other names h file.variables)
-        by (breaks_text others more r n h breach e) = absurd (no_breach t r n is fits (breach_here others more r n h breach))
+        by (breaks_text others more r n h breach e) =
+            absurd (no_breach t r n is fits (breach_here others more r n h breach))
         by (judges_tree others u h answer) =
-            subst (λ (ns : List ℕ). IsTreeAnswer (limit_of line) m ns t ended) (same_names others names h.bytes bytes h.file file)
-            (subst (λ (x : Tree). IsTreeAnswer (limit_of line) m others x ended) (one_tree u t (text_here others u h) is h.fits fits) answer)
+            subst (λ (ns : List ℕ). IsTreeAnswer (limit_of line) m ns t ended)
+            (same_names others names h.bytes bytes h.file file)
+            (subst (λ (x : Tree). IsTreeAnswer (limit_of line) m others x ended)
+            (one_tree u t (text_here others u h) is h.fits fits) answer)
 
-        all : TreeCourse call line m ended ⊎ ((ended ≡ ReadFault) ⊎ (ended ≡ Memory)) → IsTreeAnswer (limit_of line) m names t ended
+        all : TreeCourse call line m ended ⊎ ((ended ≡ ReadFault) ⊎ (ended ≡ Memory))
+            → IsTreeAnswer (limit_of line) m names t ended
         all (inl course) = by course
         all (inr (inl e)) = inr (inr (inr (inl e)))
         all (inr (inr e)) = inr (inr (inr (inr (inr e))))
 
 -- ---- what the verdict is where the tree proves, and where it doesn't
-module _ (limit : ℕ) (m : RobustModel) (names : List ℕ) (t : Tree) (shape : HasTreeShape limit m names t) (ended : Ended) where
+module _ (limit : ℕ) (m : RobustModel) (names : List ℕ) (t : Tree)
+    (shape : HasTreeShape limit m names t) (ended : Ended) where
   no_fault : ProvesTree m names t → NamesFault limit m names t ended → ⊥
   no_fault proves h = rejected_not limit m names t h.0 h.1 shape h.2 proves
 
-  pub proved_tree : ProvesTree m names t → IsTreeAnswer limit m names t ended → EndsAs Accepted ended ⊎ NamesWidth limit m names t ended
+  pub proved_tree : ProvesTree m names t → IsTreeAnswer limit m names t ended → EndsAs Accepted ended
+      ⊎ NamesWidth limit m names t ended
   proved_tree proves (inl h) = inl (inl h.1)
   proved_tree proves (inr (inl h)) = absurd (no_fault proves h)
   proved_tree proves (inr (inr (inl h))) = inr h
@@ -183,7 +201,8 @@ module _ (limit : ℕ) (m : RobustModel) (names : List ℕ) (t : Tree) (shape : 
   no_width_told : NoneWide limit m t → NamesWidth limit m names t ended → ⊥
   no_width_told none h =
       let wide = h.2 in
-      at_place (λ l. (spot : Spot) → IsWideAt limit l spot → ⊥) (leaves m t.root) wide.number wide.leaf wide.here none h.1 wide.wide
+      at_place (λ l. (spot : Spot) → IsWideAt limit l spot → ⊥) (leaves m t.root) wide.number wide.leaf
+      wide.here none h.1 wide.wide
 
   pub judged_tree : NoneWide limit m t → (ProvesTree m names t → ⊥) → IsTreeAnswer limit m names t ended
       → NamesFault limit m names t ended ⊎ IsOutside ended

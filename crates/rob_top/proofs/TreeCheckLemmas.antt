@@ -16,13 +16,13 @@ use Rattle.rob_tree.specs.declared.verdict.TreeVerdict.{TreeVerdict}
 use Rattle.rob_tree.specs.declared.verdict.TreeVerdict.TheVariants as verdict
 use Rattle.rob_top.proofs.OwnLemmas.{file_came, has_kind, word_came}
 use Rattle.rob_top.proofs.WorkLemmas.{call_of_verb, call_within, rose_earlier}
-use Rattle.rob_top.specs.Answers.{whole_text}
+use Rattle.rob_top.specs.Answers.{tree_fault_text, whole_fault_text}
 use Rattle.rob_top.specs.Branched.{no_ranges, no_variables}
-use Rattle.rob_top.specs.Calls.{Count, HasFile, count, word_of}
+use Rattle.rob_top.specs.Calls.{Count, count}
+use Rattle.rob_top.specs.Files.{HasFile, word_of}
 use Rattle.rob_top.specs.Headline.{Means}
 use Rattle.rob_top.specs.Inputs.{AreVariables}
 use Rattle.rob_top.specs.Replies.{Replies}
-use Rattle.rob_top.specs.TreeAnswers.{tree_fault_text}
 use Rattle.rob_top.specs.TreeWork.{AnswersTree, AnswersTreeFile, AnswersTreeNames, AnswersTreeNumbers, RepliesVerdict}
 use Rattle.rob_top.specs.Work.{AnswersModel}
 use Rattle.rob_top.specs.Ways.{a_tree, while_checking}
@@ -39,7 +39,8 @@ use Rattle.rob_words.specs.declared.verb.Verb.{Verb}
 use Rattle.rob_words.specs.declared.verb.Verb.TheVariants.{CheckTree}
 
 -- a tree that is rejected doesn't prove
-pub rejected_not : (limit : ℕ) (m : RobustModel) (names : List ℕ) (t : Tree) (number : ℕ) (told : LeafFault) → HasTreeShape limit m names t
+pub rejected_not : (limit : ℕ) (m : RobustModel) (names : List ℕ) (t : Tree) (number : ℕ) (told : LeafFault)
+    → HasTreeShape limit m names t
     → IsRejectedAt limit m names t number told → ProvesTree m names t → ⊥
 rejected_not limit m names t number told shape h = fault_refuses m names t shape.tree h.condition h.first
 
@@ -47,7 +48,8 @@ module _ (limit : ℕ) (m : RobustModel) where
   -- ---- the verdict on a tree
   module _ (numbers : List ℕ) (t : Tree) where
     reply_answers : (before now : ℕ) (v : TreeVerdict) (reply : Reply) → IsVerdict limit m numbers t v
-        → OnAccepted v (HasWholeStatus m numbers t.status t.value) → RoseIfTooWide before now v → RepliesVerdict m t v reply
+        → OnAccepted v (HasWholeStatus m numbers t.status t.value) → RoseIfTooWide before now v
+        → RepliesVerdict m t v reply
         → AnswersTree limit (count before now) m numbers t reply
     reply_answers before now verdict.Accepted reply h holds rose said = λ call line at read.
         subst (λ (ended : Ended). Means call ended reply.text) (sym said.0)
@@ -89,19 +91,22 @@ module _ (limit : ℕ) (m : RobustModel) where
     reply_answers before now verdict.Memory reply h holds rose said = absurd said
 
     pub verdict_answers : (before now : ℕ) (v : TreeVerdict) (r : Result Reply Want) → IsVerdict limit m numbers t v
-        → OnAccepted v (HasWholeStatus m numbers t.status t.value) → RoseIfTooWide before now v → IfOk r (RepliesVerdict m t v)
+        → OnAccepted v (HasWholeStatus m numbers t.status t.value) → RoseIfTooWide before now v
+        → IfOk r (RepliesVerdict m t v)
         → IfOk r (AnswersTree limit (count before now) m numbers t)
     verdict_answers before now v (Err want) h holds rose said = tt
     verdict_answers before now v (Ok reply) h holds rose said = reply_answers before now v reply h holds rose said
 
     -- ---- the text of a tree
     pub tree_answers : (before middle now : ℕ) (text : List ℕ) (r : Result Reply Want) → before ≤ middle
-        → IsTextOfTree limit m numbers t text → TreeFits limit m t → IfOk r (AnswersTree limit (count middle now) m numbers t)
+        → IsTextOfTree limit m numbers t text → TreeFits limit m t
+        → IfOk r (AnswersTree limit (count middle now) m numbers t)
         → IfOk r (AnswersTreeFile limit (count before now) m numbers text)
     tree_answers before middle now text (Err want) least is fits h = tt
     tree_answers before middle now text (Ok reply) least is fits h = λ call line at file.
         h call line
-        (call_within limit (count middle now) (count before now) CheckTree call line (rose_earlier before middle now least) at)
+        (call_within limit (count middle now) (count before now) CheckTree call line
+        (rose_earlier before middle now least) at)
         (record {
           bytes = text;
           file = file;
@@ -126,8 +131,9 @@ module _ (limit : ℕ) (m : RobustModel) where
       })
 
   -- ---- variables that are to take whole numbers
-  pub ranges_answers : (wides : Count) (numbers text : List ℕ) (rule : ℕ) (r : Result Reply Want) → whole_rule m numbers ≡ Some rule
-      → IfOk r (Replies (Whole rule) (whole_text rule)) → IfOk r (AnswersTreeNumbers limit wides m numbers text)
+  pub ranges_answers : (wides : Count) (numbers text : List ℕ) (rule : ℕ) (r : Result Reply Want)
+      → whole_rule m numbers ≡ Some rule
+      → IfOk r (Replies (Whole rule) (whole_fault_text rule)) → IfOk r (AnswersTreeNumbers limit wides m numbers text)
   ranges_answers wides numbers text rule (Err want) broken said = tt
   ranges_answers wides numbers text rule (Ok reply) broken said = λ call line at has file.
       subst (λ (ended : Ended). Means call ended reply.text) (sym said.0)
@@ -137,16 +143,22 @@ module _ (limit : ℕ) (m : RobustModel) where
       → IfOk r (AnswersTreeFile limit wides m numbers text) → IfOk r (AnswersTreeNumbers limit wides m numbers text)
   kept_answers wides numbers text (Err want) keeps h = tt
   kept_answers wides numbers text (Ok reply) keeps h = λ call line at has file.
-      h call line at (record { variables = record { named = has; keeps = keeps }; is_checktree = at.verb_is; file = file })
+      h call line at (record {
+        variables = record { named = has; keeps = keeps };
+        is_checktree = at.verb_is;
+        file = file;
+      })
 
-  pub numbers_answers : (wides : Count) (names numbers text : List ℕ) (r : Result Reply Want) → AreVariables m (parts_of names) numbers
+  pub numbers_answers : (wides : Count) (names numbers text : List ℕ) (r : Result Reply Want)
+      → AreVariables m (parts_of names) numbers
       → IfOk r (AnswersTreeNumbers limit wides m numbers text) → IfOk r (AnswersTreeNames limit wides m names text)
   numbers_answers wides names numbers text (Err want) are h = tt
   numbers_answers wides names numbers text (Ok reply) are h = λ call line at has told file.
       h call line at (record { model = has; names = parts_of names; told = told; variables = are }) file
 
   pub nameless_answers : (wides : Count) (names text : List ℕ) (r : Result Reply Want)
-      → ((numbers : List ℕ) → AreVariables m (parts_of names) numbers → ⊥) → IfOk r (Replies (Whole 61) (whole_text 61))
+      → ((numbers : List ℕ) → AreVariables m (parts_of names) numbers → ⊥)
+      → IfOk r (Replies (Whole 61) (whole_fault_text 61))
       → IfOk r (AnswersTreeNames limit wides m names text)
   nameless_answers wides names text (Err want) none said = tt
   nameless_answers wides names text (Ok reply) none said = λ call line at has told file.
@@ -154,10 +166,12 @@ module _ (limit : ℕ) (m : RobustModel) where
       (record { line = line; m = m; breaks = no_variables (parts_of names) has told none refl; printed = said.1 })
 
   -- ---- the command is `checktree`, so a list of names and the file of a tree came
-  own_kind : (verb : Verb) (kind : Own) → verb ≡ CheckTree → has_kind kind (own_of CheckTree) ≡ true → has_kind kind (own_of verb) ≡ true
+  own_kind : (verb : Verb) (kind : Own) → verb ≡ CheckTree → has_kind kind (own_of CheckTree) ≡ true
+      → has_kind kind (own_of verb) ≡ true
   own_kind verb kind e h = subst (λ (v : Verb). has_kind kind (own_of v) ≡ true) (sym e) h
 
-  pub texts_answers : (wides : Count) (verb : Verb) (texts : Texts) (words : List Word) (names : Word) (text : List ℕ) (r : Result Reply Want)
+  pub texts_answers : (wides : Count) (verb : Verb) (texts : Texts) (words : List Word) (names : Word)
+      (text : List ℕ) (r : Result Reply Want)
       → verb ≡ CheckTree → words ≡ map string_bytes texts.words.items
       → ((word : Word) → word_of own.Names (own_of verb) words ≡ Some word → names ≡ word) → text ≡ texts.tree.items
       → IfOk r (AnswersTreeNames limit wides m names text) → IfOk r (AnswersModel limit wides m verb texts)
@@ -167,7 +181,8 @@ module _ (limit : ℕ) (m : RobustModel) where
       h call line (call_of_verb limit wides verb CheckTree call line e at) has
       (record {
         word = names;
-        told = word_came call line texts verb own.Names words names at.verb_is came (own_kind line.verb own.Names here refl) same told;
+        told = word_came call line texts verb own.Names words names at.verb_is came
+            (own_kind line.verb own.Names here refl) same told;
         parts = refl;
       })
       (subst (λ (list : List ℕ). HasFile call line own.Tree list) (sym alike)

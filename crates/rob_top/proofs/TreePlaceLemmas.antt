@@ -1,4 +1,5 @@
--- What a verdict on a tree names is the model's: the box of a leaf has as many forms, set rows and columns, and the same set.
+-- What a verdict on a tree names is the model's: the box of a leaf has as many
+-- forms, set rows and columns, and the same set.
 use Rattle.std.proofs.Common.{◌≡◌, ◌<◌, ◌≤◌, ℕ, zero, suc, ◌+◌, List, [], ◌∷◌, ◌++◌, length, map, Some, None, Option, IfSome, refl, sym, ap, subst, ◌∙◌}
 use Rattle.rob_branch.proofs.OneSpotLemmas.{at_place}
 use Rattle.rob_branch.specs.Verdicts.{HasVerdict, IsRejectedAt, IsTooWideAt, IsVerdict, IsWideAt, Tells, checking, path_at, paths, writing}
@@ -48,7 +49,8 @@ like_self m = record { counts = same_self m; lines = refl; parameters = refl }
 
 module _ (names : List ℕ) where
   -- what is like the box behind a branch is like the model
-  like_behind : (a m : RobustModel) (b : Branch) → IsIn b.variable names → KeepsBothBounds m names → IsLike a (behind m b) → IsLike a m
+  like_behind : (a m : RobustModel) (b : Branch) → IsIn b.variable names → KeepsBothBounds m names
+      → IsLike a (behind m b) → IsLike a m
   like_behind a m b named bounded h = record {
     counts = same_through a (behind m b) m h.counts
         (flipped m (behind m b) (same_behind m b (bounded_in m.variables names b.variable named bounded)));
@@ -59,7 +61,8 @@ module _ (names : List ℕ) where
   abbrev AllLike : RobustModel → List Leaf → Type 0
   AllLike m ls = Each (λ (l : Leaf). IsLike l.box m) ls
 
-  side_like : (m : RobustModel) (b : Branch) (ls : List Leaf) → IsIn b.variable names → KeepsBothBounds m names → AllLike (behind m b) ls
+  side_like : (m : RobustModel) (b : Branch) (ls : List Leaf) → IsIn b.variable names → KeepsBothBounds m names
+      → AllLike (behind m b) ls
       → AllLike m ls
   side_like m b ls named bounded h =
       each_map (λ (l : Leaf). IsLike l.box (behind m b)) (λ (l : Leaf). IsLike l.box m)
@@ -68,7 +71,8 @@ module _ (names : List ℕ) where
   still_bounded : (m : RobustModel) (b : Branch) → KeepsBothBounds m names → KeepsBothBounds (behind m b) names
   still_bounded m b bounded = changes_bounded b.is_upper b.bound b.variable m.variables names bounded
 
-  leaves_like : (m : RobustModel) (node : Node) → KeepsBothBounds m names → BranchesOn names node → AllLike m (leaves m node)
+  leaves_like : (m : RobustModel) (node : Node) → KeepsBothBounds m names → BranchesOn names node
+      → AllLike m (leaves m node)
   leaves_like m (leaf c) bounded on = (like_self m, tt)
   leaves_like m (split j k below above) bounded on =
       each_append (λ (l : Leaf). IsLike l.box m) (leaves (box_below m j k) below) (leaves (box_above m j k) above)
@@ -88,17 +92,20 @@ module _ (P : Leaf → Type 0) where
   leaf_conditions_all i [] h = tt
   leaf_conditions_all i (l ∷ ls) h = (h.0, (h.0, (h.0, leaf_conditions_all (suc i) ls h.1)))
 
-  best_conditions_all : (i : ℕ) (ls : List Leaf) → Each P ls → (o : Option Leaf) → leaf_at ls i ≡ o → Each OfLeaf (best_conditions i o)
+  best_conditions_all : (i : ℕ) (ls : List Leaf) → Each P ls → (o : Option Leaf) → leaf_at ls i ≡ o
+      → Each OfLeaf (best_conditions i o)
   best_conditions_all i ls h None e = tt
   best_conditions_all i ls h (Some l) e = (at_place P ls i l e h, (at_place P ls i l e h, tt))
 
-  last_conditions_all : (status : Status) (i : ℕ) (ls : List Leaf) → Each P ls → Each OfLeaf (last_conditions status i ls)
+  last_conditions_all : (status : Status) (i : ℕ) (ls : List Leaf) → Each P ls
+      → Each OfLeaf (last_conditions status i ls)
   last_conditions_all optimal i ls h = best_conditions_all i ls h (leaf_at ls i) refl
   last_conditions_all infeasible i ls h = tt
   last_conditions_all unbounded i ls h = best_conditions_all i ls h (leaf_at ls i) refl
 
   -- holds of the leaf of the first condition that fails
-  first_leaf : (m : RobustModel) (names : List ℕ) (t : Tree) (c : Condition) → Each P (leaves m t.root) → IsFirstFault m names t c → P c.leaf
+  first_leaf : (m : RobustModel) (names : List ℕ) (t : Tree) (c : Condition) → Each P (leaves m t.root)
+      → IsFirstFault m names t c → P c.leaf
   first_leaf m names t c h first =
       (each_right OfLeaf first.before (c ∷ first.after)
       (subst (λ (cs : List Condition). Each OfLeaf cs) first.stands
@@ -111,10 +118,12 @@ module _ (names : List ℕ) where
   abbrev AreNamed : List Branch → Type 0
   AreNamed path = Each (λ (b : Branch). IsIn b.variable names) path
 
-  paths_named : (front : List Branch) (node : Node) → BranchesOn names node → AreNamed front → Each AreNamed (paths front node)
+  paths_named : (front : List Branch) (node : Node) → BranchesOn names node → AreNamed front
+      → Each AreNamed (paths front node)
   paths_named front (leaf c) on h = (h, tt)
   paths_named front (split j k below above) on h =
-      each_append AreNamed (paths (front ++ at_most_branch j k ∷ []) below) (paths (front ++ at_least_branch j k ∷ []) above)
+      each_append AreNamed (paths (front ++ at_most_branch j k ∷ []) below)
+      (paths (front ++ at_least_branch j k ∷ []) above)
       (paths_named (front ++ at_most_branch j k ∷ []) below on.1
       (each_append (λ (b : Branch). IsIn b.variable names) front (at_most_branch j k ∷ []) h (on.0, tt)))
       (paths_named (front ++ at_least_branch j k ∷ []) above on.2
@@ -128,7 +137,8 @@ module _ (names : List ℕ) where
   path_named (p ∷ ps) (suc (suc i)) h = path_named ps (suc i) h.1
 
   -- its branches are on columns
-  named_columns : (m : RobustModel) (path : List declared.Branch) → KeepsBothBounds m names → AreNamed (map branch_of path)
+  named_columns : (m : RobustModel) (path : List declared.Branch) → KeepsBothBounds m names
+      → AreNamed (map branch_of path)
       → Each (λ (b : declared.Branch). b.column < length (column_names m)) path
   named_columns m [] bounded h = tt
   named_columns m (b ∷ path) bounded h = (column_inside m names b.column bounded h.0, named_columns m path bounded h.1)
@@ -171,13 +181,16 @@ module _ (a m : RobustModel) (like : IsLike a m) where
   place_moves (at.Hold i k) h = sum_moves i k h
 
 -- what is wide for a leaf is told by the model's names
-wide_spot : (limit : ℕ) (m : RobustModel) (l : Leaf) (spot : Spot) → IsLike l.box m → IsShaped l → IsWideAt limit l spot → IsSpotOf m spot
+wide_spot : (limit : ℕ) (m : RobustModel) (l : Leaf) (spot : Spot) → IsLike l.box m → IsShaped l
+    → IsWideAt limit l spot → IsSpotOf m spot
 wide_spot limit m l spot like shaped (writing c some first) =
-    first_moves l.box m like.counts (ap length like.lines) limit l.box (judged l.box) spot first (judged_spot limit l.box spot first)
+    first_moves l.box m like.counts (ap length like.lines) limit l.box (judged l.box) spot first
+    (judged_spot limit l.box spot first)
 wide_spot limit m l spot like shaped (checking c place some h is) =
     let shape : HasShape l.box c = subst (λ (o : Option Certificate). IfSome o (HasShape l.box)) some shaped in
     subst (λ (s : Spot). IsSpotOf m s) (sym is)
-    (place_moves l.box m like place (too_wide_place limit l.box c (verdict_of limit l.box c) place shape refl h.verdict))
+    (place_moves l.box m like place
+    (too_wide_place limit l.box c (verdict_of limit l.box c) place shape refl h.verdict))
 
 -- what is told of a leaf at which a condition fails is too; of an open leaf no proof is asked
 told_named : (limit : ℕ) (m : RobustModel) (f : ReachFault) (told : LeafFault) (l : Leaf) → IsLike l.box m → IsShaped l
@@ -195,7 +208,8 @@ told_named limit m value told l like shaped there h = subst (λ (f : LeafFault).
 told_named limit m best told l like shaped there h = subst (λ (f : LeafFault). IsFaultOf m f) (sym h) tt
 told_named limit m whole told l like shaped there h = subst (λ (f : LeafFault). IsFaultOf m f) (sym h) tt
 
-module _ (limit : ℕ) (m : RobustModel) (names : List ℕ) (t : Tree) (shape : HasTreeShape limit m names t) (bounded : KeepsBothBounds m names) where
+module _ (limit : ℕ) (m : RobustModel) (names : List ℕ) (t : Tree) (shape : HasTreeShape limit m names t)
+    (bounded : KeepsBothBounds m names) where
   all_like : AllLike names m (leaves m t.root)
   all_like = leaves_like names m t.root bounded shape.tree.on_names
 
@@ -214,7 +228,8 @@ module _ (limit : ℕ) (m : RobustModel) (names : List ℕ) (t : Tree) (shape : 
   wide_named : (path : List declared.Branch) (spot : Spot) → IsTooWideAt limit m names t (map branch_of path) spot
       → IsSpotOf m spot × Each (λ (b : declared.Branch). b.column < length (column_names m)) path
   wide_named path spot h = (
-    wide_spot limit m h.leaf spot (at_place (λ (l : Leaf). IsLike l.box m) (leaves m t.root) h.number h.leaf h.here all_like)
+    wide_spot limit m h.leaf spot
+        (at_place (λ (l : Leaf). IsLike l.box m) (leaves m t.root) h.number h.leaf h.here all_like)
         (at_place IsShaped (leaves m t.root) h.number h.leaf h.here shape.shaped) h.wide,
     named_columns names m path bounded
         (subst (λ (p : List Branch). AreNamed names p) h.path_is

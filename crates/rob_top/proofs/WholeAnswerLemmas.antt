@@ -72,15 +72,20 @@ module _ (call : Call) (known : Known call.source) (line : Line) (m : RobustMode
   whole_once a b h k = variables_once a b h.named k.named
 
   -- one rule is broken first
-  named_not : (names : List Word) (numbers : List ℕ) → TellsNames line names → ((ns : List ℕ) → AreVariables m names ns → ⊥)
+  named_not : (names : List Word) (numbers : List ℕ) → TellsNames line names
+      → ((ns : List ℕ) → AreVariables m names ns → ⊥)
       → HasVariables call line m numbers → ⊥
   named_not names numbers told none h =
-      none numbers (subst (λ (list : List Word). AreVariables m list numbers) (one_list line h.names names h.told told) h.variables)
+      none numbers
+      (subst (λ (list : List Word). AreVariables m list numbers)
+      (one_list line h.names names h.told told) h.variables)
 
   pub one_rule : (rule other : ℕ) → BreaksWhole call line m rule → BreaksWhole call line m other → rule ≡ other
   one_rule rule other (no_variables names has told none e) (no_variables list has_too told_too none_too d) = e ∙ sym d
-  one_rule rule other (no_variables names has told none e) (no_ranges numbers h d) = absurd (named_not names numbers told none h)
-  one_rule rule other (no_ranges numbers h e) (no_variables names has told none d) = absurd (named_not names numbers told none h)
+  one_rule rule other (no_variables names has told none e) (no_ranges numbers h d) =
+      absurd (named_not names numbers told none h)
+  one_rule rule other (no_ranges numbers h e) (no_variables names has told none d) =
+      absurd (named_not names numbers told none h)
   one_rule rule other (no_ranges a h e) (no_ranges b k d) =
       let both : Some rule ≡ Some other =
       sym e ∙ ap (λ (ns : List ℕ). whole_rule m ns) (variables_once a b h k) ∙ d
@@ -88,13 +93,16 @@ module _ (call : Call) (known : Known call.source) (line : Line) (m : RobustMode
       cc
 
   -- and none where they keep them
-  pub no_break : (rule : ℕ) (numbers : List ℕ) → BreaksWhole call line m rule → HasWholeVariables call line m numbers → ⊥
+  pub no_break : (rule : ℕ) (numbers : List ℕ) → BreaksWhole call line m rule
+      → HasWholeVariables call line m numbers → ⊥
   no_break rule numbers (no_variables names has told none e) h = named_not names numbers told none h.named
   no_break rule numbers (no_ranges other k e) h =
-      let no : Some rule ≡ None = sym e ∙ ap (λ (ns : List ℕ). whole_rule m ns) (variables_once other numbers k h.named) ∙ h.keeps in cc
+      let no : Some rule ≡ None =
+      sym e ∙ ap (λ (ns : List ℕ). whole_rule m ns) (variables_once other numbers k h.named) ∙ h.keeps in cc
 
   -- the command grows a tree, so that stands behind its answer
-  pub whole_course : HasModel call line m → IsBranching line.verb → (ended : Ended) (text : List ℕ) → Means call ended text
+  pub whole_course : HasModel call line m → IsBranching line.verb
+      → (ended : Ended) (text : List ℕ) → Means call ended text
       → WholeCourse call line m ended ⊎ ((ended ≡ ReadFault) ⊎ (ended ≡ Memory))
   whole_course has is ended text means = first_of_two by (course_of call known line m has ended text means)
     where
@@ -120,9 +128,11 @@ module _ (call : Call) (known : Known call.source) (line : Line) (m : RobustMode
   model_of rule (no_ranges numbers h e) = h.model
 
   -- ---- a broken rule
-  pub branching_decides : (rule : ℕ) → IsBranching line.verb → BreaksWhole call line m rule → (ended : Ended) (text : List ℕ)
+  pub branching_decides : (rule : ℕ) → IsBranching line.verb → BreaksWhole call line m rule
+      → (ended : Ended) (text : List ℕ)
       → Means call ended text → (ended ≡ Whole rule) ⊎ ((ended ≡ ReadFault) ⊎ (ended ≡ Memory))
-  branching_decides rule is broken ended text means = first_of_two by (whole_course (model_of rule broken) is ended text means)
+  branching_decides rule is broken ended text means =
+      first_of_two by (whole_course (model_of rule broken) is ended text means)
     where
       by : WholeCourse call line m ended → ended ≡ Whole rule
       by (breaks other h e) = e ∙ ap (λ r. Whole r) (one_rule other rule h broken)
@@ -132,34 +142,42 @@ module _ (call : Call) (known : Known call.source) (line : Line) (m : RobustMode
 
   module _ (names : List ℕ) (has : HasWholeVariables call line m names) (is : IsBranching line.verb) where
     -- ---- none is broken
-    status_answer : (status : Status) (v : Fraction) → HasWholeStatus m names status v → IsWholeAnswer (limit_of line) m names (ended_of status)
+    status_answer : (status : Status) (v : Fraction) → HasWholeStatus m names status v
+        → IsWholeAnswer (limit_of line) m names (ended_of status)
     status_answer optimal v h = (v, h)
     status_answer infeasible v h = (v, h)
     status_answer unbounded v h = (v, h)
 
-    answer_is : (ended other : Ended) → ended ≡ other → IsWholeAnswer (limit_of line) m names other → IsWholeAnswer (limit_of line) m names ended
+    answer_is : (ended other : Ended) → ended ≡ other → IsWholeAnswer (limit_of line) m names other
+        → IsWholeAnswer (limit_of line) m names ended
     answer_is ended other e h = subst (λ (x : Ended). IsWholeAnswer (limit_of line) m names x) (sym e) h
 
-    pub whole_decides : (ended : Ended) (text : List ℕ) → Means call ended text → IsWholeAnswer (limit_of line) m names ended
+    pub whole_decides : (ended : Ended) (text : List ℕ) → Means call ended text
+        → IsWholeAnswer (limit_of line) m names ended
     whole_decides ended text means = all (whole_course has.named.model is ended text means)
       where
         by : WholeCourse call line m ended → IsWholeAnswer (limit_of line) m names ended
         by (breaks rule h e) = absurd (no_break rule names h has)
         by (grows others status v u other written admitted holds e) =
             answer_is ended (ended_of status) e
-            (status_answer status v (subst (λ (ns : List ℕ). HasWholeStatus m ns status v) (whole_once others names other has) holds))
+            (status_answer status v
+            (subst (λ (ns : List ℕ). HasWholeStatus m ns status v) (whole_once others names other has) holds))
         by (shows_none others weights other written shown e) = answer_is ended (EmptySet weights) e shown.empty
         by (wide_box others path spot other written comes wide e) =
-            answer_is ended (WideNode path spot) e
-            (subst (λ (ns : List ℕ). Visits m ns start (map branch_of path)) (whole_once others names other has) comes, wide)
+            answer_is ended (WideNode path spot) e (
+              subst (λ (ns : List ℕ). Visits m ns start (map branch_of path)) (whole_once others names other has) comes,
+              wide,
+            )
 
-        all : WholeCourse call line m ended ⊎ ((ended ≡ ReadFault) ⊎ (ended ≡ Memory)) → IsWholeAnswer (limit_of line) m names ended
+        all : WholeCourse call line m ended ⊎ ((ended ≡ ReadFault) ⊎ (ended ≡ Memory))
+            → IsWholeAnswer (limit_of line) m names ended
         all (inl course) = by course
         all (inr (inl e)) = answer_is ended ReadFault e (inl refl)
         all (inr (inr e)) = answer_is ended Memory e (inr (inr refl))
 
     -- ---- a number of the set rows and forms is wide
-    pub whole_wide_decides : (spot : Spot) → IsFirstWide (limit_of line) m (judged m) spot → (ended : Ended) (text : List ℕ)
+    pub whole_wide_decides : (spot : Spot) → IsFirstWide (limit_of line) m (judged m) spot
+        → (ended : Ended) (text : List ℕ)
         → Means call ended text → (ended ≡ WideNode [] spot) ⊎ ((ended ≡ ReadFault) ⊎ (ended ≡ Memory))
     whole_wide_decides spot first ended text means = first_of_two by (whole_course has.named.model is ended text means)
       where
@@ -168,7 +186,8 @@ module _ (call : Call) (known : Known call.source) (line : Line) (m : RobustMode
 
         at_root : (path : List declared.Branch) (other : Spot) → IsWrittenUpTo (limit_of line) m (map branch_of path)
             → IsWideIn (limit_of line) (box m (map branch_of path)) other → WideNode path other ≡ WideNode [] spot
-        at_root [] other written (inl h) = ap (λ (s : Spot). WideNode [] s) (first_once (limit_of line) m (judged m) other spot h first)
+        at_root [] other written (inl h) =
+            ap (λ (s : Spot). WideNode [] s) (first_once (limit_of line) m (judged m) other spot h first)
         at_root [] other written (inr h) = absurd (unwritten h.0)
         at_root (b ∷ path) other written wide = absurd (unwritten written.0)
 
@@ -179,32 +198,39 @@ module _ (call : Call) (known : Known call.source) (line : Line) (m : RobustMode
         by (wide_box others path found other written comes wide e) = e ∙ at_root path found written wide
 
     -- ---- no scenario is admitted
-    empty_is : (ended other : Ended) → ended ≡ other → IsEmptyWholeAnswer (limit_of line) m other → IsEmptyWholeAnswer (limit_of line) m ended
+    empty_is : (ended other : Ended) → ended ≡ other → IsEmptyWholeAnswer (limit_of line) m other
+        → IsEmptyWholeAnswer (limit_of line) m ended
     empty_is ended other e h = subst (λ (x : Ended). IsEmptyWholeAnswer (limit_of line) m x) (sym e) h
 
-    empty_box : IsEmptySet m → (others : List ℕ) (path : List declared.Branch) (spot : Spot) → Visits m others start (map branch_of path)
-        → IsWideIn (limit_of line) (box m (map branch_of path)) spot → IsEmptyWholeAnswer (limit_of line) m (WideNode path spot)
+    empty_box : IsEmptySet m → (others : List ℕ) (path : List declared.Branch) (spot : Spot)
+        → Visits m others start (map branch_of path)
+        → IsWideIn (limit_of line) (box m (map branch_of path)) spot
+        → IsEmptyWholeAnswer (limit_of line) m (WideNode path spot)
     empty_box none others [] spot comes wide = (refl, before_it (limit_of line) m none spot wide)
     empty_box none others (b ∷ path) spot comes wide =
         let u = path_admits m others (branch_of b) (map branch_of path) comes in absurd (none u.0 u.1)
 
-    pub whole_empty_decides : IsEmptySet m → (ended : Ended) (text : List ℕ) → Means call ended text → IsEmptyWholeAnswer (limit_of line) m ended
+    pub whole_empty_decides : IsEmptySet m → (ended : Ended) (text : List ℕ) → Means call ended text
+        → IsEmptyWholeAnswer (limit_of line) m ended
     whole_empty_decides none ended text means = all (whole_course has.named.model is ended text means)
       where
         by : WholeCourse call line m ended → IsEmptyWholeAnswer (limit_of line) m ended
         by (breaks rule h e) = absurd (no_break rule names h has)
         by (grows others status v u other written admitted holds e) = absurd (none u admitted)
         by (shows_none others weights other written shown e) = empty_is ended (EmptySet weights) e shown
-        by (wide_box others path spot other written comes wide e) = empty_is ended (WideNode path spot) e (empty_box none others path spot comes wide)
+        by (wide_box others path spot other written comes wide e) =
+            empty_is ended (WideNode path spot) e (empty_box none others path spot comes wide)
 
-        all : WholeCourse call line m ended ⊎ ((ended ≡ ReadFault) ⊎ (ended ≡ Memory)) → IsEmptyWholeAnswer (limit_of line) m ended
+        all : WholeCourse call line m ended ⊎ ((ended ≡ ReadFault) ⊎ (ended ≡ Memory))
+            → IsEmptyWholeAnswer (limit_of line) m ended
         all (inl course) = by course
         all (inr (inl e)) = empty_is ended ReadFault e (inl refl)
         all (inr (inr e)) = empty_is ended Memory e (inr (inr refl))
 
     -- ---- some scenario is, and no number is wide
     pub whole_status_decides : (u : List Fraction) → Admits m u → IsNarrowBelow (limit_of line) m names
-        → (status : Status) (v : Fraction) → HasWholeStatus m names status v → (ended : Ended) (text : List ℕ) → Means call ended text
+        → (status : Status) (v : Fraction) → HasWholeStatus m names status v
+        → (ended : Ended) (text : List ℕ) → Means call ended text
         → (ended ≡ ended_of status) ⊎ ((ended ≡ ReadFault) ⊎ (ended ≡ Memory))
     whole_status_decides u admitted narrow status v true_of ended text means =
         first_of_two by (whole_course has.named.model is ended text means)
@@ -217,10 +243,12 @@ module _ (call : Call) (known : Known call.source) (line : Line) (m : RobustMode
         by (shows_none others weights other written shown e) = absurd (shown.empty u admitted)
         by (wide_box others path spot other written comes wide e) =
             absurd (narrow (map branch_of path) spot
-            (subst (λ (ns : List ℕ). Visits m ns start (map branch_of path)) (whole_once others names other has) comes) wide)
+            (subst (λ (ns : List ℕ). Visits m ns start (map branch_of path)) (whole_once others names other has) comes)
+            wide)
 
     -- the model has one
-    pub some_whole_status : (u : List Fraction) → Admits m u → (status : Status) × (v : Fraction) × HasWholeStatus m names status v
+    pub some_whole_status : (u : List Fraction) → Admits m u → (status : Status) × (v : Fraction)
+        × HasWholeStatus m names status v
     some_whole_status u admitted =
         by (whole_status m (well call known line m has.named.model) u admitted names (kept_bounds m names has.keeps))
       where

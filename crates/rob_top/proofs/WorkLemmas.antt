@@ -20,14 +20,14 @@ use Rattle.rob_sets.specs.declared.error.ElabErr.{ElabErr}
 use Rattle.rob_sets.specs.declared.error.ElabErr.TheVariants as refused
 use Rattle.rob_sets.proofs.JudgedLemmas.{first_left, first_right}
 use Rattle.rob_sets.proofs.SubexpressionLemmas.{each_both}
-use Rattle.rob_top.specs.Answers.{model_text}
+use Rattle.rob_top.specs.Answers.{model_fault_text}
 use Rattle.rob_top.specs.Calls.{Call, Count, IsElaborating, IsOnModel, count, reads_model, WasRaised}
 use Rattle.rob_top.specs.Headline.{Means}
 use Rattle.rob_top.specs.Refused.{elaborating}
 use Rattle.rob_top.specs.Replies.{HasTexts, Replies}
 use Rattle.rob_top.specs.Routes.{with_rounds}
 use Rattle.rob_top.specs.Work.{AnswersModel, AnswersRoute, AnswersTexts, AnswersWhole, IsCallAt}
-use Rattle.rob_top.specs.Refusing.{IsRefusedOf, RepliesRefused, RepliesUnread}
+use Rattle.rob_top.specs.WorkStops.{IsRefusedOf, RepliesRefused, RepliesUnread}
 use Rattle.rob_top.specs.Ways.{in_model, rows}
 use Rattle.rob_top.specs.declared.ended.Ended.{Ended}
 use Rattle.rob_top.specs.declared.ended.Ended.TheVariants.{Printed, Model, TooWide}
@@ -61,19 +61,31 @@ limit_is ThirtyTwo = refl
 limit_is SixtyTwo = refl
 
 -- the call is at the limit still where what is counted here is counted there
-pub call_within : (limit : ℕ) (a b : Count) (verb : Verb) (call : Call) (line : Line) → (WasRaised a → WasRaised b) → IsCallAt limit b verb call line
+pub call_within : (limit : ℕ) (a b : Count) (verb : Verb) (call : Call) (line : Line) → (WasRaised a → WasRaised b)
+    → IsCallAt limit b verb call line
     → IsCallAt limit a verb call line
-call_within limit a b verb call line goes at = record { verb_is = at.verb_is; limit_is = at.limit_is; raised = λ rose. at.raised (goes rose) }
+call_within limit a b verb call line goes at = record {
+  verb_is = at.verb_is;
+  limit_is = at.limit_is;
+  raised = λ rose. at.raised (goes rose);
+}
 
 -- and where the command is known
-pub call_of_verb : (limit : ℕ) (wides : Count) (verb same : Verb) (call : Call) (line : Line) → verb ≡ same → IsCallAt limit wides verb call line
+pub call_of_verb : (limit : ℕ) (wides : Count) (verb same : Verb) (call : Call) (line : Line) → verb ≡ same
+    → IsCallAt limit wides verb call line
     → IsCallAt limit wides same call line
-call_of_verb limit wides verb same call line e at = record { verb_is = at.verb_is ∙ e; limit_is = at.limit_is; raised = at.raised }
+call_of_verb limit wides verb same call line e at = record {
+  verb_is = at.verb_is ∙ e;
+  limit_is = at.limit_is;
+  raised = at.raised;
+}
 
 -- what the work answers at the width of the line
-pub width_answers : (verb : Verb) (width same : Width) (before now : ℕ) (texts : Texts) (r : Result Reply Want) → width ≡ same
+pub width_answers : (verb : Verb) (width same : Width) (before now : ℕ) (texts : Texts) (r : Result Reply Want)
+    → width ≡ same
     → IfOk r (AnswersTexts (Lowest.limit_of (bits_of same)) (count before now) verb texts)
-    → IfOk r (λ reply. (call : Call) (line : Line) → HasTexts call line texts → line.verb ≡ verb → line.width ≡ width → call.wides ≡ count before now
+    → IfOk r (λ reply. (call : Call) (line : Line) → HasTexts call line texts → line.verb ≡ verb → line.width ≡ width
+    → call.wides ≡ count before now
     → Means call reply.ended reply.text)
 width_answers verb width same before now texts (Err want) e h = tt
 width_answers verb width same before now texts (Ok reply) e h = λ call line came verb_is is counted.
@@ -87,8 +99,9 @@ width_answers verb width same before now texts (Ok reply) e h = λ call line cam
 
 -- ---- a text that breaks a rule, and one that is read
 
-rule_answers : (limit : ℕ) (wides : Count) (verb : Verb) (texts : Texts) (rule number : ℕ) (reply : Reply) → IsOnModel verb → Breaks limit texts.model.items rule number
-    → Replies (Model rule number) (model_text rule number) reply → AnswersTexts limit wides verb texts reply
+rule_answers : (limit : ℕ) (wides : Count) (verb : Verb) (texts : Texts) (rule number : ℕ) (reply : Reply)
+    → IsOnModel verb → Breaks limit texts.model.items rule number
+    → Replies (Model rule number) (model_fault_text rule number) reply → AnswersTexts limit wides verb texts reply
 rule_answers limit wides verb texts rule number reply reads broken is = λ call line at came.
     subst (λ (ended : Ended). Means call ended reply.text) (sym is.0)
     (record {
@@ -101,25 +114,33 @@ rule_answers limit wides verb texts rule number reply reads broken is = λ call 
       printed = is.1;
     })
 
-pub unread_answers : (limit : ℕ) (wides : Count) (verb : Verb) (texts : Texts) (text : List ℕ) (e : ModelErr) (r : Result Reply Want)
-    → IsOnModel verb → text ≡ texts.model.items → HasModelCause limit text e → IfOk r (RepliesUnread e) → IfOk r (AnswersTexts limit wides verb texts)
+pub unread_answers : (limit : ℕ) (wides : Count) (verb : Verb) (texts : Texts) (text : List ℕ)
+    (e : ModelErr) (r : Result Reply Want)
+    → IsOnModel verb → text ≡ texts.model.items → HasModelCause limit text e → IfOk r (RepliesUnread e)
+    → IfOk r (AnswersTexts limit wides verb texts)
 unread_answers limit wides verb texts text e (Err want) reads same cause is = tt
 unread_answers limit wides verb texts text (unread.Rule rule number) (Ok reply) reads same cause is =
-    rule_answers limit wides verb texts rule number reply reads (subst (λ (bytes : List ℕ). Breaks limit bytes rule number) same cause) is
+    rule_answers limit wides verb texts rule number reply reads
+    (subst (λ (bytes : List ℕ). Breaks limit bytes rule number) same cause) is
 unread_answers limit wides verb texts text unread.Memory (Ok reply) reads same cause is = absurd is
 
-pub model_answers : (limit before middle now : ℕ) (verb : Verb) (texts : Texts) (text : List ℕ) (m : RobustModel) (r : Result Reply Want)
-    → IsOnModel verb → text ≡ texts.model.items → ReadsModel limit text m → before ≡ middle → IfOk r (AnswersModel limit (count middle now) m verb texts)
+pub model_answers : (limit before middle now : ℕ) (verb : Verb) (texts : Texts) (text : List ℕ)
+    (m : RobustModel) (r : Result Reply Want)
+    → IsOnModel verb → text ≡ texts.model.items → ReadsModel limit text m → before ≡ middle
+    → IfOk r (AnswersModel limit (count middle now) m verb texts)
     → IfOk r (AnswersTexts limit (count before now) verb texts)
 model_answers limit before middle now verb texts text m (Err want) reads same read e h = tt
 model_answers limit before middle now verb texts text m (Ok reply) reads same read e h = λ call line at came.
-    h call line (call_within limit (count middle now) (count before now) verb call line (λ rose. subst (λ (n : ℕ). Rose n now) (sym e) rose) at) came
+    h call line
+    (call_within limit (count middle now) (count before now) verb call line
+    (λ rose. subst (λ (n : ℕ). Rose n now) (sym e) rose) at) came
     (record {
       spelled = came.spelled;
       came = came.came;
       bytes = texts.model.items;
       file = file_came call line texts own.Model _ refl came (has_model line.verb (ap reads_model at.verb_is ∙ reads));
-      reads = subst (λ (l : ℕ). ReadsModel l texts.model.items m) (sym at.limit_is) (subst (λ (bytes : List ℕ). ReadsModel limit bytes m) same read);
+      reads = subst (λ (l : ℕ). ReadsModel l texts.model.items m) (sym at.limit_is)
+          (subst (λ (bytes : List ℕ). ReadsModel limit bytes m) same read);
     })
 
 -- ---- set rows and forms
@@ -133,15 +154,19 @@ module _ (limit : ℕ) (m : RobustModel) where
   forms_refused_of refused.Memory h = tt
 
   -- the reply to a wide number before which no rounds come
-  pub refused_alone : (way : Route) (e : ElabErr) (spot : Spot) (told : List Round) (r : Result Reply Want) → e ≡ refused.Wide spot → told ≡ []
-      → IfOk r (Replies (TooWide spot) (with_rounds way m told (too_wide_line m spot))) → IfOk r (RepliesRefused m way e)
+  pub refused_alone : (way : Route) (e : ElabErr) (spot : Spot) (told : List Round) (r : Result Reply Want)
+      → e ≡ refused.Wide spot → told ≡ []
+      → IfOk r (Replies (TooWide spot) (with_rounds way m told (too_wide_line m spot)))
+      → IfOk r (RepliesRefused m way e)
   refused_alone way e spot told (Err want) is none h = tt
   refused_alone way e spot told (Ok reply) is none h =
       subst (λ (x : ElabErr). RepliesRefused m way x reply) (sym is)
-      (subst (λ (rounds : List Round). Replies (TooWide spot) (with_rounds way m rounds (too_wide_line m spot)) reply) none h)
+      (subst (λ (rounds : List Round). Replies (TooWide spot) (with_rounds way m rounds (too_wide_line m spot)) reply)
+      none h)
 
   -- a number is wide, first
-  spot_answers : (wides : Count) (verb : Verb) (texts : Texts) (spot : _) (reply : Reply) → IsElaborating verb → IsFirstWide limit m (judged_set m ++ judged_forms m) spot → WasRaised wides
+  spot_answers : (wides : Count) (verb : Verb) (texts : Texts) (spot : _) (reply : Reply) → IsElaborating verb
+      → IsFirstWide limit m (judged_set m ++ judged_forms m) spot → WasRaised wides
       → RepliesRefused m texts.route (refused.Wide spot) reply → AnswersModel limit wides m verb texts reply
   spot_answers wides verb texts spot reply makes first rose is = λ call line at came has.
       subst (λ (ended : Ended). Means call ended reply.text) (sym is.0)
@@ -154,26 +179,36 @@ module _ (limit : ℕ) (m : RobustModel) where
         printed = subst (λ (way : Route). reply.text ≡ with_rounds way m [] (too_wide_line m spot)) came.way is.1;
       }))
 
-  pub set_answers : (before now : ℕ) (verb : Verb) (texts : Texts) (e : ElabErr) (r : Result Reply Want) → IsElaborating verb → HasCause limit m (judged_set m) e → RoseIfWide before now e
+  pub set_answers : (before now : ℕ) (verb : Verb) (texts : Texts) (e : ElabErr) (r : Result Reply Want)
+      → IsElaborating verb → HasCause limit m (judged_set m) e → RoseIfWide before now e
       → IfOk r (RepliesRefused m texts.route e) → IfOk r (AnswersModel limit (count before now) m verb texts)
   set_answers before now verb texts e (Err want) makes cause rose is = tt
   set_answers before now verb texts (refused.Wide spot) (Ok reply) makes cause rose is =
-      spot_answers (count before now) verb texts spot reply makes (first_left limit m (judged_set m) (judged_forms m) spot cause) rose is
+      spot_answers (count before now) verb texts spot reply makes
+      (first_left limit m (judged_set m) (judged_forms m) spot cause) rose is
   set_answers before now verb texts refused.Memory (Ok reply) makes cause rose is = absurd is
 
-  pub forms_answers : (before middle now : ℕ) (verb : Verb) (texts : Texts) (e : ElabErr) (r : Result Reply Want) → IsElaborating verb → before ≤ middle → NothingWide limit m (judged_set m)
-      → HasCause limit m (judged_forms m) e → RoseIfWide middle now e → IfOk r (RepliesRefused m texts.route e) → IfOk r (AnswersModel limit (count before now) m verb texts)
+  pub forms_answers : (before middle now : ℕ) (verb : Verb) (texts : Texts) (e : ElabErr) (r : Result Reply Want)
+      → IsElaborating verb → before ≤ middle → NothingWide limit m (judged_set m)
+      → HasCause limit m (judged_forms m) e → RoseIfWide middle now e → IfOk r (RepliesRefused m texts.route e)
+      → IfOk r (AnswersModel limit (count before now) m verb texts)
   forms_answers before middle now verb texts e (Err want) makes least none cause rose is = tt
   forms_answers before middle now verb texts (refused.Wide spot) (Ok reply) makes least none cause rose is =
-      spot_answers (count before now) verb texts spot reply makes (first_right limit m (judged_set m) (judged_forms m) spot none cause) (rose_earlier before middle now least rose) is
+      spot_answers (count before now) verb texts spot reply makes
+      (first_right limit m (judged_set m) (judged_forms m) spot none cause)
+      (rose_earlier before middle now least rose) is
   forms_answers before middle now verb texts refused.Memory (Ok reply) makes least none cause rose is = absurd is
 
   -- none is
-  pub whole_answers : (before middle now : ℕ) (verb : Verb) (texts : Texts) (r : Result Reply Want) → before ≤ middle → NothingWide limit m (judged_set m) → NothingWide limit m (judged_forms m)
-      → IfOk r (AnswersWhole limit (count middle now) m verb texts) → IfOk r (AnswersModel limit (count before now) m verb texts)
+  pub whole_answers : (before middle now : ℕ) (verb : Verb) (texts : Texts) (r : Result Reply Want) → before ≤ middle
+      → NothingWide limit m (judged_set m) → NothingWide limit m (judged_forms m)
+      → IfOk r (AnswersWhole limit (count middle now) m verb texts)
+      → IfOk r (AnswersModel limit (count before now) m verb texts)
   whole_answers before middle now verb texts (Err want) least a b h = tt
   whole_answers before middle now verb texts (Ok reply) least a b h = λ call line at came has.
-      h call line (call_within limit (count middle now) (count before now) verb call line (rose_earlier before middle now least) at) came
+      h call line
+      (call_within limit (count middle now) (count before now) verb call line
+      (rose_earlier before middle now least) at) came
       (record {
         model = has;
         none_wide = subst (λ (l : ℕ). NothingWide l m (judged_set m ++ judged_forms m)) (sym at.limit_is)
@@ -181,7 +216,8 @@ module _ (limit : ℕ) (m : RobustModel) where
       })
 
   -- the rows are printed
-  pub rows_answer : (wides : Count) (verb : Verb) (texts : Texts) (r : Result Reply Want) → verb ≡ Rows → IfOk r (Replies Printed (rows_of m))
+  pub rows_answer : (wides : Count) (verb : Verb) (texts : Texts) (r : Result Reply Want) → verb ≡ Rows
+      → IfOk r (Replies Printed (rows_of m))
       → IfOk r (AnswersWhole limit wides m verb texts)
   rows_answer wides verb texts (Err want) e is = tt
   rows_answer wides verb texts (Ok reply) e is = λ call line at came has.

@@ -18,7 +18,8 @@ use Rattle.rob_top.proofs.WorkedSweeps.{line, sweep_on, sweeptext_on}
 use Rattle.rob_top.specs.Completeness.{MustEnd}
 use Rattle.rob_top.specs.Endings.{EndsAs, IsSweepAnswer}
 use Rattle.rob_top.specs.Swept.{limit_value}
-use Rattle.rob_top.specs.WorkedCalls.{demand_within_a_budget, greatest, sweep_call}
+use Rattle.rob_top.specs.WorkedCalls.{sweep_call}
+use Rattle.rob_top.specs.WorkedModels.{demand_within_a_budget, greatest}
 use Rattle.rob_top.specs.declared.ended.Ended.{Ended}
 use Rattle.rob_top.specs.declared.ended.Ended.TheVariants.{Printed}
 use Rattle.rob_words.specs.declared.verb.Verb.TheVariants as verbs
@@ -32,7 +33,10 @@ its_names : IsNamed demand_within_a_budget
 its_names = record {
   plain = (((λ e. cc), tt), (((λ e. cc), tt), (((λ e. cc), tt), tt)));
   free = (free (codes "d") tt tt tt tt, (free (codes "r") tt tt tt tt, (free (codes "x") tt tt tt tt, tt)));
-  distinct = ((differ (codes "d") (codes "r") tt, (differ (codes "d") (codes "x") tt, tt)), ((differ (codes "r") (codes "x") tt, tt), (tt, tt)));
+  distinct = (
+    (differ (codes "d") (codes "r") tt, (differ (codes "d") (codes "x") tt, tt)),
+    ((differ (codes "r") (codes "x") tt, tt), (tt, tt)),
+  );
   lists = tt;
   members = ((tt, tt), tt);
   few = omega arith;
@@ -54,7 +58,14 @@ its_parts = record {
     set_lines = (
       (
         (fits_by (int 1) refl refl, refl),
-        (record { parameter = omega arith; centre = fits_by (int 1) refl refl; deviation = (fits_by (int 1) refl refl, refl) }, tt),
+        (
+          record {
+            parameter = omega arith;
+            centre = fits_by (int 1) refl refl;
+            deviation = (fits_by (int 1) refl refl, refl);
+          },
+          tt,
+        ),
       ),
       tt,
     );
@@ -73,8 +84,13 @@ unfolding ratio
 it_reads =
     canonical_reads greatest demand_within_a_budget (omega arith) (omega arith) its_parts
     (found (test_model (written_model demand_within_a_budget)) tt)
-    its_names its_spelling ((tt, tt), tt) it_is_within
-    ((tt, (tt, (tt, (tt, (tt, (tt, (tt, (tt, tt)))))))), ((tt, (tt, (tt, (tt, (tt, (tt, (tt, (tt, tt)))))))), ((tt, (tt, tt)), ((tt, (tt, tt)), ((tt, (tt, (tt, (tt, (tt, (tt, tt)))))), tt))))) (leb-true _ _ refl)
+    its_names its_spelling ((tt, tt), tt) it_is_within (
+      (tt, (tt, (tt, (tt, (tt, (tt, (tt, (tt, tt)))))))),
+      (
+        (tt, (tt, (tt, (tt, (tt, (tt, (tt, (tt, tt)))))))),
+        ((tt, (tt, tt)), ((tt, (tt, tt)), ((tt, (tt, (tt, (tt, (tt, (tt, tt)))))), tt))),
+      ),
+    ) (leb-true _ _ refl)
 
 it_comes : Comes demand_within_a_budget
 unfolding ratio digits
@@ -94,7 +110,8 @@ a_budget_is_swept result must =
     (record { budget = tt; rises = tt })
 
 -- `sweeptext` has to print the model with that limit
-pub a_budget_is_limited : (result : Ended) → MustEnd (sweep_call (codes "sweeptext") demand_within_a_budget) result → EndsAs Printed result
+pub a_budget_is_limited : (result : Ended)
+    → MustEnd (sweep_call (codes "sweeptext") demand_within_a_budget) result → EndsAs Printed result
 a_budget_is_limited result must =
     must.limited (line verbs.SweepText) demand_within_a_budget 1 (limit_value (codes "0"))
     (record {

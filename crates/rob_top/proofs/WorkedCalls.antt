@@ -1,5 +1,5 @@
--- Calls worked by hand: what their words and files say, and so how they must end. So what is asked of a call where a status has
--- to be answered, or an empty set, is met by some call.
+-- Calls worked by hand: what their words and files say, and so how they must end. So what is asked of a call where a
+-- status has to be answered, or an empty set, is met by some call.
 use Rattle.std.proofs.Common.{arith, refl, inr}
 use Rattle.std.proofs.lemmas.Bool.{leb-true}
 use Rattle.std.specs.Fmt.{digits}
@@ -36,7 +36,8 @@ use Rattle.rob_top.proofs.NarrowForms.{all_narrow, difference_narrow}
 use Rattle.rob_top.specs.Completeness.{MustEnd}
 use Rattle.rob_top.specs.Endings.{EndsAs, IsEmptyAnswer}
 use Rattle.rob_top.specs.Inputs.{HasForms}
-use Rattle.rob_top.specs.WorkedCalls.{empty_interval, greatest, model_name, solve_call}
+use Rattle.rob_top.specs.WorkedCalls.{model_name, solve_call}
+use Rattle.rob_top.specs.WorkedModels.{empty_interval, greatest}
 use Rattle.rob_top.specs.declared.ended.Ended.{Ended}
 use Rattle.rob_top.specs.declared.ended.Ended.TheVariants.{Optimal}
 use Rattle.rob_words.specs.Commands.{Line, own, IsSpelled}
@@ -69,22 +70,29 @@ fits_by q e f = record { num_fits = leb-true (nat_abs q.num) greatest e; den_fit
 abbrev pub Comes : RobustModel → Type 0
 Comes m = found_at model_name 65536 (file_of model_name (model_text m) ∷ []) ≡ whole (model_text m)
 
-pub forms_on : (m : RobustModel) → Comes m → ReadsModel greatest (model_text m) m → NothingWide greatest m (judged_set m ++ judged_forms m)
+pub forms_on : (m : RobustModel) → Comes m → ReadsModel greatest (model_text m) m
+    → NothingWide greatest m (judged_set m ++ judged_forms m)
     → HasForms (solve_call m) line m
 forms_on m comes reads narrow = record {
   model = record {
     spelled = line_spelled;
     came = ((model_text m, (comes, tt)), tt);
     bytes = model_text m;
-    file = record { request = record { place = 0; name = model_name; most = 65536 }; named = refl; found = (comes, tt) };
+    file = record {
+      request = record { place = 0; name = model_name; most = 65536 };
+      named = refl;
+      found = (comes, tt);
+    };
     reads = reads;
   };
   none_wide = narrow;
 }
 
 -- the counts of a model are within the limits
-pub within_by : (m : RobustModel) → leb (length m.parameters) most_parameters ≡ true → leb (length m.sets) most_sets ≡ true
-    → leb (column_count m) most_columns ≡ true → leb (length m.rows) most_rows ≡ true → leb (length m.set_lines) most_set_lines ≡ true
+pub within_by : (m : RobustModel) → leb (length m.parameters) most_parameters ≡ true
+    → leb (length m.sets) most_sets ≡ true
+    → leb (column_count m) most_columns ≡ true → leb (length m.rows) most_rows ≡ true
+    → leb (length m.set_lines) most_set_lines ≡ true
     → leb (lift_count m.set_lines) most_members ≡ true → leb (model_size m) most_size ≡ true → IsWithinLimits m
 within_by m parameters sets columns rows set_lines members size = record {
   parameters = leb-true _ _ parameters;
@@ -103,10 +111,15 @@ letter b word no_keyword = record { is_word = (word, tt); no_keyword = no_keywor
 pub differ : (a b : Name) → Found (test_differ a b) → a ≢ b
 differ a b h = found (test_differ a b) h
 
-pub free : (a : Name) → Found (test_differ a (codes "objective")) → Found (test_differ a (codes "tau")) → Found (test_differ a (codes "set"))
+pub free : (a : Name) → Found (test_differ a (codes "objective")) → Found (test_differ a (codes "tau"))
+    → Found (test_differ a (codes "set"))
     → Found (test_differ a (codes "budget")) → IsFree a
-free a objective tau set budget =
-    (differ a (codes "objective") objective, differ a (codes "tau") tau, differ a (codes "set") set, differ a (codes "budget") budget)
+free a objective tau set budget = (
+  differ a (codes "objective") objective,
+  differ a (codes "tau") tau,
+  differ a (codes "set") set,
+  differ a (codes "budget") budget,
+)
 
 -- ---- minimise x, where x >= d for each d in [8, 12]
 one_demand_spelled : Each IsSpelledName (declared_names one_demand)
@@ -116,7 +129,10 @@ one_demand_named : IsNamed one_demand
 one_demand_named = record {
   plain = (((λ e. cc), tt), (((λ e. cc), tt), (((λ e. cc), tt), tt)));
   free = (free (codes "d") tt tt tt tt, (free (codes "r") tt tt tt tt, (free (codes "x") tt tt tt tt, tt)));
-  distinct = ((differ (codes "d") (codes "r") tt, (differ (codes "d") (codes "x") tt, tt)), ((differ (codes "r") (codes "x") tt, tt), (tt, tt)));
+  distinct = (
+    (differ (codes "d") (codes "r") tt, (differ (codes "d") (codes "x") tt, tt)),
+    ((differ (codes "r") (codes "x") tt, tt), (tt, tt)),
+  );
   lists = tt;
   members = tt;
   few = omega arith;
@@ -125,7 +141,14 @@ one_demand_named = record {
 one_demand_readable : IsReadableModel greatest (naming_of one_demand) one_demand
 unfolding ratio
 one_demand_readable = record {
-  placed = record { taken_is = refl; line_sets = refl; row_sets = refl; of_lines = tt; of_objective = omega arith; of_rows = (omega arith, tt) };
+  placed = record {
+    taken_is = refl;
+    line_sets = refl;
+    row_sets = refl;
+    of_lines = tt;
+    of_objective = omega arith;
+    of_rows = (omega arith, tt);
+  };
   parts = record {
     parameters = ((fits_by (int 8) refl refl, fits_by (int 12) refl refl), tt);
     set_lines = tt;
@@ -142,9 +165,12 @@ one_demand_within = within_by one_demand refl refl refl refl refl refl refl
 pub one_demand_reads : ReadsModel greatest (model_text one_demand) one_demand
 unfolding ratio
 one_demand_reads =
-    canonical_reads greatest one_demand (omega arith) (omega arith) one_demand_readable (found (test_model (written_model one_demand)) tt)
-    one_demand_named one_demand_spelled tt one_demand_within
-    ((tt, (tt, (tt, (tt, (tt, (tt, (tt, (tt, tt)))))))), ((tt, (tt, tt)), ((tt, (tt, tt)), ((tt, (tt, (tt, (tt, (tt, (tt, tt)))))), tt)))) (leb-true _ _ refl)
+    canonical_reads greatest one_demand (omega arith) (omega arith) one_demand_readable
+    (found (test_model (written_model one_demand)) tt)
+    one_demand_named one_demand_spelled tt one_demand_within (
+      (tt, (tt, (tt, (tt, (tt, (tt, (tt, (tt, tt)))))))),
+      ((tt, (tt, tt)), ((tt, (tt, tt)), ((tt, (tt, (tt, (tt, (tt, (tt, tt)))))), tt))),
+    ) (leb-true _ _ refl)
 
 pub one_demand_narrow : NothingWide greatest one_demand (judged_set one_demand ++ judged_forms one_demand)
 unfolding ratio
@@ -173,7 +199,8 @@ one_demand_forms = forms_on one_demand one_demand_comes one_demand_reads one_dem
 -- no row is wide, so this call has to answer `optimal`
 pub one_demand_is_solved : (result : Ended) → MustEnd (solve_call one_demand) result → EndsAs Optimal result
 one_demand_is_solved result must =
-    must.status line one_demand optimal (int 12) (int 8 ∷ []) one_demand_forms refl one_demand_costs_12 one_demand_admitted one_demand_not_wide
+    must.status line one_demand optimal (int 12) (int 8 ∷ []) one_demand_forms refl one_demand_costs_12
+    one_demand_admitted one_demand_not_wide
 
 -- ---- minimise x, where d lies in [12, 8], so no scenario is admitted
 empty_interval_model : IsModel empty_interval
@@ -202,7 +229,14 @@ empty_interval_named = record {
 empty_interval_readable : IsReadableModel greatest (naming_of empty_interval) empty_interval
 unfolding ratio
 empty_interval_readable = record {
-  placed = record { taken_is = refl; line_sets = refl; row_sets = refl; of_lines = tt; of_objective = omega arith; of_rows = tt };
+  placed = record {
+    taken_is = refl;
+    line_sets = refl;
+    row_sets = refl;
+    of_lines = tt;
+    of_objective = omega arith;
+    of_rows = tt;
+  };
   parts = record {
     parameters = ((fits_by (int 12) refl refl, fits_by (int 8) refl refl), tt);
     set_lines = tt;
@@ -219,15 +253,25 @@ empty_interval_within = within_by empty_interval refl refl refl refl refl refl r
 pub empty_interval_reads : ReadsModel greatest (model_text empty_interval) empty_interval
 unfolding ratio
 empty_interval_reads =
-    canonical_reads greatest empty_interval (omega arith) (omega arith) empty_interval_readable (found (test_model (written_model empty_interval)) tt)
+    canonical_reads greatest empty_interval (omega arith) (omega arith) empty_interval_readable
+    (found (test_model (written_model empty_interval)) tt)
     empty_interval_named empty_interval_spelled tt empty_interval_within
     ((tt, (tt, (tt, (tt, (tt, (tt, (tt, (tt, tt)))))))), ((tt, (tt, tt)), ((tt, (tt, tt)), tt))) (leb-true _ _ refl)
 
-pub empty_interval_none_wide : NothingWide greatest empty_interval (judged_set empty_interval ++ judged_forms empty_interval)
+pub empty_interval_none_wide : NothingWide greatest empty_interval
+    (judged_set empty_interval ++ judged_forms empty_interval)
 unfolding ratio
 empty_interval_none_wide =
-    all_narrow empty_interval (judged_set empty_interval ++ judged_forms empty_interval)
-    (tt, (tt, (difference_narrow empty_interval (variable 0) 0 1 (λ k j. refl) (variable 1) 0 2 (λ k j. refl), (tt, tt))))
+    all_narrow empty_interval (judged_set empty_interval ++ judged_forms empty_interval) (
+      tt,
+      (
+        tt,
+        (
+          difference_narrow empty_interval (variable 0) 0 1 (λ k j. refl) (variable 1) 0 2 (λ k j. refl),
+          (tt, tt),
+        ),
+      ),
+    )
 
 pub empty_interval_comes : Comes empty_interval
 unfolding ratio digits
@@ -237,5 +281,7 @@ pub empty_interval_forms : HasForms (solve_call empty_interval) line empty_inter
 empty_interval_forms = forms_on empty_interval empty_interval_comes empty_interval_reads empty_interval_none_wide
 
 -- this call has to answer that the set is empty, or name a row of the set's program
-pub empty_interval_is_shown : (result : Ended) → MustEnd (solve_call empty_interval) result → IsEmptyAnswer greatest empty_interval result
-empty_interval_is_shown result must = must.empty line empty_interval empty_interval_forms refl empty_interval_admits_none
+pub empty_interval_is_shown : (result : Ended) → MustEnd (solve_call empty_interval) result
+    → IsEmptyAnswer greatest empty_interval result
+empty_interval_is_shown result must =
+    must.empty line empty_interval empty_interval_forms refl empty_interval_admits_none

@@ -1,5 +1,5 @@
--- Checks worked by hand: a certificate that proves and one that doesn't, neither with a wide number on the way, and so how a call
--- of `check` on them must end.
+-- Checks worked by hand: a certificate that proves and one that doesn't, neither with a wide number on the way, and so
+-- how a call of `check` on them must end.
 use Rattle.std.proofs.Common.{arith, refl, subst, inr}
 use Rattle.std.specs.Fmt.{digits}
 use Rattle.std.specs.Prelude.{◌≡◌, ◌≢◌, Bool, Option, Some, None, List, [], ◌∷◌, codes}
@@ -29,7 +29,8 @@ use Rattle.rob_top.proofs.WorkedCalls.{fits_by, one_demand_narrow, one_demand_re
 use Rattle.rob_top.specs.Completeness.{MustEnd}
 use Rattle.rob_top.specs.Endings.{EndsAs}
 use Rattle.rob_top.specs.Inputs.{HasCertificate}
-use Rattle.rob_top.specs.WorkedCalls.{certificate_name, check_call, greatest, model_name, order_11, order_12}
+use Rattle.rob_top.specs.WorkedCalls.{certificate_name, check_call, model_name}
+use Rattle.rob_top.specs.WorkedModels.{greatest, order_11, order_12}
 use Rattle.rob_top.specs.declared.ended.Ended.{Ended}
 use Rattle.rob_top.specs.declared.ended.Ended.TheVariants.{Accepted, Rejected}
 use Rattle.rob_words.specs.Commands.{Line, own, IsSpelled}
@@ -57,12 +58,15 @@ line_spelled = (
 
 -- both files come whole
 record Come (c : Certificate) : Type 0 where
-  model : found_at model_name 65536 (file_of model_name (model_text one_demand) ∷ file_of certificate_name (cert_text one_demand c) ∷ [])
+  model : found_at model_name 65536
+      (file_of model_name (model_text one_demand) ∷ file_of certificate_name (cert_text one_demand c) ∷ [])
       ≡ whole (model_text one_demand)
-  certificate : found_at certificate_name 4194304 (file_of model_name (model_text one_demand) ∷ file_of certificate_name (cert_text one_demand c) ∷ [])
+  certificate : found_at certificate_name 4194304
+      (file_of model_name (model_text one_demand) ∷ file_of certificate_name (cert_text one_demand c) ∷ [])
       ≡ whole (cert_text one_demand c)
 
-certificate_on : (c : Certificate) → Come c → HasShape one_demand c → FitsLines greatest one_demand c → HasCertificate (check_call c) line one_demand c
+certificate_on : (c : Certificate) → Come c → HasShape one_demand c → FitsLines greatest one_demand c
+    → HasCertificate (check_call c) line one_demand c
 certificate_on c come shape fits = record {
   bytes = cert_text one_demand c;
   file = record {
@@ -71,7 +75,11 @@ certificate_on c come shape fits = record {
         spelled = line_spelled;
         came = ((model_text one_demand, (come.model, tt)), ((cert_text one_demand c, (come.certificate, tt)), tt));
         bytes = model_text one_demand;
-        file = record { request = record { place = 0; name = model_name; most = 65536 }; named = refl; found = (come.model, tt) };
+        file = record {
+          request = record { place = 0; name = model_name; most = 65536 };
+          named = refl;
+          found = (come.model, tt);
+        };
         reads = one_demand_reads;
       };
       none_wide = one_demand_narrow;
@@ -107,7 +115,10 @@ unfolding ratio
 order_12_shape = record {
   inside = refl;
   parts = record { plan = refl; step = refl; step_bound = refl; holds = refl };
-  covers = record { each = (record { form = omega arith; set_row = omega arith; amount = one_not_zero }, tt); ordered = (tt, tt) };
+  covers = record {
+    each = (record { form = omega arith; set_row = omega arith; amount = one_not_zero }, tt);
+    ordered = (tt, tt);
+  };
   holds = record { each = tt; ordered = tt };
   items = record {
     each = (record { form = omega arith; numbers = refl }, (record { form = omega arith; numbers = refl }, tt));
@@ -130,7 +141,13 @@ order_12_fits = (
           fits_by (int 12) refl refl,
           (
             fits_by 1ℚ refl refl,
-            ((fits_by 1ℚ refl refl, fits_by 1ℚ refl refl), (fits_by (int 12) refl refl, ((fits_by 1ℚ refl refl, fits_by 1ℚ refl refl), (fits_by (int 12) refl refl, (tt, tt))))),
+            (
+              (fits_by 1ℚ refl refl, fits_by 1ℚ refl refl),
+              (
+                fits_by (int 12) refl refl,
+                ((fits_by 1ℚ refl refl, fits_by 1ℚ refl refl), (fits_by (int 12) refl refl, (tt, tt))),
+              ),
+            ),
           ),
         ),
       ),
@@ -158,7 +175,8 @@ order_12_proves =
 -- this call has to answer `accepted`
 pub order_12_is_accepted : (result : Ended) → MustEnd (check_call order_12) result → EndsAs Accepted result
 order_12_is_accepted result must =
-    must.accepted line one_demand order_12 (certificate_on order_12 order_12_comes order_12_shape order_12_fits) order_12_narrow order_12_proves
+    must.accepted line one_demand order_12 (certificate_on order_12 order_12_comes order_12_shape order_12_fits)
+    order_12_narrow order_12_proves
 
 -- ---- 11 is claimed, and the items show 12
 order_11_shape : HasShape one_demand order_11
@@ -166,7 +184,10 @@ unfolding ratio
 order_11_shape = record {
   inside = refl;
   parts = record { plan = refl; step = refl; step_bound = refl; holds = refl };
-  covers = record { each = (record { form = omega arith; set_row = omega arith; amount = one_not_zero }, tt); ordered = (tt, tt) };
+  covers = record {
+    each = (record { form = omega arith; set_row = omega arith; amount = one_not_zero }, tt);
+    ordered = (tt, tt);
+  };
   holds = record { each = tt; ordered = tt };
   items = order_12_shape.items;
 }
@@ -185,7 +206,13 @@ order_11_fits = (
           fits_by (int 11) refl refl,
           (
             fits_by 1ℚ refl refl,
-            ((fits_by 1ℚ refl refl, fits_by 1ℚ refl refl), (fits_by (int 12) refl refl, ((fits_by 1ℚ refl refl, fits_by 1ℚ refl refl), (fits_by (int 12) refl refl, (tt, tt))))),
+            (
+              (fits_by 1ℚ refl refl, fits_by 1ℚ refl refl),
+              (
+                fits_by (int 12) refl refl,
+                ((fits_by 1ℚ refl refl, fits_by 1ℚ refl refl), (fits_by (int 12) refl refl, (tt, tt))),
+              ),
+            ),
           ),
         ),
       ),
@@ -215,4 +242,5 @@ order_11_proves_not =
 pub order_11_is_rejected : (result : Ended) → MustEnd (check_call order_11) result
     → (place : Place) × IsFirstFailing greatest one_demand order_11 place × EndsAs (Rejected place) result
 order_11_is_rejected result must =
-    must.rejected line one_demand order_11 (certificate_on order_11 order_11_comes order_11_shape order_11_fits) order_11_narrow order_11_proves_not
+    must.rejected line one_demand order_11 (certificate_on order_11 order_11_comes order_11_shape order_11_fits)
+    order_11_narrow order_11_proves_not

@@ -18,7 +18,7 @@ use Rattle.rob_top.specs.Compared.{AsksFor, IsCompared, heading, status_line}
 use Rattle.rob_top.specs.ComparedEnds.{IsComparedAnswer}
 use Rattle.rob_top.specs.Completeness.{MustEnd}
 use Rattle.rob_top.specs.Headline.{Means}
-use Rattle.rob_top.specs.WorkedCalls.{greatest}
+use Rattle.rob_top.specs.WorkedModels.{greatest}
 use Rattle.rob_top.specs.WorkedCompared.{first_summary, gen_call}
 use Rattle.rob_top.specs.declared.ended.Ended.{Ended}
 use Rattle.rob_top.specs.declared.ended.Ended.TheVariants.{Printed}

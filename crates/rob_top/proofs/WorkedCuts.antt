@@ -1,5 +1,5 @@
--- Calls of `solve` by cutting planes, worked by hand: what their words and files say, and so how the one on the smallest
--- model must end.
+-- Calls of `solve` by cutting planes, worked by hand: what their words and
+-- files say, and so how the one on the smallest model must end.
 use Rattle.std.proofs.Common.{refl, inl, inr}
 use Rattle.std.specs.Prelude.{[], ◌∷◌, ◌++◌, codes}
 use Rattle.rob_dualize.proofs.NarrowModels.{one_demand_admitted, one_demand_costs_12}
@@ -14,7 +14,8 @@ use Rattle.rob_top.proofs.SolveAnswers.{IsSolvedOrWide, optimal_or_wide}
 use Rattle.rob_top.proofs.WorkedCalls.{Comes, line, one_demand_comes, one_demand_narrow, one_demand_reads}
 use Rattle.rob_top.specs.Completeness.{MustEnd}
 use Rattle.rob_top.specs.Inputs.{HasForms}
-use Rattle.rob_top.specs.WorkedCalls.{cuts_call, greatest, model_name}
+use Rattle.rob_top.specs.WorkedCalls.{cuts_call, model_name}
+use Rattle.rob_top.specs.WorkedModels.{greatest}
 use Rattle.rob_top.specs.declared.ended.Ended.{Ended}
 use Rattle.rob_write.specs.Canonical.{model_text}
 use Rattle.rob_words.specs.Commands.{IsSpelled, Line, joined, own, route as route_setting}
@@ -59,7 +60,8 @@ its_forms : HasForms (cuts_call one_demand) by_cuts one_demand
 its_forms = cut_forms one_demand one_demand_comes one_demand_reads one_demand_narrow
 
 -- this call has to answer `optimal`, or name a number of a run that is wide
-pub one_demand_is_cut : (result : Ended) → MustEnd (cuts_call one_demand) result → IsSolvedOrWide Cuts greatest one_demand result
+pub one_demand_is_cut : (result : Ended) → MustEnd (cuts_call one_demand) result
+    → IsSolvedOrWide Cuts greatest one_demand result
 one_demand_is_cut result must =
     optimal_or_wide Cuts greatest one_demand (int 12) (int 8 ∷ []) one_demand_costs_12 one_demand_admitted result
     (must.solving by_cuts one_demand its_forms refl)

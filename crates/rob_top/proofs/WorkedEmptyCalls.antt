@@ -1,4 +1,5 @@
--- A worked call of `solve` on a model with a set that admits no scenario: the one of WorkedSetCalls with d >= 13 over calm.
+-- A worked call of `solve` on a model with a set that admits no scenario: the
+-- one of WorkedSetCalls with d >= 13 over calm.
 use Rattle.std.proofs.Common.{arith, refl}
 use Rattle.std.proofs.lemmas.Bool.{leb-true}
 use Rattle.std.specs.Fmt.{digits}
@@ -24,7 +25,8 @@ use Rattle.rob_top.proofs.WorkedCalls.{Comes, fits_by, forms_on, line, within_by
 use Rattle.rob_top.specs.Completeness.{MustEnd}
 use Rattle.rob_top.specs.Endings.{IsEmptyAnswer}
 use Rattle.rob_top.specs.Inputs.{HasForms}
-use Rattle.rob_top.specs.WorkedCalls.{greatest, never_calm, solve_call}
+use Rattle.rob_top.specs.WorkedCalls.{solve_call}
+use Rattle.rob_top.specs.WorkedModels.{greatest, never_calm}
 use Rattle.rob_top.specs.declared.ended.Ended.{Ended}
 use Rattle.rob_top.proofs.WorkedSetCalls.{above_narrow, goal_narrow, its_names, its_parts, its_spelling}
 
@@ -74,8 +76,26 @@ unfolding ratio
 never_calm_reads =
     canonical_reads greatest never_calm (omega arith) (omega arith) never_calm_readable
     (found (test_model (written_model never_calm)) tt)
-    never_calm_named its_spelling (tt, tt) never_calm_within
-    ((tt, (tt, (tt, (tt, (tt, (tt, (tt, (tt, tt)))))))), ((tt, (tt, tt)), ((tt, (tt, (tt, (tt, (tt, (tt, tt)))))), ((tt, (tt, tt)), ((tt, (tt, tt)), ((tt, (tt, (tt, (tt, tt)))), ((tt, (tt, (tt, (tt, (tt, (tt, tt)))))), ((tt, (tt, (tt, (tt, (tt, (tt, (tt, (tt, tt)))))))), tt)))))))) (leb-true _ _ refl)
+    never_calm_named its_spelling (tt, tt) never_calm_within (
+      (tt, (tt, (tt, (tt, (tt, (tt, (tt, (tt, tt)))))))),
+      (
+        (tt, (tt, tt)),
+        (
+          (tt, (tt, (tt, (tt, (tt, (tt, tt)))))),
+          (
+            (tt, (tt, tt)),
+            (
+              (tt, (tt, tt)),
+              (
+                (tt, (tt, (tt, (tt, tt)))),
+                ((tt, (tt, (tt, (tt, (tt, (tt, tt)))))), ((tt, (tt, (tt, (tt, (tt, (tt, (tt, (tt, tt)))))))), tt)),
+              ),
+            ),
+          ),
+        ),
+      ),
+    )
+    (leb-true _ _ refl)
 
 never_calm_narrow : NothingWide greatest never_calm (judged_set never_calm ++ judged_forms never_calm)
 unfolding ratio

@@ -1,5 +1,5 @@
 -- A call of `whole` on a model without a scenario, worked by hand, and so how it must end.
-use Rattle.std.proofs.Common.{◌≡◌, [], ◌∷◌, refl, arith}
+use Rattle.std.proofs.Common.{[], ◌∷◌, refl, arith}
 use Rattle.std.proofs.lemmas.Bool.{leb-true}
 use Rattle.std.specs.Fmt.{digits}
 use Rattle.std.specs.Prelude.{codes}
@@ -20,7 +20,8 @@ use Rattle.rob_top.proofs.WorkedWholes.{half_named, half_spelled, line, model_on
 use Rattle.rob_top.specs.Completeness.{MustEnd}
 use Rattle.rob_top.specs.Endings.{IsEmptyWholeAnswer}
 use Rattle.rob_top.specs.Inputs.{HasWholeVariables}
-use Rattle.rob_top.specs.WorkedCalls.{greatest, impossible_demand, whole_call}
+use Rattle.rob_top.specs.WorkedCalls.{whole_call}
+use Rattle.rob_top.specs.WorkedModels.{greatest, impossible_demand}
 use Rattle.rob_top.specs.declared.ended.Ended.{Ended}
 use Rattle.rob_write.specs.Canonical.{model_text, naming_of, written_model}
 
@@ -33,7 +34,8 @@ impossible_model = found (test_model impossible_demand) tt
 impossible_admits_none : IsEmptySet impossible_demand
 unfolding ratio
 impossible_admits_none =
-    shows_empty impossible_demand impossible_model (1ℚ ∷ 1ℚ ∷ []) (found (test_empty impossible_demand (1ℚ ∷ 1ℚ ∷ [])) tt)
+    shows_empty impossible_demand impossible_model (1ℚ ∷ 1ℚ ∷ [])
+    (found (test_empty impossible_demand (1ℚ ∷ 1ℚ ∷ [])) tt)
 
 -- the names are those of the model with scenarios
 impossible_named : IsNamed impossible_demand
@@ -49,7 +51,14 @@ impossible_named = record {
 impossible_readable : IsReadableModel greatest (naming_of impossible_demand) impossible_demand
 unfolding ratio
 impossible_readable = record {
-  placed = record { taken_is = refl; line_sets = refl; row_sets = refl; of_lines = tt; of_objective = omega arith; of_rows = (omega arith, tt) };
+  placed = record {
+    taken_is = refl;
+    line_sets = refl;
+    row_sets = refl;
+    of_lines = tt;
+    of_objective = omega arith;
+    of_rows = (omega arith, tt);
+  };
   parts = record {
     parameters = ((fits_by (int 13) refl refl, fits_by (int 8) refl refl), tt);
     set_lines = tt;
@@ -69,7 +78,10 @@ impossible_reads =
     canonical_reads greatest impossible_demand (omega arith) (omega arith) impossible_readable
     (found (test_model (written_model impossible_demand)) tt) impossible_named half_spelled tt impossible_within (
       (tt, (tt, (tt, (tt, (tt, (tt, (tt, (tt, tt)))))))),
-      ((tt, (tt, (tt, (tt, (tt, (tt, (tt, (tt, tt)))))))), ((tt, (tt, tt)), ((tt, (tt, (tt, (tt, (tt, (tt, (tt, (tt, tt)))))))), tt))),
+      (
+        (tt, (tt, (tt, (tt, (tt, (tt, (tt, (tt, tt)))))))),
+        ((tt, (tt, tt)), ((tt, (tt, (tt, (tt, (tt, (tt, (tt, (tt, tt)))))))), tt)),
+      ),
     )
     (leb-true _ _ refl)
 
@@ -77,7 +89,8 @@ impossible_comes : Comes impossible_demand
 unfolding ratio digits
 impossible_comes = refl
 
-impossible_variables : HasWholeVariables (whole_call impossible_demand (codes "x")) (line (codes "x")) impossible_demand (0 ∷ [])
+impossible_variables : HasWholeVariables (whole_call impossible_demand (codes "x")) (line (codes "x"))
+    impossible_demand (0 ∷ [])
 unfolding ratio
 impossible_variables = record {
   named = record {

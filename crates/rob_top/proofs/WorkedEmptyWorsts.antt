@@ -13,7 +13,8 @@ use Rattle.rob_top.proofs.WorkedCalls.{empty_interval_admits_none, empty_interva
 use Rattle.rob_top.specs.Completeness.{MustEnd}
 use Rattle.rob_top.specs.Endings.{IsEmptyAnswer}
 use Rattle.rob_top.specs.Inputs.{HasForms, HasSought}
-use Rattle.rob_top.specs.WorkedCalls.{certificate_name, empty_interval, greatest, model_name, order_0, worst_on}
+use Rattle.rob_top.specs.WorkedCalls.{certificate_name, model_name, worst_on}
+use Rattle.rob_top.specs.WorkedModels.{empty_interval, greatest, order_0}
 use Rattle.rob_top.specs.declared.ended.Ended.{Ended}
 use Rattle.rob_words.specs.Commands.{Line, own, IsSpelled}
 use Rattle.rob_words.specs.Values.{Word}
@@ -43,7 +44,8 @@ line_spelled = (
 )
 
 abbrev files : List File
-files = file_of model_name (model_text empty_interval) ∷ file_of certificate_name (cert_text empty_interval order_0) ∷ []
+files = file_of model_name (model_text empty_interval)
+    ∷ file_of certificate_name (cert_text empty_interval order_0) ∷ []
 
 -- both come whole
 record Come : Type 0 where
@@ -74,7 +76,10 @@ its_forms : HasForms (worst_on empty_interval order_0 form) line empty_interval
 its_forms = record {
   model = record {
     spelled = line_spelled;
-    came = ((model_text empty_interval, (they_come.model, tt)), ((cert_text empty_interval order_0, (they_come.certificate, tt)), tt));
+    came = (
+      (model_text empty_interval, (they_come.model, tt)),
+      ((cert_text empty_interval order_0, (they_come.certificate, tt)), tt),
+    );
     bytes = model_text empty_interval;
     file = record {
       request = record { place = 0; name = model_name; most = 65536 };

@@ -1,4 +1,5 @@
--- Calls of `solve` on narrow models, worked by hand: the smallest one, and one without a scenario; and so how each must end.
+-- Calls of `solve` on narrow models, worked by hand: the smallest one, and one
+-- without a scenario; and so how each must end.
 use Rattle.std.proofs.Common.{◌≡◌, ◌≤◌, ◌<◌, ℕ, [], ◌∷◌, Option, refl, arith}
 use Rattle.std.proofs.lemmas.Bool.{leb-true}
 use Rattle.std.specs.Int.RustNames.{unsigned_abs}
@@ -19,7 +20,8 @@ use Rattle.rob_top.proofs.WorkedCuts.{by_cuts, cut_forms}
 use Rattle.rob_top.specs.Completeness.{MustEnd}
 use Rattle.rob_top.specs.Endings.{EndsAs, IsShownAnswer}
 use Rattle.rob_top.specs.Work.{ended_of}
-use Rattle.rob_top.specs.WorkedCalls.{cuts_call, empty_interval, greatest, solve_call}
+use Rattle.rob_top.specs.WorkedCalls.{cuts_call, solve_call}
+use Rattle.rob_top.specs.WorkedModels.{empty_interval, greatest}
 use Rattle.rob_top.specs.declared.ended.Ended.{Ended}
 use Rattle.rob_top.specs.declared.ended.Ended.TheVariants.{TooWide}
 
@@ -28,10 +30,12 @@ use Rattle.rob_top.specs.declared.ended.Ended.TheVariants.{TooWide}
 pub one_demand_has_status : (result : Ended) → MustEnd (solve_call one_demand) result
     → (status : Status) × (v : Fraction) × HasStatus one_demand status v × EndsAs (ended_of status) result
 one_demand_has_status result must =
-    must.narrow_status line one_demand (int 8 ∷ []) one_demand_forms refl refl smallest.one_demand_narrow smallest.one_demand_admitted
+    must.narrow_status line one_demand (int 8 ∷ []) one_demand_forms refl refl smallest.one_demand_narrow
+    smallest.one_demand_admitted
 
 -- and names no wide number
-pub one_demand_is_not_wide : (result : Ended) → MustEnd (solve_call one_demand) result → (spot : Spot) → (result ≡ TooWide spot) → ⊥
+pub one_demand_is_not_wide : (result : Ended) → MustEnd (solve_call one_demand) result → (spot : Spot)
+    → (result ≡ TooWide spot) → ⊥
 one_demand_is_not_wide result must spot =
     must.narrow_spot line one_demand spot one_demand_forms refl refl smallest.one_demand_narrow
 
@@ -78,12 +82,15 @@ empty_interval_narrow : IsNarrowModel greatest empty_interval
 empty_interval_narrow = record { set = set_narrow; counterpart = counterpart_narrow }
 
 -- so this call has to answer that the set is empty, with weights that show it
-pub empty_interval_is_not_wide : (result : Ended) → MustEnd (solve_call empty_interval) result → IsShownAnswer empty_interval result
+pub empty_interval_is_not_wide : (result : Ended) → MustEnd (solve_call empty_interval) result
+    → IsShownAnswer empty_interval result
 empty_interval_is_not_wide result must =
     must.narrow_empty line empty_interval empty_interval_forms refl empty_interval_narrow empty_interval_admits_none
 
 -- by cutting planes too
-pub empty_interval_is_cut : (result : Ended) → MustEnd (cuts_call empty_interval) result → IsShownAnswer empty_interval result
+pub empty_interval_is_cut : (result : Ended) → MustEnd (cuts_call empty_interval) result
+    → IsShownAnswer empty_interval result
 empty_interval_is_cut result must =
     must.narrow_empty by_cuts empty_interval
-    (cut_forms empty_interval empty_interval_comes empty_interval_reads empty_interval_none_wide) refl empty_interval_narrow empty_interval_admits_none
+    (cut_forms empty_interval empty_interval_comes empty_interval_reads empty_interval_none_wide) refl
+    empty_interval_narrow empty_interval_admits_none

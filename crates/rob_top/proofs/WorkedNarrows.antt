@@ -46,7 +46,11 @@ forms = record {
     spelled = line_spelled;
     came = ((model_text one_demand, (comes, tt)), tt);
     bytes = model_text one_demand;
-    file = record { request = record { place = 0; name = model_name; most = 65536 }; named = refl; found = (comes, tt) };
+    file = record {
+      request = record { place = 0; name = model_name; most = 65536 };
+      named = refl;
+      found = (comes, tt);
+    };
     reads = one_demand_reads;
   };
   none_wide = one_demand_narrow;

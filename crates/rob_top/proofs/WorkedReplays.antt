@@ -1,5 +1,5 @@
--- Calls of `replay` worked by hand: a table and its text, a wide slack, a certificate without a plan, and a file whose header
--- names no parameter; and so how each call must end.
+-- Calls of `replay` worked by hand: a table and its text, a wide slack, a certificate without a plan, and a file whose
+-- header names no parameter; and so how each call must end.
 use Rattle.csv.specs.Reading.{strip_bom}
 use Rattle.std.proofs.Common.{◌≡◌, ◌++◌, ℕ, List, [], ◌∷◌, Ok, true, refl, sym, ◌∙◌, ap, subst, inl, inr, arith}
 use Rattle.std.specs.Fmt.{digits}
@@ -29,10 +29,11 @@ use Rattle.rob_top.specs.Calls.{Call, Known, by_files}
 use Rattle.rob_top.specs.Completeness.{MustEnd}
 use Rattle.rob_top.specs.Endings.{EndsAs}
 use Rattle.rob_top.specs.Headline.{Means}
-use Rattle.rob_top.specs.Inputs.{HasReplayCertificate, HasScenarios}
+use Rattle.rob_top.specs.Inputs.{HasReplayCertificate, HasScenarioFile}
 use Rattle.rob_top.specs.Replayed.{planless, replay_ended}
-use Rattle.rob_top.specs.WorkedCalls.{certificate_name, greatest, model_name, no_demand, no_order, order_12, order_least, replay_call, scenarios_name, two_demands, two_demands_table}
-use Rattle.rob_top.specs.Ways.{rows, replayed, generated, compared, worst_found, swept, narrowed, split_written}
+use Rattle.rob_top.specs.WorkedCalls.{certificate_name, model_name, replay_call, scenarios_name, two_demands_table}
+use Rattle.rob_top.specs.WorkedModels.{greatest, no_demand, no_order, order_12, order_least, two_demands}
+use Rattle.rob_top.specs.Ways.{rows, replayed, generated, compared, worst_found, priced, limited, narrowed, split_written}
 use Rattle.rob_top.specs.declared.ended.Ended.{Ended}
 use Rattle.rob_top.specs.declared.ended.Ended.TheVariants.{Cert, Printed, Scenarios, TooWide}
 use Rattle.rob_words.proofs.Spellings.{one_line}
@@ -61,7 +62,8 @@ line_spelled = (
 
 abbrev files_of : Certificate → List ℕ → List File
 files_of c bytes =
-    file_of model_name (model_text one_demand) ∷ file_of certificate_name (cert_text one_demand c) ∷ file_of scenarios_name bytes ∷ []
+    file_of model_name (model_text one_demand) ∷ file_of certificate_name (cert_text one_demand c)
+    ∷ file_of scenarios_name bytes ∷ []
 
 -- each of them comes whole
 record Come (c : Certificate) (bytes : List ℕ) : Type 0 where
@@ -69,7 +71,8 @@ record Come (c : Certificate) (bytes : List ℕ) : Type 0 where
   certificate : found_at certificate_name 4194304 (files_of c bytes) ≡ whole (cert_text one_demand c)
   scenarios : found_at scenarios_name 4194304 (files_of c bytes) ≡ whole bytes
 
-certificate_on : (c : Certificate) (bytes : List ℕ) → Come c bytes → HasShape one_demand c → FitsLines greatest one_demand c
+certificate_on : (c : Certificate) (bytes : List ℕ) → Come c bytes → HasShape one_demand c
+    → FitsLines greatest one_demand c
     → HasReplayCertificate (replay_call c bytes) line one_demand c
 certificate_on c bytes come shape fits = record {
   bytes = cert_text one_demand c;
@@ -81,30 +84,45 @@ certificate_on c bytes come shape fits = record {
         ((cert_text one_demand c, (come.certificate, tt)), ((bytes, (come.scenarios, tt)), tt)),
       );
       bytes = model_text one_demand;
-      file = record { request = record { place = 0; name = model_name; most = 65536 }; named = refl; found = (come.model, tt) };
+      file = record {
+        request = record { place = 0; name = model_name; most = 65536 };
+        named = refl;
+        found = (come.model, tt);
+      };
       reads = one_demand_reads;
     };
     is_replay = refl;
-    file = record { request = record { place = 1; name = certificate_name; most = 4194304 }; named = refl; found = (come.certificate, tt) };
+    file = record {
+      request = record { place = 1; name = certificate_name; most = 4194304 };
+      named = refl;
+      found = (come.certificate, tt);
+    };
   };
   text = record { shape = shape; spelled = refl };
   fits = fits;
 }
 
-scenarios_on : (c : Certificate) (bytes : List ℕ) → Come c bytes → HasShape one_demand c → FitsLines greatest one_demand c
-    → c.status ≢ infeasible → HasScenarios (replay_call c bytes) line one_demand c bytes
+scenarios_on : (c : Certificate) (bytes : List ℕ) → Come c bytes → HasShape one_demand c
+    → FitsLines greatest one_demand c
+    → c.status ≢ infeasible → HasScenarioFile (replay_call c bytes) line one_demand c bytes
 scenarios_on c bytes come shape fits planned = record {
   certificate = certificate_on c bytes come shape fits;
   has_plan = planned;
-  file = record { request = record { place = 2; name = scenarios_name; most = 4194304 }; named = refl; found = (come.scenarios, tt) };
+  file = record {
+    request = record { place = 2; name = scenarios_name; most = 4194304 };
+    named = refl;
+    found = (come.scenarios, tt);
+  };
 }
 
 -- of an order of 12
-order_12_on : (bytes : List ℕ) → Come order_12 bytes → HasScenarios (replay_call order_12 bytes) line one_demand order_12 bytes
+order_12_on : (bytes : List ℕ) → Come order_12 bytes
+    → HasScenarioFile (replay_call order_12 bytes) line one_demand order_12 bytes
 order_12_on bytes come = scenarios_on order_12 bytes come order_12_shape order_12_fits (λ e. cc)
 
 -- ---- records of one field
-one_field : (field behind : List ℕ) → IsUnquoted (field ++ 10 ∷ behind) → BeginsRecord (field ++ 10 ∷ behind) → IsWithin field
+one_field : (field behind : List ℕ) → IsUnquoted (field ++ 10 ∷ behind)
+    → BeginsRecord (field ++ 10 ∷ behind) → IsWithin field
     → NextRecord (field ++ 10 ∷ behind) (field ∷ []) behind
 one_field field behind unquoted begins within = record {
   empty_lines = [];
@@ -112,7 +130,11 @@ one_field field behind unquoted begins within = record {
   split = refl;
   empty = tt;
   begins = begins;
-  fields = (10 ∷ behind, inl (record { split = refl; unquoted = unquoted; within = within; ended = refl }), (refl, refl));
+  fields = (
+    10 ∷ behind,
+    inl (record { split = refl; unquoted = unquoted; within = within; ended = refl }),
+    (refl, refl),
+  );
 }
 
 -- ---- a file with two records, one of them outside the set
@@ -146,10 +168,12 @@ unfolding ratio
 two_demands_ended = refl
 
 -- this call has to print the table
-pub two_demands_are_replayed : (result : Ended) → MustEnd (replay_call order_12 two_demands) result → EndsAs Printed result
+pub two_demands_are_replayed : (result : Ended)
+    → MustEnd (replay_call order_12 two_demands) result → EndsAs Printed result
 two_demands_are_replayed result must =
     subst (λ (ended : Ended). EndsAs ended result) two_demands_ended
-    (must.replayed line one_demand order_12 two_demands demands (order_12_on two_demands two_demands_come) two_demands_file)
+    (must.replayed line one_demand order_12 two_demands demands
+    (order_12_on two_demands two_demands_come) two_demands_file)
 
 -- its lines
 abbrev two_demands_lines : List replay.Line
@@ -172,28 +196,41 @@ table_line : (l : Line) → IsSpelled table_call.words l → l ≡ line
 table_line l spelled = one_line table_call.words l line spelled line_spelled
 
 -- and what it prints is that table
-pub two_demands_are_printed : (text : List ℕ) → Means (replay_call order_12 two_demands) Printed text → text ≡ two_demands_table
+pub two_demands_are_printed : (text : List ℕ) → Means (replay_call order_12 two_demands) Printed text
+    → text ≡ two_demands_table
 two_demands_are_printed text means = by means
   where
     by : Means table_call Printed text → text ≡ two_demands_table
-    by (rows h) = absurd (rows_not_replay h.line.verb h.is_rows (ap (λ (l : Line). l.verb) (table_line h.line h.forms.model.spelled)))
-    by (generated h) = absurd (text_not_replay h.line.verb h.is_text (ap (λ (l : Line). l.verb) (table_line h.line h.spelled)))
-    by (compared h) = absurd (gen_not_replay h.line.verb h.asks.is_gen (ap (λ (l : Line). l.verb) (table_line h.line h.asks.spelled)))
+    by (rows h) =
+        absurd (rows_not_replay h.line.verb h.is_rows
+        (ap (λ (l : Line). l.verb) (table_line h.line h.forms.model.spelled)))
+    by (generated h) =
+        absurd (text_not_replay h.line.verb h.is_text (ap (λ (l : Line). l.verb) (table_line h.line h.spelled)))
+    by (compared h) =
+        absurd (gen_not_replay h.line.verb h.asks.is_gen (ap (λ (l : Line). l.verb) (table_line h.line h.asks.spelled)))
     by (worst_found h) =
         let forms = forms_sought table_call h.line h.m h.c h.form h.has in
         let worst = h.has.plan.certificate.file.is_worst in
         absurd (replay_not_worst h.line.verb (ap (λ (l : Line). l.verb) (table_line h.line forms.model.spelled)) worst)
-    by (swept (inl h)) = absurd (sweep_not_replay h.line.verb h.has.is_sweep (ap (λ (l : Line). l.verb) (table_line h.line h.has.model.spelled)))
-    by (swept (inr h)) = absurd (sweeptext_not_replay h.line.verb h.has.is_text (ap (λ (l : Line). l.verb) (table_line h.line h.has.model.spelled)))
-    by (narrowed h) = absurd (narrow_not_replay h.line.verb h.is_narrow (ap (λ (l : Line). l.verb) (table_line h.line h.forms.model.spelled)))
+    by (priced h) =
+        absurd (sweep_not_replay h.line.verb h.has.is_sweep
+        (ap (λ (l : Line). l.verb) (table_line h.line h.has.model.spelled)))
+    by (limited h) =
+        absurd (sweeptext_not_replay h.line.verb h.has.is_text
+        (ap (λ (l : Line). l.verb) (table_line h.line h.has.model.spelled)))
+    by (narrowed h) =
+        absurd (narrow_not_replay h.line.verb h.is_narrow
+        (ap (λ (l : Line). l.verb) (table_line h.line h.forms.model.spelled)))
     by (split_written h) =
         let has = h.has.has_cuts.has_word in
-        absurd (replay_no_split h.line.verb (ap (λ (l : Line). l.verb) (table_line h.line has.model.spelled)) has.is_splitting)
+        absurd (replay_no_split h.line.verb
+        (ap (λ (l : Line). l.verb) (table_line h.line has.model.spelled)) has.is_splitting)
     by (replayed h) =
         let has = order_12_on two_demands two_demands_come in
         let known : Known table_call.source = by_files (files_of order_12 two_demands) refl in
         let lines : Ok h.lines ≡ Ok two_demands_lines =
-        sym (lines_are table_call known line one_demand order_12 two_demands demands has two_demands_file text h) ∙ two_demands_outcome
+        sym (lines_are table_call known line one_demand order_12 two_demands demands has two_demands_file text h)
+        ∙ two_demands_outcome
         in
         let same : h.lines ≡ two_demands_lines = cc in
         text_is table_call known line one_demand order_12 two_demands demands has two_demands_file text h
@@ -205,7 +242,7 @@ order_least_comes : Come order_least two_demands
 unfolding ratio digits
 order_least_comes = record { model = refl; certificate = refl; scenarios = refl }
 
-order_least_shape : HasShape one_demand order_least
+pub order_least_shape : HasShape one_demand order_least
 unfolding ratio
 order_least_shape = record {
   inside = refl;
@@ -215,7 +252,7 @@ order_least_shape = record {
   items = order_12_shape.items;
 }
 
-order_least_fits : FitsLines greatest one_demand order_least
+pub order_least_fits : FitsLines greatest one_demand order_least
 unfolding ratio
 order_least_fits = (
   tt,
@@ -229,7 +266,13 @@ order_least_fits = (
           fits_by (neg_ℚ (int greatest)) refl refl,
           (
             fits_by 1ℚ refl refl,
-            ((fits_by 1ℚ refl refl, fits_by 1ℚ refl refl), (fits_by (int 12) refl refl, ((fits_by 1ℚ refl refl, fits_by 1ℚ refl refl), (fits_by (int 12) refl refl, (tt, tt))))),
+            (
+              (fits_by 1ℚ refl refl, fits_by 1ℚ refl refl),
+              (
+                fits_by (int 12) refl refl,
+                ((fits_by 1ℚ refl refl, fits_by 1ℚ refl refl), (fits_by (int 12) refl refl, (tt, tt))),
+              ),
+            ),
           ),
         ),
       ),
@@ -242,11 +285,13 @@ unfolding ratio
 order_least_ended = refl
 
 -- this call has to name the record
-pub order_least_is_wide : (result : Ended) → MustEnd (replay_call order_least two_demands) result → EndsAs (TooWide (ReplaySpot 2)) result
+pub order_least_is_wide : (result : Ended) → MustEnd (replay_call order_least two_demands) result
+    → EndsAs (TooWide (ReplaySpot 2)) result
 order_least_is_wide result must =
     subst (λ (ended : Ended). EndsAs ended result) order_least_ended
     (must.replayed line one_demand order_least two_demands demands
-    (scenarios_on order_least two_demands order_least_comes order_least_shape order_least_fits (λ e. cc)) two_demands_file)
+    (scenarios_on order_least two_demands order_least_comes order_least_shape order_least_fits (λ e. cc))
+    two_demands_file)
 
 -- ---- a certificate without a plan
 no_order_comes : Come no_order two_demands
@@ -257,7 +302,15 @@ pub no_order_shape : HasShape one_demand no_order
 unfolding ratio
 no_order_shape = record {
   inside = refl;
-  parts = record { value = refl; scale = refl; plan = refl; step = refl; step_bound = refl; covers = refl; holds = refl };
+  parts = record {
+    value = refl;
+    scale = refl;
+    plan = refl;
+    step = refl;
+    step_bound = refl;
+    covers = refl;
+    holds = refl;
+  };
   covers = record { each = tt; ordered = tt };
   holds = record { each = tt; ordered = tt };
   items = record { each = tt; ordered = tt; few = omega arith };
@@ -268,7 +321,8 @@ unfolding ratio
 no_order_fits = (tt, (fits_by (int 8) refl refl, (tt, tt)))
 
 -- this call has to say so
-pub no_order_is_planless : (result : Ended) → MustEnd (replay_call no_order two_demands) result → EndsAs (Cert 34 1) result
+pub no_order_is_planless : (result : Ended) → MustEnd (replay_call no_order two_demands) result
+    → EndsAs (Cert 34 1) result
 no_order_is_planless result must =
     must.planless line one_demand 34 1
     (planless no_order (certificate_on no_order two_demands no_order_comes no_order_shape no_order_fits) refl refl refl)
@@ -283,6 +337,8 @@ unfolding strip_bom
 no_demand_file = ([], one_field (codes "e") [] refl refl (refl, tt), tt)
 
 -- this call has to name the header's rule
-pub no_demand_is_refused : (result : Ended) → MustEnd (replay_call order_12 no_demand) result → EndsAs (Scenarios 41 1) result
+pub no_demand_is_refused : (result : Ended) → MustEnd (replay_call order_12 no_demand) result
+    → EndsAs (Scenarios 41 1) result
 no_demand_is_refused result must =
-    must.replayed line one_demand order_12 no_demand ((codes "e" ∷ []) ∷ []) (order_12_on no_demand no_demand_comes) no_demand_file
+    must.replayed line one_demand order_12 no_demand ((codes "e" ∷ []) ∷ [])
+    (order_12_on no_demand no_demand_comes) no_demand_file

@@ -33,7 +33,8 @@ use Rattle.rob_top.proofs.SolveAnswers.{IsSolvedOrWide, optimal_or_wide}
 use Rattle.rob_top.proofs.WorkedCalls.{Comes, differ, fits_by, forms_on, free, letter, line, within_by}
 use Rattle.rob_top.specs.Completeness.{MustEnd}
 use Rattle.rob_top.specs.Inputs.{HasForms}
-use Rattle.rob_top.specs.WorkedCalls.{greatest, hard_and_soft, solve_call}
+use Rattle.rob_top.specs.WorkedCalls.{solve_call}
+use Rattle.rob_top.specs.WorkedModels.{greatest, hard_and_soft}
 use Rattle.rob_top.specs.declared.ended.Ended.{Ended}
 use Rattle.rob_words.specs.declared.route.Route.TheVariants.{Dual}
 
@@ -53,13 +54,17 @@ module _ (m : RobustModel) (e : Expression) where
 
   -- row k at the first four columns, and at one past them
   abbrev IsNarrowRow : ℕ → ℕ → Type 0
-  IsNarrowRow k j = IsNarrowAt k 0 × (IsNarrowAt k 1 × (IsNarrowAt k 2 × (IsNarrowAt k 3 × IsNarrowAt k (suc (suc (suc (suc j)))))))
+  IsNarrowRow k j =
+      IsNarrowAt k 0 × (IsNarrowAt k 1 × (IsNarrowAt k 2 × (IsNarrowAt k 3 × IsNarrowAt k (suc (suc (suc (suc j)))))))
 
   abbrev test_row : (k j : ℕ) → Option (IsNarrowRow k j)
-  test_row k j = both (test_at k 0) (both (test_at k 1) (both (test_at k 2) (both (test_at k 3) (test_at k (suc (suc (suc (suc j))))))))
+  test_row k j =
+      both (test_at k 0)
+      (both (test_at k 1) (both (test_at k 2) (both (test_at k 3) (test_at k (suc (suc (suc (suc j))))))))
 
   -- the first three rows, and one past them
-  abbrev test_table : (k j : ℕ) → Option (IsNarrowRow 0 j × (IsNarrowRow 1 j × (IsNarrowRow 2 j × IsNarrowRow (suc (suc (suc k))) j)))
+  abbrev test_table : (k j : ℕ)
+      → Option (IsNarrowRow 0 j × (IsNarrowRow 1 j × (IsNarrowRow 2 j × IsNarrowRow (suc (suc (suc k))) j)))
   test_table k j = both (test_row 0 j) (both (test_row 1 j) (both (test_row 2 j) (test_row (suc (suc (suc k))) j)))
 
   row_at : (k : ℕ) → ((j : ℕ) → IsNarrowRow k j) → (j : ℕ) → IsNarrowAt k j
@@ -92,12 +97,14 @@ module _ (m : RobustModel) where
   below_narrow : HasWidePart (parameter 1 ⊖ number (int 10)) → ⊥
   unfolding ratio
   below_narrow =
-      tested_narrow (subexpressions (parameter 1 ⊖ number (int 10))) ((λ k j. tt), ((λ k j. tt), ((λ k j. tt), ((λ k j. tt), tt))))
+      tested_narrow (subexpressions (parameter 1 ⊖ number (int 10)))
+      ((λ k j. tt), ((λ k j. tt), ((λ k j. tt), ((λ k j. tt), tt))))
 
   pub above_narrow : HasWidePart (number (int 13) ⊖ parameter 1) → ⊥
   unfolding ratio
   above_narrow =
-      tested_narrow (subexpressions (number (int 13) ⊖ parameter 1)) ((λ k j. tt), ((λ k j. tt), ((λ k j. tt), ((λ k j. tt), tt))))
+      tested_narrow (subexpressions (number (int 13) ⊖ parameter 1))
+      ((λ k j. tt), ((λ k j. tt), ((λ k j. tt), ((λ k j. tt), tt))))
 
   pub goal_narrow : HasWidePart ((variable 0 ⊕ variable 1) ⊖ variable 2) → ⊥
   unfolding ratio
@@ -135,12 +142,29 @@ hard_and_soft_costs_22 =
     tt
 
 pub its_spelling : Each IsSpelled (declared_names hard_and_soft)
-its_spelling =
-    (letter 100 refl refl, (four 99 97 108 109 refl refl refl refl refl, (four 104 97 114 100 refl refl refl refl refl, (four 115 111 102 116 refl refl refl refl refl, (letter 120 refl refl, (letter 122 refl refl, tt))))))
+its_spelling = (
+  letter 100 refl refl,
+  (
+    four 99 97 108 109 refl refl refl refl refl,
+    (
+      four 104 97 114 100 refl refl refl refl refl,
+      (four 115 111 102 116 refl refl refl refl refl, (letter 120 refl refl, (letter 122 refl refl, tt))),
+    ),
+  ),
+)
 
 pub its_names : IsNamed hard_and_soft
 its_names = record {
-  plain = (((λ e. cc), tt), (((λ e. cc), ((λ e. cc), ((λ e. cc), ((λ e. cc), tt)))), (((λ e. cc), ((λ e. cc), ((λ e. cc), ((λ e. cc), tt)))), (((λ e. cc), ((λ e. cc), ((λ e. cc), ((λ e. cc), tt)))), (((λ e. cc), tt), (((λ e. cc), tt), tt))))));
+  plain = (
+    ((λ e. cc), tt),
+    (
+      ((λ e. cc), ((λ e. cc), ((λ e. cc), ((λ e. cc), tt)))),
+      (
+        ((λ e. cc), ((λ e. cc), ((λ e. cc), ((λ e. cc), tt)))),
+        (((λ e. cc), ((λ e. cc), ((λ e. cc), ((λ e. cc), tt)))), (((λ e. cc), tt), (((λ e. cc), tt), tt))),
+      ),
+    ),
+  );
   free = (
     free (codes "d") tt tt tt tt,
     (
@@ -161,11 +185,29 @@ its_names = record {
     ),
   );
   distinct = (
-    (differ (codes "d") (codes "calm") tt, (differ (codes "d") (codes "hard") tt, (differ (codes "d") (codes "soft") tt, (differ (codes "d") (codes "x") tt, (differ (codes "d") (codes "z") tt, tt))))),
     (
-      (differ (codes "calm") (codes "hard") tt, (differ (codes "calm") (codes "soft") tt, (differ (codes "calm") (codes "x") tt, (differ (codes "calm") (codes "z") tt, tt)))),
+      differ (codes "d") (codes "calm") tt,
       (
-        (differ (codes "hard") (codes "soft") tt, (differ (codes "hard") (codes "x") tt, (differ (codes "hard") (codes "z") tt, tt))),
+        differ (codes "d") (codes "hard") tt,
+        (
+          differ (codes "d") (codes "soft") tt,
+          (differ (codes "d") (codes "x") tt, (differ (codes "d") (codes "z") tt, tt)),
+        ),
+      ),
+    ),
+    (
+      (
+        differ (codes "calm") (codes "hard") tt,
+        (
+          differ (codes "calm") (codes "soft") tt,
+          (differ (codes "calm") (codes "x") tt, (differ (codes "calm") (codes "z") tt, tt)),
+        ),
+      ),
+      (
+        (
+          differ (codes "hard") (codes "soft") tt,
+          (differ (codes "hard") (codes "x") tt, (differ (codes "hard") (codes "z") tt, tt)),
+        ),
         (
           (differ (codes "soft") (codes "x") tt, (differ (codes "soft") (codes "z") tt, tt)),
           (
@@ -213,8 +255,26 @@ unfolding ratio
 hard_and_soft_reads =
     canonical_reads greatest hard_and_soft (omega arith) (omega arith) its_parts
     (found (test_model (written_model hard_and_soft)) tt)
-    its_names its_spelling (tt, tt) it_is_within
-    ((tt, (tt, (tt, (tt, (tt, (tt, (tt, (tt, tt)))))))), ((tt, (tt, tt)), ((tt, (tt, (tt, (tt, (tt, (tt, tt)))))), ((tt, (tt, tt)), ((tt, (tt, tt)), ((tt, (tt, (tt, (tt, tt)))), ((tt, (tt, (tt, (tt, (tt, (tt, tt)))))), ((tt, (tt, (tt, (tt, (tt, (tt, (tt, (tt, tt)))))))), tt)))))))) (leb-true _ _ refl)
+    its_names its_spelling (tt, tt) it_is_within (
+      (tt, (tt, (tt, (tt, (tt, (tt, (tt, (tt, tt)))))))),
+      (
+        (tt, (tt, tt)),
+        (
+          (tt, (tt, (tt, (tt, (tt, (tt, tt)))))),
+          (
+            (tt, (tt, tt)),
+            (
+              (tt, (tt, tt)),
+              (
+                (tt, (tt, (tt, (tt, tt)))),
+                ((tt, (tt, (tt, (tt, (tt, (tt, tt)))))), ((tt, (tt, (tt, (tt, (tt, (tt, (tt, (tt, tt)))))))), tt)),
+              ),
+            ),
+          ),
+        ),
+      ),
+    )
+    (leb-true _ _ refl)
 
 it_is_narrow : NothingWide greatest hard_and_soft (judged_set hard_and_soft ++ judged_forms hard_and_soft)
 unfolding ratio
@@ -240,7 +300,8 @@ it_is_narrow =
                       (
                         tt,
                         (
-                          difference_narrow hard_and_soft (parameter 1) 2 0 (λ k j. refl) (variable 1) 0 2 (λ k j. refl),
+                          difference_narrow hard_and_soft (parameter 1) 2 0 (λ k j. refl)
+                              (variable 1) 0 2 (λ k j. refl),
                           (tt, tt),
                         ),
                       ),
@@ -265,5 +326,6 @@ its_forms = forms_on hard_and_soft hard_and_soft_comes hard_and_soft_reads it_is
 pub hard_and_soft_is_solved : (result : Ended) → MustEnd (solve_call hard_and_soft) result
     → IsSolvedOrWide Dual greatest hard_and_soft result
 hard_and_soft_is_solved result must =
-    optimal_or_wide Dual greatest hard_and_soft (int 22) (int 8 ∷ int 8 ∷ []) hard_and_soft_costs_22 hard_and_soft_admitted result
+    optimal_or_wide Dual greatest hard_and_soft (int 22) (int 8 ∷ int 8 ∷ []) hard_and_soft_costs_22
+    hard_and_soft_admitted result
     (must.solving line hard_and_soft its_forms refl)

@@ -1,5 +1,5 @@
 -- The text that `celltext` prints of the smallest model cut at 9, worked by hand: a call of `solve` takes it.
-use Rattle.std.proofs.Common.{ℕ, [], refl, arith}
+use Rattle.std.proofs.Common.{refl, arith}
 use Rattle.std.proofs.lemmas.Bool.{leb-true}
 use Rattle.std.specs.Fmt.{digits}
 use Rattle.std.specs.Prelude.{codes}
@@ -16,7 +16,8 @@ use Rattle.rob_top.proofs.WorkedCells as cutting
 use Rattle.rob_top.proofs.WorkedCells.{its_model, keeps_9, text_at_9}
 use Rattle.rob_top.specs.Split.{IsSplitText}
 use Rattle.rob_top.specs.SplitTexts.{TakesSplit}
-use Rattle.rob_top.specs.WorkedCalls.{at_9, cells_call, greatest, model_name, solve_call}
+use Rattle.rob_top.specs.WorkedCalls.{cells_call, model_name, solve_call}
+use Rattle.rob_top.specs.WorkedModels.{at_9}
 use Rattle.rob_words.specs.Commands.{Line}
 use Rattle.rob_words.specs.declared.verb.Verb.TheVariants.{CellText}
 use Rattle.rob_write.specs.Canonical.{model_text}
@@ -47,7 +48,8 @@ split_is_few : HasFewTokens s
 unfolding ratio digits
 split_is_few = leb-true _ _ refl
 
-pub split_is_taken : (split : IsSplitText (cells_call (codes "celltext") (codes "d=9") one_demand) (model_text (split_model one_demand at_9)))
+pub split_is_taken : (split : IsSplitText (cells_call (codes "celltext") (codes "d=9") one_demand)
+    (model_text (split_model one_demand at_9)))
     × ((line : Line) × TakesSplit split (solve_call (split_model one_demand at_9)) line)
 unfolding printed
 split_is_taken = (
@@ -58,7 +60,11 @@ split_is_taken = (
       given = record {
         spelled = line_spelled;
         came = ((model_text s, (split_comes, tt)), tt);
-        file = record { request = record { place = 0; name = model_name; most = 65536 }; named = refl; found = (split_comes, tt) };
+        file = record {
+          request = record { place = 0; name = model_name; most = 65536 };
+          named = refl;
+          found = (split_comes, tt);
+        };
       };
       width = refl;
       few = split_is_few;

@@ -1,4 +1,5 @@
--- Calls of `sweep` and `sweeptext` worked by hand: a model without statements on its set has no budget, and so how they must end.
+-- Calls of `sweep` and `sweeptext` worked by hand: a model without statements
+-- on its set has no budget, and so how they must end.
 use Rattle.std.proofs.Common.{[], ◌∷◌, refl, inl, inr, arith}
 use Rattle.std.specs.Prelude.{codes}
 use Rattle.rob_dualize.specs.SmallestModel.{one_demand}
@@ -9,7 +10,8 @@ use Rattle.rob_top.specs.Completeness.{MustEnd}
 use Rattle.rob_top.specs.Endings.{EndsAs}
 use Rattle.rob_top.specs.Inputs.{HasModel}
 use Rattle.rob_top.specs.Swept.{limit_value}
-use Rattle.rob_top.specs.WorkedCalls.{greatest, model_name, sweep_call}
+use Rattle.rob_top.specs.WorkedCalls.{model_name, sweep_call}
+use Rattle.rob_top.specs.WorkedModels.{greatest}
 use Rattle.rob_top.specs.declared.ended.Ended.{Ended}
 use Rattle.rob_top.specs.declared.ended.Ended.TheVariants.{Sweep}
 use Rattle.rob_words.specs.Commands.{Line, own, IsSpelled}
@@ -34,8 +36,21 @@ sweep_spelled = (
     kinds = (
       tt,
       (
-        record { number = record { digits = (omega arith, (omega arith, tt)); few = omega arith; fits = omega arith }; few = omega arith },
-        (record { parts = (inl (refl, record { digits = (omega arith, (omega arith, tt)); fits = omega arith }), tt); few = omega arith }, tt),
+        record {
+          number = record {
+            digits = (omega arith, (omega arith, tt));
+            few = omega arith;
+            fits = omega arith;
+          };
+          few = omega arith;
+        },
+        (
+          record {
+            parts = (inl (refl, record { digits = (omega arith, (omega arith, tt)); fits = omega arith }), tt);
+            few = omega arith;
+          },
+          tt,
+        ),
       ),
     );
     width = inr (refl, refl);
@@ -54,7 +69,14 @@ sweeptext_spelled = (
     kinds = (
       tt,
       (
-        record { number = record { digits = (omega arith, (omega arith, tt)); few = omega arith; fits = omega arith }; few = omega arith },
+        record {
+          number = record {
+            digits = (omega arith, (omega arith, tt));
+            few = omega arith;
+            fits = omega arith;
+          };
+          few = omega arith;
+        },
         (inl (refl, record { digits = (omega arith, (omega arith, tt)); fits = omega arith }), tt),
       ),
     );
@@ -84,7 +106,8 @@ sweeptext_on m comes reads = record {
 }
 
 -- these calls have to name rule 81
-pub no_budget_is_swept : (result : Ended) → MustEnd (sweep_call (codes "sweep") one_demand) result → EndsAs (Sweep 81) result
+pub no_budget_is_swept : (result : Ended) → MustEnd (sweep_call (codes "sweep") one_demand) result
+    → EndsAs (Sweep 81) result
 no_budget_is_swept result must =
     must.sweep_rule (line verbs.Sweep) one_demand 1 (limit_value (codes "0") ∷ []) 81
     (record {
@@ -95,7 +118,8 @@ no_budget_is_swept result must =
     })
     (inl (refl, λ h. h))
 
-pub no_budget_is_limited : (result : Ended) → MustEnd (sweep_call (codes "sweeptext") one_demand) result → EndsAs (Sweep 81) result
+pub no_budget_is_limited : (result : Ended) → MustEnd (sweep_call (codes "sweeptext") one_demand) result
+    → EndsAs (Sweep 81) result
 no_budget_is_limited result must =
     must.limit_rule (line verbs.SweepText) one_demand 1 (limit_value (codes "0"))
     (record {

@@ -1,5 +1,5 @@
--- Calls of `checktree` worked by hand: on an empty file, on a tree that proves, and on one that doesn't; and so how each must
--- end.
+-- Calls of `checktree` worked by hand: on an empty file, on a tree that proves,
+-- and on one that doesn't; and so how each must end.
 use Rattle.std.proofs.Common.{◌≡◌, ◌⊎◌, ℕ, pos, nat_abs, List, [], ◌∷◌, Some, refl, ◌∙◌, ap, inl, inr, arith}
 use Rattle.std.specs.Fmt.{digits}
 use Rattle.std.specs.Prelude.{codes}
@@ -26,7 +26,8 @@ use Rattle.rob_top.specs.Completeness.{MustEnd}
 use Rattle.rob_top.specs.Endings.{EndsAs, IsOutside, NamesFault, NamesWidth}
 use Rattle.rob_top.specs.Inputs.{HasModel, HasWholeVariables}
 use Rattle.rob_top.specs.TreeChecked.{HasTree, HasTreeFile}
-use Rattle.rob_top.specs.WorkedCalls.{greatest, half_a_demand, model_name}
+use Rattle.rob_top.specs.WorkedCalls.{model_name}
+use Rattle.rob_top.specs.WorkedModels.{greatest, half_a_demand}
 use Rattle.rob_top.specs.WorkedTrees.{cheaper_orders, not_below_6, order_7, tree_call, tree_name, whole_orders}
 use Rattle.rob_top.specs.declared.ended.Ended.{Ended}
 use Rattle.rob_top.specs.declared.ended.Ended.TheVariants.{Accepted, Tree as TreeRule}
@@ -50,7 +51,10 @@ words_spelled = (
     own = refl;
     count = refl;
     names = ((λ e. cc), ((λ e. cc), ((λ e. cc), tt)));
-    kinds = (tt, (record { parts = (record { is_word = (refl, tt); no_keyword = refl }, tt); few = omega arith }, (tt, tt)));
+    kinds = (
+      tt,
+      (record { parts = (record { is_word = (refl, tt); no_keyword = refl }, tt); few = omega arith }, (tt, tt)),
+    );
     width = inr (refl, refl);
     route = (refl, refl);
   },
@@ -66,11 +70,16 @@ has_model bytes come = record {
   spelled = words_spelled;
   came = ((model_text half_a_demand, (come.model, tt)), ((bytes, (come.tree, tt)), tt));
   bytes = model_text half_a_demand;
-  file = record { request = record { place = 0; name = model_name; most = 65536 }; named = refl; found = (come.model, tt) };
+  file = record {
+    request = record { place = 0; name = model_name; most = 65536 };
+    named = refl;
+    found = (come.model, tt);
+  };
   reads = half_reads;
 }
 
-has_variables : (bytes : List ℕ) → Come bytes → HasWholeVariables (tree_call half_a_demand bytes) line half_a_demand (0 ∷ [])
+has_variables : (bytes : List ℕ) → Come bytes
+    → HasWholeVariables (tree_call half_a_demand bytes) line half_a_demand (0 ∷ [])
 unfolding ratio
 has_variables bytes come = record {
   named = record {
@@ -86,7 +95,11 @@ has_file : (bytes : List ℕ) → Come bytes → HasTreeFile (tree_call half_a_d
 has_file bytes come = record {
   variables = has_variables bytes come;
   is_checktree = refl;
-  file = record { request = record { place = 1; name = tree_name; most = 67108864 }; named = refl; found = (come.tree, tt) };
+  file = record {
+    request = record { place = 1; name = tree_name; most = 67108864 };
+    named = refl;
+    found = (come.tree, tt);
+  };
 }
 
 -- ---- an empty file
@@ -99,7 +112,8 @@ empty_breaks : Breaks greatest half_a_demand (0 ∷ []) [] 71 1
 empty_breaks = in_claim NoLine (λ first after begins s is. empty_split first 10 after begins.split) refl refl
 
 -- so this one rule 71
-pub empty_tree_is_refused : (result : Ended) → MustEnd (tree_call half_a_demand []) result → EndsAs (TreeRule 71 1) result
+pub empty_tree_is_refused : (result : Ended) → MustEnd (tree_call half_a_demand []) result
+    → EndsAs (TreeRule 71 1) result
 empty_tree_is_refused result must =
     must.tree_broken line half_a_demand (0 ∷ []) [] 71 1 (has_file [] nothing_comes) empty_breaks
 
@@ -107,7 +121,8 @@ empty_tree_is_refused result must =
 abbrev bytes_of : Tree → List ℕ
 bytes_of t = tree_text half_a_demand t
 
-tree_on : (t : Tree) → Come (bytes_of t) → HasTreeShape greatest half_a_demand (0 ∷ []) t → TreeFits greatest half_a_demand t
+tree_on : (t : Tree) → Come (bytes_of t) → HasTreeShape greatest half_a_demand (0 ∷ []) t
+    → TreeFits greatest half_a_demand t
     → HasTree (tree_call half_a_demand (bytes_of t)) line half_a_demand (0 ∷ []) t
 tree_on t come shape fits = record {
   bytes = bytes_of t;
@@ -120,7 +135,15 @@ not_below_6_shape : HasShape (box_below half_a_demand 0 (pos 6)) not_below_6
 unfolding ratio
 not_below_6_shape = record {
   inside = refl;
-  parts = record { value = refl; scale = refl; plan = refl; step = refl; step_bound = refl; covers = refl; holds = refl };
+  parts = record {
+    value = refl;
+    scale = refl;
+    plan = refl;
+    step = refl;
+    step_bound = refl;
+    covers = refl;
+    holds = refl;
+  };
   covers = record { each = tt; ordered = tt };
   holds = record { each = tt; ordered = tt };
   items = record {
@@ -135,7 +158,10 @@ unfolding ratio
 order_7_shape = record {
   inside = refl;
   parts = record { plan = refl; step = refl; step_bound = refl; holds = refl };
-  covers = record { each = (record { form = omega arith; set_row = omega arith; amount = one_not_zero }, tt); ordered = (tt, tt) };
+  covers = record {
+    each = (record { form = omega arith; set_row = omega arith; amount = one_not_zero }, tt);
+    ordered = (tt, tt);
+  };
   holds = record { each = tt; ordered = tt };
   items = record {
     each = (record { form = omega arith; numbers = refl }, (record { form = omega arith; numbers = refl }, tt));
@@ -150,7 +176,13 @@ not_below_6_fits = (
   tt,
   (
     fits_by (int 8) refl refl,
-    ((fits_by 1ℚ refl refl, fits_by 1ℚ refl refl), (fits_by (int 13) refl refl, ((fits_by (int 2) refl refl, fits_by 1ℚ refl refl), (fits_by (int 8) refl refl, (tt, tt))))),
+    (
+      (fits_by 1ℚ refl refl, fits_by 1ℚ refl refl),
+      (
+        fits_by (int 13) refl refl,
+        ((fits_by (int 2) refl refl, fits_by 1ℚ refl refl), (fits_by (int 8) refl refl, (tt, tt))),
+      ),
+    ),
   ),
 )
 
@@ -168,7 +200,13 @@ order_7_fits = (
           fits_by (int 7) refl refl,
           (
             fits_by 1ℚ refl refl,
-            ((fits_by 1ℚ refl refl, fits_by 1ℚ refl refl), (fits_by (int 8) refl refl, ((fits_by 1ℚ refl refl, fits_by 1ℚ refl refl), (fits_by (int 8) refl refl, (tt, tt))))),
+            (
+              (fits_by 1ℚ refl refl, fits_by 1ℚ refl refl),
+              (
+                fits_by (int 8) refl refl,
+                ((fits_by 1ℚ refl refl, fits_by 1ℚ refl refl), (fits_by (int 8) refl refl, (tt, tt))),
+              ),
+            ),
           ),
         ),
       ),
@@ -179,7 +217,12 @@ order_7_fits = (
 -- both trees have their shape, whatever value they claim
 shape_at : (v : Fraction) → HasTreeShape greatest half_a_demand (0 ∷ []) (record whole_orders { value = v })
 shape_at v = record {
-  tree = record { on_names = (inl refl, tt, tt); few = omega arith; closed = (tt, tt); best = (omega arith, omega arith) };
+  tree = record {
+    on_names = (inl refl, tt, tt);
+    few = omega arith;
+    closed = (tt, tt);
+    best = (omega arith, omega arith);
+  };
   shaped = (not_below_6_shape, (order_7_shape, tt));
   numbers = ((omega arith, λ e. let same : 6 ≡ greatest = ap nat_abs e in omega (arith, same)), tt, tt);
   parts = tt;
@@ -192,7 +235,8 @@ whole_orders_come = record { model = refl; tree = refl }
 
 whole_orders_fit : TreeFits greatest half_a_demand whole_orders
 unfolding ratio
-whole_orders_fit = record { value = fits_by (int 7) refl refl; best = omega arith; root = (not_below_6_fits, order_7_fits) }
+whole_orders_fit =
+    record { value = fits_by (int 7) refl refl; best = omega arith; root = (not_below_6_fits, order_7_fits) }
 
 whole_orders_prove : ProvesTree half_a_demand (0 ∷ []) whole_orders
 unfolding ratio
@@ -212,12 +256,16 @@ cheaper_orders_come = record { model = refl; tree = refl }
 
 cheaper_orders_fit : TreeFits greatest half_a_demand cheaper_orders
 unfolding ratio
-cheaper_orders_fit = record { value = fits_by (int 6) refl refl; best = omega arith; root = (not_below_6_fits, order_7_fits) }
+cheaper_orders_fit =
+    record { value = fits_by (int 6) refl refl; best = omega arith; root = (not_below_6_fits, order_7_fits) }
 
 cheaper_orders_prove_not : ProvesTree half_a_demand (0 ∷ []) cheaper_orders → ⊥
 unfolding ratio
 cheaper_orders_prove_not h =
-    let best : IsBestLeaf (0 ∷ []) (int 6) (record { box = box_above half_a_demand 0 (pos 6); certificate = Some order_7 }) = h.shows.1 in
+    let best : IsBestLeaf (0 ∷ []) (int 6) (record {
+      box = box_above half_a_demand 0 (pos 6);
+      certificate = Some order_7;
+    }) = h.shows.1 in
     let there : Some order_7 ≡ Some best.certificate = best.here in
     let same : order_7 ≡ best.certificate = cc in
     let value : int 7 ≡ int 6 = ap (λ (c : Certificate). c.value) same ∙ best.value in

@@ -1,5 +1,6 @@
--- Calls of `whole` worked by hand: a variable without bounds, and a name that is no variable's, and so how each call must end.
-use Rattle.std.proofs.Common.{◌≡◌, ℕ, pos, zero, suc, List, [], ◌∷◌, map, refl, inl, inr, ◌⊎◌, arith}
+-- Calls of `whole` worked by hand: a variable without bounds, and a name that
+-- is no variable's, and so how each call must end.
+use Rattle.std.proofs.Common.{◌≡◌, ℕ, zero, suc, List, [], ◌∷◌, map, refl, inl, inr, ◌⊎◌, arith}
 use Rattle.std.proofs.lemmas.Bool.{leb-true}
 use Rattle.std.specs.Fmt.{digits}
 use Rattle.std.specs.Prelude.{codes}
@@ -16,7 +17,7 @@ use Rattle.rob_meaning.specs.UncertaintySet.{Admits}
 use Rattle.rob_meaning.specs.WellFormed.{IsModel}
 use Rattle.rob_model.specs.Limits.{IsWithinLimits}
 use Rattle.rob_model.specs.declared.place.Spot.{Spot}
-use Rattle.rob_outside.specs.Files.{file_of, found_at, whole}
+use Rattle.rob_outside.specs.Files.{whole}
 use Rattle.rob_parse.specs.Modelled.{ReadsModel}
 use Rattle.rob_reach.proofs.StatusLemmas.{optimal_not_infeasible, optimal_not_unbounded}
 use Rattle.rob_reach.proofs.WorkedTests.{test_tree_status}
@@ -31,7 +32,8 @@ use Rattle.rob_top.specs.Branched.{no_ranges, no_variables}
 use Rattle.rob_top.specs.Completeness.{MustEnd}
 use Rattle.rob_top.specs.Endings.{EndsAs, IsWholeAnswer}
 use Rattle.rob_top.specs.Inputs.{AreVariables, HasModel, HasVariables, HasWholeVariables}
-use Rattle.rob_top.specs.WorkedCalls.{greatest, half_a_demand, model_name, whole_call}
+use Rattle.rob_top.specs.WorkedCalls.{model_name, whole_call}
+use Rattle.rob_top.specs.WorkedModels.{greatest, half_a_demand}
 use Rattle.rob_top.specs.WorkedTrees.{whole_orders}
 use Rattle.rob_top.specs.declared.ended.Ended.{Ended}
 use Rattle.rob_top.specs.declared.ended.Ended.TheVariants.{Optimal, Infeasible, Unbounded, Printed, Accepted, Rejected, Words, Missing, TooLong, Model, EmptySet, TooWide, WideNode, WideBudget, Cert, Scenarios, Whole as RuleOfWhole, Sweep, Cells, Tree as RuleOfTree, TreeRejected, NoRow, ReadFault, WriteFault, Memory}
@@ -94,7 +96,8 @@ x_is_variable = record {
 }
 
 -- this call has to name rule 62
-pub x_is_boundless : (result : Ended) → MustEnd (whole_call one_demand (codes "x")) result → EndsAs (RuleOfWhole 62) result
+pub x_is_boundless : (result : Ended) → MustEnd (whole_call one_demand (codes "x")) result
+    → EndsAs (RuleOfWhole 62) result
 x_is_boundless result must = must.whole_rule (line (codes "x")) one_demand 62 (no_ranges (0 ∷ []) x_is_variable refl)
 
 -- ---- y is no variable
@@ -106,10 +109,12 @@ no_y (zero ∷ numbers) h =
 no_y (suc k ∷ numbers) h = absurd (omega (arith, h.kept.inside.0))
 
 -- and this one rule 61
-pub y_is_no_variable : (result : Ended) → MustEnd (whole_call one_demand (codes "y")) result → EndsAs (RuleOfWhole 61) result
+pub y_is_no_variable : (result : Ended) → MustEnd (whole_call one_demand (codes "y")) result
+    → EndsAs (RuleOfWhole 61) result
 y_is_no_variable result must =
     must.whole_rule (line (codes "y")) one_demand 61
-    (no_variables (codes "y" ∷ []) (model_on one_demand (codes "y") one_demand_comes one_demand_reads y_spelled) (record { word = codes "y"; told = refl; parts = refl }) no_y refl)
+    (no_variables (codes "y" ∷ []) (model_on one_demand (codes "y") one_demand_comes one_demand_reads y_spelled)
+    (record { word = codes "y"; told = refl; parts = refl }) no_y refl)
 
 -- ---- minimise x, where 2 x >= d for each d in [8, 13], and x lies in [0, 10]
 half_model : IsModel half_a_demand
@@ -131,7 +136,10 @@ pub half_named : IsNamed half_a_demand
 half_named = record {
   plain = (((λ e. cc), tt), (((λ e. cc), tt), (((λ e. cc), tt), tt)));
   free = (free (codes "d") tt tt tt tt, (free (codes "r") tt tt tt tt, (free (codes "x") tt tt tt tt, tt)));
-  distinct = ((differ (codes "d") (codes "r") tt, (differ (codes "d") (codes "x") tt, tt)), ((differ (codes "r") (codes "x") tt, tt), (tt, tt)));
+  distinct = (
+    (differ (codes "d") (codes "r") tt, (differ (codes "d") (codes "x") tt, tt)),
+    ((differ (codes "r") (codes "x") tt, tt), (tt, tt)),
+  );
   lists = tt;
   members = tt;
   few = omega arith;
@@ -140,7 +148,14 @@ half_named = record {
 half_readable : IsReadableModel greatest (naming_of half_a_demand) half_a_demand
 unfolding ratio
 half_readable = record {
-  placed = record { taken_is = refl; line_sets = refl; row_sets = refl; of_lines = tt; of_objective = omega arith; of_rows = (omega arith, tt) };
+  placed = record {
+    taken_is = refl;
+    line_sets = refl;
+    row_sets = refl;
+    of_lines = tt;
+    of_objective = omega arith;
+    of_rows = (omega arith, tt);
+  };
   parts = record {
     parameters = ((fits_by (int 8) refl refl, fits_by (int 13) refl refl), tt);
     set_lines = tt;
@@ -157,10 +172,14 @@ half_within = within_by half_a_demand refl refl refl refl refl refl refl
 pub half_reads : ReadsModel greatest (model_text half_a_demand) half_a_demand
 unfolding ratio
 half_reads =
-    canonical_reads greatest half_a_demand (omega arith) (omega arith) half_readable (found (test_model (written_model half_a_demand)) tt)
+    canonical_reads greatest half_a_demand (omega arith) (omega arith) half_readable
+    (found (test_model (written_model half_a_demand)) tt)
     half_named half_spelled tt half_within (
       (tt, (tt, (tt, (tt, (tt, (tt, (tt, (tt, tt)))))))),
-      ((tt, (tt, (tt, (tt, (tt, (tt, (tt, (tt, tt)))))))), ((tt, (tt, tt)), ((tt, (tt, (tt, (tt, (tt, (tt, (tt, (tt, tt)))))))), tt))),
+      (
+        (tt, (tt, (tt, (tt, (tt, (tt, (tt, (tt, tt)))))))),
+        ((tt, (tt, tt)), ((tt, (tt, (tt, (tt, (tt, (tt, (tt, (tt, tt)))))))), tt)),
+      ),
     )
     (leb-true _ _ refl)
 
@@ -212,5 +231,7 @@ its_answer WriteFault h = inl (inr h)
 its_answer Memory h = inl (inr h)
 
 -- this call has to answer `optimal`, or name such a number
-pub half_a_demand_is_solved : (result : Ended) → MustEnd (whole_call half_a_demand (codes "x")) result → IsSolvedOrWide result
-half_a_demand_is_solved result must = its_answer result (must.whole (line (codes "x")) half_a_demand (0 ∷ []) half_variables refl)
+pub half_a_demand_is_solved : (result : Ended)
+    → MustEnd (whole_call half_a_demand (codes "x")) result → IsSolvedOrWide result
+half_a_demand_is_solved result must =
+    its_answer result (must.whole (line (codes "x")) half_a_demand (0 ∷ []) half_variables refl)

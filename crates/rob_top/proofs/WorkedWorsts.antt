@@ -1,5 +1,5 @@
--- Calls of `worst` worked by hand: a row of a plan, a word that is no form's name, and a certificate without a plan; and so how
--- each must end.
+-- Calls of `worst` worked by hand: a row of a plan, a word that is no form's
+-- name, and a certificate without a plan; and so how each must end.
 use Rattle.std.proofs.Common.{◌≡◌, ℕ, zero, suc, ◌<◌, List, [], ◌∷◌, length, refl, inl, inr, ◌⊎◌, arith}
 use Rattle.std.specs.Fmt.{digits}
 use Rattle.std.specs.Prelude.{◌≢◌, codes}
@@ -22,7 +22,8 @@ use Rattle.rob_top.specs.Completeness.{MustEnd}
 use Rattle.rob_top.specs.Endings.{EndsAs, IsWorstAnswer}
 use Rattle.rob_top.specs.Inputs.{HasPlan, HasSought, HasWorstCertificate}
 use Rattle.rob_top.specs.Searched.{IsWideSought, certificate_vector, claims_none}
-use Rattle.rob_top.specs.WorkedCalls.{certificate_name, greatest, model_name, no_order, order_12, worst_call}
+use Rattle.rob_top.specs.WorkedCalls.{certificate_name, model_name, worst_call}
+use Rattle.rob_top.specs.WorkedModels.{greatest, no_order, order_12}
 use Rattle.rob_top.specs.declared.ended.Ended.{Ended}
 use Rattle.rob_top.specs.declared.ended.Ended.TheVariants.{Optimal, Infeasible, Unbounded, Printed, Accepted, Rejected, Words, Missing, TooLong, Model, EmptySet, TooWide, WideNode, WideBudget, Cert, Scenarios, Whole, Sweep, Cells, NoRow, Tree, TreeRejected, ReadFault, WriteFault, Memory}
 use Rattle.rob_words.specs.Commands.{Line, own, IsSpelled}
@@ -32,10 +33,10 @@ use Rattle.rob_words.specs.declared.verb.Verb.TheVariants.{Worst}
 use Rattle.rob_words.specs.declared.width.Width.TheVariants.{SixtyTwo}
 
 -- ---- worst one.rob one.cert FORM, where the shelf tells both files
-abbrev line : Word → Line
+abbrev pub line : Word → Line
 line form = record { verb = Worst; own = model_name ∷ certificate_name ∷ form ∷ []; way = Dual; width = SixtyTwo }
 
-abbrev Spelled : Word → Type 0
+abbrev pub Spelled : Word → Type 0
 Spelled form = IsSpelled (codes "worst" ∷ model_name ∷ certificate_name ∷ form ∷ []) (line form)
 
 r_spelled : Spelled (codes "r")
@@ -70,11 +71,12 @@ abbrev files_of : Certificate → List File
 files_of c = file_of model_name (model_text one_demand) ∷ file_of certificate_name (cert_text one_demand c) ∷ []
 
 -- both come whole
-record Come (c : Certificate) : Type 0 where
-  model : found_at model_name 65536 (files_of c) ≡ whole (model_text one_demand)
-  certificate : found_at certificate_name 4194304 (files_of c) ≡ whole (cert_text one_demand c)
+pub record Come (c : Certificate) : Type 0 where
+  pub model : found_at model_name 65536 (files_of c) ≡ whole (model_text one_demand)
+  pub certificate : found_at certificate_name 4194304 (files_of c) ≡ whole (cert_text one_demand c)
 
-certificate_on : (c : Certificate) (form : Word) → Spelled form → Come c → HasShape one_demand c → FitsLines greatest one_demand c
+pub certificate_on : (c : Certificate) (form : Word) → Spelled form → Come c → HasShape one_demand c
+    → FitsLines greatest one_demand c
     → HasWorstCertificate (worst_call c form) (line form) one_demand c
 certificate_on c form spelled come shape fits = record {
   bytes = cert_text one_demand c;
@@ -84,13 +86,21 @@ certificate_on c form spelled come shape fits = record {
         spelled = spelled;
         came = ((model_text one_demand, (come.model, tt)), ((cert_text one_demand c, (come.certificate, tt)), tt));
         bytes = model_text one_demand;
-        file = record { request = record { place = 0; name = model_name; most = 65536 }; named = refl; found = (come.model, tt) };
+        file = record {
+          request = record { place = 0; name = model_name; most = 65536 };
+          named = refl;
+          found = (come.model, tt);
+        };
         reads = one_demand_reads;
       };
       none_wide = one_demand_narrow;
     };
     is_worst = refl;
-    file = record { request = record { place = 1; name = certificate_name; most = 4194304 }; named = refl; found = (come.certificate, tt) };
+    file = record {
+      request = record { place = 1; name = certificate_name; most = 4194304 };
+      named = refl;
+      found = (come.certificate, tt);
+    };
   };
   text = record { shape = shape; spelled = refl };
   fits = fits;
@@ -100,7 +110,7 @@ order_12_comes : Come order_12
 unfolding ratio digits
 order_12_comes = record { model = refl; certificate = refl }
 
-order_12_plan : (form : Word) → Spelled form → HasPlan (worst_call order_12 form) (line form) one_demand order_12
+pub order_12_plan : (form : Word) → Spelled form → HasPlan (worst_call order_12 form) (line form) one_demand order_12
 order_12_plan form spelled = record {
   certificate = certificate_on order_12 form spelled order_12_comes order_12_shape order_12_fits;
   has_plan = λ e. cc;
@@ -113,9 +123,12 @@ r_sought = record { plan = order_12_plan (codes "r") r_spelled; is_form = omega 
 -- the worst case is printed, or a number on the way is wide
 abbrev IsPrintedOrWide : Ended → Type 0
 IsPrintedOrWide result =
-    EndsAs Printed result ⊎ ((spot : Spot) × IsWideSought greatest one_demand 1 (certificate_vector order_12) spot × (result ≡ TooWide spot))
+    EndsAs Printed result
+    ⊎ ((spot : Spot) × IsWideSought greatest one_demand 1 (certificate_vector order_12) spot
+    × (result ≡ TooWide spot))
 
-its_answer : (result : Ended) → IsWorstAnswer greatest one_demand 1 (certificate_vector order_12) result → IsPrintedOrWide result
+its_answer : (result : Ended) → IsWorstAnswer greatest one_demand 1 (certificate_vector order_12) result
+    → IsPrintedOrWide result
 its_answer Printed h = inl (inl refl)
 its_answer (EmptySet weights) h = absurd (h (int 8 ∷ []) one_demand_admitted)
 its_answer (TooWide spot) h = inr (spot, h, refl)
@@ -163,7 +176,9 @@ unfolding ratio digits
 no_order_comes = record { model = refl; certificate = refl }
 
 -- this call has to say so
-pub no_order_has_no_plan : (result : Ended) → MustEnd (worst_call no_order (codes "r")) result → EndsAs (Cert 34 1) result
+pub no_order_has_no_plan : (result : Ended) → MustEnd (worst_call no_order (codes "r")) result
+    → EndsAs (Cert 34 1) result
 no_order_has_no_plan result must =
     must.no_plan (line (codes "r")) one_demand 34 1
-    (claims_none no_order (certificate_on no_order (codes "r") r_spelled no_order_comes no_order_shape no_order_fits) refl refl refl)
+    (claims_none no_order (certificate_on no_order (codes "r") r_spelled no_order_comes no_order_shape no_order_fits)
+    refl refl refl)

@@ -51,14 +51,18 @@ use Rattle.rob_words.specs.declared.verb.Own.TheVariants as own
 use Rattle.rob_words.specs.declared.verb.Verb.TheVariants.{Worst}
 
 -- a worst case that is shown has some scenario
-scenario_shown : (limit : ℕ) (m : RobustModel) (form : ℕ) (z : List Fraction) (text : List ℕ) → ShowsWorst limit m form z text → HasScenario m
-scenario_shown limit m form z text (attained basis scenario amounts slack found is fit narrow shown) = (scenario, is.admitted)
-scenario_shown limit m form z text (endless basis column ray found is fit shown) = let u = is.no_greatest 0ℚ in (u.0, u.1)
+scenario_shown : (limit : ℕ) (m : RobustModel) (form : ℕ) (z : List Fraction) (text : List ℕ)
+    → ShowsWorst limit m form z text → HasScenario m
+scenario_shown limit m form z text (attained basis scenario amounts slack found is fit narrow shown) =
+    (scenario, is.admitted)
+scenario_shown limit m form z text (endless basis column ray found is fit shown) =
+    let u = is.no_greatest 0ℚ in (u.0, u.1)
 
 -- and no number of its slack is wide
 slack_shown : (limit : ℕ) (m : RobustModel) → IsModel m → (form : ℕ) → form < length (matrices m) → (z : List Fraction)
     → length z ≡ form_columns m → (text : List ℕ) → ShowsWorst limit m form z text → IsWideSlack limit m form z → ⊥
-slack_shown limit m model form some z size text (attained basis scenario amounts slack found is fit narrow shown) wide = narrow wide
+slack_shown limit m model form some z size text (attained basis scenario amounts slack found is fit narrow shown) wide =
+    narrow wide
 slack_shown limit m model form some z size text (endless basis column ray found is fit shown) wide =
     endless_slack m model form some z size limit ray is wide
 
@@ -74,29 +78,35 @@ module _ (call : Call) (known : Known call.source) (line : Line) (m : RobustMode
   Breach bytes rule number = HasCause (naming_of m) (limit_of line) start bytes 1 (Rule rule number)
 
   -- a certificate's text breaks no rule
-  pub no_breach : (c : Certificate) (bytes : List ℕ) (rule number : ℕ) → HasWorstCertificate call line m c → HasWorstFile call line m bytes
+  pub no_breach : (c : Certificate) (bytes : List ℕ) (rule number : ℕ) → HasWorstCertificate call line m c
+      → HasWorstFile call line m bytes
       → Breach bytes rule number → ⊥
   no_breach c bytes rule number h file breach =
       let same : bytes ≡ h.bytes = same_file bytes h.bytes file h.file in
       let has : HasModel call line m = h.file.forms.model in
-      breaks_none m (limit_of line) c bytes (well call known line m has) (named call known line m has) (in_words call known line m has)
+      breaks_none m (limit_of line) c bytes (well call known line m has) (named call known line m has)
+      (in_words call known line m has)
       (most call known line m) (subst (λ (b : List ℕ). IsTextOf m c b) (sym same) h.text) h.fits rule number breach
 
   -- and is that of one certificate
-  pub one_certificate : (c d : Certificate) → HasWorstCertificate call line m c → HasWorstCertificate call line m d → c ≡ d
+  pub one_certificate : (c d : Certificate) → HasWorstCertificate call line m c
+      → HasWorstCertificate call line m d → c ≡ d
   one_certificate c d h k =
       let same : h.bytes ≡ k.bytes = same_file h.bytes k.bytes h.file k.file in
       let has : HasModel call line m = h.file.forms.model in
-      read_once m (limit_of line) c d k.bytes (well call known line m has) (named call known line m has) (in_words call known line m has)
+      read_once m (limit_of line) c d k.bytes (well call known line m has) (named call known line m has)
+      (in_words call known line m has)
       (most call known line m) (subst (λ (b : List ℕ). IsTextOf m c b) same h.text) k.text h.fits k.fits
 
   -- a text breaks one rule first
-  one_breach : (bytes other : List ℕ) (rule number r n : ℕ) → HasWorstFile call line m bytes → HasWorstFile call line m other
+  one_breach : (bytes other : List ℕ) (rule number r n : ℕ) → HasWorstFile call line m bytes
+      → HasWorstFile call line m other
       → Breach bytes rule number → Breach other r n → (r ≡ rule) × (n ≡ number)
   one_breach bytes other rule number r n file k breach b =
       let here : Breach bytes r n = subst (λ (list : List ℕ). Breach list r n) (same_file other bytes k file) b in
       let has : HasModel call line m = file.forms.model in
-      one_cause m (limit_of line) bytes (well call known line m has) (named call known line m has) (in_words call known line m has)
+      one_cause m (limit_of line) bytes (well call known line m has) (named call known line m has)
+      (in_words call known line m has)
       (most call known line m) r n rule number here breach
 
   -- a certificate with a plan and one without are two
@@ -108,9 +118,12 @@ module _ (call : Call) (known : Known call.source) (line : Line) (m : RobustMode
   gives_some rule number c (claims_none d k is r n) h = planned c d h k is
 
   -- why there is no plan is one rule at one line
-  one_lack : (rule number r n : ℕ) → GivesNoPlan call line m rule number → GivesNoPlan call line m r n → (r ≡ rule) × (n ≡ number)
-  one_lack rule number r n (misread bytes file breach) (misread other k b) = one_breach bytes other rule number r n file k breach b
-  one_lack rule number r n (misread bytes file breach) (claims_none d k is e f) = absurd (no_breach d bytes rule number k file breach)
+  one_lack : (rule number r n : ℕ) → GivesNoPlan call line m rule number → GivesNoPlan call line m r n
+      → (r ≡ rule) × (n ≡ number)
+  one_lack rule number r n (misread bytes file breach) (misread other k b) =
+      one_breach bytes other rule number r n file k breach b
+  one_lack rule number r n (misread bytes file breach) (claims_none d k is e f) =
+      absurd (no_breach d bytes rule number k file breach)
   one_lack rule number r n (claims_none c h is e f) (misread other k b) = absurd (no_breach c other r n h k b)
   one_lack rule number r n (claims_none c h is e f) (claims_none d k also g i) = (g ∙ sym e, i ∙ sym f)
 
@@ -118,13 +131,15 @@ module _ (call : Call) (known : Known call.source) (line : Line) (m : RobustMode
   same_form : (c d : Certificate) (i j : ℕ) → HasSought call line m c i → HasSought call line m d j → i ≡ j
   same_form c d i j h k =
       let has : HasModel call line m = (forms_sought call line m c i h).model in
-      one_number (form_names m) i j (forms_distinct m (well call known line m has) (named call known line m has)) h.is_form k.is_form
+      one_number (form_names m) i j
+      (forms_distinct m (well call known line m has) (named call known line m has)) h.is_form k.is_form
       (one_name line (name_at (form_names m) i) (name_at (form_names m) j) h.told k.told)
 
   same_plan : (c d : Certificate) (i j : ℕ) → HasSought call line m c i → HasSought call line m d j → c ≡ d
   same_plan c d i j h k = one_certificate c d h.plan.certificate k.plan.certificate
 
-  names_one : (c d : Certificate) (form : ℕ) (name : Word) → HasSought call line m c form → NamesNoForm call line m d name → ⊥
+  names_one : (c d : Certificate) (form : ℕ) (name : Word) → HasSought call line m c form
+      → NamesNoForm call line m d name → ⊥
   names_one c d form name h k = k.none form h.is_form (one_name line (name_at (form_names m) form) name h.told k.told)
 
   -- the command is `worst`, so that stands behind its answer
@@ -153,7 +168,8 @@ module _ (call : Call) (known : Known call.source) (line : Line) (m : RobustMode
       → Means call ended text → (ended ≡ Cert rule number) ⊎ ((ended ≡ ReadFault) ⊎ (ended ≡ Memory))
   unplanned_decides rule number has ended text means =
       first_of_two by
-      (worst_course (forms_unplanned call line m rule number has) (unplanned_verb call line m rule number has) ended text means)
+      (worst_course (forms_unplanned call line m rule number has)
+      (unplanned_verb call line m rule number has) ended text means)
     where
       by : WorstCourse call line m ended → ended ≡ Cert rule number
       by (plans_none r n h e) =
@@ -164,10 +180,12 @@ module _ (call : Call) (known : Known call.source) (line : Line) (m : RobustMode
       by (admits_none d form weights h shown e) = absurd (gives_some rule number d has h.plan)
       by (wide_search d form spot h wide e) = absurd (gives_some rule number d has h.plan)
 
-  pub unnamed_decides : (c : Certificate) (name : Word) → NamesNoForm call line m c name → (ended : Ended) (text : List ℕ)
+  pub unnamed_decides : (c : Certificate) (name : Word) → NamesNoForm call line m c name
+      → (ended : Ended) (text : List ℕ)
       → Means call ended text → (ended ≡ NoRow) ⊎ ((ended ≡ ReadFault) ⊎ (ended ≡ Memory))
   unnamed_decides c name has ended text means =
-      first_of_two by (worst_course (forms_unnamed call line m c name has) has.plan.certificate.file.is_worst ended text means)
+      first_of_two by
+      (worst_course (forms_unnamed call line m c name has) has.plan.certificate.file.is_worst ended text means)
     where
       by : WorstCourse call line m ended → ended ≡ NoRow
       by (plans_none r n h e) = absurd (gives_some r n c h has.plan)
@@ -188,30 +206,36 @@ module _ (call : Call) (known : Known call.source) (line : Line) (m : RobustMode
     same_wide : (d : Certificate) (other : ℕ) (spot : Spot) → HasSought call line m d other
         → IsWideSought (limit_of line) m other (certificate_vector d) spot → IsWideSought (limit_of line) m form z spot
     same_wide d other spot h wide =
-        subst (λ (x : Certificate). IsWideSought (limit_of line) m form (certificate_vector x) spot) (same_plan d c other form h has)
-        (subst (λ i. IsWideSought (limit_of line) m i (certificate_vector d) spot) (same_form d c other form h has) wide)
+        subst (λ (x : Certificate). IsWideSought (limit_of line) m form (certificate_vector x) spot)
+        (same_plan d c other form h has)
+        (subst (λ i. IsWideSought (limit_of line) m i (certificate_vector d) spot)
+        (same_form d c other form h has) wide)
 
     answer_is : (ended other : Ended) → ended ≡ other → IsWorstAnswer (limit_of line) m form z other
         → IsWorstAnswer (limit_of line) m form z ended
     answer_is ended other e h = subst (λ (x : Ended). IsWorstAnswer (limit_of line) m form z x) (sym e) h
 
-    pub worst_decides : (ended : Ended) (text : List ℕ) → Means call ended text → IsWorstAnswer (limit_of line) m form z ended
+    pub worst_decides : (ended : Ended) (text : List ℕ) → Means call ended text
+        → IsWorstAnswer (limit_of line) m form z ended
     worst_decides ended text means = all (course_sought ended text means)
       where
         by : WorstCourse call line m ended → IsWorstAnswer (limit_of line) m form z ended
         by (plans_none r n h e) = absurd (gives_some r n c h has.plan)
         by (names_none d name h e) = absurd (names_one c d form name has h)
-        by (shows_worst d other text h shows e) = answer_is ended Printed e (scenario_shown (limit_of line) m other (certificate_vector d) text shows)
+        by (shows_worst d other text h shows e) =
+            answer_is ended Printed e (scenario_shown (limit_of line) m other (certificate_vector d) text shows)
         by (admits_none d other weights h shown e) = answer_is ended (EmptySet weights) e shown.empty
         by (wide_search d other spot h wide e) = answer_is ended (TooWide spot) e (same_wide d other spot h wide)
 
-        all : WorstCourse call line m ended ⊎ ((ended ≡ ReadFault) ⊎ (ended ≡ Memory)) → IsWorstAnswer (limit_of line) m form z ended
+        all : WorstCourse call line m ended ⊎ ((ended ≡ ReadFault) ⊎ (ended ≡ Memory))
+            → IsWorstAnswer (limit_of line) m form z ended
         all (inl course) = by course
         all (inr (inl e)) = answer_is ended ReadFault e (inl refl)
         all (inr (inr e)) = answer_is ended Memory e (inr (inr refl))
 
     -- ---- no scenario is admitted
-    empty_is : (ended other : Ended) → ended ≡ other → IsEmptyAnswer (limit_of line) m other → IsEmptyAnswer (limit_of line) m ended
+    empty_is : (ended other : Ended) → ended ≡ other → IsEmptyAnswer (limit_of line) m other
+        → IsEmptyAnswer (limit_of line) m ended
     empty_is ended other e h = subst (λ (x : Ended). IsEmptyAnswer (limit_of line) m x) (sym e) h
 
     row_of_set : (spot : Spot) → IsWideInSet (limit_of line) m spot → IsEmptyAnswer (limit_of line) m (TooWide spot)
@@ -227,7 +251,8 @@ module _ (call : Call) (known : Known call.source) (line : Line) (m : RobustMode
     row_of_set (spots.Replay number) h = absurd h
 
     before_search : IsEmptySet m → (d : Certificate) (other : ℕ) (spot : Spot)
-        → IsWideSought (limit_of line) m other (certificate_vector d) spot → IsEmptyAnswer (limit_of line) m (TooWide spot)
+        → IsWideSought (limit_of line) m other (certificate_vector d) spot
+        → IsEmptyAnswer (limit_of line) m (TooWide spot)
     before_search none d other spot (in_set wide) = row_of_set spot wide
     before_search none d other spot (in_search some wide) = absurd (none some.0 some.1)
     before_search none d other spot (in_slack some is wide) = absurd (none some.0 some.1)
@@ -240,18 +265,21 @@ module _ (call : Call) (known : Known call.source) (line : Line) (m : RobustMode
         by (plans_none r n h e) = absurd (gives_some r n c h has.plan)
         by (names_none d name h e) = absurd (names_one c d form name has h)
         by (shows_worst d other text h shows e) =
-            let some : HasScenario m = scenario_shown (limit_of line) m other (certificate_vector d) text shows in absurd (none some.0 some.1)
+            let some : HasScenario m = scenario_shown (limit_of line) m other (certificate_vector d) text shows in
+            absurd (none some.0 some.1)
         by (admits_none d other weights h shown e) = empty_is ended (EmptySet weights) e shown
         by (wide_search d other spot h wide e) = empty_is ended (TooWide spot) e (before_search none d other spot wide)
 
-        all : WorstCourse call line m ended ⊎ ((ended ≡ ReadFault) ⊎ (ended ≡ Memory)) → IsEmptyAnswer (limit_of line) m ended
+        all : WorstCourse call line m ended ⊎ ((ended ≡ ReadFault) ⊎ (ended ≡ Memory))
+            → IsEmptyAnswer (limit_of line) m ended
         all (inl course) = by course
         all (inr (inl e)) = empty_is ended ReadFault e (inl refl)
         all (inr (inr e)) = empty_is ended Memory e (inr (inr refl))
 
     -- ---- some scenario is, and no number is wide
     pub worst_printed_decides : (u : List Fraction) → Admits m u
-        → ((spot : Spot) → IsWideSought (limit_of line) m form z spot → ⊥) → (ended : Ended) (text : List ℕ) → Means call ended text
+        → ((spot : Spot) → IsWideSought (limit_of line) m form z spot → ⊥)
+        → (ended : Ended) (text : List ℕ) → Means call ended text
         → (ended ≡ Printed) ⊎ ((ended ≡ ReadFault) ⊎ (ended ≡ Memory))
     worst_printed_decides u admitted narrow ended text means = first_of_two by (course_sought ended text means)
       where
@@ -276,7 +304,8 @@ module _ (call : Call) (known : Known call.source) (line : Line) (m : RobustMode
     size : length z ≡ form_columns m
     size = length-vector m 1ℚ c.plan c.value (plan_length m c has.plan.certificate.text.shape has.plan.has_plan)
 
-    pub worst_slack_decides : IsWideSlack (limit_of line) m form z → (ended : Ended) (text : List ℕ) → Means call ended text
+    pub worst_slack_decides : IsWideSlack (limit_of line) m form z
+        → (ended : Ended) (text : List ℕ) → Means call ended text
         → NamesWideSought (limit_of line) m form z ended
     worst_slack_decides wide ended text means = all (course_sought ended text means)
       where
@@ -285,8 +314,10 @@ module _ (call : Call) (known : Known call.source) (line : Line) (m : RobustMode
             → ShowsWorst (limit_of line) m other (certificate_vector d) shown → ⊥
         none_shown d other shown h shows =
             slack_shown (limit_of line) m here form some z size shown
-            (subst (λ (x : Certificate). ShowsWorst (limit_of line) m form (certificate_vector x) shown) (same_plan d c other form h has)
-            (subst (λ i. ShowsWorst (limit_of line) m i (certificate_vector d) shown) (same_form d c other form h has) shows)) wide
+            (subst (λ (x : Certificate). ShowsWorst (limit_of line) m form (certificate_vector x) shown)
+            (same_plan d c other form h has)
+            (subst (λ i. ShowsWorst (limit_of line) m i (certificate_vector d) shown)
+            (same_form d c other form h has) shows)) wide
 
         by : WorstCourse call line m ended → NamesWideSought (limit_of line) m form z ended
         by (plans_none r n h e) = absurd (gives_some r n c h has.plan)
@@ -298,17 +329,20 @@ module _ (call : Call) (known : Known call.source) (line : Line) (m : RobustMode
         by (wide_search d other spot h also e) =
             named_wide ended (TooWide spot) e (inl (spot, same_wide d other spot h also, refl))
 
-        all : WorstCourse call line m ended ⊎ ((ended ≡ ReadFault) ⊎ (ended ≡ Memory)) → NamesWideSought (limit_of line) m form z ended
+        all : WorstCourse call line m ended ⊎ ((ended ≡ ReadFault) ⊎ (ended ≡ Memory))
+            → NamesWideSought (limit_of line) m form z ended
         all (inl course) = by course
         all (inr (inl e)) = named_wide ended ReadFault e (inr (inl refl))
         all (inr (inr e)) = named_wide ended Memory e (inr (inr (inr refl)))
 
 -- ---- the plan of a certificate that proves has its bound, so no slack below 0 is shown
-pub proved_keeps : (call : Call) (shown : List ℕ) (r : IsSearched call shown) (m : RobustModel) (c : Certificate) → r.m ≡ m → r.c ≡ c
+pub proved_keeps : (call : Call) (shown : List ℕ) (r : IsSearched call shown) (m : RobustModel) (c : Certificate)
+    → r.m ≡ m → r.c ≡ c
     → Proves m c → ShowsKept r.m r.form (certificate_vector r.c) shown
 proved_keeps call shown r m c same alike proves =
     let proves_here : Proves r.m r.c =
     subst (λ (x : RobustModel). Proves x r.c) (sym same) (subst (λ (d : Certificate). Proves m d) (sym alike) proves)
     in
     r.kept
-    (proved_bound r.m (model_read call r.line r.m (forms_sought call r.line r.m r.c r.form r.has).model) r.c proves_here r.has.plan.has_plan)
+    (proved_bound r.m (model_read call r.line r.m (forms_sought call r.line r.m r.c r.form r.has).model) r.c
+    proves_here r.has.plan.has_plan)

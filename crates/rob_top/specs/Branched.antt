@@ -23,7 +23,7 @@ use Rattle.rob_tree.specs.Shape.{HasTreeShape}
 use Rattle.rob_tree.specs.TreeText.{tree_text}
 use Rattle.rob_tree.specs.View.{branch_of}
 use Rattle.rob_tree.specs.declared.tree.Branch.{Branch}
-use Rattle.rob_top.specs.Answers.{whole_text, wide_node_text}
+use Rattle.rob_top.specs.Answers.{whole_fault_text, wide_node_text}
 use Rattle.rob_top.specs.Calls.{Call, IsBranching, WasRaised, limit_of}
 use Rattle.rob_top.specs.Inputs.{AreVariables, HasModel, HasVariables, HasWholeVariables, TellsNames}
 use Rattle.rob_words.specs.Commands.{Line}
@@ -97,7 +97,7 @@ module _ (call : Call) where
     pub line : Line
     pub m : RobustModel
     pub breaks : BreaksWhole line m rule
-    pub printed : text ≡ whole_text rule
+    pub printed : text ≡ whole_fault_text rule
 
   -- no number of the set rows and forms is wide, and no joint scenario is admitted, as the weights show,
   -- which fit

@@ -1,26 +1,22 @@
--- What a call of the program was given, what it did to the output, and what is found of the files that its words name.
-use Rattle.std.specs.Prelude.{◌≡◌, ◌≢◌, ◌⊎◌, ℕ, zero, suc, ◌-◌, ◌^◌, ◌==◌, ◌&&◌, Bool, true, false, List, [], ◌∷◌, ◌++◌, length, map, drop, Option, Some, None, IfSome, option_map, if◌then◌else◌}
-use Rattle.std.specs.Str.{bytes_eq}
-use denote.Enum.Bare.{sameb}
-use Rattle.rob_meaning.specs.Places.{Each}
+-- What a call of the program was given, what is known of its files, and what it
+-- did to the output; and of which kind its command is.
+use Rattle.std.specs.Prelude.{◌≡◌, ℕ, Bool, true, false, List, length, drop, Option, Some, None}
 use Rattle.rob_number.specs.Counts.{Rose}
 use Rattle.rob_outside.specs.Fetches.{Fetch}
-use Rattle.rob_outside.specs.Files.{File, Found, whole, found_at}
+use Rattle.rob_outside.specs.Files.{File}
 use Rattle.rob_outside.specs.Puts.{Put}
-use Rattle.rob_words.specs.Commands.{Line, IsSpelled}
+use Rattle.rob_words.specs.Commands.{Line}
 use Rattle.rob_words.specs.Values.{Word, greatest_of}
-use Rattle.rob_words.specs.Verbs.{own_of, takes_route}
-use Rattle.rob_words.specs.contracts.verb.Own.{the_type}
-use Rattle.rob_words.specs.declared.verb.Own.{Own}
-use Rattle.rob_words.specs.declared.verb.Own.TheVariants.{Model, Certificate, Scenarios, Tree as OwnTree}
+use Rattle.rob_words.specs.Verbs.{takes_route}
 use Rattle.rob_words.specs.declared.verb.Verb.{Verb}
-use Rattle.rob_words.specs.declared.verb.Verb.TheVariants.{Rows, Solve, Prove, Check, Text, Gen, Whole, Tree, CheckTree, Worst, Sweep, SweepText, Narrow}
+use Rattle.rob_words.specs.declared.verb.Verb.TheVariants.{Rows, Solve, Prove, Check, Text, Gen, Whole, Tree, Worst, Narrow}
 
 -- a count before and after the call
 pub record Count : Type 0 where
   pub before : ℕ
   pub now : ℕ
 
+-- such a count
 abbrev pub count : ℕ → ℕ → Count
 count before now = record { before = before; now = now }
 
@@ -41,13 +37,15 @@ behind before now = drop (length before) now
 abbrev pub source_of : Option (List File) → List Fetch → List Fetch → Source
 source_of told before now = record { told = told; came = Some (behind before now) }
 
--- what a call was given: its words, what is known of the files, and two counts: the shelf's faults, the ledger's wide results
+-- what a call was given: its words, what is known of the files, and two counts: the shelf's faults, the ledger's wide
+-- results
 pub record Call : Type 0 where
   pub words : List Word
   pub source : Source
   pub read_faults : Count
   pub wides : Count
 
+-- such a call
 abbrev pub call_of : List Word → Source → Count → Count → Call
 call_of words source read_faults wides =
     record { words = words; source = source; read_faults = read_faults; wides = wides }
@@ -57,6 +55,7 @@ pub data Known (source : Source) : Type 0 where
   by_files : (files : List File) → source.told ≡ Some files → Known source
   by_fetches : (fetches : List Fetch) → source.came ≡ Some fetches → Known source
 
+-- where no more is known than that part
 abbrev pub known_source : {source : Source} → Known source → Source
 known_source (by_files files e) = record { told = Some files; came = None }
 known_source (by_fetches fetches e) = record { told = None; came = Some fetches }
@@ -65,7 +64,8 @@ known_source (by_fetches fetches e) = record { told = None; came = Some fetches 
 abbrev pub known_call : (call : Call) → Known call.source → Call
 known_call call known = record call { source = known_source known }
 
--- what a call did to the output: the bytes that the sink took before it and now, its puts, and the count of the sink's faults
+-- what a call did to the output: the bytes that the sink took before it and now, its puts, and the count of the
+-- sink's faults
 pub record Output : Type 0 where
   pub before : List ℕ
   pub now : List ℕ
@@ -73,6 +73,7 @@ pub record Output : Type 0 where
   pub puts_now : List Put
   pub write_faults : Count
 
+-- such an output
 abbrev pub output_of : List ℕ → List ℕ → List Put → List Put → Count → Output
 output_of before now puts_before puts_now write_faults = record {
   before = before;
@@ -82,105 +83,7 @@ output_of before now puts_before puts_now write_faults = record {
   write_faults = write_faults;
 }
 
--- ---- files
-
--- a file that a command names: its place among the files of a call, from 0, its name, and how many bytes it may have
-pub record Request : Type 0 where
-  pub place : ℕ
-  pub name : Word
-  pub most : ℕ
-
--- the same file behind one more
-abbrev pub later : Request → Request
-later request = record request { place = suc request.place }
-
--- what the fetch of this place found, if it asked for this name and bound; nothing, if none did or it answered an error
-abbrev pub answer_at : ℕ → Word → ℕ → List Fetch → Option Found
-answer_at place name most [] = None
-answer_at zero name most (fetch ∷ fetches) =
-    if (fetch.most == most) && bytes_eq fetch.name name then fetch.found else None
-answer_at (suc place) name most (fetch ∷ fetches) = answer_at place name most fetches
-
--- what the fetch of the file found, which has the file's place among the fetches of the call
-abbrev pub answer_to : Request → List Fetch → Option Found
-answer_to request fetches = answer_at request.place request.name request.most fetches
-
--- this is found of the file, by its fetch in the call, and by the told files: all its bytes, no such file, or too many
-abbrev pub IsFoundIn : Source → Request → Found → Type 0
-IsFoundIn source request found =
-    IfSome source.told (λ files. found_at request.name request.most files ≡ found)
-    × IfSome source.came (λ fetches. answer_to request fetches ≡ Some found)
-
--- how many bytes a file of this kind may have; nothing where the kind names no file
-abbrev pub most_of : Own → Option ℕ
-most_of Model = Some 65536
-most_of Certificate = Some 4194304
-most_of Scenarios = Some 4194304
-most_of OwnTree = Some 67108864
-most_of _ = None
-
--- the file of this name, of at most so many bytes, where it is the first
-abbrev pub file_of : ℕ → Word → Request
-file_of most name = record { place = 0; name = name; most = most }
-
--- the files that words name, with one word more in front of them, where that names a file
-abbrev pub with_first : Option ℕ → Word → List Request → List Request
-with_first None name files = files
-with_first (Some most) name files = file_of most name ∷ map later files
-
--- the files that own words of these kinds name, in their order
-abbrev pub files_of : List Own → List Word → List Request
-files_of (kind ∷ kinds) (name ∷ names) = with_first (most_of kind) name (files_of kinds names)
-files_of _ _ = []
-
--- the files that a command line names, in the order of its words
-abbrev pub requests : Line → List Request
-requests line = files_of (own_of line.verb) line.own
-
--- the words are a command line that names some file
-pub record NamesFile (words : List Word) : Type 0 where
-  pub line : Line
-  pub spelled : IsSpelled words line
-  pub some : requests line ≢ []
-
--- the file that is asked for among words, with one word more in front of them, which is of its kind or isn't
-abbrev pub first_or : Option ℕ → Bool → Word → Option Request → Option Request
-first_or None same name request = request
-first_or (Some most) true name request = Some (file_of most name)
-first_or (Some most) false name request = option_map later request
-
--- the file that the first own word of this kind names, among own words of these kinds
-abbrev pub request_of : Own → List Own → List Word → Option Request
-request_of kind (other ∷ kinds) (name ∷ names) =
-    first_or (most_of other) (sameb the_type other kind) name (request_of kind kinds names)
-request_of kind _ _ = None
-
--- the first own word of this kind, among own words of these kinds
-abbrev pub word_of : Own → List Own → List Word → Option Word
-word_of kind (other ∷ kinds) (word ∷ words) =
-    if sameb the_type other kind then Some word else word_of kind kinds words
-word_of kind _ _ = None
-
--- the fetch asks for this file
-abbrev pub IsFetchOf : Request → Fetch → Type 0
-IsFetchOf request fetch = (fetch.name ≡ request.name) × (fetch.most ≡ request.most)
-
--- the fetch found the whole file
-abbrev pub CameWhole : Fetch → Type 0
-CameWhole fetch = (bytes : List ℕ) × (fetch.found ≡ Some (whole bytes))
-
--- the fetches ask for the first of these files, in order and each at most once, and none stands behind one that didn't come whole
-abbrev pub AsksInOrder : List Request → List Fetch → Type 0
-AsksInOrder requests [] = Unit {0}
-AsksInOrder [] (fetch ∷ fetches) = ⊥
-AsksInOrder (request ∷ requests) (fetch ∷ fetches) =
-    IsFetchOf request fetch × ((fetches ≡ []) ⊎ (CameWhole fetch × AsksInOrder requests fetches))
-
--- the fetches of a call with these words stand behind the earlier ones: there is none, or the words are a command line, and its
--- files are asked for in the order of the words, each word's once at most, and none behind one that didn't come whole
-pub record Fetches (words : List Word) (before now : List Fetch) : Type 0 where
-  pub grown : now ≡ before ++ behind before now
-  pub in_order : (behind before now ≡ []) ⊎ ((line : Line) × IsSpelled words line × AsksInOrder (requests line) (behind before now))
+-- ---- commands
 
 -- the command solves a model, by a route
 abbrev pub IsSolving : Verb → Type 0
@@ -192,6 +95,7 @@ reads_model Text = false
 reads_model Gen = false
 reads_model _ = true
 
+-- so it is one that reads a model
 abbrev pub IsOnModel : Verb → Type 0
 IsOnModel verb = reads_model verb ≡ true
 
@@ -201,6 +105,7 @@ branches Whole = true
 branches Tree = true
 branches _ = false
 
+-- so it is `whole` or `tree`
 abbrev pub IsBranching : Verb → Type 0
 IsBranching verb = branches verb ≡ true
 
@@ -214,37 +119,10 @@ elaborates Worst = true
 elaborates Narrow = true
 elaborates _ = false
 
+-- so it is one that makes them
 abbrev pub IsElaborating : Verb → Type 0
 IsElaborating verb = elaborates verb ≡ true
 
 -- the greatest number of a command line's width: 2^62 - 1 where it names no width
 abbrev pub limit_of : Line → ℕ
 limit_of line = greatest_of line.width
-
-module _ (call : Call) where
-  -- this is what is found of a file
-  abbrev pub IsFound : Request → Found → Type 0
-  IsFound request found = IsFoundIn call.source request found
-
-  -- the file came whole
-  abbrev pub Came : Request → Type 0
-  Came request = (bytes : List ℕ) × IsFound request (whole bytes)
-
-  -- the file of this kind that the line names came, with these bytes
-  pub record HasFile (line : Line) (kind : Own) (bytes : List ℕ) : Type 0 where
-    pub request : Request
-    pub named : request_of kind (own_of line.verb) line.own ≡ Some request
-    pub found : IsFound request (whole bytes)
-
-  -- of the files that the command line names this is the first, in the order of the words, that doesn't come whole, and this
-  -- is what is found of it
-  pub record IsFirstAbsent (found : Found) (name : Word) : Type 0 where
-    pub line : Line
-    pub spelled : IsSpelled call.words line
-    pub before : List Request
-    pub request : Request
-    pub behind : List Request
-    pub order : requests line ≡ before ++ request ∷ behind
-    pub came : Each Came before
-    pub absent : IsFound request found
-    pub named : request.name ≡ name

@@ -13,7 +13,8 @@ use Rattle.rob_top.specs.Inputs.{HasCertificate}
 use Rattle.rob_words.specs.Commands.{Line}
 
 module _ (call : Call) where
-  -- accepted: each condition holds and no number on the way is wide; so the certificate proves, and the model is as it says
+  -- accepted: each condition holds and no number on the way is wide; so the certificate proves, and the model is as
+  -- it says
   pub record IsAccepted (text : List ℕ) : Type 0 where
     pub line : Line
     pub m : RobustModel

@@ -3,7 +3,8 @@ use Rattle.std.specs.Prelude.{ℕ}
 use Rattle.rob_top.specs.declared.ended.Ended.{Ended}
 use Rattle.rob_top.specs.declared.ended.Ended.TheVariants.{Optimal, Infeasible, Unbounded, Printed, Accepted, Rejected, Words, Missing, TooLong, Model, EmptySet, TooWide, WideNode, WideBudget, Cert, Scenarios, Whole, Sweep, Cells, Tree, TreeRejected, NoRow, ReadFault, WriteFault, Memory}
 
--- the exit status of an answer: 0 for what was asked, 10 and 11 for a model without an optimum, 12 for a certificate or a branch tree that doesn't prove, from 20 on for refusals
+-- the exit status of an answer: 0 for what was asked, 10 and 11 for a model without an optimum, 12 for a certificate
+-- or a branch tree that doesn't prove, from 20 on for refusals
 abbrev pub code_of : Ended → ℕ
 code_of Optimal = 0
 code_of Infeasible = 10

@@ -28,13 +28,13 @@ first_ended None None = Printed
 
 module _ (limit : ℕ) (m : RobustModel) where
   -- what a route told: a status, or a spot
-  abbrev pub Tells : Route → Option Spot → List ℕ → Type 0
-  Tells way None text = (status : Status) × TellsStatus limit m way status text
-  Tells way (Some spot) text = TellsWide limit m way spot text
+  abbrev pub IsLineOf : Route → Option Spot → List ℕ → Type 0
+  IsLineOf way None text = (status : Status) × TellsStatus limit m way status text
+  IsLineOf way (Some spot) text = TellsWide limit m way spot text
 
 -- where a spot is told, a wide number is counted
-abbrev pub IsCounted : Count → Option Spot → Type 0
-IsCounted wides told = IfSome told (λ spot. WasRaised wides)
+abbrev pub RoseAtSpot : Count → Option Spot → Type 0
+RoseAtSpot wides told = IfSome told (λ spot. WasRaised wides)
 
 -- the reply to `gen` for a number: the summary of what the routes told
 pub record RepliesCompared (limit : ℕ) (wides : Count) (number : ℕ) (reply : Reply) : Type 0 where
@@ -42,8 +42,8 @@ pub record RepliesCompared (limit : ℕ) (wides : Count) (number : ℕ) (reply :
   pub cuts : Option Spot
   pub by_dual : List ℕ
   pub by_cuts : List ℕ
-  pub dual_told : Tells limit (generated number) Dual dual by_dual
-  pub cuts_told : Tells limit (generated number) Cuts cuts by_cuts
-  pub dual_counted : IsCounted wides dual
-  pub cuts_counted : IsCounted wides cuts
+  pub dual_told : IsLineOf limit (generated number) Dual dual by_dual
+  pub cuts_told : IsLineOf limit (generated number) Cuts cuts by_cuts
+  pub dual_counted : RoseAtSpot wides dual
+  pub cuts_counted : RoseAtSpot wides cuts
   pub replies : Replies (first_ended dual cuts) (heading number ++ (by_dual ++ by_cuts)) reply

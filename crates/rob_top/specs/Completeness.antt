@@ -1,5 +1,5 @@
--- Which answer has to come. The words and the files decide it, and a number that is wide is named; a fault of the outside and
--- want of memory may come in its place, which say nothing of the model.
+-- Which answer has to come. The words and the files decide it, and a number that is wide is named; a fault of the
+-- outside and want of memory may come in its place, which say nothing of the model.
 use Rattle.std.specs.Prelude.{◌≡◌, ◌⊎◌, ◌++◌, ℕ, List, []}
 use Rattle.rob_algebra.specs.Fraction.{Fraction}
 use Rattle.rob_branch.specs.Verdicts.{IsAccepted, NoneWide as NoneWideInTree}
@@ -20,7 +20,6 @@ use Rattle.rob_model.specs.declared.place.Place.{Place}
 use Rattle.rob_model.specs.declared.place.Spot.{Spot}
 use Rattle.rob_outside.specs.Files.{missing, too_long}
 use Rattle.rob_rules.specs.Reading.{Breaks}
-use Rattle.rob_reach.specs.Boxes.{box}
 use Rattle.rob_reach.specs.Trees.{ProvesTree, Tree}
 use Rattle.rob_reach.specs.Sweeps.{IsBudgetAt}
 use Rattle.rob_reach.specs.WholeStatus.{HasWholeStatus}
@@ -32,8 +31,9 @@ use Rattle.rob_sets.specs.SetForm.{judged_set}
 use Rattle.rob_tree.specs.Reading.{Breaks as BreaksTree}
 use Rattle.rob_sweep.specs.Stops.{BreaksRule, KeepsRules}
 use Rattle.rob_top.specs.Branched.{BreaksWhole}
-use Rattle.rob_top.specs.Calls.{Call, Came, HasFile, IsBranching, IsElaborating, IsFirstAbsent, IsSolving, Known, known_call, limit_of, requests}
-use Rattle.rob_top.specs.Inputs.{HasCertificate, HasCertificateFile, HasForms, HasModel, HasScenarios, HasSought, HasWholeVariables}
+use Rattle.rob_top.specs.Calls.{Call, IsBranching, IsElaborating, IsSolving, Known, known_call, limit_of}
+use Rattle.rob_top.specs.Files.{Came, HasFile, IsFirstAbsent, requests}
+use Rattle.rob_top.specs.Inputs.{HasCertificate, HasCertificateFile, HasForms, HasModel, HasScenarioFile, HasSought, HasWholeVariables}
 use Rattle.rob_top.specs.Replayed.{LacksPlan, replay_ended}
 use Rattle.rob_top.specs.Routes.{IsWideOnWay}
 use Rattle.rob_top.specs.Searched.{GivesNoPlan, IsWideSought, NamesNoForm, certificate_vector}
@@ -54,6 +54,7 @@ use Rattle.rob_top.specs.Endings.{IsUnput, IsOutside, EndsAs, IsSolveAnswer, IsE
 -- ---- how a call must end, by its words and by what is found of its files
 
 module _ (call : Call) (result : Ended) where
+  -- for each situation: where it is met, the answer that is asked for comes
   pub record MustEnd : Type 0 where
     -- words: they are no command line, and no read fault comes in the place of that answer
     pub words : (IsCommandLine call.words → ⊥) → (result ≡ Words) ⊎ IsUnput result
@@ -70,31 +71,37 @@ module _ (call : Call) (result : Ended) where
         → IsFirstWide (limit_of line) m (judged_set m ++ judged_forms m) spot → EndsAs (TooWide spot) result
     -- no number of them is wide, and the command is `rows`, so they are printed
     pub rows : (line : Line) (m : RobustModel) → HasForms call line m → line.verb ≡ Rows → EndsAs Printed result
-    -- `solve` and `prove`: the answer is a status that the model has, or an empty set, or a wide number on the way of the line's route
+    -- `solve` and `prove`: the answer is a status that the model has, or an empty set, or a wide number on the way of
+    -- the line's route
     pub solving : (line : Line) (m : RobustModel) → HasForms call line m → IsSolving line.verb
         → IsSolveAnswer line.way (limit_of line) m result
-    -- no joint scenario is admitted, as where any set is empty, so it is that, with the weights that show it, or a row of the set's
-    -- program is wide
+    -- no joint scenario is admitted, as where any set is empty, so it is that, with the weights that show it, or a
+    -- row of the set's program is wide
     pub empty : (line : Line) (m : RobustModel) → HasForms call line m → IsSolving line.verb → IsEmptySet m
         → IsEmptyAnswer (limit_of line) m result
     -- some joint scenario is admitted, and no number on that way is wide, so it is the model's status
-    pub status : (line : Line) (m : RobustModel) (status : Status) (v : Fraction) (u : List Fraction) → HasForms call line m
+    pub status : (line : Line) (m : RobustModel) (status : Status) (v : Fraction) (u : List Fraction)
+        → HasForms call line m
         → IsSolving line.verb → HasStatus m status v → Admits m u
         → ((spot : Spot) → IsWideOnWay line.way (limit_of line) m spot → ⊥) → EndsAs (ended_of status) result
     -- `narrow`: no number of the set rows and forms is wide, so the bounds are printed
     pub narrow : (line : Line) (m : RobustModel) → HasForms call line m → line.verb ≡ Narrow → EndsAs Printed result
-    -- `solve` and `prove` of a narrow model, whose two programs have bounds within the limit, by the counterpart: no wide number is named
-    pub narrow_spot : (line : Line) (m : RobustModel) (spot : Spot) → HasForms call line m → IsSolving line.verb → line.way ≡ Dual
+    -- `solve` and `prove` of a narrow model, whose two programs have bounds within the limit, by the counterpart: no
+    -- wide number is named
+    pub narrow_spot : (line : Line) (m : RobustModel) (spot : Spot) → HasForms call line m
+        → IsSolving line.verb → line.way ≡ Dual
         → IsNarrowModel (limit_of line) m → (result ≡ TooWide spot) → ⊥
     -- some joint scenario is admitted, so it is the model's status, which it has
-    pub narrow_status : (line : Line) (m : RobustModel) (u : List Fraction) → HasForms call line m → IsSolving line.verb → line.way ≡ Dual
+    pub narrow_status : (line : Line) (m : RobustModel) (u : List Fraction) → HasForms call line m
+        → IsSolving line.verb → line.way ≡ Dual
         → IsNarrowModel (limit_of line) m → Admits m u
         → (status : Status) × (v : Fraction) × HasStatus m status v × EndsAs (ended_of status) result
     -- none is, so it is that, with the weights that show it, by either route
     pub narrow_empty : (line : Line) (m : RobustModel) → HasForms call line m → IsSolving line.verb
         → IsNarrowModel (limit_of line) m → IsEmptySet m → IsShownAnswer m result
     -- `check`: the certificate's text breaks a rule, so that rule and its line are named
-    pub broken : (line : Line) (m : RobustModel) (bytes : List ℕ) (rule number : ℕ) → HasCertificateFile call line m bytes
+    pub broken : (line : Line) (m : RobustModel) (bytes : List ℕ) (rule number : ℕ)
+        → HasCertificateFile call line m bytes
         → HasCause (naming_of m) (limit_of line) start bytes 1 (Rule rule number) → EndsAs (Cert rule number) result
     -- it is the text of a certificate, so the answer is the verdict on it
     pub verdict : (line : Line) (m : RobustModel) (c : Certificate) → HasCertificate call line m c
@@ -115,24 +122,28 @@ module _ (call : Call) (result : Ended) where
     -- it gives one, so the answer is by the file's records: the table, the first broken rule, or the first record with
     -- a wide number
     pub replayed : (line : Line) (m : RobustModel) (c : Certificate) (bytes : List ℕ) (rows : List (List (List ℕ)))
-        → HasScenarios call line m c bytes → IsFile bytes rows
+        → HasScenarioFile call line m c bytes → IsFile bytes rows
         → EndsAs (replay_ended (outcome (limit_of line) m c.plan rows)) result
     -- `whole`, `tree` and `checktree`: the named variables break a rule, so the first is named
-    pub whole_rule : (line : Line) (m : RobustModel) (rule : ℕ) → BreaksWhole call line m rule → EndsAs (Whole rule) result
-    -- `whole` and `tree`: they break none, so the answer is a status that the model has over plans whose named variables are whole, or an empty set, or a
-    -- number that is wide in a box
-    pub whole : (line : Line) (m : RobustModel) (names : List ℕ) → HasWholeVariables call line m names → IsBranching line.verb
+    pub whole_rule : (line : Line) (m : RobustModel) (rule : ℕ) → BreaksWhole call line m rule
+        → EndsAs (Whole rule) result
+    -- `whole` and `tree`: they break none, so the answer is a status that the model has over plans whose named
+    -- variables are whole, or an empty set, or a number that is wide in a box
+    pub whole : (line : Line) (m : RobustModel) (names : List ℕ)
+        → HasWholeVariables call line m names → IsBranching line.verb
         → IsWholeAnswer (limit_of line) m names result
     -- a number of the set rows and forms is wide, so the first such number is named, with the empty path
-    pub whole_wide : (line : Line) (m : RobustModel) (names : List ℕ) (spot : Spot) → HasWholeVariables call line m names
+    pub whole_wide : (line : Line) (m : RobustModel) (names : List ℕ) (spot : Spot)
+        → HasWholeVariables call line m names
         → IsBranching line.verb → IsFirstWide (limit_of line) m (judged_set m ++ judged_forms m) spot
         → EndsAs (WideNode [] spot) result
-    -- no joint scenario is admitted, so it is that, with the weights that show it, or a wide number of the set rows and forms, or of the
-    -- set's program
+    -- no joint scenario is admitted, so it is that, with the weights that show it, or a wide number of the set rows
+    -- and forms, or of the set's program
     pub whole_empty : (line : Line) (m : RobustModel) (names : List ℕ) → HasWholeVariables call line m names
         → IsBranching line.verb → IsEmptySet m → IsEmptyWholeAnswer (limit_of line) m result
     -- some joint scenario is admitted, and no number is wide in a box, so it is the model's status, which it has
-    pub whole_status : (line : Line) (m : RobustModel) (names : List ℕ) (u : List Fraction) → HasWholeVariables call line m names
+    pub whole_status : (line : Line) (m : RobustModel) (names : List ℕ) (u : List Fraction)
+        → HasWholeVariables call line m names
         → IsBranching line.verb → Admits m u → IsNarrowBelow (limit_of line) m names
         → (status : Status) × (v : Fraction) × HasWholeStatus m names status v × EndsAs (ended_of status) result
     -- `worst`: the certificate gives no plan, so the rule and the line are named
@@ -144,8 +155,10 @@ module _ (call : Call) (result : Ended) where
     -- it is a form's name: the answer is its worst case, or an empty set, or a number that is wide
     pub worst : (line : Line) (m : RobustModel) (c : Certificate) (form : ℕ) → HasSought call line m c form
         → IsWorstAnswer (limit_of line) m form (certificate_vector c) result
-    -- no joint scenario is admitted, so it is that, with the weights that show it, or a row of the set's program is wide
-    pub worst_empty : (line : Line) (m : RobustModel) (c : Certificate) (form : ℕ) → HasSought call line m c form → IsEmptySet m
+    -- no joint scenario is admitted, so it is that, with the weights that show it, or a row of the set's program is
+    -- wide
+    pub worst_empty : (line : Line) (m : RobustModel) (c : Certificate) (form : ℕ)
+        → HasSought call line m c form → IsEmptySet m
         → IsEmptyAnswer (limit_of line) m result
     -- some is, and no number on the way is wide, so the worst case is printed
     pub worst_printed : (line : Line) (m : RobustModel) (c : Certificate) (form : ℕ) (u : List Fraction)
@@ -156,7 +169,8 @@ module _ (call : Call) (result : Ended) where
         → IsWideSlack (limit_of line) m form (certificate_vector c)
         → NamesWideSought (limit_of line) m form (certificate_vector c) result
     -- `checktree`: the tree's text breaks a rule, so that rule and its line are named
-    pub tree_broken : (line : Line) (m : RobustModel) (names bytes : List ℕ) (rule number : ℕ) → HasTreeFile call line m names bytes
+    pub tree_broken : (line : Line) (m : RobustModel) (names bytes : List ℕ) (rule number : ℕ)
+        → HasTreeFile call line m names bytes
         → BreaksTree (limit_of line) m names bytes rule number → EndsAs (TreeRule rule number) result
     -- it is the text of a tree, so the answer is the verdict on it
     pub tree_verdict : (line : Line) (m : RobustModel) (names : List ℕ) (t : Tree) → HasTree call line m names t
@@ -171,12 +185,14 @@ module _ (call : Call) (result : Ended) where
     pub tree_rejected : (line : Line) (m : RobustModel) (names : List ℕ) (t : Tree) → HasTree call line m names t
         → (ProvesTree m names t → ⊥)
         → NamesFault (limit_of line) m names t result ⊎ (NamesWidth (limit_of line) m names t result ⊎ IsOutside result)
-    -- it doesn't prove, and no number of the check is wide, so it is rejected, at the first condition of a leaf that fails
+    -- it doesn't prove, and no number of the check is wide, so it is rejected, at the first condition of a leaf that
+    -- fails
     pub tree_judged : (line : Line) (m : RobustModel) (names : List ℕ) (t : Tree) → HasTree call line m names t
         → NoneWideInTree (limit_of line) m t → (ProvesTree m names t → ⊥)
         → NamesFault (limit_of line) m names t result ⊎ IsOutside result
     -- `sweep`: the statement is no budget, or the limits don't rise, so the first broken rule is named
-    pub sweep_rule : (line : Line) (m : RobustModel) (n : ℕ) (limits : List Fraction) (rule : ℕ) → HasSweep call line m n limits
+    pub sweep_rule : (line : Line) (m : RobustModel) (n : ℕ) (limits : List Fraction) (rule : ℕ)
+        → HasSweep call line m n limits
         → BreaksRule m.set_lines n limits rule → EndsAs (Sweep rule) result
     -- no rule is broken: the answers are printed, or a number is wide at a limit
     pub sweep : (line : Line) (m : RobustModel) (n : ℕ) (limits : List Fraction) → HasSweep call line m n limits
@@ -194,10 +210,11 @@ module _ (call : Call) (result : Ended) where
     pub split : MustEndSplit call result
     -- `gen`: specs/ComparedEnds.antt
     pub compared : MustEndCompared call result
-    -- `text`: the model of the number is printed; no file is asked for, so no read fault comes in the place of that answer
+    -- `text`: the model of the number is printed; no file is asked for, so no read fault comes in the place of that
+    -- answer
     pub generated : (line : Line) → IsSpelled call.words line → line.verb ≡ Text → (result ≡ Printed) ⊎ IsUnput result
 
--- the call ends so by each part of what is known of its files: the files that the shelf tells, where it tells them, or the
--- answers of the fetches in the call, which every shelf gives
+-- the call ends so by each part of what is known of its files: the files that the shelf tells, where it tells them,
+-- or the answers of the fetches in the call, which every shelf gives
 abbrev pub IsComplete : Call → Ended → Type 0
 IsComplete call result = (known : Known call.source) → MustEnd (known_call call known) result

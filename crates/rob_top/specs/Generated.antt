@@ -1,7 +1,8 @@
 -- The answer of `text`.
 use Rattle.std.specs.Prelude.{◌≡◌, ℕ, List, Some}
 use Rattle.rob_gen.specs.Generated.{generated}
-use Rattle.rob_top.specs.Calls.{Call, word_of}
+use Rattle.rob_top.specs.Calls.{Call}
+use Rattle.rob_top.specs.Files.{word_of}
 use Rattle.rob_words.specs.Commands.{Line, IsSpelled}
 use Rattle.rob_words.specs.Kinds.{number_of}
 use Rattle.rob_words.specs.Values.{Word}

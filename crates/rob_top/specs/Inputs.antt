@@ -1,5 +1,5 @@
--- What was read: the model, its whole numbers, the certificate, the scenario file, the variables or the form that are named, by a
--- call's words and its files.
+-- What was read: the model, its whole numbers, the certificate, the scenario file, the variables or the form that are
+-- named, by a call's words and its files.
 use Rattle.std.specs.Prelude.{◌≡◌, ◌≢◌, ◌<◌, ◌++◌, ℕ, List, Some, None, length, map}
 use Rattle.rob_cert.specs.Apart.{FitsLines}
 use Rattle.rob_cert.specs.Spelling.{name_at}
@@ -13,7 +13,8 @@ use Rattle.rob_parse.specs.Modelled.{ReadsModel}
 use Rattle.rob_reach.specs.Ranges.{KeepsNames, whole_rule}
 use Rattle.rob_sets.specs.FirstWide.{NothingWide}
 use Rattle.rob_sets.specs.SetForm.{judged_set}
-use Rattle.rob_top.specs.Calls.{Call, Came, HasFile, limit_of, requests, word_of}
+use Rattle.rob_top.specs.Calls.{Call, limit_of}
+use Rattle.rob_top.specs.Files.{Came, HasFile, requests, word_of}
 use Rattle.rob_words.specs.Commands.{Line, IsSpelled}
 use Rattle.rob_words.specs.Names.{parts_of}
 use Rattle.rob_words.specs.Values.{Word}
@@ -43,8 +44,8 @@ module _ (call : Call) where
     pub came : Each (Came call) (requests line)
     pub file : HasFile call line own.Model bytes
 
-  -- the words are this command line, the files that it names came, and that of its model reads, at the line's width, as this
-  -- model
+  -- the words are this command line, the files that it names came, and that of its model reads, at the line's width,
+  -- as this model
   pub record HasModel (line : Line) (m : RobustModel) : Type 0 where
     pub spelled : IsSpelled call.words line
     pub came : Each (Came call) (requests line)
@@ -86,8 +87,9 @@ module _ (call : Call) where
     pub text : IsTextOf m c bytes
     pub fits : FitsLines (limit_of line) m c
 
-  -- and it has a plan, as each has but one that claims an infeasible model, and the scenario file came, with these bytes
-  pub record HasScenarios (line : Line) (m : RobustModel) (c : Certificate) (bytes : List ℕ) : Type 0 where
+  -- and it has a plan, as each has but one that claims an infeasible model, and the scenario file came, with these
+  -- bytes
+  pub record HasScenarioFile (line : Line) (m : RobustModel) (c : Certificate) (bytes : List ℕ) : Type 0 where
     pub certificate : HasReplayCertificate line m c
     pub has_plan : c.status ≢ infeasible
     pub file : HasFile call line own.Scenarios bytes
@@ -108,7 +110,8 @@ module _ (call : Call) where
 
   -- ---- `worst`
 
-  -- no number of the set rows and forms is wide, the words say `worst`, and the file of the certificate came, with these bytes
+  -- no number of the set rows and forms is wide, the words say `worst`, and the file of the certificate came, with
+  -- these bytes
   pub record HasWorstFile (line : Line) (m : RobustModel) (bytes : List ℕ) : Type 0 where
     pub forms : HasForms line m
     pub is_worst : line.verb ≡ Worst

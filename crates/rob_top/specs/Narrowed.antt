@@ -1,5 +1,5 @@
 -- The answer of `narrow`: how large the numbers can become in the two programs that a model is solved by.
-use Rattle.std.specs.Prelude.{◌≡◌, ◌++◌, ◌&&◌, ◌↔◌, ◌⊎◌, ℕ, ℤ, Bool, true, List, Option, codes, is_some}
+use Rattle.std.specs.Prelude.{◌≡◌, ◌++◌, ◌&&◌, ◌↔◌, ℕ, Bool, true, List, Option, codes, is_some}
 use Rattle.rob_bounds.specs.Bounds.{row_bound}
 use Rattle.rob_counterpart.specs.Counterpart.{set_program, counterpart}
 use Rattle.rob_dualize.specs.RowBounds.{IsGreatestSize, up_to}

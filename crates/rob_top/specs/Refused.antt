@@ -1,4 +1,5 @@
--- Refusals: a number that is wide, and a text that breaks a rule.
+-- Refusals: words that are no command line, a file that doesn't come, a number that is wide, and a text that breaks a
+-- rule.
 use Rattle.std.specs.Prelude.{◌≡◌, ◌++◌, ℕ, List, [], Err}
 use Rattle.rob_cert.specs.Causes.{HasCause}
 use Rattle.rob_cert.specs.Reading.{start}
@@ -15,21 +16,40 @@ use Rattle.rob_meaning.specs.RobustModel.{RobustModel}
 use Rattle.rob_model.specs.declared.place.Place.{Place}
 use Rattle.rob_model.specs.declared.place.Spot.{Spot}
 use Rattle.rob_model.specs.declared.place.Spot.TheVariants.{Check, Replay}
+use Rattle.rob_outside.specs.Files.{missing, too_long}
 use Rattle.rob_rules.specs.Reading.{Breaks}
 use Rattle.rob_replay.specs.Outcome.{is_wide, outcome}
 use Rattle.rob_replay.specs.View.{Gives}
 use Rattle.rob_report.specs.Spots.{too_wide_line}
 use Rattle.rob_sets.specs.FirstWide.{IsFirstWide}
 use Rattle.rob_sets.specs.SetForm.{judged_set}
-use Rattle.rob_top.specs.Answers.{certificate_text, model_text}
-use Rattle.rob_top.specs.Calls.{Call, Came, HasFile, IsElaborating, IsSolving, WasRaised, limit_of, requests}
-use Rattle.rob_top.specs.Inputs.{HasCertificate, HasCertificateFile, HasForms, HasModel, HasScenarios, HasSought}
+use Rattle.rob_top.specs.Answers.{certificate_fault_text, missing_text, model_fault_text, read_text, too_long_text, words_text}
+use Rattle.rob_top.specs.Calls.{Call, IsElaborating, IsSolving, WasRaised, limit_of}
+use Rattle.rob_top.specs.Files.{Came, HasFile, IsFirstAbsent, NamesFile, requests}
+use Rattle.rob_top.specs.Inputs.{HasCertificate, HasCertificateFile, HasForms, HasModel, HasScenarioFile, HasSought}
 use Rattle.rob_top.specs.Routes.{IsWideBy, with_rounds}
 use Rattle.rob_top.specs.Searched.{IsWideSought, certificate_vector}
-use Rattle.rob_words.specs.Commands.{Line, IsSpelled}
+use Rattle.rob_words.specs.Commands.{IsCommandLine, Line, IsSpelled}
+use Rattle.rob_words.specs.Values.{Word}
 use Rattle.rob_words.specs.declared.verb.Own.TheVariants as own
 
 module _ (call : Call) where
+  -- the words are no command line
+  abbrev pub IsNoCommandLine : List ℕ → Type 0
+  IsNoCommandLine text = (IsCommandLine call.words → ⊥) × (text ≡ words_text)
+
+  -- there is no file of that name, and the files in front of it came
+  abbrev pub IsMissing : List ℕ → Type 0
+  IsMissing text = (name : Word) × IsFirstAbsent call missing name × (text ≡ missing_text name)
+
+  -- the file of that name is too long, and the files in front of it came
+  abbrev pub IsTooLong : List ℕ → Type 0
+  IsTooLong text = (name : Word) × IsFirstAbsent call too_long name × (text ≡ too_long_text name)
+
+  -- the words name a file, and a fetch failed in this call
+  abbrev pub IsUnread : List ℕ → Type 0
+  IsUnread text = NamesFile call.words × WasRaised call.read_faults × (text ≡ read_text)
+
   -- the spot's number is wide: of the numbers of the set rows and forms it is the first; or it is a number of a check,
   -- before which no condition fails and no number is wide; or it is one of that record's values, and no record before
   -- it breaks a rule or has a wide number; or it is one on the way to the worst case of a form
@@ -38,7 +58,7 @@ module _ (call : Call) where
         → IsFirstWide (limit_of line) m (judged_set m ++ judged_forms m) spot → IsWideSpot line m spot
     checking : (c : Certificate) (place : Place) → HasCertificate call line m c → spot ≡ Check place
         → verdict_of (limit_of line) m c ≡ verdict.TooWide place → IsWideSpot line m spot
-    replaying : (c : Certificate) (bytes : List ℕ) (number : ℕ) → HasScenarios call line m c bytes
+    replaying : (c : Certificate) (bytes : List ℕ) (number : ℕ) → HasScenarioFile call line m c bytes
         → spot ≡ Replay number → Gives (outcome (limit_of line) m c.plan) bytes (Err (is_wide number))
         → IsWideSpot line m spot
     searching : (c : Certificate) (form : ℕ) → HasSought call line m c form
@@ -74,7 +94,7 @@ module _ (call : Call) where
     pub bytes : List ℕ
     pub file : HasFile call line own.Model bytes
     pub breaks : Breaks (limit_of line) bytes rule number
-    pub printed : text ≡ model_text rule number
+    pub printed : text ≡ model_fault_text rule number
 
   -- the certificate's text breaks the rule at the line, first
   pub record IsNoCertificate (rule number : ℕ) (text : List ℕ) : Type 0 where
@@ -83,4 +103,4 @@ module _ (call : Call) where
     pub bytes : List ℕ
     pub file : HasCertificateFile call line m bytes
     pub breaks : HasCause (naming_of m) (limit_of line) start bytes 1 (Rule rule number)
-    pub printed : text ≡ certificate_text rule number
+    pub printed : text ≡ certificate_fault_text rule number

@@ -15,9 +15,9 @@ use Rattle.rob_replay.specs.Outcome.{Refusal, breaks, is_wide, outcome}
 use Rattle.rob_replay.specs.Replayed.{IsTable, ShowsBound}
 use Rattle.rob_replay.specs.View.{Gives}
 use Rattle.rob_report.specs.Tables.{table_of}
-use Rattle.rob_top.specs.Answers.{certificate_text, scenarios_text}
+use Rattle.rob_top.specs.Answers.{certificate_fault_text, scenarios_fault_text}
 use Rattle.rob_top.specs.Calls.{Call, limit_of}
-use Rattle.rob_top.specs.Inputs.{HasReplayCertificate, HasReplayFile, HasScenarios}
+use Rattle.rob_top.specs.Inputs.{HasReplayCertificate, HasReplayFile, HasScenarioFile}
 use Rattle.rob_top.specs.declared.ended.Ended.{Ended}
 use Rattle.rob_top.specs.declared.ended.Ended.TheVariants.{Printed, Scenarios, TooWide}
 use Rattle.rob_words.specs.Commands.{Line}
@@ -38,7 +38,7 @@ module _ (call : Call) where
     pub m : RobustModel
     pub c : Certificate
     pub bytes : List ℕ
-    pub has : HasScenarios call line m c bytes
+    pub has : HasScenarioFile call line m c bytes
     pub rows : List (List (List ℕ))
     pub file : IsFile bytes rows
     pub lines : List replay.Line
@@ -60,7 +60,7 @@ module _ (call : Call) where
     pub line : Line
     pub m : RobustModel
     pub lacks : LacksPlan line m rule number
-    pub printed : text ≡ certificate_text rule number
+    pub printed : text ≡ certificate_fault_text rule number
 
   -- the scenario file breaks the rule at the record, first, and no number of a record before it is wide
   pub record IsNoScenarios (rule number : ℕ) (text : List ℕ) : Type 0 where
@@ -68,6 +68,6 @@ module _ (call : Call) where
     pub m : RobustModel
     pub c : Certificate
     pub bytes : List ℕ
-    pub has : HasScenarios call line m c bytes
+    pub has : HasScenarioFile call line m c bytes
     pub refused : Gives (outcome (limit_of line) m c.plan) bytes (Err (breaks rule number))
-    pub printed : text ≡ scenarios_text rule number
+    pub printed : text ≡ scenarios_fault_text rule number

@@ -12,7 +12,8 @@ use Rattle.rob_words.specs.declared.verb.Own.{Own}
 use Rattle.rob_words.specs.declared.verb.Own.TheVariants as own
 use Rattle.rob_words.specs.declared.line.CommandLine.{CommandLine}
 use Rattle.rob_top.specs.Answers.{missing_text, too_long_text, read_text}
-use Rattle.rob_top.specs.Calls.{Call, Came, Count, Request, Source, WasRaised, AsksInOrder, IsFound, IsFoundIn, files_of, requests, request_of}
+use Rattle.rob_top.specs.Calls.{Call, Count, Source, WasRaised}
+use Rattle.rob_top.specs.Files.{Came, Request, AsksInOrder, IsFound, IsFoundIn, files_of, requests, request_of}
 use Rattle.rob_top.specs.declared.ended.Ended.{Ended}
 use Rattle.rob_top.specs.declared.ended.Ended.TheVariants.{Missing, TooLong, ReadFault}
 use Rattle.rob_top.specs.declared.files.Files.{Files}
@@ -105,7 +106,8 @@ IsNothing (fetch.Texts texts) =
     (texts.model.items ≡ []) × (texts.certificate.items ≡ []) × (texts.scenarios.items ≡ []) × (texts.tree.items ≡ [])
 IsNothing (fetch.Answer reply) = ⊥
 
--- the words are the command line, the files that it names came with these texts, and its own words and its route are theirs
+-- the words are the command line, the files that it names came with these texts, and its own words and its route are
+-- theirs
 pub record HasTexts (call : Call) (line : Line) (texts : Texts) : Type 0 where
   pub spelled : IsSpelled call.words line
   pub came : Each (Came call) (requests line)
@@ -125,7 +127,8 @@ pub record AreFound (source : Source) (kinds : List Own) (names : List Word) (te
       → IsFoundIn source request (whole (text_of kind texts))
 
 -- of these files one is the first that didn't come whole, with the reply to that
-pub record IsAbsentAmong (source : Source) (files : List Request) (faults : Count) (ended : Ended) (text : List ℕ) : Type 0 where
+pub record IsAbsentAmong (source : Source) (files : List Request) (faults : Count) (ended : Ended)
+    (text : List ℕ) : Type 0 where
   pub before : List Request
   pub request : Request
   pub behind : List Request

@@ -24,7 +24,7 @@ use Rattle.rob_runs.specs.Searches.{FindsRay, FindsScenario}
 use Rattle.rob_runs.specs.Spots.{IsWideSlack}
 use Rattle.rob_runs.specs.Told.{HasNoGreatestAlong}
 use Rattle.rob_worst.specs.Finding.{IsWideAt}
-use Rattle.rob_top.specs.Answers.{certificate_text, no_row_text}
+use Rattle.rob_top.specs.Answers.{certificate_fault_text, no_row_text}
 use Rattle.rob_top.specs.Calls.{Call, limit_of}
 use Rattle.rob_top.specs.Inputs.{HasPlan, HasSought, HasWorstCertificate, HasWorstFile, TellsForm}
 use Rattle.rob_words.specs.Commands.{Line}
@@ -102,7 +102,7 @@ module _ (call : Call) where
     pub line : Line
     pub m : RobustModel
     pub gives_none : GivesNoPlan line m rule number
-    pub printed : text ≡ certificate_text rule number
+    pub printed : text ≡ certificate_fault_text rule number
 
   -- the word is no form's name
   pub record NamesNoForm (line : Line) (m : RobustModel) (c : Certificate) (name : Word) : Type 0 where

@@ -36,23 +36,24 @@ module _ (call : Call) where
 
   -- ---- `solve` and `prove`
 
-  -- what is printed of a certificate: its plan and policies, by cutting planes with the rounds behind them; or all of it;
-  -- other commands print none
+  -- what is printed of a certificate: its plan and policies, by cutting planes with the rounds behind them; or all of
+  -- it; other commands print none
   abbrev pub IsPrinted : Verb → Route → RobustModel → Certificate → List Round → List ℕ → Type 0
   IsPrinted Solve way m c rounds text = text ≡ with_rounds way m rounds (report_of m c)
   IsPrinted Prove way m c rounds text = text ≡ cert_text m c
   IsPrinted _ way m c rounds text = ⊥
 
-  -- the plan keeps each row in every scenario that the row's set admits, and its worst case is the value; of an unbounded model's
-  -- plan it is a bound
+  -- the plan keeps each row in every scenario that the row's set admits, and its worst case is the value; of an
+  -- unbounded model's plan it is a bound
   abbrev pub IsKept : RobustModel → Certificate → Status → Type 0
   IsKept m c optimal = HasWorstCase m c.plan c.value
   IsKept m c infeasible = Unit {0}
   IsKept m c unbounded = HasBound m c.plan c.value
 
-  -- the model has the status: a certificate of it was found that proves it, by the line's route, as the last basis of the model's
-  -- counterpart gives it, or the end of a run of the cutting-plane method; and it, or its plan, is printed. It has its shape and its
-  -- numbers fit, so that what `prove` prints is the text of a certificate; the numbers of the rounds' cuts fit too
+  -- the model has the status: a certificate of it was found that proves it, by the line's route, as the last basis of
+  -- the model's counterpart gives it, or the end of a run of the cutting-plane method; and it, or its plan, is
+  -- printed. It has its shape and its numbers fit, so that what `prove` prints is the text of a certificate; the
+  -- numbers of the rounds' cuts fit too
   pub record IsSolved (status : Status) (text : List ℕ) : Type 0 where
     pub line : Line
     pub m : RobustModel

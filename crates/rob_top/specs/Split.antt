@@ -24,7 +24,8 @@ use Rattle.rob_report.specs.Lines.{line as one_line}
 use Rattle.rob_report.specs.Report.{report_of}
 use Rattle.rob_report.specs.Spots.{empty_set_lines, too_wide_line}
 use Rattle.rob_top.specs.Answers.{fault_text}
-use Rattle.rob_top.specs.Calls.{Call, WasRaised, limit_of, word_of}
+use Rattle.rob_top.specs.Calls.{Call, WasRaised, limit_of}
+use Rattle.rob_top.specs.Files.{word_of}
 use Rattle.rob_top.specs.Inputs.{HasModel}
 use Rattle.rob_top.specs.Swept.{limit_value}
 use Rattle.rob_words.specs.Commands.{Line}

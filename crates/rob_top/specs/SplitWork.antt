@@ -11,7 +11,7 @@ use Rattle.rob_report.specs.Report.{report_of}
 use Rattle.rob_top.specs.Calls.{Call, Count}
 use Rattle.rob_top.specs.Headline.{Means}
 use Rattle.rob_top.specs.Inputs.{HasModel}
-use Rattle.rob_top.specs.Refusing.{RepliesStop}
+use Rattle.rob_top.specs.WorkStops.{RepliesStop}
 use Rattle.rob_top.specs.Replies.{Replies}
 use Rattle.rob_top.specs.Split.{HasCuts, TellsCuts, cells_line}
 use Rattle.rob_top.specs.Work.{IsCallAt, ended_of}
@@ -22,7 +22,7 @@ use Rattle.rob_words.specs.Values.{Word}
 use Rattle.rob_words.specs.declared.route.Route.TheVariants.{Dual}
 use Rattle.rob_words.specs.declared.verb.Verb.{Verb}
 use Rattle.rob_words.specs.declared.verb.Verb.TheVariants.{Cells, CellText}
-use Rattle.rob_write.specs.Canonical.{model_text as canonical_text}
+use Rattle.rob_write.specs.Canonical.{model_text}
 
 module _ (limit : ℕ) (wides : Count) (m : RobustModel) where
   -- the reply is the answer of each call of the command, at the limit, that read the model, and whose word of cuts
@@ -63,5 +63,5 @@ module _ (limit : ℕ) (wides : Count) (m : RobustModel) where
   -- the reply to the command: that, or the split model's text
   abbrev pub RepliesSplit : ℕ → Verb → Reply → Type 0
   RepliesSplit cells Cells reply = RepliesPieces cells reply
-  RepliesSplit cells CellText reply = Replies Printed (canonical_text m) reply
+  RepliesSplit cells CellText reply = Replies Printed (model_text m) reply
   RepliesSplit cells _ reply = ⊥

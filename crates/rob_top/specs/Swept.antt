@@ -1,5 +1,5 @@
 -- The answers of `sweep` and `sweeptext`: a model at other limits of one of its budgets.
-use Rattle.std.specs.Prelude.{◌≡◌, ◌⊎◌, Bool, true, false, ℕ, pos, List, Some, map}
+use Rattle.std.specs.Prelude.{◌≡◌, Bool, true, false, ℕ, pos, List, Some, map}
 use Rattle.rob_algebra.specs.Fraction.{Fraction, of_pair}
 use Rattle.rob_algebra.specs.Width.{Fits}
 use Rattle.rob_meaning.specs.Places.{Each}
@@ -10,7 +10,8 @@ use Rattle.rob_sweep.specs.Answering.{AreWritten, EachAnswer, EachGrowsHarder, N
 use Rattle.rob_sweep.specs.Stops.{BreaksRule, IsWideAt, KeepsRules}
 use Rattle.rob_sweep.specs.SweepText.{sweep_text}
 use Rattle.rob_top.specs.Answers.{sweep_fault_text, wide_budget_text}
-use Rattle.rob_top.specs.Calls.{Call, WasRaised, limit_of, word_of}
+use Rattle.rob_top.specs.Calls.{Call, WasRaised, limit_of}
+use Rattle.rob_top.specs.Files.{word_of}
 use Rattle.rob_top.specs.Inputs.{HasModel}
 use Rattle.rob_words.specs.Commands.{Line}
 use Rattle.rob_words.specs.Kinds.{number_of}
@@ -107,10 +108,6 @@ module _ (call : Call) where
     pub has : HasLimit line m n g
     pub budget : IsBudgetAt m.set_lines n
     pub printed : text ≡ model_text (with_budget m n g)
-
-  -- what is printed: one or the other
-  abbrev pub IsSwept : List ℕ → Type 0
-  IsSwept text = IsPriced text ⊎ IsLimited text
 
   -- ---- refusals
 

@@ -1,23 +1,21 @@
 -- What the work of `checktree` answers, whichever call it is done for.
-use Rattle.std.specs.Prelude.{ℕ, ◌<◌, List, length}
-use Rattle.rob_meaning.specs.Names.{column_names}
-use Rattle.rob_meaning.specs.Places.{Each}
+use Rattle.std.specs.Prelude.{ℕ, List}
 use Rattle.rob_meaning.specs.RobustModel.{RobustModel}
 use Rattle.rob_reach.specs.Trees.{Tree}
-use Rattle.rob_report.specs.Places.{IsPlaceOf, IsSpotOf}
-use Rattle.rob_tree.specs.declared.tree.Branch.{Branch}
+use Rattle.rob_report.specs.Places.{IsPlaceOf}
 use Rattle.rob_tree.specs.declared.verdict.LeafFault.{LeafFault}
 use Rattle.rob_tree.specs.declared.verdict.LeafFault.TheVariants.{At}
 use Rattle.rob_tree.specs.declared.verdict.TreeVerdict.{TreeVerdict}
 use Rattle.rob_tree.specs.declared.verdict.TreeVerdict.TheVariants as verdict
-use Rattle.rob_top.specs.Answers.{accepted_by, wide_node_text}
-use Rattle.rob_top.specs.Calls.{Call, Count, HasFile}
+use Rattle.rob_top.specs.Answers.{accepted_by, rejected_leaf_text, wide_node_text}
+use Rattle.rob_top.specs.Calls.{Call, Count}
+use Rattle.rob_top.specs.Files.{HasFile}
 use Rattle.rob_top.specs.Headline.{Means}
 use Rattle.rob_top.specs.Inputs.{HasModel, HasVariables, TellsNames}
 use Rattle.rob_top.specs.Replies.{Replies}
-use Rattle.rob_top.specs.TreeAnswers.{rejected_leaf_text}
 use Rattle.rob_top.specs.TreeChecked.{HasTree, HasTreeFile}
 use Rattle.rob_top.specs.Work.{IsCallAt}
+use Rattle.rob_top.specs.WorkStops.{IsBoxSpotOf}
 use Rattle.rob_top.specs.declared.ended.Ended.TheVariants.{Accepted, TreeRejected, WideNode}
 use Rattle.rob_top.specs.declared.reply.Reply.{Reply}
 use Rattle.rob_words.specs.Commands.{Line}
@@ -61,8 +59,7 @@ module _ (m : RobustModel) where
   abbrev pub IsVerdictOf : TreeVerdict → Type 0
   IsVerdictOf verdict.Accepted = Unit {0}
   IsVerdictOf (verdict.Rejected number fault) = IsFaultOf fault
-  IsVerdictOf (verdict.TooWide path spot) =
-      IsSpotOf m spot × Each (λ (b : Branch). b.column < length (column_names m)) path
+  IsVerdictOf (verdict.TooWide path spot) = IsBoxSpotOf m path spot
   IsVerdictOf verdict.Memory = Unit {0}
 
   -- the reply to a verdict on the tree; memory has none

@@ -14,7 +14,7 @@ use Rattle.rob_top.specs.Replayed.{IsNoPlan, IsReplayed}
 use Rattle.rob_top.specs.Searched.{IsEmptySought, IsNoPlanSought, IsSearched}
 use Rattle.rob_top.specs.Solved.{IsEmptySet, IsRows, IsSolved}
 use Rattle.rob_top.specs.Split.{IsEmptyCell, IsPieced, IsSplitText, IsWideSplit}
-use Rattle.rob_top.specs.Swept.{IsSwept}
+use Rattle.rob_top.specs.Swept.{IsLimited, IsPriced}
 use Rattle.rob_top.specs.TreeChecked.{IsTreeAccepted, IsWideLeaf}
 use Rattle.rob_tree.specs.declared.tree.Branch.{Branch}
 
@@ -33,7 +33,8 @@ module _ (call : Call) where
     generated : IsGenerated call text → Prints text
     compared : IsCompared call text → Prints text
     worst_found : IsSearched call text → Prints text
-    swept : IsSwept call text → Prints text
+    priced : IsPriced call text → Prints text
+    limited : IsLimited call text → Prints text
     narrowed : IsNarrowed call text → Prints text
     split_written : IsSplitText call text → Prints text
 

@@ -17,10 +17,11 @@ use Rattle.rob_report.specs.Worst.{along_text, greatest_text}
 use Rattle.rob_runs.specs.Spots.{slack_of}
 use Rattle.rob_gen.specs.Generated.{generated}
 use Rattle.rob_top.specs.Swept.{HasSweep}
-use Rattle.rob_top.specs.Calls.{Call, Count, HasFile, WasRaised, limit_of}
+use Rattle.rob_top.specs.Calls.{Call, Count, WasRaised, limit_of}
+use Rattle.rob_top.specs.Files.{HasFile}
 use Rattle.rob_top.specs.Generated.{TellsNumber}
 use Rattle.rob_top.specs.Headline.{Means}
-use Rattle.rob_top.specs.Inputs.{HasModel, HasForms, HasCertificateFile, HasCertificate, HasPlan, HasReplayCertificate, HasReplayFile, HasScenarios, HasSought, HasVariables, HasWorstCertificate, HasWorstFile, TellsForm, TellsNames}
+use Rattle.rob_top.specs.Inputs.{HasModel, HasForms, HasCertificateFile, HasCertificate, HasPlan, HasReplayCertificate, HasReplayFile, HasScenarioFile, HasSought, HasVariables, HasWorstCertificate, HasWorstFile, TellsForm, TellsNames}
 use Rattle.rob_top.specs.Replies.{HasTexts, Replies}
 use Rattle.rob_top.specs.declared.ended.Ended.{Ended}
 use Rattle.rob_top.specs.declared.ended.Ended.TheVariants.{Optimal, Infeasible, Unbounded, Printed, Accepted, Rejected, TooWide}
@@ -35,7 +36,7 @@ use Rattle.rob_words.specs.declared.route.Route.{Route}
 use Rattle.rob_words.specs.declared.verb.Own.TheVariants as own
 use Rattle.rob_words.specs.declared.verb.Verb.{Verb}
 use Rattle.rob_words.specs.declared.verb.Verb.TheVariants.{Check, Replay, Sweep, Worst as WorstVerb}
-use Rattle.rob_write.specs.Canonical.{model_text as canonical_text}
+use Rattle.rob_write.specs.Canonical.{model_text}
 
 -- ---- texts that are short enough to read
 
@@ -53,7 +54,8 @@ IsShortFetch (fetch.Answer reply) = Unit {0}
 
 -- ---- answers
 
--- the line says this command, its width has this limit, and where a wide number is counted here, it is counted in the call
+-- the line says this command, its width has this limit, and where a wide number is counted here, it is counted in the
+-- call
 pub record IsCallAt (limit : ℕ) (wides : Count) (verb : Verb) (call : Call) (line : Line) : Type 0 where
   pub verb_is : line.verb ≡ verb
   pub limit_is : limit_of line ≡ limit
@@ -63,19 +65,22 @@ module _ (limit : ℕ) (wides : Count) where
   -- the reply is the answer of each call of the command, at the limit, whose files came with these texts
   abbrev pub AnswersTexts : Verb → Texts → Reply → Type 0
   AnswersTexts verb texts reply =
-      (call : Call) (line : Line) → IsCallAt limit wides verb call line → HasTexts call line texts → Means call reply.ended reply.text
+      (call : Call) (line : Line) → IsCallAt limit wides verb call line → HasTexts call line texts
+      → Means call reply.ended reply.text
 
   module _ (m : RobustModel) where
     -- that of each one whose model's text is read as the model
     abbrev pub AnswersModel : Verb → Texts → Reply → Type 0
     AnswersModel verb texts reply =
-        (call : Call) (line : Line) → IsCallAt limit wides verb call line → HasTexts call line texts → HasModel call line m
+        (call : Call) (line : Line) → IsCallAt limit wides verb call line
+        → HasTexts call line texts → HasModel call line m
         → Means call reply.ended reply.text
 
     -- and no number of whose set rows and forms is wide
     abbrev pub AnswersWhole : Verb → Texts → Reply → Type 0
     AnswersWhole verb texts reply =
-        (call : Call) (line : Line) → IsCallAt limit wides verb call line → HasTexts call line texts → HasForms call line m
+        (call : Call) (line : Line) → IsCallAt limit wides verb call line
+        → HasTexts call line texts → HasForms call line m
         → Means call reply.ended reply.text
 
     -- the same where no other text counts, by this route
@@ -111,25 +116,28 @@ module _ (limit : ℕ) (wides : Count) where
     -- and this has a plan
     abbrev pub AnswersScenarios : Certificate → List ℕ → Reply → Type 0
     AnswersScenarios c bytes reply =
-        (call : Call) (line : Line) → IsCallAt limit wides Replay call line → HasScenarios call line m c bytes
+        (call : Call) (line : Line) → IsCallAt limit wides Replay call line → HasScenarioFile call line m c bytes
         → Means call reply.ended reply.text
 
     -- that of each one for `worst`, whose certificate's file came with these bytes, and whose words name the form so
     abbrev pub AnswersSearch : List ℕ → Word → Reply → Type 0
     AnswersSearch bytes name reply =
-        (call : Call) (line : Line) → IsCallAt limit wides WorstVerb call line → HasWorstFile call line m bytes → TellsForm line name
+        (call : Call) (line : Line) → IsCallAt limit wides WorstVerb call line
+        → HasWorstFile call line m bytes → TellsForm line name
         → Means call reply.ended reply.text
 
     -- the first of which is the text of the certificate
     abbrev pub AnswersSearched : Certificate → Word → Reply → Type 0
     AnswersSearched c name reply =
-        (call : Call) (line : Line) → IsCallAt limit wides WorstVerb call line → HasWorstCertificate call line m c → TellsForm line name
+        (call : Call) (line : Line) → IsCallAt limit wides WorstVerb call line
+        → HasWorstCertificate call line m c → TellsForm line name
         → Means call reply.ended reply.text
 
     -- and this has a plan
     abbrev pub AnswersPlanned : Certificate → Word → Reply → Type 0
     AnswersPlanned c name reply =
-        (call : Call) (line : Line) → IsCallAt limit wides WorstVerb call line → HasPlan call line m c → TellsForm line name
+        (call : Call) (line : Line) → IsCallAt limit wides WorstVerb call line
+        → HasPlan call line m c → TellsForm line name
         → Means call reply.ended reply.text
 
     -- and the name is this form's
@@ -141,7 +149,8 @@ module _ (limit : ℕ) (wides : Count) where
     -- that of each one whose list of names has this text
     abbrev pub AnswersNames : Verb → List ℕ → Reply → Type 0
     AnswersNames verb names reply =
-        (call : Call) (line : Line) → IsCallAt limit wides verb call line → HasModel call line m → TellsNames line (parts_of names)
+        (call : Call) (line : Line) → IsCallAt limit wides verb call line → HasModel call line m
+        → TellsNames line (parts_of names)
         → Means call reply.ended reply.text
 
     -- whose names are those of the variables with these numbers
@@ -176,7 +185,8 @@ verdict_ended (verdict.TooWide place) = TooWide (spots.Check place)
 
 -- the reply to `text`: the model of the number that the line tells is printed
 abbrev pub RepliesGenerated : Line → Reply → Type 0
-RepliesGenerated line reply = (number : ℕ) × TellsNumber line number × Replies Printed (canonical_text (generated number)) reply
+RepliesGenerated line reply =
+    (number : ℕ) × TellsNumber line number × Replies Printed (model_text (generated number)) reply
 
 -- ---- worst cases
 

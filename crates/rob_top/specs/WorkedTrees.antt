@@ -9,7 +9,8 @@ use Rattle.rob_outside.specs.Files.{file_of}
 use Rattle.rob_reach.specs.Trees.{Tree, leaf, split}
 use Rattle.rob_write.specs.Canonical.{model_text}
 use Rattle.rob_top.specs.Calls.{Call}
-use Rattle.rob_top.specs.WorkedCalls.{call_over, model_name, no_order, order_12}
+use Rattle.rob_top.specs.WorkedCalls.{call_over, model_name}
+use Rattle.rob_top.specs.WorkedModels.{no_order, order_12}
 use Rattle.rob_words.specs.Values.{Word}
 
 -- the name of the tree's file

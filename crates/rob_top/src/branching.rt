@@ -1,4 +1,4 @@
-// The answers of `whole` and `tree`.
+//! The answers of `whole` and `tree`.
 
 ghost use Rattle.std.specs.Prelude.{◌≡◌, ◌≢◌, ◌≤◌, ◌++◌, IfOk, OnOk, codes};
 ghost use Rattle.rob_cert.specs.View.{status_of};
@@ -15,7 +15,7 @@ ghost use Rattle.rob_tree.specs.View.{tree_of};
 ghost use Rattle.rob_top.specs.Branched.{IsPlanText, IsPrintedTree, IsReport, IsShownBy, nodes_line};
 ghost use Rattle.rob_top.specs.Calls.{IsBranching, count};
 ghost use Rattle.rob_top.specs.Work.{AnswersNames, AnswersVariables, ended_of};
-ghost use Rattle.rob_top.specs.Refusing.{IsUngrownOf, RepliesUngrown};
+ghost use Rattle.rob_top.specs.WorkStops.{IsUngrownOf, RepliesUngrown};
 
 use crate::ended::Ended;
 use crate::names::variables_of;

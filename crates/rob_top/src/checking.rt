@@ -1,6 +1,6 @@
-// The answer of `check`.
+//! The answer of `check`.
 
-ghost use Rattle.std.specs.Prelude.{◌≡◌, ◌≤◌, ◌^◌, length, IfOk};
+ghost use Rattle.std.specs.Prelude.{◌≤◌, ◌^◌, length, IfOk};
 ghost use Rattle.rob_cert.specs.Shape.{HasShape};
 ghost use Rattle.rob_cert.specs.View.{certificate_of, status_of};
 ghost use Rattle.rob_elab.specs.Forms.{FormsFit, IsForms};

@@ -1,8 +1,8 @@
-// `gen`: the model of a number, solved by both routes.
+//! `gen`: the model of a number, solved by both routes.
 
 ghost use Rattle.std.specs.Prelude.{◌≡◌, ◌≤◌, ◌++◌, All, IfErr, IfOk, None, Some};
 ghost use Rattle.rob_cert.specs.View.{status_of};
-ghost use Rattle.rob_dualize.specs.Models.{IsWritten, judged};
+ghost use Rattle.rob_dualize.specs.Models.{judged};
 ghost use Rattle.rob_dualize.specs.Solving.{HasScenario};
 ghost use Rattle.rob_elab.specs.Forms.{FormsFit, IsForms};
 ghost use Rattle.rob_model.specs.Valid.{IsValid};
@@ -13,7 +13,7 @@ ghost use Rattle.rob_sets.specs.FirstWide.{HasCause};
 ghost use Rattle.rob_sets.specs.SetForm.{IsSetForm, SetFits};
 ghost use Rattle.rob_top.specs.Calls.{count};
 ghost use Rattle.rob_top.specs.Compared.{heading, status_line as line_of_status, wide_line as line_of_spot};
-ghost use Rattle.rob_top.specs.ComparedWork.{IsCounted, RepliesCompared, Tells, first_ended};
+ghost use Rattle.rob_top.specs.ComparedWork.{RoseAtSpot, RepliesCompared, IsLineOf, first_ended};
 ghost use Rattle.rob_top.specs.Replies.{Replies};
 ghost use Rattle.rob_top.specs.Routes.{with_rounds};
 ghost use Rattle.rob_words.specs.Values.{greatest_of};
@@ -37,7 +37,7 @@ use std::alloc::Global;
 /// What a route tells: its line, with the rounds behind it; and the spot of a number that is wide on its way, none
 /// where it has a status.
 #[derive(Debug, Drop)]
-pub struct Told {
+pub struct RouteLine {
     pub text: Text,
     pub spot: Option<Spot>,
 }
@@ -75,8 +75,8 @@ fn compare<N: Exact + Drop, L: Ledger>(
     let model = generate::<N, L>(alloc, number, ledger)?;
     match written(alloc, &model, ledger) {
         Ok((set, forms)) => {
-            let dual = told_by(alloc, &model, &forms, &set, Route::Dual, ledger)?;
-            let cuts = told_by(alloc, &model, &forms, &set, Route::Cuts, ledger)?;
+            let dual = line_by(alloc, &model, &forms, &set, Route::Dual, ledger)?;
+            let cuts = line_by(alloc, &model, &forms, &set, Route::Cuts, ledger)?;
             summary(alloc, number, dual, cuts)
         }
         // No number of a generated model's set rows and forms is wide.
@@ -108,22 +108,22 @@ fn written<N: Exact, L: Ledger>(
 }
 
 /// What a route tells of a model that has an admitted scenario.
-fn told_by<N: Exact + Drop, L: Ledger>(
+fn line_by<N: Exact + Drop, L: Ledger>(
     alloc: Global,
     model: &Model<N>,
     forms: &Forms,
     set: &SetForm,
     route: Route,
     ledger: &mut L,
-) -> Result<Told, Memory>
+) -> Result<RouteLine, Memory>
     requires valid { IsValid N.value model.now }
     requires forms { IsForms (robust N.value model.now) forms.now }
     requires set { IsSetForm (robust N.value model.now) set.now }
     requires forms_fit { FormsFit N.limit forms.now }
     requires set_fits { SetFits N.limit set.now }
     requires admitted { HasScenario (robust N.value model.now) }
-    ensures told { IfOk result (λ told. Tells N.limit (robust N.value model.now) route told.spot told.text) }
-    ensures rose { IfOk result (λ told. IsCounted (count (L.wides ledger.old) (L.wides ledger.new)) told.spot) }
+    ensures told { IfOk result (λ told. IsLineOf N.limit (robust N.value model.now) route told.spot told.text) }
+    ensures rose { IfOk result (λ told. RoseAtSpot (count (L.wides ledger.old) (L.wides ledger.new)) told.spot) }
     ensures counted { L.wides ledger.old ≤ L.wides ledger.new }
 {
     match find::<N, L>(alloc, forms, set, route, ledger) {
@@ -136,7 +136,7 @@ fn told_by<N: Exact + Drop, L: Ledger>(
 }
 
 /// The line of a route with the status of its certificate.
-fn status_line<N: Exact>(alloc: Global, route: Route, cert: &Cert<N>) -> Result<Told, Memory>
+fn status_line<N: Exact>(alloc: Global, route: Route, cert: &Cert<N>) -> Result<RouteLine, Memory>
     ensures line { IfOk result (λ told. told.text
         ≡ line_of_status route (status_of cert.now.status) (N.value cert.now.value)) }
     ensures no_spot { IfOk result (λ told. told.spot ≡ None) }
@@ -148,7 +148,7 @@ fn status_line<N: Exact>(alloc: Global, route: Route, cert: &Cert<N>) -> Result<
         Status::Infeasible => put_words(&mut text, way, b"infeasible")?,
         Status::Unbounded => put_words(&mut text, way, b"unbounded")?,
     }
-    Ok(Told { text, spot: None })
+    Ok(RouteLine { text, spot: None })
 }
 
 /// The line of a route with the spot of a number that is wide on its way, and the rounds before it.
@@ -158,7 +158,7 @@ fn wide_line<N: Exact>(
     route: Route,
     spot: Spot,
     trace: &Trace,
-) -> Result<Told, Memory>
+) -> Result<RouteLine, Memory>
     requires valid { IsValid N.value model.now }
     requires named { IsSpotOf (robust N.value model.now) spot }
     requires rounds { All (IsRoundOf (robust N.value model.now)) trace.now.rounds }
@@ -172,14 +172,14 @@ fn wide_line<N: Exact>(
     let line = spot_text(alloc, model, &spot)?;
     text.push(line.bytes())?;
     put_told_rounds(model, route, trace, &mut text)?;
-    Ok(Told {
+    Ok(RouteLine {
         text,
         spot: Some(spot),
     })
 }
 
 /// The answer with the summary of what the two routes told.
-fn summary(alloc: Global, number: u32, dual: Told, cuts: Told) -> Result<Reply, Memory>
+fn summary(alloc: Global, number: u32, dual: RouteLine, cuts: RouteLine) -> Result<Reply, Memory>
     ensures summary { IfOk result (Replies (first_ended dual.spot cuts.spot)
         (heading number ++ (dual.text ++ cuts.text))) }
 {

@@ -1,4 +1,4 @@
-// How a run ends.
+//! How a run ends.
 
 ghost use Rattle.std.specs.Prelude.{◌≡◌};
 ghost use Rattle.rob_top.specs.Codes.{code_of};
@@ -11,8 +11,8 @@ use rob_tree::{Branch, LeafFault};
 /// line or record, from 1; `Cert` is also of a text that breaks none, of a certificate without a plan.
 #[derive(Debug, Drop)]
 pub enum Ended {
-    /// The model is optimal; at `whole` and `tree` over plans whose named variables are whole, at `cells` over plans with
-    /// a policy of their own in each cell, and so the next two.
+    /// The model is optimal; at `whole` and `tree` over plans whose named variables are whole, at `cells` over plans
+    /// with a policy of their own in each cell, and so the next two.
     Optimal,
     /// No plan keeps every row in every scenario of its set.
     Infeasible,
@@ -34,8 +34,8 @@ pub enum Ended {
     TooLong,
     /// The model's text can't be read.
     Model(u8, u32),
-    /// No joint scenario is admitted: with these weights, one for each set row, the set rows sum to 0 on each column, and to a
-    /// negative right side. At `cells` they are the split model's.
+    /// No joint scenario is admitted: with these weights, one for each set row, the set rows sum to 0 on each column,
+    /// and to a negative right side. At `cells` they are the split model's.
     EmptySet(List<i64>),
     /// A number is wider than the program computes with; at `cells` one of the split model.
     TooWide(Spot),

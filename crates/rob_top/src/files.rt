@@ -1,9 +1,10 @@
-// The files that a command names.
+//! The files that a command names.
 
 ghost use Rattle.std.specs.Prelude.{◌≡◌, ◌≤◌, Err, IfOk, map, string_bytes};
 ghost use Rattle.rob_number.specs.Counts.{Rose};
 ghost use Rattle.rob_outside.specs.Files.{IsAtMost, found_of};
-ghost use Rattle.rob_top.specs.Calls.{IsFoundIn, count, files_of, most_of, requests, source_of};
+ghost use Rattle.rob_top.specs.Calls.{count, source_of};
+ghost use Rattle.rob_top.specs.Files.{IsFoundIn, files_of, most_of, requests};
 ghost use Rattle.rob_top.specs.Replies.{Asks, AsksOnce, IsFetched, IsGot, IsGotWithin, IsNothing, with_file, with_text};
 ghost use Rattle.rob_top.specs.Work.{IsShortFetch};
 ghost use Rattle.rob_words.specs.Answers.{line_of};
@@ -16,8 +17,8 @@ use rob_outside::{Fetched, Shelf, ShelfErr};
 use rob_words::{CommandLine, Own, Route};
 use std::alloc::Global;
 
-/// The texts of a command's files, by their kinds, its own words, and its route. A text that the command doesn't have is
-/// empty.
+/// The texts of a command's files, by their kinds, its own words, and its route. A text that the command doesn't have
+/// is empty.
 #[derive(Debug, Drop)]
 pub struct Texts {
     pub model: Vec<u8>,
@@ -46,7 +47,8 @@ pub enum Got {
 /// Fetches the files of a command line, in the order of its words.
 pub fn fetch<S: Shelf>(alloc: Global, line: &CommandLine, shelf: &mut S) -> Result<Files, Memory>
     ensures fetched { IfOk result (IsFetched (own_of line.now.verb) (map string_bytes line.now.own.items)
-        (source_of (S.files shelf.old) (S.log shelf.old) (S.log shelf.new)) (count (S.faults shelf.old) (S.faults shelf.new))) }
+        (source_of (S.files shelf.old) (S.log shelf.old) (S.log shelf.new))
+        (count (S.faults shelf.old) (S.faults shelf.new))) }
     ensures short { IfOk result IsShortFetch }
     ensures unchanged { S.files shelf.new ≡ S.files shelf.old }
     ensures asked { Asks (requests (line_of line.now)) (S.log shelf.old) (S.log shelf.new) }
@@ -63,7 +65,8 @@ fn fetch_all<S: Shelf>(
     shelf: &mut S,
 ) -> Result<Files, Memory>
     ensures fetched { IfOk result (IsFetched kinds.now (map string_bytes names.now)
-        (source_of (S.files shelf.old) (S.log shelf.old) (S.log shelf.new)) (count (S.faults shelf.old) (S.faults shelf.new))) }
+        (source_of (S.files shelf.old) (S.log shelf.old) (S.log shelf.new))
+        (count (S.faults shelf.old) (S.faults shelf.new))) }
     ensures short { IfOk result IsShortFetch }
     ensures unchanged { S.files shelf.new ≡ S.files shelf.old }
     ensures asked { Asks (files_of kinds.now (map string_bytes names.now)) (S.log shelf.old) (S.log shelf.new) }

@@ -1,4 +1,4 @@
-// The commands on a number: `text`, the model of a number; and `gen`, which solves it.
+//! The commands on a number: `text`, the model of a number; and `gen`, which solves it.
 
 ghost use Rattle.std.specs.Prelude.{◌≡◌, ◌≤◌, ◌∷◌, [], IfOk, false};
 ghost use Rattle.rob_gen.specs.Generated.{generated};

@@ -1,16 +1,13 @@
-// Which answer has to come, what two answers say of each other, what `check` says of what `prove` prints, what
-// `replay` and `worst` show of what `check` accepts and of what `prove` prints, what `checktree` says of what `tree`
-// prints, and what `solve`, `prove` and `check` make of the text that `celltext` prints. What is known of a call's files
-// (`Known`) are the told files, or the answers that came in the call, which every shelf gives. The functions do nothing;
-// their clauses are the claims.
+//! Which answer has to come; what two answers say of each other; and what a later call makes of what an earlier one
+//! printed: `check`, `replay` and `worst` of a certificate, `checktree` of a tree, `solve`, `prove` and `check` of
+//! the text of a split model. What is known of a call's files (`Known`) are the told files, or the answers that came
+//! in the call, which every shelf gives. The functions do nothing; their clauses are the claims.
 
-ghost use Rattle.std.specs.Prelude.{◌≡◌, ◌≤◌, ◌<◌, ◌^◌, ◌⊎◌, ◌↔◌, ◌++◌, ◌∷◌, ℕ, ℤ, List, true, [], codes};
+ghost use Rattle.std.specs.Prelude.{◌≡◌, ◌≤◌, ◌<◌, ◌^◌, ◌⊎◌, ◌↔◌, ◌++◌, ℕ, ℤ, List, true, codes};
 ghost use Rattle.rob_algebra.specs.Fraction.{Fraction};
 ghost use Rattle.rob_cert.specs.Apart.{IsNamedInWords};
-ghost use Rattle.rob_check.specs.Narrow.{IsFirstFailing};
-ghost use Rattle.rob_dualize.specs.SmallestModel.{one_demand};
-ghost use Rattle.rob_dualize.specs.Models.{IsWideIn, IsWritten};
-ghost use Rattle.rob_dualize.specs.Solving.{HasScenario, IsNarrowModel, IsWideOnPath};
+ghost use Rattle.rob_dualize.specs.Models.{IsWritten};
+ghost use Rattle.rob_dualize.specs.Solving.{HasScenario, IsNarrowModel};
 ghost use Rattle.rob_gen.specs.Generated.{generated};
 ghost use Rattle.rob_meaning.specs.Certificates.{Status, infeasible, optimal, unbounded};
 ghost use Rattle.rob_meaning.specs.Guarantee.{IsNoWorse};
@@ -18,45 +15,38 @@ ghost use Rattle.rob_meaning.specs.Places.{Each};
 ghost use Rattle.rob_meaning.specs.Proves.{HasStatus};
 ghost use Rattle.rob_meaning.specs.RobustModel.{RobustModel};
 ghost use Rattle.rob_meaning.specs.UncertaintySet.{Admits, IsEmptySet};
-ghost use Rattle.rob_model.specs.declared.place.Place.{Place};
 ghost use Rattle.rob_model.specs.declared.place.Spot.{Spot};
-ghost use Rattle.rob_model.specs.declared.place.Spot.TheVariants.{Replay as ReplaySpot};
 ghost use Rattle.rob_parse.specs.Modelled.{ReadsModel};
-ghost use Rattle.rob_pieces.specs.SplitModel.{split_model};
 ghost use Rattle.rob_replay.specs.Replayed.{ShowsBound};
 ghost use Rattle.rob_top.specs.Branched.{IsBranched};
 ghost use Rattle.rob_split_text.specs.SplitTexts.{HasFewTokens};
-ghost use Rattle.rob_top.specs.Calls.{Call, HasFile, IsSolving, Known, known_call, limit_of};
+ghost use Rattle.rob_top.specs.Calls.{Call, IsSolving, Known, known_call, limit_of};
+ghost use Rattle.rob_top.specs.Files.{HasFile};
 ghost use Rattle.rob_report.specs.NarrowText.{narrow_line};
 ghost use Rattle.rob_top.specs.Checked.{IsAccepted};
 ghost use Rattle.rob_top.specs.Compared.{AsksFor};
 ghost use Rattle.rob_top.specs.ComparedEnds.{IsComparedAnswer};
 ghost use Rattle.rob_top.specs.Completeness.{IsComplete, MustEnd};
-ghost use Rattle.rob_top.specs.Endings.{EndsAs, IsEmptyAnswer, IsEmptyWholeAnswer, IsOutside, IsProvedAnswer, IsShownAnswer, IsSweepAnswer, IsUnput, NamesFault, NamesWidth};
+ghost use Rattle.rob_top.specs.Endings.{EndsAs, IsProvedAnswer, IsShownAnswer, NamesWidth};
 ghost use Rattle.rob_top.specs.Headline.{Means};
 ghost use Rattle.rob_top.specs.Inputs.{HasCertificateFile, HasModel, HasModelText, HasReplayFile, HasWorstFile};
 ghost use Rattle.rob_top.specs.Narrowed.{IsNarrowed};
 ghost use Rattle.rob_top.specs.Replayed.{IsReplayed};
-ghost use Rattle.rob_top.specs.Routes.{IsWideOnWay};
-ghost use Rattle.rob_top.specs.Searched.{IsSearched, IsWideSought, ShowsKept, certificate_vector};
+ghost use Rattle.rob_top.specs.Searched.{IsSearched, ShowsKept, certificate_vector};
 ghost use Rattle.rob_top.specs.Solved.{IsEmptySet as AnswersEmptySet, IsSolved};
-ghost use Rattle.rob_top.specs.Swept.{limit_value};
 ghost use Rattle.rob_top.specs.TreeChecked.{HasTreeFile, IsTreeAccepted};
 ghost use Rattle.rob_top.specs.Split.{EachCellAdmits, HasStatusOverPieces, IsPieced, IsSplitText};
-ghost use Rattle.rob_top.specs.SplitEnds.{IsEmptyCellsAnswer};
 ghost use Rattle.rob_top.specs.SplitTexts.{IsNarrowOnWay, IsPiecesAnswer, TakesSplit, written_split};
 ghost use Rattle.rob_top.specs.Work.{ended_of};
-ghost use Rattle.rob_top.specs.WorkedCalls.{at_13, at_9, cells_call, check_call, cuts_call, demand_within_a_budget, empty_interval, first_text, greatest, half_a_demand, hard_and_soft, impossible_demand, narrow_call, never_calm, no_demand, no_order, order_0, order_11, order_12, order_least, replay_call, solve_call, sweep_call, text_call, two_demands, two_demands_table, whole_call, worst_call, worst_on};
+ghost use Rattle.rob_top.specs.WorkedCalls.{first_text};
+ghost use Rattle.rob_top.specs.WorkedModels.{greatest};
 ghost use Rattle.rob_top.specs.WorkedCompared.{first_summary, gen_call};
-ghost use Rattle.rob_top.specs.WorkedTrees.{cheaper_orders, tree_call, whole_orders};
 ghost use Rattle.rob_top.specs.declared.ended.Ended.{Ended};
-ghost use Rattle.rob_top.specs.declared.ended.Ended.TheVariants.{Accepted, Cells, Cert, EmptySet, Model, NoRow, Optimal, Printed, Rejected, Scenarios, Sweep, TooWide, Tree as NoTree, Whole, WideNode};
-ghost use Rattle.rob_tree.specs.TreeText.{tree_text};
-ghost use Rattle.rob_tree.specs.declared.tree.Branch.{Branch};
+ghost use Rattle.rob_top.specs.declared.ended.Ended.TheVariants.{Accepted, Cert, EmptySet, Model, Printed, TooWide};
 ghost use Rattle.rob_words.specs.Commands.{Line};
 ghost use Rattle.rob_words.specs.Kinds.{IsNumber, number_of};
 ghost use Rattle.rob_words.specs.Values.{Word};
-ghost use Rattle.rob_words.specs.declared.route.Route.TheVariants.{Cuts, Dual};
+ghost use Rattle.rob_words.specs.declared.route.Route.TheVariants.{Dual};
 ghost use Rattle.rob_words.specs.declared.verb.Own.TheVariants as own;
 ghost use Rattle.rob_words.specs.declared.verb.Verb.TheVariants.{Check, Prove, Tree};
 ghost use Rattle.rob_write.specs.Canonical.{model_text};
@@ -69,34 +59,38 @@ pub fn completeness()
 
 /// The text that `prove` printed, as the certificate's file of a `check` on the same model at the same width.
 pub fn prove_then_check()
-    // It is accepted; or a number of the check is wide, and its place is named; or the outside fails, or memory is refused.
-    ensures accepted { (proving checking : Call) (status : Status) (text shown : List ℕ) (solved : IsSolved proving status text)
-        → solved.line.verb ≡ Prove → (known : Known checking.source) (line : Line)
-        → line.width ≡ solved.line.width → HasCertificateFile (known_call checking known) line solved.m text
-        → (ended : Ended) → Means checking ended shown → IsProvedAnswer (limit_of line) solved.m solved.c ended }
+    // It is accepted; or a number of the check is wide, and its place is named; or the outside fails, or memory is
+    // refused.
+    ensures accepted { (proving checking : Call) (status : Status) (text shown : List ℕ)
+        (solved : IsSolved proving status text) → solved.line.verb ≡ Prove
+        → (known : Known checking.source) (line : Line) → line.width ≡ solved.line.width
+        → HasCertificateFile (known_call checking known) line solved.m text → (ended : Ended)
+        → Means checking ended shown → IsProvedAnswer (limit_of line) solved.m solved.c ended }
 {}
 
 /// What `narrow yes` says of `solve` and `prove`, by the robust counterpart, on the same model at the same width.
 pub fn narrow_then_solve()
     // The model is narrow,
-    ensures narrow { (narrowing : Call) (text front : List ℕ) (narrowed : IsNarrowed narrowing text) → text ≡ front ++ narrow_line true
-        → IsNarrowModel (limit_of narrowed.line) narrowed.m }
+    ensures narrow { (narrowing : Call) (text front : List ℕ) (narrowed : IsNarrowed narrowing text)
+        → text ≡ front ++ narrow_line true → IsNarrowModel (limit_of narrowed.line) narrowed.m }
     // so they are never refused for width;
     ensures not_refused { (narrowing solving : Call) (text front shown : List ℕ) (narrowed : IsNarrowed narrowing text)
-        → text ≡ front ++ narrow_line true → (known : Known solving.source) (line : Line) → line.width ≡ narrowed.line.width
-        → IsSolving line.verb → line.way ≡ Dual → HasModel (known_call solving known) line narrowed.m → (spot : Spot)
-        → Means solving (TooWide spot) shown → ⊥ }
+        → text ≡ front ++ narrow_line true → (known : Known solving.source) (line : Line)
+        → line.width ≡ narrowed.line.width → IsSolving line.verb → line.way ≡ Dual
+        → HasModel (known_call solving known) line narrowed.m → (spot : Spot) → Means solving (TooWide spot) shown → ⊥ }
     // and where some scenario is admitted the model's status is answered, or the outside fails, or memory is refused.
     ensures status { (narrowing solving : Call) (text front shown : List ℕ) (narrowed : IsNarrowed narrowing text)
-        → text ≡ front ++ narrow_line true → (known : Known solving.source) (line : Line) → line.width ≡ narrowed.line.width
-        → IsSolving line.verb → line.way ≡ Dual → HasModel (known_call solving known) line narrowed.m → (ended : Ended) → Means solving ended shown
-        → (u : List Fraction) → Admits narrowed.m u
-        → (status : Status) × (v : Fraction) × HasStatus narrowed.m status v × EndsAs (ended_of status) ended }
-    // Where none is, an empty set is answered, with weights that show it, or again the outside fails, or memory is refused.
+        → text ≡ front ++ narrow_line true → (known : Known solving.source) (line : Line)
+        → line.width ≡ narrowed.line.width → IsSolving line.verb → line.way ≡ Dual
+        → HasModel (known_call solving known) line narrowed.m → (ended : Ended) → Means solving ended shown
+        → (u : List Fraction) → Admits narrowed.m u → (status : Status) × (v : Fraction)
+        × HasStatus narrowed.m status v × EndsAs (ended_of status) ended }
+    // Where none is, an empty set is answered, with weights that show it, or again the outside fails, or memory is
+    // refused.
     ensures empty { (narrowing solving : Call) (text front shown : List ℕ) (narrowed : IsNarrowed narrowing text)
-        → text ≡ front ++ narrow_line true → (known : Known solving.source) (line : Line) → line.width ≡ narrowed.line.width
-        → IsSolving line.verb → HasModel (known_call solving known) line narrowed.m → (ended : Ended) → Means solving ended shown
-        → IsEmptySet narrowed.m → IsShownAnswer narrowed.m ended }
+        → text ≡ front ++ narrow_line true → (known : Known solving.source) (line : Line)
+        → line.width ≡ narrowed.line.width → IsSolving line.verb → HasModel (known_call solving known) line narrowed.m
+        → (ended : Ended) → Means solving ended shown → IsEmptySet narrowed.m → IsShownAnswer narrowed.m ended }
 {}
 
 /// The plan of a certificate that `check` accepted, as `replay` takes it on the same model.
@@ -118,52 +112,59 @@ pub fn check_then_worst()
 /// The text that `prove` printed, as the certificate's file of a `worst` on the same model at the same width.
 pub fn prove_then_worst()
     // A worst scenario is printed, whichever form is named, and no slack below 0;
-    ensures kept { (proving searching : Call) (status : Status) (text shown : List ℕ) (solved : IsSolved proving status text)
-        → solved.line.verb ≡ Prove → (known : Known searching.source) (line : Line) → line.width ≡ solved.line.width
-        → HasWorstFile (known_call searching known) line solved.m text
-        → (searched : IsSearched searching shown) → ShowsKept solved.m searched.form (certificate_vector solved.c) shown }
+    ensures kept { (proving searching : Call) (status : Status) (text shown : List ℕ)
+        (solved : IsSolved proving status text) → solved.line.verb ≡ Prove
+        → (known : Known searching.source) (line : Line) → line.width ≡ solved.line.width
+        → HasWorstFile (known_call searching known) line solved.m text → (searched : IsSearched searching shown)
+        → ShowsKept solved.m searched.form (certificate_vector solved.c) shown }
     // and the text is refused for one reason alone: the model is infeasible, so that there is no plan.
-    ensures refused { (proving searching : Call) (status : Status) (text shown : List ℕ) (solved : IsSolved proving status text)
-        → solved.line.verb ≡ Prove → (known : Known searching.source) (line : Line) → line.width ≡ solved.line.width
-        → HasWorstFile (known_call searching known) line solved.m text
-        → (rule number : ℕ) → Means searching (Cert rule number) shown
-        → (rule ≡ 34) × ((number ≡ 1) × (status ≡ infeasible)) }
+    ensures refused { (proving searching : Call) (status : Status) (text shown : List ℕ)
+        (solved : IsSolved proving status text) → solved.line.verb ≡ Prove
+        → (known : Known searching.source) (line : Line) → line.width ≡ solved.line.width
+        → HasWorstFile (known_call searching known) line solved.m text → (rule number : ℕ)
+        → Means searching (Cert rule number) shown → (rule ≡ 34) × ((number ≡ 1) × (status ≡ infeasible)) }
 {}
 
 /// The text that `prove` printed, as the certificate's file of a `replay` on the same model at the same width.
 pub fn prove_then_replay()
     // Each inside line of a table shows no slack below 0, and an objective no worse than the value that was proved;
-    ensures shown { (proving replaying : Call) (status : Status) (text shown : List ℕ) (solved : IsSolved proving status text)
-        → solved.line.verb ≡ Prove → (known : Known replaying.source) (line : Line) → line.width ≡ solved.line.width
-        → HasReplayFile (known_call replaying known) line solved.m text
-        → (replayed : IsReplayed replaying shown) → Each (ShowsBound solved.m solved.c.value) replayed.lines }
+    ensures shown { (proving replaying : Call) (status : Status) (text shown : List ℕ)
+        (solved : IsSolved proving status text) → solved.line.verb ≡ Prove
+        → (known : Known replaying.source) (line : Line) → line.width ≡ solved.line.width
+        → HasReplayFile (known_call replaying known) line solved.m text → (replayed : IsReplayed replaying shown)
+        → Each (ShowsBound solved.m solved.c.value) replayed.lines }
     // and the text is refused for one reason alone: the model is infeasible, so that there is no plan.
-    ensures refused { (proving replaying : Call) (status : Status) (text shown : List ℕ) (solved : IsSolved proving status text)
-        → solved.line.verb ≡ Prove → (known : Known replaying.source) (line : Line) → line.width ≡ solved.line.width
-        → HasReplayFile (known_call replaying known) line solved.m text
-        → (rule number : ℕ) → Means replaying (Cert rule number) shown
-        → (rule ≡ 34) × ((number ≡ 1) × (status ≡ infeasible)) }
+    ensures refused { (proving replaying : Call) (status : Status) (text shown : List ℕ)
+        (solved : IsSolved proving status text) → solved.line.verb ≡ Prove
+        → (known : Known replaying.source) (line : Line) → line.width ≡ solved.line.width
+        → HasReplayFile (known_call replaying known) line solved.m text → (rule number : ℕ)
+        → Means replaying (Cert rule number) shown → (rule ≡ 34) × ((number ≡ 1) × (status ≡ infeasible)) }
 {}
 
-/// The text that `tree` printed, as the tree's file of a `checktree` on the same model and the same names in the same order,
-/// at the same width.
+/// The text that `tree` printed, as the tree's file of a `checktree` on the same model and the same names in the same
+/// order, at the same width.
 pub fn tree_then_checktree()
-    // It is accepted; or a number of the check is wide, and its place is named; or the outside fails, or memory is refused.
-    ensures accepted { (growing checking : Call) (status : Status) (text shown : List ℕ) (branched : IsBranched growing status text)
-        → branched.line.verb ≡ Tree → (known : Known checking.source) (line : Line) → line.width ≡ branched.line.width
+    // It is accepted; or a number of the check is wide, and its place is named; or the outside fails, or memory is
+    // refused.
+    ensures accepted { (growing checking : Call) (status : Status) (text shown : List ℕ)
+        (branched : IsBranched growing status text) → branched.line.verb ≡ Tree
+        → (known : Known checking.source) (line : Line) → line.width ≡ branched.line.width
         → HasTreeFile (known_call checking known) line branched.m branched.names text → (ended : Ended)
-        → Means checking ended shown
-        → EndsAs Accepted ended ⊎ NamesWidth (limit_of line) branched.m branched.names branched.t ended }
-    // And whichever tree is accepted there claims the status that `whole` and `tree` answer, and the value of an optimum.
-    ensures one_status { (growing checking : Call) (status : Status) (text shown : List ℕ) (branched : IsBranched growing status text)
-        (accepted : IsTreeAccepted checking shown) → accepted.m ≡ branched.m → accepted.names ≡ branched.names
-        → (accepted.t.status ≡ status) × (status ≡ optimal → accepted.t.value ≡ branched.t.value) }
+        → Means checking ended shown → EndsAs Accepted ended
+        ⊎ NamesWidth (limit_of line) branched.m branched.names branched.t ended }
+    // And whichever tree is accepted there claims the status that `whole` and `tree` answer, and the value of an
+    // optimum.
+    ensures one_status { (growing checking : Call) (status : Status) (text shown : List ℕ)
+        (branched : IsBranched growing status text) (accepted : IsTreeAccepted checking shown)
+        → accepted.m ≡ branched.m → accepted.names ≡ branched.names → (accepted.t.status ≡ status)
+        × (status ≡ optimal → accepted.t.value ≡ branched.t.value) }
 {}
 
 /// What `text` prints for a number.
 pub fn generated_texts()
     // It is read as the number's model, at each width.
-    ensures read { (n limit : ℕ) → 14 ≤ limit → limit < 2 ^ 62 → ReadsModel limit (model_text (generated n)) (generated n) }
+    ensures read { (n limit : ℕ) → 14 ≤ limit → limit < 2 ^ 62
+        → ReadsModel limit (model_text (generated n)) (generated n) }
     // For 0 it is these lines.
     ensures first { model_text (generated 0) ≡ first_text }
 {}
@@ -238,15 +239,6 @@ pub fn celltext_then_solve()
         → IsProvedAnswer (limit_of other) (written_split split) solved.c ended }
 {}
 
-/// The text that `celltext` prints of the smallest model cut at 9, worked by hand. So that a call takes such a text,
-/// which `celltext_then_solve` asks, is met by some.
-pub fn worked_split_text()
-    // A call of `solve` takes it.
-    ensures taken { (split : IsSplitText (cells_call (codes "celltext") (codes "d=9") one_demand)
-        (model_text (split_model one_demand at_9)))
-        × ((line : Line) × TakesSplit split (solve_call (split_model one_demand at_9)) line) }
-{}
-
 /// Names of a model that was read stand as words in the text of a certificate or of a branch tree.
 pub fn read_names()
     // No declared name has a space or a line's end.
@@ -259,15 +251,15 @@ pub fn status_laws()
     ensures one_status { (call : Call) (known : Known call.source) (a b : Status) (text other : List ℕ)
         → Means call (ended_of a) text → Means call (ended_of b) other → a ≡ b }
     // and none of them where no scenario is admitted.
-    ensures not_empty { (call : Call) (known : Known call.source) (status : Status) (weights : List ℤ) (text other : List ℕ)
-        → Means call (ended_of status) text → Means call (EmptySet weights) other → ⊥ }
+    ensures not_empty { (call : Call) (known : Known call.source) (status : Status) (weights : List ℤ)
+        (text other : List ℕ) → Means call (ended_of status) text → Means call (EmptySet weights) other → ⊥ }
 {}
 
 /// Two calls of `solve` and `prove` on one model, by whichever routes and at whichever widths.
 pub fn route_laws()
     // They have one status, and of an optimum one value;
-    ensures one_answer { (a b : Call) (s t : Status) (text other : List ℕ) (x : IsSolved a s text) (y : IsSolved b t other)
-        → x.m ≡ y.m → (s ≡ t) × (s ≡ optimal → x.c.value ≡ y.c.value) }
+    ensures one_answer { (a b : Call) (s t : Status) (text other : List ℕ) (x : IsSolved a s text)
+        (y : IsSolved b t other) → x.m ≡ y.m → (s ≡ t) × (s ≡ optimal → x.c.value ≡ y.c.value) }
     // and where the one has a status, the other doesn't answer an empty set.
     ensures one_emptiness { (a b : Call) (s : Status) (weights : List ℤ) (text other : List ℕ) (x : IsSolved a s text)
         (y : AnswersEmptySet b weights other) → x.m ≡ y.m → ⊥ }
@@ -302,112 +294,4 @@ pub fn cells_laws()
     ensures one_emptiness { (cutting solving : Call) (status : Status) (weights : List ℤ) (text other : List ℕ)
         (pieced : IsPieced cutting status text) (empty : AnswersEmptySet solving weights other)
         → pieced.m ≡ empty.m → ⊥ }
-{}
-
-/// Calls worked by hand: `specs/WorkedCalls.antt`. So what is asked of a call where a status, an empty set or a verdict has to be
-/// answered is met by some call. A fault of the outside and want of memory may come in the place of each answer; but none of a
-/// read at `text`, which names no file.
-pub fn worked_calls()
-    // `solve` on the smallest model is answered with `optimal`,
-    ensures optimal { (result : Ended) → MustEnd (solve_call one_demand) result → EndsAs Optimal result }
-    // by cutting planes too, or it names a wide number of a run,
-    ensures by_cuts { (result : Ended) → MustEnd (cuts_call one_demand) result
-        → EndsAs Optimal result ⊎ ((spot : Spot) × IsWideOnWay Cuts greatest one_demand spot × (result ≡ TooWide spot)) }
-    // by the default route no wide number is named, as the model is narrow, and its status is answered;
-    ensures narrow_spot { (result : Ended) → MustEnd (solve_call one_demand) result → (spot : Spot) → (result ≡ TooWide spot) → ⊥ }
-    ensures narrow_status { (result : Ended) → MustEnd (solve_call one_demand) result
-        → (status : Status) × (v : Fraction) × HasStatus one_demand status v × EndsAs (ended_of status) result }
-    // on a model without a scenario by weights that show it, or a wide row of the set's program,
-    ensures empty { (result : Ended) → MustEnd (solve_call empty_interval) result
-        → IsEmptyAnswer greatest empty_interval result }
-    // and, as that model is narrow too, by no wide row,
-    ensures narrow_empty { (result : Ended) → MustEnd (solve_call empty_interval) result → IsShownAnswer empty_interval result }
-    // nor by cutting planes.
-    ensures empty_by_cuts { (result : Ended) → MustEnd (cuts_call empty_interval) result → IsShownAnswer empty_interval result }
-    // A model with a named set is read from its text, rows over that set among them: it is answered with `optimal`, or a wide row,
-    ensures named_set { (result : Ended) → MustEnd (solve_call hard_and_soft) result
-        → EndsAs Optimal result ⊎ ((spot : Spot) × IsWideOnPath greatest hard_and_soft spot × (result ≡ TooWide spot)) }
-    // and where the named set admits no scenario by weights that show it, or a wide row of the sets' program.
-    ensures empty_named_set { (result : Ended) → MustEnd (solve_call never_calm) result
-        → IsEmptyAnswer greatest never_calm result }
-    // `check` accepts a certificate that proves,
-    ensures accepted { (result : Ended) → MustEnd (check_call order_12) result → EndsAs Accepted result }
-    // and rejects one that doesn't, at the first place that fails.
-    ensures rejected { (result : Ended) → MustEnd (check_call order_11) result
-        → (place : Place) × IsFirstFailing greatest one_demand order_11 place × EndsAs (Rejected place) result }
-    // `replay` prints the table of a file with one scenario that is admitted and one that isn't,
-    ensures replayed { (result : Ended) → MustEnd (replay_call order_12 two_demands) result → EndsAs Printed result }
-    // which has these lines, and no other,
-    ensures table { (text : List ℕ) → Means (replay_call order_12 two_demands) Printed text → text ≡ two_demands_table }
-    // and it names the first record with a wide number;
-    ensures wide { (result : Ended) → MustEnd (replay_call order_least two_demands) result
-        → EndsAs (TooWide (ReplaySpot 2)) result }
-    // of a certificate without a plan it names rule 34,
-    ensures planless { (result : Ended) → MustEnd (replay_call no_order two_demands) result → EndsAs (Cert 34 1) result }
-    // and of a file whose header names no parameter the rule.
-    ensures unread { (result : Ended) → MustEnd (replay_call order_12 no_demand) result
-        → EndsAs (Scenarios 41 1) result }
-    // `whole` names rule 62 for a variable without bounds, and 61 for a name of no variable.
-    ensures boundless { (result : Ended) → MustEnd (whole_call one_demand (codes "x")) result
-        → EndsAs (Whole 62) result }
-    ensures nameless { (result : Ended) → MustEnd (whole_call one_demand (codes "y")) result
-        → EndsAs (Whole 61) result }
-    // On a model whose optimum in fractions isn't whole it is answered with `optimal`, or a wide number of a box.
-    ensures halves { (result : Ended) → MustEnd (whole_call half_a_demand (codes "x")) result
-        → EndsAs Optimal result ⊎ ((path : List Branch) × (spot : Spot) × (result ≡ WideNode path spot)) }
-    // Where that model admits no scenario, by weights that show it, or a wide number of the set's program.
-    ensures empty_whole { (result : Ended) → MustEnd (whole_call impossible_demand (codes "x")) result
-        → IsEmptyWholeAnswer greatest impossible_demand result }
-    // `worst` prints the worst case of a row, or names a wide number on the way to it;
-    ensures worst_case { (result : Ended) → MustEnd (worst_call order_12 (codes "r")) result
-        → EndsAs Printed result
-        ⊎ ((spot : Spot) × IsWideSought greatest one_demand 1 (certificate_vector order_12) spot × (result ≡ TooWide spot)) }
-    // it names a word that is no form's name, and of a certificate without a plan rule 34.
-    ensures formless { (result : Ended) → MustEnd (worst_call order_12 (codes "q")) result
-        → EndsAs NoRow result }
-    ensures unplanned { (result : Ended) → MustEnd (worst_call no_order (codes "r")) result
-        → EndsAs (Cert 34 1) result }
-    // On a model without a scenario it answers by weights that show it, or a wide row of the set's program.
-    ensures empty_worst { (result : Ended) → MustEnd (worst_on empty_interval order_0 (codes "objective")) result
-        → IsEmptyAnswer greatest empty_interval result }
-    // `checktree` names rule 71 of a tree's file that is empty;
-    ensures treeless { (result : Ended) → MustEnd (tree_call half_a_demand []) result → EndsAs (NoTree 71 1) result }
-    // it accepts a tree that proves, or names a wide number;
-    ensures proved_tree { (result : Ended) → MustEnd (tree_call half_a_demand (tree_text half_a_demand whole_orders)) result
-        → EndsAs Accepted result ⊎ NamesWidth greatest half_a_demand (0 ∷ []) whole_orders result }
-    // and of one that doesn't prove it names a condition that fails, or a wide number.
-    ensures unproved_tree { (result : Ended) → MustEnd (tree_call half_a_demand (tree_text half_a_demand cheaper_orders)) result
-        → NamesFault greatest half_a_demand (0 ∷ []) cheaper_orders result
-        ⊎ (NamesWidth greatest half_a_demand (0 ∷ []) cheaper_orders result ⊎ IsOutside result) }
-    // `sweep` and `sweeptext` name rule 81 for a model without statements on its set.
-    ensures unswept { (result : Ended) → MustEnd (sweep_call (codes "sweep") one_demand) result
-        → EndsAs (Sweep 81) result }
-    ensures unlimited { (result : Ended) → MustEnd (sweep_call (codes "sweeptext") one_demand) result
-        → EndsAs (Sweep 81) result }
-    // On a model with a budget `sweep` prints its answer at a limit, or names a wide number, and `sweeptext` prints it with
-    // that limit.
-    ensures swept { (result : Ended) → MustEnd (sweep_call (codes "sweep") demand_within_a_budget) result
-        → IsSweepAnswer greatest demand_within_a_budget 1 (limit_value (codes "0") ∷ []) result }
-    ensures limited { (result : Ended) → MustEnd (sweep_call (codes "sweeptext") demand_within_a_budget) result
-        → EndsAs Printed result }
-    // `cells` on the smallest model cut at 9 is answered with `optimal`, or a wide number of the split model, which
-    // `celltext` prints;
-    ensures pieces { (result : Ended) → MustEnd (cells_call (codes "cells") (codes "d=9") one_demand) result
-        → EndsAs Optimal result
-        ⊎ ((spot : Spot) × IsWideIn greatest (split_model one_demand at_9) spot × (result ≡ TooWide spot)) }
-    ensures split { (result : Ended) → MustEnd (cells_call (codes "celltext") (codes "d=9") one_demand) result
-        → EndsAs Printed result }
-    // cut at 13, above each admitted d, by weights that show an empty cell, or a number that is wide before that is known.
-    ensures empty_cell { (result : Ended) → MustEnd (cells_call (codes "cells") (codes "d=13") one_demand) result
-        → IsEmptyCellsAnswer greatest one_demand at_13 result }
-    // Of a cut at no parameter rule 52 is named, and of a model with a named set 51.
-    ensures uncut { (result : Ended) → MustEnd (cells_call (codes "cells") (codes "e=9") one_demand) result
-        → EndsAs (Cells 52) result }
-    ensures set_uncut { (result : Ended) → MustEnd (cells_call (codes "cells") (codes "d=9") hard_and_soft) result
-        → EndsAs (Cells 51) result }
-    // `narrow` prints the bounds of the smallest model.
-    ensures narrow { (result : Ended) → MustEnd (narrow_call one_demand) result → EndsAs Printed result }
-    // `text` prints a model, whichever number its word spells.
-    ensures generated { (word : Word) → IsNumber word → (result : Ended) → MustEnd (text_call word) result
-        → (result ≡ Printed) ⊎ IsUnput result }
 {}

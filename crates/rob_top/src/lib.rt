@@ -1,5 +1,5 @@
-//! The program's call: words in, bytes out. `specs/Headline.antt` says what each answer means, `specs/Completeness.antt` which one
-//! has to come.
+//! The program's call: words in, bytes out. `specs/Headline.antt` says what each answer means,
+//! `specs/Completeness.antt` which one has to come.
 #![tactic(auto)]
 
 mod branching;
@@ -25,6 +25,7 @@ mod sweeping;
 mod top;
 mod tree_checking;
 mod work;
+pub mod worked;
 
 pub use ended::Ended;
 pub use machine::run_here;

@@ -1,4 +1,4 @@
-// The limits of a budget among a command's own words.
+//! The limits of a budget among a command's own words.
 
 ghost use Rattle.std.specs.Prelude.{◌≡◌, ◌≤◌, ◌<◌, IfOk, MatchOption, length, map, pos};
 ghost use Rattle.rob_algebra.specs.Fraction.{of_pair};
@@ -7,7 +7,7 @@ ghost use Rattle.rob_words.specs.Limits.{IsLimit, IsLimitList};
 ghost use Rattle.rob_words.specs.Names.{parts_of};
 
 use rob_number::{Exact, Ledger, List, Memory};
-use rob_words::{first_part, limit};
+use rob_words::{MOST_IN_LIST, first_part, limit};
 use std::alloc::Global;
 
 /// The limit that a word spells, where it is a limit at this width.
@@ -52,7 +52,7 @@ pub fn limits_of<N: Exact, L: Ledger>(
     let mut rest = Some(word);
     while let Some(word) = rest {
         let (first, behind) = first_part(word);
-        if limits.items().len() == 20 {
+        if limits.items().len() == MOST_IN_LIST {
             return Ok(None);
         }
         let Some(limit) = limit_of(first, ledger) else {

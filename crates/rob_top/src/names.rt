@@ -1,4 +1,4 @@
-// The own words of a command that name no file: a list of names, a form's name.
+//! The own words of a command that name no file: a list of names, a form's name.
 
 ghost use Rattle.std.specs.Prelude.{◌≡◌, ◌<◌, ◌↔◌, List, IfOk, IsTrue, MatchOption, Some, length, map, option_map, string_bytes, ℕ};
 ghost use Rattle.rob_cert.specs.Spelling.{name_at};
@@ -7,7 +7,7 @@ ghost use Rattle.rob_meaning.specs.Names.{column_names};
 ghost use Rattle.rob_model.specs.Valid.{IsValid};
 ghost use Rattle.rob_model.specs.View.{robust};
 ghost use Rattle.rob_reach.specs.Trees.{IsIn};
-ghost use Rattle.rob_top.specs.Calls as calls;
+ghost use Rattle.rob_top.specs.Files as files;
 ghost use Rattle.rob_top.specs.Inputs.{AreVariables};
 ghost use Rattle.rob_words.specs.Names.{parts_of};
 ghost use Rattle.rob_words.specs.Values.{Word};
@@ -50,7 +50,7 @@ fn copied(alloc: Global, words: &[String]) -> Result<Vec<String>, Memory>
 
 /// The first of a command's own words that is of the kind; empty, where there is no such word.
 pub fn own_word(kind: Own, verb: Verb, words: &[String]) -> &str
-    ensures word { (word : Word) → calls.word_of kind (own_of verb) (map string_bytes words.now) ≡ Some word
+    ensures word { (word : Word) → files.word_of kind (own_of verb) (map string_bytes words.now) ≡ Some word
         → result.now ≡ word }
 {
     match word_of(kind, verb.own(), words) {
@@ -62,7 +62,7 @@ pub fn own_word(kind: Own, verb: Verb, words: &[String]) -> &str
 /// The first own word of the kind.
 pub fn word_of<'a>(kind: Own, kinds: &[Own], words: &'a [String]) -> Option<&'a str>
     ensures word { option_map (λ word. word.now) result
-        ≡ calls.word_of kind kinds.now (map string_bytes words.entry.now) }
+        ≡ files.word_of kind kinds.now (map string_bytes words.entry.now) }
 {
     match kinds {
         [other, kinds @ ..] => match words {

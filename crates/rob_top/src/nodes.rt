@@ -1,4 +1,4 @@
-// The nodes of a tree: how many there are, and the certificate of a leaf.
+//! The nodes of a tree: how many there are, and the certificate of a leaf.
 
 ghost use Rattle.std.specs.Prelude.{◌≡◌, ◌<◌, ◌^◌};
 ghost use Rattle.rob_meaning.specs.RobustModel.{RobustModel};

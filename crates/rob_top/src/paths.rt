@@ -1,16 +1,15 @@
-// The answer where a number is wide in a box.
+//! The answer where a number is wide in a box.
 
 ghost use Rattle.std.specs.Fmt.{signed_decimal};
 ghost use Rattle.std.specs.Prelude.{◌≡◌, ◌<◌, ◌++◌, IfOk, OnOk, length};
 ghost use Rattle.rob_meaning.specs.Names.{column_names};
-ghost use Rattle.rob_meaning.specs.Places.{Each};
 ghost use Rattle.rob_model.specs.Valid.{IsValid};
 ghost use Rattle.rob_model.specs.View.{robust};
 ghost use Rattle.rob_report.specs.Lines.{line};
 ghost use Rattle.rob_report.specs.Places.{IsSpotOf};
-ghost use Rattle.rob_tree.specs.declared.tree.Branch as declared;
-ghost use Rattle.rob_top.specs.Answers.{branch_line, path_lines, relation_word, wide_node_text};
+ghost use Rattle.rob_top.specs.Answers.{branch_line, path_lines, branch_relation, wide_node_text};
 ghost use Rattle.rob_top.specs.Replies.{Replies};
+ghost use Rattle.rob_top.specs.WorkStops.{IsPathOf};
 
 use crate::ended::Ended;
 use crate::reply::Reply;
@@ -30,8 +29,7 @@ pub fn wide_node<N: Exact>(
 ) -> Result<Reply, Memory>
     requires valid { IsValid N.value model.now }
     requires named { IsSpotOf (robust N.value model.now) spot }
-    requires columns { Each (λ (b : declared.Branch). b.column < length (column_names (robust N.value model.now)))
-        path }
+    requires columns { IsPathOf (robust N.value model.now) path }
     ensures wide { IfOk result (Replies (Ended.WideNode path spot)
         (wide_node_text (robust N.value model.now) path spot)) }
 {
@@ -46,8 +44,7 @@ pub fn wide_node<N: Exact>(
 /// Appends a line for each branch of a path.
 fn put_path<N: Exact>(out: &mut Text, model: &Model<N>, path: &[Branch]) -> Result<(), Memory>
     requires valid { IsValid N.value model.now }
-    requires columns { Each (λ (b : declared.Branch). b.column < length (column_names (robust N.value model.now)))
-        path.now }
+    requires columns { IsPathOf (robust N.value model.now) path.now }
     ensures appended { OnOk result (out.new ≡ out.old ++ path_lines (robust N.value model.now) path.now) }
 {
     match path {
@@ -72,7 +69,7 @@ fn put_branch<N: Exact>(out: &mut Text, model: &Model<N>, branch: Branch) -> Res
 
 /// Appends how a branch bounds its variable, and the line's end.
 fn put_bound(out: &mut Text, at_most: bool, k: i64) -> Result<(), Memory>
-    ensures appended { OnOk result (out.new ≡ out.old ++ (relation_word at_most ++ line (signed_decimal k))) }
+    ensures appended { OnOk result (out.new ≡ out.old ++ (branch_relation at_most ++ line (signed_decimal k))) }
 {
     out.push(relation(at_most))?;
     put_whole(out, k)?;
@@ -81,7 +78,7 @@ fn put_bound(out: &mut Text, at_most: bool, k: i64) -> Result<(), Memory>
 
 /// The words between a variable and its bound.
 fn relation(at_most: bool) -> &'static [u8]
-    ensures words { result.now ≡ relation_word at_most }
+    ensures words { result.now ≡ branch_relation at_most }
 {
     if at_most { b" <= " } else { b" >= " }
 }

@@ -1,4 +1,4 @@
-// Putting the lines of a text.
+//! Putting the lines of a text.
 
 ghost use Rattle.std.specs.Prelude.{◌≡◌, ◌≤◌, ◌<◌, ◌++◌, ◌∷◌, Err, length, position};
 ghost use Rattle.rob_number.specs.Counts.{Rose};
@@ -8,8 +8,8 @@ ghost use Rattle.rob_top.specs.Lines.{is_line_end, text_lines};
 
 use rob_outside::{Sink, SinkErr};
 
-/// Puts a text, one put for each line with its line end; a last line without one is put too. After a refused put nothing
-/// more is put.
+/// Puts a text, one put for each line with its line end; a last line without one is put too. After a refused put
+/// nothing more is put.
 pub fn put_lines<K: Sink>(text: &[u8], out: &mut K) -> Result<(), SinkErr>
     ensures took { Takes (K.taken out.old) (K.taken out.new) text.now result }
     ensures puts { PutEach (K.puts out.old) (K.puts out.new) (text_lines text.now) result }

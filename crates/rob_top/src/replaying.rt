@@ -1,6 +1,6 @@
-// The answer of `replay`.
+//! The answer of `replay`.
 
-ghost use Rattle.std.specs.Prelude.{◌≡◌, ◌≤◌, ◌^◌, length, map, IfOk};
+ghost use Rattle.std.specs.Prelude.{◌≤◌, ◌^◌, length, map, IfOk};
 ghost use Rattle.rob_cert.specs.View.{certificate_of};
 ghost use Rattle.rob_meaning.specs.Named.{IsNamed};
 ghost use Rattle.rob_model.specs.Valid.{IsValid};

@@ -1,9 +1,9 @@
-// Answers with their texts, assembled before anything is put.
+//! Answers with their texts, assembled before anything is put.
 
-ghost use Rattle.std.specs.Prelude.{◌++◌, IfOk, codes};
+ghost use Rattle.std.specs.Prelude.{◌++◌, IfOk};
 ghost use Rattle.std.specs.Fmt.{decimal};
 ghost use Rattle.rob_report.specs.Lines.{line as one_line};
-ghost use Rattle.rob_top.specs.Answers.{fault_text};
+ghost use Rattle.rob_top.specs.Answers.{fault_text, line_fault_text, words_text};
 ghost use Rattle.rob_top.specs.Replies.{Replies};
 
 use crate::ended::Ended;
@@ -41,6 +41,13 @@ pub fn fault(alloc: Global, ended: Ended, what: &[u8], name: &[u8]) -> Result<Re
     Ok(Reply { ended, text })
 }
 
+/// The answer where words are no command line, or own words aren't of their kinds, which no command line has.
+pub fn no_line(alloc: Global) -> Result<Reply, Memory>
+    ensures fault { IfOk result (Replies Ended.Words words_text) }
+{
+    fault(alloc, Ended::Words, b"words", b"")
+}
+
 /// The answer with the line of a rule that a command's own words break. `kind` is whose rule it is.
 pub fn broken_words(alloc: Global, ended: Ended, kind: &[u8], rule: u8) -> Result<Reply, Memory>
     ensures fault { IfOk result (Replies ended (fault_text (kind.now ++ decimal rule))) }
@@ -56,8 +63,7 @@ pub fn broken_rule(
     rule: u8,
     line: u32,
 ) -> Result<Reply, Memory>
-    ensures fault { IfOk result (Replies ended
-        (fault_text (kind.now ++ (decimal rule ++ (codes " line " ++ decimal line))))) }
+    ensures fault { IfOk result (Replies ended (line_fault_text kind.now rule line)) }
 {
     let mut place = Text::new(alloc);
     place.push(Buffer::new().format(rule).as_bytes())?;

@@ -1,4 +1,4 @@
-// The answer of `worst`.
+//! The answer of `worst`.
 
 ghost use Rattle.std.specs.Prelude.{◌≡◌, ◌≤◌, ◌<◌, ◌^◌, length, IfOk};
 ghost use Rattle.rob_cert.specs.Shape.{HasShape};

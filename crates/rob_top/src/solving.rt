@@ -1,4 +1,4 @@
-// The answers of `solve` and `prove`.
+//! The answers of `solve` and `prove`.
 
 ghost use Rattle.std.specs.Prelude.{◌≡◌, ◌≤◌, length, All, IfOk, OnOk};
 ghost use Rattle.rob_cert.specs.Shape.{HasShape};
@@ -21,7 +21,7 @@ ghost use Rattle.rob_top.specs.Calls.{count};
 ghost use Rattle.rob_top.specs.Replies.{Replies};
 ghost use Rattle.rob_top.specs.Routes.{SolvesBy, with_rounds};
 ghost use Rattle.rob_top.specs.Work.{AnswersRoute, ended_of};
-ghost use Rattle.rob_top.specs.Refusing.{IsStopOf, RepliesStop};
+ghost use Rattle.rob_top.specs.WorkStops.{IsStopOf, RepliesStop};
 ghost use Rattle.rob_words.specs.declared.verb.Verb.TheVariants.{Prove, Solve};
 
 use crate::ended::Ended;
@@ -191,7 +191,8 @@ pub fn wide_on_way<N: Exact>(
     requires named { IsSpotOf (robust N.value model.now) spot }
     requires rounds { All (IsRoundOf (robust N.value model.now)) trace.now.rounds }
     ensures spot { IfOk result (Replies (Ended.TooWide spot)
-        (with_rounds route (robust N.value model.now) trace.now.rounds (too_wide_line (robust N.value model.now) spot))) }
+        (with_rounds route (robust N.value model.now) trace.now.rounds
+        (too_wide_line (robust N.value model.now) spot))) }
 {
     let mut text = spot_text(alloc, model, &spot)?;
     put_told_rounds(model, route, trace, &mut text)?;
@@ -227,7 +228,8 @@ pub fn empty_set<N: Exact>(
 ) -> Result<Reply, Memory>
     requires valid { IsValid N.value model.now }
     requires count { length weights ≡ length (set_rows (robust N.value model.now)) }
-    ensures weights { IfOk result (Replies (Ended.EmptySet weights) (empty_set_lines (robust N.value model.now) weights)) }
+    ensures weights { IfOk result (Replies (Ended.EmptySet weights)
+        (empty_set_lines (robust N.value model.now) weights)) }
 {
     let text = empty_set_text(alloc, model, weights.items())?;
     Ok(Reply {

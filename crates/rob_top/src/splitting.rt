@@ -1,4 +1,4 @@
-// The answers of `cells` and `celltext`.
+//! The answers of `cells` and `celltext`.
 
 ghost use Rattle.std.specs.Prelude.{◌≡◌, ◌≤◌, ◌<◌, ◌++◌, List as Items, IfOk, MatchOption, length, map, pos, string_bytes};
 ghost use Rattle.rob_algebra.specs.Fraction.{of_pair};
@@ -22,9 +22,9 @@ ghost use Rattle.rob_words.specs.Names.{parts_of};
 use crate::ended::Ended;
 use crate::limits::fraction;
 use crate::names::word_of;
-use crate::reply::{Reply, broken_words};
+use crate::reply::{Reply, broken_words, no_line};
 use crate::solving::{ended_by, stopped};
-use crate::sweeping::{no_line, written};
+use crate::sweeping::written;
 use itoa::Buffer;
 use rob_cells::{CellsErr, Cut, cell_count, cut_model};
 use rob_cert::Cert;

@@ -1,4 +1,4 @@
-// The answers of `sweep` and `sweeptext`.
+//! The answers of `sweep` and `sweeptext`.
 
 ghost use Rattle.std.specs.Prelude.{◌≡◌, ◌≤◌, ◌<◌, ◌^◌, ◌++◌, IfOk, OnOk, length, map, string_bytes};
 ghost use Rattle.rob_model.specs.Valid.{IsValid};
@@ -10,17 +10,17 @@ ghost use Rattle.rob_report.specs.Spots.{too_wide_line};
 ghost use Rattle.rob_sweep.specs.Stops.{HasCause};
 ghost use Rattle.rob_sweep.specs.SweepText as lines;
 ghost use Rattle.rob_sweep.specs.View.{answer_of};
-ghost use Rattle.rob_top.specs.Answers.{budget_line, wide_budget_text, words_text};
+ghost use Rattle.rob_top.specs.Answers.{budget_line, wide_budget_text};
 ghost use Rattle.rob_top.specs.Calls.{count};
 ghost use Rattle.rob_top.specs.Replies.{Replies};
 ghost use Rattle.rob_top.specs.Work.{AnswersSweep, AnswersWords};
-ghost use Rattle.rob_top.specs.Refusing.{RepliesLimit, RepliesUnswept};
+ghost use Rattle.rob_top.specs.WorkStops.{RepliesLimit, RepliesUnswept};
 ghost use Rattle.rob_words.specs.declared.verb.Verb.TheVariants as verbs;
 ghost use Rattle.rob_write.specs.Canonical.{model_text};
 
 use crate::ended::Ended;
 use crate::limits::{limit_of, limits_of};
-use crate::reply::{Reply, broken_words, fault};
+use crate::reply::{Reply, broken_words, no_line};
 use rob_cert::spelling::put_number;
 use rob_model::{Model, Spot};
 use rob_number::{Exact, Ledger, Memory, Text};
@@ -223,11 +223,4 @@ pub fn written<N: Exact>(alloc: Global, model: &Model<N>) -> Result<Reply, Memor
         ended: Ended::Printed,
         text,
     })
-}
-
-/// What is answered where own words aren't of their kinds; no command line has such.
-pub fn no_line(alloc: Global) -> Result<Reply, Memory>
-    ensures fault { IfOk result (Replies Ended.Words words_text) }
-{
-    fault(alloc, Ended::Words, b"words", b"")
 }

@@ -1,12 +1,15 @@
-// The top call.
-//
-// Order of work, which is the order of answers: the words are read; the files are fetched in the words' order, and the first
-// that doesn't come whole decides; the texts are worked on; the whole output is assembled; it is put, line by line.
+//! The top call.
+//!
+//! Order of work, which is the order of answers: the words are read; the files are fetched in the words' order, and
+//! the first that doesn't come whole decides; the texts are worked on; the whole output is assembled; it is put, line
+//! by line.
 
-ghost use Rattle.std.specs.Prelude.{◌≡◌, ◌≤◌, ℕ, List, IfOk, map, string_bytes};
-ghost use Rattle.rob_top.specs.Calls.{Call, Fetches, call_of, count, output_of, reads_model as is_reading, requests, source_of};
+ghost use Rattle.std.specs.Prelude.{◌≡◌, ◌≤◌, IfOk, map, string_bytes};
+ghost use Rattle.rob_top.specs.Calls.{Call, call_of, count, output_of, reads_model as is_reading, source_of};
+ghost use Rattle.rob_top.specs.Files.{Fetches, requests};
 ghost use Rattle.rob_top.specs.Completeness.{IsComplete};
-ghost use Rattle.rob_top.specs.Headline.{Ends, Means, PutMemory};
+ghost use Rattle.rob_top.specs.Headline.{Ends, Means};
+ghost use Rattle.rob_top.specs.Lines.{PutMemory};
 ghost use Rattle.rob_top.specs.Replies.{Asks, HasTexts, IsLine, IsRead};
 ghost use Rattle.rob_top.specs.Work.{IsShort};
 ghost use Rattle.rob_words.specs.Answers.{line_of};
@@ -16,19 +19,19 @@ use crate::files::{Files, Texts, fetch};
 use crate::generating::on_number;
 use crate::names::with_words;
 use crate::put::put_lines;
-use crate::reply::{Reply, fault};
+use crate::reply::{Reply, no_line};
 use crate::work::work_at;
 use rob_number::{Ledger, Memory};
 use rob_outside::{Shelf, Sink, SinkErr};
 use rob_words::{CommandLine, Verb, WordsErr, read_words};
 use std::alloc::Global;
 
-/// Does what the words say: reads the files that they name from the shelf, and puts its answer into the sink, one put for
-/// each line with its line end. `words` are those of the command line, without the program's own name. The ledger counts the
-/// results found wide.
+/// Does what the words say: reads the files that they name from the shelf, and puts its answer into the sink, one put
+/// for each line with its line end. `words` are those of the command line, without the program's own name. The ledger
+/// counts the results found wide.
 ///
-/// After a refused put nothing more is put. Where memory is refused before the output is put, the line `fault: memory` is
-/// put, and where that is refused too, the answer stays want of memory.
+/// After a refused put nothing more is put. Where memory is refused before the output is put, the line `fault: memory`
+/// is put, and where that is refused too, the answer stays want of memory.
 pub fn run<S: Shelf, K: Sink, L: Ledger>(
     alloc: Global,
     words: &[String],
@@ -36,14 +39,13 @@ pub fn run<S: Shelf, K: Sink, L: Ledger>(
     out: &mut K,
     ledger: &mut L,
 ) -> Ended
-    // What the answer means of the files, by the answers of the fetches in this call, and which bytes were put for it, one put for
-    // each line.
-    ensures headline { Ends
-        (call_of (map string_bytes words.now) (source_of (S.files shelf.old)
-        (S.log shelf.old) (S.log shelf.new)) (count (S.faults shelf.old) (S.faults shelf.new))
-        (count (L.wides ledger.old) (L.wides ledger.new)))
-        (output_of (K.taken out.old) (K.taken out.new) (K.puts out.old) (K.puts out.new) (count (K.faults out.old) (K.faults out.new)))
-        result }
+    // What the answer means of the files, by the answers of the fetches in this call, and which bytes were put for
+    // it, one put for each line.
+    ensures headline { Ends (call_of (map string_bytes words.now)
+        (source_of (S.files shelf.old) (S.log shelf.old) (S.log shelf.new))
+        (count (S.faults shelf.old) (S.faults shelf.new)) (count (L.wides ledger.old) (L.wides ledger.new)))
+        (output_of (K.taken out.old) (K.taken out.new) (K.puts out.old) (K.puts out.new)
+        (count (K.faults out.old) (K.faults out.new))) result }
     // Which answer has to come.
     ensures complete { IsComplete
         (call_of (map string_bytes words.now) (source_of (S.files shelf.old)
@@ -51,7 +53,8 @@ pub fn run<S: Shelf, K: Sink, L: Ledger>(
         (count (L.wides ledger.old) (L.wides ledger.new)))
         result }
     ensures files { S.files shelf.new ≡ S.files shelf.old }
-    // The files are asked for in the order of the words, each word's once at most, and none behind the one that decided.
+    // The files are asked for in the order of the words, each word's once at most, and none behind the one that
+    // decided.
     ensures fetched { Fetches (map string_bytes words.now) (S.log shelf.old) (S.log shelf.new) }
     ensures counted { (S.faults shelf.old ≤ S.faults shelf.new) × (K.faults out.old ≤ K.faults out.new)
         × (L.wides ledger.old ≤ L.wides ledger.new) }
@@ -83,7 +86,7 @@ fn answer<S: Shelf, L: Ledger>(
 {
     match read_words(alloc, words) {
         Ok(line) => on_line(alloc, &line, shelf, ledger),
-        Err(WordsErr::NoCommandLine) => fault(alloc, Ended::Words, b"words", b""),
+        Err(WordsErr::NoCommandLine) => no_line(alloc),
         Err(WordsErr::Memory) => Err(Memory),
     }
 }
@@ -96,10 +99,10 @@ fn on_line<S: Shelf, L: Ledger>(
     ledger: &mut L,
 ) -> Result<Reply, Memory>
     requires read { IsRead line.now }
-    ensures means { IfOk result (λ reply. (call : Call) → IsLine call line.now → call.source ≡ source_of (S.files shelf.old) (S.log shelf.old) (S.log shelf.new)
+    ensures means { IfOk result (λ reply. (call : Call) → IsLine call line.now
+        → call.source ≡ source_of (S.files shelf.old) (S.log shelf.old) (S.log shelf.new)
         → call.read_faults ≡ count (S.faults shelf.old) (S.faults shelf.new)
-        → call.wides ≡ count (L.wides ledger.old) (L.wides ledger.new)
-        → Means call reply.ended reply.text) }
+        → call.wides ≡ count (L.wides ledger.old) (L.wides ledger.new) → Means call reply.ended reply.text) }
     ensures files { S.files shelf.new ≡ S.files shelf.old }
     ensures asked { Asks (requests (line_of line.now)) (S.log shelf.old) (S.log shelf.new) }
     ensures counted { (S.faults shelf.old ≤ S.faults shelf.new) × (L.wides ledger.old ≤ L.wides ledger.new) }
@@ -160,8 +163,9 @@ fn reads_model(verb: Verb) -> bool
 
 /// Puts the text of a reply.
 fn put_reply<K: Sink>(reply: Reply, out: &mut K) -> Ended
-    ensures ends { (call : Call) → Means call reply.ended reply.text → Ends call
-        (output_of (K.taken out.old) (K.taken out.new) (K.puts out.old) (K.puts out.new) (count (K.faults out.old) (K.faults out.new))) result }
+    ensures ends { (call : Call) → Means call reply.ended reply.text
+        → Ends call (output_of (K.taken out.old) (K.taken out.new) (K.puts out.old) (K.puts out.new)
+        (count (K.faults out.old) (K.faults out.new))) result }
     ensures counted { K.faults out.old ≤ K.faults out.new }
 {
     match put_lines(reply.text.bytes(), out) {
@@ -173,8 +177,8 @@ fn put_reply<K: Sink>(reply: Reply, out: &mut K) -> Ended
 
 /// Puts the line of a want of memory, which takes no memory. Where that is refused too, nothing changes in the answer.
 fn put_memory<K: Sink>(out: &mut K)
-    ensures line { PutMemory
-        (output_of (K.taken out.old) (K.taken out.new) (K.puts out.old) (K.puts out.new) (count (K.faults out.old) (K.faults out.new))) }
+    ensures line { PutMemory (output_of (K.taken out.old) (K.taken out.new) (K.puts out.old) (K.puts out.new)
+        (count (K.faults out.old) (K.faults out.new))) }
     ensures counted { K.faults out.old ≤ K.faults out.new }
 {
     let _ = out.put(b"fault: memory\n");

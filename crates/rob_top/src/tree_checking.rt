@@ -1,4 +1,4 @@
-// The answer of `checktree`.
+//! The answer of `checktree`.
 
 ghost use Rattle.std.specs.Prelude.{◌≡◌, ◌≤◌, ◌^◌, ◌++◌, None, IfOk, OnOk, length};
 ghost use Rattle.rob_meaning.specs.Named.{IsNamed};
@@ -11,7 +11,7 @@ ghost use Rattle.rob_tree.specs.Shape.{HasTreeShape};
 ghost use Rattle.rob_tree.specs.View.{tree_of};
 ghost use Rattle.rob_top.specs.Calls.{count};
 ghost use Rattle.rob_top.specs.Replies.{Replies};
-ghost use Rattle.rob_top.specs.TreeAnswers.{fault_words, rejected_leaf_text};
+ghost use Rattle.rob_top.specs.Answers.{fault_words, rejected_leaf_text};
 ghost use Rattle.rob_top.specs.TreeWork.{AnswersTree, AnswersTreeFile, AnswersTreeNames, AnswersTreeNumbers, IsFaultOf, IsVerdictOf, RepliesVerdict};
 
 use crate::checking::accepted;

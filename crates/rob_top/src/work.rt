@@ -1,19 +1,19 @@
-// The work of a command on its texts, at a width.
+//! The work of a command on its texts, at a width.
 
 ghost use Rattle.std.specs.Prelude.{◌≡◌, ◌≤◌, IfOk, false};
-ghost use Rattle.rob_elab.specs.Forms.{FormsFit, IsForms, judged_forms};
+ghost use Rattle.rob_elab.specs.Forms.{FormsFit, IsForms};
 ghost use Rattle.rob_meaning.specs.Named.{IsNamed};
 ghost use Rattle.rob_model.specs.Valid.{IsValid};
 ghost use Rattle.rob_model.specs.View.{robust};
 ghost use Rattle.rob_report.specs.Places.{IsSpotOf};
 ghost use Rattle.rob_report.specs.Rows.{rows_of};
 ghost use Rattle.rob_report.specs.Spots.{too_wide_line};
-ghost use Rattle.rob_sets.specs.SetForm.{IsSetForm, SetFits, judged_set};
+ghost use Rattle.rob_sets.specs.SetForm.{IsSetForm, SetFits};
 ghost use Rattle.rob_top.specs.Calls.{Call, IsElaborating, IsOnModel, count, elaborates as is_elaborating};
 ghost use Rattle.rob_top.specs.Headline.{Means};
 ghost use Rattle.rob_top.specs.Replies.{HasTexts, Replies};
 ghost use Rattle.rob_top.specs.Work.{AnswersModel, AnswersTexts, AnswersWhole, IsShort};
-ghost use Rattle.rob_top.specs.Refusing.{IsRefusedOf, RepliesRefused, RepliesUnread};
+ghost use Rattle.rob_top.specs.WorkStops.{IsRefusedOf, RepliesRefused, RepliesUnread};
 ghost use Rattle.rob_words.specs.Commands.{Line};
 
 use crate::branching::branch_text;
@@ -51,9 +51,11 @@ pub fn work_at<L: Ledger>(
 ) -> Result<Reply, Memory>
     requires on_model { IsOnModel verb }
     requires short { IsShort texts.now }
-    // The reply is the answer of each call whose words say the command and the width, and whose files came with the texts.
+    // The reply is the answer of each call whose words say the command and the width, and whose files came with the
+    // texts.
     ensures means { IfOk result (λ reply. (call : Call) (line : Line) → HasTexts call line texts.now → line.verb ≡ verb
-        → line.width ≡ width → call.wides ≡ count (L.wides ledger.old) (L.wides ledger.new) → Means call reply.ended reply.text) }
+        → line.width ≡ width → call.wides ≡ count (L.wides ledger.old) (L.wides ledger.new)
+        → Means call reply.ended reply.text) }
     ensures counted { L.wides ledger.old ≤ L.wides ledger.new }
 {
     match width {
@@ -73,7 +75,8 @@ fn work<N: Exact + Drop, L: Ledger>(
 ) -> Result<Reply, Memory>
     requires on_model { IsOnModel verb }
     requires short { IsShort texts.now }
-    ensures answers { IfOk result (AnswersTexts N.limit (count (L.wides ledger.old) (L.wides ledger.new)) verb texts.now) }
+    ensures answers { IfOk result (AnswersTexts N.limit (count (L.wides ledger.old)
+        (L.wides ledger.new)) verb texts.now) }
     ensures counted { L.wides ledger.old ≤ L.wides ledger.new }
 {
     match read_model::<N, L>(alloc, texts.model.as_slice(), ledger) {

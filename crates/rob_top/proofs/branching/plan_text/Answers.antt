@@ -11,13 +11,15 @@ shown_text-requires-clause-planned g c = optimal_planned c.args.tree.now.status 
 
 pub returns-in-Optimal : goal.returns-in-Optimal
 returns-in-Optimal g c = record {
-  plan = optimal_plan (robust g.N.Exact.value c.args.model.now) c.args.numbers.now (tree_of g.N.Exact.value c.args.tree.now) _ c.shown_text.result
+  plan = optimal_plan (robust g.N.Exact.value c.args.model.now) c.args.numbers.now
+      (tree_of g.N.Exact.value c.args.tree.now) _ c.shown_text.result
       (ap status_of c.in-Optimal.is) c.shown_text.ensures.shown;
 }
 
 pub returns-in-Infeasible : goal.returns-in-Infeasible
 returns-in-Infeasible g c = record {
-  plan = infeasible_plan (robust g.N.Exact.value c.args.model.now) c.args.numbers.now (tree_of g.N.Exact.value c.args.tree.now) _ c.infeasible_text.result
+  plan = infeasible_plan (robust g.N.Exact.value c.args.model.now) c.args.numbers.now
+      (tree_of g.N.Exact.value c.args.tree.now) _ c.infeasible_text.result
       (ap status_of c.in-Infeasible.is) c.infeasible_text.ensures.text;
 }
 
@@ -26,6 +28,7 @@ shown_text-requires-in-Unbounded-clause-planned g c = unbounded_planned c.args.t
 
 pub returns-in-Unbounded : goal.returns-in-Unbounded
 returns-in-Unbounded g c = record {
-  plan = unbounded_plan (robust g.N.Exact.value c.args.model.now) c.args.numbers.now (tree_of g.N.Exact.value c.args.tree.now) _ c.shown_text-in-Unbounded.result
+  plan = unbounded_plan (robust g.N.Exact.value c.args.model.now) c.args.numbers.now
+      (tree_of g.N.Exact.value c.args.tree.now) _ c.shown_text-in-Unbounded.result
       (ap status_of c.in-Unbounded.is) c.shown_text-in-Unbounded.ensures.shown;
 }

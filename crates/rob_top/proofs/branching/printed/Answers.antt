@@ -12,12 +12,14 @@ write_tree-requires-clause-shape g c = record {
 
 pub returns-in-Whole : goal.returns-in-Whole
 returns-in-Whole g c = record {
-  printed = report_printed (robust g.N.Exact.value c.args.model.now) c.args.numbers.now (tree_of g.N.Exact.value c.args.tree.now) c.args.verb c.report.result
+  printed = report_printed (robust g.N.Exact.value c.args.model.now) c.args.numbers.now
+      (tree_of g.N.Exact.value c.args.tree.now) c.args.verb c.report.result
       c.in-Whole.is c.report.ensures.report;
 }
 
 pub returns-in-Tree : goal.returns-in-Tree
 returns-in-Tree g c = record {
-  printed = tree_printed (robust g.N.Exact.value c.args.model.now) c.args.numbers.now (tree_of g.N.Exact.value c.args.tree.now) c.args.verb c.write_tree.result
+  printed = tree_printed (robust g.N.Exact.value c.args.model.now) c.args.numbers.now
+      (tree_of g.N.Exact.value c.args.tree.now) c.args.verb c.write_tree.result
       c.in-Tree.is c.write_tree.ensures.text;
 }

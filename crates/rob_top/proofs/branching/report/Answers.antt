@@ -10,6 +10,7 @@ count_nodes-requires g c = record {
 
 pub returns : goal.returns
 returns g c = record {
-  report = report_told (robust g.N.Exact.value c.args.model.now) c.args.numbers.now (tree_of g.N.Exact.value c.args.tree.now) _ _ c.count_nodes.result
+  report = report_told (robust g.N.Exact.value c.args.model.now) c.args.numbers.now
+      (tree_of g.N.Exact.value c.args.tree.now) _ _ c.count_nodes.result
       c.in_ok-text.ensures.plan c.count_nodes.ensures.count c.in_ok-put_nodes.ensures.appended;
 }

@@ -6,7 +6,8 @@ use Rattle.rob_top.proofs.branching.shown_text.Goals as goal
 
 pub leaf_of-requires : goal.leaf_of-requires
 leaf_of-requires g c = record {
-  some = best_some (robust g.N.Exact.value c.args.model.now) c.args.numbers.now (tree_of g.N.Exact.value c.args.tree.now) c.requires.proves c.requires.planned;
+  some = best_some (robust g.N.Exact.value c.args.model.now) c.args.numbers.now
+      (tree_of g.N.Exact.value c.args.tree.now) c.requires.proves c.requires.planned;
 }
 
 pub report_text-requires-clause-shape : goal.report_text-requires-clause-shape
@@ -20,19 +21,23 @@ pub returns : goal.returns
 returns g c =
     let here = c.in-Here.ensures.walk (robust g.N.Exact.value c.args.model.now) in
     record {
-      shown = shown_report (robust g.N.Exact.value c.args.model.now) c.args.numbers.now (tree_of g.N.Exact.value c.args.tree.now) c.requires.proves
-          c.requires.planned c.requires.valid.well_formed (certificate_of g.N.Exact.value c.in-Here.cert.now) here.0 here.1 here.2 c.report_text.result
+      shown = shown_report (robust g.N.Exact.value c.args.model.now) c.args.numbers.now
+          (tree_of g.N.Exact.value c.args.tree.now) c.requires.proves
+          c.requires.planned c.requires.valid.well_formed (certificate_of g.N.Exact.value c.in-Here.cert.now) here.0
+          here.1 here.2 c.report_text.result
           c.report_text.ensures.text;
     }
 
 pub unreachable-requires : goal.unreachable-requires
 unreachable-requires g c =
     let here = c.in-Open.ensures.walk (robust g.N.Exact.value c.args.model.now) in
-    best_not_open (robust g.N.Exact.value c.args.model.now) c.args.numbers.now (tree_of g.N.Exact.value c.args.tree.now) c.requires.proves
+    best_not_open (robust g.N.Exact.value c.args.model.now) c.args.numbers.now
+    (tree_of g.N.Exact.value c.args.tree.now) c.requires.proves
     c.requires.planned here.0 here.1 here.2
 
 pub unreachable-requires-in-Behind : goal.unreachable-requires-in-Behind
 unreachable-requires-in-Behind g c =
     let here = c.in-Behind.ensures.walk (robust g.N.Exact.value c.args.model.now) in
-    best_not_behind (robust g.N.Exact.value c.args.model.now) c.args.numbers.now (tree_of g.N.Exact.value c.args.tree.now) c.requires.proves
+    best_not_behind (robust g.N.Exact.value c.args.model.now) c.args.numbers.now
+    (tree_of g.N.Exact.value c.args.tree.now) c.requires.proves
     c.requires.planned _ here c.in-Behind.ensures.left

@@ -8,5 +8,6 @@ returns-in-Err-clause-cause g c =
 
 pub returns-in-Err-elaborate-clause-cause : goal.returns-in-Err-elaborate-clause-cause
 returns-in-Err-elaborate-clause-cause g c =
-    forms_cause g.N.Exact.limit (robust g.N.Exact.value c.args.model.now) c.in-Err-elaborate.error c.in-Ok.ensures.none_wide
+    forms_cause g.N.Exact.limit (robust g.N.Exact.value c.args.model.now) c.in-Err-elaborate.error
+    c.in-Ok.ensures.none_wide
     c.in-Err-elaborate.ensures.cause

@@ -7,41 +7,64 @@ use Rattle.rob_top.proofs.files.+fetch_all.Goals as goal
 
 pub returns-in_ok-rest-in-Bytes-clause-fetched : goal.returns-in_ok-rest-in-Bytes-clause-fetched
 returns-in_ok-rest-in-Bytes-clause-fetched g t c =
-    words_fetched string_bytes c.args.kinds.now c.args.names.now _ c.name-item.result c.as_str.result.now c.in-len1-up.len_at_least c.in-len1-up-names.len_at_least
-    (c.as_str.ensures.value ∙ ap string_bytes c.name-item.is) c.in-Some.most (sym c.most_bytes.ensures.most ∙ c.in-Some.is) (g.S.Shelf.files c.args.shelf.now) (g.S.Shelf.files c.get.new.shelf) c.get.ensures.unchanged
-    (g.S.Shelf.log c.args.shelf.now) (g.S.Shelf.log c.get.new.shelf) (g.S.Shelf.log c.fetch_all-in-Bytes.new.shelf) c.get.ensures.asked c.fetch_all-in-Bytes.ensures.asked c.in-Bytes.bytes
-    (got_bytes (source_of (g.S.Shelf.files c.args.shelf.now) (g.S.Shelf.log c.args.shelf.now) (g.S.Shelf.log c.get.new.shelf)) _
-    (count (g.S.Shelf.faults c.args.shelf.now) (g.S.Shelf.faults c.get.new.shelf)) _ c.in-Bytes.bytes c.in-Bytes.is c.in_ok-bytes-in-len1-up-names.ensures.got)
-    (g.S.Shelf.faults c.args.shelf.now) (g.S.Shelf.faults c.get.new.shelf) (g.S.Shelf.faults c.fetch_all-in-Bytes.new.shelf) c.get.ensures.counted
+    words_fetched string_bytes c.args.kinds.now c.args.names.now _ c.name-item.result c.as_str.result.now
+    c.in-len1-up.len_at_least c.in-len1-up-names.len_at_least
+    (c.as_str.ensures.value ∙ ap string_bytes c.name-item.is) c.in-Some.most
+    (sym c.most_bytes.ensures.most ∙ c.in-Some.is) (g.S.Shelf.files c.args.shelf.now)
+    (g.S.Shelf.files c.get.new.shelf) c.get.ensures.unchanged
+    (g.S.Shelf.log c.args.shelf.now) (g.S.Shelf.log c.get.new.shelf) (g.S.Shelf.log c.fetch_all-in-Bytes.new.shelf)
+    c.get.ensures.asked c.fetch_all-in-Bytes.ensures.asked c.in-Bytes.bytes
+    (got_bytes (source_of (g.S.Shelf.files c.args.shelf.now) (g.S.Shelf.log c.args.shelf.now)
+    (g.S.Shelf.log c.get.new.shelf)) _
+    (count (g.S.Shelf.faults c.args.shelf.now) (g.S.Shelf.faults c.get.new.shelf)) _ c.in-Bytes.bytes c.in-Bytes.is
+    c.in_ok-bytes-in-len1-up-names.ensures.got)
+    (g.S.Shelf.faults c.args.shelf.now) (g.S.Shelf.faults c.get.new.shelf)
+    (g.S.Shelf.faults c.fetch_all-in-Bytes.new.shelf) c.get.ensures.counted
     c.in_ok-rest-in-Bytes.rest c.with_bytes.result c.in_ok-rest-in-Bytes.ensures.fetched c.with_bytes.ensures.with
 
 pub returns-in-Answer-clause-fetched : goal.returns-in-Answer-clause-fetched
 returns-in-Answer-clause-fetched g t c =
-    let source = source_of (g.S.Shelf.files c.args.shelf.now) (g.S.Shelf.log c.args.shelf.now) (g.S.Shelf.log c.get.new.shelf) in
+    let source =
+    source_of (g.S.Shelf.files c.args.shelf.now) (g.S.Shelf.log c.args.shelf.now) (g.S.Shelf.log c.get.new.shelf) in
     let faults = count (g.S.Shelf.faults c.args.shelf.now) (g.S.Shelf.faults c.get.new.shelf) in
-    words_absent string_bytes c.args.kinds.now c.args.names.now _ c.name-item.result c.as_str.result.now c.in-len1-up.len_at_least c.in-len1-up-names.len_at_least
-    (c.as_str.ensures.value ∙ ap string_bytes c.name-item.is) c.in-Some.most (sym c.most_bytes.ensures.most ∙ c.in-Some.is) source faults c.in-Answer.reply
+    words_absent string_bytes c.args.kinds.now c.args.names.now _ c.name-item.result c.as_str.result.now
+    c.in-len1-up.len_at_least c.in-len1-up-names.len_at_least
+    (c.as_str.ensures.value ∙ ap string_bytes c.name-item.is) c.in-Some.most
+    (sym c.most_bytes.ensures.most ∙ c.in-Some.is) source faults c.in-Answer.reply
     (got_answer source _ faults _ c.in-Answer.reply c.in-Answer.is c.in_ok-bytes-in-len1-up-names.ensures.got)
 
 pub returns-in_ok-rest-in-Bytes-clause-asked : goal.returns-in_ok-rest-in-Bytes-clause-asked
 returns-in_ok-rest-in-Bytes-clause-asked g t c =
-    words_asked string_bytes c.args.kinds.now c.args.names.now _ c.name-item.result c.as_str.result.now c.in-len1-up.len_at_least c.in-len1-up-names.len_at_least
-    (c.as_str.ensures.value ∙ ap string_bytes c.name-item.is) c.in-Some.most (sym c.most_bytes.ensures.most ∙ c.in-Some.is) (g.S.Shelf.files c.args.shelf.now)
-    (g.S.Shelf.log c.args.shelf.now) (g.S.Shelf.log c.get.new.shelf) (g.S.Shelf.log c.fetch_all-in-Bytes.new.shelf) c.get.ensures.asked c.in-Bytes.bytes.items
-    (got_bytes (source_of (g.S.Shelf.files c.args.shelf.now) (g.S.Shelf.log c.args.shelf.now) (g.S.Shelf.log c.get.new.shelf)) _
-    (count (g.S.Shelf.faults c.args.shelf.now) (g.S.Shelf.faults c.get.new.shelf)) _ c.in-Bytes.bytes c.in-Bytes.is c.in_ok-bytes-in-len1-up-names.ensures.got) c.fetch_all-in-Bytes.ensures.asked
+    words_asked string_bytes c.args.kinds.now c.args.names.now _ c.name-item.result c.as_str.result.now
+    c.in-len1-up.len_at_least c.in-len1-up-names.len_at_least
+    (c.as_str.ensures.value ∙ ap string_bytes c.name-item.is) c.in-Some.most
+    (sym c.most_bytes.ensures.most ∙ c.in-Some.is) (g.S.Shelf.files c.args.shelf.now)
+    (g.S.Shelf.log c.args.shelf.now) (g.S.Shelf.log c.get.new.shelf) (g.S.Shelf.log c.fetch_all-in-Bytes.new.shelf)
+    c.get.ensures.asked c.in-Bytes.bytes.items
+    (got_bytes (source_of (g.S.Shelf.files c.args.shelf.now) (g.S.Shelf.log c.args.shelf.now)
+    (g.S.Shelf.log c.get.new.shelf)) _
+    (count (g.S.Shelf.faults c.args.shelf.now) (g.S.Shelf.faults c.get.new.shelf)) _ c.in-Bytes.bytes c.in-Bytes.is
+    c.in_ok-bytes-in-len1-up-names.ensures.got) c.fetch_all-in-Bytes.ensures.asked
 
 pub returns-in_err-rest-in-Bytes-clause-asked : goal.returns-in_err-rest-in-Bytes-clause-asked
 returns-in_err-rest-in-Bytes-clause-asked g t c =
-    words_asked string_bytes c.args.kinds.now c.args.names.now _ c.name-item.result c.as_str.result.now c.in-len1-up.len_at_least c.in-len1-up-names.len_at_least
-    (c.as_str.ensures.value ∙ ap string_bytes c.name-item.is) c.in-Some.most (sym c.most_bytes.ensures.most ∙ c.in-Some.is) (g.S.Shelf.files c.args.shelf.now)
-    (g.S.Shelf.log c.args.shelf.now) (g.S.Shelf.log c.get.new.shelf) (g.S.Shelf.log c.fetch_all-in-Bytes.new.shelf) c.get.ensures.asked c.in-Bytes.bytes.items
-    (got_bytes (source_of (g.S.Shelf.files c.args.shelf.now) (g.S.Shelf.log c.args.shelf.now) (g.S.Shelf.log c.get.new.shelf)) _
-    (count (g.S.Shelf.faults c.args.shelf.now) (g.S.Shelf.faults c.get.new.shelf)) _ c.in-Bytes.bytes c.in-Bytes.is c.in_ok-bytes-in-len1-up-names.ensures.got) c.fetch_all-in-Bytes.ensures.asked
+    words_asked string_bytes c.args.kinds.now c.args.names.now _ c.name-item.result c.as_str.result.now
+    c.in-len1-up.len_at_least c.in-len1-up-names.len_at_least
+    (c.as_str.ensures.value ∙ ap string_bytes c.name-item.is) c.in-Some.most
+    (sym c.most_bytes.ensures.most ∙ c.in-Some.is) (g.S.Shelf.files c.args.shelf.now)
+    (g.S.Shelf.log c.args.shelf.now) (g.S.Shelf.log c.get.new.shelf) (g.S.Shelf.log c.fetch_all-in-Bytes.new.shelf)
+    c.get.ensures.asked c.in-Bytes.bytes.items
+    (got_bytes (source_of (g.S.Shelf.files c.args.shelf.now) (g.S.Shelf.log c.args.shelf.now)
+    (g.S.Shelf.log c.get.new.shelf)) _
+    (count (g.S.Shelf.faults c.args.shelf.now) (g.S.Shelf.faults c.get.new.shelf)) _ c.in-Bytes.bytes c.in-Bytes.is
+    c.in_ok-bytes-in-len1-up-names.ensures.got) c.fetch_all-in-Bytes.ensures.asked
 
 pub returns-in_default-clause-fetched : goal.returns-in_default-clause-fetched
 returns-in_default-clause-fetched g t c =
-    words_passed string_bytes c.args.kinds.now c.args.names.now _ c.name-item.result _ c.in-len1-up.len_at_least c.in-len1-up-names.len_at_least refl
+    words_passed string_bytes c.args.kinds.now c.args.names.now _ c.name-item.result _ c.in-len1-up.len_at_least
+    c.in-len1-up-names.len_at_least refl
     (sym c.most_bytes.ensures.most ∙ none_of c.most_bytes.result c.in_default.not-Some)
-    (source_of (g.S.Shelf.files c.args.shelf.now) (g.S.Shelf.log c.args.shelf.now) (g.S.Shelf.log c.fetch_all.new.shelf))
-    (count (g.S.Shelf.faults c.args.shelf.now) (g.S.Shelf.faults c.fetch_all.new.shelf)) c.fetch_all.result c.fetch_all.ensures.fetched
+    (source_of (g.S.Shelf.files c.args.shelf.now) (g.S.Shelf.log c.args.shelf.now)
+    (g.S.Shelf.log c.fetch_all.new.shelf))
+    (count (g.S.Shelf.faults c.args.shelf.now) (g.S.Shelf.faults c.fetch_all.new.shelf)) c.fetch_all.result
+    c.fetch_all.ensures.fetched

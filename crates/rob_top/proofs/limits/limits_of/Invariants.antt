@@ -7,7 +7,8 @@ use Rattle.rob_top.proofs.limits.limits_of.Given as goal
 -- the limits before the rest are told, and the count of wide numbers hasn't fallen
 abbrev pub invariant-loop-rest : goal.invariant-loop-rest
 invariant-loop-rest g l =
-    HasTold g.N.Exact.limit (parts_of l.word) (map g.N.Exact.value l.limits) (parts_behind (option_map (λ word. word.now) l.rest))
+    HasTold g.N.Exact.limit (parts_of l.word) (map g.N.Exact.value l.limits)
+    (parts_behind (option_map (λ word. word.now) l.rest))
     × (g.L.Ledger.wides l.initial.ledger ≤ g.L.Ledger.wides l.ledger)
 
 abbrev pub decreases-loop-rest : goal.decreases-loop-rest

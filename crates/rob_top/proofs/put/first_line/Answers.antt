@@ -7,4 +7,5 @@ returns-in-Some-clause-first c =
 
 pub returns-in-None-clause-first : goal.returns-in-None-clause-first
 returns-in-None-clause-first c =
-    first_line_all _ _ _ c.requires.some c.in-None.ensures.first c.split_at-in-None.ensures.front c.split_at-in-None.ensures.back
+    first_line_all _ _ _ c.requires.some c.in-None.ensures.first c.split_at-in-None.ensures.front
+    c.split_at-in-None.ensures.back

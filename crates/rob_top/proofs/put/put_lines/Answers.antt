@@ -19,8 +19,10 @@ returns-in-Err-clause-took g c =
 
 pub returns-in-Err-clause-puts : goal.returns-in-Err-clause-puts
 returns-in-Err-clause-puts g c =
-    lines_some _ _ _ _ _ _ _ _ c.first_line.result.1.now c.in-Err.error c.loop-rest.invariant.puts c.first_line.ensures.first
+    lines_some _ _ _ _ _ _ _ _ c.first_line.result.1.now c.in-Err.error c.loop-rest.invariant.puts
+    c.first_line.ensures.first
     c.in-Err.ensures.noted
 
 pub returns-in-Err-clause-stands : goal.returns-in-Err-clause-stands
-returns-in-Err-clause-stands g c = stands_behind _ _ _ c.in-Err.error c.loop-rest.invariant.stands c.in-Err.ensures.stands
+returns-in-Err-clause-stands g c =
+    stands_behind _ _ _ c.in-Err.error c.loop-rest.invariant.stands c.in-Err.ensures.stands

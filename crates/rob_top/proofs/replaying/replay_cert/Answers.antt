@@ -6,15 +6,18 @@ use Rattle.rob_top.proofs.replaying.replay_cert.Goals as goal
 
 pub returns-in-Infeasible-clause-answers : goal.returns-in-Infeasible-clause-answers
 returns-in-Infeasible-clause-answers g c =
-    planless_answers g.N.Exact.limit (robust g.N.Exact.value c.args.model.now) (certificate_of g.N.Exact.value c.args.cert) c.args.text.now _ c.broken_rule.result
+    planless_answers g.N.Exact.limit (robust g.N.Exact.value c.args.model.now)
+    (certificate_of g.N.Exact.value c.args.cert) c.args.text.now _ c.broken_rule.result
     (ap status_of c.in-Infeasible.is) c.broken_rule.ensures.fault
 
 pub returns-in-Optimal-clause-answers : goal.returns-in-Optimal-clause-answers
 returns-in-Optimal-clause-answers g c =
-    plan_answers g.N.Exact.limit (robust g.N.Exact.value c.args.model.now) (certificate_of g.N.Exact.value c.args.cert) c.args.text.now _ c.replay_plan.result
+    plan_answers g.N.Exact.limit (robust g.N.Exact.value c.args.model.now) (certificate_of g.N.Exact.value c.args.cert)
+    c.args.text.now _ c.replay_plan.result
     (optimal_planned c.args.cert.status c.in-Optimal.is) c.replay_plan.ensures.answers
 
 pub returns-in-Unbounded-clause-answers : goal.returns-in-Unbounded-clause-answers
 returns-in-Unbounded-clause-answers g c =
-    plan_answers g.N.Exact.limit (robust g.N.Exact.value c.args.model.now) (certificate_of g.N.Exact.value c.args.cert) c.args.text.now _ c.replay_plan-in-Unbounded.result
+    plan_answers g.N.Exact.limit (robust g.N.Exact.value c.args.model.now) (certificate_of g.N.Exact.value c.args.cert)
+    c.args.text.now _ c.replay_plan-in-Unbounded.result
     (unbounded_planned c.args.cert.status c.in-Unbounded.is) c.replay_plan-in-Unbounded.ensures.answers

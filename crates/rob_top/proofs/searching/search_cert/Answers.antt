@@ -8,27 +8,32 @@ use Rattle.rob_top.proofs.searching.search_cert.Goals as goal
 
 pub search_plan-requires-clause-size : goal.search_plan-requires-clause-size
 search_plan-requires-clause-size g c =
-    planned_size g.N.Exact.value (robust g.N.Exact.value c.args.model.now) (certificate_of g.N.Exact.value c.args.cert) c.args.cert.plan
+    planned_size g.N.Exact.value (robust g.N.Exact.value c.args.model.now)
+    (certificate_of g.N.Exact.value c.args.cert) c.args.cert.plan
     c.requires.shape refl (optimal_planned c.args.cert.status c.in-Optimal.is)
 
 pub search_plan-requires-in-Unbounded-clause-size : goal.search_plan-requires-in-Unbounded-clause-size
 search_plan-requires-in-Unbounded-clause-size g c =
-    planned_size g.N.Exact.value (robust g.N.Exact.value c.args.model.now) (certificate_of g.N.Exact.value c.args.cert) c.args.cert.plan
+    planned_size g.N.Exact.value (robust g.N.Exact.value c.args.model.now)
+    (certificate_of g.N.Exact.value c.args.cert) c.args.cert.plan
     c.requires.shape refl (unbounded_planned c.args.cert.status c.in-Unbounded.is)
 
 pub returns-in-Infeasible-clause-answers : goal.returns-in-Infeasible-clause-answers
 returns-in-Infeasible-clause-answers g c =
     claims_none_answers g.N.Exact.limit (robust g.N.Exact.value c.args.model.now) c.args.name.now
-    (certificate_of g.N.Exact.value c.args.cert) _ c.broken_rule.result (ap status_of c.in-Infeasible.is) c.broken_rule.ensures.fault
+    (certificate_of g.N.Exact.value c.args.cert) _ c.broken_rule.result (ap status_of c.in-Infeasible.is)
+    c.broken_rule.ensures.fault
 
 pub returns-in-Optimal-clause-answers : goal.returns-in-Optimal-clause-answers
 returns-in-Optimal-clause-answers g c =
     planned_answers g.N.Exact.limit (robust g.N.Exact.value c.args.model.now) c.args.name.now
-    (certificate_of g.N.Exact.value c.args.cert) _ c.search_plan.result (optimal_planned c.args.cert.status c.in-Optimal.is)
+    (certificate_of g.N.Exact.value c.args.cert) _ c.search_plan.result
+    (optimal_planned c.args.cert.status c.in-Optimal.is)
     c.search_plan.ensures.answers
 
 pub returns-in-Unbounded-clause-answers : goal.returns-in-Unbounded-clause-answers
 returns-in-Unbounded-clause-answers g c =
     planned_answers g.N.Exact.limit (robust g.N.Exact.value c.args.model.now) c.args.name.now
-    (certificate_of g.N.Exact.value c.args.cert) _ c.search_plan-in-Unbounded.result (unbounded_planned c.args.cert.status c.in-Unbounded.is)
+    (certificate_of g.N.Exact.value c.args.cert) _ c.search_plan-in-Unbounded.result
+    (unbounded_planned c.args.cert.status c.in-Unbounded.is)
     c.search_plan-in-Unbounded.ensures.answers

@@ -10,14 +10,20 @@ use Rattle.rob_top.proofs.searching.search_plan.Goals as goal
 pub search_form-requires-clause-form_in : goal.search_form-requires-clause-form_in
 search_form-requires-clause-form_in g c =
     let m = robust g.N.Exact.value c.args.model.now in
-    omega (arith, (name_found (form_names m) c.args.name.now c.in-Some.form c.in-Some.ensures.found).0, length-form_names m)
+    omega (
+      arith,
+      (name_found (form_names m) c.args.name.now c.in-Some.form c.in-Some.ensures.found).0,
+      length-form_names m,
+    )
 
 pub returns-in-Some-clause-answers : goal.returns-in-Some-clause-answers
 returns-in-Some-clause-answers g c =
     let m = robust g.N.Exact.value c.args.model.now in
-    named_answers g.N.Exact.limit m c.args.name.now (certificate_of g.N.Exact.value c.args.cert) _ c.in-Some.form c.search_form.result
+    named_answers g.N.Exact.limit m c.args.name.now (certificate_of g.N.Exact.value c.args.cert) _
+    c.in-Some.form c.search_form.result
     c.in-Some.ensures.found
-    (sought_answers g.N.Exact.value g.N.Exact.limit m c.in-Some.form _ _ _ (certificate_of g.N.Exact.value c.args.cert) c.search_form.result refl
+    (sought_answers g.N.Exact.value g.N.Exact.limit m c.in-Some.form _ _ _ (certificate_of g.N.Exact.value c.args.cert)
+    c.search_form.result refl
     c.search_form.ensures.answers)
 
 pub returns-in-None-clause-answers : goal.returns-in-None-clause-answers

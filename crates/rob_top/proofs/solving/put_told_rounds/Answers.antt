@@ -10,7 +10,8 @@ use Rattle.rob_top.proofs.solving.put_told_rounds.Goals as goal
 
 pub put_rounds-requires-clause-named : goal.put_rounds-requires-clause-named
 put_rounds-requires-clause-named g c =
-    All-same (IsRoundOf (robust g.N.Exact.value c.args.model.now)) c.items.result.now c.args.trace.now.rounds c.items.ensures.list c.requires.rounds
+    All-same (IsRoundOf (robust g.N.Exact.value c.args.model.now)) c.items.result.now c.args.trace.now.rounds
+    c.items.ensures.list c.requires.rounds
 
 pub returns-in-Dual : goal.returns-in-Dual
 returns-in-Dual g c =

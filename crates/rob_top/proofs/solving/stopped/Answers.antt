@@ -1,7 +1,7 @@
 use Rattle.std.proofs.Common.{subst}
 use Rattle.rob_cert.specs.declared.ending.Stop.{Stop}
 use Rattle.rob_model.specs.View.{robust}
-use Rattle.rob_top.specs.Refusing.{IsStopOf}
+use Rattle.rob_top.specs.WorkStops.{IsStopOf}
 use Rattle.rob_top.proofs.solving.stopped.Goals as goal
 
 pub wide_on_way-requires-clause-named : goal.wide_on_way-requires-clause-named

@@ -9,8 +9,10 @@ use Rattle.rob_top.proofs.splitting.at_cuts.Goals as goal
 pub returns-in-Ok-clause-answers : goal.returns-in-Ok-clause-answers
 returns-in-Ok-clause-answers g c =
     let cuts = map (cut_of g.N.Exact.value) c.args.cuts.now in
-    split_answers (robust g.N.Exact.value c.args.model.now) c.requires.valid.well_formed cuts c.in-Ok.ensures.rule c.requires.cuts
-    g.N.Exact.limit _ _ c.args.verb (robust g.N.Exact.value c.in-Ok.other) c.cell_count.result c.on_split.result c.requires.splits
+    split_answers (robust g.N.Exact.value c.args.model.now) c.requires.valid.well_formed cuts
+    c.in-Ok.ensures.rule c.requires.cuts
+    g.N.Exact.limit _ _ c.args.verb (robust g.N.Exact.value c.in-Ok.other) c.cell_count.result
+    c.on_split.result c.requires.splits
     c.in-Ok.ensures.split c.cell_count.ensures.count c.on_split.ensures.replies
 
 pub returns-in-Err-Rule-clause-answers : goal.returns-in-Err-Rule-clause-answers

@@ -15,6 +15,8 @@ returns-in_err-told-clause-cut g c =
 
 pub returns-clause-cut : goal.returns-clause-cut
 returns-clause-cut g c =
-    cut_told (robust g.N.Exact.value c.args.model.now) c.args.word.now c.in_ok-told.told c.as_bytes.result.now c.in_ok-param.param
-    (cut_of g.N.Exact.value (record { param = c.in_ok-param.param; at = c.signed.result })) c.in_ok-told.ensures.cut.1 c.as_bytes.ensures.value
+    cut_told (robust g.N.Exact.value c.args.model.now) c.args.word.now c.in_ok-told.told
+    c.as_bytes.result.now c.in_ok-param.param
+    (cut_of g.N.Exact.value (record { param = c.in_ok-param.param; at = c.signed.result })) c.in_ok-told.ensures.cut.1
+    c.as_bytes.ensures.value
     c.in_ok-param.ensures.found refl c.signed.ensures.value

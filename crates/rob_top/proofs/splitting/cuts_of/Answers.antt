@@ -13,7 +13,8 @@ returns-in_default-cut_at-clause-cuts g c =
     let told = map (cut_of g.N.Exact.value) c.loop-rest.cuts in
     let behind = option_map (λ word. word.now) c.first_part.result.1 in
     no_cut m g.N.Exact.limit all told c.first_part.result.0.now (parts_behind behind)
-    (told_part m g.N.Exact.limit all told (option_map (λ word. word.now) c.loop-rest.rest) c.in-Some.word.now c.first_part.result.0.now behind
+    (told_part m g.N.Exact.limit all told (option_map (λ word. word.now) c.loop-rest.rest) c.in-Some.word.now
+    c.first_part.result.0.now behind
     c.loop-rest.invariant.0 (ap (option_map (λ word. word.now)) c.in-Some.is) c.first_part.ensures.parts)
     c.args.word.now refl c.in_default-cut_at.ensures.cut
 
@@ -40,7 +41,8 @@ returns-clause-cuts g c =
     let m = robust g.N.Exact.value c.args.model.now in
     let f = cut_of g.N.Exact.value in
     let all = told_all m g.N.Exact.limit (parts_of c.args.word.now) (map f c.loop-rest.cuts)
-    (option_map (λ word. word.now) c.loop-rest.rest) c.loop-rest.invariant.0 (ap (option_map (λ word. word.now)) c.in_default.is)
+    (option_map (λ word. word.now) c.loop-rest.rest) c.loop-rest.invariant.0
+    (ap (option_map (λ word. word.now)) c.in_default.is)
     (some_part c.args.word.now)
     in
     (all.0, told_count f c.loop-rest.cuts all.1)

@@ -13,9 +13,11 @@ stopped-requires-clause-named g c =
 
 pub returns-in-Ok-clause-pieces : goal.returns-in-Ok-clause-pieces
 returns-in-Ok-clause-pieces g c =
-    plan_replies g.N.Exact.limit (robust g.N.Exact.value c.args.model.now) _ c.args.cells (certificate_of g.N.Exact.value c.in-Ok.cert)
+    plan_replies g.N.Exact.limit (robust g.N.Exact.value c.args.model.now) _ c.args.cells
+    (certificate_of g.N.Exact.value c.in-Ok.cert)
     c.with_cells.result c.in-Ok.ensures.written c.in-Ok.ensures.solved
-    (solution_fits g.N.Exact.value g.N.Exact.limit g.met.N.Exact.fits (robust g.N.Exact.value c.args.model.now) c.in-Ok.cert)
+    (solution_fits g.N.Exact.value g.N.Exact.limit g.met.N.Exact.fits
+    (robust g.N.Exact.value c.args.model.now) c.in-Ok.cert)
     c.with_cells.ensures.report
 
 pub returns-in-Err-clause-pieces : goal.returns-in-Err-clause-pieces

@@ -2,7 +2,7 @@ use Rattle.std.proofs.Common.{ap, map, string_bytes, ◌∙◌}
 use Rattle.std.specs.Prelude.{option_map}
 use Rattle.rob_model.specs.View.{robust}
 use Rattle.rob_words.specs.declared.verb.Own.TheVariants as own
-use Rattle.rob_top.specs.Calls.{word_of}
+use Rattle.rob_top.specs.Files.{word_of}
 use Rattle.rob_top.proofs.SplittingLemmas.{told_words, untold_words}
 use Rattle.rob_top.proofs.splitting.split_words.Goals as goal
 

@@ -1,5 +1,5 @@
 use Rattle.std.proofs.Common.{◌∙◌, ◌≡◌, ◌≤◌, ap, length, map, refl, string_bytes}
-use Rattle.rob_top.proofs.LimitLemmas.{none_told, some_told}
+use Rattle.rob_top.proofs.ToldLemmas.{none_told, some_told}
 use Rattle.rob_top.specs.Swept.{limit_value}
 use Rattle.rob_words.specs.Limits.{IsLimitList}
 use Rattle.rob_words.specs.Names.{parts_of}
@@ -11,26 +11,37 @@ use Rattle.rob_top.proofs.sweeping.sweep_words.Goals as goal
 
 pub returns-in-Some-told-clause-answers : goal.returns-in-Some-told-clause-answers
 returns-in-Some-told-clause-answers g c =
-    let three = three_items string_bytes c.args.words.now c.as_str.result.now c.as_str-2.result.now _ _ c.in-len3.len_at_least c.in-len3.len_below
-    (c.as_str.ensures.value ∙ ap string_bytes c.number-item.is) (c.as_str-2.ensures.value ∙ ap string_bytes c.limits-item.is)
+    let three =
+    three_items string_bytes c.args.words.now c.as_str.result.now c.as_str-2.result.now _ _
+    c.in-len3.len_at_least c.in-len3.len_below
+    (c.as_str.ensures.value ∙ ap string_bytes c.number-item.is)
+    (c.as_str-2.ensures.value ∙ ap string_bytes c.limits-item.is)
     in
     sweep_told g.N.Exact.limit (robust g.N.Exact.value c.args.model.now) (g.L.Ledger.wides c.args.ledger.now)
-    (g.L.Ledger.wides c.limits_of.new.ledger) (g.L.Ledger.wides c.at_limits.new.ledger) (map string_bytes c.args.words.now) three.0
-    c.as_str.result.now c.as_str-2.result.now c.in-Some.n (map g.N.Exact.value c.items.result.now) c.at_limits.result three.1
+    (g.L.Ledger.wides c.limits_of.new.ledger) (g.L.Ledger.wides c.at_limits.new.ledger)
+    (map string_bytes c.args.words.now) three.0
+    c.as_str.result.now c.as_str-2.result.now c.in-Some.n (map g.N.Exact.value c.items.result.now)
+    c.at_limits.result three.1
     c.in-Some.ensures.statement.1 (ap (map g.N.Exact.value) c.items.ensures.list
     ∙ (some_told (IsLimitList g.N.Exact.limit c.as_str-2.result.now → ⊥)
     (λ limits. (map g.N.Exact.value limits ≡ map limit_value (parts_of c.as_str-2.result.now)) × (length limits ≤ 20))
-    c.in_ok-told.told c.in-Some-told.limits c.in-Some-told.is c.in_ok-told.ensures.limits).0) c.limits_of.ensures.counted
+    c.in_ok-told.told c.in-Some-told.limits c.in-Some-told.is c.in_ok-told.ensures.limits).0)
+    c.limits_of.ensures.counted
     c.at_limits.ensures.answers
 
 pub returns-in-None-clause-answers : goal.returns-in-None-clause-answers
 returns-in-None-clause-answers g c =
-    let three = three_items string_bytes c.args.words.now c.as_str.result.now c.as_str-2.result.now _ _ c.in-len3.len_at_least c.in-len3.len_below
-    (c.as_str.ensures.value ∙ ap string_bytes c.number-item.is) (c.as_str-2.ensures.value ∙ ap string_bytes c.limits-item.is)
+    let three =
+    three_items string_bytes c.args.words.now c.as_str.result.now c.as_str-2.result.now _ _
+    c.in-len3.len_at_least c.in-len3.len_below
+    (c.as_str.ensures.value ∙ ap string_bytes c.number-item.is)
+    (c.as_str-2.ensures.value ∙ ap string_bytes c.limits-item.is)
     in
-    no_line_answers g.N.Exact.limit _ (robust g.N.Exact.value c.args.model.now) verbs.Sweep own.Limits refl (map string_bytes c.args.words.now)
+    no_line_answers g.N.Exact.limit _ (robust g.N.Exact.value c.args.model.now) verbs.Sweep own.Limits refl
+    (map string_bytes c.args.words.now)
     c.no_line-in-None.result
-    (not_kind g.N.Exact.limit own.Limits (map string_bytes c.args.words.now) three.0 c.as_str.result.now c.as_str-2.result.now three.1
+    (not_kind g.N.Exact.limit own.Limits (map string_bytes c.args.words.now) three.0 c.as_str.result.now
+    c.as_str-2.result.now three.1
     (none_told (IsLimitList g.N.Exact.limit c.as_str-2.result.now → ⊥)
     (λ limits. (map g.N.Exact.value limits ≡ map limit_value (parts_of c.as_str-2.result.now)) × (length limits ≤ 20))
     c.in_ok-told.told c.in-None.is c.in_ok-told.ensures.limits))

@@ -14,6 +14,7 @@ returns g c = record {
   wide = (
     refl,
     c.in_ok-text.ensures.text
-        ∙ ap (λ (m : RobustModel). too_wide_line m c.args.spot ++ budget_line (g.N.Exact.value c.args.limit)) c.in_ok-changed.ensures.replaced,
+        ∙ ap (λ (m : RobustModel). too_wide_line m c.args.spot ++ budget_line (g.N.Exact.value c.args.limit))
+        c.in_ok-changed.ensures.replaced,
   );
 }

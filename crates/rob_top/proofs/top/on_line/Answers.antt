@@ -11,10 +11,13 @@ on_texts-requires-clause-short g c =
 
 pub returns-in_ok-with-in-Texts-clause-means : goal.returns-in_ok-with-in-Texts-clause-means
 returns-in_ok-with-in-Texts-clause-means g c =
-    texts_answer c.args.line.now _ _ _ c.in_ok-files.files c.in-Texts.texts c.in_ok-with-in-Texts.with c.on_texts.result c.in-Texts.is
-    c.in_ok-files.ensures.fetched c.in_ok-with-in-Texts.ensures.kept c.in_ok-with-in-Texts.ensures.words c.in_ok-with-in-Texts.ensures.route
+    texts_answer c.args.line.now _ _ _ c.in_ok-files.files c.in-Texts.texts c.in_ok-with-in-Texts.with
+    c.on_texts.result c.in-Texts.is
+    c.in_ok-files.ensures.fetched c.in_ok-with-in-Texts.ensures.kept c.in_ok-with-in-Texts.ensures.words
+    c.in_ok-with-in-Texts.ensures.route
     c.on_texts.ensures.means
 
 pub returns-in-Answer-clause-means : goal.returns-in-Answer-clause-means
 returns-in-Answer-clause-means g c =
-    absence_answers c.args.line.now _ _ _ c.in_ok-files.files c.in-Answer.reply c.in-Answer.is c.in_ok-files.ensures.fetched
+    absence_answers c.args.line.now _ _ _ c.in_ok-files.files c.in-Answer.reply c.in-Answer.is
+    c.in_ok-files.ensures.fetched

@@ -10,5 +10,6 @@ returns-in-Ok-clause-ends g c = λ call means.
     ends_whole call _ _ _ means
     (subst (λ (text : List ℕ). Took (g.K.Sink.taken c.args.out.now) (g.K.Sink.taken c.put_lines.new.out) text)
     c.bytes.ensures.list c.in-Ok.ensures.took)
-    (subst (λ (text : List ℕ). PutAll (g.K.Sink.puts c.args.out.now) (g.K.Sink.puts c.put_lines.new.out) (text_lines text))
+    (subst (λ (text : List ℕ).
+    PutAll (g.K.Sink.puts c.args.out.now) (g.K.Sink.puts c.put_lines.new.out) (text_lines text))
     c.bytes.ensures.list c.in-Ok.ensures.puts)

@@ -11,8 +11,10 @@ use Rattle.rob_top.proofs.work.unelaborated.Goals as goal
 
 pub returns-in-Replay-clause-answers : goal.returns-in-Replay-clause-answers
 returns-in-Replay-clause-answers g c =
-    replay_answers g.N.Exact.limit (robust g.N.Exact.value c.args.model.now) _ c.args.verb c.args.texts.now c.as_slice-certificate.result.now c.as_slice-scenarios.result.now
-    c.replay_text.result c.in-Replay.is c.as_slice-certificate.ensures.value c.as_slice-scenarios.ensures.value c.replay_text.ensures.answers
+    replay_answers g.N.Exact.limit (robust g.N.Exact.value c.args.model.now) _ c.args.verb c.args.texts.now
+    c.as_slice-certificate.result.now c.as_slice-scenarios.result.now
+    c.replay_text.result c.in-Replay.is c.as_slice-certificate.ensures.value c.as_slice-scenarios.ensures.value
+    c.replay_text.ensures.answers
 
 pub branch_text-requires-clause-branches : goal.branch_text-requires-clause-branches
 branch_text-requires-clause-branches g c = ap branches c.in-Whole.is
@@ -21,7 +23,8 @@ pub returns-in-Whole-clause-answers : goal.returns-in-Whole-clause-answers
 returns-in-Whole-clause-answers g c =
     names_answer g.N.Exact.limit (robust g.N.Exact.value c.args.model.now) _ c.args.verb c.args.texts.now
     (map string_bytes c.as_slice-words.result.now) c.own_word-names.result.now c.branch_text.result
-    (ap branches c.in-Whole.is) (ap (map string_bytes) c.as_slice-words.ensures.value) c.own_word-names.ensures.word c.branch_text.ensures.answers
+    (ap branches c.in-Whole.is) (ap (map string_bytes) c.as_slice-words.ensures.value) c.own_word-names.ensures.word
+    c.branch_text.ensures.answers
 
 pub branch_text-requires-in-Tree-clause-branches : goal.branch_text-requires-in-Tree-clause-branches
 branch_text-requires-in-Tree-clause-branches g c = ap branches c.in-Tree.is
@@ -36,20 +39,24 @@ returns-in-Tree-clause-answers g c =
 pub returns-in-CheckTree-clause-answers : goal.returns-in-CheckTree-clause-answers
 returns-in-CheckTree-clause-answers g c =
     texts_answers g.N.Exact.limit (robust g.N.Exact.value c.args.model.now) _ c.args.verb c.args.texts.now
-    (map string_bytes c.as_slice-words.result.now) c.own_word-names.result.now c.as_slice-tree.result.now c.check_tree_text.result c.in-CheckTree.is
+    (map string_bytes c.as_slice-words.result.now) c.own_word-names.result.now c.as_slice-tree.result.now
+    c.check_tree_text.result c.in-CheckTree.is
     (ap (map string_bytes) c.as_slice-words.ensures.value) c.own_word-names.ensures.word c.as_slice-tree.ensures.value
     c.check_tree_text.ensures.answers
 
 pub returns-in-Sweep-clause-answers : goal.returns-in-Sweep-clause-answers
 returns-in-Sweep-clause-answers g c =
     words_answer_at g.N.Exact.limit (robust g.N.Exact.value c.args.model.now) _ c.args.verb verbs.Sweep c.args.texts.now
-    (map string_bytes c.as_slice-words.result.now) c.sweep_words.result c.in-Sweep.is (ap (map string_bytes) c.as_slice-words.ensures.value)
+    (map string_bytes c.as_slice-words.result.now) c.sweep_words.result c.in-Sweep.is
+    (ap (map string_bytes) c.as_slice-words.ensures.value)
     c.sweep_words.ensures.answers
 
 pub returns-in-SweepText-clause-answers : goal.returns-in-SweepText-clause-answers
 returns-in-SweepText-clause-answers g c =
-    words_answer_at g.N.Exact.limit (robust g.N.Exact.value c.args.model.now) _ c.args.verb verbs.SweepText c.args.texts.now
-    (map string_bytes c.as_slice-words.result.now) c.limit_words.result c.in-SweepText.is (ap (map string_bytes) c.as_slice-words.ensures.value)
+    words_answer_at g.N.Exact.limit (robust g.N.Exact.value c.args.model.now) _ c.args.verb
+    verbs.SweepText c.args.texts.now
+    (map string_bytes c.as_slice-words.result.now) c.limit_words.result c.in-SweepText.is
+    (ap (map string_bytes) c.as_slice-words.ensures.value)
     c.limit_words.ensures.answers
 
 pub split_words-requires-clause-splits : goal.split_words-requires-clause-splits
@@ -58,7 +65,8 @@ split_words-requires-clause-splits g c = ap splits c.in-Cells.is
 pub returns-in-Cells-clause-answers : goal.returns-in-Cells-clause-answers
 returns-in-Cells-clause-answers g c =
     words_answer g.N.Exact.limit (robust g.N.Exact.value c.args.model.now) _ c.args.verb c.args.texts.now
-    (map string_bytes c.as_slice-words.result.now) c.split_words.result (ap (map string_bytes) c.as_slice-words.ensures.value)
+    (map string_bytes c.as_slice-words.result.now) c.split_words.result
+    (ap (map string_bytes) c.as_slice-words.ensures.value)
     c.split_words.ensures.answers
 
 pub split_words-requires-in-CellText-clause-splits : goal.split_words-requires-in-CellText-clause-splits

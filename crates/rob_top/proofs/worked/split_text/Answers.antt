@@ -1,5 +1,5 @@
 use Rattle.rob_top.proofs.WorkedSplitTexts.{split_is_taken}
-use Rattle.rob_top.proofs.laws.worked_split_text.Goals as goal
+use Rattle.rob_top.proofs.worked.split_text.Goals as goal
 
 pub returns : goal.returns
 returns c = record { taken = split_is_taken }
