@@ -1,4 +1,4 @@
-// A case.
+//! A case.
 
 use crate::line::Line;
 use rob_case::Trouble;

@@ -1,4 +1,4 @@
-// The lines of the format.
+//! The lines of the format.
 
 /// A line.
 #[derive(Debug, Clone, Copy)]

@@ -1,4 +1,4 @@
-// Rules on named variables, copies of models, and boxes.
+//! Rules on named variables, copies of models, and boxes.
 
 ghost use Rattle.std.specs.Prelude.{◌≡◌, ◌≤◌, nat_abs, None, IfOk};
 ghost use Rattle.rob_model.specs.Valid.{IsValid};

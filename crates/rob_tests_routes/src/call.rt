@@ -1,29 +1,33 @@
-// The calls of the cases.
+//! The calls of the cases.
 
 ghost use Rattle.rob_meaning.specs.Named.{IsNamed};
 ghost use Rattle.rob_model.specs.Valid.{IsValid};
 ghost use Rattle.rob_model.specs.View.{robust};
 
-use crate::{boxes, cuts, given, sweep, tree, worst};
+use crate::{alike, boxes, cuts, given, sweep, tree, worst};
 use rob_case::text::keyword;
 use rob_case::{Case, Trouble};
 use rob_model::Model;
 use rob_number::{Exact, Frac};
+use rob_quick::Quick;
 use std::alloc::Global;
 
 /// The answer of the call of a line: its first word, and what stands behind. Behind `narrow` comes a call with numbers
-/// of 8 bits; the others have 62.
+/// of 8 bits; the others have 62. What is told to be alike is so with two number types.
 pub(crate) fn answer(
     alloc: Global,
     case: &Case,
     word: &str,
     rest: &str,
 ) -> Result<String, Trouble> {
-    if word == "narrow" {
-        let (word, rest) = keyword(rest);
-        call::<Frac<8>>(alloc, case, word, rest)
-    } else {
-        call::<Frac<62>>(alloc, case, word, rest)
+    match word {
+        "narrow" => {
+            let (word, rest) = keyword(rest);
+            call::<Frac<8>>(alloc, case, word, rest)
+        }
+        "alike" => alike::compared::<Frac<62>, Quick<62>>(alloc, case, rest),
+        "alike-8" => alike::compared::<Frac<8>, Quick<8>>(alloc, case, rest),
+        _ => call::<Frac<62>>(alloc, case, word, rest),
     }
 }
 

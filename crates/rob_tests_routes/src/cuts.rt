@@ -1,4 +1,4 @@
-// The rounds of cutting planes, and the certificate that ends them.
+//! The rounds of cutting planes, and the certificate that ends them.
 
 ghost use Rattle.rob_model.specs.Valid.{IsValid};
 
@@ -82,7 +82,7 @@ fn ended<N: Exact>(alloc: Global, cert: &Cert<N>) -> Result<String, Trouble> {
 }
 
 /// The rounds: their kind, what was tried, and their cuts.
-fn rounds(alloc: Global, answer: &mut String, rounds: &[Round]) -> Result<(), Trouble> {
+pub(crate) fn rounds(alloc: Global, answer: &mut String, rounds: &[Round]) -> Result<(), Trouble> {
     for round in rounds {
         let kind = match round.kind {
             LpKind::Optimal => "best",

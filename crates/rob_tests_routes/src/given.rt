@@ -1,4 +1,4 @@
-// What the calls are given: the model of a text, and the numbers of a line.
+//! What the calls are given: the model of a text, and the numbers of a line.
 
 ghost use Rattle.std.specs.Prelude.{IfOk};
 ghost use Rattle.rob_meaning.specs.Named.{IsNamed};

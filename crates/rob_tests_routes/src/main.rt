@@ -2,6 +2,7 @@
 //! their public names, and what comes is compared with what is wanted.
 #![tactic(auto)]
 
+mod alike;
 mod boxes;
 mod call;
 mod cuts;

@@ -1,4 +1,4 @@
-// Models with other limits of their budgets.
+//! Models with other limits of their budgets.
 
 ghost use Rattle.rob_model.specs.Valid.{IsValid};
 

@@ -1,4 +1,4 @@
-// Branch trees: grown and written, and texts read as trees.
+//! Branch trees: grown and written, and texts read as trees.
 
 ghost use Rattle.std.specs.Prelude.{◌≡◌, None};
 ghost use Rattle.rob_meaning.specs.Named.{IsNamed};

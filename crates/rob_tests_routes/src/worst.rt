@@ -1,4 +1,4 @@
-// The worst scenario of a form at a plan and along a direction.
+//! The worst scenario of a form at a plan and along a direction.
 
 ghost use Rattle.std.specs.Prelude.{◌≤◌, nat_abs, IfOk};
 ghost use Rattle.rob_elab.specs.Elaborated.{AreElaborated};
