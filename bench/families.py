@@ -95,9 +95,9 @@ def priced(count):
 
 
 # of each the sizes; the last one is the greatest, or the greatest of its kind, that the limits on models let through
-FAMILIES = {"lot": (lot, (4, 8, 12, 16, 20, 24)), "transport": (transport, (4, 8, 12, 16)),
-            "dense": (dense, (6, 12, 18, 23)), "sets": (sets, (2, 4, 8)), "ring": (ring, (4, 8, 12, 16, 19)),
-            "prices": (priced, (3, 4, 6, 8, 12, 16, 19))}
+FAMILIES = {"lot": (lot, (4, 8, 12, 16, 20, 24, 27)), "transport": (transport, (4, 8, 12, 16, 18)),
+            "dense": (dense, (6, 12, 18, 23, 25)), "sets": (sets, (2, 4, 8)), "ring": (ring, (4, 8, 12, 16, 19, 23)),
+            "prices": (priced, (3, 4, 6, 8, 12, 16, 19, 23))}
 
 
 def timed(program, words, seconds):

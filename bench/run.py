@@ -7,6 +7,7 @@ Markdown, and ends with 1 where an answer isn't the one that is kept beside the 
     python3 bench/run.py --robust first=PATH --robust second=PATH       # two builds beside each other
     python3 bench/run.py --routes --check                           # each route, and the check of its certificate
     python3 bench/run.py --runs 1 --only lot08 --only mix          # a short look
+    python3 bench/run.py --programs                                # and the two bench programs, in a table below
 """
 import argparse
 import datetime
@@ -26,6 +27,11 @@ import counterpart
 TOP = pathlib.Path(__file__).resolve().parent.parent
 FOLDERS = ("bench/models", "examples")
 TIME = "/usr/bin/time"
+# of each bench program the words of its runs: size and kind; how often, and the case
+PROGRAMS = {
+    "rob_simplex_bench": [(16, 0), (800, 1), (800, 2), (16, 3), (64, 3)],
+    "rob_rows_bench": [(10000, case) for case in range(6)],
+}
 OVER = "over"
 
 
@@ -226,6 +232,29 @@ def write_files(path, words, folder):
     return files, f"{len(program.rows)} x {len(program.columns())}"
 
 
+def program_lines(runs, limit, folder):
+    """A line of the second table for each run of a bench program that is built. Who isn't has none."""
+    for program, calls in PROGRAMS.items():
+        path = TOP / "crates" / program / "out" / program
+        if not path.exists():
+            print(f"{path} isn't built: no lines", file=sys.stderr)
+            continue
+        files = {word: str(folder / word.lower()) for word in ("ANSWER", "OUTPUT", "MEMORY")}
+        for call in calls:
+            command = [str(path), *map(str, call)]
+            found = [processor_seconds(command, files, limit) for _ in range(runs)]
+            over = any(seconds == OVER for seconds, _ in found)
+            cell = f"over {limit}" if over else f"{shown(min(found)[0])}, {peak_megabytes(command, files):.0f}"
+            told = "; ".join(found[-1][1].splitlines()) if program == "rob_simplex_bench" else ""
+            yield [program, " ".join(map(str, call)), told, cell]
+
+
+def print_table(heads, lines):
+    for line in (heads, ["---"] * len(heads), *lines):
+        print("|", " | ".join(line), "|")
+    print()
+
+
 def processor():
     lines = pathlib.Path("/proc/cpuinfo").read_text().splitlines()
     return next((line.split(":")[1].strip() for line in lines if line.startswith("model name")), "unknown processor")
@@ -244,6 +273,7 @@ def words_of():
     add("--only", action="append", metavar="MODEL", help="a name of the table; several may be given")
     add("--routes", action="store_true", help="a column for each route, and one for the rounds by cuts")
     add("--check", action="store_true", help="a column for the check of the last build's certificate")
+    add("--programs", action="store_true", help="a second table, of the bench programs")
     add("--short", action="store_true", help="for the others, forms without parameters are plain rows")
     words = parse.parse_args()
     given = [word.rpartition("=")[::2] for word in words.robust or [str(TOP / "crates/robust/out/robust")]]
@@ -264,15 +294,17 @@ def main():
             rounds = [rounds_of(path)] if words.routes else []
             lines.append([name, str(kept), size, *rounds, *cells])
             print(*lines[-1], sep="  ", file=sys.stderr, flush=True)
+        programs = list(program_lines(words.runs, words.limit, pathlib.Path(folder))) if words.programs else []
     machine = f"{processor()}, {os.cpu_count()} processors"
     print(f"{datetime.date.today()}, {machine}, load {before} at the start and {load()} at the end.")
     print(f"Processor seconds, the least of {words.runs} runs; peak megabytes.\n")
     heads = ["model", "value", "rows x columns", *["rounds"] * words.routes, *(tool.name for tool in tool_list)]
-    for line in (heads, ["---"] * len(heads), *lines):
-        print("|", " | ".join(line), "|")
-    print()
+    print_table(heads, lines)
     for tool in tool_list:
         print(f"- {tool.name}: {tool.version}")
+    if programs:
+        print()
+        print_table(["program", "words", "prints", "seconds, megabytes"], programs)
     return 0 if right else 1
 
 

@@ -8,7 +8,9 @@
 Eight families, each in two or three sizes, drawn at random with all their digits used: 2, 3 and 4 digits, and h, four digits as
 hundredths. In the style `s` a parameter is the demand itself, in the style `n` a share between -1 and 1 of what it may be
 off. It prints a table in Markdown: of so many models, how many were solved, how many certificates `check` then accepted, how many
-were refused, and the processor time of all. What takes longer than --limit seconds is ended, and counts by itself.
+were refused, and the processor time of all. What takes longer than --limit seconds of the processor is ended, and counts by itself.
+To standard error go the certificates that aren't accepted, and the models of which two builds or routes give two answers, and
+where there is such a model the exit status is 1.
 """
 import argparse
 import collections
@@ -16,18 +18,20 @@ import os
 import pathlib
 import random
 import resource
-import subprocess
+import sys
 import tempfile
 
 TOP = pathlib.Path(__file__).resolve().parent.parent
 DIGITS = {"2": 2, "3": 3, "4": 4, "h": 4}
+COLUMNS = ("solved", "accepted", "refused", "ended")
 
 
 class Data:
-    """Draws numbers with so many digits, and says what a number off its mean is in either style."""
+    """Draws numbers with so many digits, and says what a number off its mean is in either style; deviations keep so many of
+    their digits."""
 
-    def __init__(self, seed, digits, style):
-        self.random, self.digits, self.style = random.Random(seed), digits, style
+    def __init__(self, seed, digits, style, kept):
+        self.random, self.digits, self.style, self.kept = random.Random(seed), digits, style, kept
         self.lines, self.shares = [], []
 
     def number(self, low, high):
@@ -41,7 +45,7 @@ class Data:
     def off(self, name, mean, deviation):
         """A parameter of this name, whose mean and deviation are drawn between these shares; answers what it is written as"""
         middle = round(self.random.uniform(*mean) * 10 ** DIGITS[self.digits])
-        far = round(self.random.uniform(*deviation) * 10 ** DIGITS[self.digits])
+        far = round(float(f"{self.random.uniform(*deviation) * 10 ** DIGITS[self.digits]:.{self.kept - 1}e}"))
         if self.style == "n":
             self.lines.append(f"uncertain {name} in [-1, 1]")
             self.shares.append(f"{name} at 0 by 1")
@@ -164,7 +168,7 @@ def crash(data, tasks):
     yield from (f"adaptive h{t}(g{t - 1}) in [0, {data.number(0.05, 0.15)}]" for t in range(2, tasks + 1))
     yield from (f"adaptive e{t}({', '.join(f'g{s}' for s in range(1, t + 1))})" for t in range(1, tasks + 1))
     yield "minimise " + added([f"{data.number(0.1, 0.9)}*h{t}" for t in range(2, tasks + 1)] + [f"1/10*e{tasks}"])
-    yield f"row e1: e1 >= {late[0]}"
+    yield f"row e1_: e1 >= {late[0]}"
     for t in range(2, tasks + 1):
         yield f"row e{t}_: e{t} >= e{t - 1} + {late[t - 1]} - h{t}"
 
@@ -176,77 +180,116 @@ FAMILIES = {
 }
 
 
-def models(seeds, digits, only):
+def models(seeds, digits, only, kept):
     """The name of each model, what it counts for, and its text"""
     for family, (make, sizes) in FAMILIES.items():
         for size in sizes if not only or family in only else []:
             for style in "sn":
                 for seed in range(seeds):
-                    data = Data(f"{family} {size} {seed}", digits, style)
+                    data = Data(f"{family} {size} {seed}", digits, style, kept)
                     body = list(make(data, *size))
                     name = "_".join([family, *map(str, size), digits + style, str(seed)])
                     yield name, f"{digits} {style}", "\n".join(data.lines + body) + "\n"
 
 
 def run(words, limit):
-    """The exit status and the output, or None where the limit is passed; and the processor time"""
-    before = resource.getrusage(resource.RUSAGE_CHILDREN)
-    try:
-        done = subprocess.run(words, capture_output=True, timeout=limit)
-        status, out = done.returncode, done.stdout
-    except subprocess.TimeoutExpired:
-        status, out = None, b""
-    after = resource.getrusage(resource.RUSAGE_CHILDREN)
-    return status, out, after.ru_utime + after.ru_stime - before.ru_utime - before.ru_stime
+    """The exit status and the output, or None where the processor's limit is passed; and the processor time"""
+    with tempfile.TemporaryFile() as out:
+        actions = [(os.POSIX_SPAWN_DUP2, out.fileno(), 1)]
+        process = os.posix_spawn(words[0], words, {}, file_actions=actions)
+        resource.prlimit(process, resource.RLIMIT_CPU, (limit, limit + 1))
+        _, status, used = os.wait4(process, 0)
+        out.seek(0)
+        code = os.waitstatus_to_exitcode(status)
+        return None if code < 0 else code, out.read().decode(), used.ru_utime + used.ru_stime
 
 
-def tried(robust, route, path, limit):
-    """What becomes of a model: solved, and whether its certificate is accepted; refused; or ended; and the time of proving"""
-    status, out, took = run([robust, "prove", path, "--route", route], limit)
-    if status in (0, 10, 11):
-        certificate = path + ".cert"
-        pathlib.Path(certificate).write_bytes(out)
-        accepted = run([robust, "check", path, certificate], limit)[0] == 0
-        return ["solved"] + ["accepted"] * accepted, took
-    return ["refused" if status == 25 else "ended" if status is None else f"status {status}"], took
+def answer_of(certificate):
+    """The status that a certificate is of, and the value of an optimum"""
+    head, *lines = certificate.splitlines()
+    return " ".join([head.removeprefix("certificate "), *(it for it in lines if it.startswith("value "))])
+
+
+def tried(robust, route, bits, path, limit):
+    """What becomes of a model: solved, and whether its certificate is accepted; refused; or ended. And what it printed of
+    that: a status, or the first line of a refusal; and the time of proving"""
+    status, out, took = run([robust, "prove", path, "--route", route, "--bits", bits], limit)
+    if status not in (0, 10, 11):
+        said = out.partition("\n")[0]
+        return ["refused" if status == 25 else "ended" if status is None else f"status {status}"], said, took
+    certificate = path + ".cert"
+    pathlib.Path(certificate).write_text(out)
+    checked, said, _ = run([robust, "check", path, certificate, "--bits", bits], limit)
+    if checked != 0:
+        print(f"{pathlib.Path(path).stem}, {route}: check says {said.strip()}", file=sys.stderr)
+    return ["solved"] + ["accepted"] * (checked == 0), answer_of(out), took
+
+
+class Tally:
+    """What became of some models at one build and route"""
+
+    def __init__(self):
+        self.models, self.found, self.seconds = 0, collections.Counter(), 0
+
+    def add(self, kinds, took):
+        self.models += 1
+        self.found.update(kinds)
+        self.seconds += took
+
+    def line(self, head):
+        others = sum(self.found.values()) - sum(self.found[it] for it in COLUMNS)
+        counts = " | ".join(str(self.found[it]) for it in COLUMNS)
+        return f"| {head} | {self.models} | {counts} | {others} | {self.seconds:.1f} |"
 
 
 def main():
     parser = argparse.ArgumentParser(description=__doc__.splitlines()[0])
     parser.add_argument("--robust", action="append", help="a build, as NAME=PATH; it may be given several times")
     parser.add_argument("--seeds", type=int, default=3, help="models of each family, size and style (3)")
-    parser.add_argument("--limit", type=int, default=60, help="seconds after which a run is ended (60)")
+    parser.add_argument("--limit", type=int, default=60, help="the processor's seconds after which a run is ended (60)")
     parser.add_argument("--only", action="append", help="this family alone; it may be given several times")
     parser.add_argument("--digits", action="append", choices=DIGITS, help="these data alone; it may be given several times")
     parser.add_argument("--route", action="append", choices=("dual", "cuts"), help="this route alone")
+    parser.add_argument("--kept", type=int, default=9, help="how many of their digits deviations keep (all)")
+    parser.add_argument("--bits", default="62", help="the width that a model is proved and checked at (62)")
+    parser.add_argument("--each", type=argparse.FileType("w"), help="a file that gets a line for each model, build and route")
     parser.add_argument("--write", help="write the models into this folder, and solve none")
     options = parser.parse_args()
     builds = dict(it.split("=", 1) for it in options.robust or [f"robust={TOP / 'crates/robust/out/robust'}"])
-    drawn = [it for digits in options.digits or DIGITS for it in models(options.seeds, digits, options.only)]
+    drawn = [it for digits in options.digits or DIGITS for it in models(options.seeds, digits, options.only, options.kept)]
     if options.write:
         os.makedirs(options.write, exist_ok=True)
         for name, _, text in drawn:
             pathlib.Path(options.write, name + ".rob").write_text(text)
-        return
-    columns = ("solved", "accepted", "refused", "ended")
-    print("| digits, style | build, route | models | " + " | ".join(columns) + " | others | seconds |")
-    print("|---|---|" + "---|" * (len(columns) + 3))
+        return 0
+    ways = [(build, route) for build in builds for route in options.route or ("dual", "cuts")]
+    print("| digits, style | build, route | models | " + " | ".join(COLUMNS) + " | others | seconds |")
+    print("|---|---|" + "---|" * (len(COLUMNS) + 3))
+    differ, totals = 0, collections.defaultdict(Tally)
     with tempfile.TemporaryDirectory() as folder:
         for column in dict.fromkeys(it[1] for it in drawn):
-            of_column = [it for it in drawn if it[1] == column]
-            for build, robust in builds.items():
-                for route in options.route or ("dual", "cuts"):
-                    found, seconds = collections.Counter(), 0
-                    for name, _, text in of_column:
-                        path = os.path.join(folder, name + ".rob")
-                        pathlib.Path(path).write_text(text)
-                        kinds, took = tried(robust, route, path, options.limit)
-                        found.update(kinds)
-                        seconds += took
-                    others = sum(found.values()) - sum(found[it] for it in columns)
-                    counts = " | ".join(str(found[it]) for it in columns)
-                    print(f"| {column} | {build}, {route} | {len(of_column)} | {counts} | {others} | {seconds:.1f} |", flush=True)
+            tallies = collections.defaultdict(Tally)
+            for name, _, text in (it for it in drawn if it[1] == column):
+                path = os.path.join(folder, name + ".rob")
+                pathlib.Path(path).write_text(text)
+                answers = set()
+                for build, route in ways:
+                    kinds, said, took = tried(builds[build], route, options.bits, path, options.limit)
+                    tallies[build, route].add(kinds, took)
+                    totals[build, route].add(kinds, took)
+                    if kinds[0] == "solved":
+                        answers.add(said)
+                    if options.each:
+                        print(name, build, route, "+".join(kinds), f"{took:.3f}", said, sep="\t", file=options.each, flush=True)
+                if len(answers) > 1:
+                    differ += 1
+                    print(f"{name}: the answers are not one: {answers}", file=sys.stderr)
+            for build, route in ways:
+                print(tallies[build, route].line(f"{column} | {build}, {route}"), flush=True)
+    for build, route in ways:
+        print(totals[build, route].line(f"all | {build}, {route}"))
+    return 1 if differ else 0
 
 
 if __name__ == "__main__":
-    main()
+    sys.exit(main())

@@ -12,9 +12,10 @@ import sys
 import tempfile
 
 LIMIT = 2.0
+MOST = 96          # the parameters of a model
 MODEL = b"uncertain d in [8, 12]\nvar x in [0, 40]\nminimise x\nrow need: x >= d\n"
 BUDGET = MODEL.replace(b"var", b"budget 1: d at 10 by 2\nvar")
-BROAD = MODEL.replace(b"var", b"".join(b"uncertain e%d in [8, 12]\n" % k for k in range(1, 64)) + b"var")
+BROAD = MODEL.replace(b"var", b"".join(b"uncertain e%d in [8, 12]\n" % k for k in range(1, MOST)) + b"var")
 PLAN = b"certificate optimal\nvalue 12\nscale 1\ninside d 8\nplan x 12\ncover need d.upper 1\n"
 PROOF = PLAN + b"item objective 1 1\nat d 12\nitem need 1 1\nat d 12\nend\n"
 TEXT, FILE, TREE, WORD = 65_536, 4_194_304, 8_388_608, 131_000
@@ -26,7 +27,7 @@ def models():
     """Texts of up to 65,536 bytes."""
     yield "a sum of 9,981 terms", GOAL + b" + x" * 9980 + b"\n", (0, b"form objective: 9981*1*x")
     yield "a product of 9,981 factors", GOAL + b"*1" * 9980 + b"\n", (0, b"form objective: 1*1*x")
-    yield "6,000 declarations", b"".join(b"var x%d\n" % k for k in range(6000)), (23, b"fault: model 22 line 401\n")
+    yield "6,000 declarations", b"".join(b"var x%d\n" % k for k in range(6000)), (23, b"fault: model 22 line 601\n")
     yield "a comment", GOAL + b"\n#" + b"x" * 65_000, (0, b"form objective: 1*1*x")
     yield "members", b"uncertain d\nbudget 1: " + b", ".join([b"d at 1 by 1"] * 3000), (23, b"fault: model 12 line 2\n")
     yield "a list", b"uncertain d\nadaptive y(" + b", ".join([b"d"] * 9000) + b")\n", (23, b"fault: model 12 line 2\n")
@@ -60,10 +61,10 @@ def tables():
 
 
 def broad_tables():
-    """A scenario file of a model with 64 parameters."""
-    header = b",".join([b"d"] + [b"e%d" % k for k in range(1, 64)])
-    records = (b",".join([b"9"] * 64) + b"\n") * 10_000
-    yield "10,000 records of 64 parameters", header + b"\n" + records, (0, b"2 inside objective 12 need 3\n")
+    """A scenario file of a model with as many parameters as a model may have."""
+    header = b",".join([b"d"] + [b"e%d" % k for k in range(1, MOST)])
+    records = (b",".join([b"9"] * MOST) + b"\n") * 10_000
+    yield f"10,000 records of {MOST} parameters", header + b"\n" + records, (0, b"2 inside objective 12 need 3\n")
 
 
 def trees():
