@@ -29,7 +29,7 @@ FOLDERS = ("bench/models", "examples")
 TIME = "/usr/bin/time"
 # of each bench program the words of its runs: size and kind; how often, and the case
 PROGRAMS = {
-    "rob_simplex_bench": [(16, 0), (800, 1), (800, 2), (16, 3), (64, 3)],
+    "rob_simplex_bench": [(400, 0), (1000, 0), (1000, 1), (1000, 2), (250, 3), (1000, 3)],
     "rob_rows_bench": [(10000, case) for case in range(6)],
 }
 OVER = "over"
