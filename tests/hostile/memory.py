@@ -39,10 +39,16 @@ ONE = "uncertain d in [8, 12]\nvar x\nminimise x\nrow need: x >= d\n"
 PROOF = ("certificate optimal\nvalue 12\nscale 1\ninside d 8\nplan x 12\ncover need d.upper 1\n"
          "item objective 1 1\nat d 12\nitem need 1 1\nat d 12\nend\n")
 TRUCKS = "uncertain d in [8, 13]\nvar x in [0, 10]\nminimise x\nrow need: 2*x >= d\n"
-FILES = {"stock.rob": STOCK, "one.rob": ONE, "one.cert": PROOF, "some.csv": "d\n9\n12\n13\n", "trucks.rob": TRUCKS}
+# solved over deep rows: the counterpart, and by cuts a search
+DEEP = ("uncertain p >= 0\nuncertain q >= 0\nset 3000000021*p + 5000000029*q <= 8000000050\n"
+        "set 2000000014*p + 1000000009*q <= 3000000023\nvar x\nminimise x\n"
+        "row need: x >= 5000000035*p + 6000000038*q\n")
+FILES = {"stock.rob": STOCK, "one.rob": ONE, "one.cert": PROOF, "some.csv": "d\n9\n12\n13\n", "trucks.rob": TRUCKS,
+         "deep.rob": DEEP}
 CALLS = ["solve stock.rob", "solve stock.rob --route cuts", "check one.rob one.cert",
          "replay one.rob one.cert some.csv", "whole trucks.rob x", "worst one.rob one.cert need",
-         "sweep stock.rob 1 0,1", "cells one.rob d=10", "rows stock.rob", "text 3"]
+         "sweep stock.rob 1 0,1", "cells one.rob d=10", "rows stock.rob", "text 3", "solve deep.rob",
+         "solve deep.rob --route cuts"]
 
 
 class Trial:

@@ -49,6 +49,10 @@ MODELS = [
           b"var x1 in [0, 30]\nvar x2 in [0, 30]\nvar x3 in [0, 30]\nmaximise (3127191 - 1937381*z1)*x1"
           b" + (4241571 - 2869883*z2)*x2 + (5318643 - 3853257*z3)*x3\nrow all: x1 + x2 + x3 <= 100\n",
           names="x1,x2", cuts="z1=1/2", forms=("all", "x1.upper"), scenarios=b"z1,z2,z3\n1,1/2,0\n"),
+    # solved over deep rows: the counterpart, and by cuts a search
+    Model("deep", b"uncertain p >= 0\nuncertain q >= 0\nset 3000000021*p + 5000000029*q <= 8000000050\n"
+          b"set 2000000014*p + 1000000009*q <= 3000000023\nvar x\nminimise x\n"
+          b"row need: x >= 5000000035*p + 6000000038*q\n", cuts="p=1", scenarios=b"p,q\n1,1\n0,1\n"),
     Model("trucks", b"uncertain d in [8, 13]\nvar x in [0, 10]\nminimise x\nrow need: 2*x >= d\n", scenarios=b"d\n8\n"),
     Model("halves", b"var x in [0, 10]\nminimise x\nrow need: 2*x = 7\n", forms=("need.le", "need.ge")),
     Model("runaway", b"var x in [0, 3]\nvar z\nminimise z\nrow need: 2*x >= 3\n"),
