@@ -4,7 +4,7 @@ use Rattle.std.proofs.Common.{ℕ, ◌+◌, ◌≤◌, Bool, true, false, List, 
 use Rattle.std.specs.Prelude.{ℤ, ◌%◌, ◌==◌, ◌&&◌, if◌then◌else◌}
 use Rattle.rob_index.specs.Symbols.{sign}
 use Rattle.rob_index.specs.Symbols as is
-use Rattle.rob_index.specs.Statements.{Name, Numeral, Plain, Parts, Factors, Range, Tree}
+use Rattle.rob_index.specs.Statements.{Name, Numeral, Plain, Factors}
 use Rattle.rob_index.specs.Statements as stated
 use Rattle.rob_index.specs.Grammar.{Factor, Term, Terms, Expr, number, ref, parens, sum, no_factors, times, term, no_terms, signed, expr, tree_factor, tree_factors, tree_term, tree_terms, tree_expr, spell_number, spell_minus, spell_factor, spell_factors, spell_term, spell_terms, spell_expr}
 use Rattle.rob_index.specs.Grammar as spelled

@@ -1,7 +1,7 @@
 -- The reader of expressions.
 use Rattle.std.proofs.Common.{◌≡◌, ℕ, zero, suc, ◌+◌, ◌≤◌, Bool, true, false, List, [], ◌∷◌, ◌++◌, Option, None, refl, ap, ◌∙◌, arith, append_assoc}
 use Rattle.std.specs.Prelude.{if◌then◌else◌}
-use Rattle.rob_index.specs.Symbols.{Symbol, Mark, Keyword, name, digits, sign, word}
+use Rattle.rob_index.specs.Symbols.{Symbol, name, digits, sign, word}
 use Rattle.rob_index.specs.Symbols as is
 use Rattle.rob_index.specs.Statements.{Numeral, Ref, Range}
 use Rattle.rob_index.specs.Grammar.{Factor, Factors, Term, Terms, Expr, number, ref, parens, sum, no_factors, times, term, no_terms, signed, expr, spell_range, spell_factor, spell_factors, spell_term, spell_terms, spell_expr}

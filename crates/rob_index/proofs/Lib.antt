@@ -22,3 +22,10 @@ pub mod Versions
 pub mod DepthLemmas
 pub mod LineTokens
 pub mod OpenLemmas
+pub mod LineOpenLemmas
+pub mod NamingLemmas
+pub mod RenamingLemmas
+pub mod KeptLemmas
+pub mod ExpandedDepths
+pub mod LineNames
+pub mod PlainFaults

@@ -1,9 +1,9 @@
 -- The reader of lines.
 use Rattle.std.proofs.Common.{◌≡◌, ℕ, ◌+◌, ◌≤◌, false, List, [], ◌∷◌, ◌++◌, length, Option, Some, None, refl, ap, ◌∙◌, arith, append_assoc}
 use Rattle.std.specs.Prelude.{if◌then◌else◌}
-use Rattle.rob_index.specs.Symbols.{Symbol, Mark, Keyword, name, digits, sign, word}
+use Rattle.rob_index.specs.Symbols.{Symbol, name, sign, word}
 use Rattle.rob_index.specs.Symbols as is
-use Rattle.rob_index.specs.Statements.{Numeral, Signed, Bounds, Rel, Sense, Index, Ref, Range, Ranged, Share, Sides, Indexed, uncertain, over, set, budget, variable, adaptive, goal, row}
+use Rattle.rob_index.specs.Statements.{Numeral, Signed, Rel, Index, Ref, Range, Ranged, Share, Sides, over}
 use Rattle.rob_index.specs.Statements as stated
 use Rattle.rob_index.specs.Grammar.{Expr, spell_more, spell_list, spell_ref, spell_range, spell_ranges, spell_over, spell_number, spell_signed, spell_expr}
 use Rattle.rob_index.specs.Lines.{spell_rel, spell_sides, spell_ranged, spell_share, AreRanges, AreAllRanged}

@@ -1,6 +1,6 @@
 -- The fuel that the reader of lines needs is in the length of the line.
 use Rattle.std.proofs.Common.{◌+◌, ◌*◌, ◌≤◌, List, [], ◌∷◌, ◌++◌, length, Option, Some, None, arith, length-append}
-use Rattle.rob_index.specs.Symbols.{Symbol, sign, word}
+use Rattle.rob_index.specs.Symbols.{sign, word}
 use Rattle.rob_index.specs.Symbols as is
 use Rattle.rob_index.specs.Statements.{Step, Index, Ref, Range, Ranged, Share, Sides, Indexed, uncertain, over, set, budget, variable, adaptive, goal, row}
 use Rattle.rob_index.specs.Grammar.{Factor, Factors, Term, Terms, Expr, number, ref, parens, sum, no_factors, times, term, no_terms, signed, expr, spell_steps, spell_index, spell_more, spell_list, spell_ref, spell_range, spell_ranges, spell_over, spell_number, spell_signed, spell_bounds, spell_minus, spell_factor, spell_factors, spell_term, spell_terms, spell_expr}

@@ -4,7 +4,7 @@ use Rattle.std.proofs.Common.{ℕ, ◌+◌, ◌≤◌, Bool, true, false, List, 
 use Rattle.std.specs.Prelude.{◌&&◌, ◌==◌, not, if◌then◌else◌}
 use Rattle.rob_index.specs.Symbols.{sign, word}
 use Rattle.rob_index.specs.Symbols as is
-use Rattle.rob_index.specs.Statements.{Name, Numeral, Signed, Bounds, Member, Statement, Ref, Range, Ranged, Share, Sides, Tree, Indexed, uncertain, over, set, budget, variable, adaptive, goal, row}
+use Rattle.rob_index.specs.Statements.{Name, Signed, Bounds, Ref, Ranged, Share, Sides, Indexed, uncertain, over, set, budget, variable, adaptive, goal, row}
 use Rattle.rob_index.specs.Statements as stated
 use Rattle.rob_index.specs.Grammar.{Expr, spell_ref, spell_ranges, spell_over, spell_number, spell_minus, spell_signed, spell_bounds, spell_expr, spell_more, spell_list, tree_expr}
 use Rattle.rob_index.specs.Lines.{spell_rel, spell_sides, spell_ranged, spell_share, spell_line, statement_of, trees_of}

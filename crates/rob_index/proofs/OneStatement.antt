@@ -1,9 +1,9 @@
 -- Some symbols are one statement at most, and it is settled whether they are one.
 use Rattle.std.proofs.Common.{◌≡◌, ℕ, ◌+◌, ◌≤◌, false, List, [], ◌∷◌, ◌++◌, Option, Some, None, refl, sym, ap, ◌∙◌, arith, append-nil}
 use Rattle.std.specs.Prelude.{if◌then◌else◌}
-use Rattle.rob_index.specs.Symbols.{Symbol, Mark, Keyword, name, digits, sign, word}
+use Rattle.rob_index.specs.Symbols.{Symbol, sign, word}
 use Rattle.rob_index.specs.Symbols as is
-use Rattle.rob_index.specs.Statements.{Numeral, Signed, Bounds, Rel, Sense, Index, Ref, Range, Ranged, Share, Sides, Indexed, Tree, uncertain, over, set, budget, variable, adaptive, goal, row}
+use Rattle.rob_index.specs.Statements.{Numeral, Bounds, Sense, Ref, Range, Ranged, Share, Sides, Indexed, Tree, uncertain, over, set, budget, variable, adaptive, goal, row}
 use Rattle.rob_index.specs.Statements as stated
 use Rattle.rob_index.specs.Grammar.{Expr, spell_list, spell_ref, spell_ranges, spell_over, spell_bounds, spell_expr}
 use Rattle.rob_index.specs.Lines.{spell_sides, spell_ranged, spell_share, spell_line, AreRanges, AreAllRanged, HasMembers, IsLine, IsStatement, statement_of}

@@ -1,12 +1,12 @@
 -- An expression as it is written opens as many parentheses at once as its tokens do, read from the left.
-use Rattle.std.proofs.Common.{◌≡◌, ℕ, ◌+◌, ◌-◌, ◌≤◌, max, Bool, true, false, List, [], ◌∷◌, ◌++◌, refl, ap, ◌∙◌, arith, append_assoc}
+use Rattle.std.proofs.Common.{◌≡◌, ℕ, ◌+◌, ◌-◌, ◌≤◌, max, Bool, true, false, List, [], ◌∷◌, ◌++◌, map, refl, ap, ◌∙◌, arith, append_assoc}
 use Rattle.std.specs.Prelude.{Option, Some, None}
 use Rattle.rob_index.specs.Symbols.{Symbol, name, digits, sign, word}
 use Rattle.rob_index.specs.Symbols as is
 use Rattle.rob_index.specs.Statements.{Numeral, Index, Step, Atom, Ref, Range}
 use Rattle.rob_index.specs.Statements as stated
 use Rattle.rob_index.specs.Grammar.{Factor, Factors, Term, Terms, Expr, number, ref, parens, sum, no_factors, times, term, no_terms, signed, expr, sign_of, spell_atom, spell_steps, spell_index, spell_more, spell_ref, spell_range, spell_number, spell_minus, spell_factor, spell_factors, spell_term, spell_terms, spell_expr}
-use Rattle.rob_index.specs.Depths.{deepest, factor_open, factors_open, term_open, terms_open, expr_open}
+use Rattle.rob_index.specs.Depths.{bare, deepest, weight, factor_open, factors_open, term_open, terms_open, expr_open}
 
 -- what is open and no less is the most
 no_less : (d : ℕ) (st : List ℕ) (b : Bool) (xs : List Symbol) → d ≤ deepest d st b xs
@@ -21,9 +21,22 @@ no_less d [] b (sign is.closing ∷ xs) = omega arith
 no_less d (w ∷ st) b (sign is.closing ∷ xs) = omega arith
 no_less d st b (sign m ∷ xs) = no_less d st false xs
 
+-- nothing but `sum` and parentheses is looked at
+pub deepest-bare : (d : ℕ) (st : List ℕ) (b : Bool) (xs : List Symbol)
+    → deepest d st b (map bare xs) ≡ deepest d st b xs
+deepest-bare d st b [] = refl
+deepest-bare d st b (name k ∷ xs) = deepest-bare d st false xs
+deepest-bare d st b (digits k ∷ xs) = deepest-bare d st false xs
+deepest-bare d st b (word is.sum ∷ xs) = deepest-bare d st true xs
+deepest-bare d st b (word w ∷ xs) = deepest-bare d st false xs
+deepest-bare d st b (sign is.opening ∷ xs) = deepest-bare (d + weight b) (weight b ∷ st) false xs
+deepest-bare d [] b (sign is.closing ∷ xs) = ap (max d) (deepest-bare d [] false xs)
+deepest-bare d (w ∷ st) b (sign is.closing ∷ xs) = ap (max d) (deepest-bare (d - w) st false xs)
+deepest-bare d st b (sign m ∷ xs) = deepest-bare d st false xs
+
 -- symbols that open nothing and end in no `sum`
 module _ (d : ℕ) (st : List ℕ) where
-  past_number : (n : Numeral) (rest : List Symbol)
+  pub past_number : (n : Numeral) (rest : List Symbol)
       → deepest d st false (spell_number n ++ rest) ≡ deepest d st false rest
   past_number n rest = go n.divisor
     where
@@ -37,7 +50,7 @@ module _ (d : ℕ) (st : List ℕ) where
   past_atom b (stated.digits n) rest = refl
   past_atom b (stated.bound k) rest = refl
 
-  past_sign : (b m : Bool) (rest : List Symbol) → deepest d st b (sign_of m ∷ rest) ≡ deepest d st false rest
+  pub past_sign : (b m : Bool) (rest : List Symbol) → deepest d st b (sign_of m ∷ rest) ≡ deepest d st false rest
   past_sign b true rest = refl
   past_sign b false rest = refl
 
@@ -58,7 +71,7 @@ module _ (d : ℕ) (st : List ℕ) where
       ap (deepest d st false) (append_assoc (spell_index x) (spell_more spell_index xs) rest)
       ∙ past_index x (spell_more spell_index xs ++ rest) ∙ past_more xs rest
 
-  past_ref : (r : Ref) (rest : List Symbol) → deepest d st false (spell_ref r ++ rest) ≡ deepest d st false rest
+  pub past_ref : (r : Ref) (rest : List Symbol) → deepest d st false (spell_ref r ++ rest) ≡ deepest d st false rest
   past_ref r rest = go r.indices
     where
       go : (xs : List Index) → deepest d st false (spell_ref (record { name = r.name; indices = xs }) ++ rest)
@@ -71,13 +84,15 @@ module _ (d : ℕ) (st : List ℕ) where
           ∙ past_index x (spell_more spell_index xs ++ sign is.close_bracket ∷ rest)
           ∙ past_more xs (sign is.close_bracket ∷ rest)
 
-  past_range : (r : Range) (rest : List Symbol) → deepest d st false (spell_range r ++ rest) ≡ deepest d st false rest
+  pub past_range : (r : Range) (rest : List Symbol)
+      → deepest d st false (spell_range r ++ rest) ≡ deepest d st false rest
   past_range r rest =
       ap (deepest d st false) (append_assoc (spell_index r.from) (word is.to ∷ spell_index r.upto) rest)
       ∙ past_index r.from (word is.to ∷ (spell_index r.upto ++ rest))
       ∙ past_index r.upto rest
 
-  past_minus : (m : Bool) (rest : List Symbol) → deepest d st false (spell_minus m ++ rest) ≡ deepest d st false rest
+  pub past_minus : (m : Bool) (rest : List Symbol)
+      → deepest d st false (spell_minus m ++ rest) ≡ deepest d st false rest
   past_minus true rest = refl
   past_minus false rest = refl
 

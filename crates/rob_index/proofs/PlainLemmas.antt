@@ -1,6 +1,6 @@
 -- A line of version 1 stands for itself, and breaks no rule of indices.
 use Rattle.std.proofs.Common.{◌≡◌, List, [], ◌∷◌, ◌++◌, map, Option, Some, None, refl, ap, ◌∙◌}
-use Rattle.rob_index.specs.Statements.{Name, Plain, Member, Statement, Ref, Index, Range, Tree, TreeParts, TreeFactors, Ranged, Share, Sides, Indexed}
+use Rattle.rob_index.specs.Statements.{Name, Member, Statement, Ref, Index, Range, Tree, TreeParts, TreeFactors, Ranged, Share, Sides, Indexed}
 use Rattle.rob_index.specs.Statements as stated
 use Rattle.rob_index.specs.Expansion.{Setting, settings, ref_name, optional_name, member_of, expand_each, statement_at, ranges_of, expand, HasNoIndex, IsPlain, ArePlainParts, ArePlainFactors}
 use Rattle.rob_index.specs.PlainLines.{IsPlainRanged, HasPlainOver, ArePlainSides, IsPlainLine, itself_over, itself_members, itself_names, itself_line}

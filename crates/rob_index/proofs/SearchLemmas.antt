@@ -129,15 +129,18 @@ module _ (limit : ℕ) (words : List Name) (is_declared : ℕ → Bool) (total :
           → (search_places search_out (places s) left).found ≡ b
           → has (named_out limit words is_declared total s left) ≡ true
       go true b g f =
-          ap (λ (t : Bool). has (if t || (search_places search_out (places s) left).found then index_out else too_much)) g
+          ap (λ (t : Bool). has (if t || (search_places search_out (places s) left).found then index_out else too_much))
+          g
           ∙ ap (λ (t : Bool). t || list_any is_out (places s)) g
       go false true g f =
-          ap (λ (t : Bool). has (if t || (search_places search_out (places s) left).found then index_out else too_much)) g
+          ap (λ (t : Bool). has (if t || (search_places search_out (places s) left).found then index_out else too_much))
+          g
           ∙ ap (λ (t : Bool). has (if t then index_out else too_much)) f
           ∙ either_true (list_any has_great_digits (places s)) (list_any is_out (places s))
           (places_found search_out is_out out_found (places s) left f)
       go false false g f =
-          ap (λ (t : Bool). has (if t || (search_places search_out (places s) left).found then index_out else too_much)) g
+          ap (λ (t : Bool). has (if t || (search_places search_out (places s) left).found then index_out else too_much))
+          g
           ∙ ap (λ (t : Bool). has (if t then index_out else too_much)) f
           ∙ lt-ltb 20000 (total + lines_tokens limit (expand words s))
           (leb-false (total + lines_tokens limit (expand words s)) 20000 r)

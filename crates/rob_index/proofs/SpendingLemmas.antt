@@ -2,7 +2,7 @@
 use Rattle.std.proofs.Common.{◌≡◌, ℕ, ◌+◌, ◌-◌, ◌<◌, ◌≤◌, Bool, true, false, List, [], ◌∷◌, map, Option, Some, None, refl, sym, ap, ◌∙◌, arith}
 use Rattle.std.specs.Prelude.{ℤ, nat_le}
 use Rattle.std.proofs.lemmas.Bool.{leb-true, leb-false, le-leb, lt-leb}
-use Rattle.rob_index.specs.Statements.{Name, Numeral, Plain, Parts, Factors, Ref, Range, Tree, TreeParts, TreeFactors, Statement, Member, Indexed}
+use Rattle.rob_index.specs.Statements.{Name, Plain, Parts, Factors, Ref, Range, Tree, TreeParts, TreeFactors, Statement, Member, Indexed}
 use Rattle.rob_index.specs.Statements as stated
 use Rattle.rob_index.specs.Expansion.{Setting, values, with_value, settings, ref_name, added, summed, expand_tree, expand_parts, expand_factors, expand_each, member_of, optional_name, statement_at, expand, ranges_of}
 use Rattle.rob_index.specs.Counting.{number_tokens, lead, star, parens, is_sum, is_compound, plain_tokens, parts_tokens, factors_tokens, line_tokens, lines_tokens, members_tokens, names_tokens, member_tokens, over_tokens, bounds_tokens}

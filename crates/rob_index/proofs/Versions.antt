@@ -1,7 +1,7 @@
 -- Of either version some symbols are one statement at most, and it is settled whether they are one.
 use Rattle.std.proofs.Common.{◌≡◌, List, [], ◌∷◌, ◌⊎◌, inl, inr, Option, Some, None, refl}
 use Rattle.rob_index.specs.Symbols.{Symbol}
-use Rattle.rob_index.specs.Statements.{Ref, Index, Range, Ranged, Share, Sides, Tree, TreeParts, TreeFactors, Indexed}
+use Rattle.rob_index.specs.Statements.{Ref, Ranged, Sides, Tree, TreeParts, TreeFactors, Indexed}
 use Rattle.rob_index.specs.Statements as stated
 use Rattle.rob_index.specs.Expansion.{IsPlain, ArePlainParts, ArePlainFactors}
 use Rattle.rob_index.specs.PlainLines.{IsPlainRanged, HasPlainOver, ArePlainSides, IsPlainLine}

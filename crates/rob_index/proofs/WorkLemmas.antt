@@ -2,7 +2,7 @@
 -- is no more than the room.
 use Rattle.std.proofs.Common.{ℕ, ◌≤◌, ◌*◌, ◌%◌, ◌==◌, Bool, true, false, List, [], ◌∷◌, map, length, Option, Some, None, arith}
 use Rattle.std.specs.Prelude.{ℤ, if◌then◌else◌, ◌&&◌}
-use Rattle.rob_index.specs.Statements.{Name, Numeral, Plain, Parts, Factors, Ref, Range, Tree, TreeParts, TreeFactors, Statement, Indexed}
+use Rattle.rob_index.specs.Statements.{Name, Numeral, Plain, Range, Tree, TreeParts, TreeFactors, Statement, Indexed}
 use Rattle.rob_index.specs.Statements as stated
 use Rattle.rob_index.specs.Grammar.{Factor, Term, Expr, number, ref, parens, sum, no_factors, times, term, no_terms, signed, expr, tree_factor, tree_term, tree_expr}
 use Rattle.rob_index.specs.Expansion.{Setting, values, with_value, added, summed, expand_tree, expand_parts, expand_factors}

@@ -4,11 +4,11 @@ use Rattle.std.specs.Prelude.{codes}
 use Rattle.std.specs.List.{list_any}
 use Rattle.std.specs.Fmt.{decimal}
 use Rattle.std.proofs.lemmas.Fmt.{decimal_digit}
-use Rattle.rob_index.specs.Symbols.{Symbol, name, digits, sign, word}
+use Rattle.rob_index.specs.Symbols.{name, digits, sign, word}
 use Rattle.rob_index.specs.Symbols as is
-use Rattle.rob_index.specs.Statements.{Name, Numeral, Signed, Bounds, Rel, Sense, Plain, Parts, Factors, Member, Statement, Atom, Step, Index, Ref, Range, Tree, TreeParts, TreeFactors, Ranged, Share, Sides, Indexed}
+use Rattle.rob_index.specs.Statements.{Name, Numeral, Signed, Atom, Step, Index, Ref, Range, Tree, Indexed}
 use Rattle.rob_index.specs.Statements as stated
-use Rattle.rob_index.specs.Grammar.{Expr, Term, Terms, Factor, tree_expr}
+use Rattle.rob_index.specs.Grammar.{Expr, Term}
 use Rattle.rob_index.specs.Lines.{spell_line, statement_of}
 use Rattle.rob_index.specs.Grammar as spelled
 use Rattle.rob_index.specs.Expansion.{expand}
@@ -228,7 +228,8 @@ eight_good = rw (one_digit, two_digit)
 thirteen : fault_of (stated.row (plain 6)
     (record {
       left = stated.sum
-          (stated.part false (stated.ref (plain 2)) (stated.part false (stated.ref (indexed 3 (the 3))) stated.no_parts));
+          (stated.part false (stated.ref (plain 2))
+          (stated.part false (stated.ref (indexed 3 (the 3))) stated.no_parts));
       rel = stated.at_least;
       right = stated.number (num 0);
       over = None;

@@ -3,7 +3,7 @@
 use Rattle.std.specs.Prelude.{true, false, ℕ, ◌+◌, max, Bool, if◌then◌else◌, ◌-◌, List, [], ◌∷◌}
 use Rattle.rob_index.specs.Symbols.{Symbol, name, digits, sign, word}
 use Rattle.rob_index.specs.Symbols as is
-use Rattle.rob_index.specs.Statements.{Plain, Parts, Factors}
+use Rattle.rob_index.specs.Statements.{Indexed, Plain, Parts, Factors, Statement}
 use Rattle.rob_index.specs.Statements as stated
 use Rattle.rob_index.specs.Grammar.{Factor, Term, Terms, Expr, number, ref, parens, sum, no_factors, times, term, no_terms, signed, expr}
 use Rattle.rob_index.specs.Grammar as spelled
@@ -67,3 +67,33 @@ deepest d open_ones b (sign is.opening ∷ rest) = deepest (d + weight b) (weigh
 deepest d [] b (sign is.closing ∷ rest) = max d (deepest d [] false rest)
 deepest d (w ∷ open_ones) b (sign is.closing ∷ rest) = max d (deepest (d - w) open_ones false rest)
 deepest d open_ones b (sign m ∷ rest) = deepest d open_ones false rest
+
+-- a symbol as `deepest` looks at it: the word `sum`, a parenthesis, or something else
+abbrev pub bare : Symbol → Symbol
+bare (word is.sum) = word is.sum
+bare (sign is.opening) = sign is.opening
+bare (sign is.closing) = sign is.closing
+bare _ = digits 0
+
+-- ---- whole lines
+-- the most that is open at once in the canonical line of a plain statement; the list of an adaptive variable is a pair
+abbrev pub line_depth : Statement → ℕ
+line_depth (stated.uncertain n b) = 0
+line_depth (stated.over n) = 0
+line_depth (stated.set l r p o) = max (depth l) (depth p)
+line_depth (stated.budget n ms o) = 0
+line_depth (stated.variable n b) = 0
+line_depth (stated.adaptive n on b) = 1
+line_depth (stated.goal s e o) = depth e
+line_depth (stated.row n l r p o) = max (depth l) (depth p)
+
+-- the same in a line as it is written, where the parenthesis behind `sum` counts as two
+abbrev pub line_open : Indexed Expr → ℕ
+line_open (stated.uncertain r b rs) = 0
+line_open (stated.over r rs) = 0
+line_open (stated.set s rs) = max (expr_open s.left) (expr_open s.right)
+line_open (stated.budget n ms o) = 0
+line_open (stated.variable r b rs) = 0
+line_open (stated.adaptive r on b rs) = 1
+line_open (stated.goal s e o rs) = expr_open e
+line_open (stated.row r s rs) = max (expr_open s.left) (expr_open s.right)

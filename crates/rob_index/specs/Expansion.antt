@@ -2,7 +2,7 @@
 use Rattle.std.specs.Prelude.{◌≡◌, ℕ, zero, suc, ◌==◌, ℤ, pos, negsuc, ◌+ℤ◌, ◌-ℤ◌, neg_ℤ, nat_abs, Bool, true, false, List, [], ◌∷◌, ◌++◌, map, get_or, if◌then◌else◌, Option, Some, None}
 use Rattle.std.specs.Fmt.{decimal}
 use Rattle.std.specs.List.{flat_map}
-use Rattle.rob_index.specs.Statements.{Name, Numeral, Bounds, Rel, Sense, Plain, Parts, Factors, Member, Statement, Atom, digits, bound, Step, Index, Ref, Range, Tree, TreeParts, TreeFactors, Ranged, Share, Sides, Indexed, uncertain, over, set, budget, variable, adaptive, goal, row}
+use Rattle.rob_index.specs.Statements.{Name, Numeral, Plain, Parts, Factors, Member, Statement, Atom, digits, bound, Step, Index, Ref, Range, Tree, TreeParts, TreeFactors, Ranged, Share, Indexed, uncertain, over, set, budget, variable, adaptive, goal, row}
 use Rattle.rob_index.specs.Statements as stated
 
 -- a range's name and its value

@@ -13,6 +13,9 @@ pub mod Fast
 pub mod Search
 pub mod Reading
 pub mod Depths
+pub mod Refs
+pub mod Renaming
+pub mod Kept
 pub mod Names
 pub mod Numbers
 pub mod Degrees

@@ -1,6 +1,6 @@
 -- Lines of version 1 among those of version 2: no name has an index, and nothing has a range.
 use Rattle.std.specs.Prelude.{◌≡◌, List, [], ◌∷◌, Option, Some, None}
-use Rattle.rob_index.specs.Statements.{Name, Plain, Member, Statement, Ref, Tree, Ranged, Share, Sides, Indexed}
+use Rattle.rob_index.specs.Statements.{Name, Member, Statement, Ref, Tree, Ranged, Share, Sides, Indexed}
 use Rattle.rob_index.specs.Statements as stated
 use Rattle.rob_index.specs.Expansion.{HasNoIndex, IsPlain, word_at, itself}
 

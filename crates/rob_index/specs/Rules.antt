@@ -2,7 +2,7 @@
 -- part of rule 11 that is judged on what the statement expands to.
 use Rattle.std.specs.Prelude.{ℕ, ◌+◌, ◌==◌, nat_lt, ◌||◌, not, Bool, true, false, pos, int_lt, List, [], ◌∷◌, ◌++◌, map, length, Option, Some, None}
 use Rattle.std.specs.List.{list_any}
-use Rattle.rob_index.specs.Statements.{Name, Plain, Parts, Factors, Member, Statement, Atom, digits, bound, Step, Index, Ref, Range, Tree, TreeParts, TreeFactors, Ranged, Share, Sides, Indexed, uncertain, over, set, budget, variable, adaptive, goal, row}
+use Rattle.rob_index.specs.Statements.{Name, Plain, Parts, Factors, Member, Statement, Atom, digits, bound, Step, Index, Ref, Range, Tree, TreeParts, TreeFactors, Ranged, Sides, Indexed, uncertain, over, set, budget, variable, adaptive, goal, row}
 use Rattle.rob_index.specs.Statements as stated
 use Rattle.rob_index.specs.Expansion.{Setting, settings, index_value, count, expand, ranges_of}
 use Rattle.rob_index.specs.Counting.{lines_tokens}

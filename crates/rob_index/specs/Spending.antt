@@ -1,7 +1,7 @@
 -- Expansion that stops as soon as its canonical tokens are more than there is room for: rule 28 without a tree that
 -- is too large ever being made. What each step makes is paid for as it is made.
 use Rattle.std.specs.Prelude.{ℕ, ◌+◌, ◌-◌, nat_le, Bool, true, false, ℤ, List, [], ◌∷◌, if◌then◌else◌, Option, Some, None}
-use Rattle.rob_index.specs.Statements.{Name, Numeral, Bounds, Rel, Sense, Plain, Parts, Factors, Member, Statement, Ref, Range, Tree, TreeParts, TreeFactors, Ranged, Share, Sides, Indexed}
+use Rattle.rob_index.specs.Statements.{Name, Plain, Parts, Factors, Statement, Tree, TreeParts, TreeFactors, Indexed}
 use Rattle.rob_index.specs.Statements as stated
 use Rattle.rob_index.specs.Expansion.{Setting, values, with_value, settings, ref_name, optional_name, zero_numeral, member_of, expand_each, ranges_of}
 use Rattle.rob_index.specs.Counting.{number_tokens, lead, star, parens, is_sum, is_compound, over_tokens, bounds_tokens, member_tokens}

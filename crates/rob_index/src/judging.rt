@@ -1,9 +1,12 @@
 //! Which rule of indices decides, and how that is found.
 
-ghost use Rattle.std.specs.Prelude.{◌≡◌, ℕ, ◌≤◌, ℤ, ◌≤ℤ◌, Bool, true, false, List, Option, Some};
+ghost use Rattle.std.specs.Prelude.{◌≡◌, ℕ, ◌+◌, ◌≤◌, ℤ, ◌≤ℤ◌, Bool, true, false, List, length, Some, None};
 ghost use Rattle.std.specs.List.{find};
-ghost use Rattle.rob_index.specs.Statements.{Name, Tree, Indexed};
-ghost use Rattle.rob_index.specs.Rules.{IndexFault, Inside, is_long, is_out, has_fault, in_order};
+ghost use Rattle.rob_index.specs.Statements.{Name, Statement, Tree, Indexed};
+ghost use Rattle.rob_index.specs.Counting.{line_tokens};
+ghost use Rattle.rob_index.specs.PlainLines.{IsPlainLine, itself_line};
+ghost use Rattle.rob_index.specs.Refs.{EachNameOf, HasMember};
+ghost use Rattle.rob_index.specs.Rules.{IndexFault, Inside, is_long, is_no_statement, is_out, has_fault, in_order, longest_name, most_tokens};
 ghost use Rattle.rob_index.specs.Forms.{Form, Ends, AreWithin, AreConstant, value_of, greatest, all_run, is_dead, from_ends, reaches, reaches_plainly};
 ghost use Rattle.rob_index.specs.Fast.{is_long_fast, is_out_fast, judge};
 ghost use Rattle.rob_index.specs.Search.{has_room, named};
@@ -48,4 +51,14 @@ pub fn named_of_a_line()
         → has_room limit words is_declared total s ≡ false
         → (fault : IndexFault) × (named limit words is_declared total s ≡ Some fault)
         × (has_fault limit words is_declared total s fault ≡ true) }
+{}
+
+/// A line of version 1 has no fault of indices, where its canonical tokens are few enough behind the lines before;
+/// and a plain statement whose names are short is one, where a budget has a member.
+pub fn plain_line()
+    ensures faultless { (limit : ℕ) (words : List Name) (is_declared : ℕ → Bool) (total : ℕ) (s : Indexed Tree)
+        → IsPlainLine s → total + line_tokens limit (itself_line words s) ≤ most_tokens
+        → is_no_statement (itself_line words s) ≡ false → named limit words is_declared total s ≡ None }
+    ensures statement { (p : Statement) → EachNameOf (λ n. length n ≤ longest_name) p → HasMember p
+        → is_no_statement p ≡ false }
 {}

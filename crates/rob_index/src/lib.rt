@@ -7,5 +7,6 @@ pub mod expansion;
 pub mod grammar;
 pub mod judging;
 pub mod limits;
+pub mod naming;
 pub mod reading;
 pub mod spending;

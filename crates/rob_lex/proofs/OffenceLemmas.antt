@@ -1,5 +1,6 @@
 -- Which causes a place has, and which it is free of.
-use Rattle.std.proofs.Common.{◌≡◌, ℕ, ◌<◌, ◌≤◌, List, [], ◌∷◌, ◌++◌, length, get_or, take, drop, refl, sym, ap, ◌∙◌, subst, arith, take-append-drop}
+use Rattle.std.proofs.Common.{◌≡◌, ℕ, ◌+◌, ◌<◌, ◌≤◌, List, [], ◌∷◌, ◌++◌, length, get_or, take, drop, refl, sym, ap, ◌∙◌, subst, arith, take-append-drop}
+use Rattle.rob_index.specs.Depths.{weight}
 use Rattle.rob_lex.specs.declared.token.Kind.{Kind}
 use Rattle.rob_lex.specs.declared.piece.Shape.{Shape}
 use Rattle.rob_lex.specs.declared.piece.Shape.TheVariants.{Lexeme}
@@ -7,6 +8,7 @@ use Rattle.rob_lex.specs.declared.place.Place.{Place}
 use Rattle.rob_lex.specs.declared.piece.Found.{Found}
 use Rattle.rob_lex.specs.Pieces.{Stands, BeginsNoPiece}
 use Rattle.rob_lex.specs.Found.{IsFound, IsFree}
+use Rattle.rob_lex.specs.Places.{depth_at}
 use Rattle.rob_lex.specs.declared.offence.Offence.TheVariants.{BadByte, TooManyTokens}
 use Rattle.rob_lex.specs.Offences.{most_tokens, most_open, Cause, not_ascii, bad_byte, too_many_tokens, too_deep, OffendsHere}
 use Rattle.rob_lex.proofs.PieceLemmas.{one_piece, some_bytes, begins_ascii, paren_is_sign}
@@ -14,7 +16,7 @@ use Rattle.rob_lex.proofs.PieceLemmas.{one_piece, some_bytes, begins_ascii, pare
 -- a place with a piece behind it is free of causes where the counts allow the piece
 pub free_of : (at : Place) (rest : List ℕ) (shape : Shape) (bytes after : List ℕ) → rest ≡ bytes ++ after
     → Stands shape bytes after → ((kind : Kind) → shape ≡ Lexeme kind → at.count < most_tokens)
-    → (most_open ≤ at.depth → get_or rest 0 0 ≡ 40 → ⊥) → Cause at rest → ⊥
+    → (most_open < depth_at at + weight at.behind_sum → get_or rest 0 0 ≡ 40 → ⊥) → Cause at rest → ⊥
 free_of at rest shape [] after split stands few shallow cause = some_bytes shape after stands
 free_of at [] shape (x ∷ bytes) after split stands few shallow cause = cc
 free_of at (b ∷ rest) shape (x ∷ bytes) after split stands few shallow (not_ascii beyond) =
@@ -30,7 +32,7 @@ free_of at (b ∷ rest) shape (x ∷ bytes) after split stands few shallow (too_
 
 pub free_here : (at : Place) (rest : List ℕ) (found : Found) → IsFound found rest
     → ((kind : Kind) → found.shape ≡ Lexeme kind → at.count < most_tokens)
-    → (most_open ≤ at.depth → get_or rest 0 0 ≡ 40 → ⊥) → IsFree at rest found
+    → (most_open < depth_at at + weight at.behind_sum → get_or rest 0 0 ≡ 40 → ⊥) → IsFree at rest found
 free_here at rest found is few shallow = record {
   piece = is;
   no_cause = free_of at rest found.shape (take found.len rest) (drop found.len rest)

@@ -1,7 +1,8 @@
 -- Each text has exactly one list of tokens or breaks exactly one rule at one line.
-use Rattle.std.proofs.Common.{◌≡◌, ℕ, zero, suc, ◌<◌, ◌≤◌, Bool, true, false, ◌⊎◌, inl, inr, List, [], ◌∷◌, ◌++◌, length, refl, sym, ap, ◌∙◌, subst, arith, eqb, length-append, append-nil, ⊎_elim}
+use Rattle.std.proofs.Common.{◌≡◌, ℕ, zero, suc, ◌+◌, ◌<◌, ◌≤◌, Bool, true, false, ◌⊎◌, inl, inr, List, [], ◌∷◌, ◌++◌, length, refl, sym, ap, ◌∙◌, subst, arith, eqb, length-append, append-nil, ⊎_elim}
 use Rattle.std.proofs.str.Laws.{order}
 use Rattle.std.proofs.lemmas.Bool.Decides.{nat_tests}
+use Rattle.rob_index.specs.Depths.{weight}
 use Rattle.rob_lex.specs.declared.token.Kind.{Kind}
 use Rattle.rob_lex.specs.declared.token.Kind.TheVariants.{Word, Digits, Sign, LineEnd}
 use Rattle.rob_lex.specs.declared.token.Token.{Token}
@@ -10,7 +11,7 @@ use Rattle.rob_lex.specs.declared.piece.Shape.{Shape}
 use Rattle.rob_lex.specs.declared.piece.Shape.TheVariants.{Lexeme, Gap, Comment}
 use Rattle.rob_lex.specs.Bytes.{begins_word, goes_on_word, is_digit, is_no_line_end, is_gap, is_short_sign, begins_long_sign}
 use Rattle.rob_lex.specs.Pieces.{Piece, IsRun, Stands, IsPlace, BeginsNoPiece, BeginsToken}
-use Rattle.rob_lex.specs.Places.{start, behind, behind_all, token_at, tokens_of}
+use Rattle.rob_lex.specs.Places.{start, depth_at, behind, behind_all, token_at, tokens_of}
 use Rattle.rob_lex.specs.declared.offence.Offence.{Offence}
 use Rattle.rob_lex.specs.declared.offence.Offence.TheVariants.{NotAscii, BadByte}
 use Rattle.rob_lex.specs.Offences.{most_tokens, most_open, Cause, not_ascii, bad_byte, too_many_tokens, too_deep, offence_of, Offends, AreTokens, rule_of, Breaks, HasReading}
@@ -224,22 +225,27 @@ front_of b rest =
     (bool_cases (is_digit b)))
     (bool_cases (begins_word b))
 
+-- as many are open as may be, or more
+few_or_many : (d : ℕ) → (d ≤ most_open) ⊎ (most_open < d)
+few_or_many d =
+    ⊎_elim (λ (more : most_open < d). inr more) (λ (few : d ≤ most_open). inl few) (order most_open d)
+
 -- a place with a piece behind it offends, or doesn't
 judged_token : (at : Place) (b : ℕ) (rest : List ℕ) (kind : Kind) (front after : List ℕ) → b ∷ rest ≡ front ++ after
     → Stands (Lexeme kind) front after → Cause at (b ∷ rest) ⊎ (Cause at (b ∷ rest) → ⊥)
 judged_token at b rest kind front after split stands =
     ⊎_elim
     (λ (few : at.count < most_tokens).
-    ⊎_elim (λ (shallow : at.depth < most_open).
+    ⊎_elim (λ (shallow : depth_at at + weight at.behind_sum ≤ most_open).
     inr (free_of at (b ∷ rest) (Lexeme kind) front after split stands (λ _ _. few)
-    (λ (deep : most_open ≤ at.depth) _. absurd (omega arith))))
-    (λ (deep : most_open ≤ at.depth).
+    (λ (deep : most_open < depth_at at + weight at.behind_sum) _. absurd (omega arith))))
+    (λ (deep : most_open < depth_at at + weight at.behind_sum).
     ⊎_elim (λ (paren : eqb b 40 ≡ true). inl (too_deep few deep (grind (arith, nat_tests))))
     (λ (other : eqb b 40 ≡ false).
     inr (free_of at (b ∷ rest) (Lexeme kind) front after split stands (λ _ _. few)
     (λ _ (h : b ≡ 40). grind (arith, nat_tests))))
     (bool_cases (eqb b 40)))
-    (order at.depth most_open))
+    (few_or_many (depth_at at + weight at.behind_sum)))
     (λ (many : most_tokens ≤ at.count). inl (too_many_tokens many (kind, front, after, split, stands)))
     (order at.count most_tokens)
 

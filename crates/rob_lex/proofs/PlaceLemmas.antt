@@ -1,5 +1,8 @@
 -- The places of a text, and how far a reader that goes from one to the next has come.
-use Rattle.std.proofs.Common.{◌≡◌, ℕ, ◌+◌, ◌<◌, ◌≤◌, List, [], ◌∷◌, ◌++◌, length, refl, sym, ap, ◌∙◌, subst, arith, length-append, append-nil, append_assoc}
+use Rattle.std.proofs.Common.{◌≡◌, ℕ, ◌+◌, ◌<◌, ◌≤◌, ◌==◌, ⊎_elim, Bool, true, false, List, [], ◌∷◌, ◌++◌, length, drop, get_or, refl, sym, ap, ◌∙◌, subst, arith, length-append, append-nil, append_assoc}
+use Rattle.std.specs.Prelude.{if◌then◌else◌}
+use Rattle.std.proofs.str.Laws.{order}
+use Rattle.rob_index.specs.Depths.{weight}
 use Rattle.rob_lex.specs.declared.token.Token.{Token}
 use Rattle.rob_lex.specs.declared.place.Place.{Place}
 use Rattle.rob_lex.specs.declared.piece.Shape.{Shape}
@@ -7,9 +10,10 @@ use Rattle.rob_lex.specs.declared.piece.Shape.TheVariants.{Lexeme, Gap, Comment}
 use Rattle.rob_lex.specs.declared.token.Kind.TheVariants.{Word, Digits, Sign, LineEnd}
 use Rattle.std.proofs.lemmas.Bool.Decides.{nat_tests}
 use Rattle.rob_lex.specs.Pieces.{Piece, Stands, IsPlace}
-use Rattle.rob_lex.specs.Places.{start, depth_behind, behind, behind_all, token_at, tokens_of}
+use Rattle.rob_lex.specs.Places.{start, depth_at, weights_behind, behind, behind_all, token_at, tokens_of}
+use Rattle.rob_lex.specs.Weights.{total}
 use Rattle.rob_lex.specs.declared.offence.Offence.{Offence}
-use Rattle.rob_lex.specs.Offences.{Cause, offence_of, Offends, AreTokens}
+use Rattle.rob_lex.specs.Offences.{most_tokens, most_open, Cause, too_many_tokens, too_deep, offence_of, Offends, AreTokens}
 use Rattle.rob_lex.proofs.PieceLemmas.{some_bytes, one_piece}
 
 -- a place has no more bytes behind it than the text
@@ -172,18 +176,59 @@ pub record GoesOn (at next : Place) (bytes : List ℕ) : Type 0 where
   pub offset : next.offset ≡ at.offset + length bytes
   pub line : next.line ≤ at.line + 1
   pub count : next.count ≤ at.count + 1
-  pub depth : next.depth ≤ at.depth + 1
-
-depth_goes_on : (sign : List ℕ) (depth : ℕ) → depth_behind sign depth ≤ depth + 1
-depth_goes_on sign depth = grind (arith, nat_tests)
 
 pub goes_on : (at : Place) (shape : Shape) (bytes : List ℕ) → GoesOn at (behind at shape bytes) bytes
-goes_on at (Lexeme Word) bytes = record { offset = refl; line = omega arith; count = omega arith; depth = omega arith }
-goes_on at (Lexeme Digits) bytes =
-    record { offset = refl; line = omega arith; count = omega arith; depth = omega arith }
-goes_on at (Lexeme Sign) bytes =
-    record { offset = refl; line = omega arith; count = omega arith; depth = depth_goes_on bytes at.depth }
-goes_on at (Lexeme LineEnd) bytes =
-    record { offset = refl; line = omega arith; count = omega arith; depth = omega arith }
-goes_on at Gap bytes = record { offset = refl; line = omega arith; count = omega arith; depth = omega arith }
-goes_on at Comment bytes = record { offset = refl; line = omega arith; count = omega arith; depth = omega arith }
+goes_on at (Lexeme Word) bytes = record { offset = refl; line = omega arith; count = omega arith }
+goes_on at (Lexeme Digits) bytes = record { offset = refl; line = omega arith; count = omega arith }
+goes_on at (Lexeme Sign) bytes = record { offset = refl; line = omega arith; count = omega arith }
+goes_on at (Lexeme LineEnd) bytes = record { offset = refl; line = omega arith; count = omega arith }
+goes_on at Gap bytes = record { offset = refl; line = omega arith; count = omega arith }
+goes_on at Comment bytes = record { offset = refl; line = omega arith; count = omega arith }
+
+-- ---- how deep a place is behind a piece that may stand there
+total-drop : (ws : List ℕ) → total (drop 1 ws) ≤ total ws
+total-drop [] = omega arith
+total-drop (w ∷ ws) = omega arith
+
+is_it : (b c : ℕ) → (b == c) ≡ true → b ≡ c
+is_it b c h = grind (arith, nat_tests)
+
+-- behind a sign
+sign_shallow : (at : Place) (sign : List ℕ)
+    → (get_or sign 0 0 ≡ 40 → depth_at at + weight at.behind_sum ≤ most_open) → depth_at at ≤ most_open
+    → total (weights_behind sign at.behind_sum at.weights) ≤ most_open
+sign_shallow at sign may shallow = go (get_or sign 0 0 == 40) (get_or sign 0 0 == 41) refl
+  where
+    go : (opens closes : Bool) → (get_or sign 0 0 == 40) ≡ opens
+        → total (if opens then weight at.behind_sum
+        ∷ at.weights else (if closes then drop 1 at.weights else at.weights))
+        ≤ most_open
+    go true closes is = let h = may (is_it (get_or sign 0 0) 40 is) in omega (arith, h)
+    go false true is = omega (arith, total-drop at.weights)
+    go false false is = shallow
+
+pub stays_shallow : (at : Place) (rest : List ℕ) (shape : Shape) (bytes after : List ℕ) → rest ≡ bytes ++ after
+    → Stands shape bytes after → (Cause at rest → ⊥) → depth_at at ≤ most_open
+    → depth_at (behind at shape bytes) ≤ most_open
+stays_shallow at rest (Lexeme Word) bytes after split stands free shallow = shallow
+stays_shallow at rest (Lexeme Digits) bytes after split stands free shallow = shallow
+stays_shallow at rest (Lexeme LineEnd) bytes after split stands free shallow = omega arith
+stays_shallow at rest Gap bytes after split stands free shallow = shallow
+stays_shallow at rest Comment bytes after split stands free shallow = shallow
+stays_shallow at rest (Lexeme Sign) bytes after split stands free shallow =
+    sign_shallow at bytes (λ is. opens rest bytes split stands free is) shallow
+  where
+    opens : (rest bytes : List ℕ) → rest ≡ bytes ++ after → Stands (Lexeme Sign) bytes after → (Cause at rest → ⊥)
+        → get_or bytes 0 0 ≡ 40 → depth_at at + weight at.behind_sum ≤ most_open
+    opens rest [] split stands free is = absurd stands
+    opens [] (b ∷ bytes) split stands free is = cc
+    opens (c ∷ rest) (b ∷ bytes) split stands free is =
+        ⊎_elim
+        (λ (deep : most_open < depth_at at + weight at.behind_sum).
+        ⊎_elim (λ (few : at.count < most_tokens). let same : c ≡ b = cc in
+        absurd (free (too_deep few deep (same ∙ is))))
+        (λ (many : most_tokens ≤ at.count).
+        absurd (free (too_many_tokens many (Sign, b ∷ bytes, after, split, stands))))
+        (order at.count most_tokens))
+        (λ (fits : depth_at at + weight at.behind_sum ≤ most_open). fits)
+        (order most_open (depth_at at + weight at.behind_sum))

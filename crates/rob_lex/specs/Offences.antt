@@ -1,5 +1,6 @@
 -- When a text has tokens, and which offence at which line decides where it has none.
-use Rattle.std.specs.Prelude.{◌≡◌, ℕ, ◌<◌, ◌≤◌, true, ◌⊎◌, List, [], ◌∷◌, length}
+use Rattle.std.specs.Prelude.{◌≡◌, ℕ, ◌+◌, ◌<◌, ◌≤◌, true, ◌⊎◌, List, [], ◌∷◌, length}
+use Rattle.rob_index.specs.Depths.{weight}
 use Rattle.rob_lex.specs.declared.token.Token.{Token}
 use Rattle.rob_lex.specs.declared.error.LexErr.{LexErr}
 use Rattle.rob_lex.specs.declared.error.LexErr.TheVariants.{Rule, Memory}
@@ -7,13 +8,13 @@ use Rattle.rob_lex.specs.declared.offence.Offence.{Offence}
 use Rattle.rob_lex.specs.declared.offence.Offence.TheVariants.{NotAscii, BadByte, TooManyTokens, TooDeep}
 use Rattle.rob_lex.specs.declared.place.Place.{Place}
 use Rattle.rob_lex.specs.Pieces.{Piece, IsPlace, BeginsNoPiece, BeginsToken}
-use Rattle.rob_lex.specs.Places.{start, behind_all, tokens_of}
+use Rattle.rob_lex.specs.Places.{start, depth_at, behind_all, tokens_of}
 
 -- the tokens that a text may have, line ends among them
 abbrev pub most_tokens : ℕ
 most_tokens = 20000
 
--- the parentheses that may be open at once on a line
+-- the parentheses that may be open at once on a line, where one directly behind the word `sum` counts as two
 abbrev pub most_open : ℕ
 most_open = 50
 
@@ -36,7 +37,8 @@ pub data Cause (at : Place) (rest : List ℕ) : Type 0 where
   -- a token more than a text may have
   too_many_tokens : most_tokens ≤ at.count → NeedsToken at rest → Cause at rest
   -- a parenthesis opens more than a line may have; where the token is too many as well, that decides
-  too_deep : at.count < most_tokens → most_open ≤ at.depth → BeginsWith (λ b. b ≡ 40) rest → Cause at rest
+  too_deep : at.count < most_tokens → most_open < depth_at at + weight at.behind_sum → BeginsWith (λ b. b ≡ 40) rest
+      → Cause at rest
 
 -- the offence of a cause
 abbrev pub offence_of : {at : Place} {rest : List ℕ} → Cause at rest → Offence

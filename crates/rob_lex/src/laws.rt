@@ -1,4 +1,4 @@
-//! Laws of the definitions: each text has one reading, and its tokens are slices of it, in order.
+//! Laws of the definitions: each text has one reading; its tokens are slices of it, in order; its lines are shallow.
 
 ghost use Rattle.std.specs.Prelude.{◌≡◌, ℕ, ◌≤◌, List, [], length, map};
 ghost use Rattle.rob_lex.specs.declared.token.Token.{Token};
@@ -6,6 +6,7 @@ ghost use Rattle.rob_lex.specs.Pieces.{Piece, IsPlace};
 ghost use Rattle.rob_lex.specs.Places.{start, tokens_of};
 ghost use Rattle.rob_lex.specs.Offences.{AreTokens, Breaks, HasReading};
 ghost use Rattle.rob_lex.specs.Slices.{InOrder, lexed, lexed_of};
+ghost use Rattle.rob_lex.specs.Lines.{AreShallow, paren_lines};
 
 /// Each text has exactly one list of tokens, or breaks exactly one rule at one line.
 pub fn one_reading()
@@ -27,4 +28,11 @@ pub fn in_order()
 pub fn are_slices()
     ensures slices { (text : List ℕ) (pieces : List Piece) → IsPlace text pieces []
         → map (lexed text) (tokens_of start pieces) ≡ lexed_of pieces }
+{}
+
+/// On no line of a text that has tokens more than 50 parentheses are open at once, where one directly behind `sum`
+/// counts as two.
+pub fn shallow()
+    ensures lines { (text : List ℕ) (list : List Token)
+        → AreTokens text list → AreShallow (paren_lines (map (lexed text) list)) }
 {}

@@ -8,6 +8,7 @@ mod piece;
 mod place;
 mod reader;
 mod token;
+mod weights;
 
 pub use error::LexErr;
 pub use offence::Offence;

@@ -6,11 +6,12 @@ ghost use Rattle.rob_lex.specs.Found.{IsFree};
 
 use crate::piece::{Found, Shape, front_piece};
 use crate::place::Place;
+use crate::weights::weight;
 
 /// The tokens that a text may have, line ends among them.
 const MOST_TOKENS: u32 = 20_000;
 
-/// The parentheses that may be open at once on a line.
+/// The parentheses that may be open at once on a line, where one directly behind `sum` counts as two.
 const MOST_OPEN: u32 = 50;
 
 /// What may be wrong at a place of a text.
@@ -41,10 +42,10 @@ impl Offence {
 }
 
 /// The piece behind the place, or what offends there.
-pub fn next_piece(at: Place, rest: &[u8]) -> Result<Found, Offence>
+pub fn next_piece(at: &Place, rest: &[u8]) -> Result<Found, Offence>
     requires some { 0 < length rest.now }
     ensures piece { MatchResult result
-        (λ found. IsFree at rest.now found) (λ offence. OffendsHere at rest.now offence) }
+        (λ found. IsFree at.now rest.now found) (λ offence. OffendsHere at.now rest.now offence) }
 {
     let Some(found) = front_piece(rest) else {
         return Err(if rest[0] < 128 {
@@ -57,7 +58,8 @@ pub fn next_piece(at: Place, rest: &[u8]) -> Result<Found, Offence>
         if at.count >= MOST_TOKENS {
             return Err(Offence::TooManyTokens);
         }
-        if at.depth >= MOST_OPEN && rest[0] == b'(' {
+        let room = MOST_OPEN - weight(at.behind_sum);
+        if at.weights.depth() > room && rest[0] == b'(' {
             return Err(Offence::TooDeep);
         }
     }
@@ -65,8 +67,8 @@ pub fn next_piece(at: Place, rest: &[u8]) -> Result<Found, Offence>
 }
 
 /// What offends at the end of the text.
-pub fn end_offence(at: Place) -> Option<Offence>
-    ensures offence { MatchOption result (Cause at [] → ⊥) (λ offence. OffendsHere at [] offence) }
+pub fn end_offence(at: &Place) -> Option<Offence>
+    ensures offence { MatchOption result (Cause at.now [] → ⊥) (λ offence. OffendsHere at.now [] offence) }
 {
     if at.begun && at.count >= MOST_TOKENS {
         Some(Offence::TooManyTokens)

@@ -2,7 +2,7 @@
 
 ghost use Rattle.std.specs.Prelude.{◌≡◌, ◌+◌, ◌<◌, ◌≤◌, take, drop, length, MatchOption};
 ghost use Rattle.rob_lex.specs.Bytes as classes;
-ghost use Rattle.rob_lex.specs.Pieces.{IsRun, Stands, BeginsNoPiece};
+ghost use Rattle.rob_lex.specs.Pieces.{IsRun, BeginsNoPiece};
 ghost use Rattle.rob_lex.specs.Found as runs;
 ghost use Rattle.rob_lex.specs.Found.{IsFound, BeginsNoShortPiece};
 

@@ -1,11 +1,14 @@
 //! A place in the text.
 
-ghost use Rattle.std.specs.Prelude.{◌≡◌, ◌+◌, ◌<◌, ◌^◌, length};
-ghost use Rattle.rob_lex.specs.Places.{start, behind};
+ghost use Rattle.std.specs.Prelude.{◌≡◌, ◌+◌, ◌<◌, ◌≤◌, ◌^◌, length};
+ghost use Rattle.rob_lex.specs.Places.{start, behind, depth_at};
 ghost use Rattle.rob_lex.specs.Places as places;
+ghost use Rattle.rob_lex.specs.Offences.{most_open};
+ghost use Rattle.rob_lex.specs.Weights.{total};
 
 use crate::piece::Shape;
 use crate::token::Kind;
+use crate::weights::Weights;
 
 /// A place between two pieces of the text, and what was counted before it.
 #[derive(Clone, Copy, Debug)]
@@ -16,8 +19,10 @@ pub struct Place {
     pub line: u32,
     /// How many tokens stand before it, line ends among them.
     pub count: u32,
-    /// How many parentheses are open on its line.
-    pub depth: u32,
+    /// The parentheses that are open on its line.
+    pub weights: Weights,
+    /// Whether the token before it on its line is the word `sum`.
+    pub behind_sum: bool,
     /// Whether its line has a token before it.
     pub begun: bool,
 }
@@ -31,29 +36,32 @@ impl Place {
             offset: 0,
             line: 1,
             count: 0,
-            depth: 0,
+            weights: Weights::none(),
+            behind_sum: false,
             begun: false,
         }
     }
 
     /// The place behind a piece.
-    pub fn behind(self, shape: Shape, bytes: &[u8]) -> Place
-        requires room { self.offset + length bytes.now < 2 ^ 32 }
-        requires counts { (self.line + 1 < 2 ^ 32) × (self.count + 1 < 2 ^ 32) × (self.depth + 1 < 2 ^ 32) }
-        ensures place { result ≡ behind self shape bytes.now }
+    pub fn behind(&self, shape: Shape, bytes: &[u8]) -> Place
+        requires room { self.now.offset + length bytes.now < 2 ^ 32 }
+        requires counts { (self.now.line + 1 < 2 ^ 32) × (self.now.count + 1 < 2 ^ 32) }
+        requires shallow { depth_at self.now ≤ most_open }
+        ensures place { result ≡ behind self.now shape bytes.now }
     {
-        let mut next = self;
+        let mut next = *self;
         next.offset += bytes.len() as u32;
         if let Shape::Lexeme(kind) = shape {
             next.count += 1;
+            next.behind_sum = kind == Kind::Word && bytes == b"sum".as_slice();
             match kind {
                 Kind::LineEnd => {
                     next.line += 1;
-                    next.depth = 0;
+                    next.weights = Weights::none();
                     next.begun = false;
                 }
                 Kind::Sign => {
-                    next.depth = depth_behind(bytes, next.depth);
+                    next.weights = weights_behind(bytes, self.behind_sum, self.weights);
                     next.begun = true;
                 }
                 Kind::Word | Kind::Digits => {
@@ -65,14 +73,14 @@ impl Place {
     }
 }
 
-/// How many parentheses are open behind a sign.
-fn depth_behind(sign: &[u8], depth: u32) -> u32
-    requires room { depth + 1 < 2 ^ 32 }
-    ensures depth { result ≡ places.depth_behind sign.now depth }
+/// Which parentheses are open behind a sign.
+fn weights_behind(sign: &[u8], behind_sum: bool, weights: Weights) -> Weights
+    requires shallow { total weights ≤ most_open }
+    ensures weights { result ≡ places.weights_behind sign.now behind_sum weights }
 {
     match sign {
-        [b'(', ..] => depth + 1,
-        [b')', ..] => depth.saturating_sub(1),
-        _ => depth,
+        [b'(', ..] => weights.opened(behind_sum),
+        [b')', ..] => weights.closed(),
+        _ => weights,
     }
 }

@@ -24,25 +24,25 @@ pub fn tokens(alloc: Global, text: &[u8]) -> Result<Vec<Token>, LexErr>
     let mut at = Place::start();
     let mut rest = text;
     while !rest.is_empty() {
-        let found = match next_piece(at, rest) {
+        let found = match next_piece(&at, rest) {
             Ok(found) => found,
             Err(offence) => return Err(LexErr::Rule(offence.rule(), at.line)),
         };
         let (bytes, after) = rest.split_at(found.len);
-        push_token(&mut list, at, found.shape, bytes)?;
+        push_token(&mut list, &at, found.shape, bytes)?;
         at = at.behind(found.shape, bytes);
         rest = after;
     }
-    match end_offence(at) {
+    match end_offence(&at) {
         Some(offence) => Err(LexErr::Rule(offence.rule(), at.line)),
         None => Ok(list),
     }
 }
 
 /// Pushes the token of a piece; a gap and a comment have none.
-fn push_token(list: &mut Vec<Token>, at: Place, shape: Shape, bytes: &[u8]) -> Result<(), LexErr>
-    requires room { at.offset + length bytes.now < 2 ^ 32 }
-    ensures pushed { OnOk result (list.new.items ≡ list.old.items ++ token_at at shape bytes.now) }
+fn push_token(list: &mut Vec<Token>, at: &Place, shape: Shape, bytes: &[u8]) -> Result<(), LexErr>
+    requires room { at.now.offset + length bytes.now < 2 ^ 32 }
+    ensures pushed { OnOk result (list.new.items ≡ list.old.items ++ token_at at.now shape bytes.now) }
     ensures cause { IfErr result (λ e. e ≡ Memory) }
 {
     if let Shape::Lexeme(kind) = shape {

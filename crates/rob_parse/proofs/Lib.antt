@@ -3,3 +3,4 @@ pub mod Degrees
 pub mod Sizes
 pub mod Sets
 pub mod Building
+pub mod Chains

@@ -2,6 +2,8 @@
 pub mod SortLemmas
 pub mod WordSetLemmas
 pub mod NamedLemmas
+pub mod ChainLemmas
 pub mod DeclaredLemmas
 pub mod OnceLemmas
 pub mod WellNamed
+pub mod ExpandedNames

@@ -13,7 +13,7 @@ use Rattle.rob_syntax.specs.declared.syntax.Statement.TheVariants as parsed
 use Rattle.rob_rules.specs.Degrees.{sort_at}
 use Rattle.rob_rules.specs.Faults.{over_of}
 use Rattle.rob_rules.specs.Scopes.{Earlier}
-use Rattle.rob_rules.specs.Reading.{Reads}
+use Rattle.rob_rules.specs.Texts.{Reads}
 use Rattle.rob_parse.specs.Models.{model_of, rows, set_lines, written_of}
 
 -- the text reads as statements whose model this is

@@ -12,7 +12,7 @@ ghost use Rattle.rob_parse.specs.Building as spec;
 ghost use Rattle.rob_syntax.specs.Known.{texts};
 ghost use Rattle.rob_parse.specs.Models.{parameters, variables, adaptives, set_lines, rows, goal_in, line_taken, model_of, row_taken};
 ghost use Rattle.rob_parse.specs.Modelled.{ReadsModel};
-ghost use Rattle.rob_rules.specs.Reading.{HasModelCause};
+ghost use Rattle.rob_rules.specs.Texts.{HasModelCause};
 ghost use Rattle.rob_syntax.specs.declared.syntax.Statement.TheVariants as parsed;
 
 use crate::fraction::{fraction, lower, upper};
@@ -21,13 +21,13 @@ use crate::place::{Place, set_at};
 use crate::tree::expression;
 use rob_model::{Adaptive, Model, Param, RowDef, SetLine, Var};
 use rob_number::{Exact, Ledger, List, Memory, Text};
-use rob_rules::{ModelErr, Scope, Sort, read_statements};
+use rob_rules::{ModelErr, Scope, Sort, read_text};
 use rob_syntax::Words;
 use rob_syntax::syntax::{Budget, Declared, Goal, Policy, Relation, Row, Statement};
 use std::alloc::Global;
 
 /// The model that a text says, its numbers being of the type `N`, whose limit bounds digits; or the rule that the text breaks
-/// and the line, counted from 1: first the rules of tokens, then the first bad line, and on it the lowest rule.
+/// and the line, counted from 1: first the rules of tokens, then the first bad line, and on it the rule judged first.
 pub fn read_model<N: Exact, L: Ledger>(
     alloc: Global,
     text: &[u8],
@@ -42,7 +42,7 @@ pub fn read_model<N: Exact, L: Ledger>(
     // No number is wide, since digits over the limit are refused before.
     ensures told { L.wides ledger.old ≡ L.wides ledger.new }
 {
-    let found = match read_statements(alloc, text, N::LIMIT as u64) {
+    let found = match read_text(alloc, text, N::LIMIT as u64) {
         Ok(found) => found,
         Err(error) => return Err(error),
     };

@@ -1,6 +1,9 @@
--- Canonical lines have no more tokens than the lines that they are read from, and no deeper parentheses.
-pub mod TokenFits
-pub mod TokenExpressions
+-- How many tokens canonical lines have, and how deep they are: as many, and as deep, as rob_index says.
+pub mod DepthSteps
 pub mod TokenPlaces
-pub mod TokenStatements
 pub mod TokenCounts
+pub mod CountedNumbers
+pub mod CountedLines
+pub mod LowWords
+pub mod LowLines
+pub mod ShallowTexts

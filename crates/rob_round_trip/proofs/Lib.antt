@@ -6,3 +6,4 @@ pub mod Lengths
 pub mod Faultless
 pub mod Canonical
 pub mod WithoutSets
+pub mod Indexed

@@ -2,4 +2,5 @@
 pub mod NumberText
 pub mod ExpressionText
 pub mod StatementText
+pub mod LineText
 pub mod LinesText

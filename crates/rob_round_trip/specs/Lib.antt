@@ -1,2 +1,4 @@
 pub mod Pages
 pub mod Readable
+pub mod Lines
+pub mod Shown

@@ -1,5 +1,5 @@
 -- What an expression that is written keeps, and what is known of the names that it is written with.
-use Rattle.std.specs.Prelude.{◌≡◌, ℕ, suc, ◌<◌, ◌≤◌, Bool, true, false, List, [], ◌∷◌, length, get_or, int_lt, pos, Option, Some, None}
+use Rattle.std.specs.Prelude.{◌≡◌, ℕ, suc, ◌<◌, Bool, true, false, List, [], ◌∷◌, length, get_or, int_lt, pos, Option, Some, None}
 use Rattle.rob_algebra.specs.Fraction.{Fraction}
 use Rattle.rob_algebra.specs.Width.{Fits}
 use Rattle.rob_lex.specs.declared.token.Kind.TheVariants.{Word}
@@ -18,11 +18,11 @@ use Rattle.rob_write.specs.Canonical.{Written, Naming, expression_words, lines_o
 use Rattle.rob_rules.specs.Degrees.{sort_at}
 use Rattle.rob_syntax.specs.Grammar.{Expr, spell_expr, tree_expr}
 use Rattle.rob_parse.specs.Models.{expression, word_of, in_sets, model_of}
-use Rattle.rob_syntax.specs.Names.{IsWord}
 use Rattle.rob_round_trip.specs.Pages.{symbols_on}
 use Rattle.rob_rules.specs.Scopes.{has_some}
 use Rattle.rob_syntax.specs.Statements.{IsStatement}
-use Rattle.rob_syntax.specs.Symbols.{keywords, keyword_among, longest_name, number_of, symbol_at}
+use Rattle.rob_index.specs.Reading.{one}
+use Rattle.rob_syntax.specs.Symbols.{number_of, symbol_at}
 use Rattle.rob_syntax.specs.Trees.{tree_of}
 
 -- a sum has two terms or more, or one that is subtracted
@@ -61,7 +61,7 @@ module _ (limit : ℕ) (names : Naming) where
 module _ (words : List (List ℕ)) (sorts : List (Option Sort)) where
   -- the word is a name, and it stands for this
   pub record StandsFor (name : Name) (sort : Sort) : Type 0 where
-    pub is_name : symbol_at words Word name ≡ symbol.Name (number_of words name) ∷ []
+    pub is_name : symbol_at one words Word name ≡ symbol.Name (number_of words name) ∷ []
     pub sort_is : sort_at sorts (number_of words name) ≡ Some sort
 
   -- each name stands for what has it
@@ -69,7 +69,8 @@ module _ (words : List (List ℕ)) (sorts : List (Option Sort)) where
     pub parameters : (k : ℕ) → k < length names.parameters → StandsFor (get_or names.parameters k []) (Parameter k)
     pub sets : (k : ℕ) → k < length names.sets → StandsFor (get_or names.sets k []) (sort.Set (suc k))
     pub variables : (k : ℕ) → k < length names.variables → StandsFor (get_or names.variables k []) (Decision k)
-    pub adaptives : (y : ℕ) → y < length names.adaptives → (depends : Bool) × StandsFor (get_or names.adaptives y []) (Policy y depends)
+    pub adaptives : (y : ℕ) → y < length names.adaptives → (depends : Bool)
+        × StandsFor (get_or names.adaptives y []) (Policy y depends)
 
   -- the words of an expression are one of the grammar, whose tree it is
   pub record IsReadBack (names : Naming) (e : Expression) : Type 0 where
@@ -82,8 +83,8 @@ abbrev pub IsAt : List Name → ℕ → Name → Type 0
 IsAt names k name = (k < length names) × (get_or names k [] ≡ name)
 
 module _ (m : RobustModel) where
-  -- the model has what a name stands for, by that name: the written parameter, variable or adaptive variable of this number,
-  -- with parameters in its list or without, the named set of this number, counted from 1, or some row
+  -- the model has what a name stands for, by that name: the written parameter, variable or adaptive variable of this
+  -- number, with parameters in its list or without, the named set of this number, counted from 1, or some row
   abbrev pub HasByName : Name → Sort → Type 0
   HasByName name (Parameter k) = IsAt (written_names m) k name
   HasByName name (Decision k) = IsAt (variable_names m) k name
@@ -111,12 +112,13 @@ pub record IsPlaced (m : RobustModel) : Type 0 where
   pub of_rows : Each (λ S. S < set_count m) m.row_sets
 
 module _ (limit : ℕ) (names : Naming) where
-  -- a budget has a member, and its limit and deviations aren't negative
+  -- a member is a parameter that is there, and its deviation isn't negative
   pub record IsReadableMember (h : Member) : Type 0 where
     pub parameter : h.parameter < length names.parameters
     pub centre : Fits limit h.centre
     pub deviation : IsPlainNumber limit h.deviation
 
+  -- a budget has a member, and its limit isn't negative
   abbrev pub IsReadableSetLine : SetLine → Type 0
   IsReadableSetLine (line left relation right) = IsReadable limit names left × IsReadable limit names right
   IsReadableSetLine (budget bound []) = ⊥
@@ -127,7 +129,8 @@ module _ (limit : ℕ) (names : Naming) where
     pub parameters : Each (λ (p : model.Parameter). IsBound limit p.lower × IsBound limit p.upper) w.parameters
     pub set_lines : Each IsReadableSetLine w.set_lines
     pub variables : Each (λ (x : Variable). IsBound limit x.lower × IsBound limit x.upper) w.variables
-    pub adaptives : Each (λ (y : AdaptiveVariable). Each (λ k. k < length names.parameters) y.on × (IsBound limit y.lower × IsBound limit y.upper)) w.adaptives
+    pub adaptives : Each (λ (y : AdaptiveVariable). Each (λ k. k < length names.parameters) y.on
+        × (IsBound limit y.lower × IsBound limit y.upper)) w.adaptives
     pub objective : IsReadable limit names w.objective
     pub rows : Each (λ (r : Row). IsReadable limit names r.left × IsReadable limit names r.right) w.rows
 
@@ -139,7 +142,7 @@ module _ (limit : ℕ) (names : Naming) where
 module _ (words : List (List ℕ)) where
   -- the word is a name, which is found by its number
   pub record IsDeclarable (name : Name) : Type 0 where
-    pub is_name : symbol_at words Word name ≡ symbol.Name (number_of words name) ∷ []
+    pub is_name : symbol_at one words Word name ≡ symbol.Name (number_of words name) ∷ []
     pub word_is : word_of words (number_of words name) ≡ name
 
   -- the declared names are so

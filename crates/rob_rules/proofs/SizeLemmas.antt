@@ -45,7 +45,7 @@ within s h =
     }
 
 -- the factors of a product that is at most this
-factors_at_most : (a b c : ℕ) → 0 < a → a * (b + 1) ≤ c → (a ≤ c) × (b ≤ c)
+pub factors_at_most : (a b c : ℕ) → 0 < a → a * (b + 1) ≤ c → (a ≤ c) × (b ≤ c)
 factors_at_most a b c some h = (grind arith, grind arith)
 
 -- each set has the written ones

@@ -1,7 +1,15 @@
 pub mod Degrees
 pub mod Sizes
 pub mod Scopes
+pub mod Leaves
 pub mod Faults
+pub mod RealTrees
+pub mod Chains
 pub mod Reading
 pub mod Weights
-pub mod Progress
+pub mod Names
+pub mod Texts
+pub mod Growing
+pub mod Links
+pub mod Indices
+pub mod Stages

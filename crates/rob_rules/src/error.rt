@@ -8,7 +8,8 @@ use thiserror::Error;
 /// Why a text is no model.
 #[derive(Debug, Drop, Error)]
 pub enum ModelErr {
-    /// The number of the broken rule, 1 to 4 for the tokens and 11 to 23 for the lines, and the line, counted from 1.
+    /// The number of the broken rule, 1 to 4 for the tokens, 11 to 23 and 25 to 28 for the lines, and the line, counted
+    /// from 1.
     #[error("line {1} breaks rule {0}")]
     Rule(u8, u32),
     /// Memory was refused.

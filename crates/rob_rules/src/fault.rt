@@ -1,8 +1,9 @@
-//! What may be wrong with a line.
+//! What may be wrong with a plain statement.
 
 ghost use Rattle.std.specs.Prelude.{◌≡◌, IfOk};
 ghost use Rattle.std.specs.List.{list_any};
 ghost use Rattle.rob_rules.specs.Faults as spec;
+ghost use Rattle.rob_rules.specs.Leaves.{statement_leaves, members_of};
 ghost use Rattle.rob_rules.specs.Scopes.{earlier_of};
 ghost use Rattle.rob_rules.specs.Sizes.{IsSmall};
 ghost use Rattle.rob_syntax.specs.Trees.{tree_of};
@@ -11,19 +12,17 @@ ghost use Rattle.rob_rules.specs.Weights.{weight_of, statement_weight};
 ghost use Rattle.rob_rules.specs.Weights as weights;
 
 use crate::degree::{Weight, joined, nothing, sort_at, weigh};
+use crate::leaf::{Leaf, leaves};
 use crate::scope::{Scope, declared_by, is_goal};
 use crate::sort::Sort;
 use indexmap::IndexSet;
 use rob_number::Memory;
-use rob_syntax::syntax::{Relation, Statement};
-use rob_syntax::{Keyword, Mark, Symbol};
+use rob_syntax::syntax::{Member, Numeral, Relation, Statement};
 use std::alloc::Global;
 
-/// What may be wrong with a line, in the order of the rules' numbers.
+/// What may be wrong with a plain statement, in the order of the rules' numbers; and that a text has no goal.
 #[derive(Clone, Copy, PartialEq, Eq)]
 pub enum Fault {
-    /// The line's tokens are no statement, or a name is too long.
-    NotAStatement,
     /// The declared name is declared already, or an adaptive variable's list, or the members of a budget, hold a name twice;
     /// the name behind `over` is no member.
     NameTwice,
@@ -58,7 +57,6 @@ impl Fault {
         ensures rule { result ≡ spec.rule_of self }
     {
         match self {
-            Fault::NotAStatement => 11,
             Fault::NameTwice => 12,
             Fault::NameUnknown => 13,
             Fault::NumberTooLong => 14,
@@ -75,23 +73,18 @@ impl Fault {
     }
 }
 
-/// What stands in front of digits that may not be 0.
-#[derive(Clone, Copy)]
-pub enum Lead {
-    By,
-    Slash,
-}
-
-/// The fault that decides, if the statement has one.
+/// The fault that decides, if the statement has one. `before` is what is known in front of its line, `now` in front of the
+/// statement itself: a line may stand for several.
 pub fn first_fault(
     alloc: Global,
     limit: u64,
-    scope: &Scope,
-    symbols: &[Symbol],
+    before: &Scope,
+    now: &Scope,
     statement: &Statement,
 ) -> Result<Option<Fault>, Memory>
-    requires small { IsSmall scope.now.sizes }
-    ensures fault { IfOk result (λ found. found ≡ spec.first_fault limit (earlier_of scope.now) symbols.now statement.now) }
+    requires small { IsSmall now.now.sizes }
+    ensures fault { IfOk result (λ found. found
+        ≡ spec.first_fault limit (earlier_of before.now) (earlier_of now.now) statement.now) }
 {
     const IN_ORDER: [Fault; 11] = [
         Fault::NameTwice,
@@ -106,44 +99,53 @@ pub fn first_fault(
         Fault::Limit,
         Fault::ZeroDivisor,
     ];
+    let names_and_numbers = leaves(alloc, statement)?;
     for fault in IN_ORDER {
-        if has_fault(alloc, limit, scope, symbols, statement, fault)? {
+        if has_fault(
+            alloc,
+            limit,
+            before,
+            now,
+            statement,
+            names_and_numbers.items(),
+            fault,
+        )? {
             return Ok(Some(fault));
         }
     }
     Ok(None)
 }
 
-/// Whether the statement has the fault.
+/// Whether the statement, which has these names and numbers, has the fault.
 fn has_fault(
     alloc: Global,
     limit: u64,
-    scope: &Scope,
-    symbols: &[Symbol],
+    before: &Scope,
+    now: &Scope,
     statement: &Statement,
+    leaves: &[Leaf],
     fault: Fault,
 ) -> Result<bool, Memory>
-    requires small { IsSmall scope.now.sizes }
-    ensures holds { IfOk result (λ has. has ≡ spec.has_fault limit (earlier_of scope.now) symbols.now statement.now fault) }
+    requires small { IsSmall now.now.sizes }
+    requires leaves { leaves.now ≡ statement_leaves statement.now }
+    ensures holds { IfOk result (λ has. has
+        ≡ spec.has_fault limit (earlier_of before.now) (earlier_of now.now) statement.now fault) }
 {
     let has = match fault {
-        Fault::NameTwice => return name_twice(alloc, scope, symbols, statement),
+        Fault::NameTwice => return name_twice(alloc, now, statement, leaves),
         Fault::NameUnknown => {
-            some_unknown(&scope.sorts, used(symbols, statement))
-                || is_over_none(&scope.sorts, over_of(statement))
+            some_unknown(&before.sorts, leaves) || is_over_none(&before.sorts, over_of(statement))
         }
-        Fault::NumberTooLong => some_over(limit, symbols),
-        Fault::DeviationNotPositive => has_zero_behind(Lead::By, symbols),
-        Fault::TwoDecisions => weigh_statement(&scope.sorts, statement).two_decisions,
-        Fault::TwoUncertain => weigh_statement(&scope.sorts, statement).two_uncertain,
-        Fault::RandomRecourse => weigh_statement(&scope.sorts, statement).random_recourse,
-        Fault::DecisionInSet => {
-            is_of_set(statement) && some_decision(&scope.sorts, used(symbols, statement))
-        }
-        Fault::ObjectiveTwice => is_goal(statement) && scope.goal,
-        Fault::Limit => !scope.sizes.counted(statement).is_within(),
-        Fault::ZeroDivisor => has_zero_behind(Lead::Slash, symbols),
-        Fault::NotAStatement | Fault::NoObjective => false,
+        Fault::NumberTooLong => some_over(limit, leaves),
+        Fault::DeviationNotPositive => some_certain(statement),
+        Fault::TwoDecisions => weigh_statement(&before.sorts, statement).two_decisions,
+        Fault::TwoUncertain => weigh_statement(&before.sorts, statement).two_uncertain,
+        Fault::RandomRecourse => weigh_statement(&before.sorts, statement).random_recourse,
+        Fault::DecisionInSet => is_of_set(statement) && some_decision(&before.sorts, leaves),
+        Fault::ObjectiveTwice => is_goal(statement) && now.goal,
+        Fault::Limit => !now.sizes.counted(statement).is_within(),
+        Fault::ZeroDivisor => some_zero_divisor(leaves),
+        Fault::NoObjective => false,
     };
     Ok(has)
 }
@@ -152,11 +154,13 @@ fn has_fault(
 fn name_twice(
     alloc: Global,
     scope: &Scope,
-    symbols: &[Symbol],
     statement: &Statement,
+    leaves: &[Leaf],
 ) -> Result<bool, Memory>
     requires small { IsSmall scope.now.sizes }
-    ensures twice { IfOk result (λ twice. twice ≡ spec.has_fault 0 (earlier_of scope.now) symbols.now statement.now NameTwice) }
+    requires leaves { leaves.now ≡ statement_leaves statement.now }
+    ensures twice { IfOk result (λ twice. twice
+        ≡ spec.has_fault 0 (earlier_of scope.now) (earlier_of scope.now) statement.now NameTwice) }
 {
     let declared = declared_by(scope.sizes, statement);
     if is_declared(&scope.sorts, declared) {
@@ -165,7 +169,7 @@ fn name_twice(
     if !is_listing(statement) {
         return Ok(false);
     }
-    has_twice(alloc, used(symbols, statement))
+    has_twice(alloc, leaves)
 }
 
 /// Whether a declared name is declared already.
@@ -175,31 +179,6 @@ fn is_declared(sorts: &[Option<Sort>], declared: Option<(usize, Sort)>) -> bool
     match declared {
         Some((name, _)) => sort_at(sorts, name).is_some(),
         None => false,
-    }
-}
-
-/// The symbols that hold the names that the statement uses, but for that behind `over`.
-fn used<'a>(symbols: &'a [Symbol], statement: &Statement) -> &'a [Symbol]
-    ensures symbols { result.now ≡ spec.used symbols.now statement.now }
-{
-    let head = match statement {
-        Statement::Uncertain(_)
-        | Statement::Over(_)
-        | Statement::Var(_)
-        | Statement::Adaptive(_)
-        | Statement::Row(_) => 2,
-        Statement::Set(_) | Statement::Budget(_) | Statement::Goal(_) => 1,
-    };
-    before_over(over_of(statement), &symbols[symbols.len().min(head)..])
-}
-
-/// The symbols without the word `over` and the name behind it, if these stand at their end.
-fn before_over(over: Option<usize>, symbols: &[Symbol]) -> &[Symbol]
-    ensures symbols { result.now ≡ spec.before_over over symbols.now }
-{
-    match over {
-        None => symbols,
-        Some(_) => &symbols[..symbols.len().saturating_sub(2)],
     }
 }
 
@@ -245,12 +224,12 @@ fn is_of_set(statement: &Statement) -> bool
 }
 
 /// Whether some name stands there twice.
-fn has_twice(alloc: Global, symbols: &[Symbol]) -> Result<bool, Memory>
-    ensures holds { IfOk result (λ twice. twice ≡ spec.has_twice symbols.now) }
+fn has_twice(alloc: Global, leaves: &[Leaf]) -> Result<bool, Memory>
+    ensures holds { IfOk result (λ twice. twice ≡ spec.has_twice leaves.now) }
 {
     let mut seen: IndexSet<usize> = IndexSet::new(alloc);
-    for symbol in symbols {
-        if let Symbol::Name(name) = symbol
+    for leaf in leaves {
+        if let Leaf::Name(name) = leaf
             && !seen.insert(*name)?
         {
             return Ok(true);
@@ -260,19 +239,19 @@ fn has_twice(alloc: Global, symbols: &[Symbol]) -> Result<bool, Memory>
 }
 
 /// Whether a name there may not be used.
-fn some_unknown(sorts: &[Option<Sort>], symbols: &[Symbol]) -> bool
-    ensures holds { result ≡ list_any (spec.is_unknown sorts.now) symbols.now }
+fn some_unknown(sorts: &[Option<Sort>], leaves: &[Leaf]) -> bool
+    ensures holds { result ≡ list_any (spec.is_unknown sorts.now) leaves.now }
 {
-    symbols.iter().any(|symbol| is_unknown(sorts, *symbol))
+    leaves.iter().any(|leaf| is_unknown(sorts, *leaf))
 }
 
-/// Whether the symbol is a name that may not be used.
-fn is_unknown(sorts: &[Option<Sort>], symbol: Symbol) -> bool
-    ensures holds { result ≡ spec.is_unknown sorts.now symbol }
+/// Whether it is a name that may not be used.
+fn is_unknown(sorts: &[Option<Sort>], leaf: Leaf) -> bool
+    ensures holds { result ≡ spec.is_unknown sorts.now leaf }
 {
-    match symbol {
-        Symbol::Name(name) => !is_usable(sort_at(sorts, name)),
-        Symbol::Digits(_) | Symbol::Sign(_) | Symbol::Reserved(_) => false,
+    match leaf {
+        Leaf::Name(name) => !is_usable(sort_at(sorts, name)),
+        Leaf::Number(_) => false,
     }
 }
 
@@ -287,19 +266,19 @@ fn is_usable(sort: Option<Sort>) -> bool
 }
 
 /// Whether a name there stands for a decision.
-fn some_decision(sorts: &[Option<Sort>], symbols: &[Symbol]) -> bool
-    ensures holds { result ≡ list_any (spec.names_decision sorts.now) symbols.now }
+fn some_decision(sorts: &[Option<Sort>], leaves: &[Leaf]) -> bool
+    ensures holds { result ≡ list_any (spec.names_decision sorts.now) leaves.now }
 {
-    symbols.iter().any(|symbol| names_decision(sorts, *symbol))
+    leaves.iter().any(|leaf| names_decision(sorts, *leaf))
 }
 
-/// Whether the symbol is the name of a decision.
-fn names_decision(sorts: &[Option<Sort>], symbol: Symbol) -> bool
-    ensures holds { result ≡ spec.names_decision sorts.now symbol }
+/// Whether it is the name of a decision.
+fn names_decision(sorts: &[Option<Sort>], leaf: Leaf) -> bool
+    ensures holds { result ≡ spec.names_decision sorts.now leaf }
 {
-    match symbol {
-        Symbol::Name(name) => is_decision(sort_at(sorts, name)),
-        Symbol::Digits(_) | Symbol::Sign(_) | Symbol::Reserved(_) => false,
+    match leaf {
+        Leaf::Name(name) => is_decision(sort_at(sorts, name)),
+        Leaf::Number(_) => false,
     }
 }
 
@@ -314,53 +293,79 @@ fn is_decision(sort: Option<Sort>) -> bool
 }
 
 /// Whether digits there have a value over the limit.
-fn some_over(limit: u64, symbols: &[Symbol]) -> bool
-    ensures holds { result ≡ list_any (spec.is_over limit) symbols.now }
+fn some_over(limit: u64, leaves: &[Leaf]) -> bool
+    ensures holds { result ≡ list_any (spec.is_over limit) leaves.now }
 {
-    symbols.iter().any(|symbol| is_over(limit, *symbol))
+    leaves.iter().any(|leaf| is_over(limit, *leaf))
 }
 
-/// Whether the symbol is digits whose value is over the limit.
-fn is_over(limit: u64, symbol: Symbol) -> bool
-    ensures holds { result ≡ spec.is_over limit symbol }
+/// Whether it is a number with digits whose value is over the limit.
+fn is_over(limit: u64, leaf: Leaf) -> bool
+    ensures holds { result ≡ spec.is_over limit leaf }
 {
-    match symbol {
-        Symbol::Digits(value) => limit < value,
-        Symbol::Name(_) | Symbol::Sign(_) | Symbol::Reserved(_) => false,
-    }
-}
-
-/// Whether digits of value 0 stand directly behind such a symbol.
-fn has_zero_behind(lead: Lead, symbols: &[Symbol]) -> bool
-    ensures holds { result ≡ spec.has_zero_behind lead symbols.now }
-{
-    for (i, symbol) in symbols.iter().enumerate() {
-        if is_lead(lead, *symbol) && begins_with_zero(&symbols[i + 1..]) {
-            return true;
+    match leaf {
+        Leaf::Name(_) => false,
+        Leaf::Number(number) => {
+            limit < number.numerator || has_divisor_over(limit, number.divisor)
         }
     }
-    false
 }
 
-/// Whether the symbols begin with digits of value 0.
-fn begins_with_zero(symbols: &[Symbol]) -> bool
-    ensures holds { result ≡ spec.begins_with_zero symbols.now }
+/// Whether the digits behind `/`, where there are some, have a value over the limit.
+fn has_divisor_over(limit: u64, divisor: Option<u64>) -> bool
+    ensures holds { result ≡ spec.has_divisor_over limit divisor }
 {
-    match symbols {
-        [Symbol::Digits(value), ..] => *value == 0,
-        _ => false,
+    match divisor {
+        None => false,
+        Some(value) => limit < value,
     }
 }
 
-/// Whether the symbol is the word `by`, or the sign `/`.
-fn is_lead(lead: Lead, symbol: Symbol) -> bool
-    ensures holds { result ≡ spec.is_lead lead symbol }
+/// Whether a number there has a divisor of value 0.
+fn some_zero_divisor(leaves: &[Leaf]) -> bool
+    ensures holds { result ≡ list_any spec.has_zero_divisor leaves.now }
 {
-    match (lead, symbol) {
-        (Lead::By, Symbol::Reserved(Keyword::By)) => true,
-        (Lead::Slash, Symbol::Sign(Mark::Slash)) => true,
-        _ => false,
+    leaves.iter().any(|leaf| has_zero_divisor(*leaf))
+}
+
+/// Whether it is a number with a divisor of value 0.
+fn has_zero_divisor(leaf: Leaf) -> bool
+    ensures holds { result ≡ spec.has_zero_divisor leaf }
+{
+    match leaf {
+        Leaf::Number(
+            Numeral {
+                divisor: Some(value),
+                ..
+            },
+        ) => value == 0,
+        Leaf::Number(_) | Leaf::Name(_) => false,
     }
+}
+
+/// Whether a member of the budget, if it is one, has a deviation of 0.
+fn some_certain(statement: &Statement) -> bool
+    ensures holds { result ≡ list_any spec.is_certain (members_of statement.now) }
+{
+    match statement {
+        Statement::Budget(budget) => some_without_deviation(budget.members.items()),
+        Statement::Uncertain(_)
+        | Statement::Over(_)
+        | Statement::Set(_)
+        | Statement::Var(_)
+        | Statement::Adaptive(_)
+        | Statement::Goal(_)
+        | Statement::Row(_) => false,
+    }
+}
+
+/// Whether a member's deviation is 0.
+fn some_without_deviation(members: &[Member]) -> bool
+    ensures holds { result ≡ list_any spec.is_certain members.now }
+{
+    members
+        .iter()
+        .any(|member| member.spread.deviation.numerator == 0)
 }
 
 /// The weight of all expressions of a statement together.

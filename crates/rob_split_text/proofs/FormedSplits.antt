@@ -27,8 +27,10 @@ module _ (m : RobustModel) (c : ℕ) (P : Row → Type 0) where
   declared_rows f Q (Some x) q h = (h x q.0, tt)
 
   pub each_bound_written : (Q : Fraction → Type 0) (k : ℕ) (ys : List AdaptiveVariable)
-      → Each (λ (y : AdaptiveVariable). Each Q (if_declared (λ x. x) y.lower) × Each Q (if_declared (λ x. x) y.upper)) ys
-      → ((name : Name) (j : ℕ) (relation : Relation) (bound : Fraction) → j < k + length ys → Q bound → P (bound_written m c name j relation bound))
+      → Each (λ (y : AdaptiveVariable). Each Q (if_declared (λ x. x) y.lower)
+      × Each Q (if_declared (λ x. x) y.upper)) ys
+      → ((name : Name) (j : ℕ) (relation : Relation) (bound : Fraction) → j < k + length ys → Q bound
+      → P (bound_written m c name j relation bound))
       → Each P (bounds_written m c k ys)
   each_bound_written Q k [] q h = tt
   each_bound_written Q k (y ∷ ys) q h =
@@ -58,7 +60,8 @@ module _ (m : RobustModel) (model : IsModel m) (alone : m.sets ≡ []) (cuts : L
       inside : (e : Expression) → IsInside m e → IsInside w (renamed m c e)
       inside (number q) h = tt
       inside (parameter k) h = h
-      inside (variable k) h = let some : k < length m.variables = h in let more = worst_inside in omega (arith, some, more)
+      inside (variable k) h = let some : k < length m.variables = h in let more = worst_inside in
+          omega (arith, some, more)
       inside (adaptive y) h = rule_is_some m cuts c y cell h
       inside (adaptive_in y S) h = absurd (not_named m alone S h.1 h.2)
       inside (sum ts) h = terms_inside ts h
@@ -88,7 +91,8 @@ module _ (m : RobustModel) (model : IsModel m) (alone : m.sets ≡ []) (cuts : L
         sum_stays no_terms h = refl
         sum_stays (term minus e ts) h = λ i. max (degree_stays e h.0 i) (sum_stays ts h.1 i)
 
-        product_stays : (fs : Factors) → FactorsInside m fs → product_degree a b f (factors_renamed m c fs) ≡ product_degree a b g fs
+        product_stays : (fs : Factors) → FactorsInside m fs
+            → product_degree a b f (factors_renamed m c fs) ≡ product_degree a b g fs
         product_stays no_factors h = refl
         product_stays (factor e fs) h = λ i. degree_stays e h.0 i + product_stays fs h.1 i
 
@@ -104,7 +108,9 @@ module _ (m : RobustModel) (model : IsModel m) (alone : m.sets ≡ []) (cuts : L
       linear (adaptive_in y S) h l = tt
       linear (sum ts) h l = terms_linear ts h l
       linear (product fs) h l = (
-        subst (λ n. n ≤ 1) (sym (product_stays 1 0 (λ y. one_if_some (list_of w y)) (λ y. one_if_some (list_of m y)) list_stays fs h)) l.0,
+        subst (λ n. n ≤ 1)
+            (sym (product_stays 1 0 (λ y. one_if_some (list_of w y)) (λ y. one_if_some (list_of m y)) list_stays fs h))
+            l.0,
         subst (λ n. n ≤ 1) (sym (product_stays 0 1 (λ y. 1) (λ y. 1) (λ y some. refl) fs h)) l.1,
         factors_linear fs h l.2,
       )
@@ -113,7 +119,8 @@ module _ (m : RobustModel) (model : IsModel m) (alone : m.sets ≡ []) (cuts : L
       terms_linear no_terms h l = tt
       terms_linear (term minus e ts) h l = (linear e h.0 l.0, terms_linear ts h.1 l.1)
 
-      factors_linear : (fs : Factors) → FactorsInside m fs → FactorsLinear m fs → FactorsLinear w (factors_renamed m c fs)
+      factors_linear : (fs : Factors) → FactorsInside m fs → FactorsLinear m fs
+          → FactorsLinear w (factors_renamed m c fs)
       factors_linear no_factors h l = tt
       factors_linear (factor e fs) h l = (linear e h.0 l.0, factors_linear fs h.1 l.1)
 
@@ -145,7 +152,8 @@ module _ (m : RobustModel) (model : IsModel m) (alone : m.sets ≡ []) (cuts : L
     lines_formed : Each (IsSetLine w) (lines_written m c cuts)
     lines_formed =
         each_append (IsSetLine w) (map (line_renamed m c) m.set_lines) (sides_written m c cuts)
-        (each_mapped (line_renamed m c) (IsSetLine m) (IsSetLine w) set_line_formed m.set_lines model.set_lines) (sides_formed cuts are)
+        (each_mapped (line_renamed m c) (IsSetLine m) (IsSetLine w) set_line_formed m.set_lines model.set_lines)
+        (sides_formed cuts are)
 
     abbrev RowFormed : Row → Type 0
     RowFormed r = IsExpression w r.left × IsExpression w r.right
@@ -168,11 +176,16 @@ module _ (m : RobustModel) (model : IsModel m) (alone : m.sets ≡ []) (cuts : L
       model_alone w refl (λ i. refl) (λ i. refl) refl
       (each_flat (IsSetLine w) (λ c. lines_written m c cuts) (cell_numbers cuts)
       (each_cell cuts (λ c. Each (IsSetLine w) (lines_written m c cuts)) lines_formed))
-      (each_flat (λ (y : AdaptiveVariable). Each (λ k. k < length m.parameters) y.on) (λ c. map (copy_in m c) m.adaptives) (cell_numbers cuts)
-      (each_cell cuts (λ c. Each (λ (y : AdaptiveVariable). Each (λ k. k < length m.parameters) y.on) (map (copy_in m c) m.adaptives))
+      (each_flat (λ (y : AdaptiveVariable). Each (λ k. k < length m.parameters) y.on)
+      (λ c. map (copy_in m c) m.adaptives) (cell_numbers cuts)
+      (each_cell cuts
+      (λ c. Each (λ (y : AdaptiveVariable). Each (λ k. k < length m.parameters) y.on)
+      (map (copy_in m c) m.adaptives))
       (λ c cell.
       each_mapped (copy_in m c) (λ (y : AdaptiveVariable). Each (λ k. k < length m.parameters) y.on)
-      (λ (y : AdaptiveVariable). Each (λ k. k < length m.parameters) y.on) (λ y h. h) m.adaptives (lists_within m model alone cuts are))))
+      (λ (y : AdaptiveVariable). Each (λ k. k < length m.parameters) y.on) (λ y h. h) m.adaptives
+      (lists_within m model alone cuts are))))
       (worst_inside, tt)
       (each_flat (λ (r : Row). IsExpression w r.left × IsExpression w r.right) (rows_written m) (cell_numbers cuts)
-      (each_cell cuts (λ c. Each (λ (r : Row). IsExpression w r.left × IsExpression w r.right) (rows_written m c)) rows_formed))
+      (each_cell cuts (λ c. Each (λ (r : Row). IsExpression w r.left × IsExpression w r.right) (rows_written m c))
+      rows_formed))

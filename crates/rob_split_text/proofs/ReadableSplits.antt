@@ -30,7 +30,10 @@ use Rattle.rob_write.specs.Canonical.{Naming, naming_of, written_model}
 pub negated_fits : (limit : ℕ) (x : Fraction) → Fits limit x → Fits limit (neg_ℚ x)
 negated_fits limit x fits =
     let p = neg_parts x in
-    record { num_fits = omega (arith, ints, fits.num_fits, ap nat_abs p.0); den_fits = omega (arith, fits.den_fits, p.1) }
+    record {
+      num_fits = omega (arith, ints, fits.num_fits, ap nat_abs p.0);
+      den_fits = omega (arith, fits.den_fits, p.1);
+    }
 
 not_below : (n : ℕ) → int_lt (pos n) (pos 0) ≡ false
 not_below n = grind (arith, nat_tests)
@@ -49,7 +52,8 @@ side_readable limit names q fits = by q.num refl
     by (negsuc n) is = (tt, ((negated_fits limit q fits, neg_not_below q n is), tt))
 
 -- ---- expressions with the copies of a cell
-module _ (m : RobustModel) (c limit : ℕ) (a b : Naming) (ps : (k : ℕ) → k < length a.parameters → k < length b.parameters)
+module _ (m : RobustModel) (c limit : ℕ) (a b : Naming)
+    (ps : (k : ℕ) → k < length a.parameters → k < length b.parameters)
     (vs : (k : ℕ) → k < length a.variables → k < length b.variables)
     (ys : (y : ℕ) → y < length a.adaptives → rule_in m c y < length b.adaptives) where
   real_sum : (ts : Terms) → IsRealSum ts → IsRealSum (terms_renamed m c ts)
@@ -95,7 +99,13 @@ module _ (m : RobustModel) (alone : m.sets ≡ []) (placed : IsPlaced m) where
   one_set : set_count m ≡ 1
   one_set = ap (λ (l : List (List ℕ)). suc (length l)) alone
 
-  pub own_written : record (written_model m) { sets = []; line_sets = m.line_sets; objective_set = m.objective_set; row_sets = m.row_sets } ≡ m
+  pub own_written : record (written_model m) {
+    sets =
+        [];
+    line_sets = m.line_sets;
+    objective_set = m.objective_set;
+    row_sets = m.row_sets;
+  } ≡ m
   own_written =
       sym (in_no_sets (written_model m) m.line_sets m.row_sets m.objective_set
       (subst (λ (n : ℕ). Each (λ S. S < n) m.line_sets) one_set placed.of_lines)
@@ -108,29 +118,36 @@ record AreOwnReadable (limit : ℕ) (m : RobustModel) : Type 0 where
   parameters : Each (λ (p : model.Parameter). IsBound limit p.lower × IsBound limit p.upper) m.parameters
   set_lines : Each (IsReadableSetLine limit (naming_of m)) m.set_lines
   variables : Each (λ (x : Variable). IsBound limit x.lower × IsBound limit x.upper) m.variables
-  adaptives : Each (λ (y : AdaptiveVariable). Each (λ k. k < length (naming_of m).parameters) y.on × (IsBound limit y.lower × IsBound limit y.upper)) m.adaptives
+  adaptives : Each (λ (y : AdaptiveVariable). Each (λ k. k < length (naming_of m).parameters) y.on
+      × (IsBound limit y.lower × IsBound limit y.upper)) m.adaptives
   objective : IsReadable limit (naming_of m) m.objective
   rows : Each (λ (r : Row). IsReadable limit (naming_of m) r.left × IsReadable limit (naming_of m) r.right) m.rows
 
-own_readable : (limit : ℕ) (m : RobustModel) → m.sets ≡ [] → IsReadableModel limit (naming_of m) m → AreOwnReadable limit m
+own_readable : (limit : ℕ) (m : RobustModel) → m.sets ≡ [] → IsReadableModel limit (naming_of m) m
+    → AreOwnReadable limit m
 own_readable limit m alone readable =
     let same = own_written m alone readable.placed in
     let parts = readable.parts in
     let names = naming_of m in
     record {
       parameters =
-          subst (Each (λ (p : model.Parameter). IsBound limit p.lower × IsBound limit p.upper)) (all_taken m alone) parts.parameters;
-      set_lines = subst (Each (IsReadableSetLine limit names)) (ap (λ (x : RobustModel). x.set_lines) same) parts.set_lines;
+          subst (Each (λ (p : model.Parameter). IsBound limit p.lower × IsBound limit p.upper))
+          (all_taken m alone) parts.parameters;
+      set_lines =
+          subst (Each (IsReadableSetLine limit names)) (ap (λ (x : RobustModel). x.set_lines) same) parts.set_lines;
       variables = parts.variables;
       adaptives = parts.adaptives;
       objective = subst (IsReadable limit names) (ap (λ (x : RobustModel). x.objective) same) parts.objective;
       rows =
-          subst (Each (λ (r : Row). IsReadable limit names r.left × IsReadable limit names r.right)) (ap (λ (x : RobustModel). x.rows) same) parts.rows;
+          subst (Each (λ (r : Row). IsReadable limit names r.left × IsReadable limit names r.right))
+          (ap (λ (x : RobustModel). x.rows) same) parts.rows;
     }
 
 -- ---- the split model
-module _ (limit : ℕ) (m : RobustModel) (alone : m.sets ≡ []) (cuts : List Cut) (readable : IsReadableModel limit (naming_of m) m)
-    (levels : HaveFittingLevels limit cuts) (inside : Each (λ (cut : Cut). cut.parameter < length m.parameters) cuts) where
+module _ (limit : ℕ) (m : RobustModel) (alone : m.sets ≡ []) (cuts : List Cut)
+    (readable : IsReadableModel limit (naming_of m) m)
+    (levels : HaveFittingLevels limit cuts)
+    (inside : Each (λ (cut : Cut). cut.parameter < length m.parameters) cuts) where
   abbrev s : RobustModel
   s = split_model m cuts
 
@@ -145,7 +162,8 @@ module _ (limit : ℕ) (m : RobustModel) (alone : m.sets ≡ []) (cuts : List Cu
 
   parameters_of : length a.parameters ≡ length m.parameters
   parameters_of =
-      length-map (written_parameters m) (λ (p : model.Parameter). p.name) ∙ ap (λ (ps : List model.Parameter). length ps) (all_taken m alone)
+      length-map (written_parameters m) (λ (p : model.Parameter). p.name)
+      ∙ ap (λ (ps : List model.Parameter). length ps) (all_taken m alone)
 
   split_parameters_of : length b.parameters ≡ length m.parameters
   split_parameters_of =
@@ -185,11 +203,13 @@ module _ (limit : ℕ) (m : RobustModel) (alone : m.sets ≡ []) (cuts : List Cu
     over : (e : Expression) → IsReadable limit a e → IsReadable limit b (renamed m c e)
     over = renamed_readable m c limit a b known_parameter known_variable (known_copy c cell)
 
-    side_of_cut : (cut : Cut) (side : ℕ) → Fits limit cut.level → cut.parameter < length m.parameters → IsReadableSetLine limit b (side_written m c cut side)
+    side_of_cut : (cut : Cut) (side : ℕ) → Fits limit cut.level → cut.parameter < length m.parameters
+        → IsReadableSetLine limit b (side_written m c cut side)
     side_of_cut cut zero fits h = (omega (arith, h, split_parameters_of), side_readable limit b cut.level fits)
     side_of_cut cut (suc k) fits h = (omega (arith, h, split_parameters_of), side_readable limit b cut.level fits)
 
-    sides_of_cuts : (cs : List Cut) → HaveFittingLevels limit cs → Each (λ (cut : Cut). cut.parameter < length m.parameters) cs
+    sides_of_cuts : (cs : List Cut) → HaveFittingLevels limit cs
+        → Each (λ (cut : Cut). cut.parameter < length m.parameters) cs
         → Each (IsReadableSetLine limit b) (sides_written m c cs)
     sides_of_cuts [] fits h = tt
     sides_of_cuts (cut ∷ cs) fits h = (side_of_cut cut _ fits.0 h.0, sides_of_cuts cs fits.1 h.1)
@@ -209,8 +229,10 @@ module _ (limit : ℕ) (m : RobustModel) (alone : m.sets ≡ []) (cuts : List Cu
     bound_fits (Some q) h = (h, tt)
 
     bounds_fit : (ys : List AdaptiveVariable)
-        → Each (λ (y : AdaptiveVariable). Each (λ k. k < length a.parameters) y.on × (IsBound limit y.lower × IsBound limit y.upper)) ys
-        → Each (λ (y : AdaptiveVariable). Each (Fits limit) (if_declared (λ x. x) y.lower) × Each (Fits limit) (if_declared (λ x. x) y.upper)) ys
+        → Each (λ (y : AdaptiveVariable). Each (λ k. k < length a.parameters) y.on
+        × (IsBound limit y.lower × IsBound limit y.upper)) ys
+        → Each (λ (y : AdaptiveVariable). Each (Fits limit) (if_declared (λ x. x) y.lower)
+        × Each (Fits limit) (if_declared (λ x. x) y.upper)) ys
     bounds_fit [] h = tt
     bounds_fit (y ∷ ys) h = ((bound_fits y.lower h.0.1.0, bound_fits y.upper h.0.1.1), bounds_fit ys h.1)
 
@@ -218,7 +240,8 @@ module _ (limit : ℕ) (m : RobustModel) (alone : m.sets ≡ []) (cuts : List Cu
     rows_readable = (
       (worst_known, over m.objective own.objective),
       each_append RowReadable (map (row_renamed m c) m.rows) (bounds_written m c 0 m.adaptives)
-          (each_mapped (row_renamed m c) (λ (r : Row). IsReadable limit a r.left × IsReadable limit a r.right) RowReadable
+          (each_mapped (row_renamed m c) (λ (r : Row). IsReadable limit a r.left
+          × IsReadable limit a r.right) RowReadable
           (λ r h. (over r.left h.0, over r.right h.1)) m.rows own.rows)
           (each_bound_written m c RowReadable (Fits limit) 0 m.adaptives (bounds_fit m.adaptives own.adaptives)
           (λ name j relation bound small fits. (
@@ -227,12 +250,18 @@ module _ (limit : ℕ) (m : RobustModel) (alone : m.sets ≡ []) (cuts : List Cu
           ))),
     )
 
-    copies_readable : Each (λ (y : AdaptiveVariable). Each (λ k. k < length b.parameters) y.on × (IsBound limit y.lower × IsBound limit y.upper)) (map (copy_in m c) m.adaptives)
+    copies_readable : Each (λ (y : AdaptiveVariable). Each (λ k. k < length b.parameters) y.on
+        × (IsBound limit y.lower × IsBound limit y.upper)) (map (copy_in m c) m.adaptives)
     copies_readable =
         each_mapped (copy_in m c)
-        (λ (y : AdaptiveVariable). Each (λ k. k < length a.parameters) y.on × (IsBound limit y.lower × IsBound limit y.upper))
-        (λ (y : AdaptiveVariable). Each (λ k. k < length b.parameters) y.on × (IsBound limit y.lower × IsBound limit y.upper))
-        (λ y h. (each_map (λ k. k < length a.parameters) (λ k. k < length b.parameters) known_parameter y.on h.0, (tt, tt))) m.adaptives own.adaptives
+        (λ (y : AdaptiveVariable). Each (λ k. k < length a.parameters) y.on
+        × (IsBound limit y.lower × IsBound limit y.upper))
+        (λ (y : AdaptiveVariable). Each (λ k. k < length b.parameters) y.on
+        × (IsBound limit y.lower × IsBound limit y.upper))
+        (λ y h. (
+          each_map (λ k. k < length a.parameters) (λ k. k < length b.parameters) known_parameter y.on h.0,
+          (tt, tt),
+        )) m.adaptives own.adaptives
 
   pub written_readable : HasReadableParts limit b w
   written_readable = record {
@@ -241,15 +270,21 @@ module _ (limit : ℕ) (m : RobustModel) (alone : m.sets ≡ []) (cuts : List Cu
         each_flat (IsReadableSetLine limit b) (λ c. lines_written m c cuts) (cell_numbers cuts)
         (each_cell cuts (λ c. Each (IsReadableSetLine limit b) (lines_written m c cuts)) lines_readable);
     variables =
-        each_append (λ (x : Variable). IsBound limit x.lower × IsBound limit x.upper) m.variables (cells_worst ∷ []) own.variables ((tt, tt), tt);
+        each_append (λ (x : Variable). IsBound limit x.lower × IsBound limit x.upper) m.variables (cells_worst ∷ [])
+        own.variables ((tt, tt), tt);
     adaptives =
-        each_flat (λ (y : AdaptiveVariable). Each (λ k. k < length b.parameters) y.on × (IsBound limit y.lower × IsBound limit y.upper))
+        each_flat (λ (y : AdaptiveVariable). Each (λ k. k < length b.parameters) y.on
+        × (IsBound limit y.lower × IsBound limit y.upper))
         (λ c. map (copy_in m c) m.adaptives) (cell_numbers cuts)
         (each_cell cuts
-        (λ c. Each (λ (y : AdaptiveVariable). Each (λ k. k < length b.parameters) y.on × (IsBound limit y.lower × IsBound limit y.upper)) (map (copy_in m c) m.adaptives))
+        (λ c. Each (λ (y : AdaptiveVariable). Each (λ k. k < length b.parameters) y.on
+        × (IsBound limit y.lower × IsBound limit y.upper)) (map (copy_in m c) m.adaptives))
         copies_readable);
     objective = worst_known;
     rows =
-        each_flat (λ (r : Row). IsReadable limit b r.left × IsReadable limit b r.right) (rows_written m) (cell_numbers cuts)
-        (each_cell cuts (λ c. Each (λ (r : Row). IsReadable limit b r.left × IsReadable limit b r.right) (rows_written m c)) rows_readable);
+        each_flat (λ (r : Row). IsReadable limit b r.left × IsReadable limit b r.right)
+        (rows_written m) (cell_numbers cuts)
+        (each_cell cuts
+        (λ c. Each (λ (r : Row). IsReadable limit b r.left × IsReadable limit b r.right) (rows_written m c))
+        rows_readable);
   }

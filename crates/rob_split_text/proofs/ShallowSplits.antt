@@ -1,25 +1,23 @@
 -- The lines of a split model's canonical text open no more parentheses at once than the model's own lines do.
-use Rattle.std.proofs.Common.{◌≡◌, ℕ, zero, suc, ◌<◌, ◌==◌, ℤ, pos, negsuc, Bool, true, false, List, [], ◌∷◌, ◌++◌, length, map, refl, sym, ap, ◌∙◌, subst, arith}
+use Rattle.std.proofs.Common.{◌≡◌, ℕ, zero, suc, ◌<◌, Bool, true, false, List, [], ◌∷◌, ◌++◌, length, map, refl, sym, ap, ◌∙◌, subst, arith}
 use Rattle.std.proofs.lemmas.List.{map-append}
-use Rattle.std.specs.Prelude.{Option, Some, None, int_lt, if◌then◌else◌}
-use Rattle.rob_algebra.specs.Fraction.{Fraction, neg_ℚ}
 use Rattle.rob_lex.specs.Offences.{most_open}
 use Rattle.rob_meaning.proofs.EachLemmas.{each_all, each_append, each_both, each_left, each_right}
 use Rattle.rob_meaning.specs.Expressions.{Expression, Terms, Factors, number, parameter, variable, adaptive, adaptive_in, sum, product, no_terms, term, no_factors, factor}
 use Rattle.rob_meaning.specs.Names.{Name}
 use Rattle.rob_meaning.specs.Places.{Each}
-use Rattle.rob_meaning.specs.RobustModel.{AdaptiveVariable, Member, Parameter, Relation, RobustModel, Row, Sense, SetLine, Variable, at_least, at_most, budget, equal, line, maximise, minimise}
+use Rattle.rob_meaning.specs.RobustModel.{AdaptiveVariable, Member, Parameter, Relation, RobustModel, Row, Sense, SetLine, Variable, budget, line, maximise, minimise}
 use Rattle.rob_pieces.proofs.BlockLemmas.{each_flat, each_mapped}
 use Rattle.rob_pieces.specs.Cuts.{Cut, bit, cell_numbers}
-use Rattle.rob_pieces.specs.SplitModel.{as_side, copy_in, cost_relation, side_of_sign}
-use Rattle.rob_round_trip.proofs.Lengths.TokenFits.{IsFlat, MayStep, Shallow, Step, deeper, stays, step_of_mark, step_of_word, words_shallow}
+use Rattle.rob_pieces.specs.SplitModel.{copy_in, cost_relation}
+use Rattle.rob_round_trip.proofs.Lengths.DepthSteps.{MayStep, Shallow, Step, deeper, stays, step_of_mark, step_of_word, words_shallow}
 use Rattle.rob_round_trip.specs.Pages.{IsShallow, IsWritable}
 use Rattle.rob_split_text.proofs.FormedSplits.{each_bound_written, no_condition}
 use Rattle.rob_split_text.proofs.WrittenSplits.{bound_written, bounds_written, cost_written, factors_renamed, line_renamed, lines_written, renamed, row_renamed, rows_written, side_written, sides_written, terms_renamed, written_split}
 use Rattle.rob_syntax.specs.declared.symbol.Mark.{Mark}
 use Rattle.rob_syntax.specs.declared.symbol.Mark.TheVariants as mark
-use Rattle.rob_syntax.specs.declared.symbol.Keyword.TheVariants as word
-use Rattle.rob_write.specs.Canonical.{Naming, Written, adaptive_words, bound_words, comma, comparison_words, declared_set_words, digits, enclosed, expression_words, factor_words, goal_word, goal_words, is_compound, is_sum, keyword, lead, line_end, lines_alone, lines_over, listed, member_words, minus_words, name, name_at, naming_alone, negative, number_words, over_words, paren, parameter_words, relation_word, row_words, set_words, sign, term_words, times, variable_words}
+use Rattle.rob_write.specs.Canonical.{Naming, Written, adaptive_words, comma, comparison_words, declared_set_words, digits, enclosed, expression_words, factor_words, goal_word, goal_words, is_compound, is_sum, keyword, lead, line_end, lines_alone, lines_over, listed, member_words, name, name_at, naming_alone, negative, number_words, over_words, paren, parameter_words, relation_word, row_words, set_words, sign, term_words, times, variable_words}
+use Rattle.rob_split_text.proofs.FlatWords.{AreFlat, bound_flat, relation_flat, over_flat, side_flat, names_flat}
 
 -- ---- steps of words
 -- what each of the words does to the parentheses that are open
@@ -69,68 +67,22 @@ same_low : (d : ℕ) (ws vs : List Written) → steps vs ≡ steps ws → IsLow 
 same_low d ws vs e h = from_steps d vs (subst (Shallow (λ (s : Step). s) d) (sym e) (to_steps d ws h))
 
 -- words without parentheses, in front and behind
-abbrev AreFlat : List Written → Type 0
-AreFlat ws = IsFlat step_of_word ws
-
 flat_low : (d : ℕ) (ws : List Written) → AreFlat ws → IsLow d ws
 flat_low d [] h = tt
 flat_low d (w ∷ ws) h = subst (λ (s : Step). MayStep d s × IsLow (deeper d s) ws) (sym h.0) (tt, flat_low d ws h.1)
 
 flat_front : (d : ℕ) (ws vs : List Written) → AreFlat ws → IsLow d vs → IsLow d (ws ++ vs)
 flat_front d [] vs h k = k
-flat_front d (w ∷ ws) vs h k = subst (λ (s : Step). MayStep d s × IsLow (deeper d s) (ws ++ vs)) (sym h.0) (tt, flat_front d ws vs h.1 k)
+flat_front d (w ∷ ws) vs h k =
+    subst (λ (s : Step). MayStep d s × IsLow (deeper d s) (ws ++ vs)) (sym h.0) (tt, flat_front d ws vs h.1 k)
 
 flat_behind : (d : ℕ) (ws vs : List Written) → IsLow d ws → AreFlat vs → IsLow d (ws ++ vs)
 flat_behind d [] vs h k = flat_low d vs k
 flat_behind d (w ∷ ws) vs h k = (h.0, flat_behind (deeper d (step_of_word w)) ws vs h.1 k)
 
-both_flat : (ws vs : List Written) → AreFlat ws → AreFlat vs → AreFlat (ws ++ vs)
-both_flat ws vs h k = each_append (λ w. step_of_word w ≡ stays) ws vs h k
-
--- ---- flat words
-minus_flat : (b : Bool) → AreFlat (minus_words b)
-minus_flat true = (refl, tt)
-minus_flat false = tt
-
-number_flat : (q : Fraction) → AreFlat (number_words q)
-number_flat q = both_flat (minus_words (int_lt q.num (pos 0))) _ (minus_flat (int_lt q.num (pos 0))) (refl, divisor (q.den == 1))
-  where
-    divisor : (b : Bool) → AreFlat (if b then [] else (sign mark.Slash ∷ (digits q.den ∷ [])))
-    divisor true = tt
-    divisor false = (refl, (refl, tt))
-
-bound_flat : (lower upper : Option Fraction) → AreFlat (bound_words lower upper)
-bound_flat None None = tt
-bound_flat (Some l) None = (refl, number_flat l)
-bound_flat None (Some u) = (refl, number_flat u)
-bound_flat (Some l) (Some u) = (refl, (refl, both_flat (number_words l) _ (number_flat l) (refl, both_flat (number_words u) _ (number_flat u) (refl, tt))))
-
-relation_flat : (r : Relation) → step_of_word (relation_word r) ≡ stays
-relation_flat at_most = refl
-relation_flat at_least = refl
-relation_flat equal = refl
-
-over_flat : (sets : List Name) (S : ℕ) → AreFlat (over_words sets S)
-over_flat sets zero = tt
-over_flat sets (suc S) = (refl, (refl, tt))
-
-side_flat : (names : Naming) (q : Fraction) → AreFlat (expression_words names (as_side q))
-side_flat names q = by q.num
-  where
-    by : (z : ℤ) → AreFlat (expression_words names (side_of_sign z q))
-    by (pos n) = number_flat q
-    by (negsuc n) = (refl, both_flat (number_words (neg_ℚ q) ++ []) [] (both_flat (number_words (neg_ℚ q)) [] (number_flat (neg_ℚ q)) tt) tt)
-
-comma_flat : (first : Bool) → AreFlat (comma first)
-comma_flat true = tt
-comma_flat false = (refl, tt)
-
-names_flat : (names : List Name) (first : Bool) (ks : List ℕ) → AreFlat (listed (λ k. name_at names k ∷ []) first ks)
-names_flat names first [] = tt
-names_flat names first (k ∷ ks) = both_flat (comma first) _ (comma_flat first) (refl, names_flat names false ks)
-
 -- ---- the same steps
-both_steps : (ws vs us ts : List Written) → steps ws ≡ steps us → steps vs ≡ steps ts → steps (ws ++ vs) ≡ steps (us ++ ts)
+both_steps : (ws vs us ts : List Written) → steps ws ≡ steps us → steps vs ≡ steps ts
+    → steps (ws ++ vs) ≡ steps (us ++ ts)
 both_steps ws vs us ts h k = map-append step_of_word ws vs ∙ (λ i. h i ++ k i) ∙ sym (map-append step_of_word us ts)
 
 module _ (m : RobustModel) (c : ℕ) (a b : Naming) where
@@ -152,7 +104,8 @@ module _ (m : RobustModel) (c : ℕ) (a b : Naming) where
   compound_stays (sum ts) = refl
   compound_stays (product fs) = refl
 
-  enclosed_steps : (p q : Bool) (ws vs : List Written) → p ≡ q → steps ws ≡ steps vs → steps (enclosed p ws) ≡ steps (enclosed q vs)
+  enclosed_steps : (p q : Bool) (ws vs : List Written) → p ≡ q → steps ws ≡ steps vs
+      → steps (enclosed p ws) ≡ steps (enclosed q vs)
   enclosed_steps p q ws vs same h =
       ap (λ (x : Bool). steps (enclosed x ws)) same
       ∙ both_steps (paren q mark.Open) (ws ++ paren q mark.Close) (paren q mark.Open) (vs ++ paren q mark.Close) refl
@@ -168,20 +121,26 @@ module _ (m : RobustModel) (c : ℕ) (a b : Naming) where
     expression_steps (sum ts) = terms_steps true ts
     expression_steps (product fs) = factors_steps true fs
 
-    terms_steps : (first : Bool) (ts : Terms) → steps (term_words b first (terms_renamed m c ts)) ≡ steps (term_words a first ts)
+    terms_steps : (first : Bool) (ts : Terms)
+        → steps (term_words b first (terms_renamed m c ts)) ≡ steps (term_words a first ts)
     terms_steps first no_terms = refl
     terms_steps first (term minus e ts) =
         both_steps (lead first minus) _ (lead first minus) _ refl
-        (both_steps (enclosed (is_sum (renamed m c e)) (expression_words b (renamed m c e))) _ (enclosed (is_sum e) (expression_words a e)) _
-        (enclosed_steps (is_sum (renamed m c e)) (is_sum e) (expression_words b (renamed m c e)) (expression_words a e) (sum_stays e) (expression_steps e))
+        (both_steps (enclosed (is_sum (renamed m c e)) (expression_words b (renamed m c e))) _
+        (enclosed (is_sum e) (expression_words a e)) _
+        (enclosed_steps (is_sum (renamed m c e)) (is_sum e) (expression_words b (renamed m c e)) (expression_words a e)
+        (sum_stays e) (expression_steps e))
         (terms_steps false ts))
 
-    factors_steps : (first : Bool) (fs : Factors) → steps (factor_words b first (factors_renamed m c fs)) ≡ steps (factor_words a first fs)
+    factors_steps : (first : Bool) (fs : Factors)
+        → steps (factor_words b first (factors_renamed m c fs)) ≡ steps (factor_words a first fs)
     factors_steps first no_factors = refl
     factors_steps first (factor e fs) =
         both_steps (times first) _ (times first) _ refl
-        (both_steps (enclosed (is_compound (renamed m c e)) (expression_words b (renamed m c e))) _ (enclosed (is_compound e) (expression_words a e)) _
-        (enclosed_steps (is_compound (renamed m c e)) (is_compound e) (expression_words b (renamed m c e)) (expression_words a e) (compound_stays e) (expression_steps e))
+        (both_steps (enclosed (is_compound (renamed m c e)) (expression_words b (renamed m c e))) _
+        (enclosed (is_compound e) (expression_words a e)) _
+        (enclosed_steps (is_compound (renamed m c e)) (is_compound e) (expression_words b (renamed m c e))
+        (expression_words a e) (compound_stays e) (expression_steps e))
         (factors_steps false fs))
 
   comparison_steps : (l r : Expression) (relation : Relation)
@@ -190,35 +149,45 @@ module _ (m : RobustModel) (c : ℕ) (a b : Naming) where
       both_steps (expression_words b (renamed m c l)) _ (expression_words a l) _ (expression_steps l)
       (ap (λ (ss : List Step). step_of_word (relation_word relation) ∷ ss) (expression_steps r))
 
-  members_steps : (first : Bool) (hs : List Member) → steps (listed (member_words b) first hs) ≡ steps (listed (member_words a) first hs)
+  members_steps : (first : Bool) (hs : List Member)
+      → steps (listed (member_words b) first hs) ≡ steps (listed (member_words a) first hs)
   members_steps first [] = refl
   members_steps first (h ∷ hs) =
-      both_steps (comma first) _ (comma first) _ refl (both_steps (member_words b h) _ (member_words a h) _ refl (members_steps false hs))
+      both_steps (comma first) _ (comma first) _ refl
+      (both_steps (member_words b h) _ (member_words a h) _ refl (members_steps false hs))
 
   line_steps : (l : SetLine) → steps (set_words b (line_renamed m c l)) ≡ steps (set_words a l)
   line_steps (line l relation r) = ap (λ (ss : List Step). stays ∷ ss) (comparison_steps l r relation)
   line_steps (budget limit hs) =
       ap (λ (ss : List Step). stays ∷ ss)
-      (both_steps (number_words limit) _ (number_words limit) _ refl (ap (λ (ss : List Step). stays ∷ ss) (members_steps true hs)))
+      (both_steps (number_words limit) _ (number_words limit) _ refl
+      (ap (λ (ss : List Step). stays ∷ ss) (members_steps true hs)))
 
   row_steps : (r : Row) → steps (row_words b (row_renamed m c r)) ≡ steps (row_words a r)
   row_steps r = ap (λ (ss : List Step). stays ∷ (stays ∷ (stays ∷ ss))) (comparison_steps r.left r.right r.relation)
 
 -- ---- the lines
 -- lines that may be in a set are shallow where what they write is low
-lines_shallow : {A : Type 0} (write : A → List Written) (sets : List Name) (xs : List A) (Ss : List ℕ) → Each (λ x. IsLow 0 (write x)) xs
+lines_shallow : {A : Type 0} (write : A → List Written) (sets : List Name) (xs : List A) (Ss : List ℕ)
+    → Each (λ x. IsLow 0 (write x)) xs
     → Each (IsShallow 0) (lines_over write sets xs Ss)
 lines_shallow write sets [] Ss h = tt
-lines_shallow write sets (x ∷ xs) [] h =
-    (words_shallow 0 (write x ++ over_words sets 0) (flat_behind 0 (write x) _ h.0 (over_flat sets 0)), lines_shallow write sets xs [] h.1)
-lines_shallow write sets (x ∷ xs) (S ∷ Ss) h =
-    (words_shallow 0 (write x ++ over_words sets S) (flat_behind 0 (write x) _ h.0 (over_flat sets S)), lines_shallow write sets xs Ss h.1)
+lines_shallow write sets (x ∷ xs) [] h = (
+  words_shallow 0 (write x ++ over_words sets 0) (flat_behind 0 (write x) _ h.0 (over_flat sets 0)),
+  lines_shallow write sets xs [] h.1,
+)
+lines_shallow write sets (x ∷ xs) (S ∷ Ss) h = (
+  words_shallow 0 (write x ++ over_words sets S) (flat_behind 0 (write x) _ h.0 (over_flat sets S)),
+  lines_shallow write sets xs Ss h.1,
+)
 
-mapped_shallow : {A : Type 0} (write : A → List Written) (xs : List A) → Each (λ x. IsLow 0 (write x)) xs → Each (IsShallow 0) (map write xs)
+mapped_shallow : {A : Type 0} (write : A → List Written) (xs : List A) → Each (λ x. IsLow 0 (write x)) xs
+    → Each (IsShallow 0) (map write xs)
 mapped_shallow write [] h = tt
 mapped_shallow write (x ∷ xs) h = (words_shallow 0 (write x) h.0, mapped_shallow write xs h.1)
 
-unmapped : {A : Type 0} (write : A → List Written) (xs : List A) → Each (IsLow 0) (map write xs) → Each (λ x. IsLow 0 (write x)) xs
+unmapped : {A : Type 0} (write : A → List Written) (xs : List A) → Each (IsLow 0) (map write xs)
+    → Each (λ x. IsLow 0 (write x)) xs
 unmapped write [] h = tt
 unmapped write (x ∷ xs) h = (h.0, unmapped write xs h.1)
 
@@ -235,7 +204,8 @@ module _ (m : RobustModel) (cuts : List Cut) (lines : Each (IsLow 0) (lines_alon
 
   behind_parameters : Each (IsLow 0)
       (map (set_words a) m.set_lines
-      ++ (map variable_words m.variables ++ (map (adaptive_words a) m.adaptives ++ goal_words a m.sense m.objective ∷ map (row_words a) m.rows)))
+      ++ (map variable_words m.variables
+      ++ (map (adaptive_words a) m.adaptives ++ goal_words a m.sense m.objective ∷ map (row_words a) m.rows)))
   behind_parameters = each_right (IsLow 0) (map parameter_words m.parameters) _ lines
 
   of_sets : Each (λ (l : SetLine). IsLow 0 (set_words a l)) m.set_lines
@@ -244,7 +214,8 @@ module _ (m : RobustModel) (cuts : List Cut) (lines : Each (IsLow 0) (lines_alon
   from_goal : Each (IsLow 0) (goal_words a m.sense m.objective ∷ map (row_words a) m.rows)
   from_goal =
       each_right (IsLow 0) (map (adaptive_words a) m.adaptives) _
-      (each_right (IsLow 0) (map variable_words m.variables) _ (each_right (IsLow 0) (map (set_words a) m.set_lines) _ behind_parameters))
+      (each_right (IsLow 0) (map variable_words m.variables) _
+      (each_right (IsLow 0) (map (set_words a) m.set_lines) _ behind_parameters))
 
   of_rows : Each (λ (r : Row). IsLow 0 (row_words a r)) m.rows
   of_rows = unmapped (row_words a) m.rows from_goal.1
@@ -255,8 +226,10 @@ module _ (m : RobustModel) (cuts : List Cut) (lines : Each (IsLow 0) (lines_alon
   module _ (b : Naming) where
     module _ (c : ℕ) where
       side_low : (cut : Cut) (bit : ℕ) → IsLow 0 (set_words b (side_written m c cut bit))
-      side_low cut zero = flat_low 0 (set_words b (side_written m c cut zero)) (refl, (refl, (refl, side_flat b cut.level)))
-      side_low cut (suc k) = flat_low 0 (set_words b (side_written m c cut (suc k))) (refl, (refl, (refl, side_flat b cut.level)))
+      side_low cut zero =
+          flat_low 0 (set_words b (side_written m c cut zero)) (refl, (refl, (refl, side_flat b cut.level)))
+      side_low cut (suc k) =
+          flat_low 0 (set_words b (side_written m c cut (suc k))) (refl, (refl, (refl, side_flat b cut.level)))
 
       sides_low : (cs : List Cut) → Each (λ (l : SetLine). IsLow 0 (set_words b l)) (sides_written m c cs)
       sides_low [] = tt
@@ -264,9 +237,12 @@ module _ (m : RobustModel) (cuts : List Cut) (lines : Each (IsLow 0) (lines_alon
 
       cell_lines_low : Each (λ (l : SetLine). IsLow 0 (set_words b l)) (lines_written m c cuts)
       cell_lines_low =
-          each_append (λ (l : SetLine). IsLow 0 (set_words b l)) (map (line_renamed m c) m.set_lines) (sides_written m c cuts)
-          (each_mapped (line_renamed m c) (λ (l : SetLine). IsLow 0 (set_words a l)) (λ (l : SetLine). IsLow 0 (set_words b l))
-          (λ l h. same_low 0 (set_words a l) (set_words b (line_renamed m c l)) (line_steps m c a b l) h) m.set_lines of_sets)
+          each_append (λ (l : SetLine). IsLow 0 (set_words b l)) (map (line_renamed m c) m.set_lines)
+          (sides_written m c cuts)
+          (each_mapped (line_renamed m c) (λ (l : SetLine). IsLow 0 (set_words a l))
+          (λ (l : SetLine). IsLow 0 (set_words b l))
+          (λ l h. same_low 0 (set_words a l) (set_words b (line_renamed m c l)) (line_steps m c a b l) h) m.set_lines
+          of_sets)
           (sides_low cuts)
 
       cost_low : IsLow 0 (row_words b (cost_written m c))
@@ -278,9 +254,11 @@ module _ (m : RobustModel) (cuts : List Cut) (lines : Each (IsLow 0) (lines_alon
             tt,
             (
               tt,
-              flat_front 0 (relation_word (cost_relation m c m.sense) ∷ []) (expression_words b (renamed m c m.objective))
+              flat_front 0 (relation_word (cost_relation m c m.sense) ∷ [])
+                  (expression_words b (renamed m c m.objective))
                   (relation_flat (cost_relation m c m.sense), tt)
-                  (same_low 0 (expression_words a m.objective) (expression_words b (renamed m c m.objective)) (expression_steps m c a b m.objective) of_objective),
+                  (same_low 0 (expression_words a m.objective) (expression_words b (renamed m c m.objective))
+                  (expression_steps m c a b m.objective) of_objective),
             ),
           ),
         ),
@@ -289,12 +267,16 @@ module _ (m : RobustModel) (cuts : List Cut) (lines : Each (IsLow 0) (lines_alon
       cell_rows_low : Each (λ (r : Row). IsLow 0 (row_words b r)) (rows_written m c)
       cell_rows_low = (
         cost_low,
-        each_append (λ (r : Row). IsLow 0 (row_words b r)) (map (row_renamed m c) m.rows) (bounds_written m c 0 m.adaptives)
+        each_append (λ (r : Row). IsLow 0 (row_words b r)) (map (row_renamed m c) m.rows)
+            (bounds_written m c 0 m.adaptives)
             (each_mapped (row_renamed m c) (λ (r : Row). IsLow 0 (row_words a r)) (λ (r : Row). IsLow 0 (row_words b r))
-            (λ r h. same_low 0 (row_words a r) (row_words b (row_renamed m c r)) (row_steps m c a b r) h) m.rows of_rows)
-            (each_bound_written m c (λ (r : Row). IsLow 0 (row_words b r)) (λ x. Unit {0}) 0 m.adaptives (no_condition m.adaptives)
+            (λ r h. same_low 0 (row_words a r) (row_words b (row_renamed m c r)) (row_steps m c a b r) h) m.rows
+            of_rows)
+            (each_bound_written m c (λ (r : Row). IsLow 0 (row_words b r)) (λ x. Unit {0}) 0 m.adaptives
+            (no_condition m.adaptives)
             (λ name j relation bound small q.
-            flat_low 0 (row_words b (bound_written m c name j relation bound)) (refl, (refl, (refl, (refl, (relation_flat relation, side_flat b bound))))))),
+            flat_low 0 (row_words b (bound_written m c name j relation bound))
+            (refl, (refl, (refl, (refl, (relation_flat relation, side_flat b bound))))))),
       )
 
       copy_low : (y : AdaptiveVariable) → IsLow 0 (adaptive_words b (copy_in m c y))
@@ -304,14 +286,16 @@ module _ (m : RobustModel) (cuts : List Cut) (lines : Each (IsLow 0) (lines_alon
           tt,
           (
             (let e : 0 < most_open = omega arith in e),
-            flat_front 1 (listed (λ k. name_at b.parameters k ∷ []) true y.on) (sign mark.Close ∷ []) (names_flat b.parameters true y.on) (tt, tt),
+            flat_front 1 (listed (λ k. name_at b.parameters k ∷ []) true y.on) (sign mark.Close ∷ [])
+                (names_flat b.parameters true y.on) (tt, tt),
           ),
         ),
       )
 
       copies_low : Each (λ (y : AdaptiveVariable). IsLow 0 (adaptive_words b y)) (map (copy_in m c) m.adaptives)
       copies_low =
-          each_mapped (copy_in m c) (λ (y : AdaptiveVariable). Unit {0}) (λ (y : AdaptiveVariable). IsLow 0 (adaptive_words b y))
+          each_mapped (copy_in m c) (λ (y : AdaptiveVariable). Unit {0})
+          (λ (y : AdaptiveVariable). IsLow 0 (adaptive_words b y))
           (λ y h. copy_low y) m.adaptives (each_all (λ (y : AdaptiveVariable). Unit {0}) (λ y. tt) m.adaptives)
 
     -- the canonical lines of what is written, with sets of these names, are shallow
@@ -327,27 +311,35 @@ module _ (m : RobustModel) (cuts : List Cut) (lines : Each (IsLow 0) (lines_alon
     split_shallow sets of_lines of_rows =
         each_append (IsShallow 0) (map parameter_words w.parameters) _
         (mapped_shallow parameter_words w.parameters
-        (each_all (λ (p : Parameter). IsLow 0 (parameter_words p)) (λ p. flat_low 0 (parameter_words p) (refl, (refl, bound_flat p.lower p.upper))) w.parameters))
+        (each_all (λ (p : Parameter). IsLow 0 (parameter_words p))
+        (λ p. flat_low 0 (parameter_words p) (refl, (refl, bound_flat p.lower p.upper))) w.parameters))
         (each_append (IsShallow 0) (map declared_set_words sets) _
-        (mapped_shallow declared_set_words sets (each_all (λ (n : Name). IsLow 0 (declared_set_words n)) (λ n. (tt, (tt, tt))) sets))
+        (mapped_shallow declared_set_words sets
+        (each_all (λ (n : Name). IsLow 0 (declared_set_words n)) (λ n. (tt, (tt, tt))) sets))
         (each_append (IsShallow 0) (lines_over (set_words b) sets w.set_lines of_lines) _
         (lines_shallow (set_words b) sets w.set_lines of_lines
         (each_flat (λ (l : SetLine). IsLow 0 (set_words b l)) (λ c. lines_written m c cuts) (cell_numbers cuts)
-        (each_all (λ c. Each (λ (l : SetLine). IsLow 0 (set_words b l)) (lines_written m c cuts)) cell_lines_low (cell_numbers cuts))))
+        (each_all (λ c. Each (λ (l : SetLine). IsLow 0 (set_words b l)) (lines_written m c cuts))
+        cell_lines_low (cell_numbers cuts))))
         (each_append (IsShallow 0) (map variable_words w.variables) _
         (mapped_shallow variable_words w.variables
-        (each_all (λ (x : Variable). IsLow 0 (variable_words x)) (λ x. flat_low 0 (variable_words x) (refl, (refl, bound_flat x.lower x.upper))) w.variables))
+        (each_all (λ (x : Variable). IsLow 0 (variable_words x))
+        (λ x. flat_low 0 (variable_words x) (refl, (refl, bound_flat x.lower x.upper))) w.variables))
         (each_append (IsShallow 0) (map (adaptive_words b) w.adaptives) _
         (mapped_shallow (adaptive_words b) w.adaptives
-        (each_flat (λ (y : AdaptiveVariable). IsLow 0 (adaptive_words b y)) (λ c. map (copy_in m c) m.adaptives) (cell_numbers cuts)
-        (each_all (λ c. Each (λ (y : AdaptiveVariable). IsLow 0 (adaptive_words b y)) (map (copy_in m c) m.adaptives)) copies_low (cell_numbers cuts)))) (
+        (each_flat (λ (y : AdaptiveVariable). IsLow 0 (adaptive_words b y))
+        (λ c. map (copy_in m c) m.adaptives) (cell_numbers cuts)
+        (each_all (λ c. Each (λ (y : AdaptiveVariable). IsLow 0 (adaptive_words b y)) (map (copy_in m c) m.adaptives))
+        copies_low (cell_numbers cuts)))) (
           goal_shallow m.sense,
           lines_shallow (row_words b) sets w.rows of_rows
               (each_flat (λ (r : Row). IsLow 0 (row_words b r)) (rows_written m) (cell_numbers cuts)
-              (each_all (λ c. Each (λ (r : Row). IsLow 0 (row_words b r)) (rows_written m c)) cell_rows_low (cell_numbers cuts))),
+              (each_all (λ c. Each (λ (r : Row). IsLow 0 (row_words b r)) (rows_written m c))
+              cell_rows_low (cell_numbers cuts))),
         )))))
       where
-        goal_shallow : (sense : Sense) → IsShallow 0 (goal_words b sense (variable (length m.variables)) ++ over_words sets 0)
+        goal_shallow : (sense : Sense)
+            → IsShallow 0 (goal_words b sense (variable (length m.variables)) ++ over_words sets 0)
         goal_shallow minimise = (tt, (tt, tt))
         goal_shallow maximise = (tt, (tt, tt))
 

@@ -1,15 +1,8 @@
--- The declared names of a split model may be declared in a text, where the model's may and none is too long: what is new ends with
--- the cell's number.
-use Rattle.std.proofs.Common.{◌≡◌, ◌≢◌, ℕ, suc, ◌+◌, ◌%◌, ◌^◌, ◌<◌, ◌≤◌, Bool, true, false, List, [], ◌∷◌, ◌++◌, length, map, refl, sym, ap, ◌∙◌, subst, arith, pow_mono}
-use Rattle.std.specs.Fmt.{decimal}
-use Rattle.std.specs.Prelude.{Option, Some, None, codes, eqb, ◌&&◌, not, if◌then◌else◌}
-use Rattle.std.specs.Str.{bytes_eq}
-use Rattle.std.proofs.lemmas.Bool.{eqb-false}
-use Rattle.std.proofs.lemmas.Bool.Decides.{nat_tests}
-use Rattle.std.proofs.lemmas.Fmt.{decimal_by_steps}
-use Rattle.std.proofs.lemmas.Slice.Eq.{bytes_eq-Decides}
+-- The declared names of a split model may be declared in a text, where the model's may and none is too long: what is
+-- new ends with the cell's number.
+use Rattle.std.proofs.Common.{◌≡◌, ℕ, suc, ◌^◌, ◌<◌, ◌≤◌, List, [], ◌∷◌, ◌++◌, length, map, refl, sym, ap, ◌∙◌, subst, arith, pow_mono}
+use Rattle.std.specs.Prelude.{Option, Some, None, codes}
 use Rattle.rob_algebra.specs.Fraction.{Fraction}
-use Rattle.rob_lex.specs.Bytes.{goes_on_word}
 use Rattle.rob_meaning.proofs.AloneLemmas.{all_taken}
 use Rattle.rob_meaning.proofs.EachLemmas.{each_append, each_both, each_left, each_map, each_right}
 use Rattle.rob_meaning.specs.Named.{adaptive_names, declared_names, row_names, variable_names, written_names}
@@ -21,69 +14,12 @@ use Rattle.rob_pieces.proofs.BlockLemmas.{each_cell, each_flat, each_mapped}
 use Rattle.rob_pieces.proofs.ColumnLemmas.{written_parameters_split}
 use Rattle.rob_pieces.specs.Cuts.{Cut, IsCell, cell_numbers}
 use Rattle.rob_pieces.specs.SplitModel.{bound_row, bound_rows, cell_names, cell_rows, cells_worst, copy_in, numbered, row_over, split_model}
+use Rattle.rob_parse.proofs.Names.ExpandedNames.{IsFreeWord, marked_word, word_more}
 use Rattle.rob_syntax.specs.Names.{GoesOn, IsSpelled, IsWord}
-use Rattle.rob_syntax.specs.Symbols.{keyword_among, keywords}
-use Rattle.rob_syntax.specs.declared.symbol.Keyword.{Keyword}
 
--- ---- a numbered name is a word
-goes_append : (a b : List ℕ) → GoesOn a → GoesOn b → GoesOn (a ++ b)
-goes_append [] b h k = k
-goes_append (x ∷ a) b h k = (h.0, goes_append a b h.1 k)
-
-digit_goes : (n : ℕ) → n < 10 → goes_on_word (48 + n) ≡ true
-digit_goes n h = grind (arith, nat_tests)
-
-decimal_goes : (n : ℕ) → n < 2 ^ 64 → GoesOn (decimal n)
-decimal_goes n h = decimal_by_steps (λ n ds. GoesOn ds) one more n h
-  where
-    one : (n : ℕ) → n < 10 → GoesOn ((48 + n) ∷ [])
-    one n small = (digit_goes n small, tt)
-
-    more : (n : ℕ) (ds : List ℕ) → 10 ≤ n → GoesOn ds → GoesOn (ds ++ ((48 + n % 10) ∷ []))
-    more n ds big goes = goes_append ds ((48 + n % 10) ∷ []) goes (digit_goes (n % 10) (omega arith), tt)
-
-word_more : (name tail : List ℕ) → IsWord name → GoesOn tail → IsWord (name ++ tail)
-word_more [] tail h k = absurd h
-word_more (b ∷ bytes) tail h k = (h.0, goes_append bytes tail h.1 k)
-
--- ---- and no keyword, which have no underscore
-abbrev is_unmarked : Name → Bool
-is_unmarked [] = true
-is_unmarked (b ∷ bs) = not (eqb b 95) && is_unmarked bs
-
-unmarked : (name : Name) → is_unmarked name ≡ true → Each (λ b. b ≢ 95) name
-unmarked [] h = tt
-unmarked (b ∷ bs) h = by (eqb b 95) refl h (unmarked bs)
-  where
-    by : (e : Bool) → eqb b 95 ≡ e → (not e && is_unmarked bs) ≡ true →
-        (is_unmarked bs ≡ true → Each (λ b. b ≢ 95) bs) → Each (λ b. b ≢ 95) (b ∷ bs)
-    by true e h rest = cc
-    by false e h rest = (eqb-false b 95 e, rest h)
-
-marked : (name word : Name) (c : ℕ) → is_unmarked word ≡ true → numbered name c ≢ word
-marked name word c h e =
-    (each_right (λ b. b ≢ 95) name (codes "_" ++ decimal c) (subst (Each (λ b. b ≢ 95)) (sym e) (unmarked word h))).0 refl
-
-no_keyword : (name : Name) (c : ℕ) (ks : List (List ℕ × Keyword)) → Each (λ (k : List ℕ × Keyword). is_unmarked k.0 ≡ true) ks
-    → keyword_among ks (numbered name c) ≡ None
-no_keyword name c [] h = refl
-no_keyword name c (k ∷ ks) h = by (bytes_eq (numbered name c) k.0) refl (no_keyword name c ks h.1)
-  where
-    by : (e : Bool) → bytes_eq (numbered name c) k.0 ≡ e → keyword_among ks (numbered name c) ≡ None
-        → (if e then Some k.1 else keyword_among ks (numbered name c)) ≡ None
-    by true e rest = absurd (marked name k.0 c h.0 ((bytes_eq-Decides (numbered name c) k.0).0 e))
-    by false e rest = rest
-
-keywords_unmarked : Each (λ (k : List ℕ × Keyword). is_unmarked k.0 ≡ true) keywords
-keywords_unmarked = (refl, (refl, (refl, (refl, (refl, (refl, (refl, (refl, (refl, (refl, (refl, (refl, (refl, (refl, (refl, (refl, (refl, (refl, (refl, (refl, tt))))))))))))))))))))
-
--- a word, and no keyword
-abbrev IsFreeWord : Name → Type 0
-IsFreeWord name = IsWord name × (keyword_among keywords name ≡ None)
-
+-- ---- a numbered name is a word, and no keyword
 numbered_word : (name : Name) (c : ℕ) → c < 2 ^ 64 → IsWord name → IsFreeWord (numbered name c)
-numbered_word name c small h =
-    (word_more name (codes "_" ++ decimal c) h (refl, decimal_goes c small), no_keyword name c keywords keywords_unmarked)
+numbered_word name c small h = marked_word name c small h
 
 worst_free : IsFreeWord (codes "cells_worst")
 worst_free = ((refl, (refl, (refl, (refl, (refl, (refl, (refl, (refl, (refl, (refl, (refl, tt))))))))))), refl)
@@ -98,7 +34,8 @@ module _ {A : Type 0} (P : Name → Type 0) (name : A → Name) where
   to_names [] h = tt
   to_names (x ∷ xs) h = (h.0, to_names xs h.1)
 
-module _ (m : RobustModel) (alone : m.sets ≡ []) (cuts : List Cut) (few : length cuts ≤ 3) (spelled : Each IsSpelled (declared_names m)) where
+module _ (m : RobustModel) (alone : m.sets ≡ []) (cuts : List Cut) (few : length cuts ≤ 3)
+    (spelled : Each IsSpelled (declared_names m)) where
   abbrev s : RobustModel
   s = split_model m cuts
 
@@ -123,24 +60,31 @@ module _ (m : RobustModel) (alone : m.sets ≡ []) (cuts : List Cut) (few : leng
   of_written : Each IsFreeWord (written_names s)
   of_written =
       subst (Each IsFreeWord)
-      (sym (ap (λ (ps : List Parameter). map (λ (p : Parameter). p.name) ps) (written_parameters_split m cuts ∙ sym (all_taken m alone))))
+      (sym (ap (λ (ps : List Parameter). map (λ (p : Parameter). p.name) ps)
+      (written_parameters_split m cuts ∙ sym (all_taken m alone))))
       (each_left IsFreeWord (written_names m) _ free)
 
   of_rows : Each (λ (r : Row). IsFreeWord r.name) m.rows
   of_rows = of_names IsFreeWord (λ (r : Row). r.name) m.rows (each_left IsFreeWord (row_names m) _ behind_sets)
 
   of_variables : Each (λ (x : Variable). IsFreeWord x.name) m.variables
-  of_variables = of_names IsFreeWord (λ (x : Variable). x.name) m.variables (each_left IsFreeWord (variable_names m) _ behind_rows)
+  of_variables =
+      of_names IsFreeWord (λ (x : Variable). x.name) m.variables (each_left IsFreeWord (variable_names m) _ behind_rows)
 
   of_adaptives : Each (λ (y : AdaptiveVariable). IsFreeWord y.name) m.adaptives
-  of_adaptives = of_names IsFreeWord (λ (y : AdaptiveVariable). y.name) m.adaptives (each_right IsFreeWord (variable_names m) _ behind_rows)
+  of_adaptives =
+      of_names IsFreeWord (λ (y : AdaptiveVariable). y.name) m.adaptives
+      (each_right IsFreeWord (variable_names m) _ behind_rows)
 
-  bound_names : (c k : ℕ) → IsCell cuts c → (ys : List AdaptiveVariable) → Each (λ (y : AdaptiveVariable). IsFreeWord y.name) ys
+  bound_names : (c k : ℕ) → IsCell cuts c → (ys : List AdaptiveVariable)
+      → Each (λ (y : AdaptiveVariable). IsFreeWord y.name) ys
       → Each (λ (r : Row). IsFreeWord r.name) (bound_rows m c k ys)
   bound_names c k cell [] h = tt
   bound_names c k cell (y ∷ ys) h =
-      each_append (λ (r : Row). IsFreeWord r.name) _ _ (declared (codes "_lower") at_least y.lower (refl, (refl, (refl, (refl, (refl, (refl, tt)))))))
-      (each_append (λ (r : Row). IsFreeWord r.name) _ _ (declared (codes "_upper") at_most y.upper (refl, (refl, (refl, (refl, (refl, (refl, tt)))))))
+      each_append (λ (r : Row). IsFreeWord r.name) _ _
+      (declared (codes "_lower") at_least y.lower (refl, (refl, (refl, (refl, (refl, (refl, tt)))))))
+      (each_append (λ (r : Row). IsFreeWord r.name) _ _
+      (declared (codes "_upper") at_most y.upper (refl, (refl, (refl, (refl, (refl, (refl, tt)))))))
       (bound_names c (suc k) cell ys h.1))
     where
       declared : (end : Name) (relation : Relation) (o : Option Fraction) → GoesOn end
@@ -157,9 +101,11 @@ module _ (m : RobustModel) (alone : m.sets ≡ []) (cuts : List Cut) (few : leng
         (bound_names c 0 cell m.adaptives of_adaptives),
   )
 
-  adaptive_names_free : (c : ℕ) → IsCell cuts c → Each (λ (y : AdaptiveVariable). IsFreeWord y.name) (map (copy_in m c) m.adaptives)
+  adaptive_names_free : (c : ℕ) → IsCell cuts c
+      → Each (λ (y : AdaptiveVariable). IsFreeWord y.name) (map (copy_in m c) m.adaptives)
   adaptive_names_free c cell =
-      each_mapped (copy_in m c) (λ (y : AdaptiveVariable). IsFreeWord y.name) (λ (y : AdaptiveVariable). IsFreeWord y.name)
+      each_mapped (copy_in m c) (λ (y : AdaptiveVariable). IsFreeWord y.name)
+      (λ (y : AdaptiveVariable). IsFreeWord y.name)
       (λ y h. made y.name c cell h.0) m.adaptives of_adaptives
 
   all_free : Each IsFreeWord (declared_names s)
@@ -167,7 +113,8 @@ module _ (m : RobustModel) (alone : m.sets ≡ []) (cuts : List Cut) (few : leng
       each_append IsFreeWord (written_names s) _ of_written
       (each_append IsFreeWord (cell_names cuts) _
       (to_names IsFreeWord (numbered (codes "cell")) (cell_numbers cuts)
-      (each_cell cuts (λ c. IsFreeWord (numbered (codes "cell") c)) (λ c cell. made (codes "cell") c cell (refl, (refl, (refl, (refl, tt)))))))
+      (each_cell cuts (λ c. IsFreeWord (numbered (codes "cell") c))
+      (λ c cell. made (codes "cell") c cell (refl, (refl, (refl, (refl, tt)))))))
       (each_append IsFreeWord (row_names s) _
       (to_names IsFreeWord (λ (r : Row). r.name) s.rows
       (each_flat (λ (r : Row). IsFreeWord r.name) (cell_rows m) (cell_numbers cuts)
@@ -177,7 +124,8 @@ module _ (m : RobustModel) (alone : m.sets ≡ []) (cuts : List Cut) (few : leng
       (each_append (λ (x : Variable). IsFreeWord x.name) m.variables (cells_worst ∷ []) of_variables (worst_free, tt)))
       (to_names IsFreeWord (λ (y : AdaptiveVariable). y.name) s.adaptives
       (each_flat (λ (y : AdaptiveVariable). IsFreeWord y.name) (λ c. map (copy_in m c) m.adaptives) (cell_numbers cuts)
-      (each_cell cuts (λ c. Each (λ (y : AdaptiveVariable). IsFreeWord y.name) (map (copy_in m c) m.adaptives)) adaptive_names_free))))))
+      (each_cell cuts (λ c. Each (λ (y : AdaptiveVariable). IsFreeWord y.name) (map (copy_in m c) m.adaptives))
+      adaptive_names_free))))))
 
   pub split_spelled : Each (λ (name : Name). length name ≤ 32) (declared_names s) → Each IsSpelled (declared_names s)
   split_spelled short =

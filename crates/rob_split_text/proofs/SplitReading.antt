@@ -41,7 +41,8 @@ all_alike P c (x ∷ xs) h = (h, all_alike P c xs h)
 
 module _ (limit : ℕ) (text : List ℕ) (m : RobustModel) (cuts : List Cut) (above : 1 ≤ limit) (small : limit < 2 ^ 62)
     (read : ReadsModel limit text m) (alone : m.sets ≡ []) (three : length cuts ≤ 3) (are : AreCuts m cuts)
-    (levels : HaveFittingLevels limit cuts) (good : HasGoodNames (split_model m cuts)) (within : IsWithinLimits (split_model m cuts)) where
+    (levels : HaveFittingLevels limit cuts) (good : HasGoodNames (split_model m cuts))
+    (within : IsWithinLimits (split_model m cuts)) where
   abbrev s : RobustModel
   s = split_model m cuts
 
@@ -55,14 +56,16 @@ module _ (limit : ℕ) (text : List ℕ) (m : RobustModel) (cuts : List Cut) (ab
   written : written_model s ≡ w
   written =
       ap written_model (sym (split_in_sets m cuts))
-      ∙ written_is w refl (cell_names cuts) (lines_cells m cuts) 0 (rows_cells m cuts) w_formed (lines_fit m cuts) (rows_fit m cuts) refl refl refl
+      ∙ written_is w refl (cell_names cuts) (lines_cells m cuts) 0 (rows_cells m cuts) w_formed (lines_fit m cuts)
+      (rows_fit m cuts) refl refl refl
 
   cell_is_set : (c : ℕ) → IsCell cuts c → c < set_count s
   cell_is_set c cell = let most = cell.1 in let count = sets_count m cuts in omega (arith, most, count)
 
   placed : IsPlaced s
   placed = record {
-    taken_is = ap (λ (x : RobustModel). in_sets x (cell_names cuts) (lines_cells m cuts) 0 (rows_cells m cuts)) written ∙ split_in_sets m cuts;
+    taken_is = ap (λ (x : RobustModel). in_sets x (cell_names cuts) (lines_cells m cuts) 0 (rows_cells m cuts)) written
+        ∙ split_in_sets m cuts;
     line_sets =
         lines_fit m cuts ∙ sym (length-each_taken (line_taken (length m.parameters)) w.set_lines (lines_cells m cuts))
         ∙ ap (λ (x : RobustModel). length x.set_lines) (split_in_sets m cuts);
@@ -86,7 +89,8 @@ module _ (limit : ℕ) (text : List ℕ) (m : RobustModel) (cuts : List Cut) (ab
   split_readable : IsReadableModel limit (naming_of s) s
   split_readable = record {
     placed = placed;
-    parts = subst (HasReadableParts limit (naming_of s)) (sym written) (written_readable limit m alone cuts own_readable levels are);
+    parts = subst (HasReadableParts limit (naming_of s)) (sym written)
+        (written_readable limit m alone cuts own_readable levels are);
   }
 
   -- no budget has a parameter twice
@@ -105,7 +109,8 @@ module _ (limit : ℕ) (text : List ℕ) (m : RobustModel) (cuts : List Cut) (ab
   cell_once : (c : ℕ) → IsCell cuts c → Each HasDistinctMembers (lines_written m c cuts)
   cell_once c cell =
       each_append HasDistinctMembers (map (line_renamed m c) m.set_lines) (sides_written m c cuts)
-      (each_mapped (line_renamed m c) HasDistinctMembers HasDistinctMembers (renamed_once c) m.set_lines (well_named limit text m read).members)
+      (each_mapped (line_renamed m c) HasDistinctMembers HasDistinctMembers (renamed_once c) m.set_lines
+      (well_named limit text m read).members)
       (sides_once c cuts)
 
   once : Each HasDistinctMembers (written_model s).set_lines

@@ -117,7 +117,8 @@ module _ (m : RobustModel) (c : ℕ) where
     terms_taken_renamed no_terms = refl
     terms_taken_renamed (term minus e ts) = λ i. term minus (taken_renamed e i) (terms_taken_renamed ts i)
 
-    factors_taken_renamed : (fs : Factors) → factors_taken p (suc c) (factors_renamed m (suc c) fs) ≡ factors_over m (suc c) fs
+    factors_taken_renamed : (fs : Factors)
+        → factors_taken p (suc c) (factors_renamed m (suc c) fs) ≡ factors_over m (suc c) fs
     factors_taken_renamed no_factors = refl
     factors_taken_renamed (factor e fs) = λ i. factor (taken_renamed e i) (factors_taken_renamed fs i)
 
@@ -129,7 +130,8 @@ module _ (m : RobustModel) (c : ℕ) where
   line_taken_renamed (line l relation r) = λ i. line (taken_renamed l i) relation (taken_renamed r i)
   line_taken_renamed (budget limit hs) = ap (budget limit) (members_taken hs)
 
-  lines_taken_renamed : (ls : List SetLine) → map (line_taken p (suc c)) (map (line_renamed m (suc c)) ls) ≡ map (line_over m (suc c)) ls
+  lines_taken_renamed : (ls : List SetLine)
+      → map (line_taken p (suc c)) (map (line_renamed m (suc c)) ls) ≡ map (line_over m (suc c)) ls
   lines_taken_renamed [] = refl
   lines_taken_renamed (l ∷ ls) = λ i. line_taken_renamed l i ∷ lines_taken_renamed ls i
 
@@ -143,9 +145,11 @@ module _ (m : RobustModel) (c : ℕ) where
 
   side_taken : (cut : Cut) (b : ℕ) → line_taken p (suc c) (side_written m (suc c) cut b) ≡ side_line m (suc c) cut b
   side_taken cut zero = ap (line (parameter (parameter_in m (suc c) cut.parameter)) at_most) (number_taken cut.level)
-  side_taken cut (suc b) = ap (line (parameter (parameter_in m (suc c) cut.parameter)) at_least) (number_taken cut.level)
+  side_taken cut (suc b) =
+      ap (line (parameter (parameter_in m (suc c) cut.parameter)) at_least) (number_taken cut.level)
 
-  sides_taken : (cuts : List Cut) → map (line_taken p (suc c)) (sides_written m (suc c) cuts) ≡ side_lines m (suc c) cuts
+  sides_taken : (cuts : List Cut) → map (line_taken p (suc c)) (sides_written m (suc c) cuts)
+      ≡ side_lines m (suc c) cuts
   sides_taken [] = refl
   sides_taken (cut ∷ cuts) = λ i. side_taken cut (bit (length cuts) c) i ∷ sides_taken cuts i
 
@@ -157,7 +161,8 @@ module _ (m : RobustModel) (c : ℕ) where
     right = taken_renamed r.right i;
   }
 
-  rows_taken_renamed : (rs : List Row) → map (row_taken p (suc c)) (map (row_renamed m (suc c)) rs) ≡ map (row_over m (suc c)) rs
+  rows_taken_renamed : (rs : List Row)
+      → map (row_taken p (suc c)) (map (row_renamed m (suc c)) rs) ≡ map (row_over m (suc c)) rs
   rows_taken_renamed [] = refl
   rows_taken_renamed (r ∷ rs) = λ i. row_taken_renamed r i ∷ rows_taken_renamed rs i
 
@@ -171,7 +176,8 @@ module _ (m : RobustModel) (c : ℕ) where
   }
 
   declared_taken : (name : Name) (k : ℕ) (relation : Relation) (o : Option Fraction)
-      → map (row_taken p (suc c)) (if_declared (bound_written m (suc c) name k relation) o) ≡ if_declared (bound_row m (suc c) name k relation) o
+      → map (row_taken p (suc c)) (if_declared (bound_written m (suc c) name k relation) o)
+      ≡ if_declared (bound_row m (suc c) name k relation) o
   declared_taken name k relation None = refl
   declared_taken name k relation (Some x) = λ i. bound_taken name k relation x i ∷ []
 
@@ -201,7 +207,8 @@ module _ (m : RobustModel) (c : ℕ) where
 
 -- by the cell's number
 module _ (m : RobustModel) (cuts : List Cut) where
-  cell_lines_taken : (c : ℕ) → IsCell cuts c → map (line_taken (length m.parameters) c) (lines_written m c cuts) ≡ cell_lines m c cuts
+  cell_lines_taken : (c : ℕ) → IsCell cuts c
+      → map (line_taken (length m.parameters) c) (lines_written m c cuts) ≡ cell_lines m c cuts
   cell_lines_taken zero cell = absurd (let some = cell.0 in omega arith)
   cell_lines_taken (suc c) cell =
       map_both _ (map (line_renamed m (suc c)) m.set_lines) (sides_written m (suc c) cuts) _ _
@@ -217,7 +224,8 @@ module _ (m : RobustModel) (cuts : List Cut) where
 -- ---- one block after another
 module _ {A : Type 0} (take : ℕ → A → A) (f g : ℕ → List A) where
   one_block : (c : ℕ) (xs rest : List A) (Ss : List ℕ)
-      → each_taken take (xs ++ rest) (map (λ item. c) (map (take c) xs) ++ Ss) ≡ map (take c) xs ++ each_taken take rest Ss
+      → each_taken take (xs ++ rest) (map (λ item. c) (map (take c) xs) ++ Ss)
+      ≡ map (take c) xs ++ each_taken take rest Ss
   one_block c [] rest Ss = refl
   one_block c (x ∷ xs) rest Ss = ap (λ (l : List A). take c x ∷ l) (one_block c xs rest Ss)
 
@@ -225,11 +233,14 @@ module _ {A : Type 0} (take : ℕ → A → A) (f g : ℕ → List A) where
   abbrev cells : List ℕ → List ℕ
   cells cs = flat_map (λ c. map (λ item. c) (g c)) cs
 
-  blocks_taken : (cs : List ℕ) → Each (λ c. map (take c) (f c) ≡ g c) cs → each_taken take (flat_map f cs) (cells cs) ≡ flat_map g cs
+  blocks_taken : (cs : List ℕ) → Each (λ c. map (take c) (f c) ≡ g c) cs
+      → each_taken take (flat_map f cs) (cells cs) ≡ flat_map g cs
   blocks_taken [] h = refl
   blocks_taken (c ∷ cs) h =
-      subst (λ (ys : List A). each_taken take (f c ++ flat_map f cs) (map (λ item. c) ys ++ cells cs) ≡ ys ++ flat_map g cs) h.0
-      (one_block c (f c) (flat_map f cs) (cells cs) ∙ ap (λ (l : List A). map (take c) (f c) ++ l) (blocks_taken cs h.1))
+      subst (λ (ys : List A). each_taken take (f c ++ flat_map f cs) (map (λ item. c) ys ++ cells cs)
+      ≡ ys ++ flat_map g cs) h.0
+      (one_block c (f c) (flat_map f cs) (cells cs)
+      ∙ ap (λ (l : List A). map (take c) (f c) ++ l) (blocks_taken cs h.1))
 
   length-cells : (cs : List ℕ) → Each (λ c. map (take c) (f c) ≡ g c) cs → length (cells cs) ≡ length (flat_map f cs)
   length-cells [] h = refl
@@ -251,22 +262,33 @@ module _ (m : RobustModel) (cuts : List Cut) where
   abbrev pub rows_cells : List ℕ
   rows_cells = cells_of cuts (cell_rows m)
 
-  lines_by_cell : Each (λ c. map (line_taken (length m.parameters) c) (lines_written m c cuts) ≡ cell_lines m c cuts) (cell_numbers cuts)
-  lines_by_cell = each_cell cuts (λ c. map (line_taken (length m.parameters) c) (lines_written m c cuts) ≡ cell_lines m c cuts) (cell_lines_taken m cuts)
+  lines_by_cell : Each (λ c. map (line_taken (length m.parameters) c) (lines_written m c cuts) ≡ cell_lines m c cuts)
+      (cell_numbers cuts)
+  lines_by_cell =
+      each_cell cuts (λ c. map (line_taken (length m.parameters) c) (lines_written m c cuts) ≡ cell_lines m c cuts)
+      (cell_lines_taken m cuts)
 
-  rows_by_cell : Each (λ c. map (row_taken (length m.parameters) c) (rows_written m c) ≡ cell_rows m c) (cell_numbers cuts)
-  rows_by_cell = each_cell cuts (λ c. map (row_taken (length m.parameters) c) (rows_written m c) ≡ cell_rows m c) (cell_rows_taken m cuts)
+  rows_by_cell : Each (λ c. map (row_taken (length m.parameters) c) (rows_written m c) ≡ cell_rows m c)
+      (cell_numbers cuts)
+  rows_by_cell =
+      each_cell cuts (λ c. map (row_taken (length m.parameters) c) (rows_written m c) ≡ cell_rows m c)
+      (cell_rows_taken m cuts)
 
   pub lines_fit : length lines_cells ≡ length (written_split m cuts).set_lines
-  lines_fit = length-cells (line_taken (length m.parameters)) (λ c. lines_written m c cuts) (λ c. cell_lines m c cuts) (cell_numbers cuts) lines_by_cell
+  lines_fit =
+      length-cells (line_taken (length m.parameters)) (λ c. lines_written m c cuts) (λ c. cell_lines m c cuts)
+      (cell_numbers cuts) lines_by_cell
 
   pub rows_fit : length rows_cells ≡ length (written_split m cuts).rows
-  rows_fit = length-cells (row_taken (length m.parameters)) (rows_written m) (cell_rows m) (cell_numbers cuts) rows_by_cell
+  rows_fit = length-cells (row_taken (length m.parameters)) (rows_written m) (cell_rows m)
+      (cell_numbers cuts) rows_by_cell
 
   -- what is written, each part taken in its cell, is the split model
   pub split_in_sets : in_sets (written_split m cuts) (cell_names cuts) lines_cells 0 rows_cells ≡ split_model m cuts
   split_in_sets = λ i. record (split_model m cuts) {
     set_lines =
-        blocks_taken (line_taken (length m.parameters)) (λ c. lines_written m c cuts) (λ c. cell_lines m c cuts) (cell_numbers cuts) lines_by_cell i;
-    rows = blocks_taken (row_taken (length m.parameters)) (rows_written m) (cell_rows m) (cell_numbers cuts) rows_by_cell i;
+        blocks_taken (line_taken (length m.parameters)) (λ c. lines_written m c cuts) (λ c. cell_lines m c cuts)
+        (cell_numbers cuts) lines_by_cell i;
+    rows = blocks_taken (row_taken (length m.parameters)) (rows_written m) (cell_rows m)
+        (cell_numbers cuts) rows_by_cell i;
   }

@@ -1,11 +1,8 @@
--- What the readers of the parts of the grammar find: what stands at the front of some symbols, and that nothing else does.
+-- What the readers of the parts of the grammar find: what stands at the front
+-- of some symbols, and that nothing else does.
 pub mod FactorLemmas
 pub mod TermLemmas
 pub mod ExprLemmas
 pub mod ListLemmas
-pub mod OverLemmas
 pub mod LineLemmas
-pub mod StatementLemmas
-pub mod CauseLemmas
 pub mod WholeLemmas
-pub mod SequenceLemmas

@@ -38,6 +38,7 @@ abbrev pub spell_divisor : Option ℕ → List Symbol
 spell_divisor None = []
 spell_divisor (Some d) = Sign Slash ∷ Digits d ∷ []
 
+-- a number as it is written
 abbrev pub spell_number : Numeral → List Symbol
 spell_number n = Digits n.numerator ∷ spell_divisor n.divisor
 
@@ -46,27 +47,33 @@ abbrev pub spell_minus : Bool → List Symbol
 spell_minus true = Sign Minus ∷ []
 spell_minus false = []
 
+-- the sign in front of a term
 abbrev pub sign_of : Bool → Symbol
 sign_of true = Sign Minus
 sign_of false = Sign Plus
 
 abbrev mutual
+  -- a factor as it is written
   pub spell_factor : Factor → List Symbol
   spell_factor (number n) = spell_number n
   spell_factor (name span) = Name span ∷ []
   spell_factor (parens e) = Sign Open ∷ (spell_expr e ++ Sign Close ∷ [])
 
+  -- factors behind the first, each with its `*`
   pub spell_factors : Factors → List Symbol
   spell_factors no_factors = []
   spell_factors (times f fs) = Sign Star ∷ (spell_factor f ++ spell_factors fs)
 
+  -- a term as it is written
   pub spell_term : Term → List Symbol
   spell_term (term f fs) = spell_factor f ++ spell_factors fs
 
+  -- terms behind the first, each with its sign
   pub spell_terms : Terms → List Symbol
   spell_terms no_terms = []
   spell_terms (signed minus t ts) = sign_of minus ∷ (spell_term t ++ spell_terms ts)
 
+  -- an expression as it is written
   pub spell_expr : Expr → List Symbol
   spell_expr (expr minus t ts) = spell_minus minus ++ (spell_term t ++ spell_terms ts)
 
@@ -77,6 +84,7 @@ abbrev mutual
   tree_factor (name span) = syntax.Name span
   tree_factor (parens e) = tree_expr e
 
+  -- the trees of factors
   pub tree_factors : Factors → List Syntax
   tree_factors no_factors = []
   tree_factors (times f fs) = tree_factor f ∷ tree_factors fs
@@ -86,6 +94,7 @@ abbrev mutual
   tree_term (term f no_factors) = tree_factor f
   tree_term (term f (times g fs)) = syntax.Product (tree_factor f ∷ tree_factor g ∷ tree_factors fs)
 
+  -- the trees of terms, each with its sign
   pub tree_terms : Terms → List Summand
   tree_terms no_terms = []
   tree_terms (signed minus t ts) = record { minus = minus; inner = tree_term t } ∷ tree_terms ts

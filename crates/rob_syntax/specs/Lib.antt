@@ -1,4 +1,5 @@
 pub mod Symbols
+pub mod Versions
 pub mod Names
 pub mod Known
 pub mod Grammar
@@ -6,3 +7,10 @@ pub mod Lists
 pub mod Statements
 pub mod Trees
 pub mod Readers
+pub mod Seen
+pub mod Fronts
+pub mod Parts
+pub mod Whole
+pub mod Plain
+pub mod Few
+pub mod Numbered

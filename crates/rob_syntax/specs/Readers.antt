@@ -1,6 +1,6 @@
--- What a reader of a part of the grammar finds at the front of some symbols. A part ends where no symbol follows that would
--- go on it, so of all that could be read the longest is (one symbol of look-ahead: Aho, Lam, Sethi, Ullman, Compilers (2006),
--- chapter 4).
+-- What a reader of a part of the grammar finds at the front of some symbols. A part ends where no symbol follows that
+-- would go on it, so of all that could be read the longest is (one symbol of look-ahead: Aho, Lam, Sethi, Ullman,
+-- Compilers (2006), chapter 4).
 use Rattle.std.specs.Prelude.{◌≡◌, ◌<◌, ◌≤◌, Bool, true, false, List, [], ◌∷◌, ◌++◌, length}
 use Rattle.rob_syntax.specs.declared.syntax.Syntax.{Syntax}
 use Rattle.rob_syntax.specs.declared.syntax.Summand.{Summand}
@@ -9,8 +9,6 @@ use Rattle.rob_syntax.specs.declared.symbol.Symbol.{Symbol}
 use Rattle.rob_syntax.specs.declared.symbol.Symbol.TheVariants.{Name, Sign}
 use Rattle.rob_syntax.specs.declared.symbol.Mark.TheVariants.{Plus, Minus, Star, Slash, Comma}
 use Rattle.rob_syntax.specs.Lists.{spell_more}
-use Rattle.rob_syntax.specs.declared.error.ParseErr.{ParseErr}
-use Rattle.rob_syntax.specs.declared.error.ParseErr.TheVariants.{NotAStatement, Memory}
 
 -- what would go on a number
 abbrev pub goes_on_number : Symbol → Bool
@@ -50,9 +48,11 @@ Stops more [] = Unit {0}
 Stops more (s ∷ rest) = more s ≡ false
 
 -- the item stands at the front, and no other item with a rest that stops does
-pub record Found {A : Type 0} (spell : A → List Symbol) (more : Symbol → Bool) (symbols rest : List Symbol) (item : A) : Type 0 where
+pub record Found {A : Type 0} (spell : A → List Symbol) (more : Symbol → Bool) (symbols rest : List Symbol)
+    (item : A) : Type 0 where
   pub spelled : symbols ≡ spell item ++ rest
-  pub only : (other : A) (end : List Symbol) → symbols ≡ spell other ++ end → Stops more end → (other ≡ item) × (end ≡ rest)
+  pub only : (other : A) (end : List Symbol) → symbols ≡ spell other ++ end → Stops more end
+      → (other ≡ item) × (end ≡ rest)
 
 -- no item with a rest that stops stands at the front
 abbrev pub IsMissing : {A : Type 0} → (A → List Symbol) → (Symbol → Bool) → List Symbol → Type 0
@@ -68,30 +68,16 @@ abbrev pub IsNone : {A : Type 0} → (A → List Symbol) → List Symbol → Typ
 IsNone {A} spell symbols = (item : A) → symbols ≡ spell item → ⊥
 
 -- some item is found, whose tree is this, and the rest is shorter
-pub record Reads {A V : Type 0} (spell : A → List Symbol) (tree : A → V) (more : Symbol → Bool) (symbols rest : List Symbol) (value : V) : Type 0 where
+pub record Reads {A V : Type 0} (spell : A → List Symbol) (tree : A → V) (more : Symbol → Bool)
+    (symbols rest : List Symbol) (value : V) : Type 0 where
   pub item : A
   pub found : Found spell more symbols rest item
   pub tree_is : tree item ≡ value
   pub shorter : length rest < length symbols
 
--- some item is the whole, whose tree is this
-pub record ReadsWhole {A V : Type 0} (spell : A → List Symbol) (tree : A → V) (symbols : List Symbol) (value : V) : Type 0 where
-  pub item : A
-  pub whole : IsWhole spell symbols item
-  pub tree_is : tree item ≡ value
-
--- a refusal's cause at the front of some symbols; want of memory has none
-abbrev pub HasCause : {A : Type 0} → (A → List Symbol) → (Symbol → Bool) → List Symbol → ParseErr → Type 0
-HasCause spell more symbols NotAStatement = IsMissing spell more symbols
-HasCause spell more symbols Memory = Unit {0}
-
--- a refusal's cause at a whole line; want of memory has none
-abbrev pub HasWholeCause : {A : Type 0} → (A → List Symbol) → List Symbol → ParseErr → Type 0
-HasWholeCause spell symbols NotAStatement = IsNone spell symbols
-HasWholeCause spell symbols Memory = Unit {0}
-
 -- all items that follow, each behind a comma, are found and appended
-pub record ReadsMore {A : Type 0} (spell : A → List Symbol) (symbols rest : List Symbol) (old new : List A) : Type 0 where
+pub record ReadsMore {A : Type 0} (spell : A → List Symbol) (symbols rest : List Symbol)
+    (old new : List A) : Type 0 where
   pub items : List A
   pub found : Found (spell_more spell) goes_on_list symbols rest items
   pub appended : new ≡ old ++ items

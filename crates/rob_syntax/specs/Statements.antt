@@ -22,8 +22,6 @@ use Rattle.rob_syntax.specs.declared.syntax.Policy.{Policy}
 use Rattle.rob_syntax.specs.declared.syntax.Relation.{Relation}
 use Rattle.rob_syntax.specs.declared.syntax.Row.{Row}
 use Rattle.rob_syntax.specs.declared.syntax.Statement.{Statement}
-use Rattle.rob_syntax.specs.declared.error.ParseErr.{ParseErr}
-use Rattle.rob_syntax.specs.declared.error.ParseErr.TheVariants.{NotAStatement, Memory}
 use Rattle.rob_syntax.specs.declared.syntax.Statement.TheVariants as parsed
 use Rattle.rob_syntax.specs.Grammar.{Expr, spell_number, spell_minus, spell_expr, tree_expr}
 use Rattle.rob_syntax.specs.Lists.{spell_more, spell_list}
@@ -200,12 +198,3 @@ pub record IsStatement (symbols : List Symbol) (s : Statement) : Type 0 where
   pub line : Line
   pub spelled : symbols ≡ spell_line line
   pub statement_is : statement_of line ≡ s
-
--- the symbols of a line are no statement
-abbrev pub IsNoStatement : List Symbol → Type 0
-IsNoStatement symbols = (line : Line) → symbols ≡ spell_line line → ⊥
-
--- a refusal's cause; want of memory has none
-abbrev pub HasStatementCause : List Symbol → ParseErr → Type 0
-HasStatementCause symbols NotAStatement = IsNoStatement symbols
-HasStatementCause symbols Memory = Unit {0}

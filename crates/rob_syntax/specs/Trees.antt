@@ -44,6 +44,7 @@ tree_step (Syntax-F.Name k) = name k
 tree_step (Syntax-F.Sum ps) = sum (summands_of ps)
 tree_step (Syntax-F.Product fs) = product (operands_of fs)
 
+-- one level of a signed part
 abbrev pub part_step : Summand-F Tree Part → Part
 part_step s = record { minus = s.minus; inner = s.inner }
 

@@ -53,21 +53,27 @@ fn goal_or_part(word: &[u8]) -> Option<Keyword>
     if word == b"over".as_slice() {
         return Some(Keyword::Over);
     }
-    unused(word)
+    later(word)
 }
 
-/// A word that no statement has.
-fn unused(word: &[u8]) -> Option<Keyword>
+/// A word that no statement of version 1 has.
+fn later(word: &[u8]) -> Option<Keyword>
     ensures keyword { result ≡ keyword_among (drop 14 keywords) word.now }
 {
     if word == b"objective".as_slice() || word == b"tau".as_slice() {
         return Some(Keyword::Unused);
     }
-    if word == b"model".as_slice() || word == b"sum".as_slice() {
-        return Some(Keyword::Unused);
+    if word == b"model".as_slice() {
+        return Some(Keyword::Model);
     }
-    if word == b"for".as_slice() || word == b"to".as_slice() {
-        return Some(Keyword::Unused);
+    if word == b"sum".as_slice() {
+        return Some(Keyword::Sum);
+    }
+    if word == b"for".as_slice() {
+        return Some(Keyword::For);
+    }
+    if word == b"to".as_slice() {
+        return Some(Keyword::To);
     }
     None
 }

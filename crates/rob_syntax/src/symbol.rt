@@ -37,7 +37,13 @@ pub enum Keyword {
     At,
     By,
     Over,
-    /// A word that no statement has: one that is kept for later, or one that is too long for a name.
+    /// Of version 2, as the two behind it: no statement of version 1 has them.
+    Sum,
+    For,
+    To,
+    /// It names the version, and no statement has it.
+    Model,
+    /// A word that no statement has: `objective` and `tau`, and in version 1 one that is too long for a name.
     Unused,
 }
 
@@ -66,7 +72,8 @@ pub fn behind_mark(symbols: &[Symbol], mark: Mark) -> Option<&[Symbol]>
 /// The symbols behind the keyword, if it is the first.
 pub fn behind_word(symbols: &[Symbol], word: Keyword) -> Option<&[Symbol]>
     ensures read { MatchOption result
-        ((rest : List Symbol) → symbols.now ≡ Reserved word ∷ rest → ⊥) (λ rest. symbols.now ≡ Reserved word ∷ rest.now) }
+        ((rest : List Symbol) → symbols.now ≡ Reserved word ∷ rest → ⊥)
+        (λ rest. symbols.now ≡ Reserved word ∷ rest.now) }
 {
     match symbols {
         [Symbol::Reserved(first), rest @ ..] if *first == word => Some(rest),
@@ -77,7 +84,8 @@ pub fn behind_word(symbols: &[Symbol], word: Keyword) -> Option<&[Symbol]>
 /// The digits that are the first symbol, and the symbols behind them.
 pub fn front_digits(symbols: &[Symbol]) -> Option<(u64, &[Symbol])>
     ensures read { MatchOption result
-        ((value : ℕ) (rest : List Symbol) → symbols.now ≡ Digits value ∷ rest → ⊥) (λ p. symbols.now ≡ Digits p.0 ∷ p.1.now) }
+        ((value : ℕ) (rest : List Symbol) → symbols.now ≡ Digits value ∷ rest → ⊥)
+        (λ p. symbols.now ≡ Digits p.0 ∷ p.1.now) }
 {
     match symbols {
         [Symbol::Digits(value), rest @ ..] => Some((*value, rest)),

@@ -1,4 +1,5 @@
-//! What the parser makes of a line: names are numbers of words, and numbers are as they are written.
+//! What the parser makes of a line: names are numbers of words, and numbers are as they are written. A statement with
+//! indices, ranges and sums stands for a list of plain ones.
 
 use rob_number::List;
 
@@ -145,4 +146,133 @@ pub enum Statement {
     Adaptive(Policy),
     Goal(Goal),
     Row(Row),
+}
+
+/// Digits of an index, or the number of the word that is a range's name.
+#[derive(Clone, Copy)]
+pub enum Atom {
+    Digits(u64),
+    Bound(usize),
+}
+
+/// An atom added, or subtracted.
+#[derive(Clone, Copy)]
+pub struct Step {
+    pub minus: bool,
+    pub atom: Atom,
+}
+
+/// An index: an atom, and those added to it and subtracted from it.
+#[derive(Drop)]
+pub struct Index {
+    pub first: Atom,
+    pub more: List<Step>,
+}
+
+/// A name with its indices, or with none.
+#[derive(Drop)]
+pub struct Ref {
+    /// The number of a word.
+    pub name: usize,
+    pub indices: List<Index>,
+}
+
+/// A range: the number of its name's word, and both ends, which are values of it.
+#[derive(Drop)]
+pub struct Range {
+    pub name: usize,
+    pub from: Index,
+    pub upto: Index,
+}
+
+/// Something with the ranges that bind it, in order.
+#[derive(Drop)]
+pub struct Ranged<T> {
+    pub item: T,
+    pub ranges: List<Range>,
+}
+
+/// A signed part of a sum.
+#[cycle(tree)]
+#[derive(Drop)]
+pub struct Part {
+    pub minus: bool,
+    pub inner: Tree,
+}
+
+/// An expression's tree, as that of a plain expression, with indices, and with sums over a range.
+#[cycle(tree)]
+#[derive(Drop)]
+pub enum Tree {
+    Number(Numeral),
+    Ref(Ref),
+    Sum(List<Part>),
+    Product(List<Tree>),
+    Ranged(Range, Box<Tree>),
+}
+
+/// A member of a budget of uncertainty: a parameter with its centre and its greatest deviation.
+#[derive(Drop)]
+pub struct Share {
+    pub name: Ref,
+    pub centre: Signed,
+    pub deviation: Numeral,
+}
+
+/// Two expressions with a relation between them, and the set that the relation is over.
+#[derive(Drop)]
+pub struct Sides {
+    pub left: Tree,
+    pub rel: Rel,
+    pub right: Tree,
+    pub over: Option<Ref>,
+}
+
+/// A name that is declared, with its bounds and its ranges.
+#[derive(Drop)]
+pub struct Entry {
+    pub name: Ref,
+    pub bounds: Option<Bounds>,
+    pub ranges: List<Range>,
+}
+
+/// A budget of uncertainty: its limit and its members, of which there is one at least.
+#[derive(Drop)]
+pub struct Shares {
+    pub limit: Numeral,
+    pub members: List<Ranged<Share>>,
+    pub over: Option<Ref>,
+}
+
+/// An adaptive variable that is declared, with the parameters that it depends on, its bounds and its ranges.
+#[derive(Drop)]
+pub struct Rule {
+    pub name: Ref,
+    pub on: List<Ranged<Ref>>,
+    pub bounds: Option<Bounds>,
+    pub ranges: List<Range>,
+}
+
+/// The goal.
+#[derive(Drop)]
+pub struct Target {
+    pub sense: Sense,
+    pub objective: Tree,
+    pub over: Option<Ref>,
+    pub ranges: List<Range>,
+}
+
+/// A statement with indices, ranges and sums.
+#[derive(Drop)]
+pub enum Indexed {
+    Uncertain(Entry),
+    /// A set that is declared.
+    Over(Ranged<Ref>),
+    Set(Ranged<Sides>),
+    Budget(Shares),
+    Var(Entry),
+    Adaptive(Rule),
+    Goal(Target),
+    /// A row's name, what it demands, and its ranges.
+    Row(Ref, Ranged<Sides>),
 }

@@ -4,15 +4,17 @@ ghost use Rattle.std.specs.Prelude.{◌≡◌, ◌+◌, ◌*◌, ◌-◌, [], �
 ghost use Rattle.rob_syntax.specs.Known.{texts};
 ghost use Rattle.rob_syntax.specs.Symbols.{keywords, keyword_among, value_of, greatest_digits, add_word, word_in, words_of, symbol_at, symbols_of, token_lines};
 ghost use Rattle.rob_syntax.specs.Symbols as spec;
+ghost use Rattle.rob_syntax.specs.Versions.{seen_version};
 
 use crate::keyword::{first_of, keyword_of, mark_of};
 use crate::symbol::{Keyword, Symbol};
+use crate::version::Version;
 use indexmap::IndexSet;
 use rob_lex::{Kind, Token};
 use rob_number::Memory;
 use std::alloc::Global;
 
-/// The bytes that a name may have.
+/// The bytes that a name of version 1 may have.
 const LONGEST_NAME: usize = 32;
 
 /// What digits of a greater value count as.
@@ -44,7 +46,7 @@ fn add(alloc: Global, words: &mut Words, text: &[u8], token: Token) -> Result<()
 }
 
 /// The bytes of a token: what of its range lies inside the text.
-fn bytes_of(text: &[u8], token: Token) -> &[u8]
+pub fn bytes_of(text: &[u8], token: Token) -> &[u8]
     ensures bytes { result.now ≡ spec.bytes_of text.now token }
 {
     let end = text.len().min(token.end as usize);
@@ -52,18 +54,21 @@ fn bytes_of(text: &[u8], token: Token) -> &[u8]
     &text[start..end]
 }
 
-/// The symbols of some tokens.
+/// The symbols of some tokens of a text of that version.
 pub fn symbols(
     alloc: Global,
+    version: Version,
     words: &Words,
     text: &[u8],
     tokens: &[Token],
 ) -> Result<Vec<Symbol>, Memory>
-    ensures symbols { IfOk result (λ v. v.items ≡ symbols_of text.now (texts words.now.keys) tokens.now) }
+    ensures symbols { IfOk result
+        (λ v. v.items ≡ symbols_of text.now (seen_version version) (texts words.now.keys) tokens.now) }
 {
     let mut symbols = Vec::new(alloc);
     for token in tokens {
-        if let Some(symbol) = symbol(words, token.kind, bytes_of(text, *token)) {
+        let bytes = bytes_of(text, *token);
+        if let Some(symbol) = symbol(version, words, token.kind, bytes) {
             symbols.push(symbol)?;
         }
     }
@@ -71,30 +76,41 @@ pub fn symbols(
 }
 
 /// The symbol of a token's kind and bytes; a line end has none.
-fn symbol(words: &Words, kind: Kind, bytes: &[u8]) -> Option<Symbol>
-    ensures symbol { option_to_list result ≡ symbol_at (texts words.now.keys) kind bytes.now }
+fn symbol(version: Version, words: &Words, kind: Kind, bytes: &[u8]) -> Option<Symbol>
+    ensures symbol { option_to_list result ≡ symbol_at (seen_version version) (texts words.now.keys) kind bytes.now }
 {
     match kind {
-        Kind::Word => Some(word_symbol(words, bytes)),
+        Kind::Word => Some(word_symbol(version, words, bytes)),
         Kind::Digits => Some(Symbol::Digits(digits_value(bytes))),
         Kind::Sign => Some(Symbol::Sign(mark_of(first_of(bytes)))),
         Kind::LineEnd => None,
     }
 }
 
-/// A keyword, or a name that isn't too long.
-fn word_symbol(words: &Words, word: &[u8]) -> Symbol
-    ensures symbol { result ≡ spec.word_symbol (texts words.now.keys) word.now (keyword_among keywords word.now) }
+/// A keyword, or a name.
+fn word_symbol(version: Version, words: &Words, word: &[u8]) -> Symbol
+    ensures symbol { result ≡ spec.word_symbol (seen_version version) (texts words.now.keys) word.now
+        (keyword_among keywords word.now) }
 {
     match keyword_of(word) {
         Some(keyword) => Symbol::Reserved(keyword),
         None => {
-            if word.len() <= LONGEST_NAME {
+            if is_name(version, word) {
                 Symbol::Name(number_of(words, word))
             } else {
                 Symbol::Reserved(Keyword::Unused)
             }
         }
+    }
+}
+
+/// Whether a word that is no keyword is a name of that version.
+fn is_name(version: Version, word: &[u8]) -> bool
+    ensures name { result ≡ spec.is_name (seen_version version) word.now }
+{
+    match version {
+        Version::One => word.len() <= LONGEST_NAME,
+        Version::Two => true,
     }
 }
 

@@ -10,7 +10,7 @@ use rob_case::text::{broken, shown};
 use rob_model::Model;
 use rob_number::{Exact, Frac, Tally, Text};
 use rob_parse::read_model;
-use rob_rules::{ModelErr, read_statements};
+use rob_rules::{ModelErr, read_text};
 use rob_write::write_model;
 use std::alloc::Global;
 
@@ -21,7 +21,7 @@ fn reading(alloc: Global, text: &[u8]) -> Result<Result<usize, (u8, u32)>, Troub
     if text.len() > 1 << 30 {
         return Err(Trouble::Line);
     }
-    match read_statements(alloc, text, LIMIT) {
+    match read_text(alloc, text, LIMIT) {
         Ok(found) => Ok(Ok(found.list.items().len())),
         Err(ModelErr::Rule(rule, line)) => Ok(Err((rule, line))),
         Err(ModelErr::Memory) => Err(Trouble::Memory),

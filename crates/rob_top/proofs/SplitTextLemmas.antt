@@ -15,7 +15,7 @@ use Rattle.rob_parse.proofs.Building.PlacedLemmas.{well_formed}
 use Rattle.rob_parse.proofs.Degrees.NumberLemmas.{pair_fits}
 use Rattle.rob_parse.specs.Modelled.{ReadsModel}
 use Rattle.rob_pieces.specs.Cuts.{AreCuts, Cut}
-use Rattle.rob_rules.specs.Reading.{Breaks}
+use Rattle.rob_rules.specs.Texts.{Breaks}
 use Rattle.rob_sets.specs.FirstWide.{NothingWide}
 use Rattle.rob_sets.specs.SetForm.{judged_set}
 use Rattle.rob_split_text.proofs.ReadableSplits.{negated_fits}

@@ -9,9 +9,9 @@ use Rattle.rob_meaning.proofs.StatusLemmas.{optimal_not_infeasible, optimal_not_
 use Rattle.rob_parse.specs.Modelled.{ReadsModel}
 use Rattle.rob_outside.specs.Fetches.{Fetch}
 use Rattle.rob_outside.specs.Files.{File, Found, whole, missing, too_long, found_at}
-use Rattle.rob_rules.specs.Reading.{Breaks}
+use Rattle.rob_rules.specs.Texts.{Breaks}
 use Rattle.rob_parse.proofs.Building.OneModel.{not_both, one_model}
-use Rattle.rob_rules.proofs.OneReading.{one_rule}
+use Rattle.rob_rules.proofs.OneText.{one_break}
 use Rattle.rob_model.specs.declared.place.Spot.{Spot}
 use Rattle.rob_top.proofs.CourseLemmas.{Course, accepted_course, branched_course, cert_course, empty_branched_course, empty_course, limited_course, no_sweep_course, no_tree_course, empty_sought_course, no_row_course, no_whole_course, priced_course, rejected_course, lacking_course, narrowed_course, replayed_course, rows_course, scenarios_course, searched_course, solved_course, wide_budget_course, tree_accepted_course, tree_rejected_course, unplanned_course, wide_course, wide_leaf_course, wide_node_course, splitting, wide_way_course}
 use Rattle.rob_top.proofs.FilesLemmas.{empty_split}
@@ -241,7 +241,7 @@ module _ (call : Call) (known : Known call.source) (line : Line) (spelled : IsSp
 
       is_rule : (r n : ℕ) → Breaks (limit_of line) bytes r n → ended ≡ Model r n → ended ≡ Model rule number
       is_rule r n b e =
-          let one = one_rule (limit_of line) bytes r n rule number b breaks in
+          let one = one_break (limit_of line) bytes r n rule number b breaks in
           e ∙ ap (λ k. Model k n) one.0 ∙ ap (λ k. Model rule k) one.1
 
       by : Stage call ended → (ended ≡ Model rule number) ⊎ ((ended ≡ ReadFault) ⊎ (ended ≡ Memory))

@@ -24,7 +24,7 @@ use Rattle.rob_outside.specs.Files.{missing, too_long}
 use Rattle.rob_parse.proofs.Building.PlacedLemmas.{well_formed}
 use Rattle.rob_parse.proofs.Building.OneModel.{not_both}
 use Rattle.rob_parse.proofs.Names.WellNamed.{well_named, well_spelled}
-use Rattle.rob_rules.specs.Reading.{Breaks}
+use Rattle.rob_rules.specs.Texts.{Breaks}
 use Rattle.rob_sets.specs.FirstWide.{IsFirstWide}
 use Rattle.rob_sets.specs.SetForm.{judged_set}
 use Rattle.rob_branch.proofs.OneSpotLemmas.{first_once, none_first}

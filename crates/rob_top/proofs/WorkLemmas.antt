@@ -9,7 +9,7 @@ use Rattle.rob_number.specs.Lowest as Lowest
 use Rattle.rob_number.specs.declared.memory.Memory.{Memory as Want}
 use Rattle.rob_parse.specs.Modelled.{ReadsModel}
 use Rattle.rob_report.specs.Spots.{too_wide_line}
-use Rattle.rob_rules.specs.Reading.{Breaks, HasModelCause}
+use Rattle.rob_rules.specs.Texts.{Breaks, HasModelCause}
 use Rattle.rob_rules.specs.declared.error.ModelErr.{ModelErr}
 use Rattle.rob_rules.specs.declared.error.ModelErr.TheVariants as unread
 use Rattle.rob_report.specs.Rows.{rows_of}

@@ -19,7 +19,7 @@ use Rattle.rob_meaning.specs.UncertaintySet.{Admits, IsEmptySet}
 use Rattle.rob_model.specs.declared.place.Place.{Place}
 use Rattle.rob_model.specs.declared.place.Spot.{Spot}
 use Rattle.rob_outside.specs.Files.{missing, too_long}
-use Rattle.rob_rules.specs.Reading.{Breaks}
+use Rattle.rob_rules.specs.Texts.{Breaks}
 use Rattle.rob_reach.specs.Trees.{ProvesTree, Tree}
 use Rattle.rob_reach.specs.Sweeps.{IsBudgetAt}
 use Rattle.rob_reach.specs.WholeStatus.{HasWholeStatus}

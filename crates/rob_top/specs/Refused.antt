@@ -17,7 +17,7 @@ use Rattle.rob_model.specs.declared.place.Place.{Place}
 use Rattle.rob_model.specs.declared.place.Spot.{Spot}
 use Rattle.rob_model.specs.declared.place.Spot.TheVariants.{Check, Replay}
 use Rattle.rob_outside.specs.Files.{missing, too_long}
-use Rattle.rob_rules.specs.Reading.{Breaks}
+use Rattle.rob_rules.specs.Texts.{Breaks}
 use Rattle.rob_replay.specs.Outcome.{is_wide, outcome}
 use Rattle.rob_replay.specs.View.{Gives}
 use Rattle.rob_report.specs.Spots.{too_wide_line}

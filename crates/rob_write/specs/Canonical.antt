@@ -1,5 +1,5 @@
--- The canonical text of a model: its statements, kind by kind and each kind in order, a line each. A line is written word by
--- word and sign by sign, and the spaces between them follow from what stands on both sides.
+-- The canonical text of a model: its statements, kind by kind and each kind in order, a line each. A line is written
+-- word by word and sign by sign, and the spaces between them follow from what stands on both sides.
 use Rattle.std.specs.Fmt.{decimal}
 use Rattle.std.specs.Prelude.{ℕ, zero, suc, ◌%◌, ◌++◌, ◌==◌, Bool, true, false, List, [], ◌∷◌, map, fold, get_or, codes, nat_abs, int_lt, pos, if◌then◌else◌, Option, Some, None}
 use Rattle.rob_algebra.specs.Fraction.{Fraction}
@@ -39,8 +39,13 @@ keyword_text word.In = codes "in"
 keyword_text word.At = codes "at"
 keyword_text word.By = codes "by"
 keyword_text word.Over = codes "over"
+keyword_text word.Sum = codes "sum"
+keyword_text word.For = codes "for"
+keyword_text word.To = codes "to"
+keyword_text word.Model = codes "model"
 keyword_text word.Unused = []
 
+-- how a sign is written
 abbrev pub mark_text : Mark → List ℕ
 mark_text mark.Plus = codes "+"
 mark_text mark.Minus = codes "-"
@@ -56,6 +61,7 @@ mark_text mark.Equal = codes "="
 mark_text mark.AtMost = codes "<="
 mark_text mark.AtLeast = codes ">="
 
+-- how a thing is written; digits in decimal
 abbrev pub bytes_of : Written → List ℕ
 bytes_of (name bytes) = bytes
 bytes_of (digits n) = decimal n
@@ -83,6 +89,7 @@ edge_of_mark mark.Open = Tight
 edge_of_mark mark.OpenBracket = Tight
 edge_of_mark _ = Apart
 
+-- what the next thing stands behind
 abbrev pub edge_behind : Written → Edge
 edge_behind (name bytes) = Named
 edge_behind (digits n) = Apart
@@ -98,11 +105,13 @@ mark_is_close Named mark.Open = true
 mark_is_close Named m = leans_back m
 mark_is_close Apart m = leans_back m
 
+-- whether anything stands directly behind
 abbrev pub is_tight : Edge → Bool
 is_tight Tight = true
 is_tight Named = false
 is_tight Apart = false
 
+-- whether a thing stands directly behind
 abbrev pub is_close : Edge → Written → Bool
 is_close edge (sign m) = mark_is_close edge m
 is_close edge line_end = true
@@ -116,20 +125,25 @@ gap close = if close then [] else (32 ∷ [])
 abbrev pub put : Page → Written → Page
 put page w = record { text = page.text ++ (gap (is_close page.edge w) ++ bytes_of w); edge = edge_behind w }
 
+-- a page on which nothing is written
 abbrev pub blank : Page
 blank = record { text = []; edge = Tight }
 
 -- ---- numbers, in lowest terms
+-- the divisor, unless it is 1
 abbrev pub divisor_words : ℕ → List Written
 divisor_words den = if den == 1 then [] else (sign mark.Slash ∷ (digits den ∷ []))
 
+-- the `-` in front, if there is one
 abbrev pub minus_words : Bool → List Written
 minus_words minus = if minus then (negative ∷ []) else []
 
+-- a number
 abbrev pub number_words : Fraction → List Written
 number_words q = minus_words (int_lt q.num (pos 0)) ++ (digits (nat_abs q.num) ∷ divisor_words q.den)
 
--- ---- what a model has written: each parameter and each adaptive variable by its declared name, whatever set it is taken in
+-- ---- what a model has written: each parameter and each adaptive variable by
+-- its declared name, whatever set it is taken in
 module _ (count : ℕ) where
   abbrev mutual
     -- an expression as it is written, where there are so many written parameters
@@ -150,14 +164,16 @@ module _ (count : ℕ) where
     factors_written no_factors = no_factors
     factors_written (factor e fs) = factor (written e) (factors_written fs)
 
-  -- a member of a budget, a statement on a set, and a row, as they are written
+  -- a member of a budget, as it is written
   abbrev pub member_written : Member → Member
   member_written h = record h { parameter = h.parameter % count }
 
+  -- a statement on a set, as it is written
   abbrev pub line_written : SetLine → SetLine
   line_written (line left relation right) = line (written left) relation (written right)
   line_written (budget limit members) = budget limit (map member_written members)
 
+  -- a row, as it is written
   abbrev pub row_written : Row → Row
   row_written r = record r { left = written r.left; right = written r.right }
 
@@ -182,6 +198,7 @@ abbrev pub is_sum : Expression → Bool
 is_sum (sum ts) = true
 is_sum _ = false
 
+-- it is a sum or a product
 abbrev pub is_compound : Expression → Bool
 is_compound (sum ts) = true
 is_compound (product fs) = true
@@ -201,11 +218,12 @@ lead true minus = minus_words minus
 lead false true = sign mark.Minus ∷ []
 lead false false = sign mark.Plus ∷ []
 
--- in front of a factor, and of an item of a list
+-- in front of a factor
 abbrev pub times : (first : Bool) → List Written
 times true = []
 times false = sign mark.Star ∷ []
 
+-- in front of an item of a list
 abbrev pub comma : (first : Bool) → List Written
 comma true = []
 comma false = sign mark.Comma ∷ []
@@ -222,9 +240,12 @@ pub record Naming : Type 0 where
   pub variables : List Name
   pub adaptives : List Name
 
+-- the names of a model, by which its written parts are written
 abbrev pub naming_of : RobustModel → Naming
-naming_of m = record { parameters = written_names m; sets = m.sets; variables = variable_names m; adaptives = adaptive_names m }
+naming_of m =
+    record { parameters = written_names m; sets = m.sets; variables = variable_names m; adaptives = adaptive_names m }
 
+-- the name of this number
 abbrev pub name_at : List Name → ℕ → Written
 name_at names k = name (get_or names k [])
 
@@ -242,11 +263,13 @@ module _ (names : Naming) where
 
     pub term_words : Bool → Terms → List Written
     term_words first no_terms = []
-    term_words first (term minus e ts) = lead first minus ++ (enclosed (is_sum e) (expression_words e) ++ term_words false ts)
+    term_words first (term minus e ts) =
+        lead first minus ++ (enclosed (is_sum e) (expression_words e) ++ term_words false ts)
 
     pub factor_words : Bool → Factors → List Written
     factor_words first no_factors = []
-    factor_words first (factor e fs) = times first ++ (enclosed (is_compound e) (expression_words e) ++ factor_words false fs)
+    factor_words first (factor e fs) =
+        times first ++ (enclosed (is_compound e) (expression_words e) ++ factor_words false fs)
 
 -- ---- statements
 abbrev pub relation_word : Relation → Written
@@ -254,38 +277,49 @@ relation_word at_most = sign mark.AtMost
 relation_word at_least = sign mark.AtLeast
 relation_word equal = sign mark.Equal
 
+-- bounds behind a name
 abbrev pub bound_words : Option Fraction → Option Fraction → List Written
 bound_words None None = []
 bound_words (Some l) None = sign mark.AtLeast ∷ number_words l
 bound_words None (Some u) = sign mark.AtMost ∷ number_words u
 bound_words (Some l) (Some u) =
-    keyword word.In ∷ (sign mark.OpenBracket ∷ (number_words l ++ sign mark.Comma ∷ (number_words u ++ sign mark.CloseBracket ∷ [])))
+    keyword word.In
+    ∷ (sign mark.OpenBracket
+    ∷ (number_words l ++ sign mark.Comma ∷ (number_words u ++ sign mark.CloseBracket ∷ [])))
 
+-- the line of a parameter
 abbrev pub parameter_words : Parameter → List Written
 parameter_words p = keyword word.Uncertain ∷ (name p.name ∷ bound_words p.lower p.upper)
 
+-- the line of a variable
 abbrev pub variable_words : Variable → List Written
 variable_words x = keyword word.Var ∷ (name x.name ∷ bound_words x.lower x.upper)
 
 module _ (names : Naming) where
+  -- a member of a budget: its parameter, centre and deviation
   abbrev pub member_words : Member → List Written
   member_words h =
-      name_at names.parameters h.parameter ∷ (keyword word.At ∷ (number_words h.centre ++ keyword word.By ∷ number_words h.deviation))
+      name_at names.parameters h.parameter
+      ∷ (keyword word.At ∷ (number_words h.centre ++ keyword word.By ∷ number_words h.deviation))
 
+  -- two sides and the relation between them
   abbrev pub comparison_words : Expression → Relation → Expression → List Written
   comparison_words left relation right =
       expression_words names left ++ relation_word relation ∷ expression_words names right
 
+  -- the line of a statement on a set
   abbrev pub set_words : SetLine → List Written
   set_words (line left relation right) = keyword word.Set ∷ comparison_words left relation right
   set_words (budget limit members) =
       keyword word.Budget ∷ (number_words limit ++ sign mark.Colon ∷ listed member_words true members)
 
+  -- the line of an adaptive variable, with the parameters that it depends on
   abbrev pub adaptive_words : AdaptiveVariable → List Written
   adaptive_words y =
       keyword word.Adaptive ∷ (name y.name ∷ (sign mark.Open
       ∷ (listed (λ k. name_at names.parameters k ∷ []) true y.on ++ sign mark.Close ∷ bound_words y.lower y.upper)))
 
+  -- the line of a row
   abbrev pub row_words : Row → List Written
   row_words r = keyword word.Row ∷ (name r.name ∷ (sign mark.Colon ∷ comparison_words r.left r.relation r.right))
 
@@ -312,10 +346,12 @@ placed_words words sets z = words z.0 ++ over_words sets z.1
 abbrev pub lines_over : {A : Type 0} → (A → List Written) → List Name → List A → List ℕ → List (List Written)
 lines_over words sets xs Ss = map (placed_words words sets) (beside xs Ss)
 
+-- the keyword of a goal
 abbrev pub goal_word : Sense → Written
 goal_word minimise = keyword word.Minimise
 goal_word maximise = keyword word.Maximise
 
+-- the line of the goal
 abbrev pub goal_words : Naming → Sense → Expression → List Written
 goal_words names sense objective = goal_word sense ∷ expression_words names objective
 
@@ -332,10 +368,12 @@ lines_of m =
     ++ (goal_words (naming_of m) m.sense w.objective ++ over_words m.sets m.objective_set)
     ∷ lines_over (row_words (naming_of m)) m.sets w.rows m.row_sets))))
 
--- the same lines of a model that names no set: each part as it is, and no line ends in a set
+-- the names of a model that names no set
 abbrev pub naming_alone : RobustModel → Naming
-naming_alone m = record { parameters = parameter_names m; sets = []; variables = variable_names m; adaptives = adaptive_names m }
+naming_alone m =
+    record { parameters = parameter_names m; sets = []; variables = variable_names m; adaptives = adaptive_names m }
 
+-- the lines of such a model: each part as it is, and no line ends in a set
 abbrev pub lines_alone : RobustModel → List (List Written)
 lines_alone m =
     map parameter_words m.parameters

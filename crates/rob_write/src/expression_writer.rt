@@ -91,7 +91,8 @@ fn put_factors<N: Exact>(
 ) -> Result<(), Memory>
     ensures written { OnOk result (page.new ≡ fold put page.old
         (factor_words (naming_of (robust N.value model.now)) true
-        (factors_written (written_count (robust N.value model.now)) (factors_of (map (expression_of N.value) factors.now))))) }
+        (factors_written (written_count (robust N.value model.now))
+        (factors_of (map (expression_of N.value) factors.now))))) }
 {
     let mut first = true;
     for factor in factors {
@@ -145,7 +146,8 @@ fn put_paren(page: &mut Page, is_enclosed: bool, mark: Mark) -> Result<(), Memor
 
 /// Writes the name of a written parameter.
 pub fn put_parameter_name<N: Exact>(page: &mut Page, model: &Model<N>, k: u32) -> Result<(), Memory>
-    ensures written { OnOk result (page.new ≡ put page.old (name_at (naming_of (robust N.value model.now)).parameters k)) }
+    ensures written { OnOk result
+        (page.new ≡ put page.old (name_at (naming_of (robust N.value model.now)).parameters k)) }
 {
     page.name(parameter_name(written_params(model), k))
 }
@@ -174,7 +176,8 @@ fn variable_name<N: Exact>(vars: &[Var<N>], k: u32) -> &[u8]
 
 /// The name of an adaptive variable.
 fn adaptive_name<N: Exact>(adaptives: &[Adaptive<N>], k: u32) -> &[u8]
-    ensures name { result.now ≡ get_or (map (λ (x : AdaptiveVariable). x.name) (map (adaptive_of N.value) adaptives.now)) k [] }
+    ensures name { result.now
+        ≡ get_or (map (λ (x : AdaptiveVariable). x.name) (map (adaptive_of N.value) adaptives.now)) k [] }
 {
     if (k as usize) < adaptives.len() {
         adaptives[k as usize].name.bytes()
@@ -200,7 +203,8 @@ pub fn put_bounds<N: Exact>(
     lower: Option<N>,
     upper: Option<N>,
 ) -> Result<(), Memory>
-    ensures written { OnOk result (page.new ≡ fold put page.old (bound_words (option_map N.value lower) (option_map N.value upper))) }
+    ensures written { OnOk result (page.new
+        ≡ fold put page.old (bound_words (option_map N.value lower) (option_map N.value upper))) }
 {
     match (lower, upper) {
         (None, None) => Ok(()),

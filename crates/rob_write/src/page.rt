@@ -182,6 +182,10 @@ fn keyword_text(word: Keyword) -> &'static [u8]
         Keyword::At => b"at",
         Keyword::By => b"by",
         Keyword::Over => b"over",
+        Keyword::Sum => b"sum",
+        Keyword::For => b"for",
+        Keyword::To => b"to",
+        Keyword::Model => b"model",
         Keyword::Unused => b"",
     }
 }

@@ -35,7 +35,8 @@ pub fn put_set<N: Exact>(page: &mut Page, model: &Model<N>) -> Result<(), Memory
 
 /// Writes a line for each parameter.
 fn put_parameters<N: Exact>(page: &mut Page, params: &[Param<N>]) -> Result<(), Memory>
-    ensures written { OnOk result (page.new ≡ fold put_line page.old (map parameter_words (map (parameter_of N.value) params.now))) }
+    ensures written { OnOk result (page.new
+        ≡ fold put_line page.old (map parameter_words (map (parameter_of N.value) params.now))) }
 {
     for param in params {
         put_parameter(page, param)?;
@@ -62,7 +63,8 @@ fn put_set_lines<N: Exact>(
 ) -> Result<(), Memory>
     ensures written { OnOk result (page.new ≡ fold put_line page.old
         (lines_over (set_words (naming_of (robust N.value model.now))) model.now.sets
-        (map (line_written (written_count (robust N.value model.now))) (map (set_line_of N.value) set_lines.now)) of_lines.now)) }
+        (map (line_written (written_count (robust N.value model.now))) (map (set_line_of N.value) set_lines.now))
+        of_lines.now)) }
 {
     for (i, set_line) in set_lines.iter().enumerate() {
         put_set_line(page, model, set_line)?;

@@ -16,8 +16,9 @@ use rob_number::{Exact, Memory, Text};
 use rob_syntax::{Keyword, Mark};
 use std::alloc::Global;
 
-/// The canonical text of a model: parameters, statements on the set, variables, adaptive variables, the goal and rows, each
-/// kind in the model's order, a line each, with numbers in lowest terms. A model that a text reads as is read again from it.
+/// The canonical text of a model: parameters, statements on the set, variables, adaptive variables, the goal and rows,
+/// each kind in the model's order, a line each, with numbers in lowest terms. A model that a text reads as is read
+/// again from it.
 pub fn write_model<N: Exact>(alloc: Global, model: &Model<N>) -> Result<Text, Memory>
     ensures written { IfOk result (λ text. text ≡ model_text (robust N.value model.now)) }
 {
@@ -32,7 +33,8 @@ fn put_decisions<N: Exact>(page: &mut Page, model: &Model<N>) -> Result<(), Memo
     ensures written { OnOk result (page.new ≡ fold put_line (put_line (fold put_line
         (fold put_line page.old (map variable_words (map (variable_of N.value) model.now.vars)))
         (map (adaptive_words (naming_of (robust N.value model.now))) (map (adaptive_of N.value) model.now.adaptives)))
-        (goal_words (naming_of (robust N.value model.now)) (sense_of model.now.sense) (written_model (robust N.value model.now)).objective
+        (goal_words (naming_of (robust N.value model.now)) (sense_of model.now.sense)
+        (written_model (robust N.value model.now)).objective
         ++ over_words model.now.sets model.now.objective_set))
         (lines_over (row_words (naming_of (robust N.value model.now))) model.now.sets
         (written_model (robust N.value model.now)).rows model.now.row_sets)) }
@@ -45,7 +47,8 @@ fn put_decisions<N: Exact>(page: &mut Page, model: &Model<N>) -> Result<(), Memo
 
 /// Writes a line for each variable.
 fn put_variables<N: Exact>(page: &mut Page, vars: &[Var<N>]) -> Result<(), Memory>
-    ensures written { OnOk result (page.new ≡ fold put_line page.old (map variable_words (map (variable_of N.value) vars.now))) }
+    ensures written { OnOk result (page.new
+        ≡ fold put_line page.old (map variable_words (map (variable_of N.value) vars.now))) }
 {
     for var in vars {
         put_variable(page, var)?;

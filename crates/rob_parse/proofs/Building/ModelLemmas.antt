@@ -1,5 +1,5 @@
 -- A model that a text reads as is well formed.
-use Rattle.std.proofs.Common.{Bool, append_assoc, ◌≡◌, ℕ, ◌<◌, ◌≤◌, true, false, get_or, List, [], ◌∷◌, ◌++◌, length, map, refl, sym, ap, ◌∙◌, subst, arith}
+use Rattle.std.proofs.Common.{Bool, ◌≡◌, ℕ, ◌<◌, ◌≤◌, true, false, get_or, List, [], ◌∷◌, ◌++◌, length, map, refl, sym, ap, ◌∙◌, subst, arith}
 use Rattle.std.specs.Prelude.{◌&&◌, Option, Some, None}
 use Rattle.std.specs.List.{list_any, flat_map}
 use Rattle.rob_algebra.specs.Fraction.{◌<ℚ◌}
@@ -11,34 +11,29 @@ use Rattle.rob_meaning.specs.WellFormed.{IsModel, IsExpression, IsSetSide, IsSet
 use Rattle.rob_rules.specs.declared.sort.Sort.{Sort}
 use Rattle.rob_rules.specs.declared.sort.Sort.TheVariants as sort
 use Rattle.rob_rules.specs.declared.sort.Sort.TheVariants.{Parameter, Decision, Policy, RowName}
-use Rattle.rob_syntax.specs.declared.symbol.Symbol.{Symbol}
-use Rattle.rob_syntax.specs.declared.symbol.Symbol.TheVariants.{Sign, Reserved}
-use Rattle.rob_syntax.specs.declared.symbol.Keyword.TheVariants as word
-use Rattle.rob_syntax.specs.declared.symbol.Mark.TheVariants as mark
 use Rattle.rob_rules.specs.declared.fault.Fault.TheVariants.{NoObjective}
+use Rattle.rob_rules.specs.declared.leaf.Leaf.TheVariants.{Name, Number}
+use Rattle.rob_rules.specs.Leaves.{leaves, bound_leaves, member_leaves, relation_leaves, statement_leaves}
+use Rattle.rob_syntax.specs.declared.syntax.Relation.{Relation}
 use Rattle.rob_syntax.specs.declared.syntax.Member.{Member}
 use Rattle.rob_syntax.specs.declared.syntax.Statement.{Statement}
 use Rattle.rob_syntax.specs.declared.syntax.Statement.TheVariants as parsed
 use Rattle.rob_rules.specs.Degrees.{sort_at, products}
-use Rattle.rob_rules.specs.Faults.{is_of_set, used, is_unknown, names_decision, is_usable, is_decision, has_fault, in_order, first_fault, expressions}
-use Rattle.rob_syntax.specs.Grammar.{Expr, spell_expr, spell_number, tree_expr}
-use Rattle.rob_syntax.specs.Lists.{spell_more, spell_list}
+use Rattle.rob_rules.specs.Faults.{is_of_set, is_unknown, names_decision, is_usable, is_decision, has_fault, in_order, first_fault, expressions}
 use Rattle.rob_parse.specs.Modelled.{ReadsModel}
 use Rattle.rob_parse.specs.Models.{fraction, expression, member, parameter_number, parameter_at, adaptives, set_lines, rows, goal_in, objective_of, written_of}
-use Rattle.rob_rules.specs.Reading.{Follows}
+use Rattle.rob_rules.specs.Chains.{Chain}
+use Rattle.rob_rules.specs.Links.{Keeps}
 use Rattle.rob_rules.specs.Scopes.{Earlier, behind, start}
-use Rattle.rob_syntax.specs.Statements.{spell_over, IsStatement, Line, Sides, spell_line, statement_of, spell_sides, spell_rel, spell_member, spell_name, spell_optional}
-use Rattle.rob_syntax.specs.Statements as line
-use Rattle.rob_syntax.specs.Symbols.{lines_of}
 use Rattle.rob_syntax.specs.Trees.{Tree, number, name, sum, product, Summands, no_summands, summand, Operands, no_operands, operand, tree_of}
-use Rattle.rob_parse.proofs.Degrees.BareLines.{bare_sides, bare_line, used_is}
 use Rattle.rob_parse.proofs.Sizes.CountLemmas.{counts}
 use Rattle.rob_parse.proofs.Degrees.DegreeLemmas.{EachName, EachSummand, EachOperand, Clean, clean_apart, Stands, inside_and_linear, no_decision}
-use Rattle.rob_parse.proofs.Degrees.DeviationLemmas.{Deviates, behind_first, behind_front, deviation_positive, deviations_positive}
+use Rattle.rob_parse.proofs.Degrees.DeviationLemmas.{deviations_positive}
 use Rattle.rob_parse.proofs.Degrees.FitLemmas.{statement_fits}
 use Rattle.rob_rules.proofs.ReadingLemmas.{none_found, true_of_not}
-use Rattle.rob_parse.proofs.Names.SortLemmas.{Names, all_named, none_named, stays, neither}
-use Rattle.rob_parse.proofs.Degrees.UsedLemmas.{Free, IsFreeName, left, right, tail, free_expr, free_list, free_members}
+use Rattle.rob_parse.proofs.Names.ChainLemmas.{model_chain}
+use Rattle.rob_parse.proofs.Names.SortLemmas.{Names, all_named, none_named, kept_behind, neither}
+use Rattle.rob_parse.proofs.Degrees.UsedLemmas.{Free, IsFreeName, left, right, tail, free_tree, free_list, free_members}
 
 module _ {P Q : ℕ → Type 0} (to : (k : ℕ) → P k → Q k) where
   mutual
@@ -75,7 +70,7 @@ module _ (limit : ℕ) (low : 1 ≤ limit) (m : RobustModel) (f : Earlier) (name
   Good (parsed.Row r) = IsExpression m (expression f.sorts (tree_of r.relation.left)) × IsExpression m (expression f.sorts (tree_of r.relation.right))
   Good _ = Unit {0}
 
-  module _ (e : Earlier) (kept : (k : ℕ) (x : Sort) → sort_at e.sorts k ≡ Some x → sort_at f.sorts k ≡ Some x) where
+  module _ (e : Earlier) (kept : Keeps e f) where
     pub stand : (k : ℕ) → IsFreeName (is_unknown e.sorts) k → Stands m f.sorts e.sorts k
     stand k known = go (sort_at e.sorts k) refl (true_of_not _ known)
       where
@@ -99,12 +94,12 @@ module _ (limit : ℕ) (low : 1 ≤ limit) (m : RobustModel) (f : Earlier) (name
         go (Some (sort.Set S)) u d n = cc
         go None u d n = cc
 
-    side : (x : Expr) → Free (is_unknown e.sorts) (spell_expr x) → Clean (products e.sorts (tree_of (tree_expr x))) → IsExpression m (expression f.sorts (tree_of (tree_expr x)))
-    side x known clean = inside_and_linear m f.sorts e.sorts (tree_of (tree_expr x)) (each_name stand (tree_of (tree_expr x)) (free_expr (is_unknown e.sorts) x known)) clean
+    side : (t : Tree) → Free (is_unknown e.sorts) (leaves t) → Clean (products e.sorts t) → IsExpression m (expression f.sorts t)
+    side t known clean = inside_and_linear m f.sorts e.sorts t (each_name stand t (free_tree (is_unknown e.sorts) t known)) clean
 
-    set_side : (x : Expr) → Free (is_unknown e.sorts) (spell_expr x) → Free (names_decision e.sorts) (spell_expr x) → Clean (products e.sorts (tree_of (tree_expr x))) → IsSetSide m (expression f.sorts (tree_of (tree_expr x)))
-    set_side x known other clean =
-        (side x known clean, no_decision m f.sorts e.sorts (tree_of (tree_expr x)) (each_name stand (tree_of (tree_expr x)) (free_expr (is_unknown e.sorts) x known)) clean (free_expr (names_decision e.sorts) x other))
+    set_side : (t : Tree) → Free (is_unknown e.sorts) (leaves t) → Free (names_decision e.sorts) (leaves t) → Clean (products e.sorts t) → IsSetSide m (expression f.sorts t)
+    set_side t known other clean =
+        (side t known clean, no_decision m f.sorts e.sorts t (each_name stand t (free_tree (is_unknown e.sorts) t known)) clean (free_tree (names_decision e.sorts) t other))
 
     pub are_parameters : (on : List ℕ) → Each (IsFreeName (is_unknown e.sorts)) on → Each (IsFreeName (names_decision e.sorts)) on → Each (λ k. k < length m.parameters) (map (parameter_at f.sorts) on)
     are_parameters [] known other = tt
@@ -114,99 +109,81 @@ module _ (limit : ℕ) (low : 1 ≤ limit) (m : RobustModel) (f : Earlier) (name
     are_members [] known other positive = tt
     are_members (h ∷ ms) known other positive = ((is_parameter h.name known.0 other.0, positive.0), are_members ms known.1 other.1 positive.1)
 
-    both_sides : (s : Sides) → Free (is_unknown e.sorts) (bare_sides s) → Clean (products e.sorts (tree_of (tree_expr s.left)) ++ (products e.sorts (tree_of (tree_expr s.right.inner)) ++ []))
-        → IsExpression m (expression f.sorts (tree_of (tree_expr s.left))) × IsExpression m (expression f.sorts (tree_of (tree_expr s.right.inner)))
-    both_sides s known clean =
-        let test = is_unknown e.sorts in
-        let c = clean_apart (products e.sorts (tree_of (tree_expr s.left))) (products e.sorts (tree_of (tree_expr s.right.inner)) ++ []) clean in
-        let behind_left = right test (spell_expr s.left) (spell_rel s.rel ∷ spell_expr s.right.inner) known in (
-          side s.left (left test (spell_expr s.left) (spell_rel s.rel ∷ spell_expr s.right.inner) known) c.0,
-          side s.right.inner (tail test (spell_rel s.rel) (spell_expr s.right.inner) behind_left) (clean_apart (products e.sorts (tree_of (tree_expr s.right.inner))) [] c.1).0,
-        )
+    module _ (r : Relation) (known : Free (is_unknown e.sorts) (relation_leaves r)) (clean : Clean (products e.sorts (tree_of r.left) ++ (products e.sorts (tree_of r.right) ++ []))) where
+      of_left : Clean (products e.sorts (tree_of r.left))
+      of_left = (clean_apart (products e.sorts (tree_of r.left)) (products e.sorts (tree_of r.right) ++ []) clean).0
 
-    set_sides : (s : Sides) → Free (is_unknown e.sorts) (bare_sides s) → Free (names_decision e.sorts) (bare_sides s) → Clean (products e.sorts (tree_of (tree_expr s.left)) ++ (products e.sorts (tree_of (tree_expr s.right.inner)) ++ []))
-        → IsSetSide m (expression f.sorts (tree_of (tree_expr s.left))) × IsSetSide m (expression f.sorts (tree_of (tree_expr s.right.inner)))
-    set_sides s known other clean =
-        let test = is_unknown e.sorts in
-        let second = names_decision e.sorts in
-        let rest = spell_rel s.rel ∷ spell_expr s.right.inner in
-        let c = clean_apart (products e.sorts (tree_of (tree_expr s.left))) (products e.sorts (tree_of (tree_expr s.right.inner)) ++ []) clean in (
-          set_side s.left (left test (spell_expr s.left) rest known) (left second (spell_expr s.left) rest other) c.0,
-          set_side s.right.inner (tail test (spell_rel s.rel) (spell_expr s.right.inner) (right test (spell_expr s.left) rest known)) (tail second (spell_rel s.rel) (spell_expr s.right.inner) (right second (spell_expr s.left) rest other)) (clean_apart (products e.sorts (tree_of (tree_expr s.right.inner))) [] c.1).0,
-        )
+      of_right : Clean (products e.sorts (tree_of r.right))
+      of_right =
+          (clean_apart (products e.sorts (tree_of r.right)) []
+          (clean_apart (products e.sorts (tree_of r.left)) (products e.sorts (tree_of r.right) ++ []) clean).1).0
 
-    module _ (symbols : List Symbol) (s : Statement) (none : first_fault limit e symbols s ≡ None) where
-      fault_free : (i : ℕ) → i < 11 → has_fault limit e symbols s (get_or in_order i NoObjective) ≡ false
-      fault_free i inside = none_found (has_fault limit e symbols s) in_order i NoObjective none inside
+      known_left : Free (is_unknown e.sorts) (leaves (tree_of r.left))
+      known_left = left (is_unknown e.sorts) (leaves (tree_of r.left)) (leaves (tree_of r.right)) known
 
-    -- no name of a line is unknown, and where it is of the set, none is a decision
-    pub known_names : (l : Line) → first_fault limit e (spell_line l) (statement_of l) ≡ None → Free (is_unknown e.sorts) (bare_line l)
-    known_names l none =
-        subst (Free (is_unknown e.sorts)) (used_is l)
-        (neither (list_any (is_unknown e.sorts) (used (spell_line l) (statement_of l))) _ (fault_free (spell_line l) (statement_of l) none 1 (omega arith))).0
+      known_right : Free (is_unknown e.sorts) (leaves (tree_of r.right))
+      known_right = right (is_unknown e.sorts) (leaves (tree_of r.left)) (leaves (tree_of r.right)) known
 
-    pub other_names : (l : Line) → is_of_set (statement_of l) ≡ true → first_fault limit e (spell_line l) (statement_of l) ≡ None
-        → Free (names_decision e.sorts) (bare_line l)
-    other_names l of_set none =
-        subst (Free (names_decision e.sorts)) (used_is l)
-        (ap (λ (b : Bool). b && list_any (names_decision e.sorts) (used (spell_line l) (statement_of l))) (sym of_set) ∙ fault_free (spell_line l) (statement_of l) none 7 (omega arith))
+      both_sides : IsExpression m (expression f.sorts (tree_of r.left)) × IsExpression m (expression f.sorts (tree_of r.right))
+      both_sides = (side (tree_of r.left) known_left of_left, side (tree_of r.right) known_right of_right)
 
-    clean_products : (symbols : List Symbol) (s : Statement) → first_fault limit e symbols s ≡ None → Clean (flat_map (products e.sorts) (expressions s))
-    clean_products symbols s none = record {
-      decisions = fault_free symbols s none 4 (omega arith);
-      uncertain = fault_free symbols s none 5 (omega arith);
-      recourse = fault_free symbols s none 6 (omega arith);
-    }
+      set_sides : Free (names_decision e.sorts) (relation_leaves r) → IsSetSide m (expression f.sorts (tree_of r.left)) × IsSetSide m (expression f.sorts (tree_of r.right))
+      set_sides other =
+          let decided = names_decision e.sorts in (
+            set_side (tree_of r.left) known_left (left decided (leaves (tree_of r.left)) (leaves (tree_of r.right)) other) of_left,
+            set_side (tree_of r.right) known_right (right decided (leaves (tree_of r.left)) (leaves (tree_of r.right)) other) of_right,
+          )
 
-    good_budget : (b : line.Shares) → first_fault limit e (spell_line (line.budget b)) (statement_of (line.budget b)) ≡ None → Good (statement_of (line.budget b))
-    good_budget b none =
-        let symbols = spell_line (line.budget b) in
-        let s = statement_of (line.budget b) in
-        let rest = spell_member b.members.first ++ spell_more spell_member b.members.more in
-        let fits = statement_fits limit low e symbols s (record { line = line.budget b; spelled = refl; statement_is = refl }) none in
-        let known = tail (is_unknown e.sorts) (Sign mark.Colon) rest (right (is_unknown e.sorts) (spell_number b.limit) (Sign mark.Colon ∷ rest) (known_names (line.budget b) none)) in
-        let other = tail (names_decision e.sorts) (Sign mark.Colon) rest (right (names_decision e.sorts) (spell_number b.limit) (Sign mark.Colon ∷ rest) (other_names (line.budget b) refl none)) in
-        let whole = rest ++ spell_over b.members.over in
-        let split = append_assoc (spell_member b.members.first) (spell_more spell_member b.members.more) (spell_over b.members.over) in
-        let deviates = subst Deviates split (behind_first (Sign mark.Colon) whole (behind_front (spell_number b.limit) (Sign mark.Colon ∷ whole) (behind_first (Reserved word.Budget) (spell_number b.limit ++ Sign mark.Colon ∷ whole) (fault_free symbols s none 3 (omega arith))))) in
-        are_members (b.members.first ∷ b.members.more)
-        ((neither _ _ known).0, free_members (is_unknown e.sorts) b.members.more (right (is_unknown e.sorts) (spell_member b.members.first) (spell_more spell_member b.members.more) known))
-        ((neither _ _ other).0, free_members (names_decision e.sorts) b.members.more (right (names_decision e.sorts) (spell_member b.members.first) (spell_more spell_member b.members.more) other)) (
-          deviation_positive limit b.members.first (spell_more spell_member b.members.more ++ spell_over b.members.over) deviates fits.1.0,
-          deviations_positive limit b.members.more (spell_over b.members.over) (behind_front (spell_member b.members.first) (spell_more spell_member b.members.more ++ spell_over b.members.over) deviates) fits.1.1,
-        )
+    module _ (now : Earlier) (s : Statement) (none : first_fault limit e now s ≡ None) where
+      fault_free : (i : ℕ) → i < 11 → has_fault limit e now s (get_or in_order i NoObjective) ≡ false
+      fault_free i inside = none_found (has_fault limit e now s) in_order i NoObjective none inside
 
-    good_line : (l : Line) → first_fault limit e (spell_line l) (statement_of l) ≡ None → Good (statement_of l)
-    good_line (line.uncertain d) none = tt
-    good_line (line.over k) none = tt
-    good_line (line.variable d) none = tt
-    good_line (line.set s) none =
-        set_sides s (known_names (line.set s) none) (other_names (line.set s) refl none) (clean_products (spell_line (line.set s)) (statement_of (line.set s)) none)
-    good_line (line.budget b) none = good_budget b none
-    good_line (line.adaptive p) none =
-        let behind = Sign mark.Close ∷ spell_optional p.bounds in
-        let known = tail (is_unknown e.sorts) (Sign mark.Open) (spell_list spell_name p.on ++ behind) (known_names (line.adaptive p) none) in
-        let other = tail (names_decision e.sorts) (Sign mark.Open) (spell_list spell_name p.on ++ behind) (other_names (line.adaptive p) refl none) in
-        are_parameters p.on (free_list (is_unknown e.sorts) p.on (left (is_unknown e.sorts) (spell_list spell_name p.on) behind known)) (free_list (names_decision e.sorts) p.on (left (names_decision e.sorts) (spell_list spell_name p.on) behind other))
-    good_line (line.goal sense x) none =
-        side x.inner (known_names (line.goal sense x) none)
-        (clean_apart (products e.sorts (tree_of (tree_expr x.inner))) [] (clean_products (spell_line (line.goal sense x)) (statement_of (line.goal sense x)) none)).0
-    good_line (line.row t) none =
-        both_sides t.sides (tail (is_unknown e.sorts) (Sign mark.Colon) (bare_sides t.sides) (known_names (line.row t) none))
-        (clean_products (spell_line (line.row t)) (statement_of (line.row t)) none)
+      -- no name of a statement is unknown, and where it is of the set, none is a decision
+      pub known_names : Free (is_unknown e.sorts) (statement_leaves s)
+      known_names = (neither (list_any (is_unknown e.sorts) (statement_leaves s)) _ (fault_free 1 (omega arith))).0
 
-    good_statement : (symbols : List Symbol) (s : Statement) → IsStatement symbols s → first_fault limit e symbols s ≡ None → Good s
-    good_statement symbols s is none =
-        subst Good is.statement_is
-        (good_line is.line (subst (λ (t : Statement). first_fault limit e (spell_line is.line) t ≡ None) (sym is.statement_is) (subst (λ (y : List Symbol). first_fault limit e y s ≡ None) is.spelled none)))
+      pub other_names : is_of_set s ≡ true → Free (names_decision e.sorts) (statement_leaves s)
+      other_names of_set = ap (λ (b : Bool). b && list_any (names_decision e.sorts) (statement_leaves s)) (sym of_set) ∙ fault_free 7 (omega arith)
 
-  all_good : (e : Earlier) (lines : List (List Symbol)) (list : List Statement) → Follows limit e lines list f → Each Good list
-  all_good e [] [] follows = tt
-  all_good e [] (s ∷ list) follows = absurd follows
-  all_good e ([] ∷ lines) list follows = all_good e lines list follows
-  all_good e ((x ∷ symbols) ∷ lines) [] follows = absurd follows
-  all_good e ((x ∷ symbols) ∷ lines) (s ∷ list) follows =
-      (good_statement e (stays limit e ((x ∷ symbols) ∷ lines) (s ∷ list) f follows) (x ∷ symbols) s follows.0 follows.1, all_good (behind e s) lines list follows.2)
+      clean_products : Clean (flat_map (products e.sorts) (expressions s))
+      clean_products = record {
+        decisions = fault_free 4 (omega arith);
+        uncertain = fault_free 5 (omega arith);
+        recourse = fault_free 6 (omega arith);
+      }
+
+    good_statement : (now : Earlier) (s : Statement) → first_fault limit e now s ≡ None → Good s
+    good_statement now (parsed.Uncertain d) none = tt
+    good_statement now (parsed.Over k) none = tt
+    good_statement now (parsed.Var d) none = tt
+    good_statement now (parsed.Set r) none =
+        let s = parsed.Set r in
+        set_sides r (known_names now s none) (clean_products now s none) (other_names now s none refl)
+    good_statement now (parsed.Budget b) none =
+        let s = parsed.Budget b in
+        let names = flat_map member_leaves b.members in
+        let known = tail (is_unknown e.sorts) (Number b.limit) names (known_names now s none) in
+        let other = tail (names_decision e.sorts) (Number b.limit) names (other_names now s none refl) in
+        are_members b.members (free_members (is_unknown e.sorts) b.members known) (free_members (names_decision e.sorts) b.members other)
+        (deviations_positive limit b.members (fault_free now s none 3 (omega arith)) (statement_fits limit low e now s none).1)
+    good_statement now (parsed.Adaptive p) none =
+        let s = parsed.Adaptive p in
+        let rest = bound_leaves p.bounds in
+        are_parameters p.on (free_list (is_unknown e.sorts) p.on (left (is_unknown e.sorts) (map Name p.on) rest (known_names now s none)))
+        (free_list (names_decision e.sorts) p.on (left (names_decision e.sorts) (map Name p.on) rest (other_names now s none refl)))
+    good_statement now (parsed.Goal g) none =
+        let s = parsed.Goal g in
+        side (tree_of g.objective) (known_names now s none) (clean_apart (products e.sorts (tree_of g.objective)) [] (clean_products now s none)).0
+    good_statement now (parsed.Row r) none =
+        let s = parsed.Row r in
+        both_sides r.relation (known_names now s none) (clean_products now s none)
+
+  all_good : (words : List (List ℕ)) (e : Earlier) (list : List Statement) → Chain limit words e list f → Each Good list
+  all_good words e [] chain = tt
+  all_good words e (s ∷ list) chain = (
+    good_statement chain.0.before (kept_behind limit words e s list f chain) e s chain.0.faultless,
+    all_good words (behind e s) list chain.1,
+  )
 
   good_set_lines : (s : Statement) → Good s → Each (IsSetLine m) (set_lines f.sorts s)
   good_set_lines (parsed.Set r) good = (good, tt)
@@ -249,9 +226,10 @@ module _ (limit : ℕ) (low : 1 ≤ limit) (m : RobustModel) (f : Earlier) (name
   good_goal (parsed.Adaptive p ∷ list) good = good_goal list good.1
   good_goal (parsed.Row r ∷ list) good = good_goal list good.1
 
-  pub model_parts : (words : List (List ℕ)) (list : List Statement) (e : Earlier) (lines : List (List Symbol)) → Follows limit e lines list f → m ≡ written_of words f.sorts list → IsModel m
-  model_parts words list e lines follows is =
-      let good = all_good e lines list follows in
+  pub model_parts : (words : List (List ℕ)) (list : List Statement) (e : Earlier) → Chain limit words e list f
+      → m ≡ written_of words f.sorts list → IsModel m
+  model_parts words list e chain is =
+      let good = all_good words e list chain in
       model_alone m (ap (λ (x : RobustModel). x.sets) is)
       (λ i. ap (λ (x : RobustModel). get_or x.line_sets i 0) is) (λ i. ap (λ (x : RobustModel). get_or x.row_sets i 0) is) (ap (λ (x : RobustModel). x.objective_set) is)
       (subst (Each (IsSetLine m)) (ap (λ (x : RobustModel). x.set_lines) (sym is)) (each_flat (IsSetLine m) (set_lines f.sorts) Good good_set_lines list good))
@@ -268,10 +246,10 @@ pub model_names : (limit : ℕ) (text : List ℕ) (m : RobustModel) (read : Read
     → Names (length (written_by limit text m read).parameters) (length (written_by limit text m read).variables) (written_by limit text m read).adaptives (sort_at read.known.sorts k)
 model_names limit text m read k =
     let begin = start (length read.words) in
-    let lines = lines_of text read.words read.reads.tokens in
+    let chain = model_chain limit text m read in
     let w = written_by limit text m read in
-    let c = counts read.words read.known.sorts limit begin lines read.list read.known read.reads.follows in
-    let all = all_named read.words read.known.sorts limit begin lines read.list read.known [] read.reads.follows (none_named (length read.words)) in
+    let c = counts read.words read.known.sorts limit begin read.list read.known chain in
+    let all = all_named read.words read.known.sorts limit begin read.list read.known [] chain (none_named (length read.words)) in
     let p : read.known.sizes.parameters ≡ length w.parameters = omega (arith, c.parameters_are) in
     let v : read.known.sizes.variables ≡ length w.variables = omega (arith, c.variables_are) in
     subst (λ (n : ℕ). Names n (length w.variables) w.adaptives (sort_at read.known.sorts k)) p
@@ -281,4 +259,4 @@ model_names limit text m read k =
 pub well_formed_written : (limit : ℕ) (text : List ℕ) (m : RobustModel) → 1 ≤ limit → (read : ReadsModel limit text m) → IsModel (written_by limit text m read)
 well_formed_written limit text m low read =
     model_parts limit low (written_by limit text m read) read.known (model_names limit text m read) read.words read.list (start (length read.words))
-    (lines_of text read.words read.reads.tokens) read.reads.follows refl
+    (model_chain limit text m read) refl

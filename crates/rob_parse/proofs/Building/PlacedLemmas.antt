@@ -1,15 +1,14 @@
 -- A model that a text reads as is well formed: each part of what is written is taken in a set that is there.
-use Rattle.std.proofs.Common.{◌≡◌, ℕ, suc, ◌<◌, ◌≤◌, List, length, refl, sym, ap, ◌∙◌, subst, arith}
+use Rattle.std.proofs.Common.{◌≡◌, ℕ, suc, ◌<◌, ◌≤◌, List, length, refl, sym, subst, arith}
 use Rattle.std.specs.List.{flat_map}
 use Rattle.rob_meaning.specs.Places.{Each}
 use Rattle.rob_meaning.specs.RobustModel.{RobustModel}
 use Rattle.rob_meaning.specs.WellFormed.{IsModel}
-use Rattle.rob_syntax.specs.declared.symbol.Symbol.{Symbol}
 use Rattle.rob_parse.specs.Modelled.{ReadsModel}
-use Rattle.rob_parse.specs.Models.{goal_in, in_sets, line_sets, objective_set, row_sets, sets}
+use Rattle.rob_parse.specs.Models.{goal_in, line_sets, objective_set, row_sets, sets}
 use Rattle.rob_rules.specs.Scopes.{start}
-use Rattle.rob_syntax.specs.Symbols.{lines_of}
 use Rattle.rob_parse.proofs.Sizes.CountLemmas.{counts}
+use Rattle.rob_parse.proofs.Names.ChainLemmas.{model_chain}
 use Rattle.rob_parse.proofs.Sets.InSets.{in_sets_model}
 use Rattle.rob_parse.proofs.Building.ModelLemmas.{well_formed_written, written_by}
 use Rattle.rob_parse.proofs.Sets.SetNumbers.{AreCounted, counted_all, counted_start, lines_beside, lines_there, objective_there, rows_beside, rows_there}
@@ -27,15 +26,12 @@ module _ (limit : ℕ) (text : List ℕ) (m : RobustModel) (read : ReadsModel li
   abbrev of_rows : List ℕ
   of_rows = flat_map (row_sets read.known.sorts) read.list
 
-  abbrev lines : List (List Symbol)
-  lines = lines_of text read.words read.reads.tokens
-
   -- the sets that are declared
   declared : read.known.sizes.sets ≡ length names
-  declared = let c = counts read.words read.known.sorts limit (start (length read.words)) lines read.list read.known read.reads.follows in omega (arith, c.sets_are)
+  declared = let c = counts read.words read.known.sorts limit (start (length read.words)) read.list read.known (model_chain limit text m read) in omega (arith, c.sets_are)
 
   numbered : AreCounted read.known
-  numbered = counted_all limit (start (length read.words)) lines read.list read.known read.reads.follows (counted_start (length read.words))
+  numbered = counted_all limit read.words (start (length read.words)) read.list read.known (model_chain limit text m read) (counted_start (length read.words))
 
   pub of_lines_there : Each (λ S. S < suc (length names)) of_lines
   of_lines_there = subst (λ (n : ℕ). Each (λ S. S < suc n) of_lines) declared (lines_there read.known.sorts read.known.sizes.sets numbered read.list)

@@ -7,18 +7,17 @@ use Rattle.rob_meaning.specs.Named.{AreDistinct, declared_names}
 use Rattle.rob_meaning.specs.Places.{Each}
 use Rattle.rob_meaning.specs.RobustModel as model
 use Rattle.rob_rules.specs.declared.sort.Sort.{Sort}
-use Rattle.rob_syntax.specs.declared.symbol.Symbol.{Symbol}
 use Rattle.rob_syntax.specs.declared.syntax.Statement.{Statement}
 use Rattle.rob_syntax.specs.declared.syntax.Statement.TheVariants as parsed
 use Rattle.rob_rules.specs.Degrees.{sort_at}
 use Rattle.rob_rules.specs.Faults.{is_declared}
 use Rattle.rob_parse.specs.Models.{goal_in, line_sets, objective_set, row_sets, sets, written_of, word_of, parameters, variables, adaptives, rows, model_of}
-use Rattle.rob_rules.specs.Reading.{Follows}
+use Rattle.rob_rules.specs.Chains.{Chain, IsNumber}
 use Rattle.rob_rules.specs.Scopes.{Earlier, behind, start, declared_by, declare}
 use Rattle.rob_parse.proofs.Sets.InSets.{names_taken, parameters_are}
 use Rattle.rob_parse.proofs.Names.SortLemmas.{is_new}
 use Rattle.rob_parse.proofs.Names.WordSetLemmas.{distinct_between}
-use Rattle.rob_parse.proofs.Names.NamedLemmas.{IsNumber, IsSound, IsDeclared, declared_sound}
+use Rattle.rob_parse.proofs.Names.NamedLemmas.{IsDeclared, declared_so}
 
 -- ---- the numbers of the declared names, kind by kind
 unfoldable pub parameter_numbers : Statement → List ℕ
@@ -227,16 +226,18 @@ module _ (limit : ℕ) (words : List (List ℕ)) where
         distinct = distinct_between xs ys k (subst AreDistinct front h.distinct) (other_number sorts k v (xs ++ ys) (omega (arith, long, number.0)) written);
       })
 
-  declares : (e : Earlier) (lines : List (List Symbol)) (list : List Statement) (f : Earlier) → length e.sorts ≡ length words → Each (Each (IsSound words)) lines → Follows limit e lines list f → Declares words e.sorts (numbers list)
+  declares : (e : Earlier) (list : List Statement) (f : Earlier) → length e.sorts ≡ length words → Chain limit words e list f
+      → Declares words e.sorts (numbers list)
   unfolding numbers
-  declares e [] [] f long sound follows = record { sound = tt; new = tt; distinct = tt }
-  declares e [] (s ∷ list) f long sound follows = absurd follows
-  declares e ([] ∷ lines) list f long sound follows = declares e lines list f long sound.1 follows
-  declares e ((x ∷ symbols) ∷ lines) [] f long sound follows = absurd follows
-  declares e ((x ∷ symbols) ∷ lines) (s ∷ list) f long sound follows =
-      declares_more e.sorts (declared_by e.sizes s) (numbers list) (numbers (s ∷ list)) long (declared_sound words e (x ∷ symbols) s follows.0 sound.0) (is_new limit e (x ∷ symbols) s follows.1) (puts e s list)
-      (declares (behind e s) lines list f (declare_length e.sorts (declared_by e.sizes s) ∙ long) sound.1 follows.2)
+  declares e [] f long chain = record { sound = tt; new = tt; distinct = tt }
+  declares e (s ∷ list) f long chain =
+      declares_more e.sorts (declared_by e.sizes s) (numbers list) (numbers (s ∷ list)) long
+      (declared_so words e.sizes s chain.0.formed) (is_new limit chain.0.before e s chain.0.faultless) (puts e s list)
+      (declares (behind e s) list f (declare_length e.sorts (declared_by e.sizes s) ∙ long) chain.1)
 
   -- the declared names of the statements of a text are sound and different from one another
-  pub all_declared : (lines : List (List Symbol)) (list : List Statement) (f : Earlier) → Each (Each (IsSound words)) lines → Follows limit (start (length words)) lines list f → Each (IsNumber words) (numbers list) × AreDistinct (numbers list)
-  all_declared lines list f sound follows = let d = declares (start (length words)) lines list f (length-replicate (length words) None) sound follows in (d.sound, d.distinct)
+  pub all_declared : (list : List Statement) (f : Earlier) → Chain limit words (start (length words)) list f
+      → Each (IsNumber words) (numbers list) × AreDistinct (numbers list)
+  all_declared list f chain =
+      let d = declares (start (length words)) list f (length-replicate (length words) None) chain in
+      (d.sound, d.distinct)

@@ -1,5 +1,5 @@
 -- The names that a text declares.
-use Rattle.std.proofs.Common.{◌≡◌, ◌≢◌, ℕ, zero, suc, ◌<◌, ◌≤◌, Bool, true, false, List, [], ◌∷◌, ◌++◌, length, map, refl, sym, ap, ◌∙◌, subst, arith, codes}
+use Rattle.std.proofs.Common.{◌≡◌, ◌≢◌, ℕ, zero, suc, ◌<◌, ◌≤◌, Bool, true, false, List, [], ◌∷◌, ◌++◌, length, map, refl, sym, ap, ◌∙◌, arith, codes}
 use Rattle.std.specs.Prelude.{nat_le, Option, Some, None, if◌then◌else◌}
 use Rattle.std.specs.List.{flat_map}
 use Rattle.std.proofs.lemmas.Bool.Decides.{nat_tests}
@@ -8,17 +8,19 @@ use Rattle.rob_lex.specs.declared.token.Kind.{Kind}
 use Rattle.rob_lex.specs.declared.token.Kind.TheVariants as kind
 use Rattle.rob_meaning.specs.Named.{AreDistinct, IsPlain, IsFree}
 use Rattle.rob_meaning.specs.Places.{Each}
+use Rattle.rob_rules.specs.declared.size.Sizes.{Sizes}
 use Rattle.rob_rules.specs.declared.sort.Sort.{Sort}
 use Rattle.rob_syntax.specs.declared.symbol.Symbol.{Symbol}
 use Rattle.rob_syntax.specs.declared.symbol.Symbol.TheVariants.{Name, Reserved}
 use Rattle.rob_syntax.specs.declared.symbol.Keyword.{Keyword}
 use Rattle.rob_syntax.specs.declared.symbol.Keyword.TheVariants as word
 use Rattle.rob_syntax.specs.declared.syntax.Statement.{Statement}
+use Rattle.rob_syntax.specs.declared.syntax.Statement.TheVariants as parsed
 use Rattle.rob_parse.specs.Models.{word_of}
 use Rattle.rob_syntax.specs.Names.{IsWord, IsSpelled}
-use Rattle.rob_rules.specs.Scopes.{Earlier, declared_by}
-use Rattle.rob_syntax.specs.Statements.{IsStatement, Line, spell_line, statement_of}
-use Rattle.rob_syntax.specs.Statements as line
+use Rattle.rob_rules.specs.Chains.{IsFormed, IsNumber}
+use Rattle.rob_rules.specs.Scopes.{declared_by}
+use Rattle.rob_index.specs.Reading.{one}
 use Rattle.rob_syntax.specs.Symbols.{keywords, keyword_among, longest_name, number_of, word_symbol, symbol_at, symbols_of, bytes_of, word_at, word_in, add_token, token_lines, lines_of}
 use Rattle.rob_parse.proofs.Names.WordSetLemmas.{In, number_found, one_number}
 
@@ -26,16 +28,12 @@ short_enough : (a b : ℕ) → nat_le a b ≡ true → a ≤ b
 short_enough a b h = grind (arith, nat_tests)
 
 module _ (words : List (List ℕ)) where
-  -- the number of a word that is no keyword, and not too long
-  abbrev pub IsNumber : ℕ → Type 0
-  IsNumber k = (k < length words) × ((keyword_among keywords (word_of words k) ≡ None) × (length (word_of words k) ≤ longest_name))
-
   -- a symbol's name is such a number
   abbrev pub IsSound : Symbol → Type 0
-  IsSound (Name k) = IsNumber k
+  IsSound (Name k) = IsNumber words k
   IsSound _ = Unit {0}
 
-  word_sound : (bytes : List ℕ) (o : Option Keyword) → keyword_among keywords bytes ≡ o → In words bytes → IsSound (word_symbol words bytes o)
+  word_sound : (bytes : List ℕ) (o : Option Keyword) → keyword_among keywords bytes ≡ o → In words bytes → IsSound (word_symbol one words bytes o)
   word_sound bytes (Some k) is inside = tt
   word_sound bytes None is inside = go (nat_le (length bytes) longest_name) refl
     where
@@ -52,7 +50,7 @@ module _ (words : List (List ℕ)) where
     each_join [] ys a b = b
     each_join (x ∷ xs) ys a b = (a.0, each_join xs ys a.1 b)
 
-    token_sound : (k : Kind) (t : Token) → t.kind ≡ k → HasWord t → Each IsSound (symbol_at words k (bytes_of text t))
+    token_sound : (k : Kind) (t : Token) → t.kind ≡ k → HasWord t → Each IsSound (symbol_at one words k (bytes_of text t))
     token_sound kind.Word t is has = (word_sound (bytes_of text t) (keyword_among keywords (bytes_of text t)) refl (with_kind t.kind is has), tt)
       where
         with_kind : (k : Kind) → k ≡ kind.Word → Each (In words) (word_at k (bytes_of text t)) → In words (bytes_of text t)
@@ -64,9 +62,9 @@ module _ (words : List (List ℕ)) where
     token_sound kind.Sign t is has = (tt, tt)
     token_sound kind.LineEnd t is has = tt
 
-    tokens_sound : (ts : List Token) → Each HasWord ts → Each IsSound (symbols_of text words ts)
+    tokens_sound : (ts : List Token) → Each HasWord ts → Each IsSound (symbols_of text one words ts)
     tokens_sound [] has = tt
-    tokens_sound (t ∷ ts) has = each_join (symbol_at words t.kind (bytes_of text t)) (symbols_of text words ts) (token_sound t.kind t refl has.0) (tokens_sound ts has.1)
+    tokens_sound (t ∷ ts) has = each_join (symbol_at one words t.kind (bytes_of text t)) (symbols_of text one words ts) (token_sound t.kind t refl has.0) (tokens_sound ts has.1)
 
     add_has : (k : Kind) (t : Token) (lines : List (List Token)) → HasWord t → Each (Each HasWord) lines → Each (Each HasWord) (add_token k t lines)
     add_has kind.LineEnd t lines has all = (tt, all)
@@ -77,15 +75,15 @@ module _ (words : List (List ℕ)) where
     add_has kind.Sign t [] has all = ((has, tt), tt)
     add_has kind.Sign t (l ∷ lines) has all = ((has, all.0), all.1)
 
-    lines_have : (ts : List Token) → Each HasWord ts → Each (Each HasWord) (token_lines ts)
+    pub lines_have : (ts : List Token) → Each HasWord ts → Each (Each HasWord) (token_lines ts)
     lines_have [] has = (tt, tt)
     lines_have (t ∷ ts) has = add_has t.kind t (token_lines ts) has.0 (lines_have ts has.1)
 
-    map_sound : (lines : List (List Token)) → Each (Each HasWord) lines → Each (Each IsSound) (map (symbols_of text words) lines)
+    map_sound : (lines : List (List Token)) → Each (Each HasWord) lines → Each (Each IsSound) (map (symbols_of text one words) lines)
     map_sound [] has = tt
     map_sound (l ∷ lines) has = (tokens_sound l has.0, map_sound lines has.1)
 
-    apart : (ts : List Token) → Each (In words) (flat_map (word_in text) ts) → Each HasWord ts
+    pub apart : (ts : List Token) → Each (In words) (flat_map (word_in text) ts) → Each HasWord ts
     apart [] h = tt
     apart (t ∷ ts) h = let b = cut (word_in text t) h in (b.0, apart ts b.1)
       where
@@ -94,26 +92,23 @@ module _ (words : List (List ℕ)) where
         cut (x ∷ xs) h = let r = cut xs h.1 in ((h.0, r.0), r.1)
 
     -- the names of all lines are such numbers
-    pub lines_sound : (ts : List Token) → Each (In words) (flat_map (word_in text) ts) → Each (Each IsSound) (lines_of text words ts)
+    pub lines_sound : (ts : List Token) → Each (In words) (flat_map (word_in text) ts) → Each (Each IsSound) (lines_of text one words ts)
     lines_sound ts h = map_sound (token_lines ts) (lines_have ts (apart ts h))
 
   -- a name that a statement declares is such a number
   abbrev pub IsDeclared : Option (ℕ × Sort) → Type 0
   IsDeclared None = Unit {0}
-  IsDeclared (Some d) = IsNumber d.0
+  IsDeclared (Some d) = IsNumber words d.0
 
-  declared_line : (e : Earlier) (l : Line) → Each IsSound (spell_line l) → IsDeclared (declared_by e.sizes (statement_of l))
-  declared_line e (line.uncertain d) sound = sound.1.0
-  declared_line e (line.over k) sound = sound.1.0
-  declared_line e (line.set s) sound = tt
-  declared_line e (line.budget s) sound = tt
-  declared_line e (line.variable d) sound = sound.1.0
-  declared_line e (line.adaptive p) sound = sound.1.0
-  declared_line e (line.goal sense x) sound = tt
-  declared_line e (line.row t) sound = sound.1.0
-
-  pub declared_sound : (e : Earlier) (symbols : List Symbol) (s : Statement) → IsStatement symbols s → Each IsSound symbols → IsDeclared (declared_by e.sizes s)
-  declared_sound e symbols s is sound = subst (λ (t : Statement). IsDeclared (declared_by e.sizes t)) is.statement_is (declared_line e is.line (subst (Each IsSound) is.spelled sound))
+  pub declared_so : (sizes : Sizes) (s : Statement) → IsFormed words s → IsDeclared (declared_by sizes s)
+  declared_so sizes (parsed.Uncertain d) formed = formed.declares
+  declared_so sizes (parsed.Over k) formed = formed.declares
+  declared_so sizes (parsed.Set r) formed = tt
+  declared_so sizes (parsed.Budget b) formed = tt
+  declared_so sizes (parsed.Var d) formed = formed.declares
+  declared_so sizes (parsed.Adaptive p) formed = formed.declares
+  declared_so sizes (parsed.Goal g) formed = tt
+  declared_so sizes (parsed.Row r) formed = formed.declares
 
 -- ---- a word that is no keyword may be a name
 free_name : (name : List ℕ) → keyword_among keywords name ≡ None → IsFree name
@@ -127,7 +122,7 @@ each_get [] k plain inside = absurd (omega arith)
 each_get (w ∷ words) zero plain inside = plain.0
 each_get (w ∷ words) (suc k) plain inside = each_get words k plain.1 (omega arith)
 
-word_get : (words : List (List ℕ)) (k : ℕ) → Each IsWord words → k < length words → IsWord (word_of words k)
+pub word_get : (words : List (List ℕ)) (k : ℕ) → Each IsWord words → k < length words → IsWord (word_of words k)
 word_get [] k all inside = absurd (omega arith)
 word_get (w ∷ words) zero all inside = all.0
 word_get (w ∷ words) (suc k) all inside = word_get words k all.1 (omega arith)

@@ -1,8 +1,7 @@
 -- No list and no budget has a parameter twice.
-use Rattle.rob_parse.proofs.Degrees.BareLines.{bare_line, used_is}
 use Rattle.std.proofs.Common.{Bool, ◌≡◌, ◌≢◌, ℕ, zero, suc, ◌<◌, ◌⊎◌, inl, inr, true, false, List, [], ◌∷◌, ◌++◌, map, get_or, set, refl, sym, ap, ◌∙◌, subst, arith}
 use Rattle.std.specs.Prelude.{◌&&◌, ◌==◌, Option, Some, None, is_some}
-use Rattle.std.specs.List.{list_any}
+use Rattle.std.specs.List.{list_any, flat_map}
 use Rattle.std.proofs.lemmas.Bool.Decides.{nat_tests}
 use Rattle.rob_meaning.specs.Named.{AreDistinct}
 use Rattle.rob_meaning.specs.Places.{Each}
@@ -10,41 +9,27 @@ use Rattle.rob_meaning.specs.RobustModel as model
 use Rattle.rob_rules.specs.declared.sort.Sort.{Sort}
 use Rattle.rob_rules.specs.declared.sort.Sort.TheVariants as sort
 use Rattle.rob_rules.specs.declared.sort.Sort.TheVariants.{Parameter, Decision, Policy, RowName}
-use Rattle.rob_syntax.specs.declared.symbol.Symbol.{Symbol}
-use Rattle.rob_syntax.specs.declared.symbol.Symbol.TheVariants.{Name, Digits, Sign, Reserved}
-use Rattle.rob_syntax.specs.declared.symbol.Mark.TheVariants as mark
-use Rattle.rob_syntax.specs.declared.symbol.Keyword.TheVariants as word
 use Rattle.rob_rules.specs.declared.fault.Fault.TheVariants.{NoObjective}
+use Rattle.rob_rules.specs.declared.leaf.Leaf.{Leaf}
+use Rattle.rob_rules.specs.declared.leaf.Leaf.TheVariants.{Name, Number}
+use Rattle.rob_rules.specs.Leaves.{bound_leaves, member_leaves, statement_leaves}
 use Rattle.rob_syntax.specs.declared.syntax.Member.{Member}
 use Rattle.rob_syntax.specs.declared.syntax.Statement.{Statement}
 use Rattle.rob_syntax.specs.declared.syntax.Statement.TheVariants as parsed
 use Rattle.rob_rules.specs.Degrees.{sort_at}
-use Rattle.rob_rules.specs.Faults.{is_of_set, is_listing, used, is_name, is_unknown, is_usable, is_decision, names_decision, has_twice, has_fault, in_order, first_fault, is_declared}
-use Rattle.rob_syntax.specs.Grammar.{spell_number}
-use Rattle.rob_syntax.specs.Lists.{spell_more, spell_list}
+use Rattle.rob_rules.specs.Faults.{is_of_set, is_listing, is_name, is_unknown, is_usable, is_decision, names_decision, has_twice, has_fault, in_order, first_fault, is_declared}
 use Rattle.rob_parse.specs.Models.{parameter_number, parameter_at, member, adaptives}
-use Rattle.rob_rules.specs.Reading.{Follows}
+use Rattle.rob_rules.specs.Chains.{Chain}
+use Rattle.rob_rules.specs.Links.{Keeps}
 use Rattle.rob_rules.specs.Scopes.{Earlier, behind, start, declared_by, declare}
-use Rattle.rob_syntax.specs.Statements.{IsStatement, Line, spell_line, statement_of, spell_member, spell_name, spell_spread, spell_optional}
-use Rattle.rob_syntax.specs.Statements as line
 use Rattle.rob_parse.proofs.Degrees.DegreeLemmas.{any_apart}
 use Rattle.rob_rules.proofs.ReadingLemmas.{none_found, true_of_not}
-use Rattle.rob_parse.proofs.Names.SortLemmas.{Names, neither, set_cases, is_new, stays, AllNamed, named_behind, nothing_there}
-use Rattle.rob_parse.proofs.Degrees.UsedLemmas.{Free, IsFreeName, left, right, tail, free_list, free_more, free_members}
+use Rattle.rob_parse.proofs.Names.SortLemmas.{Names, neither, set_cases, is_new, kept_behind, AllNamed, named_behind, nothing_there}
+use Rattle.rob_parse.proofs.Degrees.UsedLemmas.{Free, IsFreeName, left, tail, free_list, free_members}
 
 -- ---- names that stand once
-abbrev Once : List Symbol → Type 0
-Once symbols = has_twice symbols ≡ false
-
-once_tail : (x : Symbol) (xs : List Symbol) → Once (x ∷ xs) → Once xs
-once_tail (Name k) xs h = (neither (list_any (is_name k) xs) (has_twice xs) h).1
-once_tail (Digits v) xs h = h
-once_tail (Sign m) xs h = h
-once_tail (Reserved w) xs h = h
-
-once_behind : (xs ys : List Symbol) → Once (xs ++ ys) → Once ys
-once_behind [] ys h = h
-once_behind (x ∷ xs) ys h = once_behind xs ys (once_tail x (xs ++ ys) h)
+abbrev Once : List Leaf → Type 0
+Once ls = has_twice ls ≡ false
 
 other : (k j : ℕ) → (k == j) ≡ false → k ≢ j
 other k j h e = grind (arith, nat_tests)
@@ -53,28 +38,21 @@ others : (k : ℕ) (js : List ℕ) → Each (IsFreeName (is_name k)) js → Each
 others k [] h = tt
 others k (j ∷ js) h = (other k j h.0, others k js h.1)
 
-more_once : (on : List ℕ) (rest : List Symbol) → Once (spell_more spell_name on ++ rest) → AreDistinct on
-more_once [] rest h = tt
-more_once (k ∷ on) rest h =
-    let b = neither (list_any (is_name k) (spell_more spell_name on ++ rest)) (has_twice (spell_more spell_name on ++ rest)) h in
-    (others k on (free_more (is_name k) on (any_apart (is_name k) (spell_more spell_name on) rest b.0).0), more_once on rest b.1)
-
-list_once : (on : List ℕ) (rest : List Symbol) → Once (spell_list spell_name on ++ rest) → AreDistinct on
+list_once : (on : List ℕ) (rest : List Leaf) → Once (map Name on ++ rest) → AreDistinct on
 list_once [] rest h = tt
-list_once (k ∷ on) rest h = more_once (k ∷ on) rest h
+list_once (k ∷ on) rest h =
+    let b = neither (list_any (is_name k) (map Name on ++ rest)) (has_twice (map Name on ++ rest)) h in
+    (others k on (free_list (is_name k) on (any_apart (is_name k) (map Name on) rest b.0).0), list_once on rest b.1)
 
 other_members : (k : ℕ) (ms : List Member) → Each (λ (h : Member). IsFreeName (is_name k) h.name) ms → Each (λ j. k ≢ j) (map (λ (h : Member). h.name) ms)
 other_members k [] h = tt
 other_members k (m ∷ ms) h = (other k m.name h.0, other_members k ms h.1)
 
-members_once : (ms : List Member) → Once (spell_more spell_member ms) → AreDistinct (map (λ (h : Member). h.name) ms)
+members_once : (ms : List Member) → Once (flat_map member_leaves ms) → AreDistinct (map (λ (h : Member). h.name) ms)
 members_once [] h = tt
 members_once (m ∷ ms) h =
-    let rest = Reserved word.At ∷ (spell_spread m.spread ++ spell_more spell_member ms) in
-    let b = neither (list_any (is_name m.name) rest) (has_twice rest) h in (
-      other_members m.name ms (free_members (is_name m.name) ms (right (is_name m.name) (Reserved word.At ∷ spell_spread m.spread) (spell_more spell_member ms) b.0)),
-      members_once ms (once_behind (Reserved word.At ∷ spell_spread m.spread) (spell_more spell_member ms) b.1),
-    )
+    let b = neither (list_any (is_name m.name) (flat_map member_leaves ms)) (has_twice (flat_map member_leaves ms)) h in
+    (other_members m.name ms (free_members (is_name m.name) ms b.0), members_once ms b.1)
 
 -- ---- two names of parameters have two numbers
 abbrev pub IsInjective : List (Option Sort) → Type 0
@@ -123,14 +101,12 @@ module _ (limit : ℕ) (words : List (List ℕ)) (sorts : List (Option Sort)) wh
   injective_behind e (parsed.Budget b) ys all fresh inj = inj
   injective_behind e (parsed.Goal g) ys all fresh inj = inj
 
-  pub injective : (e : Earlier) (lines : List (List Symbol)) (list : List Statement) (f : Earlier) (ys : List model.AdaptiveVariable) → Follows limit e lines list f → AllNamed e ys → IsInjective e.sorts → IsInjective f.sorts
-  injective e [] [] f ys follows all inj = subst (λ (x : Earlier). IsInjective x.sorts) follows inj
-  injective e [] (s ∷ list) f ys follows all inj = absurd follows
-  injective e ([] ∷ lines) list f ys follows all inj = injective e lines list f ys follows all inj
-  injective e ((x ∷ symbols) ∷ lines) [] f ys follows all inj = absurd follows
-  injective e ((x ∷ symbols) ∷ lines) (s ∷ list) f ys follows all inj =
-      injective (behind e s) lines list f (ys ++ adaptives words sorts s) follows.2 (named_behind words sorts e s ys all)
-      (injective_behind e s ys all (is_new limit e (x ∷ symbols) s follows.1) inj)
+  pub injective : (e : Earlier) (list : List Statement) (f : Earlier) (ys : List model.AdaptiveVariable)
+      → Chain limit words e list f → AllNamed e ys → IsInjective e.sorts → IsInjective f.sorts
+  injective e [] f ys chain all inj = subst (λ (x : Earlier). IsInjective x.sorts) chain inj
+  injective e (s ∷ list) f ys chain all inj =
+      injective (behind e s) list f (ys ++ adaptives words sorts s) chain.1 (named_behind words sorts e s ys all)
+      (injective_behind e s ys all (is_new limit chain.0.before e s chain.0.faultless) inj)
 
 pub injective_start : (n : ℕ) → IsInjective (start n).sorts
 injective_start n j k m a b = let p = nothing_there n j in cc
@@ -165,7 +141,7 @@ module _ (limit : ℕ) (f : Earlier) (inj : IsInjective f.sorts) where
   IsOnce (parsed.Budget b) = AreDistinct (map (λ (h : model.Member). h.parameter) (map (member f.sorts) b.members))
   IsOnce _ = Unit {0}
 
-  module _ (e : Earlier) (kept : (k : ℕ) (x : Sort) → sort_at e.sorts k ≡ Some x → sort_at f.sorts k ≡ Some x) where
+  module _ (e : Earlier) (kept : Keeps e f) where
     a_parameter : (k : ℕ) → IsFreeName (is_unknown e.sorts) k → IsFreeName (names_decision e.sorts) k → IsParameter f.sorts k
     a_parameter k known undecided = go (sort_at e.sorts k) refl (true_of_not _ known) undecided
       where
@@ -185,70 +161,50 @@ module _ (limit : ℕ) (f : Earlier) (inj : IsInjective f.sorts) where
     members_of [] a b = tt
     members_of (m ∷ ms) a b = (a_parameter m.name a.0 b.0, members_of ms a.1 b.1)
 
-    free_of : (symbols : List Symbol) (s : Statement) → first_fault limit e symbols s ≡ None → (i : ℕ) → i < 11 → has_fault limit e symbols s (get_or in_order i NoObjective) ≡ false
-    free_of symbols s clean i inside = none_found (has_fault limit e symbols s) in_order i NoObjective clean inside
+    module _ (now : Earlier) (s : Statement) (clean : first_fault limit e now s ≡ None) where
+      free_of : (i : ℕ) → i < 11 → has_fault limit e now s (get_or in_order i NoObjective) ≡ false
+      free_of i inside = none_found (has_fault limit e now s) in_order i NoObjective clean inside
 
-    known_in : (l : Line) → first_fault limit e (spell_line l) (statement_of l) ≡ None → Free (is_unknown e.sorts) (bare_line l)
-    known_in l clean =
-        subst (Free (is_unknown e.sorts)) (used_is l)
-        (neither (list_any (is_unknown e.sorts) (used (spell_line l) (statement_of l))) _ (free_of (spell_line l) (statement_of l) clean 1 (omega arith))).0
+      known_in : Free (is_unknown e.sorts) (statement_leaves s)
+      known_in = (neither (list_any (is_unknown e.sorts) (statement_leaves s)) _ (free_of 1 (omega arith))).0
 
-    undecided_in : (l : Line) → is_of_set (statement_of l) ≡ true → first_fault limit e (spell_line l) (statement_of l) ≡ None
-        → Free (names_decision e.sorts) (bare_line l)
-    undecided_in l of_set clean =
-        subst (Free (names_decision e.sorts)) (used_is l)
-        (ap (λ (b : Bool). b && list_any (names_decision e.sorts) (used (spell_line l) (statement_of l))) (sym of_set) ∙ free_of (spell_line l) (statement_of l) clean 7 (omega arith))
+      undecided_in : is_of_set s ≡ true → Free (names_decision e.sorts) (statement_leaves s)
+      undecided_in of_set = ap (λ (b : Bool). b && list_any (names_decision e.sorts) (statement_leaves s)) (sym of_set) ∙ free_of 7 (omega arith)
 
-    once_in : (l : Line) → is_listing (statement_of l) ≡ true → first_fault limit e (spell_line l) (statement_of l) ≡ None → Once (bare_line l)
-    once_in l listing clean =
-        subst Once (used_is l)
-        (ap (λ (b : Bool). b && has_twice (used (spell_line l) (statement_of l))) (sym listing)
-        ∙ (neither (is_declared e.sorts (declared_by e.sizes (statement_of l))) _ (free_of (spell_line l) (statement_of l) clean 0 (omega arith))).1)
+      once_in : is_listing s ≡ true → Once (statement_leaves s)
+      once_in listing =
+          ap (λ (b : Bool). b && has_twice (statement_leaves s)) (sym listing)
+          ∙ (neither (is_declared now.sorts (declared_by now.sizes s)) _ (free_of 0 (omega arith))).1
 
-    once_budget : (b : line.Shares) → first_fault limit e (spell_line (line.budget b)) (statement_of (line.budget b)) ≡ None → IsOnce (statement_of (line.budget b))
-    once_budget b clean =
-        let more = spell_more spell_member b.members.more in
-        let rest = spell_member b.members.first ++ more in
+    once_statement : (now : Earlier) (s : Statement) → first_fault limit e now s ≡ None → IsOnce s
+    once_statement now (parsed.Uncertain d) clean = tt
+    once_statement now (parsed.Over k) clean = tt
+    once_statement now (parsed.Set r) clean = tt
+    once_statement now (parsed.Var d) clean = tt
+    once_statement now (parsed.Goal g) clean = tt
+    once_statement now (parsed.Row r) clean = tt
+    once_statement now (parsed.Budget b) clean =
+        let s = parsed.Budget b in
+        let names = flat_map member_leaves b.members in
         let unknown = is_unknown e.sorts in
         let decided = names_decision e.sorts in
-        let known = tail unknown (Sign mark.Colon) rest (right unknown (spell_number b.limit) (Sign mark.Colon ∷ rest) (known_in (line.budget b) clean)) in
-        let undecided = tail decided (Sign mark.Colon) rest (right decided (spell_number b.limit) (Sign mark.Colon ∷ rest) (undecided_in (line.budget b) refl clean)) in
-        let once = once_tail (Sign mark.Colon) rest (once_behind (spell_number b.limit) (Sign mark.Colon ∷ rest) (once_in (line.budget b) refl clean)) in
-        let ms = b.members.first ∷ b.members.more in
-        subst AreDistinct (sym (members_numbers f.sorts ms))
-        (numbers_distinct f.sorts inj (map (λ (h : Member). h.name) ms)
-        (members_of ms
-        ((neither _ _ known).0, free_members unknown b.members.more (right unknown (spell_member b.members.first) more known))
-        ((neither _ _ undecided).0, free_members decided b.members.more (right decided (spell_member b.members.first) more undecided)))
-        (members_once ms once))
-
-    once_line : (l : Line) → first_fault limit e (spell_line l) (statement_of l) ≡ None → IsOnce (statement_of l)
-    once_line (line.uncertain d) clean = tt
-    once_line (line.over k) clean = tt
-    once_line (line.set s) clean = tt
-    once_line (line.budget b) clean = once_budget b clean
-    once_line (line.variable d) clean = tt
-    once_line (line.goal sense x) clean = tt
-    once_line (line.row t) clean = tt
-    once_line (line.adaptive p) clean =
-        let names = spell_list spell_name p.on in
-        let rest = Sign mark.Close ∷ spell_optional p.bounds in
+        let known = free_members unknown b.members (tail unknown (Number b.limit) names (known_in now s clean)) in
+        let undecided = free_members decided b.members (tail decided (Number b.limit) names (undecided_in now s clean refl)) in
+        subst AreDistinct (sym (members_numbers f.sorts b.members))
+        (numbers_distinct f.sorts inj (map (λ (h : Member). h.name) b.members) (members_of b.members known undecided) (members_once b.members (once_in now s clean refl)))
+    once_statement now (parsed.Adaptive p) clean =
+        let s = parsed.Adaptive p in
+        let names = map Name p.on in
+        let rest = bound_leaves p.bounds in
         let unknown = is_unknown e.sorts in
         let decided = names_decision e.sorts in
-        let known = left unknown names rest (tail unknown (Sign mark.Open) (names ++ rest) (known_in (line.adaptive p) clean)) in
-        let undecided = left decided names rest (tail decided (Sign mark.Open) (names ++ rest) (undecided_in (line.adaptive p) refl clean)) in
-        let once = once_tail (Sign mark.Open) (names ++ rest) (once_in (line.adaptive p) refl clean) in
-        numbers_distinct f.sorts inj p.on (parameters_of p.on (free_list unknown p.on known) (free_list decided p.on undecided)) (list_once p.on rest once)
+        let known = free_list unknown p.on (left unknown names rest (known_in now s clean)) in
+        let undecided = free_list decided p.on (left decided names rest (undecided_in now s clean refl)) in
+        numbers_distinct f.sorts inj p.on (parameters_of p.on known undecided) (list_once p.on rest (once_in now s clean refl))
 
-    once_statement : (symbols : List Symbol) (s : Statement) → IsStatement symbols s → first_fault limit e symbols s ≡ None → IsOnce s
-    once_statement symbols s is clean =
-        subst IsOnce is.statement_is
-        (once_line is.line (subst (λ (t : Statement). first_fault limit e (spell_line is.line) t ≡ None) (sym is.statement_is) (subst (λ (y : List Symbol). first_fault limit e y s ≡ None) is.spelled clean)))
-
-  pub all_once : (e : Earlier) (lines : List (List Symbol)) (list : List Statement) → Follows limit e lines list f → Each IsOnce list
-  all_once e [] [] follows = tt
-  all_once e [] (s ∷ list) follows = absurd follows
-  all_once e ([] ∷ lines) list follows = all_once e lines list follows
-  all_once e ((x ∷ symbols) ∷ lines) [] follows = absurd follows
-  all_once e ((x ∷ symbols) ∷ lines) (s ∷ list) follows =
-      (once_statement e (stays limit e ((x ∷ symbols) ∷ lines) (s ∷ list) f follows) (x ∷ symbols) s follows.0 follows.1, all_once (behind e s) lines list follows.2)
+  pub all_once : (words : List (List ℕ)) (e : Earlier) (list : List Statement) → Chain limit words e list f → Each IsOnce list
+  all_once words e [] chain = tt
+  all_once words e (s ∷ list) chain = (
+    once_statement chain.0.before (kept_behind limit words e s list f chain) e s chain.0.faultless,
+    all_once words (behind e s) list chain.1,
+  )

@@ -7,7 +7,6 @@ use Rattle.rob_meaning.specs.RobustModel.{AdaptiveVariable, list_in}
 use Rattle.rob_rules.specs.declared.sort.Sort.{Sort}
 use Rattle.rob_rules.specs.declared.sort.Sort.TheVariants as sort
 use Rattle.rob_rules.specs.declared.sort.Sort.TheVariants.{Parameter, Decision, Policy, RowName}
-use Rattle.rob_syntax.specs.declared.symbol.Symbol.{Symbol}
 use Rattle.rob_rules.specs.declared.size.Sizes.{Sizes}
 use Rattle.rob_rules.specs.declared.fault.Fault.TheVariants.{NoObjective}
 use Rattle.rob_syntax.specs.declared.syntax.Statement.{Statement}
@@ -15,7 +14,8 @@ use Rattle.rob_syntax.specs.declared.syntax.Statement.TheVariants as parsed
 use Rattle.rob_rules.specs.Degrees.{sort_at}
 use Rattle.rob_rules.specs.Faults.{has_fault, in_order, first_fault, is_declared}
 use Rattle.rob_parse.specs.Models.{adaptives, parameter_at, lower_bound, upper_bound, word_of}
-use Rattle.rob_rules.specs.Reading.{Follows}
+use Rattle.rob_rules.specs.Chains.{Chain}
+use Rattle.rob_rules.specs.Links.{Keeps}
 use Rattle.rob_rules.specs.Scopes.{Earlier, behind, start, has_some, declare, declared_by}
 use Rattle.rob_rules.specs.Sizes.{counted}
 use Rattle.rob_rules.proofs.ReadingLemmas.{none_found}
@@ -46,17 +46,20 @@ declare_kept sorts (Some d) k x new is = set_kept sorts d.0 k d.1 x new is
 
 module _ (limit : ℕ) where
   -- the name that a statement without a fault declares is new
-  pub is_new : (e : Earlier) (symbols : List Symbol) (s : Statement) → first_fault limit e symbols s ≡ None → is_declared e.sorts (declared_by e.sizes s) ≡ false
-  is_new e symbols s clean = (neither _ _ (none_found (has_fault limit e symbols s) in_order 0 NoObjective clean (omega arith))).0
+  pub is_new : (before now : Earlier) (s : Statement) → first_fault limit before now s ≡ None → is_declared now.sorts (declared_by now.sizes s) ≡ false
+  is_new before now s clean = (neither _ _ (none_found (has_fault limit before now s) in_order 0 NoObjective clean (omega arith))).0
 
   -- so a name keeps what it stands for
-  pub stays : (e : Earlier) (lines : List (List Symbol)) (list : List Statement) (f : Earlier) → Follows limit e lines list f → (k : ℕ) (x : Sort) → sort_at e.sorts k ≡ Some x → sort_at f.sorts k ≡ Some x
-  stays e [] [] f follows k x is = ap (λ (a : Earlier). sort_at a.sorts k) (sym follows) ∙ is
-  stays e [] (s ∷ list) f follows k x is = absurd follows
-  stays e ([] ∷ lines) list f follows k x is = stays e lines list f follows k x is
-  stays e ((y ∷ symbols) ∷ lines) [] f follows k x is = absurd follows
-  stays e ((y ∷ symbols) ∷ lines) (s ∷ list) f follows k x is =
-      stays (behind e s) lines list f follows.2 k x (declare_kept e.sorts (declared_by e.sizes s) k x (is_new e (y ∷ symbols) s follows.1) is)
+  pub stays : (words : List (List ℕ)) (e : Earlier) (list : List Statement) (f : Earlier) → Chain limit words e list f → Keeps e f
+  stays words e [] f chain k x is = ap (λ (a : Earlier). sort_at a.sorts k) (sym chain) ∙ is
+  stays words e (s ∷ list) f chain k x is =
+      stays words (behind e s) list f chain.1 k x
+      (declare_kept e.sorts (declared_by e.sizes s) k x (is_new chain.0.before e s chain.0.faultless) is)
+
+  -- what is known in front of a statement's line is known at the end
+  pub kept_behind : (words : List (List ℕ)) (e : Earlier) (s : Statement) (list : List Statement) (f : Earlier)
+      → (chain : Chain limit words e (s ∷ list) f) → Keeps chain.0.before f
+  kept_behind words e s list f chain k x is = stays words e (s ∷ list) f chain k x (chain.0.keeps k x is)
 
 -- ---- numbers name what is counted
 -- 1 where an adaptive variable depends on a parameter
@@ -123,14 +126,13 @@ module _ (words : List (List ℕ)) (sorts : List (Option Sort)) where
   named_behind e (parsed.Budget b) ys all = subst (AllNamed e) (sym (append-nil ys)) all
   named_behind e (parsed.Goal g) ys all = subst (AllNamed e) (sym (append-nil ys)) all
 
-  pub all_named : (limit : ℕ) (e : Earlier) (lines : List (List Symbol)) (list : List Statement) (f : Earlier) (ys : List AdaptiveVariable) → Follows limit e lines list f → AllNamed e ys → AllNamed f (ys ++ flat_map (adaptives words sorts) list)
-  all_named limit e [] [] f ys follows all = subst (λ (x : Earlier). AllNamed x (ys ++ [])) follows (subst (AllNamed e) (sym (append-nil ys)) all)
-  all_named limit e [] (s ∷ list) f ys follows all = absurd follows
-  all_named limit e ([] ∷ lines) list f ys follows all = all_named limit e lines list f ys follows all
-  all_named limit e ((x ∷ symbols) ∷ lines) [] f ys follows all = absurd follows
-  all_named limit e ((x ∷ symbols) ∷ lines) (s ∷ list) f ys follows all =
+  pub all_named : (limit : ℕ) (e : Earlier) (list : List Statement) (f : Earlier) (ys : List AdaptiveVariable)
+      → Chain limit words e list f → AllNamed e ys → AllNamed f (ys ++ flat_map (adaptives words sorts) list)
+  all_named limit e [] f ys chain all =
+      subst (λ (x : Earlier). AllNamed x (ys ++ [])) chain (subst (AllNamed e) (sym (append-nil ys)) all)
+  all_named limit e (s ∷ list) f ys chain all =
       subst (AllNamed f) (append_assoc ys (adaptives words sorts s) (flat_map (adaptives words sorts) list))
-      (all_named limit (behind e s) lines list f (ys ++ adaptives words sorts s) follows.2 (named_behind e s ys all))
+      (all_named limit (behind e s) list f (ys ++ adaptives words sorts s) chain.1 (named_behind e s ys all))
 
 -- in front of the first line
 pub nothing_there : (n k : ℕ) → sort_at (replicate n None) k ≡ None

@@ -127,10 +127,10 @@ words_in [] words = tt
 words_in (w ∷ ws) words = (words_stay ws (add_word words w) w (added_self words w), words_in ws (add_word words w))
 
 -- ---- the word of a token has no dot
-byte_plain : (b : ℕ) → goes_on_word b ≡ true → b ≢ 46
+pub byte_plain : (b : ℕ) → goes_on_word b ≡ true → b ≢ 46
 byte_plain b h e = let p : goes_on_word 46 ≡ true = subst (λ (x : ℕ). goes_on_word x ≡ true) e h in cc
 
-first_plain : (b : ℕ) → begins_word b ≡ true → b ≢ 46
+pub first_plain : (b : ℕ) → begins_word b ≡ true → b ≢ 46
 first_plain b h e = let p : begins_word 46 ≡ true = subst (λ (x : ℕ). begins_word x ≡ true) e h in cc
 
 run_plain : (bytes after : List ℕ) → IsRun goes_on_word bytes after → IsPlain bytes
@@ -231,7 +231,7 @@ module _ (w : List ℕ) where
       go true = a
       go false = push words a
 
-words_words : (ws words : List (List ℕ)) → Each IsWord words → Each IsWord ws → Each IsWord (fold add_word words ws)
+pub words_words : (ws words : List (List ℕ)) → Each IsWord words → Each IsWord ws → Each IsWord (fold add_word words ws)
 words_words [] words a b = a
 words_words (w ∷ ws) words a b = words_words ws (add_word words w) (added_word w words a b.0) b.1
 

@@ -5,9 +5,8 @@ use Rattle.std.specs.List.{flat_map}
 use Rattle.std.proofs.Math.Nat.{mul-div_cancel_left, mul-le-mul_right}
 use Rattle.std.proofs.Math.Seq.{take-append_seam}
 use Rattle.std.proofs.lemmas.List.{length-map}
-use Rattle.std.proofs.lemmas.Nat.{mod-mul-add}
 use Rattle.rob_meaning.specs.Degrees as degrees
-use Rattle.rob_meaning.specs.Degrees.{IsLinear, AreLinear, FactorsLinear, decision_degree, uncertain_degree}
+use Rattle.rob_meaning.specs.Degrees.{IsLinear, AreLinear, FactorsLinear}
 use Rattle.rob_meaning.specs.Expressions.{Expression, Terms, Factors, number, parameter, variable, adaptive, adaptive_in, sum, product, no_terms, term, no_factors, factor}
 use Rattle.rob_meaning.specs.Named.{AreDistinct, HasDistinctMembers}
 use Rattle.rob_meaning.specs.Places.{Each, EachFrom}

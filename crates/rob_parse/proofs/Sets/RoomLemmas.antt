@@ -11,12 +11,12 @@ use Rattle.rob_syntax.specs.declared.syntax.Statement.{Statement}
 use Rattle.rob_parse.specs.Building.{HasRoomForAll}
 use Rattle.rob_parse.specs.Models.{parameter_number, parameters, set_at}
 use Rattle.std.specs.List.{flat_map}
-use Rattle.rob_rules.specs.Reading.{Reads}
+use Rattle.rob_rules.specs.Texts.{Reads}
 use Rattle.rob_rules.specs.Scopes.{earlier_of, start}
-use Rattle.rob_syntax.specs.Symbols.{lines_of}
 use Rattle.rob_parse.proofs.Sizes.CountLemmas.{counts, kept_all}
 use Rattle.rob_parse.proofs.Sets.SetNumbers.{counted_all, counted_start, set_there}
 use Rattle.rob_rules.proofs.SizeLemmas.{kept_start, times_more, within}
+use Rattle.rob_parse.proofs.Names.ChainLemmas.{reads_chain}
 use Rattle.rob_parse.proofs.Names.SortLemmas.{Names, all_named, none_named}
 
 number_below : (p v : ℕ) (ys : List AdaptiveVariable) (o : Option Sort) → Names p v ys o → parameter_number o ≤ p
@@ -33,12 +33,12 @@ room_small S p k some few small = let h : S * p ≤ 8 * 96 = mul-le-mul some few
 pub has_room : (limit : ℕ) (text : List ℕ) (words : List (List ℕ)) (list : List Statement) (scope : Scope) → Reads limit text words list (earlier_of scope) → HasRoomForAll scope
 has_room limit text words list scope read =
     let begin = start (length words) in
-    let lines = lines_of text words read.tokens in
     let e = earlier_of scope in
-    let w = within e.sizes (kept_all limit begin lines list e read.follows kept_start).within in
+    let chain = reads_chain limit text words list e read in
+    let w = within e.sizes (kept_all limit words begin list e chain kept_start).within in
     let more = times_more e.sizes.parameters e.sizes.sets in
-    let all = all_named words e.sorts limit begin lines list e [] read.follows (none_named (length words)) in
-    let numbered = counted_all limit begin lines list e read.follows (counted_start (length words)) in
+    let all = all_named words e.sorts limit begin list e [] chain (none_named (length words)) in
+    let numbered = counted_all limit words begin list e chain (counted_start (length words)) in
     record {
       count = omega (arith, w.parameters, more);
       room = λ over name.
@@ -50,5 +50,6 @@ has_room limit text words list scope read =
 pub written_count_is : (limit : ℕ) (text : List ℕ) (words : List (List ℕ)) (list : List Statement) (scope : Scope) → Reads limit text words list (earlier_of scope)
     → scope.sizes.parameters ≡ length (flat_map (parameters words) list)
 written_count_is limit text words list scope read =
-    let c = counts words scope.sorts.items limit (start (length words)) (lines_of text words read.tokens) list (earlier_of scope) read.follows in
+    let e = earlier_of scope in
+    let c = counts words e.sorts limit (start (length words)) list e (reads_chain limit text words list e read) in
     omega (arith, c.parameters_are)

@@ -4,13 +4,12 @@ use Rattle.std.specs.Prelude.{Option, Some, None}
 use Rattle.std.specs.List.{flat_map}
 use Rattle.rob_meaning.specs.Places.{Each}
 use Rattle.rob_rules.specs.declared.sort.Sort.{Sort}
-use Rattle.rob_syntax.specs.declared.symbol.Symbol.{Symbol}
 use Rattle.rob_syntax.specs.declared.syntax.Goal.{Goal}
 use Rattle.rob_syntax.specs.declared.syntax.Statement.{Statement}
 use Rattle.rob_syntax.specs.declared.syntax.Statement.TheVariants as parsed
 use Rattle.rob_rules.specs.Degrees.{sort_at}
 use Rattle.rob_parse.specs.Models.{line_sets, objective_set, row_sets, rows, set_at, set_lines, set_number}
-use Rattle.rob_rules.specs.Reading.{Follows}
+use Rattle.rob_rules.specs.Chains.{Chain}
 use Rattle.rob_rules.specs.Scopes.{Earlier, behind, start}
 use Rattle.rob_parse.proofs.Building.ModelLemmas.{each_flat}
 use Rattle.rob_parse.proofs.Names.SortLemmas.{nothing_there, set_cases}
@@ -37,12 +36,11 @@ counted_behind e (parsed.Set r) all = all
 counted_behind e (parsed.Budget b) all = all
 counted_behind e (parsed.Goal g) all = all
 
-pub counted_all : (limit : ℕ) (e : Earlier) (lines : List (List Symbol)) (list : List Statement) (f : Earlier) → Follows limit e lines list f → AreCounted e → AreCounted f
-counted_all limit e [] [] f follows all = subst AreCounted follows all
-counted_all limit e [] (s ∷ list) f follows all = absurd follows
-counted_all limit e ([] ∷ lines) list f follows all = counted_all limit e lines list f follows all
-counted_all limit e ((x ∷ symbols) ∷ lines) [] f follows all = absurd follows
-counted_all limit e ((x ∷ symbols) ∷ lines) (s ∷ list) f follows all = counted_all limit (behind e s) lines list f follows.2 (counted_behind e s all)
+pub counted_all : (limit : ℕ) (words : List (List ℕ)) (e : Earlier) (list : List Statement) (f : Earlier)
+    → Chain limit words e list f → AreCounted e → AreCounted f
+counted_all limit words e [] f chain all = subst AreCounted chain all
+counted_all limit words e (s ∷ list) f chain all =
+    counted_all limit words (behind e s) list f chain.1 (counted_behind e s all)
 
 pub counted_start : (words : ℕ) → AreCounted (start words)
 counted_start words k = subst (λ (o : Option Sort). set_number o ≤ 0) (sym (nothing_there words k)) (omega arith)

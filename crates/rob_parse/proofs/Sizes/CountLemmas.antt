@@ -6,12 +6,11 @@ use Rattle.std.proofs.lemmas.List.{length-map}
 use Rattle.rob_meaning.specs.RobustModel.{AdaptiveVariable, column_from}
 use Rattle.rob_meaning.specs.SetRows.{lift_count}
 use Rattle.rob_rules.specs.declared.sort.Sort.{Sort}
-use Rattle.rob_syntax.specs.declared.symbol.Symbol.{Symbol}
 use Rattle.rob_rules.specs.declared.size.Sizes.{Sizes}
 use Rattle.rob_syntax.specs.declared.syntax.Statement.{Statement}
 use Rattle.rob_syntax.specs.declared.syntax.Statement.TheVariants.{Uncertain, Over, Set, Budget, Var, Adaptive, Goal, Row}
 use Rattle.rob_parse.specs.Models.{parameters, sets, variables, adaptives, set_lines, rows, member, parameter_at}
-use Rattle.rob_rules.specs.Reading.{Follows}
+use Rattle.rob_rules.specs.Chains.{Chain}
 use Rattle.rob_rules.specs.Scopes.{Earlier, behind}
 use Rattle.rob_rules.specs.Sizes.{counted, IsKept}
 use Rattle.rob_rules.proofs.ReadingLemmas.{kept_note}
@@ -53,16 +52,13 @@ module _ (words : List (List ℕ)) (sorts : List (Option Sort)) where
   counts_more (Over k) list s t c = record { parameters_are = c.parameters_are; sets_are = omega (arith, c.sets_are); variables_are = c.variables_are; adaptives_are = c.adaptives_are; columns_are = c.columns_are; rows_are = c.rows_are; set_lines_are = c.set_lines_are; members_are = c.members_are }
   counts_more (Goal g) list s t c = record { parameters_are = c.parameters_are; sets_are = c.sets_are; variables_are = c.variables_are; adaptives_are = c.adaptives_are; columns_are = c.columns_are; rows_are = c.rows_are; set_lines_are = c.set_lines_are; members_are = c.members_are }
 
-  pub counts : (limit : ℕ) (e : Earlier) (lines : List (List Symbol)) (list : List Statement) (f : Earlier) → Follows limit e lines list f → Counts list e.sizes f.sizes
-  counts limit e [] [] f follows = subst (λ (x : Earlier). Counts [] e.sizes x.sizes) follows (counts_none e.sizes)
-  counts limit e [] (s ∷ list) f follows = absurd follows
-  counts limit e ([] ∷ lines) list f follows = counts limit e lines list f follows
-  counts limit e ((x ∷ symbols) ∷ lines) [] f follows = absurd follows
-  counts limit e ((x ∷ symbols) ∷ lines) (s ∷ list) f follows = counts_more s list e.sizes f.sizes (counts limit (behind e s) lines list f follows.2)
+  pub counts : (limit : ℕ) (e : Earlier) (list : List Statement) (f : Earlier) → Chain limit words e list f
+      → Counts list e.sizes f.sizes
+  counts limit e [] f chain = subst (λ (x : Earlier). Counts [] e.sizes x.sizes) chain (counts_none e.sizes)
+  counts limit e (s ∷ list) f chain = counts_more s list e.sizes f.sizes (counts limit (behind e s) list f chain.1)
 
-pub kept_all : (limit : ℕ) (e : Earlier) (lines : List (List Symbol)) (list : List Statement) (f : Earlier) → Follows limit e lines list f → IsKept e.sizes → IsKept f.sizes
-kept_all limit e [] [] f follows kept = subst (λ (x : Earlier). IsKept x.sizes) follows kept
-kept_all limit e [] (s ∷ list) f follows kept = absurd follows
-kept_all limit e ([] ∷ lines) list f follows kept = kept_all limit e lines list f follows kept
-kept_all limit e ((x ∷ symbols) ∷ lines) [] f follows kept = absurd follows
-kept_all limit e ((x ∷ symbols) ∷ lines) (s ∷ list) f follows kept = kept_all limit (behind e s) lines list f follows.2 (kept_note limit e (x ∷ symbols) s kept follows.1)
+pub kept_all : (limit : ℕ) (words : List (List ℕ)) (e : Earlier) (list : List Statement) (f : Earlier)
+    → Chain limit words e list f → IsKept e.sizes → IsKept f.sizes
+kept_all limit words e [] f chain kept = subst (λ (x : Earlier). IsKept x.sizes) chain kept
+kept_all limit words e (s ∷ list) f chain kept =
+    kept_all limit words (behind e s) list f chain.1 (kept_note limit chain.0.before e s kept chain.0.faultless)

@@ -1,5 +1,5 @@
 -- What rule 22 counts are the sizes of a model, and a model that a text reads as is within the limits.
-use Rattle.std.proofs.Common.{◌≡◌, ℕ, suc, true, ◌+◌, ◌*◌, ◌≤◌, List, [], ◌∷◌, ◌++◌, length, fold, sym, ap, ◌∙◌, subst, arith}
+use Rattle.std.proofs.Common.{◌≡◌, ℕ, suc, ◌+◌, ◌*◌, ◌≤◌, List, [], ◌∷◌, ◌++◌, length, fold, sym, ap, ◌∙◌, subst, arith}
 use Rattle.std.specs.List.{flat_map}
 use Rattle.std.specs.Prelude.{Option}
 use Rattle.std.proofs.Math.Nat.{mul_comm}
@@ -10,16 +10,15 @@ use Rattle.rob_meaning.specs.SetRows.{lift_count, set_rows}
 use Rattle.rob_model.specs.Limits.{IsWithinLimits, most_columns, most_members, most_parameters, most_rows, most_set_lines, most_sets, most_size}
 use Rattle.rob_rules.specs.declared.size.Sizes.{Sizes}
 use Rattle.rob_rules.specs.declared.sort.Sort.{Sort}
-use Rattle.rob_syntax.specs.declared.symbol.Symbol.{Symbol}
 use Rattle.rob_syntax.specs.declared.syntax.Statement.{Statement}
 use Rattle.rob_parse.specs.Modelled.{ReadsModel}
 use Rattle.rob_parse.specs.Models.{goal_in, in_sets, line_sets, line_taken, model_of, objective_set, row_sets, row_taken, sets, written_of}
-use Rattle.rob_rules.specs.Reading.{Follows}
+use Rattle.rob_rules.specs.Chains.{Chain}
 use Rattle.rob_rules.specs.Scopes.{Earlier, start}
-use Rattle.rob_rules.specs.Sizes.{AreSizesOf, counted, is_within, joint_count, start_sizes}
-use Rattle.rob_syntax.specs.Symbols.{lines_of}
+use Rattle.rob_rules.specs.Sizes.{AreSizesOf, counted, joint_count, start_sizes}
 use Rattle.rob_parse.proofs.Sizes.StatementSizes.{added, sizes_are, sizes_behind}
 use Rattle.rob_parse.proofs.Sizes.CountLemmas.{columns_are, kept_all}
+use Rattle.rob_parse.proofs.Names.ChainLemmas.{model_chain}
 use Rattle.rob_parse.proofs.Sets.InSets.{length-each_taken, length_joint, lifts_taken}
 use Rattle.rob_parse.proofs.Sizes.ModelSizes.{adaptive_bounds, bounds-joint, length-forms, length-set_rows, line_rows, lines_taken, parameter_bounds, rows_taken, variable_bounds}
 use Rattle.rob_rules.proofs.SizeLemmas.{Within, kept_start, within}
@@ -99,24 +98,22 @@ within_limits limit text m read =
     subst IsWithinLimits (sym read.model_is)
     (within_counts (model_of read.words read.known.sorts read.list) read.known.sizes
     (subst (AreSizesOf (model_of read.words read.known.sorts read.list))
-    (sym (sizes_behind limit begin lines read.list read.known read.reads.follows))
+    (sym (sizes_behind limit read.words begin read.list read.known chain))
     (counts_are read.words read.known.sorts read.list))
-    (within read.known.sizes (kept_all limit begin lines read.list read.known read.reads.follows kept_start).within))
+    (within read.known.sizes (kept_all limit read.words begin read.list read.known chain kept_start).within))
   where
     begin : Earlier
     begin = start (length read.words)
 
-    lines : List (List Symbol)
-    lines = lines_of text read.words read.reads.tokens
+    chain : Chain limit read.words begin read.list read.known
+    chain = model_chain limit text m read
 
 -- what is counted behind a statement are the sizes of the model of all statements up to it
-pub counted_is : (limit words_count : ℕ) (lines : List (List Symbol))
-    (list : List Statement) (known : Earlier) (s : Statement)
-    → Follows limit (start words_count) lines list known
-    → (words : List (List ℕ)) (sorts : List (Option Sort))
+pub counted_is : (limit : ℕ) (words : List (List ℕ)) (list : List Statement) (known : Earlier) (s : Statement)
+    → Chain limit words (start (length words)) list known → (sorts : List (Option Sort))
     → AreSizesOf (model_of words sorts (list ++ s ∷ [])) (counted known.sizes s)
-counted_is limit words_count lines list known s follows words sorts =
+counted_is limit words list known s chain sorts =
     subst (AreSizesOf (model_of words sorts (list ++ s ∷ [])))
     (fold-append counted start_sizes list (s ∷ [])
-    ∙ ap (λ sizes. counted sizes s) (sym (sizes_behind limit (start words_count) lines list known follows)))
+    ∙ ap (λ sizes. counted sizes s) (sym (sizes_behind limit words (start (length words)) list known chain)))
     (counts_are words sorts (list ++ s ∷ []))

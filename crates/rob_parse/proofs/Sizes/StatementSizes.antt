@@ -1,15 +1,13 @@
 -- The sizes behind some statements are those of what they write, whatever their order is.
-use Rattle.std.proofs.Common.{◌≡◌, ℕ, ◌+◌, ◌*◌, ◌≤◌, true, List, [], ◌∷◌, ◌++◌, length, fold, refl, sym, ap, ◌∙◌, subst, arith}
+use Rattle.std.proofs.Common.{◌≡◌, ℕ, ◌+◌, ◌≤◌, true, List, [], ◌∷◌, length, fold, refl, sym, ap, ◌∙◌, arith}
 use Rattle.std.specs.Prelude.{◌&&◌, nat_le, Option, Some, None}
 use Rattle.std.proofs.lemmas.Bool.Decides.{nat_tests}
 use Rattle.std.proofs.lemmas.List.{length-map}
 use Rattle.std.specs.List.{flat_map}
-use Rattle.std.proofs.lemmas.List.Sums.{fold-append}
 use Rattle.rob_meaning.specs.RobustModel.{RobustModel}
 use Rattle.rob_meaning.specs.SetRows.{lift_count}
 use Rattle.rob_rules.specs.declared.size.Sizes.{Sizes}
 use Rattle.rob_rules.specs.declared.sort.Sort.{Sort}
-use Rattle.rob_syntax.specs.declared.symbol.Symbol.{Symbol}
 use Rattle.rob_syntax.specs.declared.syntax.Bounds.{Bounds}
 use Rattle.rob_syntax.specs.declared.syntax.Bounds.TheVariants.{Between, AtLeast, AtMost}
 use Rattle.rob_syntax.specs.declared.syntax.Rel.{Rel}
@@ -17,13 +15,13 @@ use Rattle.rob_syntax.specs.declared.syntax.Rel.TheVariants as rel
 use Rattle.rob_syntax.specs.declared.syntax.Statement.{Statement}
 use Rattle.rob_syntax.specs.declared.syntax.Statement.TheVariants.{Uncertain, Over, Set, Budget, Var, Adaptive, Goal, Row}
 use Rattle.rob_parse.specs.Models.{lower_bound, upper_bound, relation_of, parameter_at, member, sets, written_of}
-use Rattle.rob_rules.specs.Reading.{Follows}
+use Rattle.rob_rules.specs.Chains.{Chain}
 use Rattle.rob_rules.specs.Scopes.{Earlier, behind}
 use Rattle.rob_model.specs.Limits.{most_sets, most_parameters, most_columns, most_rows, most_set_lines, most_members, most_size}
 use Rattle.rob_rules.specs.Sizes.{bound_count, rel_count, start_sizes, counted, joint_count, size, is_within}
 use Rattle.rob_parse.proofs.Sizes.CountLemmas.{rule_columns}
 use Rattle.rob_parse.proofs.Sizes.ModelSizes.{some_bounds, inequalities, parameter_bounds, variable_bounds, adaptive_bounds, row_inequalities, line_rows}
-use Rattle.rob_rules.proofs.SizeLemmas.{Within, within}
+use Rattle.rob_rules.proofs.SizeLemmas.{Within}
 
 -- the sizes behind the statements of a model over written parameters, where so many sets are named
 abbrev pub added : Sizes → ℕ → RobustModel → Sizes
@@ -111,11 +109,8 @@ within_again s w = λ i.
     passes s.sets most_sets w.sets i && passes (joint_count s) most_parameters w.parameters i && passes s.columns most_columns w.columns i && passes s.rows most_rows w.rows i
     && passes s.set_lines most_set_lines w.set_lines i && passes s.members most_members w.members i && passes (size s) most_size w.whole i
 
--- ---- the sizes that are known behind some lines
-pub sizes_behind : (limit : ℕ) (e : Earlier) (lines : List (List Symbol)) (list : List Statement) (f : Earlier)
-    → Follows limit e lines list f → f.sizes ≡ fold counted e.sizes list
-sizes_behind limit e [] [] f follows = ap (λ (x : Earlier). x.sizes) (sym follows)
-sizes_behind limit e [] (s ∷ list) f follows = absurd follows
-sizes_behind limit e ([] ∷ lines) list f follows = sizes_behind limit e lines list f follows
-sizes_behind limit e ((x ∷ symbols) ∷ lines) [] f follows = absurd follows
-sizes_behind limit e ((x ∷ symbols) ∷ lines) (s ∷ list) f follows = sizes_behind limit (behind e s) lines list f follows.2
+-- ---- the sizes that are known behind some statements
+pub sizes_behind : (limit : ℕ) (words : List (List ℕ)) (e : Earlier) (list : List Statement) (f : Earlier)
+    → Chain limit words e list f → f.sizes ≡ fold counted e.sizes list
+sizes_behind limit words e [] f chain = ap (λ (x : Earlier). x.sizes) (sym chain)
+sizes_behind limit words e (s ∷ list) f chain = sizes_behind limit words (behind e s) list f chain.1

@@ -14,10 +14,12 @@ use Rattle.rob_round_trip.proofs.Written.ReadModels.{readable}
 use Rattle.rob_round_trip.proofs.Lengths.TokenCounts.{canonical_tokens, canonical_shallow}
 use Rattle.rob_parse.proofs.Names.WellNamed.{once_written, well_named, well_spelled}
 
-pub round_trip : (limit : ℕ) (text : List ℕ) (m : RobustModel) → 1 ≤ limit → limit < 2 ^ 62 → ReadsModel limit text m → ReadsModel limit (model_text m) m
+pub round_trip : (limit : ℕ) (text : List ℕ) (m : RobustModel) → 1 ≤ limit → limit < 2 ^ 62 → ReadsModel limit text m
+    → ReadsModel limit (model_text m) m
 round_trip limit text m low small read =
     let is = sym (is_written limit text m read low) in
-    canonical_reads limit m low small (readable limit text m low read) (subst IsModel is (well_formed_written limit text m low read))
+    canonical_reads limit m low small (readable limit text m low read)
+    (subst IsModel is (well_formed_written limit text m low read))
     (well_named limit text m read) (well_spelled limit text m read)
     (subst (λ (x : RobustModel). Each HasDistinctMembers x.set_lines) is (once_written limit text m read))
     (within_limits limit text m read) (canonical_shallow limit text m low read) (canonical_tokens limit text m low read)

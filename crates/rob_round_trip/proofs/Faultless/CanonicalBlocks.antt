@@ -22,31 +22,38 @@ use Rattle.rob_round_trip.specs.Readable.{IsBound, IsReadable, IsReadableSetLine
 use Rattle.rob_rules.specs.Scopes.{Earlier, start, behind, has_some, is_goal}
 use Rattle.rob_syntax.specs.Symbols.{number_of}
 use Rattle.rob_round_trip.proofs.Faultless.CanonicalScopes.{AreFresh, Kept, behind_sets, kept_more, noted, numbered, sets_declared, sets_stand, kept_noted, AllFresh, all_fresh, behind_parameters, behind_variables, behind_adaptives, canonical_sorts, no_sorts, variables_declared, parameters_known, all_known}
-use Rattle.rob_round_trip.proofs.Faultless.CanonicalWalk.{declared_set_said, Walk, walk_append, walk_kind, IsNewThere, IsFirstGoal, parameter_said, variable_said, set_said, adaptive_said, row_said, Block, block, plain_block}
+use Rattle.rob_round_trip.proofs.Faultless.SaidLines.{parameter_said, declared_set_said, variable_said, set_said, adaptive_said, row_said}
+use Rattle.rob_round_trip.proofs.Faultless.CanonicalWalk.{Walk, walk_append, walk_kind, IsNewThere, IsFirstGoal, Block, block, plain_block}
 use Rattle.rob_round_trip.proofs.Faultless.Clear.{behind_all, AreClear}
-use Rattle.rob_round_trip.proofs.Faultless.ClearSymbols.{answer_of, declared_set_clear, parameter_clear, variable_clear, set_clear, adaptive_clear, goal_clear, row_clear}
+use Rattle.rob_round_trip.proofs.Faultless.ClearStatements.{answer_of, declared_set_clear, parameter_clear, variable_clear, set_clear, adaptive_clear, goal_clear, row_clear}
 use Rattle.rob_round_trip.proofs.ReadBack.LinesText.{rows_declarable}
 use Rattle.rob_round_trip.proofs.Faultless.CanonicalParts.{behind_append, goal_later, GoalIs, no_goal_is, any_each, each_place, set_lines_of, goal_line_of, row_lines_of, Parted, joined}
 
 -- ---- items beside their sets
-each_beside : {A : Type 0} (P : A → Type 0) (xs : List A) (Ss : List ℕ) → Each P xs → Each (λ (z : A × ℕ). P z.0) (beside xs Ss)
+each_beside : {A : Type 0} (P : A → Type 0) (xs : List A) (Ss : List ℕ) → Each P xs
+    → Each (λ (z : A × ℕ). P z.0) (beside xs Ss)
 each_beside P [] Ss h = tt
 each_beside P (x ∷ xs) [] h = (h.0, each_beside P xs [] h.1)
 each_beside P (x ∷ xs) (S ∷ Ss) h = (h.0, each_beside P xs Ss h.1)
 
-numbers_beside : {A : Type 0} (n : ℕ) (xs : List A) (Ss : List ℕ) → length Ss ≡ length xs → Each (λ S. S < n) Ss → Each (λ (z : A × ℕ). z.1 < n) (beside xs Ss)
+numbers_beside : {A : Type 0} (n : ℕ) (xs : List A) (Ss : List ℕ) → length Ss ≡ length xs → Each (λ S. S < n) Ss
+    → Each (λ (z : A × ℕ). z.1 < n) (beside xs Ss)
 numbers_beside n [] Ss same h = tt
 numbers_beside n (x ∷ xs) [] same h = absurd (omega (arith, same))
 numbers_beside n (x ∷ xs) (S ∷ Ss) same h = (h.0, numbers_beside n xs Ss (omega (arith, same)) h.1)
 
 rows_numbered : (words : List (List ℕ)) (q k : ℕ) (rs : List model.Row) (Ss : List ℕ)
-    → numbered words (λ (z : model.Row × ℕ). z.0.name) (λ k z. RowName) k (beside (map (row_written q) rs) Ss) ≡ numbered words (λ (r : model.Row). r.name) (λ k r. RowName) k rs
+    → numbered words (λ (z : model.Row × ℕ). z.0.name) (λ k z. RowName) k (beside (map (row_written q) rs) Ss)
+    ≡ numbered words (λ (r : model.Row). r.name) (λ k r. RowName) k rs
 rows_numbered words q k [] Ss = refl
-rows_numbered words q k (r ∷ rs) [] = ap (λ (l : List (ℕ × Sort)). (number_of words r.name, RowName) ∷ l) (rows_numbered words q (k + 1) rs [])
-rows_numbered words q k (r ∷ rs) (S ∷ Ss) = ap (λ (l : List (ℕ × Sort)). (number_of words r.name, RowName) ∷ l) (rows_numbered words q (k + 1) rs Ss)
+rows_numbered words q k (r ∷ rs) [] =
+    ap (λ (l : List (ℕ × Sort)). (number_of words r.name, RowName) ∷ l) (rows_numbered words q (k + 1) rs [])
+rows_numbered words q k (r ∷ rs) (S ∷ Ss) =
+    ap (λ (l : List (ℕ × Sort)). (number_of words r.name, RowName) ∷ l) (rows_numbered words q (k + 1) rs Ss)
 
 module _ (limit : ℕ) (words : List (List ℕ)) (m : RobustModel) (d : AreDeclarable words m)
-    (spelled : Each IsSpelled (declared_names m)) (named : IsNamed m) (readable : IsReadableModel limit (naming_of m) m) where
+    (spelled : Each IsSpelled (declared_names m)) (named : IsNamed m)
+    (readable : IsReadableModel limit (naming_of m) m) where
   fresh : AllFresh words m
   fresh = all_fresh words m d spelled named.distinct
 
@@ -78,41 +85,59 @@ module _ (limit : ℕ) (words : List (List ℕ)) (m : RobustModel) (d : AreDecla
     abbrev statements : List Statement
     statements = joined words m list p
 
-    parameter_block : Block words first (map parameter_words (written_parameters m)) p.of_parameters (behind_parameters words m)
-        × ((j : ℕ) × ((second.sizes.parameters ≡ j) × (second.sizes.sets ≡ 0) × (second.sizes.variables ≡ 0) × (second.sizes.adaptives ≡ 0)))
+    parameter_block : Block words first (map parameter_words (written_parameters m)) p.of_parameters
+        (behind_parameters words m)
+        × ((j : ℕ) × ((second.sizes.parameters ≡ j) × (second.sizes.sets ≡ 0) × (second.sizes.variables ≡ 0)
+        × (second.sizes.adaptives ≡ 0)))
     parameter_block =
-        block words (λ (x : model.Parameter). x.name) (λ k x. Parameter k) parameter_words (λ k n. (n.parameters ≡ k) × (n.sets ≡ 0) × (n.variables ≡ 0) × (n.adaptives ≡ 0))
+        block words (λ (x : model.Parameter). x.name) (λ k x. Parameter k) parameter_words
+        (λ k n. (n.parameters ≡ k) × (n.sets ≡ 0) × (n.variables ≡ 0) × (n.adaptives ≡ 0))
         (λ (x : model.Parameter). IsDeclarable words x.name)
         (λ z s q is k n at.
         let x = parameter_said words z s q is in (
           x.declares n ∙ ap (λ (j : ℕ). Some (number_of words z.name, Parameter j)) at.0,
-          (omega (arith, x.parameters n, at.0), omega (arith, x.sets n, at.1), omega (arith, x.variables n, at.2), omega (arith, x.adaptives n, at.3)),
+          (
+            omega (arith, x.parameters n, at.0),
+            omega (arith, x.sets n, at.1),
+            omega (arith, x.variables n, at.2),
+            omega (arith, x.adaptives n, at.3),
+          ),
           x.plain,
         ))
-        (written_parameters m) 0 (no_sorts words m) first p.of_parameters refl (refl, refl, refl, refl) d.parameters p.parameters fresh.parameters
+        (written_parameters m) 0 (no_sorts words m) first p.of_parameters refl (refl, refl, refl, refl) d.parameters
+        p.parameters fresh.parameters
 
     name_block : Block words second (map declared_set_words m.sets) p.of_names (behind_sets words m)
-        × ((j : ℕ) × ((named_behind.sizes.sets ≡ j) × (named_behind.sizes.variables ≡ 0) × (named_behind.sizes.adaptives ≡ 0)))
+        × ((j : ℕ) × ((named_behind.sizes.sets ≡ j) × (named_behind.sizes.variables ≡ 0)
+        × (named_behind.sizes.adaptives ≡ 0)))
     name_block =
-        block words (λ (n : List ℕ). n) (λ k n. sort.Set (k + 1)) declared_set_words (λ k n. (n.sets ≡ k) × (n.variables ≡ 0) × (n.adaptives ≡ 0)) (IsDeclarable words)
+        block words (λ (n : List ℕ). n) (λ k n. sort.Set (k + 1)) declared_set_words
+        (λ k n. (n.sets ≡ k) × (n.variables ≡ 0) × (n.adaptives ≡ 0)) (IsDeclarable words)
         (λ z s q is k n at.
         let x = declared_set_said words z s q is in (
           x.declares n ∙ ap (λ (j : ℕ). Some (number_of words z, sort.Set (j + 1))) at.0,
           (omega (arith, x.sets n, at.0), omega (arith, x.variables n, at.1), omega (arith, x.adaptives n, at.2)),
           x.plain,
         ))
-        m.sets 0 (behind_parameters words m) second p.of_names parameter_block.0.sorts_are (parameter_block.1.1.1, parameter_block.1.1.2, parameter_block.1.1.3) d.sets p.names fresh.sets
+        m.sets 0 (behind_parameters words m) second p.of_names parameter_block.0.sorts_are
+        (parameter_block.1.1.1, parameter_block.1.1.2, parameter_block.1.1.3) d.sets p.names fresh.sets
 
-    set_block : Block words named_behind (set_lines_of m) p.of_set (behind_sets words m) × ((third.sizes.variables ≡ 0) × (third.sizes.adaptives ≡ 0))
+    set_block : Block words named_behind (set_lines_of m) p.of_set (behind_sets words m)
+        × ((third.sizes.variables ≡ 0) × (third.sizes.adaptives ≡ 0))
     set_block =
-        plain_block words (placed_words (set_words (naming_of m)) m.sets) (λ n. (n.variables ≡ 0) × (n.adaptives ≡ 0)) (λ z. Unit {0})
-        (λ z s q is n at. let x = set_said words (naming_of m) z.0 (over_words m.sets z.1) s is in (x.declares n, (omega (arith, x.variables n, at.0), omega (arith, x.adaptives n, at.1)), x.plain))
-        (beside (written_model m).set_lines m.line_sets) (behind_sets words m) named_behind p.of_set name_block.0.sorts_are (name_block.1.1.1, name_block.1.1.2) (any_each (beside (written_model m).set_lines m.line_sets)) p.set
+        plain_block words (placed_words (set_words (naming_of m)) m.sets)
+        (λ n. (n.variables ≡ 0) × (n.adaptives ≡ 0)) (λ z. Unit {0})
+        (λ z s q is n at. let x = set_said words (naming_of m) z.0 (over_words m.sets z.1) s is in
+        (x.declares n, (omega (arith, x.variables n, at.0), omega (arith, x.adaptives n, at.1)), x.plain))
+        (beside (written_model m).set_lines m.line_sets) (behind_sets words m) named_behind p.of_set
+        name_block.0.sorts_are (name_block.1.1.1, name_block.1.1.2)
+        (any_each (beside (written_model m).set_lines m.line_sets)) p.set
 
     variable_block : Block words third (map variable_words m.variables) p.of_variables (behind_variables words m)
         × ((j : ℕ) × ((fourth.sizes.variables ≡ j) × (fourth.sizes.adaptives ≡ 0)))
     variable_block =
-        block words (λ (x : model.Variable). x.name) (λ k x. Decision k) variable_words (λ k n. (n.variables ≡ k) × (n.adaptives ≡ 0))
+        block words (λ (x : model.Variable). x.name) (λ k x. Decision k) variable_words
+        (λ k n. (n.variables ≡ k) × (n.adaptives ≡ 0))
         (λ (x : model.Variable). IsDeclarable words x.name)
         (λ z s q is k n at.
         let x = variable_said words z s q is in (
@@ -120,47 +145,70 @@ module _ (limit : ℕ) (words : List (List ℕ)) (m : RobustModel) (d : AreDecla
           (omega (arith, x.variables n, at.0), omega (arith, x.adaptives n, at.1)),
           x.plain,
         ))
-        m.variables 0 (behind_sets words m) third p.of_variables set_block.0.sorts_are set_block.1 d.variables p.variables fresh.variables
+        m.variables 0 (behind_sets words m) third p.of_variables set_block.0.sorts_are set_block.1 d.variables
+        p.variables fresh.variables
 
-    list_declarable : (on : List ℕ) → Each (λ k. k < length (written_names m)) on → Each (λ k. IsDeclarable words (get_or (written_names m) k [])) on
+    list_declarable : (on : List ℕ) → Each (λ k. k < length (written_names m)) on
+        → Each (λ k. IsDeclarable words (get_or (written_names m) k [])) on
     list_declarable on h =
         each_map (λ k. k < length (written_names m)) (λ k. IsDeclarable words (get_or (written_names m) k []))
-        (λ k inside. each_place (IsDeclarable words) (λ (x : model.Parameter). x.name) (written_parameters m) d.parameters k inside) on h
+        (λ k inside. each_place (IsDeclarable words) (λ (x : model.Parameter). x.name) (written_parameters m)
+        d.parameters k inside) on h
 
     abbrev HasNames : model.AdaptiveVariable → Type 0
     HasNames y = IsDeclarable words y.name × Each (λ k. k < length (written_names m)) y.on
 
     have_names : Each HasNames m.adaptives
     have_names =
-        each_both (λ (y : model.AdaptiveVariable). IsDeclarable words y.name) (λ (y : model.AdaptiveVariable). Each (λ k. k < length (written_names m)) y.on × (IsBound limit y.lower × IsBound limit y.upper)) HasNames
+        each_both (λ (y : model.AdaptiveVariable). IsDeclarable words y.name)
+        (λ (y : model.AdaptiveVariable). Each (λ k. k < length (written_names m)) y.on
+        × (IsBound limit y.lower × IsBound limit y.upper)) HasNames
         (λ y a b. (a, b.0)) m.adaptives d.adaptives readable.parts.adaptives
 
-    adaptive_block : Block words fourth (map (adaptive_words (naming_of m)) m.adaptives) p.of_adaptives (behind_adaptives words m) × ((j : ℕ) × (fifth.sizes.adaptives ≡ j))
+    adaptive_block : Block words fourth (map (adaptive_words (naming_of m)) m.adaptives) p.of_adaptives
+        (behind_adaptives words m) × ((j : ℕ) × (fifth.sizes.adaptives ≡ j))
     adaptive_block =
-        block words (λ (y : model.AdaptiveVariable). y.name) (λ k y. Policy k (has_some y.on)) (adaptive_words (naming_of m)) (λ k n. n.adaptives ≡ k) HasNames
+        block words (λ (y : model.AdaptiveVariable). y.name) (λ k y. Policy k (has_some y.on))
+        (adaptive_words (naming_of m)) (λ k n. n.adaptives ≡ k) HasNames
         (λ z s q is k n at.
-        let x = adaptive_said words (naming_of m) z s q.0 (list_declarable z.on q.1) is in
-        (x.declares n ∙ ap (λ (j : ℕ). Some (number_of words z.name, Policy j (has_some z.on))) at, omega (arith, x.adaptives n, at), x.plain))
-        m.adaptives 0 (behind_variables words m) fourth p.of_adaptives variable_block.0.sorts_are variable_block.1.1.1 have_names p.adaptives fresh.adaptives
+        let x = adaptive_said words (naming_of m) z s q.0 (list_declarable z.on q.1) is in (
+          x.declares n ∙ ap (λ (j : ℕ). Some (number_of words z.name, Policy j (has_some z.on))) at,
+          omega (arith, x.adaptives n, at),
+          x.plain,
+        ))
+        m.adaptives 0 (behind_variables words m) fourth p.of_adaptives variable_block.0.sorts_are variable_block.1.1.1
+        have_names p.adaptives fresh.adaptives
 
-    fresh_rows : AreFresh (behind_adaptives words m) (numbered words (λ (z : model.Row × ℕ). z.0.name) (λ k z. RowName) 0 (beside (written_model m).rows m.row_sets))
-    fresh_rows = subst (AreFresh (behind_adaptives words m)) (sym (rows_numbered words (written_count m) 0 m.rows m.row_sets)) fresh.rows
+    fresh_rows : AreFresh (behind_adaptives words m)
+        (numbered words (λ (z : model.Row × ℕ). z.0.name) (λ k z. RowName) 0 (beside (written_model m).rows m.row_sets))
+    fresh_rows =
+        subst (AreFresh (behind_adaptives words m))
+        (sym (rows_numbered words (written_count m) 0 m.rows m.row_sets)) fresh.rows
 
     row_block : Block words sixth (row_lines_of m) p.of_rows (canonical_sorts words m) × ((j : ℕ) × Unit {0})
     row_block =
         let pairs = beside (written_model m).rows m.row_sets in
-        let r = block words (λ (z : model.Row × ℕ). z.0.name) (λ k z. RowName) (placed_words (row_words (naming_of m)) m.sets) (λ k n. Unit {0}) (λ (z : model.Row × ℕ). IsDeclarable words z.0.name)
-        (λ z s q is k n at. let x = row_said words (naming_of m) z.0 (over_words m.sets z.1) s q is in (x.declares n, tt, x.plain))
+        let r = block words (λ (z : model.Row × ℕ). z.0.name) (λ k z. RowName)
+        (placed_words (row_words (naming_of m)) m.sets) (λ k n. Unit {0})
+        (λ (z : model.Row × ℕ). IsDeclarable words z.0.name)
+        (λ z s q is k n at. let x = row_said words (naming_of m) z.0 (over_words m.sets z.1) s q is in
+        (x.declares n, tt, x.plain))
         pairs 0 (behind_adaptives words m) sixth p.of_rows adaptive_block.0.sorts_are tt
-        (each_beside (λ (r : model.Row). IsDeclarable words r.name) (written_model m).rows m.row_sets (rows_declarable words (written_count m) m.rows d.rows)) p.rows fresh_rows in (
-          subst (λ (ds : List (ℕ × Sort)). Block words sixth (row_lines_of m) p.of_rows (noted (behind_adaptives words m) ds)) (rows_numbered words (written_count m) 0 m.rows m.row_sets) r.0,
+        (each_beside (λ (r : model.Row). IsDeclarable words r.name) (written_model m).rows m.row_sets
+        (rows_declarable words (written_count m) m.rows d.rows)) p.rows fresh_rows in (
+          subst (λ (ds : List (ℕ × Sort)).
+              Block words sixth (row_lines_of m) p.of_rows (noted (behind_adaptives words m) ds))
+              (rows_numbered words (written_count m) 0 m.rows m.row_sets) r.0,
           r.1,
         )
 
     -- a property of all lines, kind by kind
-    along : (P : Earlier → List Symbol → Statement → Type 0) → Walk words P first (map parameter_words (written_parameters m)) p.of_parameters
-        → Walk words P second (map declared_set_words m.sets) p.of_names → Walk words P named_behind (set_lines_of m) p.of_set
-        → Walk words P third (map variable_words m.variables) p.of_variables → Walk words P fourth (map (adaptive_words (naming_of m)) m.adaptives) p.of_adaptives
+    along : (P : Earlier → List Symbol → Statement → Type 0)
+        → Walk words P first (map parameter_words (written_parameters m)) p.of_parameters
+        → Walk words P second (map declared_set_words m.sets) p.of_names
+        → Walk words P named_behind (set_lines_of m) p.of_set
+        → Walk words P third (map variable_words m.variables) p.of_variables
+        → Walk words P fourth (map (adaptive_words (naming_of m)) m.adaptives) p.of_adaptives
         → P fifth (symbols_on words (goal_line_of m)) (parsed.Goal p.wish)
         → Walk words P sixth (row_lines_of m) p.of_rows
         → Walk words P first (lines_of m) statements
@@ -169,36 +217,48 @@ module _ (limit : ℕ) (words : List (List ℕ)) (m : RobustModel) (d : AreDecla
         (walk_append words P second (map declared_set_words m.sets) _ p.of_names _ h
         (walk_append words P named_behind (set_lines_of m) _ p.of_set _ b
         (walk_append words P third (map variable_words m.variables) _ p.of_variables _ c
-        (walk_append words P fourth (map (adaptive_words (naming_of m)) m.adaptives) (goal_line_of m ∷ row_lines_of m) p.of_adaptives
+        (walk_append words P fourth (map (adaptive_words (naming_of m)) m.adaptives)
+        (goal_line_of m ∷ row_lines_of m) p.of_adaptives
         (parsed.Goal p.wish ∷ p.of_rows) e (g, r)))))
 
     -- each declared name is new
     pub all_new : Walk words (IsNewThere words) first (lines_of m) statements
-    all_new = along (IsNewThere words) parameter_block.0.new name_block.0.new set_block.0.new variable_block.0.new adaptive_block.0.new refl row_block.0.new
+    all_new = along (IsNewThere words) parameter_block.0.new name_block.0.new set_block.0.new variable_block.0.new
+        adaptive_block.0.new refl row_block.0.new
 
     -- no goal stands in front of the goal
     no_goal : fifth.goal ≡ false
-    no_goal = adaptive_block.0.goal_is ∙ variable_block.0.goal_is ∙ set_block.0.goal_is ∙ name_block.0.goal_is ∙ parameter_block.0.goal_is
+    no_goal = adaptive_block.0.goal_is ∙ variable_block.0.goal_is ∙ set_block.0.goal_is ∙ name_block.0.goal_is
+        ∙ parameter_block.0.goal_is
 
     pub one_goal : Walk words (IsFirstGoal words) first (lines_of m) statements
-    one_goal = along (IsFirstGoal words) parameter_block.0.goals name_block.0.goals set_block.0.goals variable_block.0.goals adaptive_block.0.goals no_goal row_block.0.goals
+    one_goal = along (IsFirstGoal words) parameter_block.0.goals name_block.0.goals set_block.0.goals
+        variable_block.0.goals adaptive_block.0.goals no_goal row_block.0.goals
 
     pub goal_found : goal_in statements ≡ Some p.wish
     goal_found =
-        goal_later p.of_parameters _ parameter_block.0.plain ∙ goal_later p.of_names _ name_block.0.plain ∙ goal_later p.of_set _ set_block.0.plain ∙ goal_later p.of_variables _ variable_block.0.plain
+        goal_later p.of_parameters _ parameter_block.0.plain ∙ goal_later p.of_names _ name_block.0.plain
+        ∙ goal_later p.of_set _ set_block.0.plain ∙ goal_later p.of_variables _ variable_block.0.plain
         ∙ goal_later p.of_adaptives (parsed.Goal p.wish ∷ p.of_rows) adaptive_block.0.plain
 
     pub goals_are : Each (GoalIs p.wish) statements
     goals_are =
-        let of : (a b : List Statement) → Each (λ s. is_goal s ≡ false) a → Each (GoalIs p.wish) b → Each (GoalIs p.wish) (a ++ b) =
-        λ a b plain rest. each_append (GoalIs p.wish) a b (each_map (λ s. is_goal s ≡ false) (GoalIs p.wish) (no_goal_is p.wish) a plain) rest in
-        of p.of_parameters _ parameter_block.0.plain (of p.of_names _ name_block.0.plain (of p.of_set _ set_block.0.plain (of p.of_variables _ variable_block.0.plain (of p.of_adaptives (parsed.Goal p.wish ∷ p.of_rows) adaptive_block.0.plain
+        let of : (a b : List Statement) → Each (λ s. is_goal s ≡ false) a → Each (GoalIs p.wish) b
+        → Each (GoalIs p.wish) (a ++ b) =
+        λ a b plain rest. each_append (GoalIs p.wish) a b
+        (each_map (λ s. is_goal s ≡ false) (GoalIs p.wish) (no_goal_is p.wish) a plain) rest in
+        of p.of_parameters _ parameter_block.0.plain
+        (of p.of_names _ name_block.0.plain
+        (of p.of_set _ set_block.0.plain
+        (of p.of_variables _ variable_block.0.plain
+        (of p.of_adaptives (parsed.Goal p.wish ∷ p.of_rows) adaptive_block.0.plain
         (refl, each_map (λ s. is_goal s ≡ false) (GoalIs p.wish) (no_goal_is p.wish) p.of_rows row_block.0.plain)))))
 
     -- what is known behind the last line
     pub last_is : behind_all first statements ≡ last
     last_is =
-        behind_append first p.of_parameters _ ∙ behind_append second p.of_names _ ∙ behind_append named_behind p.of_set _ ∙ behind_append third p.of_variables _
+        behind_append first p.of_parameters _ ∙ behind_append second p.of_names _
+        ∙ behind_append named_behind p.of_set _ ∙ behind_append third p.of_variables _
         ∙ behind_append fourth p.of_adaptives (parsed.Goal p.wish ∷ p.of_rows)
 
     pub sorts_are : (behind_all first statements).sorts ≡ canonical_sorts words m
@@ -207,10 +267,11 @@ module _ (limit : ℕ) (words : List (List ℕ)) (m : RobustModel) (d : AreDecla
     pub goal_is : (behind_all first statements).goal ≡ true
     goal_is = ap (λ (x : Earlier). x.goal) last_is ∙ row_block.0.goal_is
 
-    -- ---- no symbol of a line is at fault
-    module _ (small : limit < 2 ^ 62) (good : IsModel (written_model m)) (once : Each HasDistinctMembers (written_model m).set_lines) where
+    -- ---- no name and no number of a line is at fault
+    module _ (small : limit < 2 ^ 62) (good : IsModel (written_model m))
+        (once : Each HasDistinctMembers (written_model m).set_lines) where
       abbrev Clears : Earlier → List Symbol → Statement → Type 0
-      Clears e symbols s = AreClear limit e.sorts symbols s
+      Clears e symbols s = AreClear limit e.sorts s
 
       kept_as : (a b c : List (Option Sort)) → Kept a b → c ≡ b → Kept a c
       kept_as a b c kept same = subst (Kept a) (sym same) kept
@@ -222,39 +283,61 @@ module _ (limit : ℕ) (words : List (List ℕ)) (m : RobustModel) (d : AreDecla
       names = naming_of m
 
       abbrev IsFineSet : model.SetLine × ℕ → Type 0
-      IsFineSet z = (IsReadableSetLine limit names z.0 × IsSetLine w z.0 × HasDistinctMembers z.0) × (z.1 < suc (length m.sets))
+      IsFineSet z = (IsReadableSetLine limit names z.0 × IsSetLine w z.0 × HasDistinctMembers z.0)
+          × (z.1 < suc (length m.sets))
 
       fine_set : Each IsFineSet (beside w.set_lines m.line_sets)
       fine_set =
-          let both : model.SetLine → Type 0 = λ c. IsReadableSetLine limit names c × IsSetLine w c × HasDistinctMembers c in
-          each_both (λ (z : model.SetLine × ℕ). both z.0) (λ (z : model.SetLine × ℕ). z.1 < suc (length m.sets)) IsFineSet (λ z a b. (a, b)) (beside w.set_lines m.line_sets)
+          let both : model.SetLine → Type 0 =
+          λ c. IsReadableSetLine limit names c × IsSetLine w c × HasDistinctMembers c in
+          each_both (λ (z : model.SetLine × ℕ). both z.0) (λ (z : model.SetLine × ℕ). z.1 < suc (length m.sets))
+          IsFineSet (λ z a b. (a, b)) (beside w.set_lines m.line_sets)
           (each_beside both w.set_lines m.line_sets
-          (each_both (λ c. IsReadableSetLine limit names c × IsSetLine w c) HasDistinctMembers both (λ c a b. (a.0, a.1, b)) w.set_lines
-          (each_both (IsReadableSetLine limit names) (IsSetLine w) (λ c. IsReadableSetLine limit names c × IsSetLine w c) (λ c a b. (a, b)) w.set_lines readable.parts.set_lines good.set_lines)
+          (each_both (λ c. IsReadableSetLine limit names c × IsSetLine w c) HasDistinctMembers both
+          (λ c a b. (a.0, a.1, b)) w.set_lines
+          (each_both (IsReadableSetLine limit names) (IsSetLine w)
+          (λ c. IsReadableSetLine limit names c × IsSetLine w c) (λ c a b. (a, b)) w.set_lines
+          readable.parts.set_lines good.set_lines)
           once))
-          (numbers_beside (suc (length m.sets)) w.set_lines m.line_sets (readable.placed.line_sets ∙ sym (length-map m.set_lines (line_written (written_count m)))) readable.placed.of_lines)
+          (numbers_beside (suc (length m.sets)) w.set_lines m.line_sets
+          (readable.placed.line_sets ∙ sym (length-map m.set_lines (line_written (written_count m))))
+          readable.placed.of_lines)
 
       abbrev IsFineAdaptive : model.AdaptiveVariable → Type 0
-      IsFineAdaptive y = IsDeclarable words y.name × (Each (λ k. k < length (written_names m)) y.on × (IsBound limit y.lower × IsBound limit y.upper)) × AreDistinct y.on
+      IsFineAdaptive y =
+          IsDeclarable words y.name
+          × (Each (λ k. k < length (written_names m)) y.on × (IsBound limit y.lower × IsBound limit y.upper))
+          × AreDistinct y.on
 
       fine_adaptives : Each IsFineAdaptive m.adaptives
       fine_adaptives =
-          let of_lists : model.AdaptiveVariable → Type 0 = λ y. Each (λ k. k < length (written_names m)) y.on × (IsBound limit y.lower × IsBound limit y.upper) in
-          each_both (λ (y : model.AdaptiveVariable). IsDeclarable words y.name × of_lists y) (λ (y : model.AdaptiveVariable). AreDistinct y.on) IsFineAdaptive (λ y a b. (a.0, a.1, b)) m.adaptives
-          (each_both (λ (y : model.AdaptiveVariable). IsDeclarable words y.name) of_lists (λ y. IsDeclarable words y.name × of_lists y) (λ y a b. (a, b)) m.adaptives d.adaptives readable.parts.adaptives)
+          let of_lists : model.AdaptiveVariable → Type 0 =
+          λ y. Each (λ k. k < length (written_names m)) y.on × (IsBound limit y.lower × IsBound limit y.upper) in
+          each_both (λ (y : model.AdaptiveVariable). IsDeclarable words y.name × of_lists y)
+          (λ (y : model.AdaptiveVariable). AreDistinct y.on) IsFineAdaptive (λ y a b. (a.0, a.1, b)) m.adaptives
+          (each_both (λ (y : model.AdaptiveVariable). IsDeclarable words y.name) of_lists
+          (λ y. IsDeclarable words y.name × of_lists y) (λ y a b. (a, b)) m.adaptives d.adaptives
+          readable.parts.adaptives)
           named.lists
 
       abbrev IsFineRow : model.Row × ℕ → Type 0
-      IsFineRow z = (IsDeclarable words z.0.name × (IsReadable limit names z.0.left × IsReadable limit names z.0.right)) × (z.1 < suc (length m.sets))
+      IsFineRow z = (IsDeclarable words z.0.name × (IsReadable limit names z.0.left × IsReadable limit names z.0.right))
+          × (z.1 < suc (length m.sets))
 
       fine_rows : Each IsFineRow (beside w.rows m.row_sets)
       fine_rows =
-          let sound : model.Row → Type 0 = λ r. IsDeclarable words r.name × (IsReadable limit names r.left × IsReadable limit names r.right) in
-          each_both (λ (z : model.Row × ℕ). sound z.0) (λ (z : model.Row × ℕ). z.1 < suc (length m.sets)) IsFineRow (λ z a b. (a, b)) (beside w.rows m.row_sets)
+          let sound : model.Row → Type 0 =
+          λ r. IsDeclarable words r.name × (IsReadable limit names r.left × IsReadable limit names r.right) in
+          each_both (λ (z : model.Row × ℕ). sound z.0) (λ (z : model.Row × ℕ). z.1 < suc (length m.sets)) IsFineRow
+          (λ z a b. (a, b)) (beside w.rows m.row_sets)
           (each_beside sound w.rows m.row_sets
-          (each_both (λ (r : model.Row). IsDeclarable words r.name) (λ (r : model.Row). IsReadable limit names r.left × IsReadable limit names r.right) sound (λ r a b. (a, b)) w.rows
+          (each_both (λ (r : model.Row). IsDeclarable words r.name)
+          (λ (r : model.Row). IsReadable limit names r.left × IsReadable limit names r.right) sound
+          (λ r a b. (a, b)) w.rows
           (rows_declarable words (written_count m) m.rows d.rows) readable.parts.rows))
-          (numbers_beside (suc (length m.sets)) w.rows m.row_sets (readable.placed.row_sets ∙ sym (length-map m.rows (row_written (written_count m)))) readable.placed.of_rows)
+          (numbers_beside (suc (length m.sets)) w.rows m.row_sets
+          (readable.placed.row_sets ∙ sym (length-map m.rows (row_written (written_count m))))
+          readable.placed.of_rows)
 
       pub all_clear : Walk words Clears first (lines_of m) statements
       all_clear =
@@ -263,31 +346,54 @@ module _ (limit : ℕ) (words : List (List ℕ)) (m : RobustModel) (d : AreDecla
           let all_later = all_known words m d spelled named.distinct in
           let of_sets = kept_noted (behind_parameters words m) (sets_declared words m) fresh.sets in
           let of_variables = kept_noted (behind_sets words m) (variables_declared words m) fresh.variables in
-          let behind_fourth = kept_as (behind_parameters words m) (behind_variables words m) fourth.sorts (kept_more (behind_parameters words m) (behind_sets words m) (behind_variables words m) of_sets of_variables) variable_block.0.sorts_are in
-          let behind_fifth = kept_as (behind_adaptives words m) (behind_adaptives words m) fifth.sorts (λ k x is. is) adaptive_block.0.sorts_are in
+          let behind_fourth =
+          kept_as (behind_parameters words m) (behind_variables words m) fourth.sorts
+          (kept_more (behind_parameters words m) (behind_sets words m) (behind_variables words m) of_sets
+          of_variables) variable_block.0.sorts_are in
+          let behind_fifth =
+          kept_as (behind_adaptives words m) (behind_adaptives words m) fifth.sorts (λ k x is. is)
+          adaptive_block.0.sorts_are in
           along Clears
-          (walk_kind words parameter_words (λ (x : model.Parameter). IsDeclarable words x.name × (IsBound limit x.lower × IsBound limit x.upper)) Clears first.sorts
-          (λ z s e q is kept. parameter_clear limit small words e.sorts z q.0 q.1.0 q.1.1 s is) (written_parameters m) first p.of_parameters (λ k x is. is)
-          (each_both (λ (x : model.Parameter). IsDeclarable words x.name) (λ (x : model.Parameter). IsBound limit x.lower × IsBound limit x.upper) _ (λ z a b. (a, b)) (written_parameters m) d.parameters readable.parts.parameters)
+          (walk_kind words parameter_words (λ (x : model.Parameter). IsDeclarable words x.name
+          × (IsBound limit x.lower × IsBound limit x.upper)) Clears first.sorts
+          (λ z s e q is kept. parameter_clear limit small words e.sorts z q.0 q.1.0 q.1.1 s is) (written_parameters m)
+          first p.of_parameters (λ k x is. is)
+          (each_both (λ (x : model.Parameter). IsDeclarable words x.name)
+          (λ (x : model.Parameter). IsBound limit x.lower × IsBound limit x.upper) _ (λ z a b. (a, b))
+          (written_parameters m) d.parameters readable.parts.parameters)
           p.parameters parameter_block.0.new)
-          (walk_kind words declared_set_words (IsDeclarable words) Clears second.sorts (λ z s e q is kept. declared_set_clear limit small words e.sorts z q s is) m.sets second p.of_names (λ k x is. is) d.sets
+          (walk_kind words declared_set_words (IsDeclarable words) Clears second.sorts
+          (λ z s e q is kept. declared_set_clear limit small words e.sorts z q s is) m.sets second
+          p.of_names (λ k x is. is) d.sets
           p.names name_block.0.new)
           (walk_kind words (placed_words (set_words names) m.sets) IsFineSet Clears (behind_sets words m)
           (λ z s e q is kept.
-          set_clear limit small words e.sorts names (parameters_later e.sorts (kept_more (behind_parameters words m) (behind_sets words m) e.sorts of_sets kept)) w z.0 q.0.0 q.0.1 q.0.2 z.1
+          set_clear limit small words e.sorts names
+          (parameters_later e.sorts
+          (kept_more (behind_parameters words m) (behind_sets words m) e.sorts of_sets kept)) w
+          z.0 q.0.0 q.0.1 q.0.2 z.1
           (answer_of limit small words e.sorts m.sets (sets_later e.sorts kept) z.1 q.1) s is)
           (beside w.set_lines m.line_sets) named_behind p.of_set
-          (kept_as (behind_sets words m) (behind_sets words m) named_behind.sorts (λ k x is. is) name_block.0.sorts_are) fine_set p.set set_block.0.new)
-          (walk_kind words variable_words (λ (x : model.Variable). IsDeclarable words x.name × (IsBound limit x.lower × IsBound limit x.upper)) Clears third.sorts
-          (λ z s e q is kept. variable_clear limit small words e.sorts z q.0 q.1.0 q.1.1 s is) m.variables third p.of_variables (λ k x is. is)
-          (each_both (λ (x : model.Variable). IsDeclarable words x.name) (λ (x : model.Variable). IsBound limit x.lower × IsBound limit x.upper) _ (λ z a b. (a, b)) m.variables d.variables readable.parts.variables)
+          (kept_as (behind_sets words m) (behind_sets words m) named_behind.sorts (λ k x is. is) name_block.0.sorts_are)
+          fine_set p.set set_block.0.new)
+          (walk_kind words variable_words (λ (x : model.Variable). IsDeclarable words x.name
+          × (IsBound limit x.lower × IsBound limit x.upper)) Clears third.sorts
+          (λ z s e q is kept. variable_clear limit small words e.sorts z q.0 q.1.0 q.1.1 s is) m.variables third
+          p.of_variables (λ k x is. is)
+          (each_both (λ (x : model.Variable). IsDeclarable words x.name)
+          (λ (x : model.Variable). IsBound limit x.lower × IsBound limit x.upper) _ (λ z a b. (a, b)) m.variables
+          d.variables readable.parts.variables)
           p.variables variable_block.0.new)
           (walk_kind words (adaptive_words names) IsFineAdaptive Clears (behind_parameters words m)
-          (λ z s e q is kept. adaptive_clear limit small words e.sorts names (parameters_later e.sorts kept) z q.0 q.1.0 q.2 q.1.1.0 q.1.1.1 s is)
+          (λ z s e q is kept. adaptive_clear limit small words e.sorts names (parameters_later e.sorts kept) z q.0 q.1.0
+          q.2 q.1.1.0 q.1.1.1 s is)
           m.adaptives fourth p.of_adaptives behind_fourth fine_adaptives p.adaptives adaptive_block.0.new)
-          (goal_clear limit small words fifth.sorts names (all_later fifth.sorts behind_fifth) m.sense w.objective readable.parts.objective m.objective_set
-          (answer_of limit small words fifth.sorts m.sets (all_later fifth.sorts behind_fifth).sets m.objective_set readable.placed.of_objective) (parsed.Goal p.wish) p.goal)
+          (goal_clear limit small words fifth.sorts names (all_later fifth.sorts behind_fifth) m.sense w.objective
+          readable.parts.objective m.objective_set
+          (answer_of limit small words fifth.sorts m.sets (all_later fifth.sorts behind_fifth).sets m.objective_set
+          readable.placed.of_objective) (parsed.Goal p.wish) p.goal)
           (walk_kind words (placed_words (row_words names) m.sets) IsFineRow Clears (behind_adaptives words m)
           (λ z s e q is kept.
-          row_clear limit small words e.sorts names (all_later e.sorts kept) z.0 q.0.0 q.0.1.0 q.0.1.1 z.1 (answer_of limit small words e.sorts m.sets (all_later e.sorts kept).sets z.1 q.1) s is)
+          row_clear limit small words e.sorts names (all_later e.sorts kept) z.0 q.0.0 q.0.1.0 q.0.1.1 z.1
+          (answer_of limit small words e.sorts m.sets (all_later e.sorts kept).sets z.1 q.1) s is)
           (beside w.rows m.row_sets) sixth p.of_rows behind_fifth fine_rows p.rows row_block.0.new)

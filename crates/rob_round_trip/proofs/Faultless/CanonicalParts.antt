@@ -1,5 +1,5 @@
 -- The statements of canonical lines, kind by kind, and what is known behind statements.
-use Rattle.std.proofs.Common.{◌≡◌, ℕ, zero, suc, ◌+◌, ◌<◌, false, List, [], ◌∷◌, ◌++◌, length, map, get_or, refl, ap, ◌∙◌, subst, arith}
+use Rattle.std.proofs.Common.{◌≡◌, ℕ, zero, suc, ◌<◌, false, List, [], ◌∷◌, ◌++◌, length, map, get_or, refl, ap, ◌∙◌, subst, arith}
 use Rattle.rob_meaning.specs.Places.{Each}
 use Rattle.rob_meaning.specs.RobustModel.{RobustModel, written_parameters}
 use Rattle.rob_syntax.specs.declared.syntax.Goal.{Goal}
@@ -11,7 +11,8 @@ use Rattle.rob_round_trip.specs.Pages.{symbols_on}
 use Rattle.rob_round_trip.specs.Readable.{AreStatements}
 use Rattle.rob_rules.specs.Scopes.{Earlier, behind, is_goal}
 use Rattle.rob_syntax.specs.Statements.{IsStatement}
-use Rattle.rob_round_trip.proofs.Faultless.CanonicalWalk.{goal_said, statements_apart}
+use Rattle.rob_round_trip.proofs.Faultless.SaidLines.{goal_said}
+use Rattle.rob_round_trip.proofs.Faultless.CanonicalWalk.{statements_apart}
 use Rattle.rob_round_trip.proofs.Faultless.Clear.{behind_all}
 use Rattle.rob_round_trip.proofs.ReadBack.LinesText.{goal_behind}
 
@@ -21,7 +22,8 @@ behind_append e [] b = refl
 behind_append e (s ∷ a) b = behind_append (behind e s) a b
 
 -- the goal stands behind statements that are none
-pub goal_later : (list rest : List Statement) → Each (λ s. is_goal s ≡ false) list → goal_in (list ++ rest) ≡ goal_in rest
+pub goal_later : (list rest : List Statement) → Each (λ s. is_goal s ≡ false) list
+    → goal_in (list ++ rest) ≡ goal_in rest
 goal_later [] rest plain = refl
 goal_later (s ∷ list) rest plain = goal_behind s (list ++ rest) plain.0 ∙ goal_later list rest plain.1
 
@@ -44,7 +46,8 @@ pub any_each : {A : Type 0} (xs : List A) → Each (λ x. Unit {0}) xs
 any_each [] = tt
 any_each (x ∷ xs) = (tt, any_each xs)
 
-pub each_place : {A : Type 0} (P : List ℕ → Type 0) (name : A → List ℕ) (xs : List A) → Each (λ x. P (name x)) xs → (k : ℕ) → k < length (map name xs)
+pub each_place : {A : Type 0} (P : List ℕ → Type 0) (name : A → List ℕ) (xs : List A) → Each (λ x. P (name x)) xs
+    → (k : ℕ) → k < length (map name xs)
     → P (get_or (map name xs) k [])
 each_place P name [] h k inside = absurd (omega arith)
 each_place P name (x ∷ xs) h zero inside = h.0
@@ -69,7 +72,8 @@ pub record Parted (words : List (List ℕ)) (m : RobustModel) (list : List State
   pub of_adaptives : List Statement
   pub wish : Goal
   pub of_rows : List Statement
-  pub whole : list ≡ of_parameters ++ (of_names ++ (of_set ++ (of_variables ++ (of_adaptives ++ parsed.Goal wish ∷ of_rows))))
+  pub whole : list ≡ of_parameters
+      ++ (of_names ++ (of_set ++ (of_variables ++ (of_adaptives ++ parsed.Goal wish ∷ of_rows))))
   pub parameters : AreStatements words (map parameter_words (written_parameters m)) of_parameters
   pub names : AreStatements words (map declared_set_words m.sets) of_names
   pub set : AreStatements words (set_lines_of m) of_set
@@ -79,18 +83,30 @@ pub record Parted (words : List (List ℕ)) (m : RobustModel) (list : List State
   pub rows : AreStatements words (row_lines_of m) of_rows
 
 -- these statements in order
-abbrev pub joined : (words : List (List ℕ)) (m : RobustModel) (list : List Statement) → Parted words m list → List Statement
-joined words m list p = p.of_parameters ++ (p.of_names ++ (p.of_set ++ (p.of_variables ++ (p.of_adaptives ++ parsed.Goal p.wish ∷ p.of_rows))))
+abbrev pub joined : (words : List (List ℕ)) (m : RobustModel) (list : List Statement)
+    → Parted words m list → List Statement
+joined words m list p =
+    p.of_parameters
+    ++ (p.of_names ++ (p.of_set ++ (p.of_variables ++ (p.of_adaptives ++ parsed.Goal p.wish ∷ p.of_rows))))
 
-first_goal : (words : List (List ℕ)) (m : RobustModel) (list : List Statement) → AreStatements words (goal_line_of m ∷ row_lines_of m) list
-    → (g : Goal) × (rest : List Statement) × (list ≡ parsed.Goal g ∷ rest) × IsStatement (symbols_on words (goal_line_of m)) (parsed.Goal g)
+first_goal : (words : List (List ℕ)) (m : RobustModel) (list : List Statement)
+    → AreStatements words (goal_line_of m ∷ row_lines_of m) list
+    → (g : Goal) × (rest : List Statement) × (list ≡ parsed.Goal g ∷ rest)
+    × IsStatement (symbols_on words (goal_line_of m)) (parsed.Goal g)
     × AreStatements words (row_lines_of m) rest
 first_goal words m [] are = absurd are
 first_goal words m (s ∷ rest) are =
-    let g = goal_said words (naming_of m) m.sense (written_model m).objective (over_words m.sets m.objective_set) s are.0 in
-    (g.0, rest, ap (λ (x : Statement). x ∷ rest) g.1, subst (IsStatement (symbols_on words (goal_line_of m))) g.1 are.0, are.1)
+    let g = goal_said words (naming_of m) m.sense (written_model m).objective
+    (over_words m.sets m.objective_set) s are.0 in (
+      g.0,
+      rest,
+      ap (λ (x : Statement). x ∷ rest) g.1,
+      subst (IsStatement (symbols_on words (goal_line_of m))) g.1 are.0,
+      are.1,
+    )
 
-in_parts : (list a k h l b m c n d o e : List Statement) → list ≡ a ++ k → k ≡ h ++ l → l ≡ b ++ m → m ≡ c ++ n → n ≡ d ++ o → o ≡ e → list ≡ a ++ (h ++ (b ++ (c ++ (d ++ e))))
+in_parts : (list a k h l b m c n d o e : List Statement) → list ≡ a ++ k → k ≡ h ++ l → l ≡ b ++ m → m ≡ c ++ n
+    → n ≡ d ++ o → o ≡ e → list ≡ a ++ (h ++ (b ++ (c ++ (d ++ e))))
 in_parts list a k h l b m c n d o e p u q r s t =
     let last : n ≡ d ++ e = s ∙ ap (λ (x : List Statement). d ++ x) t in
     let third : m ≡ c ++ (d ++ e) = r ∙ ap (λ (x : List Statement). c ++ x) last in
@@ -98,7 +114,8 @@ in_parts list a k h l b m c n d o e p u q r s t =
     let first : k ≡ h ++ (b ++ (c ++ (d ++ e))) = u ∙ ap (λ (x : List Statement). h ++ x) second in
     p ∙ ap (λ (x : List Statement). a ++ x) first
 
-pub parted : (words : List (List ℕ)) (m : RobustModel) (list : List Statement) → AreStatements words (lines_of m) list → Parted words m list
+pub parted : (words : List (List ℕ)) (m : RobustModel) (list : List Statement)
+    → AreStatements words (lines_of m) list → Parted words m list
 parted words m list are =
     let names = naming_of m in
     let a = statements_apart words (map parameter_words (written_parameters m)) _ list are in

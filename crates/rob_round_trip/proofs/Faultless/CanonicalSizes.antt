@@ -51,7 +51,8 @@ record IsBelow (s t : Sizes) : Type 0 where
   set_rows : s.set_rows ≤ t.set_rows
 
 -- the counts one by one, in their order
-below_each : (s t : Sizes) → s.parameters ≤ t.parameters → s.bounds ≤ t.bounds → s.sets ≤ t.sets → s.columns ≤ t.columns → s.rows ≤ t.rows → s.set_lines ≤ t.set_lines → s.members ≤ t.members
+below_each : (s t : Sizes) → s.parameters ≤ t.parameters → s.bounds ≤ t.bounds → s.sets ≤ t.sets → s.columns ≤ t.columns
+    → s.rows ≤ t.rows → s.set_lines ≤ t.set_lines → s.members ≤ t.members
     → s.forms ≤ t.forms → s.set_rows ≤ t.set_rows → IsBelow s t
 below_each s t parameters bounds sets columns rows set_lines members forms set_rows = record {
   parameters = parameters;
@@ -66,16 +67,32 @@ below_each s t parameters bounds sets columns rows set_lines members forms set_r
 }
 
 below_itself : (s : Sizes) → IsBelow s s
-below_itself s = below_each s s (omega arith) (omega arith) (omega arith) (omega arith) (omega arith) (omega arith) (omega arith) (omega arith) (omega arith)
+below_itself s =
+    below_each s s (omega arith) (omega arith) (omega arith) (omega arith) (omega arith) (omega arith) (omega arith)
+    (omega arith) (omega arith)
 
 below_counted : (s : Sizes) (st : Statement) → IsBelow s (counted s st)
-below_counted s (Uncertain d) = below_each s _ (omega arith) (omega arith) (omega arith) (omega arith) (omega arith) (omega arith) (omega arith) (omega arith) (omega arith)
-below_counted s (Var d) = below_each s _ (omega arith) (omega arith) (omega arith) (omega arith) (omega arith) (omega arith) (omega arith) (omega arith) (omega arith)
-below_counted s (Adaptive p) = below_each s _ (omega arith) (omega arith) (omega arith) (omega arith) (omega arith) (omega arith) (omega arith) (omega arith) (omega arith)
-below_counted s (Over k) = below_each s _ (omega arith) (omega arith) (omega arith) (omega arith) (omega arith) (omega arith) (omega arith) (omega arith) (omega arith)
-below_counted s (Set r) = below_each s _ (omega arith) (omega arith) (omega arith) (omega arith) (omega arith) (omega arith) (omega arith) (omega arith) (omega arith)
-below_counted s (Budget b) = below_each s _ (omega arith) (omega arith) (omega arith) (omega arith) (omega arith) (omega arith) (omega arith) (omega arith) (omega arith)
-below_counted s (Row r) = below_each s _ (omega arith) (omega arith) (omega arith) (omega arith) (omega arith) (omega arith) (omega arith) (omega arith) (omega arith)
+below_counted s (Uncertain d) =
+    below_each s _ (omega arith) (omega arith) (omega arith) (omega arith) (omega arith) (omega arith) (omega arith)
+    (omega arith) (omega arith)
+below_counted s (Var d) =
+    below_each s _ (omega arith) (omega arith) (omega arith) (omega arith) (omega arith) (omega arith) (omega arith)
+    (omega arith) (omega arith)
+below_counted s (Adaptive p) =
+    below_each s _ (omega arith) (omega arith) (omega arith) (omega arith) (omega arith) (omega arith) (omega arith)
+    (omega arith) (omega arith)
+below_counted s (Over k) =
+    below_each s _ (omega arith) (omega arith) (omega arith) (omega arith) (omega arith) (omega arith) (omega arith)
+    (omega arith) (omega arith)
+below_counted s (Set r) =
+    below_each s _ (omega arith) (omega arith) (omega arith) (omega arith) (omega arith) (omega arith) (omega arith)
+    (omega arith) (omega arith)
+below_counted s (Budget b) =
+    below_each s _ (omega arith) (omega arith) (omega arith) (omega arith) (omega arith) (omega arith) (omega arith)
+    (omega arith) (omega arith)
+below_counted s (Row r) =
+    below_each s _ (omega arith) (omega arith) (omega arith) (omega arith) (omega arith) (omega arith) (omega arith)
+    (omega arith) (omega arith)
 below_counted s (Goal g) = below_itself s
 
 below_through : (s t u : Sizes) → IsBelow s t → IsBelow t u → IsBelow s u
@@ -93,7 +110,9 @@ below_through s t u a b = record {
 
 below_all : (s : Sizes) (list : List Statement) → IsBelow s (fold counted s list)
 below_all s [] = below_itself s
-below_all s (st ∷ list) = below_through s (counted s st) (fold counted (counted s st) list) (below_counted s st) (below_all (counted s st) list)
+below_all s (st ∷ list) =
+    below_through s (counted s st) (fold counted (counted s st) list) (below_counted s st)
+    (below_all (counted s st) list)
 
 product_below : (a b c d : ℕ) → a ≤ b → c ≤ d → a * c ≤ b * d
 product_below a b c d h k = grind arith
@@ -105,7 +124,8 @@ within_below s t below h =
     let more : s.sets + 1 ≤ t.sets + 1 = omega (arith, below.sets) in
     let joint = product_below s.parameters t.parameters (s.sets + 1) (t.sets + 1) below.parameters more in
     let bounds = product_below s.bounds t.bounds (s.sets + 1) (t.sets + 1) below.bounds more in
-    let p = product_below s.forms t.forms (((s.bounds * (s.sets + 1) + s.set_rows) + 2 * (joint_count s + s.members)) + 1)
+    let p = product_below s.forms t.forms
+    (((s.bounds * (s.sets + 1) + s.set_rows) + 2 * (joint_count s + s.members)) + 1)
     (((t.bounds * (t.sets + 1) + t.set_rows) + 2 * (joint_count t + t.members)) + 1)
     below.forms (omega (arith, bounds, joint, below.set_rows, below.members)) in
     within_again s
@@ -120,7 +140,9 @@ within_below s t below h =
     })
 
 -- what is within the limits at the end is so in front of each line
-pub within_front : (before after : List Statement) → is_within (fold counted start_sizes (before ++ after)) ≡ true → is_within (fold counted start_sizes before) ≡ true
+pub within_front : (before after : List Statement) → is_within (fold counted start_sizes (before ++ after)) ≡ true
+    → is_within (fold counted start_sizes before) ≡ true
 within_front before after h =
-    within_below (fold counted start_sizes before) (fold counted (fold counted start_sizes before) after) (below_all (fold counted start_sizes before) after)
+    within_below (fold counted start_sizes before) (fold counted (fold counted start_sizes before) after)
+    (below_all (fold counted start_sizes before) after)
     (subst (λ (x : Sizes). is_within x ≡ true) (fold-append counted start_sizes before after) h)

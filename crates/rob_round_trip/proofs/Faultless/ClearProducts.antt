@@ -25,7 +25,8 @@ not_over n h = grind (arith, nat_tests)
 pub clean_none : Clean []
 clean_none = record { decisions = refl; uncertain = refl; recourse = refl }
 
-pub none_of_both : {X : Type 0} (test : X → Bool) (xs ys : List X) → list_any test xs ≡ false → list_any test ys ≡ false → list_any test (xs ++ ys) ≡ false
+pub none_of_both : {X : Type 0} (test : X → Bool) (xs ys : List X) → list_any test xs ≡ false → list_any test ys ≡ false
+    → list_any test (xs ++ ys) ≡ false
 none_of_both test xs ys a b = list_any-append test xs ys ∙ (λ i. a i || b i)
 
 pub clean_together : (xs ys : List Degree) → Clean xs → Clean ys → Clean (xs ++ ys)
@@ -43,7 +44,8 @@ and_none false = refl
 clean_low : (d : Degree) → d.decision ≤ 1 → d.uncertain ≤ 1 → Clean (d ∷ [])
 clean_low d decision uncertain = record {
   decisions = ap (λ (b : Bool). b || false) (not_over d.decision decision);
-  uncertain = ap (λ (b : Bool). (not d.recourse && b) || false) (not_over d.uncertain uncertain) ∙ and_none (not d.recourse);
+  uncertain = ap (λ (b : Bool). (not d.recourse && b) || false) (not_over d.uncertain uncertain)
+      ∙ and_none (not d.recourse);
   recourse = ap (λ (b : Bool). (d.recourse && b) || false) (not_over d.uncertain uncertain) ∙ and_none d.recourse;
 }
 
@@ -61,7 +63,8 @@ module _ (m : RobustModel) (sorts before : List (Option Sort)) where
     uncertain : meaning.product_degree 1 0 (λ y. meaning.one_if_some (list_of m y)) x ≡ d.uncertain
     decision : meaning.product_degree 0 1 (λ y. 1) x ≡ d.decision
 
-  named_degree : (o : Option Sort) → is_usable o ≡ true → Names (length m.parameters) (length m.variables) m.adaptives o → HasDegree (named o) (degree_of_sort o)
+  named_degree : (o : Option Sort) → is_usable o ≡ true → Names (length m.parameters) (length m.variables) m.adaptives o
+      → HasDegree (named o) (degree_of_sort o)
   named_degree (Some (Parameter j)) usable names = record { uncertain = refl; decision = refl }
   named_degree (Some (Decision j)) usable names = record { uncertain = refl; decision = refl }
   named_degree (Some (Policy j true)) usable names = record { uncertain = names.1; decision = refl }
@@ -74,18 +77,26 @@ module _ (m : RobustModel) (sorts before : List (Option Sort)) where
     tree_degree : (t : Tree) → EachName (Stands m sorts before) t → HasDegree (expression sorts t) (degree before t)
     tree_degree (number n) stands = record { uncertain = refl; decision = refl }
     tree_degree (name k) stands =
-        subst (λ (o : Option Sort). HasDegree (named o) (degree before (name k))) (sym stands.0) (named_degree (sort_at before k) stands.1 stands.2)
-    tree_degree (sum ts) stands = let d = summands_degree ts stands in record { uncertain = d.uncertain; decision = d.decision }
-    tree_degree (product fs) stands = let d = operands_degree fs stands in record { uncertain = d.uncertain; decision = d.decision }
+        subst (λ (o : Option Sort). HasDegree (named o) (degree before (name k))) (sym stands.0)
+        (named_degree (sort_at before k) stands.1 stands.2)
+    tree_degree (sum ts) stands =
+        let d = summands_degree ts stands in record { uncertain = d.uncertain; decision = d.decision }
+    tree_degree (product fs) stands =
+        let d = operands_degree fs stands in record { uncertain = d.uncertain; decision = d.decision }
 
-    summands_degree : (ts : Summands) → EachSummand (Stands m sorts before) ts → TermsHaveDegree (terms sorts ts) (sum_degree before ts)
+    summands_degree : (ts : Summands) → EachSummand (Stands m sorts before) ts
+        → TermsHaveDegree (terms sorts ts) (sum_degree before ts)
     summands_degree no_summands stands = record { uncertain = refl; decision = refl }
     summands_degree (summand minus t ts) stands =
         let a = tree_degree t stands.0 in
         let b = summands_degree ts stands.1 in
-        record { uncertain = λ i. max (a.uncertain i) (b.uncertain i); decision = λ i. max (a.decision i) (b.decision i) }
+        record {
+          uncertain = λ i. max (a.uncertain i) (b.uncertain i);
+          decision = λ i. max (a.decision i) (b.decision i);
+        }
 
-    operands_degree : (fs : Operands) → EachOperand (Stands m sorts before) fs → FactorsHaveDegree (factors sorts fs) (product_degree before fs)
+    operands_degree : (fs : Operands) → EachOperand (Stands m sorts before) fs
+        → FactorsHaveDegree (factors sorts fs) (product_degree before fs)
     operands_degree no_operands stands = record { uncertain = refl; decision = refl }
     operands_degree (operand f fs) stands =
         let a = tree_degree f stands.0 in
@@ -94,37 +105,50 @@ module _ (m : RobustModel) (sorts before : List (Option Sort)) where
 
   mutual
     -- no product of an expression that is linear in the model is refused
-    pub products_clear : (t : Tree) → EachName (Stands m sorts before) t → meaning.IsLinear m (expression sorts t) → Clean (products before t)
+    pub products_clear : (t : Tree) → EachName (Stands m sorts before) t → meaning.IsLinear m (expression sorts t)
+        → Clean (products before t)
     products_clear (number n) stands linear = clean_none
     products_clear (name k) stands linear = clean_none
     products_clear (sum ts) stands linear = summands_clear ts stands linear
     products_clear (product no_operands) stands linear = clean_none
     products_clear (product (operand f fs)) stands linear =
         let d = operands_degree (operand f fs) stands in
-        clean_together (products before f) (more_products before (degree before f) fs) (products_clear f stands.0 linear.2.0)
-        (operands_clear fs (degree before f) (omega (arith, d.uncertain, linear.0)) (omega (arith, d.decision, linear.1)) stands.1 linear.2.1)
+        clean_together (products before f) (more_products before (degree before f) fs)
+        (products_clear f stands.0 linear.2.0)
+        (operands_clear fs (degree before f) (omega (arith, d.uncertain, linear.0))
+        (omega (arith, d.decision, linear.1)) stands.1 linear.2.1)
 
-    summands_clear : (ts : Summands) → EachSummand (Stands m sorts before) ts → meaning.AreLinear m (terms sorts ts) → Clean (sum_products before ts)
+    summands_clear : (ts : Summands) → EachSummand (Stands m sorts before) ts → meaning.AreLinear m (terms sorts ts)
+        → Clean (sum_products before ts)
     summands_clear no_summands stands linear = clean_none
     summands_clear (summand minus t ts) stands linear =
-        clean_together (products before t) (sum_products before ts) (products_clear t stands.0 linear.0) (summands_clear ts stands.1 linear.1)
+        clean_together (products before t) (sum_products before ts) (products_clear t stands.0 linear.0)
+        (summands_clear ts stands.1 linear.1)
 
-    operands_clear : (fs : Operands) (p : Degree) → p.uncertain + (product_degree before fs).uncertain ≤ 1 → p.decision + (product_degree before fs).decision ≤ 1
-        → EachOperand (Stands m sorts before) fs → meaning.FactorsLinear m (factors sorts fs) → Clean (more_products before p fs)
+    operands_clear : (fs : Operands) (p : Degree) → p.uncertain + (product_degree before fs).uncertain ≤ 1
+        → p.decision + (product_degree before fs).decision ≤ 1
+        → EachOperand (Stands m sorts before) fs → meaning.FactorsLinear m (factors sorts fs)
+        → Clean (more_products before p fs)
     operands_clear no_operands p u d stands linear = clean_none
     operands_clear (operand f fs) p u d stands linear =
         let q = times p (degree before f) in
-        clean_together (q ∷ []) (products before f ++ more_products before q fs) (clean_low q (omega (arith, d)) (omega (arith, u)))
+        clean_together (q ∷ []) (products before f ++ more_products before q fs)
+        (clean_low q (omega (arith, d)) (omega (arith, u)))
         (clean_together (products before f) (more_products before q fs) (products_clear f stands.0 linear.0)
         (operands_clear fs q (omega (arith, u)) (omega (arith, d)) stands.1 linear.1))
 
   -- the same of several expressions
-  pub all_clear : (ts : List Tree) → Each (λ (t : Tree). EachName (Stands m sorts before) t × meaning.IsLinear m (expression sorts t)) ts
+  pub all_clear : (ts : List Tree)
+      → Each (λ (t : Tree). EachName (Stands m sorts before) t × meaning.IsLinear m (expression sorts t)) ts
       → Clean (flat_map (products before) ts)
   all_clear [] each = clean_none
-  all_clear (t ∷ ts) each = clean_together (products before t) (flat_map (products before) ts) (products_clear t each.0.0 each.0.1) (all_clear ts each.1)
+  all_clear (t ∷ ts) each =
+      clean_together (products before t) (flat_map (products before) ts)
+      (products_clear t each.0.0 each.0.1) (all_clear ts each.1)
 
   -- no product of a statement is refused
-  pub statement_products : (s : Statement) → Each (λ (t : Tree). EachName (Stands m sorts before) t × meaning.IsLinear m (expression sorts t)) (expressions s)
+  pub statement_products : (s : Statement)
+      → Each (λ (t : Tree). EachName (Stands m sorts before) t
+      × meaning.IsLinear m (expression sorts t)) (expressions s)
       → Clean (flat_map (products before) (expressions s))
   statement_products s each = all_clear (expressions s) each

@@ -1,4 +1,5 @@
--- What the statements of canonical lines keep: the names and the degrees of their expressions, and the sizes in front of them.
+-- What the statements of canonical lines keep: the names and the degrees of
+-- their expressions, and the sizes in front of them.
 use Rattle.std.proofs.Common.{◌≡◌, ℕ, Bool, true, List, [], ◌∷◌, ◌++◌, map, refl, sym, ap, ◌∙◌, subst, append-nil, append_assoc}
 use Rattle.std.specs.Prelude.{fold, Option, None}
 use Rattle.std.specs.List.{flat_map}
@@ -11,23 +12,22 @@ use Rattle.rob_meaning.specs.WellFormed.{IsExpression, IsSetLine}
 use Rattle.rob_rules.specs.declared.sort.Sort.{Sort}
 use Rattle.rob_rules.specs.declared.size.Sizes.{Sizes}
 use Rattle.rob_syntax.specs.declared.symbol.Symbol.{Symbol}
-use Rattle.rob_syntax.specs.declared.symbol.Symbol.TheVariants.{Sign}
-use Rattle.rob_syntax.specs.declared.symbol.Mark.TheVariants as mark
+use Rattle.rob_rules.specs.Leaves.{leaves, relation_leaves, statement_leaves}
+use Rattle.rob_rules.specs.declared.leaf.Leaf.{Leaf}
+use Rattle.rob_syntax.specs.declared.syntax.Relation.{Relation}
 use Rattle.rob_syntax.specs.declared.syntax.Goal.{Goal}
 use Rattle.rob_syntax.specs.declared.syntax.Statement.{Statement}
 use Rattle.rob_syntax.specs.declared.syntax.Statement.TheVariants as parsed
 use Rattle.rob_write.specs.Canonical.{Written}
-use Rattle.rob_rules.specs.Faults.{used, expressions, first_fault}
-use Rattle.rob_syntax.specs.Grammar.{spell_expr}
+use Rattle.rob_rules.specs.Faults.{expressions, first_fault}
 use Rattle.rob_parse.specs.Models.{expression, adaptives, set_lines, rows}
 use Rattle.rob_round_trip.specs.Pages.{symbols_on}
 use Rattle.rob_round_trip.specs.Readable.{AreStatements}
 use Rattle.rob_rules.specs.Reading.{Follows}
 use Rattle.rob_rules.specs.Scopes.{Earlier, behind}
 use Rattle.rob_rules.specs.Sizes.{start_sizes, counted, is_within}
-use Rattle.rob_syntax.specs.Statements.{IsStatement, Line, Sides, uncertain, over, set, budget, variable, adaptive, goal, row, spell_line, spell_rel, statement_of}
+use Rattle.rob_syntax.specs.Statements.{IsStatement}
 use Rattle.rob_syntax.specs.Trees.{tree_of}
-use Rattle.rob_parse.proofs.Degrees.BareLines.{bare_sides, bare_line, used_is}
 use Rattle.rob_round_trip.proofs.Faultless.CanonicalParts.{GoalIs}
 use Rattle.rob_round_trip.proofs.Faultless.CanonicalWalk.{Walk}
 use Rattle.rob_round_trip.proofs.Faultless.CanonicalSizes.{within_front}
@@ -36,73 +36,77 @@ use Rattle.rob_parse.proofs.Sizes.CountLemmas.{Counts, counts_none, counts_more}
 use Rattle.rob_parse.proofs.Degrees.DegreeLemmas.{EachName}
 use Rattle.rob_syntax.proofs.OneReading.KindDecisions.{some_symbols}
 use Rattle.rob_parse.proofs.Names.SortLemmas.{AllNamed, named_behind}
-use Rattle.rob_parse.proofs.Degrees.UsedLemmas.{Free, IsFreeName, left, right, tail, free_expr}
+use Rattle.rob_parse.proofs.Degrees.UsedLemmas.{Free, IsFreeName, free_tree, left, right}
 
 -- ---- the names of a statement's expressions
-module _ (test : Symbol → Bool) where
-  free_sides : (s : Sides) → Free test (bare_sides s) → Each (EachName (IsFreeName test)) (expressions (statement_of (set s)))
-  free_sides s free =
-      let inner = s.right.inner in
-      let rest = spell_rel s.rel ∷ spell_expr inner in
-      (free_expr test s.left (left test (spell_expr s.left) rest free), (free_expr test inner (tail test (spell_rel s.rel) (spell_expr inner) (right test (spell_expr s.left) rest free)), tt))
+module _ (test : Leaf → Bool) where
+  free_sides : (r : Relation) → Free test (relation_leaves r)
+      → Each (EachName (IsFreeName test)) (tree_of r.left ∷ tree_of r.right ∷ [])
+  free_sides r free = (
+    free_tree test (tree_of r.left) (left test (leaves (tree_of r.left)) (leaves (tree_of r.right)) free),
+    (free_tree test (tree_of r.right) (right test (leaves (tree_of r.left)) (leaves (tree_of r.right)) free), tt),
+  )
 
-  free_line : (l : Line) → Free test (bare_line l) → Each (EachName (IsFreeName test)) (expressions (statement_of l))
-  free_line (uncertain d) free = tt
-  free_line (over j) free = tt
-  free_line (set s) free = free_sides s free
-  free_line (budget b) free = tt
-  free_line (variable d) free = tt
-  free_line (adaptive p) free = tt
-  free_line (goal sense x) free = (free_expr test x.inner free, tt)
-  free_line (row t) free = free_sides t.sides (tail test (Sign mark.Colon) (bare_sides t.sides) free)
-
-  pub free_expressions : (symbols : List Symbol) (s : Statement) → IsStatement symbols s → Free test (used symbols s)
+  pub free_expressions : (s : Statement) → Free test (statement_leaves s)
       → Each (EachName (IsFreeName test)) (expressions s)
-  free_expressions symbols s is free =
-      subst (λ (t : Statement). Each (EachName (IsFreeName test)) (expressions t)) is.statement_is
-      (free_line is.line (subst (Free test) (used_is is.line)
-      (subst (λ (t : Statement). Free test (used (spell_line is.line) t)) (sym is.statement_is) (subst (λ (y : List Symbol). Free test (used y s)) is.spelled free))))
+  free_expressions (parsed.Uncertain d) free = tt
+  free_expressions (parsed.Over j) free = tt
+  free_expressions (parsed.Set r) free = free_sides r free
+  free_expressions (parsed.Budget b) free = tt
+  free_expressions (parsed.Var d) free = tt
+  free_expressions (parsed.Adaptive p) free = tt
+  free_expressions (parsed.Goal g) free = (free_tree test (tree_of g.objective) free, tt)
+  free_expressions (parsed.Row r) free = free_sides r.relation free
 
 -- ---- the expressions of a well formed model's statements are linear
-pub each_flat_apart : {A B : Type 0} (P : B → Type 0) (f : A → List B) (xs : List A) → Each P (flat_map f xs) → Each (λ x. Each P (f x)) xs
+pub each_flat_apart : {A B : Type 0} (P : B → Type 0) (f : A → List B) (xs : List A) → Each P (flat_map f xs)
+    → Each (λ x. Each P (f x)) xs
 each_flat_apart P f [] h = tt
-each_flat_apart P f (x ∷ xs) h = (each_left P (f x) (flat_map f xs) h, each_flat_apart P f xs (each_right P (f x) (flat_map f xs) h))
+each_flat_apart P f (x ∷ xs) h =
+    (each_left P (f x) (flat_map f xs) h, each_flat_apart P f xs (each_right P (f x) (flat_map f xs) h))
 
 module _ (m : RobustModel) (words : List (List ℕ)) (sorts : List (Option Sort)) where
   abbrev pub IsLinearStatement : Statement → Type 0
   IsLinearStatement s = Each (λ t. IsLinear m (expression sorts t)) (expressions s)
 
-  pub linear_statement : (g : Goal) → IsLinear m (expression sorts (tree_of g.objective)) → (s : Statement) → GoalIs g s → Each (IsSetLine m) (set_lines sorts s)
-      → Each (λ (r : model.Row). IsExpression m r.left × IsExpression m r.right) (rows words sorts s) → IsLinearStatement s
+  pub linear_statement : (g : Goal) → IsLinear m (expression sorts (tree_of g.objective)) → (s : Statement) → GoalIs g s
+      → Each (IsSetLine m) (set_lines sorts s)
+      → Each (λ (r : model.Row). IsExpression m r.left × IsExpression m r.right) (rows words sorts s)
+      → IsLinearStatement s
   linear_statement g objective (parsed.Uncertain d) is h k = tt
   linear_statement g objective (parsed.Over j) is h k = tt
   linear_statement g objective (parsed.Set r) is h k = (h.0.0.0.1, (h.0.1.0.1, tt))
   linear_statement g objective (parsed.Budget b) is h k = tt
   linear_statement g objective (parsed.Var d) is h k = tt
   linear_statement g objective (parsed.Adaptive p) is h k = tt
-  linear_statement g objective (parsed.Goal x) is h k = (subst (λ (y : Goal). IsLinear m (expression sorts (tree_of y.objective))) (sym is) objective, tt)
+  linear_statement g objective (parsed.Goal x) is h k =
+      (subst (λ (y : Goal). IsLinear m (expression sorts (tree_of y.objective))) (sym is) objective, tt)
   linear_statement g objective (parsed.Row r) is h k = (k.0.0.1, (k.0.1.1, tt))
 
 -- ---- what is known behind some statements
-pub names_behind : (words : List (List ℕ)) (sorts : List (Option Sort)) (e : Earlier) (list : List Statement) (ys : List AdaptiveVariable) → AllNamed e ys
+pub names_behind : (words : List (List ℕ)) (sorts : List (Option Sort)) (e : Earlier) (list : List Statement)
+    (ys : List AdaptiveVariable) → AllNamed e ys
     → AllNamed (behind_all e list) (ys ++ flat_map (adaptives words sorts) list)
 names_behind words sorts e [] ys all = subst (AllNamed e) (sym (append-nil ys)) all
 names_behind words sorts e (s ∷ list) ys all =
-    subst (AllNamed (behind_all (behind e s) list)) (append_assoc ys (adaptives words sorts s) (flat_map (adaptives words sorts) list))
+    subst (AllNamed (behind_all (behind e s) list))
+    (append_assoc ys (adaptives words sorts s) (flat_map (adaptives words sorts) list))
     (names_behind words sorts (behind e s) list (ys ++ adaptives words sorts s) (named_behind words sorts e s ys all))
 
 pub counts_behind : (words : List (List ℕ)) (sorts : List (Option Sort)) (e : Earlier) (list : List Statement)
     → Counts words sorts list e.sizes (behind_all e list).sizes
 counts_behind words sorts e [] = counts_none words sorts e.sizes
-counts_behind words sorts e (s ∷ list) = counts_more words sorts s list e.sizes (behind_all e (s ∷ list)).sizes (counts_behind words sorts (behind e s) list)
+counts_behind words sorts e (s ∷ list) =
+    counts_more words sorts s list e.sizes (behind_all e (s ∷ list)).sizes (counts_behind words sorts (behind e s) list)
 
 -- ---- lines without a fault follow one another
 module _ (limit : ℕ) (words : List (List ℕ)) where
   abbrev pub IsRight : Earlier → List Symbol → Statement → Type 0
-  IsRight e symbols s = IsStatement symbols s × (first_fault limit e symbols s ≡ None)
+  IsRight e symbols s = IsStatement symbols s × (first_fault limit e e s ≡ None)
 
-  one_follows : (e : Earlier) (symbols : List Symbol) (s : Statement) (rest : List (List Symbol)) (list : List Statement) (f : Earlier) → IsStatement symbols s
-      → first_fault limit e symbols s ≡ None
+  one_follows : (e : Earlier) (symbols : List Symbol) (s : Statement) (rest : List (List Symbol))
+      (list : List Statement) (f : Earlier) → IsStatement symbols s
+      → first_fault limit e e s ≡ None
       → Follows limit (behind e s) rest list f → Follows limit e (symbols ∷ rest) (s ∷ list) f
   one_follows e [] s rest list f is none more = absurd (some_symbols s is)
   one_follows e (x ∷ symbols) s rest list f is none more = (is, none, more)
@@ -112,24 +116,33 @@ module _ (limit : ℕ) (words : List (List ℕ)) where
   right_follow e [] [] h = refl
   right_follow e [] (s ∷ list) h = absurd h
   right_follow e (l ∷ ls) [] h = absurd h
-  right_follow e (l ∷ ls) (s ∷ list) h = one_follows e (symbols_on words l) s (map (symbols_on words) ls ++ [] ∷ []) list (behind_all e (s ∷ list)) h.0.0 h.0.1 (right_follow (behind e s) ls list h.1)
+  right_follow e (l ∷ ls) (s ∷ list) h =
+      one_follows e (symbols_on words l) s (map (symbols_on words) ls ++ [] ∷ []) list (behind_all e (s ∷ list)) h.0.0
+      h.0.1 (right_follow (behind e s) ls list h.1)
 
 -- ---- sizes
 module _ (words : List (List ℕ)) where
   abbrev pub StaysWithin : Earlier → List Symbol → Statement → Type 0
   StaysWithin e symbols s = is_within (counted e.sizes s) ≡ true
 
-  counted_append : (n : Sizes) (a : List Statement) (s : Statement) → fold counted n (a ++ s ∷ []) ≡ counted (fold counted n a) s
+  counted_append : (n : Sizes) (a : List Statement) (s : Statement)
+      → fold counted n (a ++ s ∷ []) ≡ counted (fold counted n a) s
   counted_append n [] s = refl
   counted_append n (t ∷ a) s = counted_append (counted n t) a s
 
-  pub within_walk : (before : List Statement) (e : Earlier) (ls : List (List Written)) (list : List Statement) → e.sizes ≡ fold counted start_sizes before
+  pub within_walk : (before : List Statement) (e : Earlier) (ls : List (List Written)) (list : List Statement)
+      → e.sizes ≡ fold counted start_sizes before
       → AreStatements words ls list → is_within (fold counted start_sizes (before ++ list)) ≡ true
       → Walk words StaysWithin e ls list
   within_walk before e [] [] same are all = tt
   within_walk before e [] (s ∷ list) same are all = absurd are
   within_walk before e (l ∷ ls) [] same are all = absurd are
   within_walk before e (l ∷ ls) (s ∷ list) same are all =
-      let next : (behind e s).sizes ≡ fold counted start_sizes (before ++ s ∷ []) = ap (λ (n : Sizes). counted n s) same ∙ sym (counted_append start_sizes before s) in
-      let rest : is_within (fold counted start_sizes ((before ++ s ∷ []) ++ list)) ≡ true = ap (λ (x : List Statement). is_within (fold counted start_sizes x)) (append_assoc before (s ∷ []) list) ∙ all in
-      (ap is_within next ∙ within_front (before ++ s ∷ []) list rest, within_walk (before ++ s ∷ []) (behind e s) ls list next are.1 rest)
+      let next : (behind e s).sizes ≡ fold counted start_sizes (before ++ s ∷ []) =
+      ap (λ (n : Sizes). counted n s) same ∙ sym (counted_append start_sizes before s) in
+      let rest : is_within (fold counted start_sizes ((before ++ s ∷ []) ++ list)) ≡ true =
+      ap (λ (x : List Statement). is_within (fold counted start_sizes x)) (append_assoc before (s ∷ []) list)
+      ∙ all in (
+        ap is_within next ∙ within_front (before ++ s ∷ []) list rest,
+        within_walk (before ++ s ∷ []) (behind e s) ls list next are.1 rest,
+      )

@@ -4,7 +4,6 @@ use Rattle.std.specs.Prelude.{◌||◌, ◌&&◌, not, Some, None}
 use Rattle.std.specs.List.{find, flat_map}
 use Rattle.rob_meaning.specs.Places.{Each}
 use Rattle.rob_rules.specs.declared.fault.Fault.TheVariants.{NameTwice, NameUnknown}
-use Rattle.rob_syntax.specs.declared.symbol.Symbol.{Symbol}
 use Rattle.rob_syntax.specs.declared.syntax.Statement.{Statement}
 use Rattle.rob_rules.specs.Degrees.{products}
 use Rattle.rob_rules.specs.Faults.{expressions, first_fault, has_fault, in_order, is_declared}
@@ -14,17 +13,34 @@ use Rattle.rob_round_trip.proofs.Faultless.Clear.{AreClear}
 use Rattle.rob_parse.proofs.Degrees.DegreeLemmas.{Clean}
 
 -- where nothing passes nothing is found
-pub nothing_found : {X : Type 0} (test : X → Bool) (xs : List X) → Each (λ (x : X). test x ≡ false) xs → find test xs ≡ None
+pub nothing_found : {X : Type 0} (test : X → Bool) (xs : List X)
+    → Each (λ (x : X). test x ≡ false) xs → find test xs ≡ None
 nothing_found test [] each = refl
-nothing_found test (x ∷ xs) each = ap (λ (b : Bool). cond b (Some x) (find test xs)) each.0 ∙ nothing_found test xs each.1
+nothing_found test (x ∷ xs) each =
+    ap (λ (b : Bool). cond b (Some x) (find test xs)) each.0 ∙ nothing_found test xs each.1
 
--- a statement has no fault where its symbols are clear, its name is new, no product is refused, the goal is the first one, and
--- no limit is passed
-pub no_fault : (limit : ℕ) (e : Earlier) (symbols : List Symbol) (s : Statement)
-    → AreClear limit e.sorts symbols s → is_declared e.sorts (declared_by e.sizes s) ≡ false → Clean (flat_map (products e.sorts) (expressions s))
-    → (is_goal s && e.goal) ≡ false → is_within (counted e.sizes s) ≡ true → first_fault limit e symbols s ≡ None
-no_fault limit e symbols s clear new clean goal small =
-    let twice : has_fault limit e symbols s NameTwice ≡ false = λ i. new i || clear.listed i in
-    let unknown : has_fault limit e symbols s NameUnknown ≡ false = λ i. clear.unknown i || clear.set_known i in
-    nothing_found (has_fault limit e symbols s) in_order
-    (twice, (unknown, (clear.over, (clear.deviation, (clean.decisions, (clean.uncertain, (clean.recourse, (clear.decision, (goal, (ap not small, (clear.divisor, tt)))))))))))
+-- a statement has no fault where it is clear, its name is new, no product is
+-- refused, the goal is the first one, and no limit is passed
+pub no_fault : (limit : ℕ) (e : Earlier) (s : Statement)
+    → AreClear limit e.sorts s → is_declared e.sorts (declared_by e.sizes s) ≡ false
+    → Clean (flat_map (products e.sorts) (expressions s))
+    → (is_goal s && e.goal) ≡ false → is_within (counted e.sizes s) ≡ true → first_fault limit e e s ≡ None
+no_fault limit e s clear new clean goal small =
+    let twice : has_fault limit e e s NameTwice ≡ false = λ i. new i || clear.listed i in
+    let unknown : has_fault limit e e s NameUnknown ≡ false = λ i. clear.unknown i || clear.set_known i in
+    nothing_found (has_fault limit e e s) in_order (
+      twice,
+      (
+        unknown,
+        (
+          clear.over,
+          (
+            clear.deviation,
+            (
+              clean.decisions,
+              (clean.uncertain, (clean.recourse, (clear.decision, (goal, (ap not small, (clear.divisor, tt)))))),
+            ),
+          ),
+        ),
+      ),
+    )

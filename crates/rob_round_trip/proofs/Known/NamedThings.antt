@@ -8,13 +8,12 @@ use Rattle.rob_rules.specs.declared.size.Sizes.{Sizes}
 use Rattle.rob_rules.specs.declared.sort.Sort.{Sort}
 use Rattle.rob_rules.specs.declared.sort.Sort.TheVariants as sort
 use Rattle.rob_rules.specs.declared.sort.Sort.TheVariants.{Parameter, Decision, Policy, RowName}
-use Rattle.rob_syntax.specs.declared.symbol.Symbol.{Symbol}
 use Rattle.rob_syntax.specs.declared.syntax.Statement.{Statement}
 use Rattle.rob_syntax.specs.declared.syntax.Statement.TheVariants as parsed
 use Rattle.rob_rules.specs.Degrees.{sort_at}
 use Rattle.rob_parse.specs.Models.{word_of}
 use Rattle.rob_round_trip.specs.Readable.{IsAt}
-use Rattle.rob_rules.specs.Reading.{Follows}
+use Rattle.rob_rules.specs.Chains.{Chain}
 use Rattle.rob_rules.specs.Scopes.{Earlier, behind, declare, declared_by, has_some}
 use Rattle.rob_rules.specs.Sizes.{counted}
 use Rattle.rob_parse.proofs.Names.DeclaredLemmas.{adaptive_numbers, parameter_numbers, row_numbers, set_numbers, variable_numbers}
@@ -53,26 +52,39 @@ abbrev pub IsThingOf : Sizes → List Statement → Option (ℕ × Sort) → Typ
 IsThingOf s list None = ⊥
 IsThingOf s list (Some d) = IsThing s list d.0 d.1
 
-thing_same : (s : Sizes) (list : List Statement) (j k : ℕ) (v x : Sort) → declares j v ≡ declares k x → IsThing s list j v → IsThing s list k x
+thing_same : (s : Sizes) (list : List Statement) (j k : ℕ) (v x : Sort) → declares j v ≡ declares k x
+    → IsThing s list j v → IsThing s list k x
 thing_same s list j k v x is h = subst (IsThingOf s list) is h
 
-thing_first : (s : Sizes) (st : Statement) (list : List Statement) (k : ℕ) (x : Sort) → declared_by s st ≡ Some (k, x) → IsThing s (st ∷ list) k x
+thing_first : (s : Sizes) (st : Statement) (list : List Statement) (k : ℕ) (x : Sort) → declared_by s st ≡ Some (k, x)
+    → IsThing s (st ∷ list) k x
 unfolding parameter_numbers set_numbers variable_numbers adaptive_numbers row_numbers
-thing_first s (parsed.Uncertain d) list k x is = thing_same s (parsed.Uncertain d ∷ list) d.name k (Parameter s.parameters) x is (found_first (flat_map parameter_numbers list) s.parameters d.name)
-thing_first s (parsed.Over o) list k x is = thing_same s (parsed.Over o ∷ list) o k (sort.Set (s.sets + 1)) x is ((s.sets, (omega arith), found_first (flat_map set_numbers list) s.sets o))
-thing_first s (parsed.Var d) list k x is = thing_same s (parsed.Var d ∷ list) d.name k (Decision s.variables) x is (found_first (flat_map variable_numbers list) s.variables d.name)
-thing_first s (parsed.Adaptive p) list k x is = thing_same s (parsed.Adaptive p ∷ list) p.name k (Policy s.adaptives (has_some p.on)) x is (found_first (flat_map adaptive_numbers list) s.adaptives p.name)
+thing_first s (parsed.Uncertain d) list k x is =
+    thing_same s (parsed.Uncertain d ∷ list) d.name k (Parameter s.parameters) x is
+    (found_first (flat_map parameter_numbers list) s.parameters d.name)
+thing_first s (parsed.Over o) list k x is =
+    thing_same s (parsed.Over o ∷ list) o k (sort.Set (s.sets + 1)) x is
+    ((s.sets, (omega arith), found_first (flat_map set_numbers list) s.sets o))
+thing_first s (parsed.Var d) list k x is =
+    thing_same s (parsed.Var d ∷ list) d.name k (Decision s.variables) x is
+    (found_first (flat_map variable_numbers list) s.variables d.name)
+thing_first s (parsed.Adaptive p) list k x is =
+    thing_same s (parsed.Adaptive p ∷ list) p.name k (Policy s.adaptives (has_some p.on)) x is
+    (found_first (flat_map adaptive_numbers list) s.adaptives p.name)
 thing_first s (parsed.Set r) list k x is = cc
 thing_first s (parsed.Budget b) list k x is = cc
 thing_first s (parsed.Goal g) list k x is = cc
-thing_first s (parsed.Row r) list k x is = thing_same s (parsed.Row r ∷ list) r.name k (RowName) x is ((0, found_first (flat_map row_numbers list) 0 r.name))
+thing_first s (parsed.Row r) list k x is =
+    thing_same s (parsed.Row r ∷ list) r.name k (RowName) x is ((0, found_first (flat_map row_numbers list) 0 r.name))
 
 row_later : (ks : List ℕ) (k j : ℕ) → IsFound ks 0 k j → IsFound ks (0 + 1) k (suc j)
 row_later ks k j h = (h.0, (let e : suc j ≡ (0 + 1) + h.0 = omega (arith, h.1) in e), h.2, h.3)
 
-thing_more : (s : Sizes) (st : Statement) (list : List Statement) (k : ℕ) (x : Sort) → IsThing (counted s st) list k x → IsThing s (st ∷ list) k x
+thing_more : (s : Sizes) (st : Statement) (list : List Statement) (k : ℕ) (x : Sort) → IsThing (counted s st) list k x
+    → IsThing s (st ∷ list) k x
 unfolding parameter_numbers set_numbers variable_numbers adaptive_numbers row_numbers
-thing_more s (parsed.Uncertain d) list k (Parameter j) h = found_more (flat_map parameter_numbers list) d.name s.parameters k j h
+thing_more s (parsed.Uncertain d) list k (Parameter j) h =
+    found_more (flat_map parameter_numbers list) d.name s.parameters k j h
 thing_more s (parsed.Uncertain d) list k (Decision j) h = h
 thing_more s (parsed.Uncertain d) list k (Policy j depends) h = h
 thing_more s (parsed.Uncertain d) list k RowName h = h
@@ -81,7 +93,8 @@ thing_more s (parsed.Over o) list k (Parameter j) h = h
 thing_more s (parsed.Over o) list k (Decision j) h = h
 thing_more s (parsed.Over o) list k (Policy j depends) h = h
 thing_more s (parsed.Over o) list k RowName h = h
-thing_more s (parsed.Over o) list k (sort.Set S) h = (h.0, h.1, found_more (flat_map set_numbers list) o s.sets k h.0 h.2)
+thing_more s (parsed.Over o) list k (sort.Set S) h =
+    (h.0, h.1, found_more (flat_map set_numbers list) o s.sets k h.0 h.2)
 thing_more s (parsed.Var d) list k (Parameter j) h = h
 thing_more s (parsed.Var d) list k (Decision j) h = found_more (flat_map variable_numbers list) d.name s.variables k j h
 thing_more s (parsed.Var d) list k (Policy j depends) h = h
@@ -89,7 +102,8 @@ thing_more s (parsed.Var d) list k RowName h = h
 thing_more s (parsed.Var d) list k (sort.Set S) h = h
 thing_more s (parsed.Adaptive p) list k (Parameter j) h = h
 thing_more s (parsed.Adaptive p) list k (Decision j) h = h
-thing_more s (parsed.Adaptive p) list k (Policy j depends) h = found_more (flat_map adaptive_numbers list) p.name s.adaptives k j h
+thing_more s (parsed.Adaptive p) list k (Policy j depends) h =
+    found_more (flat_map adaptive_numbers list) p.name s.adaptives k j h
 thing_more s (parsed.Adaptive p) list k RowName h = h
 thing_more s (parsed.Adaptive p) list k (sort.Set S) h = h
 thing_more s (parsed.Set r) list k (Parameter j) h = h
@@ -110,7 +124,11 @@ thing_more s (parsed.Goal g) list k (sort.Set S) h = h
 thing_more s (parsed.Row r) list k (Parameter j) h = h
 thing_more s (parsed.Row r) list k (Decision j) h = h
 thing_more s (parsed.Row r) list k (Policy j depends) h = h
-thing_more s (parsed.Row r) list k RowName h = (suc h.0, found_more (flat_map row_numbers list) r.name 0 k (suc h.0) (row_later (flat_map row_numbers list) k h.0 h.1))
+thing_more s (parsed.Row r) list k RowName h = (
+  suc h.0,
+  found_more (flat_map row_numbers list) r.name 0 k (suc h.0)
+      (row_later (flat_map row_numbers list) k h.0 h.1),
+)
 thing_more s (parsed.Row r) list k (sort.Set S) h = h
 
 pub things : (s : Sizes) (list : List Statement) (k : ℕ) (x : Sort) → IsDeclaredIn s list k x → IsThing s list k x
@@ -119,7 +137,8 @@ things s (st ∷ list) k x (inl is) = thing_first s st list k x is
 things s (st ∷ list) k x (inr h) = thing_more s st list k x (things (counted s st) list k x h)
 
 -- what a name stands for behind a declaration is declared there, or in front of it
-set_from : (sorts : List (Option Sort)) (i k : ℕ) (v x : Sort) → sort_at (set sorts i (Some v)) k ≡ Some x → ((i ≡ k) × (v ≡ x)) ⊎ (sort_at sorts k ≡ Some x)
+set_from : (sorts : List (Option Sort)) (i k : ℕ) (v x : Sort) → sort_at (set sorts i (Some v)) k ≡ Some x
+    → ((i ≡ k) × (v ≡ x)) ⊎ (sort_at sorts k ≡ Some x)
 set_from [] i k v x is = inr is
 set_from (o ∷ sorts) zero zero v x is = let e : v ≡ x = cc in inl (refl, e)
 set_from (o ∷ sorts) zero (suc k) v x is = inr is
@@ -130,7 +149,8 @@ set_from (o ∷ sorts) (suc i) (suc k) v x is = go (set_from sorts i k v x is)
     go (inl h) = inl (ap suc h.0, h.1)
     go (inr h) = inr h
 
-declared_from : (sorts : List (Option Sort)) (d : Option (ℕ × Sort)) (k : ℕ) (x : Sort) → sort_at (declare sorts d) k ≡ Some x
+declared_from : (sorts : List (Option Sort)) (d : Option (ℕ × Sort)) (k : ℕ) (x : Sort)
+    → sort_at (declare sorts d) k ≡ Some x
     → (d ≡ Some (k, x)) ⊎ (sort_at sorts k ≡ Some x)
 declared_from sorts None k x is = inr is
 declared_from sorts (Some d) k x is = go (set_from sorts d.0 k d.1 x is)
@@ -139,16 +159,14 @@ declared_from sorts (Some d) k x is = go (set_from sorts d.0 k d.1 x is)
     go (inl h) = inl (λ i. Some (h.0 i, h.1 i))
     go (inr h) = inr h
 
-module _ (limit : ℕ) (f : Earlier) (k : ℕ) (x : Sort) (is : sort_at f.sorts k ≡ Some x) where
-  pub declared_in : (e : Earlier) (lines : List (List Symbol)) (list : List Statement) → Follows limit e lines list f
+module _ (limit : ℕ) (words : List (List ℕ)) (f : Earlier) (k : ℕ) (x : Sort) (is : sort_at f.sorts k ≡ Some x) where
+  pub declared_in : (e : Earlier) (list : List Statement) → Chain limit words e list f
       → IsDeclaredIn e.sizes list k x ⊎ (sort_at e.sorts k ≡ Some x)
-  declared_in e [] [] follows = inr (ap (λ (a : Earlier). sort_at a.sorts k) follows ∙ is)
-  declared_in e [] (s ∷ list) follows = absurd follows
-  declared_in e ([] ∷ lines) list follows = declared_in e lines list follows
-  declared_in e ((y ∷ symbols) ∷ lines) [] follows = absurd follows
-  declared_in e ((y ∷ symbols) ∷ lines) (s ∷ list) follows = go (declared_in (behind e s) lines list follows.2)
+  declared_in e [] chain = inr (ap (λ (a : Earlier). sort_at a.sorts k) chain ∙ is)
+  declared_in e (s ∷ list) chain = go (declared_in (behind e s) list chain.1)
     where
-      here : (declared_by e.sizes s ≡ Some (k, x)) ⊎ (sort_at e.sorts k ≡ Some x) → IsDeclaredIn e.sizes (s ∷ list) k x ⊎ (sort_at e.sorts k ≡ Some x)
+      here : (declared_by e.sizes s ≡ Some (k, x)) ⊎ (sort_at e.sorts k ≡ Some x) → IsDeclaredIn e.sizes (s ∷ list) k x
+          ⊎ (sort_at e.sorts k ≡ Some x)
       here (inl h) = inl (inl h)
       here (inr h) = inr h
 
@@ -158,12 +176,16 @@ module _ (limit : ℕ) (f : Earlier) (k : ℕ) (x : Sort) (is : sort_at f.sorts 
       go (inr h) = here (declared_from e.sorts (declared_by e.sizes s) k x h)
 
 -- a number that is found is that of the name there
-pub found_at : (words : List (List ℕ)) (names : List (List ℕ)) (ks : List ℕ) (k j : ℕ) → names ≡ map (word_of words) ks → IsFound ks 0 k j → IsAt names j (word_of words k)
+pub found_at : (words : List (List ℕ)) (names : List (List ℕ)) (ks : List ℕ) (k j : ℕ) → names ≡ map (word_of words) ks
+    → IsFound ks 0 k j → IsAt names j (word_of words k)
 found_at words names ks k j same h =
     let first : h.0 ≡ j = omega (arith, h.1) in
     subst (λ (ns : List (List ℕ)). IsAt ns j (word_of words k)) (sym same)
-    (subst (λ (i : ℕ). IsAt (map (word_of words) ks) i (word_of words k)) first
-    (omega (arith, h.2, length-map ks (word_of words)), get_or-map (word_of words) ks h.0 0 [] h.2 ∙ ap (word_of words) h.3))
+    (subst (λ (i : ℕ). IsAt (map (word_of words) ks) i (word_of words k)) first (
+      omega (arith, h.2, length-map ks (word_of words)),
+      get_or-map (word_of words) ks h.0 0 [] h.2
+          ∙ ap (word_of words) h.3,
+    ))
 
 pub depends_same : (on : List ℕ) (depends : Bool) → one_if_some on ≡ depends_by depends → depends ≡ has_some on
 depends_same [] true h = cc

@@ -1,4 +1,5 @@
--- The canonical text of a model that a text reads as has no more tokens than a text may have, and no deeper parentheses.
+-- The canonical text of a model that a text reads as has no more tokens than a
+-- text may have, and no deeper parentheses.
 use Rattle.std.proofs.Common.{◌≡◌, ℕ, ◌+◌, ◌≤◌, List, [], ◌∷◌, ◌++◌, length, map, refl, sym, ap, ◌∙◌, subst, arith, length-append}
 use Rattle.std.specs.Prelude.{Option, IsSome}
 use Rattle.std.specs.List.{flat_map}
@@ -9,23 +10,22 @@ use Rattle.rob_meaning.specs.RobustModel.{RobustModel}
 use Rattle.std.proofs.lemmas.List.{length-map}
 use Rattle.rob_meaning.proofs.EachLemmas.{each_append}
 use Rattle.rob_rules.specs.declared.sort.Sort.{Sort}
-use Rattle.rob_syntax.specs.declared.symbol.Symbol.{Symbol}
 use Rattle.rob_syntax.specs.declared.syntax.Statement.{Statement}
 use Rattle.rob_syntax.specs.declared.syntax.Statement.TheVariants as parsed
 use Rattle.rob_write.specs.Canonical.{Written, declared_set_words, lines_over, over_words, written_model, line_end, Naming, naming_of, parameter_words, set_words, variable_words, adaptive_words, goal_words, row_words, lines_of}
 use Rattle.rob_parse.specs.Modelled.{ReadsModel}
 use Rattle.rob_parse.specs.Models.{line_sets, objective_set, parameters, row_sets, set_lines, sets, variables, adaptives, rows, goal_in, sense_in, objective_of, written_of}
 use Rattle.rob_round_trip.specs.Pages.{IsShallow, ended}
-use Rattle.rob_rules.specs.Reading.{Follows}
-use Rattle.rob_rules.specs.Scopes.{Earlier, behind, start}
-use Rattle.rob_syntax.specs.Symbols.{lines_of as symbols_of_lines}
-use Rattle.rob_parse.proofs.Degrees.FitLemmas.{goal_there}
+use Rattle.rob_rules.specs.Scopes.{start}
+use Rattle.rob_parse.proofs.Degrees.FitLemmas.{all_fit, goal_there}
+use Rattle.rob_parse.proofs.Names.ChainLemmas.{model_chain}
 use Rattle.rob_parse.proofs.Building.ModelLemmas.{each_flat, model_names, written_by}
 use Rattle.rob_round_trip.proofs.Written.PlacedModels.{is_written}
 use Rattle.rob_round_trip.proofs.Written.ReadModels.{Good, all_good}
-use Rattle.rob_round_trip.proofs.Lengths.TokenFits.{step_of_symbol, Shallow, words_shallow}
-use Rattle.rob_round_trip.proofs.Lengths.TokenPlaces.{cost, AreFew, lines_few}
-use Rattle.rob_round_trip.proofs.Lengths.TokenStatements.{said, AreReadable, fit_statement}
+use Rattle.rob_round_trip.specs.Lines.{AreReadable, canonical_line}
+use Rattle.rob_round_trip.proofs.Indexed.ReadLengths.{read_few, read_shallow}
+use Rattle.rob_round_trip.proofs.Known.KnownNames.{ends_in_sets}
+use Rattle.rob_round_trip.proofs.Known.NumberedSets.{sets_from_one}
 
 -- ---- what lines of words cost
 cost-more : (l : List Written) (ls : List (List Written)) → length (ended (l ∷ ls)) ≡ (length l + 1) + length (ended ls)
@@ -43,12 +43,13 @@ lines_with names w sets of_lines of_objective of_rows =
     ++ (lines_over (set_words names) names.sets w.set_lines of_lines
     ++ (map variable_words w.variables
     ++ (map (adaptive_words names) w.adaptives
-    ++ (goal_words names w.sense w.objective ++ over_words names.sets of_objective) ∷ lines_over (row_words names) names.sets w.rows of_rows))))
+    ++ (goal_words names w.sense w.objective ++ over_words names.sets of_objective)
+    ∷ lines_over (row_words names) names.sets w.rows of_rows))))
 
 module _ (limit : ℕ) (words : List (List ℕ)) (sorts : List (Option Sort)) (names : Naming) where
   -- the canonical line of a statement
   abbrev line_of : Statement → List Written
-  line_of s = said limit words sorts names s
+  line_of s = canonical_line words sorts names s
 
   -- the lines of a kind
   abbrev of_parameters : List Statement → List (List Written)
@@ -58,7 +59,8 @@ module _ (limit : ℕ) (words : List (List ℕ)) (sorts : List (Option Sort)) (n
   of_names list = map declared_set_words (flat_map (sets words) list)
 
   abbrev of_set_lines : List Statement → List (List Written)
-  of_set_lines list = lines_over (set_words names) names.sets (flat_map (set_lines sorts) list) (flat_map (line_sets sorts) list)
+  of_set_lines list =
+      lines_over (set_words names) names.sets (flat_map (set_lines sorts) list) (flat_map (line_sets sorts) list)
 
   abbrev of_variables : List Statement → List (List Written)
   of_variables list = map variable_words (flat_map (variables words) list)
@@ -74,7 +76,8 @@ module _ (limit : ℕ) (words : List (List ℕ)) (sorts : List (Option Sort)) (n
   of_goals list = flat_map goal_lines list
 
   abbrev of_rows : List Statement → List (List Written)
-  of_rows list = lines_over (row_words names) names.sets (flat_map (rows words sorts) list) (flat_map (row_sets sorts) list)
+  of_rows list =
+      lines_over (row_words names) names.sets (flat_map (rows words sorts) list) (flat_map (row_sets sorts) list)
 
   -- all lines by kind
   abbrev by_kind : List Statement → ℕ
@@ -89,20 +92,71 @@ module _ (limit : ℕ) (words : List (List ℕ)) (sorts : List (Option Sort)) (n
   -- sorting by kind changes no sum
   kinds : (list : List Statement) → by_kind list ≡ length (ended (map line_of list))
   kinds [] = refl
-  kinds (parsed.Uncertain d ∷ list) = omega (arith, kinds list, cost-more (line_of (parsed.Uncertain d)) (map line_of list), cost-more (line_of (parsed.Uncertain d)) (of_parameters list))
-  kinds (parsed.Over k ∷ list) = omega (arith, kinds list, cost-more (line_of (parsed.Over k)) (map line_of list), cost-more (line_of (parsed.Over k)) (of_names list))
-  kinds (parsed.Set r ∷ list) = omega (arith, kinds list, cost-more (line_of (parsed.Set r)) (map line_of list), cost-more (line_of (parsed.Set r)) (of_set_lines list))
-  kinds (parsed.Budget b ∷ list) = omega (arith, kinds list, cost-more (line_of (parsed.Budget b)) (map line_of list), cost-more (line_of (parsed.Budget b)) (of_set_lines list))
-  kinds (parsed.Var d ∷ list) = omega (arith, kinds list, cost-more (line_of (parsed.Var d)) (map line_of list), cost-more (line_of (parsed.Var d)) (of_variables list))
-  kinds (parsed.Adaptive p ∷ list) = omega (arith, kinds list, cost-more (line_of (parsed.Adaptive p)) (map line_of list), cost-more (line_of (parsed.Adaptive p)) (of_adaptives list))
-  kinds (parsed.Goal g ∷ list) = omega (arith, kinds list, cost-more (line_of (parsed.Goal g)) (map line_of list), cost-more (line_of (parsed.Goal g)) (of_goals list))
-  kinds (parsed.Row r ∷ list) = omega (arith, kinds list, cost-more (line_of (parsed.Row r)) (map line_of list), cost-more (line_of (parsed.Row r)) (of_rows list))
+  kinds (parsed.Uncertain d ∷ list) =
+      omega (
+        arith,
+        kinds list,
+        cost-more (line_of (parsed.Uncertain d)) (map line_of list),
+        cost-more (line_of (parsed.Uncertain d)) (of_parameters list),
+      )
+  kinds (parsed.Over k ∷ list) =
+      omega (
+        arith,
+        kinds list,
+        cost-more (line_of (parsed.Over k)) (map line_of list),
+        cost-more (line_of (parsed.Over k)) (of_names list),
+      )
+  kinds (parsed.Set r ∷ list) =
+      omega (
+        arith,
+        kinds list,
+        cost-more (line_of (parsed.Set r)) (map line_of list),
+        cost-more (line_of (parsed.Set r)) (of_set_lines list),
+      )
+  kinds (parsed.Budget b ∷ list) =
+      omega (
+        arith,
+        kinds list,
+        cost-more (line_of (parsed.Budget b)) (map line_of list),
+        cost-more (line_of (parsed.Budget b)) (of_set_lines list),
+      )
+  kinds (parsed.Var d ∷ list) =
+      omega (
+        arith,
+        kinds list,
+        cost-more (line_of (parsed.Var d)) (map line_of list),
+        cost-more (line_of (parsed.Var d)) (of_variables list),
+      )
+  kinds (parsed.Adaptive p ∷ list) =
+      omega (
+        arith,
+        kinds list,
+        cost-more (line_of (parsed.Adaptive p)) (map line_of list),
+        cost-more (line_of (parsed.Adaptive p)) (of_adaptives list),
+      )
+  kinds (parsed.Goal g ∷ list) =
+      omega (
+        arith,
+        kinds list,
+        cost-more (line_of (parsed.Goal g)) (map line_of list),
+        cost-more (line_of (parsed.Goal g)) (of_goals list),
+      )
+  kinds (parsed.Row r ∷ list) =
+      omega (
+        arith,
+        kinds list,
+        cost-more (line_of (parsed.Row r)) (map line_of list),
+        cost-more (line_of (parsed.Row r)) (of_rows list),
+      )
 
   -- the objective's line is one of the goals'
   abbrev goal_line : List Statement → List Written
-  goal_line list = goal_words names (sense_in (goal_in list)) (objective_of sorts (goal_in list)) ++ over_words names.sets (objective_set sorts (goal_in list))
+  goal_line list =
+      goal_words names (sense_in (goal_in list)) (objective_of sorts (goal_in list))
+      ++ over_words names.sets (objective_set sorts (goal_in list))
 
-  goal_counted : (list : List Statement) → IsSome (goal_in list) → length (goal_line list) + 1 ≤ length (ended (of_goals list))
+  goal_counted : (list : List Statement) → IsSome (goal_in list)
+      → length (goal_line list) + 1 ≤ length (ended (of_goals list))
   goal_counted [] some = cc
   goal_counted (parsed.Goal g ∷ list) some = omega (arith, cost-more (line_of (parsed.Goal g)) (of_goals list))
   goal_counted (parsed.Uncertain d ∷ list) some = goal_counted list some
@@ -116,18 +170,20 @@ module _ (limit : ℕ) (words : List (List ℕ)) (sorts : List (Option Sort)) (n
   -- all lines
   abbrev all_lines : List Statement → List (List Written)
   all_lines list =
-      lines_with names (written_of words sorts list) (flat_map (sets words) list) (flat_map (line_sets sorts) list) (objective_set sorts (goal_in list)) (flat_map (row_sets sorts) list)
+      lines_with names (written_of words sorts list) (flat_map (sets words) list) (flat_map (line_sets sorts) list)
+      (objective_set sorts (goal_in list)) (flat_map (row_sets sorts) list)
 
-  lines_counted : (list : List Statement) → IsSome (goal_in list) → length (ended (all_lines list)) ≤ length (ended (map line_of list))
+  lines_counted : (list : List Statement) → IsSome (goal_in list)
+      → length (ended (all_lines list)) ≤ length (ended (map line_of list))
   lines_counted list some =
       let five = goal_line list ∷ of_rows list in
       let four = of_adaptives list ++ five in
       let three = of_variables list ++ four in
       let two = of_set_lines list ++ three in
-      let one = of_names list ++ two in
+      let rest = of_names list ++ two in
       omega (
         arith,
-        ended-append (of_parameters list) one,
+        ended-append (of_parameters list) rest,
         ended-append (of_names list) two,
         ended-append (of_set_lines list) three,
         ended-append (of_variables list) four,
@@ -142,7 +198,8 @@ module _ (limit : ℕ) (words : List (List ℕ)) (sorts : List (Option Sort)) (n
   abbrev IsLow : Statement → Type 0
   IsLow s = IsShallow 0 (line_of s)
 
-  mapped : {A : Type 0} (write : A → List Written) (xs : List A) → Each (λ x. IsShallow 0 (write x)) xs → Each (IsShallow 0) (map write xs)
+  mapped : {A : Type 0} (write : A → List Written) (xs : List A) → Each (λ x. IsShallow 0 (write x)) xs
+      → Each (IsShallow 0) (map write xs)
   mapped write [] h = tt
   mapped write (x ∷ xs) h = (h.0, mapped write xs h.1)
 
@@ -187,7 +244,8 @@ module _ (limit : ℕ) (words : List (List ℕ)) (sorts : List (Option Sort)) (n
   variables_deep (parsed.Goal g) h = tt
   variables_deep (parsed.Row r) h = tt
 
-  adaptives_deep : (s : Statement) → IsLow s → Each (λ y. IsShallow 0 (adaptive_words names y)) (adaptives words sorts s)
+  adaptives_deep : (s : Statement) → IsLow s
+      → Each (λ y. IsShallow 0 (adaptive_words names y)) (adaptives words sorts s)
   adaptives_deep (parsed.Uncertain d) h = tt
   adaptives_deep (parsed.Over k) h = tt
   adaptives_deep (parsed.Set r) h = tt
@@ -222,54 +280,34 @@ module _ (limit : ℕ) (words : List (List ℕ)) (sorts : List (Option Sort)) (n
   lines_deep : (list : List Statement) → IsSome (goal_in list) → Each IsLow list → Each (IsShallow 0) (all_lines list)
   lines_deep list some h =
       let join = each_append (IsShallow 0) in
-      join (of_parameters list) _ (mapped parameter_words _ (each_flat _ (parameters words) IsLow parameters_deep list h))
+      join (of_parameters list) _
+      (mapped parameter_words _ (each_flat _ (parameters words) IsLow parameters_deep list h))
       (join (of_names list) _ (mapped declared_set_words _ (each_flat _ (sets words) IsLow names_deep list h))
       (join (of_set_lines list) _ (set_lines_deep list h)
       (join (of_variables list) _ (mapped variable_words _ (each_flat _ (variables words) IsLow variables_deep list h))
-      (join (of_adaptives list) _ (mapped (adaptive_words names) _ (each_flat _ (adaptives words sorts) IsLow adaptives_deep list h))
+      (join (of_adaptives list) _
+      (mapped (adaptive_words names) _ (each_flat _ (adaptives words sorts) IsLow adaptives_deep list h))
       (goal_deep list some h, rows_deep list h)))))
-
-  -- ---- from the lines of the text
-  module _ (f : Earlier) where
-    said_counted : (e : Earlier) (lines : List (List Symbol)) (list : List Statement) → Follows limit e lines list f
-        → Each (AreReadable limit words sorts names) list → length (ended (map line_of list)) ≤ cost lines
-    said_counted e [] [] follows r = omega arith
-    said_counted e [] (s ∷ list) follows r = absurd follows
-    said_counted e ([] ∷ lines) list follows r = omega (arith, said_counted e lines list follows r)
-    said_counted e ((x ∷ symbols) ∷ lines) [] follows r = absurd follows
-    said_counted e ((x ∷ symbols) ∷ lines) (s ∷ list) follows r =
-        let fit = fit_statement limit words sorts names (x ∷ symbols) s follows.0 r.0 in
-        omega (arith, fit.few, said_counted (behind e s) lines list follows.2 r.1, cost-more (line_of s) (map line_of list))
-
-    said_deep : (e : Earlier) (lines : List (List Symbol)) (list : List Statement) → Follows limit e lines list f
-        → Each (AreReadable limit words sorts names) list
-        → Each (Shallow step_of_symbol 0) lines → Each IsLow list
-    said_deep e [] [] follows r h = tt
-    said_deep e [] (s ∷ list) follows r h = absurd follows
-    said_deep e ([] ∷ lines) list follows r h = said_deep e lines list follows r h.1
-    said_deep e ((x ∷ symbols) ∷ lines) [] follows r h = absurd follows
-    said_deep e ((x ∷ symbols) ∷ lines) (s ∷ list) follows r h =
-        let fit = fit_statement limit words sorts names (x ∷ symbols) s follows.0 r.0 in
-        (words_shallow 0 (line_of s) (fit.shallow 0 h.0), said_deep (behind e s) lines list follows.2 r.1 h.1)
 
 -- ---- the canonical text
 module _ (limit : ℕ) (text : List ℕ) (m : RobustModel) (low : 1 ≤ limit) (read : ReadsModel limit text m) where
-  abbrev source : List (List Symbol)
-  source = symbols_of_lines text read.words read.reads.tokens
-
   ps : length (naming_of m).parameters ≡ length (written_by limit text m read).parameters
-  ps = length-map (written_model m).parameters (λ (p : model.Parameter). p.name) ∙ ap (λ (x : RobustModel). length x.parameters) (is_written limit text m read low)
+  ps = length-map (written_model m).parameters (λ (p : model.Parameter). p.name)
+      ∙ ap (λ (x : RobustModel). length x.parameters) (is_written limit text m read low)
 
   vs : length (naming_of m).variables ≡ length (written_by limit text m read).variables
-  vs = length-map (written_model m).variables (λ (x : model.Variable). x.name) ∙ ap (λ (x : RobustModel). length x.variables) (is_written limit text m read low)
+  vs = length-map (written_model m).variables (λ (x : model.Variable). x.name)
+      ∙ ap (λ (x : RobustModel). length x.variables) (is_written limit text m read low)
 
   ys : length (naming_of m).adaptives ≡ length (written_by limit text m read).adaptives
-  ys = length-map (written_model m).adaptives (λ (y : model.AdaptiveVariable). y.name) ∙ ap (λ (x : RobustModel). length x.adaptives) (is_written limit text m read low)
+  ys = length-map (written_model m).adaptives (λ (y : model.AdaptiveVariable). y.name)
+      ∙ ap (λ (x : RobustModel). length x.adaptives) (is_written limit text m read low)
 
   abbrev IsGood : Statement → Type 0
-  IsGood s = Good limit low (written_by limit text m read) (naming_of m) ps vs ys read.known (model_names limit text m read) s
+  IsGood s = Good limit low (written_by limit text m read) (naming_of m) ps vs ys read.known
+      (model_names limit text m read) s
 
-  readable_one : (s : Statement) → IsGood s → AreReadable limit read.words read.known.sorts (naming_of m) s
+  readable_one : (s : Statement) → IsGood s → AreReadable limit read.known.sorts (naming_of m) s
   readable_one (parsed.Uncertain d) good = tt
   readable_one (parsed.Over k) good = tt
   readable_one (parsed.Set r) good = good
@@ -279,25 +317,38 @@ module _ (limit : ℕ) (text : List ℕ) (m : RobustModel) (low : 1 ≤ limit) (
   readable_one (parsed.Goal g) good = good
   readable_one (parsed.Row r) good = good
 
-  readable_all : (list : List Statement) → Each IsGood list → Each (AreReadable limit read.words read.known.sorts (naming_of m)) list
+  readable_all : (list : List Statement) → Each IsGood list
+      → Each (AreReadable limit read.known.sorts (naming_of m)) list
   readable_all [] good = tt
   readable_all (s ∷ list) good = (readable_one s good.0, readable_all list good.1)
 
-  readable_list : Each (AreReadable limit read.words read.known.sorts (naming_of m)) read.list
+  readable_list : Each (AreReadable limit read.known.sorts (naming_of m)) read.list
   readable_list =
       readable_all read.list
-      (all_good limit low (written_by limit text m read) (naming_of m) ps vs ys read.known (model_names limit text m read) (start (length read.words)) source read.list read.reads.follows)
+      (all_good limit low (written_by limit text m read) (naming_of m) ps vs ys read.known
+      (model_names limit text m read)
+      read.words (start (length read.words)) read.list (model_chain limit text m read))
 
   -- the canonical lines are those of what the statements write, and of their sets
   lines_are : lines_of m ≡ all_lines limit read.words read.known.sorts (naming_of m) read.list
   lines_are =
-      λ i. lines_with (naming_of m) (is_written limit text m read low i) (read.model_is i).sets (read.model_is i).line_sets (read.model_is i).objective_set (read.model_is i).row_sets
+      λ i. lines_with (naming_of m) (is_written limit text m read low i) (read.model_is i).sets
+      (read.model_is i).line_sets (read.model_is i).objective_set (read.model_is i).row_sets
 
   some_goal : IsSome (goal_in read.list)
-  some_goal = goal_there limit (start (length read.words)) source read.list read.known read.reads.follows read.reads.goal refl
+  some_goal =
+      goal_there limit read.words (start (length read.words)) read.list read.known (model_chain limit text m read)
+      read.reads.lines.goal refl
 
-  few : AreFew source
-  few = lines_few read.words text read.reads.tokens read.reads.are_tokens
+  -- they are all within limits, and end in sets
+  all_few : length (ended (map (line_of limit read.words read.known.sorts (naming_of m)) read.list)) ≤ most_tokens
+  all_few =
+      let words = read.words in
+      let chain = model_chain limit text m read in
+      read_few limit text words read.list read.known read.reads read.known.sorts (naming_of m)
+      (sets_from_one limit words read.list read.known chain)
+      (all_fit limit low words (start (length words)) read.list read.known chain) readable_list
+      (ends_in_sets limit text words read.list read.known read.reads)
 
   -- the canonical text has no more tokens than a text may have
   tokens_within : length (ended (lines_of m)) ≤ most_tokens
@@ -306,10 +357,9 @@ module _ (limit : ℕ) (text : List ℕ) (m : RobustModel) (low : 1 ≤ limit) (
       let names = naming_of m in
       omega (
         arith,
-        few.few,
+        all_few,
         ap (λ (x : List (List Written)). length (ended x)) lines_are,
         lines_counted limit read.words sorts names read.list some_goal,
-        said_counted limit read.words sorts names read.known (start (length read.words)) source read.list read.reads.follows readable_list,
       )
 
   -- its parentheses aren't too deep
@@ -319,12 +369,14 @@ module _ (limit : ℕ) (text : List ℕ) (m : RobustModel) (low : 1 ≤ limit) (
       let names = naming_of m in
       subst (Each (IsShallow 0)) (sym lines_are)
       (lines_deep limit read.words sorts names read.list some_goal
-      (said_deep limit read.words sorts names read.known (start (length read.words)) source read.list read.reads.follows readable_list few.shallow))
+      (read_shallow limit text read.words read.list read.known read.reads sorts names readable_list))
 
 -- the canonical text of a model that a text reads as has no more tokens than a text may have
-pub canonical_tokens : (limit : ℕ) (text : List ℕ) (m : RobustModel) → 1 ≤ limit → ReadsModel limit text m → length (ended (lines_of m)) ≤ most_tokens
+pub canonical_tokens : (limit : ℕ) (text : List ℕ) (m : RobustModel) → 1 ≤ limit → ReadsModel limit text m
+    → length (ended (lines_of m)) ≤ most_tokens
 canonical_tokens limit text m low read = tokens_within limit text m low read
 
 -- no line of it opens more parentheses than a line may have
-pub canonical_shallow : (limit : ℕ) (text : List ℕ) (m : RobustModel) → 1 ≤ limit → ReadsModel limit text m → Each (IsShallow 0) (lines_of m)
+pub canonical_shallow : (limit : ℕ) (text : List ℕ) (m : RobustModel) → 1 ≤ limit → ReadsModel limit text m
+    → Each (IsShallow 0) (lines_of m)
 canonical_shallow limit text m low read = lines_shallow limit text m low read

@@ -24,6 +24,7 @@ use Rattle.rob_parse.specs.Models.{set_at, set_number, lower_bound, upper_bound,
 use Rattle.rob_round_trip.specs.Pages.{symbols_on}
 use Rattle.rob_round_trip.specs.Readable.{IsBound, IsReadable, IsReadableMember, AreKnown}
 use Rattle.rob_syntax.specs.Statements.{spell_over, Sides, spell_optional, spell_rel, spell_sense, spell_member, spell_sides, relation_of as parsed_relation}
+use Rattle.rob_index.specs.Reading.{one}
 use Rattle.rob_syntax.specs.Symbols.{number_of, symbol_at}
 use Rattle.rob_syntax.specs.Trees.{tree_of}
 use Rattle.rob_round_trip.proofs.ReadBack.ExpressionText.{symbols_append, read_back}
@@ -59,7 +60,8 @@ relation_back model.at_most = refl
 relation_back model.at_least = refl
 relation_back model.equal = refl
 
-rel_word : (words : List (List ℕ)) (r : model.Relation) (rest : List Written) → symbols_on words (relation_word r ∷ rest) ≡ spell_rel (rel_of r) ∷ symbols_on words rest
+pub rel_word : (words : List (List ℕ)) (r : model.Relation) (rest : List Written)
+    → symbols_on words (relation_word r ∷ rest) ≡ spell_rel (rel_of r) ∷ symbols_on words rest
 rel_word words model.at_most rest = refl
 rel_word words model.at_least rest = refl
 rel_word words model.equal rest = refl
@@ -72,19 +74,23 @@ pub sense_back : (s : model.Sense) → sense_of (parsed_sense s) ≡ s
 sense_back model.minimise = refl
 sense_back model.maximise = refl
 
-pub sense_word : (words : List (List ℕ)) (s : model.Sense) (rest : List Written) → symbols_on words (goal_word s ∷ rest) ≡ spell_sense (parsed_sense s) ∷ symbols_on words rest
+pub sense_word : (words : List (List ℕ)) (s : model.Sense) (rest : List Written)
+    → symbols_on words (goal_word s ∷ rest) ≡ spell_sense (parsed_sense s) ∷ symbols_on words rest
 sense_word words model.minimise rest = refl
 sense_word words model.maximise rest = refl
 
 module _ (limit : ℕ) (small : limit < 2 ^ 62) (words : List (List ℕ)) where
-  pub bounds_back : (l u : Option Fraction) → IsBound limit l → IsBound limit u → symbols_on words (bound_words l u) ≡ spell_optional (bounds_of l u)
+  pub bounds_back : (l u : Option Fraction) → IsBound limit l → IsBound limit u
+      → symbols_on words (bound_words l u) ≡ spell_optional (bounds_of l u)
   bounds_back None None h k = refl
   bounds_back (Some l) None h k = ap (λ (x : List Symbol). Sign mark.AtLeast ∷ x) (signed_back limit words l small h)
   bounds_back None (Some u) h k = ap (λ (x : List Symbol). Sign mark.AtMost ∷ x) (signed_back limit words u small k)
   bounds_back (Some l) (Some u) h k =
       ap (λ (x : List Symbol). Reserved word.In ∷ Sign mark.OpenBracket ∷ x)
       (symbols_append words (number_words l) (sign mark.Comma ∷ (number_words u ++ sign mark.CloseBracket ∷ []))
-      ∙ (λ i. signed_back limit words l small h i ++ Sign mark.Comma ∷ (symbols_append words (number_words u) (sign mark.CloseBracket ∷ []) ∙ ap (λ (x : List Symbol). x ++ Sign mark.CloseBracket ∷ []) (signed_back limit words u small k)) i))
+      ∙ (λ i. signed_back limit words l small h i ++ Sign mark.Comma
+      ∷ (symbols_append words (number_words u) (sign mark.CloseBracket ∷ [])
+      ∙ ap (λ (x : List Symbol). x ++ Sign mark.CloseBracket ∷ []) (signed_back limit words u small k)) i))
 
   module _ (sorts : List (Option Sort)) (names : Naming) (known : AreKnown words sorts names) where
     -- ---- the set that a line answers to
@@ -99,20 +105,23 @@ module _ (limit : ℕ) (small : limit < 2 ^ 62) (words : List (List ℕ)) where
         let is = known.sets S (omega arith) in
         record {
           over = Some (number_of words (get_or names.sets S []));
-          spelled = ap (λ (l : List Symbol). Reserved word.Over ∷ l) (append-nil (symbol_at words kind.Word (get_or names.sets S [])) ∙ is.is_name);
+          spelled = ap (λ (l : List Symbol). Reserved word.Over ∷ l)
+              (append-nil (symbol_at one words kind.Word (get_or names.sets S [])) ∙ is.is_name);
           number_is = ap set_number is.sort_is;
         }
 
     -- ---- two sides
     pub record SidesBack (left : Expression) (relation : model.Relation) (right : Expression) (S : ℕ) : Type 0 where
       pub sides : Sides
-      pub spelled : symbols_on words (comparison_words names left relation right ++ over_words names.sets S) ≡ spell_sides sides
+      pub spelled : symbols_on words (comparison_words names left relation right ++ over_words names.sets S)
+          ≡ spell_sides sides
       pub left_is : expression sorts (tree_of (parsed_relation sides).left) ≡ left
       pub relation_is : relation_of (parsed_relation sides).rel ≡ relation
       pub right_is : expression sorts (tree_of (parsed_relation sides).right) ≡ right
       pub over_is : set_at sorts (parsed_relation sides).over ≡ S
 
-    pub sides_back : (left : Expression) (relation : model.Relation) (right : Expression) → IsReadable limit names left → IsReadable limit names right → (S : ℕ) → S < suc (length names.sets)
+    pub sides_back : (left : Expression) (relation : model.Relation) (right : Expression) → IsReadable limit names left
+        → IsReadable limit names right → (S : ℕ) → S < suc (length names.sets)
         → SidesBack left relation right S
     sides_back left relation right h k S some =
         let o = over_back S some in
@@ -122,10 +131,14 @@ module _ (limit : ℕ) (small : limit < 2 ^ 62) (words : List (List ℕ)) where
         record {
           sides = record { left = l.item; rel = rel_of relation; right = record { inner = r.item; over = o.over } };
           spelled =
-              ap (symbols_on words) (append_assoc (expression_words names left) (relation_word relation ∷ expression_words names right) end)
-              ∙ symbols_append words (expression_words names left) (relation_word relation ∷ (expression_words names right ++ end))
+              ap (symbols_on words)
+              (append_assoc (expression_words names left)
+              (relation_word relation ∷ expression_words names right) end)
+              ∙ symbols_append words (expression_words names left)
+              (relation_word relation ∷ (expression_words names right ++ end))
               ∙ (λ i. l.spelled i ++ (rel_word words relation (expression_words names right ++ end)
-              ∙ ap (λ (x : List Symbol). spell_rel (rel_of relation) ∷ x) (symbols_append words (expression_words names right) end ∙ (λ j. r.spelled j ++ o.spelled j))) i);
+              ∙ ap (λ (x : List Symbol). spell_rel (rel_of relation) ∷ x)
+              (symbols_append words (expression_words names right) end ∙ (λ j. r.spelled j ++ o.spelled j))) i);
           left_is = l.tree_is;
           relation_is = relation_back relation;
           right_is = r.tree_is;
@@ -136,23 +149,29 @@ module _ (limit : ℕ) (small : limit < 2 ^ 62) (words : List (List ℕ)) where
     abbrev pub parameter_name : ℕ → List ℕ
     parameter_name k = get_or names.parameters k []
 
-    pub name_back : (bytes : List ℕ) (rest : List Written) → symbol_at words kind.Word bytes ≡ Name (number_of words bytes) ∷ [] → symbols_on words (name bytes ∷ rest) ≡ Name (number_of words bytes) ∷ symbols_on words rest
+    pub name_back : (bytes : List ℕ) (rest : List Written)
+        → symbol_at one words kind.Word bytes ≡ Name (number_of words bytes) ∷ []
+        → symbols_on words (name bytes ∷ rest) ≡ Name (number_of words bytes) ∷ symbols_on words rest
     name_back bytes rest is = ap (λ (l : List Symbol). l ++ symbols_on words rest) is
 
     parameter_back : (k : ℕ) → k < length names.parameters → parameter_at sorts (number_of words (parameter_name k)) ≡ k
     parameter_back k h = ap parameter_number (known.parameters k h).sort_is
 
     -- items, each behind a comma
-    module _ {A B : Type 0} (write : A → List Written) (spell : B → List Symbol) (item : A → B) (P : A → Type 0) (back : (x : A) → P x → symbols_on words (write x) ≡ spell (item x)) where
-      pub more_back : (xs : List A) → Each P xs → symbols_on words (listed write false xs) ≡ spell_more spell (map item xs)
+    module _ {A B : Type 0} (write : A → List Written) (spell : B → List Symbol) (item : A → B) (P : A → Type 0)
+        (back : (x : A) → P x → symbols_on words (write x) ≡ spell (item x)) where
+      pub more_back : (xs : List A) → Each P xs
+          → symbols_on words (listed write false xs) ≡ spell_more spell (map item xs)
       more_back [] h = refl
       more_back (x ∷ xs) h =
           ap (λ (l : List Symbol). Sign mark.Comma ∷ l)
           (symbols_append words (write x) (listed write false xs) ∙ (λ i. back x h.0 i ++ more_back xs h.1 i))
 
-      pub list_back : (xs : List A) → Each P xs → symbols_on words (listed write true xs) ≡ spell_list spell (map item xs)
+      pub list_back : (xs : List A) → Each P xs
+          → symbols_on words (listed write true xs) ≡ spell_list spell (map item xs)
       list_back [] h = refl
-      list_back (x ∷ xs) h = symbols_append words (write x) (listed write false xs) ∙ (λ i. back x h.0 i ++ more_back xs h.1 i)
+      list_back (x ∷ xs) h =
+          symbols_append words (write x) (listed write false xs) ∙ (λ i. back x h.0 i ++ more_back xs h.1 i)
 
     -- ---- members of a budget
     abbrev pub member_of : model.Member → Member
@@ -161,12 +180,16 @@ module _ (limit : ℕ) (small : limit < 2 ^ 62) (words : List (List ℕ)) where
       spread = record { centre = signed_of h.centre; deviation = numeral_of h.deviation };
     }
 
-    pub member_spelled : (h : model.Member) → IsReadableMember limit names h → symbols_on words (member_words names h) ≡ spell_member (member_of h)
+    pub member_spelled : (h : model.Member) → IsReadableMember limit names h
+        → symbols_on words (member_words names h) ≡ spell_member (member_of h)
     member_spelled h is =
-        name_back (parameter_name h.parameter) (keyword word.At ∷ (number_words h.centre ++ keyword word.By ∷ number_words h.deviation)) (known.parameters h.parameter is.parameter).is_name
+        name_back (parameter_name h.parameter)
+        (keyword word.At ∷ (number_words h.centre ++ keyword word.By ∷ number_words h.deviation))
+        (known.parameters h.parameter is.parameter).is_name
         ∙ ap (λ (l : List Symbol). Name (number_of words (parameter_name h.parameter)) ∷ Reserved word.At ∷ l)
         (symbols_append words (number_words h.centre) (keyword word.By ∷ number_words h.deviation)
-        ∙ (λ i. signed_back limit words h.centre small is.centre i ++ Reserved word.By ∷ number_back limit words h.deviation small is.deviation.0 is.deviation.1 i))
+        ∙ (λ i. signed_back limit words h.centre small is.centre i ++ Reserved word.By
+        ∷ number_back limit words h.deviation small is.deviation.0 is.deviation.1 i))
 
     pub member_back : (h : model.Member) → IsReadableMember limit names h → member sorts (member_of h) ≡ h
     member_back h is = λ i. record {
@@ -175,10 +198,12 @@ module _ (limit : ℕ) (small : limit < 2 ^ 62) (words : List (List ℕ)) where
       deviation = fraction_back h.deviation is.deviation.1 i;
     }
 
-    pub members_back : (hs : List model.Member) → Each (IsReadableMember limit names) hs → map (member sorts) (map member_of hs) ≡ hs
+    pub members_back : (hs : List model.Member) → Each (IsReadableMember limit names) hs
+        → map (member sorts) (map member_of hs) ≡ hs
     members_back [] h = refl
     members_back (x ∷ hs) h = λ i. member_back x h.0 i ∷ members_back hs h.1 i
 
-    pub numbers_back : (ks : List ℕ) → Each (λ k. k < length names.parameters) ks → map (parameter_at sorts) (map (λ k. number_of words (parameter_name k)) ks) ≡ ks
+    pub numbers_back : (ks : List ℕ) → Each (λ k. k < length names.parameters) ks
+        → map (parameter_at sorts) (map (λ k. number_of words (parameter_name k)) ks) ≡ ks
     numbers_back [] h = refl
     numbers_back (k ∷ ks) h = λ i. parameter_back k h.0 i ∷ numbers_back ks h.1 i

@@ -1,5 +1,5 @@
 -- No line of a model's own parts has the word `over`.
-use Rattle.std.proofs.Common.{◌+◌, Bool, true, false, List, [], ◌∷◌, ◌++◌, map}
+use Rattle.std.proofs.Common.{Bool, true, false, List, [], ◌∷◌, ◌++◌, map}
 use Rattle.std.specs.Prelude.{◌==◌, Option, Some, None, if◌then◌else◌, int_lt, nat_abs, pos}
 use Rattle.rob_algebra.specs.Fraction.{Fraction}
 use Rattle.rob_meaning.proofs.EachLemmas.{each_append}
@@ -10,7 +10,6 @@ use Rattle.rob_meaning.specs.RobustModel.{AdaptiveVariable, Member, RobustModel,
 use Rattle.rob_syntax.specs.declared.symbol.Keyword.TheVariants as word
 use Rattle.rob_syntax.specs.declared.symbol.Mark.TheVariants as mark
 use Rattle.rob_write.specs.Canonical.{IsNotOver, Naming, Written, bound_words, comma, comparison_words, digits, divisor_words, enclosed, expression_words, factor_words, goal_word, is_compound, is_sum, keyword, lead, listed, member_words, minus_words, name_at, negative, number_words, paren, relation_word, sign, term_words, times, adaptive_words, lines_alone, naming_alone, parameter_words, row_words, set_words, variable_words}
-use Rattle.rob_rules.specs.Scopes.{behind}
 
 -- ---- no word `over` in them
 abbrev Quiet : List Written → Type 0
@@ -29,7 +28,8 @@ quiet_unless false w v a b = (a, (b, tt))
 
 quiet_number : (q : Fraction) → Quiet (number_words q)
 quiet_number q =
-    quiet_append (minus_words (int_lt q.num (pos 0))) (digits (nat_abs q.num) ∷ divisor_words q.den) (quiet_if (int_lt q.num (pos 0)) negative tt)
+    quiet_append (minus_words (int_lt q.num (pos 0))) (digits (nat_abs q.num) ∷ divisor_words q.den)
+    (quiet_if (int_lt q.num (pos 0)) negative tt)
     (tt, quiet_unless (q.den == 1) (sign mark.Slash) (digits q.den) tt tt)
 
 quiet_lead : (first minus : Bool) → Quiet (lead first minus)
@@ -50,7 +50,8 @@ quiet_enclosed b ws h =
     quiet_append (paren b mark.Open) (ws ++ paren b mark.Close) (quiet_if b (sign mark.Open) tt)
     (quiet_append ws (paren b mark.Close) h (quiet_if b (sign mark.Close) tt))
 
-quiet_listed : {A : Type 0} (words : A → List Written) → ((x : A) → Quiet (words x)) → (first : Bool) (xs : List A) → Quiet (listed words first xs)
+quiet_listed : {A : Type 0} (words : A → List Written) → ((x : A) → Quiet (words x)) → (first : Bool) (xs : List A)
+    → Quiet (listed words first xs)
 quiet_listed words each first [] = tt
 quiet_listed words each first (x ∷ xs) =
     quiet_append (comma first) (words x ++ listed words false xs) (quiet_comma first)
@@ -70,8 +71,14 @@ quiet_bounds None None = tt
 quiet_bounds (Some l) None = (tt, quiet_number l)
 quiet_bounds None (Some u) = (tt, quiet_number u)
 quiet_bounds (Some l) (Some u) =
-    let behind = quiet_append (number_words u) (sign mark.CloseBracket ∷ []) (quiet_number u) (tt, tt) in
-    (tt, (tt, quiet_append (number_words l) (sign mark.Comma ∷ (number_words u ++ sign mark.CloseBracket ∷ [])) (quiet_number l) (tt, behind)))
+    let behind = quiet_append (number_words u) (sign mark.CloseBracket ∷ []) (quiet_number u) (tt, tt) in (
+      tt,
+      (
+        tt,
+        quiet_append (number_words l) (sign mark.Comma ∷ (number_words u ++ sign mark.CloseBracket ∷ []))
+            (quiet_number l) (tt, behind),
+      ),
+    )
 
 module _ (names : Naming) where
   mutual
@@ -87,40 +94,51 @@ module _ (names : Naming) where
     quiet_terms : (first : Bool) (ts : Terms) → Quiet (term_words names first ts)
     quiet_terms first no_terms = tt
     quiet_terms first (term minus e ts) =
-        quiet_append (lead first minus) (enclosed (is_sum e) (expression_words names e) ++ term_words names false ts) (quiet_lead first minus)
+        quiet_append (lead first minus) (enclosed (is_sum e) (expression_words names e) ++ term_words names false ts)
+        (quiet_lead first minus)
         (quiet_append (enclosed (is_sum e) (expression_words names e)) (term_words names false ts)
         (quiet_enclosed (is_sum e) (expression_words names e) (quiet_expression e)) (quiet_terms false ts))
 
     quiet_factors : (first : Bool) (fs : Factors) → Quiet (factor_words names first fs)
     quiet_factors first no_factors = tt
     quiet_factors first (factor e fs) =
-        quiet_append (times first) (enclosed (is_compound e) (expression_words names e) ++ factor_words names false fs) (quiet_times first)
+        quiet_append (times first)
+        (enclosed (is_compound e) (expression_words names e) ++ factor_words names false fs) (quiet_times first)
         (quiet_append (enclosed (is_compound e) (expression_words names e)) (factor_words names false fs)
         (quiet_enclosed (is_compound e) (expression_words names e) (quiet_expression e)) (quiet_factors false fs))
 
   quiet_sides : (l : Expression) (r : model.Relation) (x : Expression) → Quiet (comparison_words names l r x)
-  quiet_sides l r x = quiet_append (expression_words names l) (relation_word r ∷ expression_words names x) (quiet_expression l) (quiet_relation r, quiet_expression x)
+  quiet_sides l r x =
+      quiet_append (expression_words names l) (relation_word r ∷ expression_words names x) (quiet_expression l)
+      (quiet_relation r, quiet_expression x)
 
   quiet_member : (h : Member) → Quiet (member_words names h)
   quiet_member h =
-      let spread = quiet_append (number_words h.centre) (keyword word.By ∷ number_words h.deviation) (quiet_number h.centre) (tt, quiet_number h.deviation) in
+      let spread =
+      quiet_append (number_words h.centre) (keyword word.By ∷ number_words h.deviation) (quiet_number h.centre)
+      (tt, quiet_number h.deviation) in
       (tt, (tt, spread))
 
   quiet_set : (c : SetLine) → Quiet (set_words names c)
   quiet_set (line l r x) = (tt, quiet_sides l r x)
-  quiet_set (budget limit hs) =
-      (tt, quiet_append (number_words limit) (sign mark.Colon ∷ listed (member_words names) true hs) (quiet_number limit) (tt, quiet_listed (member_words names) quiet_member true hs))
+  quiet_set (budget limit hs) = (
+    tt,
+    quiet_append (number_words limit) (sign mark.Colon ∷ listed (member_words names) true hs)
+        (quiet_number limit) (tt, quiet_listed (member_words names) quiet_member true hs),
+  )
 
   quiet_adaptive : (y : AdaptiveVariable) → Quiet (adaptive_words names y)
   quiet_adaptive y =
       let on = quiet_listed (λ k. name_at names.parameters k ∷ []) (λ k. (tt, tt)) true y.on in
-      let rest = quiet_append (listed (λ k. name_at names.parameters k ∷ []) true y.on) (sign mark.Close ∷ bound_words y.lower y.upper) on (tt, quiet_bounds y.lower y.upper) in
+      let rest = quiet_append (listed (λ k. name_at names.parameters k ∷ []) true y.on)
+      (sign mark.Close ∷ bound_words y.lower y.upper) on (tt, quiet_bounds y.lower y.upper) in
       (tt, (tt, (tt, rest)))
 
   quiet_row : (r : Row) → Quiet (row_words names r)
   quiet_row r = (tt, (tt, (tt, quiet_sides r.left r.relation r.right)))
 
-quiet_map : {A : Type 0} (words : A → List Written) → ((x : A) → Quiet (words x)) → (xs : List A) → Each Quiet (map words xs)
+quiet_map : {A : Type 0} (words : A → List Written) → ((x : A) → Quiet (words x)) → (xs : List A)
+    → Each Quiet (map words xs)
 quiet_map words each [] = tt
 quiet_map words each (x ∷ xs) = (each x, quiet_map words each xs)
 

@@ -1,31 +1,22 @@
 -- A text without the word `over`, and a model without named sets: nothing is taken in a set, and no line ends in one.
-use Rattle.std.proofs.Common.{◌≡◌, ◌≢◌, ℕ, suc, ◌+◌, ◌*◌, ◌/◌, ◌<◌, List, [], ◌∷◌, ◌++◌, length, map, take, refl, sym, ap, ◌∙◌, subst, arith, append-nil, zero-mul, div-one}
-use Rattle.std.specs.Prelude.{Option, Some, None}
+use Rattle.std.proofs.Common.{◌≡◌, ℕ, suc, ◌+◌, ◌*◌, ◌/◌, ◌<◌, List, [], ◌∷◌, ◌++◌, length, map, take, refl, sym, ap, ◌∙◌, subst, arith, append-nil, zero-mul, div-one}
+use Rattle.std.specs.Prelude.{Option, None}
 use Rattle.std.specs.List.{flat_map}
-use Rattle.rob_meaning.proofs.EachLemmas.{each_right}
 use Rattle.rob_meaning.specs.Expressions.{Expression, Terms, Factors, number, parameter, variable, adaptive, adaptive_in, sum, product, no_terms, term, no_factors, factor}
 use Rattle.rob_meaning.specs.JointMeaning.{HasOneSet}
 use Rattle.rob_meaning.specs.Places.{Each}
 use Rattle.rob_meaning.specs.RobustModel as model
 use Rattle.rob_meaning.specs.RobustModel.{AdaptiveVariable, Member, Parameter, RobustModel, Row, SetLine, budget, line, set_count, written_count, written_parameters}
 use Rattle.rob_rules.specs.declared.sort.Sort.{Sort}
-use Rattle.rob_syntax.specs.declared.symbol.Keyword.TheVariants as word
-use Rattle.rob_syntax.specs.declared.symbol.Symbol.{Symbol}
-use Rattle.rob_syntax.specs.declared.symbol.Symbol.TheVariants.{Reserved, Sign}
-use Rattle.rob_syntax.specs.declared.symbol.Mark.TheVariants as mark
 use Rattle.rob_syntax.specs.declared.syntax.Statement.{Statement}
 use Rattle.rob_syntax.specs.declared.syntax.Statement.TheVariants as parsed
 use Rattle.rob_write.specs.Canonical.{Written, adaptive_words, declared_set_words, goal_words, lines_alone, lines_of, lines_over, naming_alone, naming_of, over_words, parameter_words, row_words, set_words, variable_words, written_model}
-use Rattle.rob_syntax.specs.Grammar.{spell_expr, spell_number}
-use Rattle.rob_syntax.specs.Lists.{spell_more}
 use Rattle.rob_parse.specs.Modelled.{HasNoOver, NamesNoSet, ReadsModel, written_alone}
 use Rattle.rob_parse.specs.Models.{each_taken, factors_taken, goal_in, in_sets, line_sets, line_taken, member_taken, model_of, objective_set, row_sets, row_taken, rows, set_at, set_lines, sets, taken, terms_taken, written_of}
 use Rattle.rob_round_trip.specs.Readable.{IsPlaced}
-use Rattle.rob_rules.specs.Reading.{Follows, Reads}
-use Rattle.rob_rules.specs.Scopes.{Earlier, behind, start}
-use Rattle.rob_syntax.specs.Statements.{IsStatement, Line, Sides, spell_line, spell_member, spell_over, spell_rel, spell_sides, statement_of}
-use Rattle.rob_syntax.specs.Statements as line
-use Rattle.rob_syntax.specs.Symbols.{lines_of as symbol_lines}
+use Rattle.rob_round_trip.proofs.WithoutSets.QuietTexts.{quiet_statements}
+use Rattle.rob_syntax.specs.Symbols.{words_of}
+use Rattle.rob_syntax.specs.Versions.{text_lines}
 
 -- ---- what is taken in the default set stays as it is
 module _ (p : ℕ) where
@@ -64,7 +55,8 @@ module _ (p : ℕ) where
   abbrev AreDefault : List ℕ → Type 0
   AreDefault Ss = Each (λ S. S < 1) Ss
 
-  each_default : {A : Type 0} (take : ℕ → A → A) → ((x : A) → take 0 x ≡ x) → (xs : List A) (Ss : List ℕ) → AreDefault Ss → each_taken take xs Ss ≡ xs
+  each_default : {A : Type 0} (take : ℕ → A → A) → ((x : A) → take 0 x ≡ x) → (xs : List A) (Ss : List ℕ)
+      → AreDefault Ss → each_taken take xs Ss ≡ xs
   each_default take same [] Ss h = refl
   each_default take same (x ∷ xs) [] h = refl
   each_default take same (x ∷ xs) (S ∷ Ss) h =
@@ -72,8 +64,10 @@ module _ (p : ℕ) where
       λ i. (ap (λ (T : ℕ). take T x) none ∙ same x) i ∷ each_default take same xs Ss h.1 i
 
 -- a model over written parameters is itself in no named sets
-pub in_no_sets : (w : RobustModel) (of_lines of_rows : List ℕ) (of_objective : ℕ) → Each (λ S. S < 1) of_lines → of_objective < 1 → Each (λ S. S < 1) of_rows
-    → in_sets w [] of_lines of_objective of_rows ≡ record w { sets = []; line_sets = of_lines; objective_set = of_objective; row_sets = of_rows }
+pub in_no_sets : (w : RobustModel) (of_lines of_rows : List ℕ) (of_objective : ℕ) → Each (λ S. S < 1) of_lines
+    → of_objective < 1 → Each (λ S. S < 1) of_rows
+    → in_sets w [] of_lines of_objective of_rows
+    ≡ record w { sets = []; line_sets = of_lines; objective_set = of_objective; row_sets = of_rows }
 in_no_sets w of_lines of_rows of_objective lines objective rows =
     let p = length w.parameters in
     let none : of_objective ≡ 0 = omega (arith, objective) in
@@ -104,7 +98,8 @@ module _ (words : List (List ℕ)) (sorts : List (Option Sort)) where
   no_sets (parsed.Goal g ∷ list) h = no_sets list h.1
   no_sets (parsed.Row r ∷ list) h = no_sets list h.1
 
-  lines_default : (list : List Statement) → Each NamesNoSet list → flat_map (line_sets sorts) list ≡ map (λ c. 0) (flat_map (set_lines sorts) list)
+  lines_default : (list : List Statement) → Each NamesNoSet list
+      → flat_map (line_sets sorts) list ≡ map (λ c. 0) (flat_map (set_lines sorts) list)
   lines_default [] h = refl
   lines_default (parsed.Set r ∷ list) h = λ i. no_set sorts r.over h.0 i ∷ lines_default list h.1 i
   lines_default (parsed.Budget b ∷ list) h = λ i. no_set sorts b.over h.0 i ∷ lines_default list h.1 i
@@ -115,7 +110,8 @@ module _ (words : List (List ℕ)) (sorts : List (Option Sort)) where
   lines_default (parsed.Goal g ∷ list) h = lines_default list h.1
   lines_default (parsed.Row r ∷ list) h = lines_default list h.1
 
-  rows_default : (list : List Statement) → Each NamesNoSet list → flat_map (row_sets sorts) list ≡ map (λ r. 0) (flat_map (rows words sorts) list)
+  rows_default : (list : List Statement) → Each NamesNoSet list
+      → flat_map (row_sets sorts) list ≡ map (λ r. 0) (flat_map (rows words sorts) list)
   rows_default [] h = refl
   rows_default (parsed.Row r ∷ list) h = λ i. no_set sorts r.relation.over h.0 i ∷ rows_default list h.1 i
   rows_default (parsed.Over k ∷ list) h = absurd h.0
@@ -155,61 +151,25 @@ module _ (words : List (List ℕ)) (sorts : List (Option Sort)) where
   zeros_small (x ∷ xs) = (omega arith, zeros_small xs)
 
   -- the law: their model is what they write
-  pub model_alone : (list : List Statement) → Each NamesNoSet list → model_of words sorts list ≡ written_alone words sorts list
+  pub model_alone : (list : List Statement) → Each NamesNoSet list
+      → model_of words sorts list ≡ written_alone words sorts list
   model_alone list h =
       let w = written_of words sorts list in
       (λ i. in_sets w (no_sets list h i) (lines_default list h i) (goal_default list h i) (rows_default list h i))
-      ∙ in_no_sets w (map (λ c. 0) w.set_lines) (map (λ r. 0) w.rows) 0 (zeros_small w.set_lines) (omega arith) (zeros_small w.rows)
+      ∙ in_no_sets w (map (λ c. 0) w.set_lines) (map (λ r. 0) w.rows) 0 (zeros_small w.set_lines)
+      (omega arith) (zeros_small w.rows)
 
--- ---- the statements of a text without the word
-none_at_end : (o : Option ℕ) → Each (λ (s : Symbol). s ≢ Reserved word.Over) (spell_over o) → o ≡ None
-none_at_end None h = refl
-none_at_end (Some k) h = absurd (h.0 refl)
-
-none_in_sides : (s : Sides) → Each (λ (x : Symbol). x ≢ Reserved word.Over) (spell_sides s) → s.right.over ≡ None
-none_in_sides s h =
-    let P : Symbol → Type 0 = λ x. x ≢ Reserved word.Over in
-    let right = each_right P (spell_expr s.left) (spell_rel s.rel ∷ (spell_expr s.right.inner ++ spell_over s.right.over)) h in
-    none_at_end s.right.over (each_right P (spell_expr s.right.inner) (spell_over s.right.over) right.1)
-
-no_over_line : (l : Line) → Each (λ (x : Symbol). x ≢ Reserved word.Over) (spell_line l) → NamesNoSet (statement_of l)
-no_over_line (line.over k) h = h.0 refl
-no_over_line (line.uncertain d) h = refl
-no_over_line (line.set s) h = none_in_sides s h.1
-no_over_line (line.budget b) h =
-    let P : Symbol → Type 0 = λ x. x ≢ Reserved word.Over in
-    let members = spell_member b.members.first ++ spell_more spell_member b.members.more in
-    let shares = each_right P (spell_number b.limit) (Sign mark.Colon ∷ (members ++ spell_over b.members.over)) h.1 in
-    none_at_end b.members.over (each_right P members (spell_over b.members.over) shares.1)
-no_over_line (line.variable d) h = refl
-no_over_line (line.adaptive p) h = refl
-no_over_line (line.goal sense e) h = none_at_end e.over (each_right (λ (x : Symbol). x ≢ Reserved word.Over) (spell_expr e.inner) (spell_over e.over) h.1)
-no_over_line (line.row t) h = none_in_sides t.sides h.1.1.1
-
-no_over : (symbols : List Symbol) (s : Statement) → IsStatement symbols s → Each (λ (x : Symbol). x ≢ Reserved word.Over) symbols → NamesNoSet s
-no_over symbols s is h = subst NamesNoSet is.statement_is (no_over_line is.line (subst (Each (λ (x : Symbol). x ≢ Reserved word.Over)) is.spelled h))
-
-no_over_follows : (limit : ℕ) (e : Earlier) (lines : List (List Symbol)) (list : List Statement) (f : Earlier) → Follows limit e lines list f → HasNoOver lines
-    → Each NamesNoSet list
-no_over_follows limit e [] [] f follows h = tt
-no_over_follows limit e [] (s ∷ list) f follows h = absurd follows
-no_over_follows limit e ([] ∷ lines) list f follows h = no_over_follows limit e lines list f follows h.1
-no_over_follows limit e ((x ∷ symbols) ∷ lines) [] f follows h = absurd follows
-no_over_follows limit e ((x ∷ symbols) ∷ lines) (s ∷ list) f follows h =
-    (no_over (x ∷ symbols) s follows.0 h.0, no_over_follows limit (behind e s) lines list f follows.2 h.1)
-
-pub statements_alone : (limit : ℕ) (text : List ℕ) (words : List (List ℕ)) (list : List Statement) (known : Earlier) (read : Reads limit text words list known)
-    → HasNoOver (symbol_lines text words read.tokens) → Each NamesNoSet list
-statements_alone limit text words list e read h = no_over_follows limit (start (length words)) (symbol_lines text words read.tokens) list e read.follows h
-
-pub one_set : (limit : ℕ) (text : List ℕ) (m : RobustModel) (read : ReadsModel limit text m) → HasNoOver (symbol_lines text read.words read.reads.tokens)
-    → HasOneSet m
+-- ---- a text without the word
+pub one_set : (limit : ℕ) (text : List ℕ) (m : RobustModel) (read : ReadsModel limit text m)
+    → HasNoOver (text_lines text (words_of text read.reads.tokens) read.reads.tokens) → HasOneSet m
 one_set limit text m read h =
     subst HasOneSet (sym read.model_is)
-    (one_set_of read.words read.known.sorts read.list (statements_alone limit text read.words read.list read.known read.reads h))
+    (one_set_of read.words read.known.sorts read.list
+    (quiet_statements limit text read.words read.list read.known read.reads h))
 
 -- ---- the canonical lines of a model that names no set
-lines_end : {A : Type 0} (words : A → List Written) (sets : List (List ℕ)) (xs : List A) (Ss : List ℕ) → Each (λ S. S < 1) Ss → lines_over words sets xs Ss ≡ map words xs
+lines_end : {A : Type 0} (words : A → List Written) (sets : List (List ℕ)) (xs : List A) (Ss : List ℕ)
+    → Each (λ S. S < 1) Ss → lines_over words sets xs Ss ≡ map words xs
 lines_end words sets [] Ss h = refl
 lines_end words sets (x ∷ xs) [] h = λ i. append-nil (words x) i ∷ lines_end words sets xs [] h i
 lines_end words sets (x ∷ xs) (S ∷ Ss) h =
@@ -256,13 +216,18 @@ module _ (m : RobustModel) (alone : m.sets ≡ []) (placed : IsPlaced m) where
     adaptives = map (λ (y : AdaptiveVariable). y.name) m.adaptives;
   }
 
-  sets_alone : lines_over (set_words (naming_of m)) m.sets w.set_lines m.line_sets ≡ map (set_words (naming_alone m)) m.set_lines
-  sets_alone = lines_end (set_words (naming_of m)) m.sets w.set_lines m.line_sets of_lines ∙ (λ i. map (set_words (naming i)) (ap (λ (x : RobustModel). x.set_lines) same i))
+  sets_alone : lines_over (set_words (naming_of m)) m.sets w.set_lines m.line_sets
+      ≡ map (set_words (naming_alone m)) m.set_lines
+  sets_alone = lines_end (set_words (naming_of m)) m.sets w.set_lines m.line_sets of_lines
+      ∙ (λ i. map (set_words (naming i)) (ap (λ (x : RobustModel). x.set_lines) same i))
 
   rows_alone : lines_over (row_words (naming_of m)) m.sets w.rows m.row_sets ≡ map (row_words (naming_alone m)) m.rows
-  rows_alone = lines_end (row_words (naming_of m)) m.sets w.rows m.row_sets of_rows ∙ (λ i. map (row_words (naming i)) (ap (λ (x : RobustModel). x.rows) same i))
+  rows_alone =
+      lines_end (row_words (naming_of m)) m.sets w.rows m.row_sets of_rows
+      ∙ (λ i. map (row_words (naming i)) (ap (λ (x : RobustModel). x.rows) same i))
 
-  goal_alone : goal_words (naming_of m) m.sense w.objective ++ over_words m.sets m.objective_set ≡ goal_words (naming_alone m) m.sense m.objective
+  goal_alone : goal_words (naming_of m) m.sense w.objective ++ over_words m.sets m.objective_set
+      ≡ goal_words (naming_alone m) m.sense m.objective
   goal_alone =
       let none : m.objective_set ≡ 0 = omega (arith, of_objective) in
       ap (λ (S : ℕ). goal_words (naming_of m) m.sense w.objective ++ over_words m.sets S) none

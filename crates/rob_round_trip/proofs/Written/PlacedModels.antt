@@ -1,4 +1,5 @@
--- A model that a text reads as: what it has written is what its statements write, and each part of it is taken in its set.
+-- A model that a text reads as: what it has written is what its statements
+-- write, and each part of it is taken in its set.
 use Rattle.std.proofs.Common.{◌≡◌, ℕ, suc, ◌<◌, ◌≤◌, List, length, refl, sym, ap, ◌∙◌, subst}
 use Rattle.std.specs.List.{flat_map}
 use Rattle.rob_meaning.specs.Places.{Each}
@@ -29,23 +30,32 @@ module _ (limit : ℕ) (text : List ℕ) (m : RobustModel) (read : ReadsModel li
   pub is_written : 1 ≤ limit → written_model m ≡ written_by limit text m read
   is_written low =
       ap written_model read.model_is
-      ∙ written_is (written_by limit text m read) refl names of_lines of_objective of_rows (well_formed_written limit text m low read)
-      (lines_beside read.words read.known.sorts read.list) (rows_beside read.words read.known.sorts read.list) refl refl refl
+      ∙ written_is (written_by limit text m read) refl names of_lines of_objective of_rows
+      (well_formed_written limit text m low read)
+      (lines_beside read.words read.known.sorts read.list)
+      (rows_beside read.words read.known.sorts read.list) refl refl refl
 
   pub is_placed : 1 ≤ limit → IsPlaced m
   is_placed low = record {
     taken_is =
-        (λ i. in_sets (is_written low i) (read.model_is i).sets (read.model_is i).line_sets (read.model_is i).objective_set (read.model_is i).row_sets)
+        (λ i. in_sets (is_written low i) (read.model_is i).sets (read.model_is i).line_sets
+        (read.model_is i).objective_set (read.model_is i).row_sets)
         ∙ sym read.model_is;
     line_sets =
         ap (λ (x : RobustModel). length x.line_sets) read.model_is ∙ lines_beside read.words read.known.sorts read.list
-        ∙ sym (length-each_taken (line_taken (length (written_by limit text m read).parameters)) (written_by limit text m read).set_lines of_lines)
+        ∙ sym (length-each_taken (line_taken (length (written_by limit text m read).parameters))
+        (written_by limit text m read).set_lines of_lines)
         ∙ ap (λ (x : RobustModel). length x.set_lines) (sym read.model_is);
     row_sets =
         ap (λ (x : RobustModel). length x.row_sets) read.model_is ∙ rows_beside read.words read.known.sorts read.list
-        ∙ sym (length-each_taken (row_taken (length (written_by limit text m read).parameters)) (written_by limit text m read).rows of_rows)
+        ∙ sym (length-each_taken (row_taken (length (written_by limit text m read).parameters))
+        (written_by limit text m read).rows of_rows)
         ∙ ap (λ (x : RobustModel). length x.rows) (sym read.model_is);
-    of_lines = subst (λ (x : RobustModel). Each (λ S. S < suc (length x.sets)) x.line_sets) (sym read.model_is) (of_lines_there limit text m read);
-    of_objective = subst (λ (x : RobustModel). x.objective_set < suc (length x.sets)) (sym read.model_is) (of_objective_there limit text m read);
-    of_rows = subst (λ (x : RobustModel). Each (λ S. S < suc (length x.sets)) x.row_sets) (sym read.model_is) (of_rows_there limit text m read);
+    of_lines = subst (λ (x : RobustModel). Each (λ S. S < suc (length x.sets)) x.line_sets) (sym read.model_is)
+        (of_lines_there limit text m read);
+    of_objective =
+        subst (λ (x : RobustModel). x.objective_set < suc (length x.sets)) (sym read.model_is)
+        (of_objective_there limit text m read);
+    of_rows = subst (λ (x : RobustModel). Each (λ S. S < suc (length x.sets)) x.row_sets) (sym read.model_is)
+        (of_rows_there limit text m read);
   }

@@ -24,7 +24,7 @@ use Rattle.rob_round_trip.specs.Readable.{IsPlainNumber, IsBound, IsReadable, Te
 use Rattle.rob_syntax.specs.Trees.{Tree, number, name, sum, product, Summands, no_summands, summand, Operands, no_operands, operand}
 use Rattle.rob_parse.proofs.Degrees.DegreeLemmas.{EachName, EachSummand, EachOperand, Stands}
 use Rattle.rob_parse.proofs.Degrees.NumberLemmas.{pair_fits}
-use Rattle.rob_round_trip.proofs.Written.RealTrees.{IsReal, AreReal, OperandsReal, IsLongSum, IsLongProduct}
+use Rattle.rob_rules.specs.RealTrees.{IsReal, AreReal, OperandsReal, IsLongSum, IsLongProduct}
 use Rattle.rob_parse.proofs.Names.SortLemmas.{Names}
 
 -- ---- numbers
@@ -37,12 +37,18 @@ pair_plain n zero = refl
 pair_plain n (suc k) = not_below _
 
 pub plain_number : (limit : ℕ) (n : Numeral) → FitsNumber limit n → IsPlainNumber limit (fraction n)
-plain_number limit n fits = (pair_fits limit n.numerator (unwrap_or n.divisor 1) fits.positive fits.numerator fits.divisor, pair_plain n.numerator (unwrap_or n.divisor 1))
+plain_number limit n fits = (
+  pair_fits limit n.numerator (unwrap_or n.divisor 1) fits.positive fits.numerator fits.divisor,
+  pair_plain n.numerator (unwrap_or n.divisor 1),
+)
 
 negated : (limit : ℕ) (x : Fraction) → Fits limit x → Fits limit (neg_ℚ x)
 negated limit x fits =
     let p = neg_parts x in
-    record { num_fits = omega (arith, ints, fits.num_fits, ap nat_abs p.0); den_fits = omega (arith, fits.den_fits, p.1) }
+    record {
+      num_fits = omega (arith, ints, fits.num_fits, ap nat_abs p.0);
+      den_fits = omega (arith, fits.den_fits, p.1);
+    }
 
 pub signed_number : (limit : ℕ) (s : Signed) → FitsNumber limit s.number → Fits limit (signed_fraction s)
 signed_number limit s fits = go s.minus
@@ -64,9 +70,11 @@ upper_fits limit (Some (AtLeast a)) fits = tt
 upper_fits limit (Some (AtMost b)) fits = signed_number limit b fits
 
 -- ---- expressions
-module _ (limit : ℕ) (m : RobustModel) (names : Naming) (ps : length names.parameters ≡ length m.parameters) (vs : length names.variables ≡ length m.variables)
+module _ (limit : ℕ) (m : RobustModel) (names : Naming) (ps : length names.parameters ≡ length m.parameters)
+    (vs : length names.variables ≡ length m.variables)
     (ys : length names.adaptives ≡ length m.adaptives) (sorts before : List (Option Sort)) where
-  named_readable : (o : Option Sort) → is_usable o ≡ true → Names (length m.parameters) (length m.variables) m.adaptives o → IsReadable limit names (named o)
+  named_readable : (o : Option Sort) → is_usable o ≡ true
+      → Names (length m.parameters) (length m.variables) m.adaptives o → IsReadable limit names (named o)
   named_readable (Some (Parameter j)) usable there = omega (arith, there, ps)
   named_readable (Some (Decision j)) usable there = omega (arith, there, vs)
   named_readable (Some (Policy j depends)) usable there = omega (arith, there.0, ys)
@@ -86,17 +94,23 @@ module _ (limit : ℕ) (m : RobustModel) (names : Naming) (ps : length names.par
   long_product (operand f (operand g gs)) h = tt
 
   mutual
-    pub readable_tree : (t : Tree) → FitsTree limit t → IsReal t → EachName (Stands m sorts before) t → IsReadable limit names (expression sorts t)
+    pub readable_tree : (t : Tree) → FitsTree limit t → IsReal t → EachName (Stands m sorts before) t
+        → IsReadable limit names (expression sorts t)
     readable_tree (number n) fits real stands = plain_number limit n fits
     readable_tree (name k) fits real stands =
-        subst (λ (o : Option Sort). IsReadable limit names (named o)) (sym stands.0) (named_readable (sort_at before k) stands.1 stands.2)
+        subst (λ (o : Option Sort). IsReadable limit names (named o)) (sym stands.0)
+        (named_readable (sort_at before k) stands.1 stands.2)
     readable_tree (sum ts) fits real stands = (long_sum ts real.0, readable_summands ts fits real.1 stands)
     readable_tree (product fs) fits real stands = (long_product fs real.0, readable_operands fs fits real.1 stands)
 
-    readable_summands : (ts : Summands) → FitsSummands limit ts → AreReal ts → EachSummand (Stands m sorts before) ts → TermsReadable limit names (terms sorts ts)
+    readable_summands : (ts : Summands) → FitsSummands limit ts → AreReal ts → EachSummand (Stands m sorts before) ts
+        → TermsReadable limit names (terms sorts ts)
     readable_summands no_summands fits real stands = tt
-    readable_summands (summand minus t ts) fits real stands = (readable_tree t fits.0 real.0 stands.0, readable_summands ts fits.1 real.1 stands.1)
+    readable_summands (summand minus t ts) fits real stands =
+        (readable_tree t fits.0 real.0 stands.0, readable_summands ts fits.1 real.1 stands.1)
 
-    readable_operands : (fs : Operands) → FitsOperands limit fs → OperandsReal fs → EachOperand (Stands m sorts before) fs → FactorsReadable limit names (factors sorts fs)
+    readable_operands : (fs : Operands) → FitsOperands limit fs → OperandsReal fs
+        → EachOperand (Stands m sorts before) fs → FactorsReadable limit names (factors sorts fs)
     readable_operands no_operands fits real stands = tt
-    readable_operands (operand f fs) fits real stands = (readable_tree f fits.0 real.0 stands.0, readable_operands fs fits.1 real.1 stands.1)
+    readable_operands (operand f fs) fits real stands =
+        (readable_tree f fits.0 real.0 stands.0, readable_operands fs fits.1 real.1 stands.1)

@@ -28,37 +28,67 @@ abbrev spell_between : Led (the_word word.In) (λ m n e. refl) spell_inside → 
 spell_between = spell_led (the_word word.In) (λ m n e. refl) spell_inside
 
 inside_settled : (symbols : List Symbol) → Settled spell_inside (Stops goes_on_number) symbols
-inside_settled symbols = led_settled (the_sign mark.OpenBracket) (λ m n e. refl) spell_interval (Stops goes_on_number) symbols (sign_marked mark.OpenBracket is_open_bracket symbols) interval_settled
+inside_settled symbols =
+    led_settled (the_sign mark.OpenBracket) (λ m n e. refl) spell_interval (Stops goes_on_number) symbols
+    (sign_marked mark.OpenBracket is_open_bracket symbols) interval_settled
 
 module _ (symbols : List Symbol) where
   least_found : Seen spell_least (Stops goes_on_number) symbols → Settled spell_bounds (Stops goes_on_number) symbols
-  least_found s = inl (record { rest = s.rest; item = AtLeast s.item.part; found = record { spelled = s.found.spelled; only = only } })
+  least_found s =
+      inl (record {
+        rest = s.rest;
+        item = AtLeast s.item.part;
+        found = record { spelled = s.found.spelled; only = only };
+      })
     where
-      only : (other : Bounds) (end : List Symbol) → symbols ≡ spell_bounds other ++ end → Stops goes_on_number end → (other ≡ AtLeast s.item.part) × (end ≡ s.rest)
-      only (AtLeast a) end same stop = let o = s.found.only (record { lead = tt; part = a }) end same stop in (ap (λ (l : Led (the_sign mark.AtLeast) (λ m n e. refl) spell_signed). AtLeast l.part) o.0, o.1)
+      only : (other : Bounds) (end : List Symbol) → symbols ≡ spell_bounds other ++ end → Stops goes_on_number end
+          → (other ≡ AtLeast s.item.part) × (end ≡ s.rest)
+      only (AtLeast a) end same stop =
+          let o = s.found.only (record { lead = tt; part = a }) end same stop in
+          (ap (λ (l : Led (the_sign mark.AtLeast) (λ m n e. refl) spell_signed). AtLeast l.part) o.0, o.1)
       only (AtMost b) end same stop = let e = s.found.spelled in cc
       only (Between b) end same stop = let e = s.found.spelled in cc
 
   most_found : Seen spell_most (Stops goes_on_number) symbols → Settled spell_bounds (Stops goes_on_number) symbols
-  most_found s = inl (record { rest = s.rest; item = AtMost s.item.part; found = record { spelled = s.found.spelled; only = only } })
+  most_found s =
+      inl (record {
+        rest = s.rest;
+        item = AtMost s.item.part;
+        found = record { spelled = s.found.spelled; only = only };
+      })
     where
-      only : (other : Bounds) (end : List Symbol) → symbols ≡ spell_bounds other ++ end → Stops goes_on_number end → (other ≡ AtMost s.item.part) × (end ≡ s.rest)
-      only (AtMost a) end same stop = let o = s.found.only (record { lead = tt; part = a }) end same stop in (ap (λ (l : Led (the_sign mark.AtMost) (λ m n e. refl) spell_signed). AtMost l.part) o.0, o.1)
+      only : (other : Bounds) (end : List Symbol) → symbols ≡ spell_bounds other ++ end → Stops goes_on_number end
+          → (other ≡ AtMost s.item.part) × (end ≡ s.rest)
+      only (AtMost a) end same stop =
+          let o = s.found.only (record { lead = tt; part = a }) end same stop in
+          (ap (λ (l : Led (the_sign mark.AtMost) (λ m n e. refl) spell_signed). AtMost l.part) o.0, o.1)
       only (AtLeast b) end same stop = let e = s.found.spelled in cc
       only (Between b) end same stop = let e = s.found.spelled in cc
 
-  between_found : Seen spell_between (Stops goes_on_number) symbols → Settled spell_bounds (Stops goes_on_number) symbols
-  between_found s = inl (record { rest = s.rest; item = Between s.item.part.part; found = record { spelled = s.found.spelled; only = only } })
+  between_found : Seen spell_between (Stops goes_on_number) symbols
+      → Settled spell_bounds (Stops goes_on_number) symbols
+  between_found s =
+      inl (record {
+        rest = s.rest;
+        item = Between s.item.part.part;
+        found = record { spelled = s.found.spelled; only = only };
+      })
     where
-      only : (other : Bounds) (end : List Symbol) → symbols ≡ spell_bounds other ++ end → Stops goes_on_number end → (other ≡ Between s.item.part.part) × (end ≡ s.rest)
-      only (Between a) end same stop = let o = s.found.only (record { lead = tt; part = record { lead = tt; part = a } }) end same stop in (ap (λ (l : Led (the_word word.In) (λ m n e. refl) spell_inside). Between l.part.part) o.0, o.1)
+      only : (other : Bounds) (end : List Symbol) → symbols ≡ spell_bounds other ++ end → Stops goes_on_number end
+          → (other ≡ Between s.item.part.part) × (end ≡ s.rest)
+      only (Between a) end same stop =
+          let o = s.found.only (record { lead = tt; part = record { lead = tt; part = a } }) end same stop in
+          (ap (λ (l : Led (the_word word.In) (λ m n e. refl) spell_inside). Between l.part.part) o.0, o.1)
       only (AtLeast b) end same stop = let e = s.found.spelled in cc
       only (AtMost b) end same stop = let e = s.found.spelled in cc
 
-  bounds_missing : MissingAs spell_least (Stops goes_on_number) symbols → MissingAs spell_most (Stops goes_on_number) symbols → MissingAs spell_between (Stops goes_on_number) symbols → MissingAs spell_bounds (Stops goes_on_number) symbols
+  bounds_missing : MissingAs spell_least (Stops goes_on_number) symbols
+      → MissingAs spell_most (Stops goes_on_number) symbols → MissingAs spell_between (Stops goes_on_number) symbols
+      → MissingAs spell_bounds (Stops goes_on_number) symbols
   bounds_missing least most between (AtLeast a) end same stop = least (record { lead = tt; part = a }) end same stop
   bounds_missing least most between (AtMost a) end same stop = most (record { lead = tt; part = a }) end same stop
-  bounds_missing least most between (Between a) end same stop = between (record { lead = tt; part = record { lead = tt; part = a } }) end same stop
+  bounds_missing least most between (Between a) end same stop =
+      between (record { lead = tt; part = record { lead = tt; part = a } }) end same stop
 
   pub bounds_settled : Settled spell_bounds (Stops goes_on_number) symbols
   bounds_settled =
@@ -68,9 +98,12 @@ module _ (symbols : List Symbol) where
       (λ (no_most : MissingAs spell_most (Stops goes_on_number) symbols).
       ⊎_elim (λ (s : Seen spell_between (Stops goes_on_number) symbols). between_found s)
       (λ (none : MissingAs spell_between (Stops goes_on_number) symbols). inr (bounds_missing no_least no_most none))
-      (led_settled (the_word word.In) (λ m n e. refl) spell_inside (Stops goes_on_number) symbols (word_marked word.In is_in symbols) inside_settled))
-      (led_settled (the_sign mark.AtMost) (λ m n e. refl) spell_signed (Stops goes_on_number) symbols (sign_marked mark.AtMost is_at_most symbols) signed_settled))
-      (led_settled (the_sign mark.AtLeast) (λ m n e. refl) spell_signed (Stops goes_on_number) symbols (sign_marked mark.AtLeast is_at_least symbols) signed_settled)
+      (led_settled (the_word word.In) (λ m n e. refl) spell_inside (Stops goes_on_number) symbols
+      (word_marked word.In is_in symbols) inside_settled))
+      (led_settled (the_sign mark.AtMost) (λ m n e. refl) spell_signed (Stops goes_on_number) symbols
+      (sign_marked mark.AtMost is_at_most symbols) signed_settled))
+      (led_settled (the_sign mark.AtLeast) (λ m n e. refl) spell_signed (Stops goes_on_number) symbols
+      (sign_marked mark.AtLeast is_at_least symbols) signed_settled)
 
 some_bounds : (b : Bounds) (end : List Symbol) → [] ≡ spell_bounds b ++ end → ⊥
 some_bounds (AtLeast a) end same = cc
@@ -80,16 +113,19 @@ some_bounds (Between a) end same = cc
 pub optional_settled : (symbols : List Symbol) → Settled spell_optional IsEmpty symbols
 optional_settled [] = inl (record { rest = []; item = None; found = record { spelled = refl; only = only } })
   where
-    only : (other : Option Bounds) (end : List Symbol) → [] ≡ spell_optional other ++ end → IsEmpty end → (other ≡ None) × (end ≡ [])
+    only : (other : Option Bounds) (end : List Symbol) → [] ≡ spell_optional other ++ end → IsEmpty end
+        → (other ≡ None) × (end ≡ [])
     only None end same empty = (refl, empty)
     only (Some b) end same empty = absurd (some_bounds b end same)
 optional_settled (x ∷ symbols) =
     ⊎_elim
-    (λ (s : Seen spell_bounds IsEmpty (x ∷ symbols)). inl (record { rest = s.rest; item = Some s.item; found = record { spelled = s.found.spelled; only = only s } }))
+    (λ (s : Seen spell_bounds IsEmpty (x ∷ symbols)).
+    inl (record { rest = s.rest; item = Some s.item; found = record { spelled = s.found.spelled; only = only s } }))
     (λ (missing : MissingAs spell_bounds IsEmpty (x ∷ symbols)). inr (lost missing))
     (with_no_rest spell_bounds goes_on_number (x ∷ symbols) (bounds_settled (x ∷ symbols)))
   where
-    only : (s : Seen spell_bounds IsEmpty (x ∷ symbols)) (other : Option Bounds) (end : List Symbol) → x ∷ symbols ≡ spell_optional other ++ end → IsEmpty end → (other ≡ Some s.item) × (end ≡ s.rest)
+    only : (s : Seen spell_bounds IsEmpty (x ∷ symbols)) (other : Option Bounds) (end : List Symbol)
+        → x ∷ symbols ≡ spell_optional other ++ end → IsEmpty end → (other ≡ Some s.item) × (end ≡ s.rest)
     only s None end same empty = absurd (cc)
     only s (Some b) end same empty = let o = s.found.only b end same empty in (ap Some o.0, o.1)
 
@@ -99,13 +135,16 @@ optional_settled (x ∷ symbols) =
 
 pub declared_settled : (symbols : List Symbol) → Settled spell_declared IsEmpty symbols
 declared_settled symbols =
-    in_form (spell_led Name one_name spell_optional) spell_declared IsEmpty (λ l. record { name = l.lead; bounds = l.part }) (λ d. record { lead = d.name; part = d.bounds })
+    in_form (spell_led Name one_name spell_optional) spell_declared IsEmpty
+    (λ l. record { name = l.lead; bounds = l.part }) (λ d. record { lead = d.name; part = d.bounds })
     (λ a. refl) (λ b. refl) (λ b. refl) symbols
     (led_settled Name one_name spell_optional IsEmpty symbols (name_marked symbols) optional_settled)
 
 -- items with commas between them
-module _ {A : Type 0} (spell : A → List Symbol) (item_settled : (symbols : List Symbol) → Settled spell (Stops goes_on_number) symbols) where
-  more_from : (n : ℕ) (symbols rest : List Symbol) (new : List A) → length rest ≤ n → Front spell symbols rest [] new → Settled (spell_more spell) (Stops goes_on_list) symbols
+module _ {A : Type 0} (spell : A → List Symbol)
+    (item_settled : (symbols : List Symbol) → Settled spell (Stops goes_on_number) symbols) where
+  more_from : (n : ℕ) (symbols rest : List Symbol) (new : List A) → length rest ≤ n → Front spell symbols rest [] new
+      → Settled (spell_more spell) (Stops goes_on_list) symbols
   more_from zero symbols rest new small front =
       let more = front_end spell front (λ end e. absurd (omega (arith, ap length e))) in
       of_found (spell_more spell) goes_on_list symbols rest more.items more.found
@@ -113,7 +152,9 @@ module _ {A : Type 0} (spell : A → List Symbol) (item_settled : (symbols : Lis
       ⊎_elim
       (λ (c : (u : Unit {0}) × (behind : List Symbol) × (rest ≡ Sign mark.Comma ∷ behind)).
       ⊎_elim
-      (λ (s : Seen spell (Stops goes_on_number) c.1). more_from n symbols s.rest (new ++ s.item ∷ []) (shorter c.1 c.2 s) (front_push spell s.item front c.2 (record { spelled = s.found.spelled; only = s.found.only }) refl))
+      (λ (s : Seen spell (Stops goes_on_number) c.1).
+      more_from n symbols s.rest (new ++ s.item ∷ []) (shorter c.1 c.2 s)
+      (front_push spell s.item front c.2 (record { spelled = s.found.spelled; only = s.found.only }) refl))
       (λ (missing : MissingAs spell (Stops goes_on_number) c.1). inr (front_refused spell front c.2 missing))
       (item_settled c.1))
       (λ (none : (u : Unit {0}) (end : List Symbol) → rest ≡ Sign mark.Comma ∷ end → ⊥).
@@ -121,7 +162,8 @@ module _ {A : Type 0} (spell : A → List Symbol) (item_settled : (symbols : Lis
       of_found (spell_more spell) goes_on_list symbols rest more.items more.found)
       (sign_marked mark.Comma is_comma rest)
     where
-      shorter : (behind : List Symbol) → rest ≡ Sign mark.Comma ∷ behind → (s : Seen spell (Stops goes_on_number) behind) → length s.rest ≤ n
+      shorter : (behind : List Symbol) → rest ≡ Sign mark.Comma ∷ behind
+          → (s : Seen spell (Stops goes_on_number) behind) → length s.rest ≤ n
       shorter behind is s = omega (arith, ap length is, ap length s.found.spelled, length-append (spell s.item) s.rest)
 
   pub more_settled : (symbols : List Symbol) → Settled (spell_more spell) (Stops goes_on_list) symbols

@@ -64,17 +64,16 @@ the_sign m u = Sign m
 abbrev pub the_word : Keyword → Unit {0} → Symbol
 the_word w u = Reserved w
 
-pub one_unit : (s : Symbol) (m n : Unit {0}) → s ≡ s → m ≡ n
-one_unit s m n same = refl
-
-pub sign_marked : (k : Mark) → ((m : Mark) → (m ≡ k) ⊎ (m ≡ k → ⊥)) → (symbols : List Symbol) → Marked (the_sign k) symbols
+pub sign_marked : (k : Mark) → ((m : Mark) → (m ≡ k) ⊎ (m ≡ k → ⊥)) → (symbols : List Symbol)
+    → Marked (the_sign k) symbols
 sign_marked k test symbols =
     ⊎_elim
     (λ (b : (behind : List Symbol) × (symbols ≡ Sign k ∷ behind)). inl (tt, b.0, b.1))
     (λ (none : (end : List Symbol) → symbols ≡ Sign k ∷ end → ⊥). inr (λ m behind same. none behind same))
     (decided k test symbols)
   where
-    decided : (k : Mark) → ((m : Mark) → (m ≡ k) ⊎ (m ≡ k → ⊥)) → (symbols : List Symbol) → ((behind : List Symbol) × (symbols ≡ Sign k ∷ behind)) ⊎ ((end : List Symbol) → symbols ≡ Sign k ∷ end → ⊥)
+    decided : (k : Mark) → ((m : Mark) → (m ≡ k) ⊎ (m ≡ k → ⊥)) → (symbols : List Symbol)
+        → ((behind : List Symbol) × (symbols ≡ Sign k ∷ behind)) ⊎ ((end : List Symbol) → symbols ≡ Sign k ∷ end → ⊥)
     decided k test [] = inr (λ end (e : [] ≡ Sign k ∷ end). cc)
     decided k test (Name s ∷ rest) = inr (λ end (e : Name s ∷ rest ≡ Sign k ∷ end). cc)
     decided k test (Digits s ∷ rest) = inr (λ end (e : Digits s ∷ rest ≡ Sign k ∷ end). cc)
@@ -84,7 +83,8 @@ sign_marked k test symbols =
         (λ (other : m ≡ k → ⊥). inr (λ end (e : Sign m ∷ rest ≡ Sign k ∷ end). let f : m ≡ k = cc in other f))
         (test m)
 
-pub word_marked : (k : Keyword) → ((w : Keyword) → (w ≡ k) ⊎ (w ≡ k → ⊥)) → (symbols : List Symbol) → Marked (the_word k) symbols
+pub word_marked : (k : Keyword) → ((w : Keyword) → (w ≡ k) ⊎ (w ≡ k → ⊥)) → (symbols : List Symbol)
+    → Marked (the_word k) symbols
 word_marked k test [] = inr (λ m end (e : [] ≡ Reserved k ∷ end). cc)
 word_marked k test (Name s ∷ rest) = inr (λ m end (e : Name s ∷ rest ≡ Reserved k ∷ end). cc)
 word_marked k test (Digits s ∷ rest) = inr (λ m end (e : Digits s ∷ rest ≡ Reserved k ∷ end). cc)
@@ -124,54 +124,74 @@ pub number_settled : (symbols : List Symbol) → Settled spell_number (Stops goe
 number_settled [] = inr (no_number [] (λ d r (e : [] ≡ Digits d ∷ r). cc))
 number_settled (Name s ∷ rest) = inr (no_number (Name s ∷ rest) (λ d r (e : Name s ∷ rest ≡ Digits d ∷ r). cc))
 number_settled (Sign s ∷ rest) = inr (no_number (Sign s ∷ rest) (λ d r (e : Sign s ∷ rest ≡ Digits d ∷ r). cc))
-number_settled (Reserved s ∷ rest) = inr (no_number (Reserved s ∷ rest) (λ d r (e : Reserved s ∷ rest ≡ Digits d ∷ r). cc))
+number_settled (Reserved s ∷ rest) =
+    inr (no_number (Reserved s ∷ rest) (λ d r (e : Reserved s ∷ rest ≡ Digits d ∷ r). cc))
 number_settled (Digits d ∷ rest) =
     ⊎_elim
-    (λ (f : (r : List Symbol) × (n : Numeral) × Found spell_number goes_on_number (Digits d ∷ rest) r n). of_found spell_number goes_on_number (Digits d ∷ rest) f.0 f.1 f.2)
+    (λ (f : (r : List Symbol) × (n : Numeral) × Found spell_number goes_on_number (Digits d ∷ rest) r n).
+    of_found spell_number goes_on_number (Digits d ∷ rest) f.0 f.1 f.2)
     (λ (missing : IsMissing spell_number goes_on_number (Digits d ∷ rest)). inr missing)
     (number_at d rest)
 
 -- a signed number, behind its sign or without one
-signed_parts : {symbols rest : List Symbol} (n : Numeral) (m : Bool) → ((other : Signed) (end : List Symbol) → symbols ≡ spell_signed other ++ end → Stops goes_on_number end → (other.minus ≡ m) × (other.number ≡ n) × (end ≡ rest)) → symbols ≡ spell_minus m ++ (spell_number n ++ rest) → Settled spell_signed (Stops goes_on_number) symbols
+signed_parts : {symbols rest : List Symbol} (n : Numeral) (m : Bool)
+    → ((other : Signed) (end : List Symbol) → symbols ≡ spell_signed other ++ end → Stops goes_on_number end
+    → (other.minus ≡ m) × (other.number ≡ n) × (end ≡ rest)) → symbols ≡ spell_minus m ++ (spell_number n ++ rest)
+    → Settled spell_signed (Stops goes_on_number) symbols
 signed_parts {symbols} {rest} n m only spelled = inl (record {
   rest = rest;
   item = record { minus = m; number = n };
   found = record {
     spelled = spelled ∙ sym (append_assoc (spell_minus m) (spell_number n) rest);
-    only = λ other end same stop. let o = only other end same stop in ((λ i. record { minus = o.0 i; number = o.1 i }), o.2);
+    only = λ other end same stop. let o = only other end same stop in
+        ((λ i. record { minus = o.0 i; number = o.1 i }), o.2);
   };
 })
 
-signed_plain : (symbols : List Symbol) → ((end : List Symbol) → symbols ≡ Sign mark.Minus ∷ end → ⊥) → Settled spell_signed (Stops goes_on_number) symbols
+signed_plain : (symbols : List Symbol) → ((end : List Symbol) → symbols ≡ Sign mark.Minus ∷ end → ⊥)
+    → Settled spell_signed (Stops goes_on_number) symbols
 signed_plain symbols none =
     ⊎_elim
-    (λ (s : Seen spell_number (Stops goes_on_number) symbols). signed_parts s.item false (λ other end same stop. found s other.minus other.number end same stop) s.found.spelled)
-    (λ (missing : MissingAs spell_number (Stops goes_on_number) symbols). inr (λ other end same stop. lost missing other.minus other.number end same stop))
+    (λ (s : Seen spell_number (Stops goes_on_number) symbols).
+    signed_parts s.item false
+    (λ other end same stop. found s other.minus other.number end same stop) s.found.spelled)
+    (λ (missing : MissingAs spell_number (Stops goes_on_number) symbols).
+    inr (λ other end same stop. lost missing other.minus other.number end same stop))
     (number_settled symbols)
   where
-    found : (s : Seen spell_number (Stops goes_on_number) symbols) → (m : Bool) (k : Numeral) (end : List Symbol) → symbols ≡ (spell_minus m ++ spell_number k) ++ end → Stops goes_on_number end → (m ≡ false) × (k ≡ s.item) × (end ≡ s.rest)
+    found : (s : Seen spell_number (Stops goes_on_number) symbols) → (m : Bool) (k : Numeral) (end : List Symbol)
+        → symbols ≡ (spell_minus m ++ spell_number k) ++ end → Stops goes_on_number end → (m ≡ false)
+        × (k ≡ s.item) × (end ≡ s.rest)
     found s true k end same stop = absurd (none _ same)
     found s false k end same stop = let o = s.found.only k end same stop in (refl, o.0, o.1)
 
-    lost : MissingAs spell_number (Stops goes_on_number) symbols → (m : Bool) (k : Numeral) (end : List Symbol) → symbols ≡ (spell_minus m ++ spell_number k) ++ end → Stops goes_on_number end → ⊥
+    lost : MissingAs spell_number (Stops goes_on_number) symbols → (m : Bool) (k : Numeral) (end : List Symbol)
+        → symbols ≡ (spell_minus m ++ spell_number k) ++ end → Stops goes_on_number end → ⊥
     lost missing true k end same stop = none _ same
     lost missing false k end same stop = missing k end same stop
 
-signed_minus : (symbols behind : List Symbol) → symbols ≡ Sign mark.Minus ∷ behind → Settled spell_signed (Stops goes_on_number) symbols
+signed_minus : (symbols behind : List Symbol) → symbols ≡ Sign mark.Minus ∷ behind
+    → Settled spell_signed (Stops goes_on_number) symbols
 signed_minus symbols behind is =
     ⊎_elim
-    (λ (s : Seen spell_number (Stops goes_on_number) behind). signed_parts s.item true (λ other end same stop. found s other.minus other.number end same stop) (is ∙ ap (λ (l : List Symbol). Sign mark.Minus ∷ l) s.found.spelled))
-    (λ (missing : MissingAs spell_number (Stops goes_on_number) behind). inr (λ other end same stop. lost missing other.minus other.number end same stop))
+    (λ (s : Seen spell_number (Stops goes_on_number) behind).
+    signed_parts s.item true (λ other end same stop. found s other.minus other.number end same stop)
+    (is ∙ ap (λ (l : List Symbol). Sign mark.Minus ∷ l) s.found.spelled))
+    (λ (missing : MissingAs spell_number (Stops goes_on_number) behind).
+    inr (λ other end same stop. lost missing other.minus other.number end same stop))
     (number_settled behind)
   where
-    found : (s : Seen spell_number (Stops goes_on_number) behind) → (m : Bool) (k : Numeral) (end : List Symbol) → symbols ≡ (spell_minus m ++ spell_number k) ++ end → Stops goes_on_number end → (m ≡ true) × (k ≡ s.item) × (end ≡ s.rest)
+    found : (s : Seen spell_number (Stops goes_on_number) behind) → (m : Bool) (k : Numeral) (end : List Symbol)
+        → symbols ≡ (spell_minus m ++ spell_number k) ++ end → Stops goes_on_number end → (m ≡ true)
+        × (k ≡ s.item) × (end ≡ s.rest)
     found s true k end same stop =
         let e : Sign mark.Minus ∷ behind ≡ Sign mark.Minus ∷ (spell_number k ++ end) = sym is ∙ same in
         let h : behind ≡ spell_number k ++ end = cc in
         let o = s.found.only k end h stop in (refl, o.0, o.1)
     found s false k end same stop = cc
 
-    lost : MissingAs spell_number (Stops goes_on_number) behind → (m : Bool) (k : Numeral) (end : List Symbol) → symbols ≡ (spell_minus m ++ spell_number k) ++ end → Stops goes_on_number end → ⊥
+    lost : MissingAs spell_number (Stops goes_on_number) behind → (m : Bool) (k : Numeral) (end : List Symbol)
+        → symbols ≡ (spell_minus m ++ spell_number k) ++ end → Stops goes_on_number end → ⊥
     lost missing true k end same stop =
         let e : Sign mark.Minus ∷ behind ≡ Sign mark.Minus ∷ (spell_number k ++ end) = sym is ∙ same in
         let h : behind ≡ spell_number k ++ end = cc in
@@ -181,8 +201,10 @@ signed_minus symbols behind is =
 pub signed_settled : (symbols : List Symbol) → Settled spell_signed (Stops goes_on_number) symbols
 signed_settled symbols =
     ⊎_elim
-    (λ (m : (u : Unit {0}) × (behind : List Symbol) × (symbols ≡ Sign mark.Minus ∷ behind)). signed_minus symbols m.1 m.2)
-    (λ (none : (u : Unit {0}) (end : List Symbol) → symbols ≡ Sign mark.Minus ∷ end → ⊥). signed_plain symbols (none tt))
+    (λ (m : (u : Unit {0}) × (behind : List Symbol) × (symbols ≡ Sign mark.Minus ∷ behind)).
+    signed_minus symbols m.1 m.2)
+    (λ (none : (u : Unit {0}) (end : List Symbol) → symbols ≡ Sign mark.Minus ∷ end → ⊥).
+    signed_plain symbols (none tt))
     (sign_marked mark.Minus is_minus symbols)
 
 -- nothing
@@ -190,28 +212,41 @@ abbrev pub spell_nothing : Unit {0} → List Symbol
 spell_nothing u = []
 
 pub nothing_settled : (P : List Symbol → Type 0) (symbols : List Symbol) → Settled spell_nothing P symbols
-nothing_settled P symbols = inl (record { rest = symbols; item = tt; found = record { spelled = refl; only = λ other end same stop. (refl, sym same) } })
+nothing_settled P symbols =
+    inl (record {
+      rest = symbols;
+      item = tt;
+      found = record { spelled = refl; only = λ other end same stop. (refl, sym same) };
+    })
 
 -- bounds
 pub closed_settled : (symbols : List Symbol) → Settled spell_closed (Stops goes_on_number) symbols
 closed_settled symbols =
-    in_form (spell_three spell_signed goes_on_number (the_sign mark.CloseBracket) (λ m. refl) (λ m n e. refl) spell_nothing) spell_closed (Stops goes_on_number)
+    in_form (spell_three spell_signed goes_on_number (the_sign mark.CloseBracket) (λ m. refl) (λ m n e. refl)
+    spell_nothing) spell_closed (Stops goes_on_number)
     (λ t. t.first) (λ b. record { first = b; middle = tt; last = tt }) (λ a. refl) (λ b. refl) (λ b. refl) symbols
-    (three_settled spell_signed goes_on_number (the_sign mark.CloseBracket) (λ m. refl) (λ m n e. refl) spell_nothing (Stops goes_on_number) symbols
+    (three_settled spell_signed goes_on_number (the_sign mark.CloseBracket) (λ m. refl) (λ m n e. refl) spell_nothing
+    (Stops goes_on_number) symbols
     (signed_settled symbols) (sign_marked mark.CloseBracket is_close_bracket) (nothing_settled (Stops goes_on_number)))
 
 pub interval_settled : (symbols : List Symbol) → Settled spell_interval (Stops goes_on_number) symbols
 interval_settled symbols =
-    in_form (spell_three spell_signed goes_on_number (the_sign mark.Comma) (λ m. refl) (λ m n e. refl) spell_closed) spell_interval (Stops goes_on_number)
-    (λ t. record { lower = t.first; upper = t.last }) (λ b. record { first = b.lower; middle = tt; last = b.upper }) (λ a. refl) (λ b. refl) (λ b. refl) symbols
-    (three_settled spell_signed goes_on_number (the_sign mark.Comma) (λ m. refl) (λ m n e. refl) spell_closed (Stops goes_on_number) symbols
+    in_form (spell_three spell_signed goes_on_number (the_sign mark.Comma) (λ m. refl) (λ m n e. refl) spell_closed)
+    spell_interval (Stops goes_on_number)
+    (λ t. record { lower = t.first; upper = t.last }) (λ b. record { first = b.lower; middle = tt; last = b.upper })
+    (λ a. refl) (λ b. refl) (λ b. refl) symbols
+    (three_settled spell_signed goes_on_number (the_sign mark.Comma) (λ m. refl) (λ m n e. refl) spell_closed
+    (Stops goes_on_number) symbols
     (signed_settled symbols) (sign_marked mark.Comma is_comma) closed_settled)
 
 pub spread_settled : (symbols : List Symbol) → Settled spell_spread (Stops goes_on_number) symbols
 spread_settled symbols =
-    in_form (spell_three spell_signed goes_on_number (the_word word.By) (λ m. refl) (λ m n e. refl) spell_number) spell_spread (Stops goes_on_number)
-    (λ t. record { centre = t.first; deviation = t.last }) (λ b. record { first = b.centre; middle = tt; last = b.deviation }) (λ a. refl) (λ b. refl) (λ b. refl) symbols
-    (three_settled spell_signed goes_on_number (the_word word.By) (λ m. refl) (λ m n e. refl) spell_number (Stops goes_on_number) symbols
+    in_form (spell_three spell_signed goes_on_number (the_word word.By) (λ m. refl) (λ m n e. refl) spell_number)
+    spell_spread (Stops goes_on_number)
+    (λ t. record { centre = t.first; deviation = t.last })
+    (λ b. record { first = b.centre; middle = tt; last = b.deviation }) (λ a. refl) (λ b. refl) (λ b. refl) symbols
+    (three_settled spell_signed goes_on_number (the_word word.By) (λ m. refl) (λ m n e. refl) spell_number
+    (Stops goes_on_number) symbols
     (signed_settled symbols) (word_marked word.By is_by) number_settled)
 
 -- a member
@@ -219,10 +254,14 @@ abbrev spell_at : Led (the_word word.At) (λ m n e. refl) spell_spread → List 
 spell_at = spell_led (the_word word.At) (λ m n e. refl) spell_spread
 
 at_settled : (symbols : List Symbol) → Settled spell_at (Stops goes_on_number) symbols
-at_settled symbols = led_settled (the_word word.At) (λ m n e. refl) spell_spread (Stops goes_on_number) symbols (word_marked word.At is_at symbols) spread_settled
+at_settled symbols =
+    led_settled (the_word word.At) (λ m n e. refl) spell_spread (Stops goes_on_number) symbols
+    (word_marked word.At is_at symbols) spread_settled
 
 pub member_settled : (symbols : List Symbol) → Settled spell_member (Stops goes_on_number) symbols
 member_settled symbols =
     in_form (spell_led Name one_name spell_at) spell_member (Stops goes_on_number)
-    (λ t. record { name = t.lead; spread = t.part.part }) (λ m. record { lead = m.name; part = record { lead = tt; part = m.spread } }) (λ a. refl) (λ b. refl) (λ b. refl) symbols
+    (λ t. record { name = t.lead; spread = t.part.part })
+    (λ m. record { lead = m.name; part = record { lead = tt; part = m.spread } }) (λ a. refl)
+    (λ b. refl) (λ b. refl) symbols
     (led_settled Name one_name spell_at (Stops goes_on_number) symbols (name_marked symbols) at_settled)

@@ -22,7 +22,8 @@ stops_number (Sign m ∷ end) stop = grind_mark m stop
     grind_mark _ h = refl
 
 -- factors and what is behind them don't go on a number
-stops_factors : (fs : Factors) (end : List Symbol) → Stops goes_on_term end → Stops goes_on_number (spell_factors fs ++ end)
+stops_factors : (fs : Factors) (end : List Symbol) → Stops goes_on_term end
+    → Stops goes_on_number (spell_factors fs ++ end)
 stops_factors no_factors end stop = stops_number end stop
 stops_factors (times f fs) end stop = refl
 
@@ -60,7 +61,8 @@ trees-join (times f fs) b = ap (λ (l : List Syntax). tree_factor f ∷ l) (tree
 pub record Front (symbols rest : List Symbol) (old new : List Syntax) : Type 0 where
   pub items : Factors
   pub spelled : symbols ≡ spell_factors items ++ rest
-  pub only : (others : Factors) (end : List Symbol) → symbols ≡ spell_factors others ++ end → Stops goes_on_term end → (more : Factors) × (others ≡ join items more) × (rest ≡ spell_factors more ++ end)
+  pub only : (others : Factors) (end : List Symbol) → symbols ≡ spell_factors others ++ end → Stops goes_on_term end
+      → (more : Factors) × (others ≡ join items more) × (rest ≡ spell_factors more ++ end)
   pub appended : new ≡ old ++ tree_factors items
   pub shorter : length rest ≤ length symbols
 
@@ -74,31 +76,48 @@ front_start symbols old = record {
   shorter = omega arith;
 }
 
-pub front_push : {symbols rest behind after : List Symbol} {old new next : List Syntax} {value : Syntax} → Front symbols rest old new → rest ≡ Sign Star ∷ behind → Reads spell_factor tree_factor goes_on_number behind after value → next ≡ new ++ value ∷ [] → Front symbols after old next
+pub front_push : {symbols rest behind after : List Symbol} {old new next : List Syntax} {value : Syntax}
+    → Front symbols rest old new → rest ≡ Sign Star ∷ behind
+    → Reads spell_factor tree_factor goes_on_number behind after value → next ≡ new ++ value ∷ []
+    → Front symbols after old next
 unfolding join
 front_push {symbols} {rest} {behind} {after} {old} {new} {next} {value} front star read pushed = record {
   items = join front.items (times read.item no_factors);
   spelled =
       front.spelled
-      ∙ ap (λ (l : List Symbol). spell_factors front.items ++ l) (star ∙ ap (λ (l : List Symbol). Sign Star ∷ l) (read.found.spelled ∙ ap (λ (l : List Symbol). l ++ after) (sym (append-nil (spell_factor read.item)))))
+      ∙ ap (λ (l : List Symbol). spell_factors front.items ++ l)
+      (star ∙ ap (λ (l : List Symbol). Sign Star ∷ l)
+      (read.found.spelled ∙ ap (λ (l : List Symbol). l ++ after) (sym (append-nil (spell_factor read.item)))))
       ∙ sym (append_assoc (spell_factors front.items) (spell_factors (times read.item no_factors)) after)
       ∙ ap (λ (l : List Symbol). l ++ after) (sym (spell-join front.items (times read.item no_factors)));
   only = λ others end same stop. let way = front.only others end same stop in go others end stop way.0 way.1 way.2;
   appended =
       pushed ∙ ap (λ (l : List Syntax). l ++ value ∷ []) front.appended
       ∙ append_assoc old (tree_factors front.items) (value ∷ [])
-      ∙ ap (λ (l : List Syntax). old ++ l) (ap (λ (v : Syntax). tree_factors front.items ++ v ∷ []) (sym read.tree_is) ∙ sym (trees-join front.items (times read.item no_factors)));
+      ∙ ap (λ (l : List Syntax). old ++ l)
+      (ap (λ (v : Syntax). tree_factors front.items ++ v ∷ []) (sym read.tree_is)
+      ∙ sym (trees-join front.items (times read.item no_factors)));
   shorter = omega (arith, front.shorter, ap length star, read.shorter);
 }
   where
-    go : (others : Factors) (end : List Symbol) → Stops goes_on_term end → (more : Factors) → others ≡ join front.items more → rest ≡ spell_factors more ++ end → (left : Factors) × (others ≡ join (join front.items (times read.item no_factors)) left) × (after ≡ spell_factors left ++ end)
+    go : (others : Factors) (end : List Symbol) → Stops goes_on_term end → (more : Factors)
+        → others ≡ join front.items more → rest ≡ spell_factors more ++ end → (left : Factors)
+        × (others ≡ join (join front.items (times read.item no_factors)) left) × (after ≡ spell_factors left ++ end)
     go others end stop no_factors is left = absurd (star_goes_on end behind stop (sym left ∙ star))
     go others end stop (times g gs) is left =
-        let inside : behind ≡ spell_factor g ++ (spell_factors gs ++ end) = let e : Sign Star ∷ behind ≡ Sign Star ∷ ((spell_factor g ++ spell_factors gs) ++ end) = sym star ∙ left in let f : behind ≡ (spell_factor g ++ spell_factors gs) ++ end = cc in f ∙ append_assoc (spell_factor g) (spell_factors gs) end in
-        let one = read.found.only g (spell_factors gs ++ end) inside (stops_factors gs end stop) in
-        (gs, is ∙ ap (λ (f : Factor). join front.items (times f gs)) one.0 ∙ sym (join_assoc front.items (times read.item no_factors) gs), sym one.1)
+        let inside : behind ≡ spell_factor g ++ (spell_factors gs ++ end) =
+        let e : Sign Star ∷ behind ≡ Sign Star ∷ ((spell_factor g ++ spell_factors gs) ++ end) = sym star ∙ left in
+        let f : behind ≡ (spell_factor g ++ spell_factors gs) ++ end = cc in
+        f ∙ append_assoc (spell_factor g) (spell_factors gs) end in
+        let one = read.found.only g (spell_factors gs ++ end) inside (stops_factors gs end stop) in (
+          gs,
+          is ∙ ap (λ (f : Factor). join front.items (times f gs)) one.0
+              ∙ sym (join_assoc front.items (times read.item no_factors) gs),
+          sym one.1,
+        )
 
-pub front_end : {symbols rest : List Symbol} {old new : List Syntax} → Front symbols rest old new → ((end : List Symbol) → rest ≡ Sign Star ∷ end → ⊥) → ReadsFactors symbols rest old new
+pub front_end : {symbols rest : List Symbol} {old new : List Syntax} → Front symbols rest old new
+    → ((end : List Symbol) → rest ≡ Sign Star ∷ end → ⊥) → ReadsFactors symbols rest old new
 unfolding join
 front_end {symbols} {rest} {old} {new} front none = record {
   items = front.items;
@@ -111,11 +130,14 @@ front_end {symbols} {rest} {old} {new} front none = record {
   shorter = front.shorter;
 }
   where
-    go : (others : Factors) (end : List Symbol) → (more : Factors) → others ≡ join front.items more → rest ≡ spell_factors more ++ end → (others ≡ front.items) × (end ≡ rest)
+    go : (others : Factors) (end : List Symbol) → (more : Factors) → others ≡ join front.items more
+        → rest ≡ spell_factors more ++ end → (others ≡ front.items) × (end ≡ rest)
     go others end no_factors is left = (is ∙ join-none front.items, sym left)
     go others end (times g gs) is left = absurd (none _ left)
 
-pub front_refused : {symbols rest behind : List Symbol} {old new : List Syntax} → Front symbols rest old new → rest ≡ Sign Star ∷ behind → IsMissing spell_factor goes_on_number behind → IsMissing spell_factors goes_on_term symbols
+pub front_refused : {symbols rest behind : List Symbol} {old new : List Syntax} → Front symbols rest old new
+    → rest ≡ Sign Star ∷ behind → IsMissing spell_factor goes_on_number behind
+    → IsMissing spell_factors goes_on_term symbols
 front_refused {symbols} {rest} {behind} front star missing others end same stop =
     let way = front.only others end same stop in go way.0 way.2
   where
@@ -124,10 +146,13 @@ front_refused {symbols} {rest} {behind} front star missing others end same stop 
     go (times g gs) left =
         let e : Sign Star ∷ behind ≡ Sign Star ∷ ((spell_factor g ++ spell_factors gs) ++ end) = sym star ∙ left in
         let f : behind ≡ (spell_factor g ++ spell_factors gs) ++ end = cc in
-        missing g (spell_factors gs ++ end) (f ∙ append_assoc (spell_factor g) (spell_factors gs) end) (stops_factors gs end stop)
+        missing g (spell_factors gs ++ end) (f ∙ append_assoc (spell_factor g) (spell_factors gs) end)
+        (stops_factors gs end stop)
 
 -- a term of one factor
-pub term_of_one : {symbols rest : List Symbol} {value : Syntax} → Reads spell_factor tree_factor goes_on_number symbols rest value → ((end : List Symbol) → rest ≡ Sign Star ∷ end → ⊥) → Reads spell_term tree_term goes_on_term symbols rest value
+pub term_of_one : {symbols rest : List Symbol} {value : Syntax}
+    → Reads spell_factor tree_factor goes_on_number symbols rest value
+    → ((end : List Symbol) → rest ≡ Sign Star ∷ end → ⊥) → Reads spell_term tree_term goes_on_term symbols rest value
 term_of_one {symbols} {rest} {value} read none = record {
   item = term read.item no_factors;
   found = record {
@@ -138,42 +163,58 @@ term_of_one {symbols} {rest} {value} read none = record {
   shorter = read.shorter;
 }
   where
-    only : (other : Term) (end : List Symbol) → symbols ≡ spell_term other ++ end → Stops goes_on_term end → (other ≡ term read.item no_factors) × (end ≡ rest)
+    only : (other : Term) (end : List Symbol) → symbols ≡ spell_term other ++ end → Stops goes_on_term end
+        → (other ≡ term read.item no_factors) × (end ≡ rest)
     only (term g no_factors) end same stop =
-        let one = read.found.only g end (same ∙ ap (λ (l : List Symbol). l ++ end) (append-nil (spell_factor g))) (stops_number end stop) in
+        let one = read.found.only g end (same ∙ ap (λ (l : List Symbol). l ++ end) (append-nil (spell_factor g)))
+        (stops_number end stop) in
         (ap (λ (f : Factor). term f no_factors) one.0, one.1)
     only (term g (times h hs)) end same stop =
-        let one = read.found.only g (spell_factors (times h hs) ++ end) (same ∙ append_assoc (spell_factor g) (spell_factors (times h hs)) end) refl in
+        let one = read.found.only g (spell_factors (times h hs) ++ end)
+        (same ∙ append_assoc (spell_factor g) (spell_factors (times h hs)) end) refl in
         absurd (none _ (sym one.1))
 
 -- a term of more
-pub term_of_more : {symbols rest end : List Symbol} {value : Syntax} {new : List Syntax} → Reads spell_factor tree_factor goes_on_number symbols rest value → (behind : List Symbol) → rest ≡ Sign Star ∷ behind → ReadsFactors rest end (value ∷ []) new → Reads spell_term tree_term goes_on_term symbols end (syntax.Product new)
+pub term_of_more : {symbols rest end : List Symbol} {value : Syntax} {new : List Syntax}
+    → Reads spell_factor tree_factor goes_on_number symbols rest value → (behind : List Symbol)
+    → rest ≡ Sign Star ∷ behind → ReadsFactors rest end (value ∷ []) new
+    → Reads spell_term tree_term goes_on_term symbols end (syntax.Product new)
 term_of_more {symbols} {rest} {end} {value} {new} read behind star more = record {
   item = term read.item more.items;
   found = record {
-    spelled = read.found.spelled ∙ ap (λ (l : List Symbol). spell_factor read.item ++ l) more.found.spelled ∙ sym (append_assoc (spell_factor read.item) (spell_factors more.items) end);
+    spelled = read.found.spelled ∙ ap (λ (l : List Symbol). spell_factor read.item ++ l) more.found.spelled
+        ∙ sym (append_assoc (spell_factor read.item) (spell_factors more.items) end);
     only = only;
   };
   tree_is = tree more.items more.found.spelled more.appended;
   shorter = omega (arith, read.shorter, more.shorter);
 }
   where
-    only : (other : Term) (last : List Symbol) → symbols ≡ spell_term other ++ last → Stops goes_on_term last → (other ≡ term read.item more.items) × (last ≡ end)
+    only : (other : Term) (last : List Symbol) → symbols ≡ spell_term other ++ last → Stops goes_on_term last
+        → (other ≡ term read.item more.items) × (last ≡ end)
     only (term g gs) last same stop =
-        let one = read.found.only g (spell_factors gs ++ last) (same ∙ append_assoc (spell_factor g) (spell_factors gs) last) (stops_factors gs last stop) in
+        let one = read.found.only g (spell_factors gs ++ last)
+        (same ∙ append_assoc (spell_factor g) (spell_factors gs) last) (stops_factors gs last stop) in
         let two = more.found.only gs last (sym one.1) stop in
         ((λ i. term (one.0 i) (two.0 i)), two.1)
 
-    tree : (items : Factors) → rest ≡ spell_factors items ++ end → new ≡ (value ∷ []) ++ tree_factors items → tree_term (term read.item items) ≡ syntax.Product new
+    tree : (items : Factors) → rest ≡ spell_factors items ++ end → new ≡ (value ∷ []) ++ tree_factors items
+        → tree_term (term read.item items) ≡ syntax.Product new
     tree no_factors spelled appended = absurd (more.ends behind (sym spelled ∙ star))
     tree (times g gs) spelled appended =
-        ap (λ (v : Syntax). syntax.Product (v ∷ tree_factor g ∷ tree_factors gs)) read.tree_is ∙ ap (λ (l : List Syntax). syntax.Product l) (sym appended)
+        ap (λ (v : Syntax). syntax.Product (v ∷ tree_factor g ∷ tree_factors gs)) read.tree_is
+        ∙ ap (λ (l : List Syntax). syntax.Product l) (sym appended)
 
-pub term_refused : {symbols : List Symbol} → IsMissing spell_factor goes_on_number symbols → IsMissing spell_term goes_on_term symbols
+pub term_refused : {symbols : List Symbol} → IsMissing spell_factor goes_on_number symbols
+    → IsMissing spell_term goes_on_term symbols
 term_refused {symbols} missing (term g gs) end same stop =
-    missing g (spell_factors gs ++ end) (same ∙ append_assoc (spell_factor g) (spell_factors gs) end) (stops_factors gs end stop)
+    missing g (spell_factors gs ++ end) (same ∙ append_assoc (spell_factor g) (spell_factors gs) end)
+    (stops_factors gs end stop)
 
-pub term_refused_behind : {symbols rest : List Symbol} {value : Syntax} → Reads spell_factor tree_factor goes_on_number symbols rest value → IsMissing spell_factors goes_on_term rest → IsMissing spell_term goes_on_term symbols
+pub term_refused_behind : {symbols rest : List Symbol} {value : Syntax}
+    → Reads spell_factor tree_factor goes_on_number symbols rest value → IsMissing spell_factors goes_on_term rest
+    → IsMissing spell_term goes_on_term symbols
 term_refused_behind {symbols} {rest} read missing (term g gs) end same stop =
-    let one = read.found.only g (spell_factors gs ++ end) (same ∙ append_assoc (spell_factor g) (spell_factors gs) end) (stops_factors gs end stop) in
+    let one = read.found.only g (spell_factors gs ++ end) (same ∙ append_assoc (spell_factor g) (spell_factors gs) end)
+    (stops_factors gs end stop) in
     missing gs end (sym one.1) stop

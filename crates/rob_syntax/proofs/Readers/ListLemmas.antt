@@ -24,7 +24,8 @@ comma_goes_on end rest stop is = let h = subst (Stops goes_on_list) is stop in c
 
 module _ {A : Type 0} (spell : A → List Symbol) where
   -- items behind a comma, and what is behind them, don't go on a number
-  pub stops_more : (xs : List A) (end : List Symbol) → Stops goes_on_list end → Stops goes_on_number (spell_more spell xs ++ end)
+  pub stops_more : (xs : List A) (end : List Symbol) → Stops goes_on_list end
+      → Stops goes_on_number (spell_more spell xs ++ end)
   stops_more [] end stop = stops_item end stop
   stops_more (x ∷ xs) end stop = refl
 
@@ -32,10 +33,12 @@ module _ {A : Type 0} (spell : A → List Symbol) where
   spell_more-append [] ys = refl
   spell_more-append (x ∷ xs) ys =
       ap (λ (l : List Symbol). Sign Comma ∷ (spell x ++ l)) (spell_more-append xs ys)
-      ∙ ap (λ (l : List Symbol). Sign Comma ∷ l) (sym (append_assoc (spell x) (spell_more spell xs) (spell_more spell ys)))
+      ∙ ap (λ (l : List Symbol). Sign Comma ∷ l)
+      (sym (append_assoc (spell x) (spell_more spell xs) (spell_more spell ys)))
 
   -- an item behind a comma, from the spelling of a list
-  inside : {rest behind : List Symbol} (x : A) (xs : List A) (end : List Symbol) → rest ≡ Sign Comma ∷ behind → rest ≡ (Sign Comma ∷ (spell x ++ spell_more spell xs)) ++ end → behind ≡ spell x ++ (spell_more spell xs ++ end)
+  inside : {rest behind : List Symbol} (x : A) (xs : List A) (end : List Symbol) → rest ≡ Sign Comma ∷ behind
+      → rest ≡ (Sign Comma ∷ (spell x ++ spell_more spell xs)) ++ end → behind ≡ spell x ++ (spell_more spell xs ++ end)
   inside {rest} {behind} x xs end here there =
       let e : Sign Comma ∷ behind ≡ Sign Comma ∷ ((spell x ++ spell_more spell xs) ++ end) = sym here ∙ there in
       let f : behind ≡ (spell x ++ spell_more spell xs) ++ end = cc in
@@ -45,7 +48,8 @@ module _ {A : Type 0} (spell : A → List Symbol) where
   pub record Front (symbols rest : List Symbol) (old new : List A) : Type 0 where
     pub items : List A
     pub spelled : symbols ≡ spell_more spell items ++ rest
-    pub only : (others : List A) (end : List Symbol) → symbols ≡ spell_more spell others ++ end → Stops goes_on_list end → (more : List A) × (others ≡ items ++ more) × (rest ≡ spell_more spell more ++ end)
+    pub only : (others : List A) (end : List Symbol) → symbols ≡ spell_more spell others ++ end → Stops goes_on_list end
+        → (more : List A) × (others ≡ items ++ more) × (rest ≡ spell_more spell more ++ end)
     pub appended : new ≡ old ++ items
     pub shorter : length rest ≤ length symbols
 
@@ -58,12 +62,16 @@ module _ {A : Type 0} (spell : A → List Symbol) where
     shorter = omega arith;
   }
 
-  pub front_push : {symbols rest behind after : List Symbol} {old new next : List A} (x : A) → Front symbols rest old new → rest ≡ Sign Comma ∷ behind → Found spell goes_on_number behind after x → next ≡ new ++ x ∷ [] → Front symbols after old next
+  pub front_push : {symbols rest behind after : List Symbol} {old new next : List A} (x : A)
+      → Front symbols rest old new → rest ≡ Sign Comma ∷ behind → Found spell goes_on_number behind after x
+      → next ≡ new ++ x ∷ [] → Front symbols after old next
   front_push {symbols} {rest} {behind} {after} {old} {new} {next} x front comma found pushed = record {
     items = front.items ++ x ∷ [];
     spelled =
         front.spelled
-        ∙ ap (λ (l : List Symbol). spell_more spell front.items ++ l) (comma ∙ ap (λ (l : List Symbol). Sign Comma ∷ l) (found.spelled ∙ ap (λ (l : List Symbol). l ++ after) (sym (append-nil (spell x)))))
+        ∙ ap (λ (l : List Symbol). spell_more spell front.items ++ l)
+        (comma ∙ ap (λ (l : List Symbol). Sign Comma ∷ l)
+        (found.spelled ∙ ap (λ (l : List Symbol). l ++ after) (sym (append-nil (spell x)))))
         ∙ sym (append_assoc (spell_more spell front.items) (spell_more spell (x ∷ [])) after)
         ∙ ap (λ (l : List Symbol). l ++ after) (sym (spell_more-append front.items (x ∷ [])));
     only = λ others end same stop. let way = front.only others end same stop in go others end stop way.0 way.1 way.2;
@@ -71,13 +79,16 @@ module _ {A : Type 0} (spell : A → List Symbol) where
     shorter = omega (arith, front.shorter, ap length comma, ap length found.spelled, length-append (spell x) after);
   }
     where
-      go : (others : List A) (end : List Symbol) → Stops goes_on_list end → (more : List A) → others ≡ front.items ++ more → rest ≡ spell_more spell more ++ end → (left : List A) × (others ≡ (front.items ++ x ∷ []) ++ left) × (after ≡ spell_more spell left ++ end)
+      go : (others : List A) (end : List Symbol) → Stops goes_on_list end → (more : List A)
+          → others ≡ front.items ++ more → rest ≡ spell_more spell more ++ end → (left : List A)
+          × (others ≡ (front.items ++ x ∷ []) ++ left) × (after ≡ spell_more spell left ++ end)
       go others end stop [] is left = absurd (comma_goes_on end behind stop (sym left ∙ comma))
       go others end stop (y ∷ ys) is left =
           let one = found.only y (spell_more spell ys ++ end) (inside y ys end comma left) (stops_more ys end stop) in
           (ys, is ∙ ap (λ (z : A). front.items ++ z ∷ ys) one.0 ∙ sym (append_assoc front.items (x ∷ []) ys), sym one.1)
 
-  pub front_end : {symbols rest : List Symbol} {old new : List A} → Front symbols rest old new → ((end : List Symbol) → rest ≡ Sign Comma ∷ end → ⊥) → ReadsMore spell symbols rest old new
+  pub front_end : {symbols rest : List Symbol} {old new : List A} → Front symbols rest old new
+      → ((end : List Symbol) → rest ≡ Sign Comma ∷ end → ⊥) → ReadsMore spell symbols rest old new
   front_end {symbols} {rest} {old} {new} front none = record {
     items = front.items;
     found = record {
@@ -87,37 +98,17 @@ module _ {A : Type 0} (spell : A → List Symbol) where
     appended = front.appended;
   }
     where
-      go : (others : List A) (end : List Symbol) → (more : List A) → others ≡ front.items ++ more → rest ≡ spell_more spell more ++ end → (others ≡ front.items) × (end ≡ rest)
+      go : (others : List A) (end : List Symbol) → (more : List A) → others ≡ front.items ++ more
+          → rest ≡ spell_more spell more ++ end → (others ≡ front.items) × (end ≡ rest)
       go others end [] is left = (is ∙ append-nil front.items, sym left)
       go others end (y ∷ ys) is left = absurd (none _ left)
 
-  pub front_refused : {symbols rest behind : List Symbol} {old new : List A} → Front symbols rest old new → rest ≡ Sign Comma ∷ behind → IsMissing spell goes_on_number behind → IsMissing (spell_more spell) goes_on_list symbols
+  pub front_refused : {symbols rest behind : List Symbol} {old new : List A} → Front symbols rest old new
+      → rest ≡ Sign Comma ∷ behind → IsMissing spell goes_on_number behind
+      → IsMissing (spell_more spell) goes_on_list symbols
   front_refused {symbols} {rest} {behind} front comma missing others end same stop =
       let way = front.only others end same stop in go way.0 way.2
     where
       go : (more : List A) → rest ≡ spell_more spell more ++ end → ⊥
       go [] left = comma_goes_on end behind stop (sym left ∙ comma)
       go (y ∷ ys) left = missing y (spell_more spell ys ++ end) (inside y ys end comma left) (stops_more ys end stop)
-
-  -- one item and more behind it
-  pub some_found : {symbols rest end : List Symbol} {new : List A} (x : A) → Found spell goes_on_number symbols rest x → (more : ReadsMore spell rest end (x ∷ []) new)
-      → (new ≡ x ∷ more.items) × (symbols ≡ (spell x ++ spell_more spell more.items) ++ end)
-      × ((y : A) (ys : List A) (last : List Symbol) → symbols ≡ (spell y ++ spell_more spell ys) ++ last → Stops goes_on_list last → (y ≡ x) × (ys ≡ more.items) × (last ≡ end))
-  some_found {symbols} {rest} {end} {new} x first more =
-      (more.appended, first.spelled ∙ ap (λ (l : List Symbol). spell x ++ l) more.found.spelled ∙ sym (append_assoc (spell x) (spell_more spell more.items) end), only)
-    where
-      only : (y : A) (ys : List A) (last : List Symbol) → symbols ≡ (spell y ++ spell_more spell ys) ++ last → Stops goes_on_list last → (y ≡ x) × (ys ≡ more.items) × (last ≡ end)
-      only y ys last same stop =
-          let one = first.only y (spell_more spell ys ++ last) (same ∙ append_assoc (spell y) (spell_more spell ys) last) (stops_more ys last stop) in
-          let two = more.found.only ys last (sym one.1) stop in
-          (one.0, two.0, two.1)
-
-  -- no item stands at the front, or none behind a comma that is there
-  pub some_refused : {symbols : List Symbol} → IsMissing spell goes_on_number symbols → (y : A) (ys : List A) (last : List Symbol) → symbols ≡ (spell y ++ spell_more spell ys) ++ last → Stops goes_on_list last → ⊥
-  some_refused {symbols} missing y ys last same stop =
-      missing y (spell_more spell ys ++ last) (same ∙ append_assoc (spell y) (spell_more spell ys) last) (stops_more ys last stop)
-
-  pub some_refused_behind : {symbols rest : List Symbol} (x : A) → Found spell goes_on_number symbols rest x → IsMissing (spell_more spell) goes_on_list rest → (y : A) (ys : List A) (last : List Symbol) → symbols ≡ (spell y ++ spell_more spell ys) ++ last → Stops goes_on_list last → ⊥
-  some_refused_behind {symbols} {rest} x first missing y ys last same stop =
-      let one = first.only y (spell_more spell ys ++ last) (same ∙ append_assoc (spell y) (spell_more spell ys) last) (stops_more ys last stop) in
-      missing ys last (sym one.1) stop

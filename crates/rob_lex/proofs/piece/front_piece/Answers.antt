@@ -15,4 +15,7 @@ returns-then-is_digit c =
 pub returns-then-first-eq35 : goal.returns-then-first-eq35
 returns-then-first-eq35 c =
     let run = c.run_piece-then-first-eq35.ensures in
-    record { piece = found_comment c.run_piece-then-first-eq35.result c.args.bytes.now run.shape run.within (search rules) run.run }
+    record {
+      piece = found_comment c.run_piece-then-first-eq35.result c.args.bytes.now run.shape run.within
+          (search rules) run.run;
+    }

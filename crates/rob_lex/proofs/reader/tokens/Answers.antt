@@ -3,8 +3,9 @@ use Rattle.std.proofs.lemmas.Bool.Decides.{nat_tests}
 use Rattle.rob_lex.specs.declared.token.Token.{Token}
 use Rattle.rob_lex.specs.declared.place.Place.{Place}
 use Rattle.rob_lex.specs.Pieces.{Stands}
-use Rattle.rob_lex.specs.Places.{start, behind}
-use Rattle.rob_lex.proofs.PlaceLemmas.{Reached, reached_start, reached_next, offends_here, offends_at_end, read_at_end, GoesOn, goes_on}
+use Rattle.rob_lex.specs.Places.{start, depth_at, behind}
+use Rattle.rob_lex.specs.Offences.{most_open}
+use Rattle.rob_lex.proofs.PlaceLemmas.{Reached, reached_start, reached_next, offends_here, offends_at_end, read_at_end, GoesOn, goes_on, stays_shallow}
 use Rattle.rob_lex.proofs.reader.tokens.Goals as goal
 
 pub loop-rest-init : goal.loop-rest-init
@@ -17,7 +18,7 @@ loop-rest-init c =
       offset = omega (arith, ap (λ (a : Place). a.offset) at_start);
       line = omega (arith, ap (λ (a : Place). a.line) at_start, ap (λ (a : Place). a.offset) at_start);
       count = omega (arith, ap (λ (a : Place). a.count) at_start);
-      depth = omega (arith, ap (λ (a : Place). a.depth) at_start);
+      depth = omega (arith, ap depth_at at_start);
     }
 
 pub returns-in-Err-clause-cause : goal.returns-in-Err-clause-cause
@@ -54,7 +55,9 @@ loop-rest-preserved c =
       offset = omega (arith, on.offset);
       line = omega (arith, on.offset, on.line, free.piece.some);
       count = omega (arith, on.offset, on.count, free.piece.some);
-      depth = omega (arith, on.offset, on.depth, free.piece.some);
+      depth = subst (λ (a : Place). depth_at a ≤ most_open) (sym c.behind-at.ensures.place)
+          (stays_shallow c.loop-rest.at rest found.shape bytes after split stands free.no_cause
+          c.loop-rest.invariant.depth);
     }
 
 pub returns-in-None-clause-read : goal.returns-in-None-clause-read

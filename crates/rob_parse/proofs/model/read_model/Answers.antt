@@ -6,15 +6,15 @@ use Rattle.rob_parse.specs.Building.{FitsStatement}
 use Rattle.rob_syntax.specs.Known.{texts}
 use Rattle.rob_parse.specs.Models.{goal_in, model_of, parameters}
 use Rattle.std.specs.List.{flat_map}
-use Rattle.rob_rules.specs.Reading.{Reads}
+use Rattle.rob_rules.specs.Texts.{Reads}
 use Rattle.rob_rules.specs.Scopes.{earlier_of, start}
-use Rattle.rob_syntax.specs.Symbols.{lines_of}
 use Rattle.rob_parse.proofs.Degrees.FitLemmas.{all_fit, goal_there}
 use Rattle.rob_model.specs.View.{robust}
 use Rattle.rob_parse.specs.Modelled.{ReadsModel}
 use Rattle.rob_parse.proofs.Sizes.LimitLemmas.{within_limits}
 use Rattle.rob_parse.proofs.Building.PlacedLemmas.{well_formed}
 use Rattle.rob_parse.proofs.Sets.RoomLemmas.{has_room, written_count_is}
+use Rattle.rob_parse.proofs.Names.ChainLemmas.{reads_chain}
 use Rattle.rob_parse.proofs.Names.WellNamed.{well_named}
 use Rattle.rob_parse.proofs.Degrees.NumberLemmas.{limit_seen}
 use Rattle.rob_parse.proofs.model.read_model.Goals as goal
@@ -22,12 +22,20 @@ use Rattle.rob_parse.proofs.model.read_model.Goals as goal
 pub model-requires-clause-fits : goal.model-requires-clause-fits
 model-requires-clause-fits g c =
     let read = subst (λ k. Reads k c.args.text.now (texts c.in-Ok.found.words.keys) c.in-Ok.found.list (earlier_of c.in-Ok.found.scope)) (limit_seen _ g.N.Exact.limit (c.LIMIT.ensures ∙ g.met.N.Exact.limit_told) g.met.N.Exact.limit_high) c.in-Ok.ensures.read in
-    subst (Each (FitsStatement g.N.Exact.limit)) (sym c.items-list.ensures.list) (all_fit g.N.Exact.limit g.met.N.Exact.limit_low (start (length (texts c.in-Ok.found.words.keys))) (lines_of c.args.text.now (texts c.in-Ok.found.words.keys) read.tokens) c.in-Ok.found.list (earlier_of c.in-Ok.found.scope) read.follows)
+    let words = texts c.in-Ok.found.words.keys in
+    let known = earlier_of c.in-Ok.found.scope in
+    subst (Each (FitsStatement g.N.Exact.limit)) (sym c.items-list.ensures.list)
+    (all_fit g.N.Exact.limit g.met.N.Exact.limit_low words (start (length words)) c.in-Ok.found.list known
+    (reads_chain g.N.Exact.limit c.args.text.now words c.in-Ok.found.list known read))
 
 pub model-requires-clause-goal : goal.model-requires-clause-goal
 model-requires-clause-goal g c =
     let read = subst (λ k. Reads k c.args.text.now (texts c.in-Ok.found.words.keys) c.in-Ok.found.list (earlier_of c.in-Ok.found.scope)) (limit_seen _ g.N.Exact.limit (c.LIMIT.ensures ∙ g.met.N.Exact.limit_told) g.met.N.Exact.limit_high) c.in-Ok.ensures.read in
-    subst (λ (l : List Statement). IsSome (goal_in l)) (sym c.items-list.ensures.list) (goal_there g.N.Exact.limit (start (length (texts c.in-Ok.found.words.keys))) (lines_of c.args.text.now (texts c.in-Ok.found.words.keys) read.tokens) c.in-Ok.found.list (earlier_of c.in-Ok.found.scope) read.follows read.goal refl)
+    let words = texts c.in-Ok.found.words.keys in
+    let known = earlier_of c.in-Ok.found.scope in
+    subst (λ (l : List Statement). IsSome (goal_in l)) (sym c.items-list.ensures.list)
+    (goal_there g.N.Exact.limit words (start (length words)) c.in-Ok.found.list known
+    (reads_chain g.N.Exact.limit c.args.text.now words c.in-Ok.found.list known read) read.lines.goal refl)
 
 pub model-requires-clause-room : goal.model-requires-clause-room
 model-requires-clause-room g c =

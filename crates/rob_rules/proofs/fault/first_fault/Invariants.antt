@@ -6,5 +6,5 @@ use Rattle.rob_rules.proofs.fault.first_fault.Given as goal
 
 abbrev pub invariant-loop-fault : goal.invariant-loop-fault
 invariant-loop-fault l =
-    find (has_fault l.limit (earlier_of l.scope) l.symbols l.statement) (drop l.fault-index l.fault-items)
-    ≡ first_fault l.limit (earlier_of l.scope) l.symbols l.statement
+    find (has_fault l.limit (earlier_of l.before) (earlier_of l.now) l.statement) (drop l.fault-index l.fault-items)
+    ≡ first_fault l.limit (earlier_of l.before) (earlier_of l.now) l.statement

@@ -13,5 +13,6 @@ returns-in_ok-insert c =
           ap texts c.in_ok-insert.ensures.keys
           ∙ texts-insert_key c.args.words.now.keys c.in_ok-word.word
           ∙ ap (add_word (texts c.args.words.now.keys)) (c.in_ok-word.ensures.items ∙ c.bytes_of.ensures.bytes)
-          ∙ ap (λ (k : Kind). fold add_word (texts c.args.words.now.keys) (word_at k (bytes_of c.args.text.now c.args.token))) (sym c.in-Word.is);
+          ∙ ap (λ (k : Kind). fold add_word (texts c.args.words.now.keys)
+          (word_at k (bytes_of c.args.text.now c.args.token))) (sym c.in-Word.is);
     }

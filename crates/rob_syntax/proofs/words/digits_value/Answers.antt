@@ -4,7 +4,8 @@ use Rattle.rob_syntax.proofs.words.digits_value.Goals as goal
 
 pub loop-digit-preserved : goal.loop-digit-preserved
 loop-digit-preserved c = record {
-  rest = digits_more c.args.digits.now c.loop-digit.digit-index c.loop-digit.value c.with_digit-value.result _ c.loop-digit-test.true c.with_digit-value.ensures.value c.loop-digit.invariant.rest;
+  rest = digits_more c.args.digits.now c.loop-digit.digit-index c.loop-digit.value c.with_digit-value.result _
+      c.loop-digit-test.true c.with_digit-value.ensures.value c.loop-digit.invariant.rest;
   small = omega (arith, c.with_digit-value.ensures.value);
 }
 
@@ -12,5 +13,6 @@ pub returns : goal.returns
 returns c =
     record {
       value =
-          digits_all c.args.digits.now c.loop-digit.digit-index c.loop-digit.value _ c.loop-digit-test.false c.loop-digit.invariant.small c.loop-digit.invariant.rest;
+          digits_all c.args.digits.now c.loop-digit.digit-index c.loop-digit.value _ c.loop-digit-test.false
+          c.loop-digit.invariant.small c.loop-digit.invariant.rest;
     }

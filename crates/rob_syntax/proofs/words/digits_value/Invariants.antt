@@ -6,6 +6,7 @@ use Rattle.rob_syntax.proofs.words.digits_value.Given as goal
 
 abbrev pub invariant-loop-digit : goal.invariant-loop-digit
 invariant-loop-digit l = record {
-  rest : min (fold digit_step l.value (drop l.digit-index l.digits)) greatest_digits ≡ min (value_of l.digits) greatest_digits;
+  rest : min (fold digit_step l.value (drop l.digit-index l.digits)) greatest_digits
+      ≡ min (value_of l.digits) greatest_digits;
   small : l.value ≤ greatest_digits;
 }

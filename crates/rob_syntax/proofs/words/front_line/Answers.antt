@@ -12,11 +12,13 @@ returns-in-LineEnd c =
     record {
       line =
           line_ends c.args.tokens.now c.loop-i.i _ c.loop-i-test.true c.in-LineEnd.is c.loop-i.invariant
-          ∙ ap (λ (l : List Token). take c.loop-i.i c.args.tokens.now ∷ token_lines l) (drop_all c.args.tokens.now (c.loop-i.i + 1));
+          ∙ ap (λ (l : List Token). take c.loop-i.i c.args.tokens.now ∷ token_lines l)
+          (drop_all c.args.tokens.now (c.loop-i.i + 1));
     }
 
 pub loop-i-preserved : goal.loop-i-preserved
-loop-i-preserved c = line_more c.args.tokens.now c.loop-i.i _ c.loop-i-test.true c.in_default.not-LineEnd c.loop-i.invariant
+loop-i-preserved c =
+    line_more c.args.tokens.now c.loop-i.i _ c.loop-i-test.true c.in_default.not-LineEnd c.loop-i.invariant
 
 pub returns : goal.returns
 returns c =

@@ -9,5 +9,6 @@ returns c =
     record {
       number =
           c.unwrap_or.ensures
-          ∙ ap (λ (o : Option ℕ). unwrap_or o 0) (c.get_index_of.ensures.index ∙ sym (position-texts (bytes_eq c.args.word.now) c.args.words.now.keys));
+          ∙ ap (λ (o : Option ℕ). unwrap_or o 0)
+          (c.get_index_of.ensures.index ∙ sym (position-texts (bytes_eq c.args.word.now) c.args.words.now.keys));
     }

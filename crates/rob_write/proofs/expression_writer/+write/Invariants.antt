@@ -7,10 +7,22 @@ use Rattle.rob_write.proofs.expression_writer.+write.Given as goal
 
 abbrev pub invariant-put_terms-loop-term : goal.invariant-put_terms-loop-term
 invariant-put_terms-loop-term g l =
-    fold put l.page (term_words (naming_of (robust g.N.Exact.value l.model)) l.first (terms_written (written_count (robust g.N.Exact.value l.model)) (terms_of (map (signed_of g.N.Exact.value) (drop l.term-index l.terms)))))
-    ≡ fold put l.fn.page (term_words (naming_of (robust g.N.Exact.value l.model)) true (terms_written (written_count (robust g.N.Exact.value l.model)) (terms_of (map (signed_of g.N.Exact.value) l.terms))))
+    fold put l.page
+    (term_words (naming_of (robust g.N.Exact.value l.model)) l.first
+    (terms_written (written_count (robust g.N.Exact.value l.model))
+    (terms_of (map (signed_of g.N.Exact.value) (drop l.term-index l.terms)))))
+    ≡ fold put l.fn.page
+    (term_words (naming_of (robust g.N.Exact.value l.model)) true
+    (terms_written (written_count (robust g.N.Exact.value l.model))
+    (terms_of (map (signed_of g.N.Exact.value) l.terms))))
 
 abbrev pub invariant-put_factors-loop-factor : goal.invariant-put_factors-loop-factor
 invariant-put_factors-loop-factor g l =
-    fold put l.page (factor_words (naming_of (robust g.N.Exact.value l.model)) l.first (factors_written (written_count (robust g.N.Exact.value l.model)) (factors_of (map (expression_of g.N.Exact.value) (drop l.factor-index l.factors)))))
-    ≡ fold put l.fn.page (factor_words (naming_of (robust g.N.Exact.value l.model)) true (factors_written (written_count (robust g.N.Exact.value l.model)) (factors_of (map (expression_of g.N.Exact.value) l.factors))))
+    fold put l.page
+    (factor_words (naming_of (robust g.N.Exact.value l.model)) l.first
+    (factors_written (written_count (robust g.N.Exact.value l.model))
+    (factors_of (map (expression_of g.N.Exact.value) (drop l.factor-index l.factors)))))
+    ≡ fold put l.fn.page
+    (factor_words (naming_of (robust g.N.Exact.value l.model)) true
+    (factors_written (written_count (robust g.N.Exact.value l.model))
+    (factors_of (map (expression_of g.N.Exact.value) l.factors))))

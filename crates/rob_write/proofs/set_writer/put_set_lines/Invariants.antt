@@ -8,6 +8,8 @@ use Rattle.rob_write.proofs.set_writer.put_set_lines.Given as goal
 abbrev pub invariant-loop-i : goal.invariant-loop-i
 invariant-loop-i g l =
     fold put_line l.page (lines_over (set_words (naming_of (robust g.N.Exact.value l.model))) l.model.sets
-    (map (line_written (written_count (robust g.N.Exact.value l.model))) (map (set_line_of g.N.Exact.value) (drop l.i l.set_lines))) (drop l.i l.of_lines))
+    (map (line_written (written_count (robust g.N.Exact.value l.model)))
+    (map (set_line_of g.N.Exact.value) (drop l.i l.set_lines))) (drop l.i l.of_lines))
     ≡ fold put_line l.fn.page (lines_over (set_words (naming_of (robust g.N.Exact.value l.model))) l.model.sets
-    (map (line_written (written_count (robust g.N.Exact.value l.model))) (map (set_line_of g.N.Exact.value) l.set_lines)) l.of_lines)
+    (map (line_written (written_count (robust g.N.Exact.value l.model)))
+    (map (set_line_of g.N.Exact.value) l.set_lines)) l.of_lines)

@@ -6,5 +6,8 @@ use Rattle.rob_write.proofs.writer.put_list.Given as goal
 
 abbrev pub invariant-loop-k : goal.invariant-loop-k
 invariant-loop-k g l =
-    fold put l.page (listed (λ k. name_at (naming_of (robust g.N.Exact.value l.model)).parameters k ∷ []) l.first (drop l.k-index l.on))
-    ≡ fold put l.fn.page (listed (λ k. name_at (naming_of (robust g.N.Exact.value l.model)).parameters k ∷ []) true l.on)
+    fold put l.page
+    (listed (λ k. name_at (naming_of (robust g.N.Exact.value l.model)).parameters k ∷ [])
+    l.first (drop l.k-index l.on))
+    ≡ fold put l.fn.page
+    (listed (λ k. name_at (naming_of (robust g.N.Exact.value l.model)).parameters k ∷ []) true l.on)

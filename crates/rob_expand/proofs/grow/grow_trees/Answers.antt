@@ -1,0 +1,26 @@
+use Rattle.rob_syntax.specs.Known.{texts}
+use Rattle.rob_expand.proofs.NameLemmas.{factor_names_at}
+use Rattle.rob_expand.proofs.WalkLemmas.{left_is, left_none, words_more, words_all, long_more, long_all}
+use Rattle.rob_expand.proofs.grow.grow_trees.Goals as goal
+
+pub loop-tree-preserved : goal.loop-tree-preserved
+loop-tree-preserved c =
+    let f = factor_names_at (texts c.args.own.now.keys) c.args.values.now in
+    let step = left_is c.args.trees.now c.loop-tree.tree-index c.tree-item.result c.loop-tree-test.true c.tree-item.is
+    in
+    record {
+      words = words_more f (texts c.loop-tree.words.keys) _ _ _ c.tree-item.result step c.in_ok-here.ensures.words
+          c.loop-tree.invariant.words;
+      long =
+          long_more f c.loop-tree.long c.in_ok-here.here _ _ _ c.tree-item.result step c.in_ok-here.ensures.long
+          c.either-long.ensures.either c.loop-tree.invariant.long;
+    }
+
+pub returns : goal.returns
+returns c =
+    let f = factor_names_at (texts c.args.own.now.keys) c.args.values.now in
+    let none = left_none c.args.trees.now c.loop-tree.tree-index c.loop-tree-test.false in
+    record {
+      words = words_all f _ _ none c.loop-tree.invariant.words;
+      long = long_all f c.loop-tree.long _ none c.loop-tree.invariant.long;
+    }

@@ -1,0 +1,33 @@
+use Rattle.std.proofs.Common.{◌≡◌, List, ◌++◌, map, ap, sym, ◌∙◌}
+use Rattle.std.specs.Prelude.{ℤ}
+use Rattle.rob_index.specs.Forms.{Ends, extensions}
+use Rattle.rob_syntax.specs.Known.{texts}
+use Rattle.rob_syntax.specs.Symbols.{number_of}
+use Rattle.rob_expand.specs.Growing.{named_at}
+use Rattle.rob_expand.proofs.MakeLemmas.{item_made, numbers_made}
+use Rattle.rob_expand.proofs.WalkLemmas.{left_is, left_none, made_more, made_all}
+use Rattle.rob_expand.proofs.instance.item_numbers.Goals as goal
+
+pub loop-item-preserved : goal.loop-item-preserved
+loop-item-preserved c =
+    let settings : c.items-in-loop-item.result.now ≡ extensions c.item-item.result.ranges c.args.values.now =
+    c.items-in-loop-item.ensures.list ∙ c.in_ok-settings.ensures.settings
+    ∙ ap (λ (rs : List Ends). extensions rs c.args.values.now) c.items.ensures.list in
+    let step = left_is c.args.items.now c.loop-item.item-index c.item-item.result c.loop-item-test.true c.item-item.is
+    in
+    made_more (item_made (texts c.args.own.now.keys) (texts c.args.words.now.keys) c.args.values.now)
+    c.loop-item.numbers _ _ _ c.item-item.result step
+    (c.in_ok-append_numbers.ensures.appended
+    ∙ ap (λ (es : List (List ℤ)). c.loop-item.numbers
+    ++ map (number_of (texts c.args.words.now.keys))
+    (map (named_at (texts c.args.own.now.keys) c.item-item.result.name) es)) settings)
+    c.loop-item.invariant
+
+pub returns : goal.returns
+returns c = record {
+  numbers =
+      made_all (item_made (texts c.args.own.now.keys) (texts c.args.words.now.keys) c.args.values.now)
+      c.loop-item.numbers _
+      (left_none c.args.items.now c.loop-item.item-index c.loop-item-test.false) c.loop-item.invariant
+      ∙ sym (numbers_made (texts c.args.own.now.keys) (texts c.args.words.now.keys) c.args.values.now c.args.items.now);
+}

@@ -1,0 +1,77 @@
+use Rattle.std.proofs.Common.{◌∙◌}
+use Rattle.rob_syntax.specs.Known.{texts}
+use Rattle.rob_expand.proofs.MakeLemmas.{moved_if, uncertain_made, over_made, set_condition_made, budget_made, var_made, policy_made, goal_made, row_made}
+use Rattle.rob_expand.proofs.instance.make_statement.Goals as goal
+
+pub returns-in-Uncertain : goal.returns-in-Uncertain
+returns-in-Uncertain c = record {
+  made =
+      moved_if c.make_uncertain.result _ _ c.make_uncertain.ensures.made
+      (λ m e. e
+      ∙ uncertain_made (texts c.args.own.now.keys) (texts c.args.words.now.keys) c.args.values.now c.args.statement.now
+      c.args.line.now c.requires.line _ c.in-Uncertain.is);
+}
+
+pub returns-in-Over : goal.returns-in-Over
+returns-in-Over c = record {
+  made =
+      moved_if c.make_set_name.result _ _ c.make_set_name.ensures.made
+      (λ m e. e
+      ∙ over_made (texts c.args.own.now.keys) (texts c.args.words.now.keys) c.args.values.now c.args.statement.now
+      c.args.line.now c.requires.line _ c.in-Over.is);
+}
+
+pub returns-in-Set : goal.returns-in-Set
+returns-in-Set c = record {
+  made =
+      moved_if c.make_set.result _ _ c.make_set.ensures.made
+      (λ m e. e
+      ∙ set_condition_made (texts c.args.own.now.keys) (texts c.args.words.now.keys) c.args.values.now
+      c.args.statement.now
+      c.args.line.now c.requires.line _ c.in-Set.is);
+}
+
+pub returns-in-Budget : goal.returns-in-Budget
+returns-in-Budget c = record {
+  made =
+      moved_if c.make_budget.result _ _ c.make_budget.ensures.made
+      (λ m e. e
+      ∙ budget_made (texts c.args.own.now.keys) (texts c.args.words.now.keys) c.args.values.now c.args.statement.now
+      c.args.line.now c.requires.line _ c.in-Budget.is);
+}
+
+pub returns-in-Var : goal.returns-in-Var
+returns-in-Var c = record {
+  made =
+      moved_if c.make_var.result _ _ c.make_var.ensures.made
+      (λ m e. e
+      ∙ var_made (texts c.args.own.now.keys) (texts c.args.words.now.keys) c.args.values.now c.args.statement.now
+      c.args.line.now c.requires.line _ c.in-Var.is);
+}
+
+pub returns-in-Adaptive : goal.returns-in-Adaptive
+returns-in-Adaptive c = record {
+  made =
+      moved_if c.make_policy.result _ _ c.make_policy.ensures.made
+      (λ m e. e
+      ∙ policy_made (texts c.args.own.now.keys) (texts c.args.words.now.keys) c.args.values.now c.args.statement.now
+      c.args.line.now c.requires.line _ c.in-Adaptive.is);
+}
+
+pub returns-in-Goal : goal.returns-in-Goal
+returns-in-Goal c = record {
+  made =
+      moved_if c.make_goal.result _ _ c.make_goal.ensures.made
+      (λ m e. e
+      ∙ goal_made (texts c.args.own.now.keys) (texts c.args.words.now.keys) c.args.values.now c.args.statement.now
+      c.args.line.now c.requires.line _ c.in-Goal.is);
+}
+
+pub returns-in-Row : goal.returns-in-Row
+returns-in-Row c = record {
+  made =
+      moved_if c.make_row.result _ _ c.make_row.ensures.made
+      (λ m e. e
+      ∙ row_made (texts c.args.own.now.keys) (texts c.args.words.now.keys) c.args.values.now c.args.statement.now
+      c.args.line.now c.requires.line _ _ c.in-Row.is);
+}

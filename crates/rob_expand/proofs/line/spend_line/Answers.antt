@@ -1,0 +1,42 @@
+use Rattle.std.proofs.Common.{map}
+use Rattle.std.proofs.lemmas.Result.{err_from_is_err_and}
+use Rattle.rob_expand.specs.Room.{left_of}
+use Rattle.rob_expand.specs.Placed.{placed_of}
+use Rattle.rob_expand.specs.Lines.{line_left, trees_left}
+use Rattle.rob_expand.proofs.StepLemmas.{refused, moved}
+use Rattle.rob_expand.proofs.LineLemmas.{line_baseless, line_treeless, line_behind}
+use Rattle.rob_expand.proofs.line.spend_line.Goals as goal
+
+pub returns-in_err-left : goal.returns-in_err-left
+returns-in_err-left c = record {
+  left =
+      let p = err_from_is_err_and c.from_residual.result c.from_residual.ensures.1 in
+      refused c.from_residual.result _ (left_of c.args.line.now.base c.args.room)
+      (line_left c.args.line.now c.args.values.now c.args.room)
+      c.in_err-left.field-0.0 p.0 p.1 p.2
+      (λ none. line_baseless c.args.line.now c.args.values.now c.args.room none)
+      c.in_err-left.ensures.left;
+}
+
+pub returns-in_err-left-2 : goal.returns-in_err-left-2
+returns-in_err-left-2 c = record {
+  left =
+      let p = err_from_is_err_and c.from_residual-in_err-left-2.result c.from_residual-in_err-left-2.ensures.1 in
+      refused c.from_residual-in_err-left-2.result _
+      (trees_left c.args.line.now.limit (map placed_of c.items.result.now) c.args.values.now c.in_ok-left.left)
+      (line_left c.args.line.now c.args.values.now c.args.room)
+      c.in_err-left-2.field-0.0 p.0 p.1 p.2
+      (λ none. line_treeless c.args.line.now c.args.values.now c.args.room c.in_ok-left.left c.in_ok-left.ensures.left
+      c.items.result.now c.items.ensures.list none)
+      c.in_err-left-2.ensures.left;
+}
+
+pub returns : goal.returns
+returns c = record {
+  left =
+      moved c.spend_items.result _ _
+      (line_behind c.args.line.now c.args.values.now c.args.room c.in_ok-left.left c.in_ok-left.ensures.left
+      c.items.result.now c.items.ensures.list c.in_ok-left-2.left c.items-2.result.now c.items-2.ensures.list
+      c.in_ok-left-2.ensures.left)
+      c.spend_items.ensures.left;
+}

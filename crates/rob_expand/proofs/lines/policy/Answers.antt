@@ -1,0 +1,36 @@
+use Rattle.std.proofs.Common.{ℕ, ◌+◌, List, [], map, refl, ap, ◌∙◌}
+use Rattle.std.specs.Prelude.{Some}
+use Rattle.rob_index.specs.Fast.{names_in, nest_of}
+use Rattle.rob_syntax.specs.declared.syntax.Range.{Range}
+use Rattle.rob_syntax.specs.declared.syntax.Ranged.{Ranged}
+use Rattle.rob_syntax.specs.declared.syntax.Ref.{Ref}
+use Rattle.rob_syntax.specs.Seen.{seen_ranged, seen_ranges, seen_ref}
+use Rattle.rob_expand.specs.declared.placed.Named.{Named}
+use Rattle.rob_expand.specs.Placed.{placed_of}
+use Rattle.rob_expand.specs.Placing.{placed_name}
+use Rattle.rob_expand.specs.Statements.{name_item}
+use Rattle.rob_expand.proofs.PartsLemmas.{parts_are}
+use Rattle.rob_expand.proofs.lines.policy.Goals as goal
+
+pub returns : goal.returns
+returns c = record {
+  parts =
+      let ends =
+      c.in_ok-nest.ensures.ends ∙ ap (λ (rs : List Range). nest_of [] (seen_ranges rs)) c.items.ensures.list in
+      let bound =
+      c.in_ok-nest.ensures.names ∙ ap (λ (rs : List Range). names_in [] (seen_ranges rs)) c.items.ensures.list in
+      let head =
+      ap (λ (n : Named). Some n)
+      (c.in_ok-head.ensures.named
+      ∙ ap (λ (ns : List ℕ). placed_name ns (seen_ref c.args.rule.now.name)) c.items-2.ensures.list) in
+      let items =
+      c.in_ok-items.ensures.items
+      ∙ ap (λ (ns : List ℕ). map (name_item ns) (map (seen_ranged seen_ref) c.items-4.result.now))
+      (c.items-3.ensures.list ∙ bound)
+      ∙ ap (λ (on : List (Ranged Ref)).
+      map (name_item (names_in [] (seen_ranges c.args.rule.now.ranges))) (map (seen_ranged seen_ref) on))
+      c.items-4.ensures.list in
+      parts_are c.args.limit _ _ c.in_ok-nest.nest.names _ _ _ _ _ _ ends bound refl
+      (ap (λ (n : ℕ). 5 + n) c.bounds_tokens-bounds.ensures.tokens) head
+      (ap (map placed_of) c.new-trees.ensures.empty) items refl;
+}

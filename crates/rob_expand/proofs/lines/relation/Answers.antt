@@ -1,0 +1,27 @@
+use Rattle.std.proofs.Common.{ℕ, ◌+◌, List, [], ◌∷◌, map, refl, ap, ◌∙◌}
+use Rattle.std.specs.Option.{option_map}
+use Rattle.rob_index.specs.Fast.{names_in, nest_of}
+use Rattle.rob_syntax.specs.declared.syntax.Range.{Range}
+use Rattle.rob_syntax.specs.Seen.{seen_over, seen_ranges, seen_tree}
+use Rattle.rob_expand.specs.Placing.{placed_name, placed_tree}
+use Rattle.rob_expand.proofs.PartsLemmas.{parts_are}
+use Rattle.rob_expand.proofs.lines.relation.Goals as goal
+
+pub returns : goal.returns
+returns c = record {
+  parts =
+      let ends =
+      c.in_ok-nest.ensures.ends ∙ ap (λ (rs : List Range). nest_of [] (seen_ranges rs)) c.items.ensures.list in
+      let bound =
+      c.in_ok-nest.ensures.names ∙ ap (λ (rs : List Range). names_in [] (seen_ranges rs)) c.items.ensures.list in
+      let pair = seen_tree c.args.sides.now.item.left ∷ seen_tree c.args.sides.now.item.right ∷ [] in
+      let trees =
+      c.in_ok-trees.ensures.trees ∙ ap (λ (ns : List ℕ). map (placed_tree ns) pair) c.items-2.ensures.list in
+      let over =
+      c.in_ok-over.ensures.named
+      ∙ ap (λ (ns : List ℕ). option_map (placed_name ns) (seen_over c.args.sides.now.item.over)) c.items-3.ensures.list
+      in
+      parts_are c.args.limit _ _ c.in_ok-nest.nest.names _ _ _ _ _ _ ends bound refl
+      (ap (λ (n : ℕ). 3 + n) (c.over_tokens-tokens.ensures.tokens c.args.limit)) refl trees
+      c.new-items.ensures.empty over;
+}

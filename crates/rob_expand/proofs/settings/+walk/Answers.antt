@@ -1,0 +1,102 @@
+use Rattle.std.proofs.Common.{◌≡◌, ◌∷◌, ◌++◌, length, List, ap, sym, ◌∙◌}
+use Rattle.std.specs.Prelude.{ℤ}
+use Rattle.std.proofs.lemmas.Result.{err_from_is_err_and}
+use Rattle.rob_index.specs.Forms.{Form, value_of, extensions}
+use Rattle.rob_index.proofs.NestLemmas.{lt_from, lt_not}
+use Rattle.rob_expand.specs.Room.{left_of}
+use Rattle.rob_expand.specs.Settings.{between}
+use Rattle.rob_expand.proofs.StepLemmas.{refused, moved}
+use Rattle.rob_expand.proofs.SettingsLemmas.{walk_none, walk_some, walk_fewer, walk_appended, walk_left, walk_stop, walk_over, walk_made, walk_ended, first_range}
+use Rattle.rob_expand.proofs.settings.+walk.Goals as goal
+
+pub append_settings-returns-in_ok-upto-in-len1-up-clause-left :
+    goal.append_settings-returns-in_ok-upto-in-len1-up-clause-left
+append_settings-returns-in_ok-upto-in-len1-up-clause-left t c =
+    let range = c.range-item.result in
+    let start : c.in_ok-from-in-len1-up.from ≡ value_of range.from c.args.values.now =
+    c.in_ok-from-in-len1-up.ensures.value ∙ ap (λ (f : Form). value_of f c.args.values.now) c.from.ensures.from in
+    let last : c.in_ok-upto-in-len1-up.upto ≡ value_of range.upto c.args.values.now =
+    c.in_ok-upto-in-len1-up.ensures.value ∙ ap (λ (f : Form). value_of f c.args.values.now) c.upto.ensures.upto in
+    moved c.append_values.result _ _
+    (first_range c.args.ranges.now c.args.values.now range c.in_ok-from-in-len1-up.from c.in_ok-upto-in-len1-up.upto
+    c.args.room c.in-len1-up.len_at_least c.range-item.is start last)
+    c.append_values.ensures.left
+
+pub append_values-returns-in_default-clause-appended : goal.append_values-returns-in_default-clause-appended
+append_values-returns-in_default-clause-appended t c =
+    let none = walk_none c.args.upto.now c.args.inner.now c.args.values.now c.values.value c.in_ok-live.field-0
+    c.in_default.is c.in_ok-live.ensures.live in
+    walk_made c.args.upto.now c.args.inner.now c.args.values.now c.values.value c.values.settings none
+    c.values.invariant.appended
+
+pub append_values-returns-in_default-clause-left : goal.append_values-returns-in_default-clause-left
+append_values-returns-in_default-clause-left t c =
+    let none = walk_none c.args.upto.now c.args.inner.now c.args.values.now c.values.value c.in_ok-live.field-0
+    c.in_default.is c.in_ok-live.ensures.live in
+    walk_ended c.args.upto.now c.args.inner.now c.args.values.now c.values.value c.values.left none
+    c.values.invariant.left
+
+pub append_values-returns-then-branch-clause-appended : goal.append_values-returns-then-branch-clause-appended
+append_values-returns-then-branch-clause-appended t c =
+    let some = walk_some c.args.upto.now c.args.inner.now c.args.values.now c.values.value c.in-Some.live
+    c.in_ok-live.field-0 c.in-Some.is c.in_ok-live.ensures.live in
+    let none = walk_over c.args.upto.now c.args.inner.now c.args.values.now c.values.value c.in-Some.live some.0 some.1
+    (lt_from c.args.upto.now c.in-Some.live (sym c.in_ok-is_less.ensures.less ∙ c.if-branch.true)) in
+    walk_made c.args.upto.now c.args.inner.now c.args.values.now c.values.value c.values.settings none
+    c.values.invariant.appended
+
+pub append_values-returns-then-branch-clause-left : goal.append_values-returns-then-branch-clause-left
+append_values-returns-then-branch-clause-left t c =
+    let some = walk_some c.args.upto.now c.args.inner.now c.args.values.now c.values.value c.in-Some.live
+    c.in_ok-live.field-0 c.in-Some.is c.in_ok-live.ensures.live in
+    let none = walk_over c.args.upto.now c.args.inner.now c.args.values.now c.values.value c.in-Some.live some.0 some.1
+    (lt_from c.args.upto.now c.in-Some.live (sym c.in_ok-is_less.ensures.less ∙ c.if-branch.true)) in
+    walk_ended c.args.upto.now c.args.inner.now c.args.values.now c.values.value c.values.left none
+    c.values.invariant.left
+
+pub append_values-returns-in_err-left-clause-left : goal.append_values-returns-in_err-left-clause-left
+append_values-returns-in_err-left-clause-left t c =
+    let some = walk_some c.args.upto.now c.args.inner.now c.args.values.now c.values.value c.in-Some.live
+    c.in_ok-live.field-0 c.in-Some.is c.in_ok-live.ensures.live in
+    let within = lt_not c.args.upto.now c.in-Some.live (sym c.in_ok-is_less.ensures.less ∙ c.if-branch.false) in
+    let inside : (c.in-Some.live ∷ c.args.values.now) ≡ c.items.result.now =
+    sym (c.items.ensures.list ∙ c.in_ok-inside.ensures.values) in
+    let p = err_from_is_err_and c.from_residual-in_err-left.result c.from_residual-in_err-left.ensures.1 in
+    refused c.from_residual-in_err-left.result _
+    (left_of (length (extensions c.args.inner.now c.items.result.now)) c.values.left)
+    (left_of (length (between c.args.from c.args.upto.now c.args.inner.now c.args.values.now)) c.args.room)
+    c.in_err-left.field-0.0 p.0 p.1 p.2
+    (λ none. walk_stop c.args.upto.now c.args.inner.now c.args.values.now c.values.value c.in-Some.live some.0 some.1
+    c.values.left within c.values.invariant.left
+    (ap (λ (vs : List ℤ). left_of (length (extensions c.args.inner.now vs)) c.values.left) inside ∙ none))
+    c.in_err-left.ensures.left
+
+pub append_values-values-smaller : goal.append_values-values-smaller
+append_values-values-smaller t c =
+    let some = walk_some c.args.upto.now c.args.inner.now c.args.values.now c.values.value c.in-Some.live
+    c.in_ok-live.field-0 c.in-Some.is c.in_ok-live.ensures.live in
+    walk_fewer c.args.upto.now c.args.inner.now c.args.values.now c.values.value c.in-Some.live c.in_ok-value.value
+    some.0
+    (lt_not c.args.upto.now c.in-Some.live (sym c.in_ok-is_less.ensures.less ∙ c.if-branch.false))
+    c.in_ok-value.ensures.next
+
+pub append_values-values-preserved : goal.append_values-values-preserved
+append_values-values-preserved t c =
+    let some = walk_some c.args.upto.now c.args.inner.now c.args.values.now c.values.value c.in-Some.live
+    c.in_ok-live.field-0 c.in-Some.is c.in_ok-live.ensures.live in
+    let within = lt_not c.args.upto.now c.in-Some.live (sym c.in_ok-is_less.ensures.less ∙ c.if-branch.false) in
+    let inside = c.items.ensures.list ∙ c.in_ok-inside.ensures.values in
+    record {
+      appended =
+          walk_appended c.args.upto.now c.args.inner.now c.args.values.now c.values.value c.in-Some.live some.0 some.1
+          c.values.settings c.append_settings.new.settings c.in_ok-value.value within c.in_ok-value.ensures.next
+          (c.in_ok-left.ensures.appended
+          ∙ ap (λ (vs : List ℤ). c.values.settings ++ extensions c.args.inner.now vs) inside)
+          c.values.invariant.appended;
+      left =
+          walk_left c.args.upto.now c.args.inner.now c.args.values.now c.values.value c.in-Some.live some.0 some.1
+          c.values.left c.in_ok-left.left c.in_ok-value.value within c.in_ok-value.ensures.next
+          (ap (λ (vs : List ℤ). left_of (length (extensions c.args.inner.now vs)) c.values.left) (sym inside)
+          ∙ c.in_ok-left.ensures.left)
+          c.values.invariant.left;
+    }

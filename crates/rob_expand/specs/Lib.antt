@@ -1,0 +1,13 @@
+pub mod Room
+pub mod Placed
+pub mod Placing
+pub mod Standing
+pub mod Count
+pub mod Live
+pub mod Settings
+pub mod Lines
+pub mod Statements
+pub mod Names
+pub mod Growing
+pub mod Instances
+pub mod Making

@@ -1,0 +1,249 @@
+//! The names of a line in its settings, and the words that grow by them. Each call says whether some name is too long:
+//! none of these becomes a word.
+
+ghost use Rattle.std.specs.Prelude.{◌≡◌, ◌||◌, fold, map, option_to_list, IfOk, OnOk};
+ghost use Rattle.std.specs.List.{flat_map, list_any};
+ghost use Rattle.rob_index.specs.Forms.{values_of};
+ghost use Rattle.rob_index.specs.Rules.{is_long_name};
+ghost use Rattle.rob_syntax.specs.Known.{texts};
+ghost use Rattle.rob_expand.specs.Growing.{each_names, factors_names, item_names, line_names, over_at, parts_names, printed_at};
+ghost use Rattle.rob_expand.specs.Growing as spec;
+ghost use Rattle.rob_expand.specs.Names.{tree_names};
+ghost use Rattle.rob_expand.specs.Placed.{placed_of};
+
+use crate::line::{Item, Line};
+use crate::name::add_name;
+use crate::placed::{Named, Part, Placed};
+use crate::setting::with_value;
+use crate::settings::{Setting, all_settings};
+use rob_number::Memory;
+use rob_ranges::run::Run;
+use rob_ranges::{Ends, Whole};
+use rob_syntax::Words;
+use std::alloc::Global;
+
+/// The names of a line in each of some settings.
+pub fn grow_lines(
+    alloc: Global,
+    own: &Words,
+    words: &mut Words,
+    line: &Line,
+    settings: &[Setting],
+) -> Result<bool, Memory>
+    ensures words { OnOk result (texts words.new.keys ≡ fold spec.add_name (texts words.old.keys)
+        (flat_map (line_names (texts own.now.keys) line.now) settings.now)) }
+    ensures long { IfOk result (λ long. long
+        ≡ list_any is_long_name (flat_map (line_names (texts own.now.keys) line.now) settings.now)) }
+{
+    let mut long = false;
+    for setting in settings {
+        let here = grow_line(alloc, own, words, line, setting.items())?;
+        long = either(long, here);
+    }
+    Ok(long)
+}
+
+/// The names of a line.
+fn grow_line(
+    alloc: Global,
+    own: &Words,
+    words: &mut Words,
+    line: &Line,
+    values: &[Whole],
+) -> Result<bool, Memory>
+    ensures words { OnOk result (texts words.new.keys ≡ fold spec.add_name (texts words.old.keys)
+        (line_names (texts own.now.keys) line.now values.now)) }
+    ensures long { IfOk result (λ long. long
+        ≡ list_any is_long_name (line_names (texts own.now.keys) line.now values.now)) }
+{
+    let head = grow_optional(alloc, own, words, &line.head, values)?;
+    let trees = grow_trees(alloc, own, words, line.trees.items(), values)?;
+    let items = grow_items(alloc, own, words, line.items.items(), values)?;
+    let over = grow_optional(alloc, own, words, &line.over, values)?;
+    let last = either(items, over);
+    let behind = either(trees, last);
+    let long = either(head, behind);
+    Ok(long)
+}
+
+/// Whether one of two holds.
+fn either(first: bool, second: bool) -> bool
+    ensures either { result ≡ (first || second) }
+{
+    first || second
+}
+
+/// A name that may be missing.
+fn grow_optional(
+    alloc: Global,
+    own: &Words,
+    words: &mut Words,
+    name: &Option<Named>,
+    values: &[Whole],
+) -> Result<bool, Memory>
+    ensures words { OnOk result (texts words.new.keys ≡ fold spec.add_name (texts words.old.keys)
+        (option_to_list (over_at (texts own.now.keys) name.now values.now))) }
+    ensures long { IfOk result (λ long. long
+        ≡ list_any is_long_name (option_to_list (over_at (texts own.now.keys) name.now values.now))) }
+{
+    match name {
+        None => Ok(false),
+        Some(name) => add_name(alloc, own, words, name, values),
+    }
+}
+
+/// The names of some expressions.
+fn grow_trees(
+    alloc: Global,
+    own: &Words,
+    words: &mut Words,
+    trees: &[Placed],
+    values: &[Whole],
+) -> Result<bool, Memory>
+    ensures words { OnOk result (texts words.new.keys ≡ fold spec.add_name (texts words.old.keys)
+        (flat_map (λ p. tree_names (printed_at (texts own.now.keys) (placed_of p) values.now)) trees.now)) }
+    ensures long { IfOk result (λ long. long ≡ list_any is_long_name
+        (flat_map (λ p. tree_names (printed_at (texts own.now.keys) (placed_of p) values.now)) trees.now)) }
+{
+    let mut long = false;
+    for tree in trees {
+        let here = grow_tree(alloc, own, words, tree, values)?;
+        long = either(long, here);
+    }
+    Ok(long)
+}
+
+/// The names of some items, in each setting of their ranges.
+fn grow_items(
+    alloc: Global,
+    own: &Words,
+    words: &mut Words,
+    items: &[Item],
+    values: &[Whole],
+) -> Result<bool, Memory>
+    ensures words { OnOk result (texts words.new.keys ≡ fold spec.add_name (texts words.old.keys)
+        (flat_map (λ x. item_names (texts own.now.keys) x values.now) items.now)) }
+    ensures long { IfOk result (λ long. long
+        ≡ list_any is_long_name (flat_map (λ x. item_names (texts own.now.keys) x values.now) items.now)) }
+{
+    let mut long = false;
+    for item in items {
+        let settings = all_settings(alloc, item.ranges.items(), values)?;
+        let here = grow_entries(alloc, own, words, &item.name, settings.items())?;
+        long = either(long, here);
+    }
+    Ok(long)
+}
+
+/// A name in each of some settings.
+fn grow_entries(
+    alloc: Global,
+    own: &Words,
+    words: &mut Words,
+    name: &Named,
+    settings: &[Setting],
+) -> Result<bool, Memory>
+    ensures words { OnOk result (texts words.new.keys ≡ fold spec.add_name (texts words.old.keys)
+        (map (spec.named_at (texts own.now.keys) name.now) settings.now)) }
+    ensures long { IfOk result (λ long. long
+        ≡ list_any is_long_name (map (spec.named_at (texts own.now.keys) name.now) settings.now)) }
+{
+    let mut long = false;
+    for setting in settings {
+        let here = add_name(alloc, own, words, name, setting.items())?;
+        long = either(long, here);
+    }
+    Ok(long)
+}
+
+/// The names of an expression.
+#[cycle(grow)]
+fn grow_tree(
+    alloc: Global,
+    own: &Words,
+    words: &mut Words,
+    placed: &Placed,
+    values: &[Whole],
+) -> Result<bool, Memory>
+    ensures words { OnOk result (texts words.new.keys ≡ fold spec.add_name (texts words.old.keys)
+        (tree_names (printed_at (texts own.now.keys) (placed_of placed.now) values.now))) }
+    ensures long { IfOk result (λ long. long
+        ≡ list_any is_long_name (tree_names (printed_at (texts own.now.keys) (placed_of placed.now) values.now))) }
+{
+    match placed {
+        Placed::Number(_) => Ok(false),
+        Placed::Name(name) => add_name(alloc, own, words, name, values),
+        Placed::Sum(parts) => grow_parts(alloc, own, words, parts.items(), values),
+        Placed::Product(factors) => grow_factors(alloc, own, words, factors.items(), values),
+        Placed::Over(ends, inner) => grow_over(alloc, own, words, ends, inner, values),
+    }
+}
+
+/// The names of the parts of a sum.
+#[cycle(grow)]
+fn grow_parts(
+    alloc: Global,
+    own: &Words,
+    words: &mut Words,
+    parts: &[Part],
+    values: &[Whole],
+) -> Result<bool, Memory>
+    ensures words { OnOk result (texts words.new.keys ≡ fold spec.add_name (texts words.old.keys)
+        (parts_names (texts own.now.keys) values.now parts.now)) }
+    ensures long { IfOk result (λ long. long
+        ≡ list_any is_long_name (parts_names (texts own.now.keys) values.now parts.now)) }
+{
+    let mut long = false;
+    for part in parts {
+        let here = grow_tree(alloc, own, words, &part.inner, values)?;
+        long = either(long, here);
+    }
+    Ok(long)
+}
+
+/// The names of the factors of a product.
+#[cycle(grow)]
+fn grow_factors(
+    alloc: Global,
+    own: &Words,
+    words: &mut Words,
+    factors: &[Placed],
+    values: &[Whole],
+) -> Result<bool, Memory>
+    ensures words { OnOk result (texts words.new.keys ≡ fold spec.add_name (texts words.old.keys)
+        (factors_names (texts own.now.keys) values.now factors.now)) }
+    ensures long { IfOk result (λ long. long
+        ≡ list_any is_long_name (factors_names (texts own.now.keys) values.now factors.now)) }
+{
+    let mut long = false;
+    for factor in factors {
+        let here = grow_tree(alloc, own, words, factor, values)?;
+        long = either(long, here);
+    }
+    Ok(long)
+}
+
+/// The names of a sum over the values of a range.
+#[cycle(grow)]
+fn grow_over(
+    alloc: Global,
+    own: &Words,
+    words: &mut Words,
+    ends: &Ends,
+    inner: &Placed,
+    values: &[Whole],
+) -> Result<bool, Memory>
+    ensures words { OnOk result (texts words.new.keys ≡ fold spec.add_name (texts words.old.keys)
+        (each_names (texts own.now.keys) (placed_of inner.now) values.now (values_of ends.now values.now))) }
+    ensures long { IfOk result (λ long. long ≡ list_any is_long_name
+        (each_names (texts own.now.keys) (placed_of inner.now) values.now (values_of ends.now values.now))) }
+{
+    let mut long = false;
+    let mut run = Run::new(alloc, ends, values)?;
+    'values: while let Some(value) = run.next(alloc)? {
+        let inside = with_value(alloc, &value, values)?;
+        let here = grow_tree(alloc, own, words, inner, inside.items())?;
+        long = either(long, here);
+    }
+    Ok(long)
+}

@@ -1,0 +1,27 @@
+//! What a statement with indices, ranges and sums stands for: whether that fits, and the plain statements.
+#![tactic(auto)]
+
+mod count;
+mod divide;
+mod expansion;
+mod fits;
+mod form;
+mod grow;
+mod instance;
+pub mod laws;
+mod line;
+mod lines;
+mod live;
+mod make;
+mod name;
+mod place;
+mod placed;
+mod room;
+mod setting;
+mod settings;
+mod tokens;
+
+pub use expansion::expand;
+pub use fits::{has_room, spend_statement};
+pub use name::Refusal;
+pub use room::Stop;

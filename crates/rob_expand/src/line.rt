@@ -1,0 +1,126 @@
+//! How many tokens the canonical lines of a statement have, counted without making them.
+
+ghost use Rattle.std.specs.Prelude.{◌≡◌, ◌+◌, ◌≤◌, map, true, Some, IfOk, MatchResult};
+ghost use Rattle.rob_expand.specs.Room.{HasStop, left_of};
+ghost use Rattle.rob_expand.specs.Lines.{line_left, trees_left, items_left, entries_tokens};
+ghost use Rattle.rob_expand.specs.Placed.{placed_of};
+ghost use Rattle.rob_expand.specs.Settings.{all_left};
+
+use crate::count::count;
+use crate::placed::{Named, Placed};
+use crate::room::{Stop, spend};
+use crate::settings::{Setting, settings_of};
+use rob_number::List;
+use rob_ranges::{Ends, Whole};
+use std::alloc::Global;
+
+/// An item of a list, which is an entry in each setting of its ranges.
+#[derive(Drop)]
+pub struct Item {
+    pub name: Named,
+    /// The tokens of an entry behind its name.
+    pub behind: u32,
+    pub ranges: List<Ends>,
+}
+
+/// What of a statement has tokens or names: so many tokens in any setting, the name that is declared, expressions, the
+/// items of a list, and the name behind `over`.
+#[derive(Drop)]
+pub struct Line {
+    /// What digits have to be within.
+    pub limit: u64,
+    pub base: u32,
+    pub head: Option<Named>,
+    pub trees: List<Placed>,
+    pub items: List<Item>,
+    pub over: Option<Named>,
+}
+
+/// What is left behind the lines of some settings.
+pub fn spend_lines(alloc: Global, line: &Line, settings: &[Setting], room: u32) -> Result<u32, Stop>
+    ensures left { MatchResult result
+        (λ left. all_left (line_left line.now) settings.now room ≡ Some left)
+        (λ e. HasStop (all_left (line_left line.now) settings.now room) e) }
+{
+    let mut left = room;
+    for setting in settings {
+        let behind = spend_line(alloc, line, setting.items(), left)?;
+        left = behind;
+    }
+    Ok(left)
+}
+
+/// What is left behind a line.
+fn spend_line(alloc: Global, line: &Line, values: &[Whole], room: u32) -> Result<u32, Stop>
+    ensures left { MatchResult result
+        (λ left. line_left line.now values.now room ≡ Some left)
+        (λ e. HasStop (line_left line.now values.now room) e) }
+{
+    let left = spend(line.base, room)?;
+    let left = spend_trees(alloc, line.limit, line.trees.items(), values, left)?;
+    spend_items(alloc, line.items.items(), values, left)
+}
+
+/// What is left behind some expressions.
+fn spend_trees(
+    alloc: Global,
+    limit: u64,
+    trees: &[Placed],
+    values: &[Whole],
+    room: u32,
+) -> Result<u32, Stop>
+    ensures left { MatchResult result
+        (λ left. trees_left limit (map placed_of trees.now) values.now room ≡ Some left)
+        (λ e. HasStop (trees_left limit (map placed_of trees.now) values.now room) e) }
+{
+    let mut left = room;
+    for tree in trees {
+        let counted = count(alloc, limit, tree, values, left)?;
+        left = counted.left;
+    }
+    Ok(left)
+}
+
+/// What is left behind the items of a list.
+fn spend_items(alloc: Global, items: &[Item], values: &[Whole], room: u32) -> Result<u32, Stop>
+    ensures left { MatchResult result
+        (λ left. items_left true items.now values.now room ≡ Some left)
+        (λ e. HasStop (items_left true items.now values.now room) e) }
+{
+    let mut left = room;
+    let mut first = true;
+    for item in items {
+        let settings = settings_of(alloc, item.ranges.items(), values, left)?;
+        let entries = settings.items().len() as u32;
+        let behind = spend_entries(first, item.behind, entries, left)?;
+        left = behind;
+        first = first && entries == 0;
+    }
+    Ok(left)
+}
+
+/// What is left behind some entries, a `,` in front of each but the first of the list.
+fn spend_entries(first: bool, behind: u32, entries: u32, room: u32) -> Result<u32, Stop>
+    ensures left { MatchResult result
+        (λ left. left_of (entries_tokens first (1 + behind) entries) room ≡ Some left)
+        (λ e. HasStop (left_of (entries_tokens first (1 + behind) entries) room) e) }
+    ensures within { IfOk result (λ left. left ≤ room) }
+{
+    let tokens = tokens_of_entries(first, behind, entries);
+    if tokens <= u64::from(room) {
+        Ok(room - tokens as u32)
+    } else {
+        Err(Stop::TooMuch)
+    }
+}
+
+/// The tokens of some entries, a `,` in front of each but the first of the list.
+fn tokens_of_entries(first: bool, behind: u32, entries: u32) -> u64
+    ensures tokens { result ≡ entries_tokens first (1 + behind) entries }
+{
+    if entries == 0 {
+        return 0;
+    }
+    let all = u64::from(entries) * (2 + u64::from(behind));
+    if first { all - 1 } else { all }
+}

@@ -1,0 +1,112 @@
+//! Where the ranges inside a range have values.
+
+ghost use Rattle.std.specs.Prelude.{ℤ, pos, negsuc, ◌≡◌, ◌+ℤ◌, ◌*ℤ◌, ◌≤ℤ◌, ◌<ℤ◌, int_lt, IfOk, MatchOption};
+ghost use Rattle.rob_expand.specs.Live.{lack_at, IsDead};
+
+use crate::divide::steps_to;
+use crate::setting::{next, with_value};
+use rob_number::Memory;
+use rob_ranges::{Ends, Whole};
+use std::alloc::Global;
+
+/// The first value from `from` on at which the outermost of the ranges inside has a value, if there is one. It is
+/// found by division: how far that range's start is behind its end changes by the same amount from value to value.
+pub fn first_live(
+    alloc: Global,
+    from: &Whole,
+    inner: &[Ends],
+    values: &[Whole],
+) -> Result<Option<Whole>, Memory>
+    ensures live { IfOk result (λ live. MatchOption live
+        ((w : ℤ) → from.now ≤ℤ w → IsDead inner.now values.now w)
+        (λ v. (from.now ≤ℤ v) × ((w : ℤ) → from.now ≤ℤ w → w <ℤ v → IsDead inner.now values.now w))) }
+{
+    match inner {
+        [] => Ok(Some(from.copy(alloc)?)),
+        [range, ..] => first_of(alloc, from, range, values),
+    }
+}
+
+/// The same, where this is the outermost of the ranges inside.
+fn first_of(
+    alloc: Global,
+    from: &Whole,
+    range: &Ends,
+    values: &[Whole],
+) -> Result<Option<Whole>, Memory>
+    ensures live { IfOk result (λ live. MatchOption live
+        ((w : ℤ) → from.now ≤ℤ w → pos 0 <ℤ lack_at range.now values.now w)
+        (λ v. (from.now ≤ℤ v)
+        × ((w : ℤ) → from.now ≤ℤ w → w <ℤ v → pos 0 <ℤ lack_at range.now values.now w))) }
+{
+    let here = lack(alloc, range, from, values)?;
+    if is_positive(alloc, &here)? {
+        first_behind(alloc, from, range, values, &here)
+    } else {
+        Ok(Some(from.copy(alloc)?))
+    }
+}
+
+/// The same, where `from` is none, and the start of the range is so far behind its end there.
+fn first_behind(
+    alloc: Global,
+    from: &Whole,
+    range: &Ends,
+    values: &[Whole],
+    here: &Whole,
+) -> Result<Option<Whole>, Memory>
+    requires here { here.now ≡ lack_at range.now values.now from.now }
+    requires over { pos 0 <ℤ here.now }
+    ensures live { IfOk result (λ live. MatchOption live
+        ((w : ℤ) → from.now ≤ℤ w → pos 0 <ℤ lack_at range.now values.now w)
+        (λ v. (from.now ≤ℤ v)
+        × ((w : ℤ) → from.now ≤ℤ w → w <ℤ v → pos 0 <ℤ lack_at range.now values.now w))) }
+{
+    let step = fall(alloc, range, from, values)?;
+    if is_positive(alloc, &step)? {
+        let steps = steps_to(alloc, here, &step)?;
+        let live = sum(alloc, from, &steps)?;
+        Ok(Some(live))
+    } else {
+        Ok(None)
+    }
+}
+
+/// Whether a number is over 0.
+fn is_positive(alloc: Global, number: &Whole) -> Result<bool, Memory>
+    ensures positive { IfOk result (λ positive. positive ≡ int_lt (pos 0) number.now) }
+{
+    let zero = Whole::small(alloc, 0);
+    zero.is_less(alloc, number)
+}
+
+/// The sum of two numbers.
+fn sum(alloc: Global, first: &Whole, second: &Whole) -> Result<Whole, Memory>
+    ensures sum { IfOk result (λ sum. sum ≡ first.now +ℤ (pos 1 *ℤ second.now)) }
+{
+    let one = Whole::small(alloc, 1);
+    first.plus_times(alloc, &one, second)
+}
+
+/// By how much a range's start comes nearer to its end with the next value of the range around it.
+fn fall(alloc: Global, range: &Ends, value: &Whole, values: &[Whole]) -> Result<Whole, Memory>
+    ensures fall { IfOk result (λ fall. fall ≡ lack_at range.now values.now value.now
+        +ℤ (negsuc 0 *ℤ lack_at range.now values.now (value.now +ℤ pos 1))) }
+{
+    let here = lack(alloc, range, value, values)?;
+    let after = next(alloc, value)?;
+    let behind = lack(alloc, range, &after, values)?;
+    let minus_one = Whole::small(alloc, -1);
+    here.plus_times(alloc, &minus_one, &behind)
+}
+
+/// How far the start of a range is behind its end, where the range around it has this value.
+fn lack(alloc: Global, range: &Ends, value: &Whole, values: &[Whole]) -> Result<Whole, Memory>
+    ensures lack { IfOk result (λ lack. lack ≡ lack_at range.now values.now value.now) }
+{
+    let inside = with_value(alloc, value, values)?;
+    let from = range.from().value(alloc, inside.items())?;
+    let upto = range.upto().value(alloc, inside.items())?;
+    let minus_one = Whole::small(alloc, -1);
+    from.plus_times(alloc, &minus_one, &upto)
+}

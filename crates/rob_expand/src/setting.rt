@@ -1,0 +1,35 @@
+//! Settings: the values of the ranges around a place, the innermost first.
+
+ghost use Rattle.std.specs.Prelude.{◌≡◌, ◌∷◌, ◌+ℤ◌, pos, IfOk};
+
+use rob_number::{List, Memory};
+use rob_ranges::Whole;
+use rob_ranges::form::append_copies;
+use std::alloc::Global;
+
+/// The values with one more in front: that of a range inside the others.
+pub fn with_value(alloc: Global, value: &Whole, values: &[Whole]) -> Result<List<Whole>, Memory>
+    ensures values { IfOk result (λ inside. inside ≡ value.now ∷ values.now) }
+{
+    let mut inside = List::new(alloc);
+    inside.push(value.copy(alloc)?)?;
+    append_copies(&mut inside, alloc, values)?;
+    Ok(inside)
+}
+
+/// The same values.
+pub fn copied(alloc: Global, values: &[Whole]) -> Result<List<Whole>, Memory>
+    ensures values { IfOk result (λ copied. copied ≡ values.now) }
+{
+    let mut copied = List::new(alloc);
+    append_copies(&mut copied, alloc, values)?;
+    Ok(copied)
+}
+
+/// The next value upwards.
+pub fn next(alloc: Global, value: &Whole) -> Result<Whole, Memory>
+    ensures next { IfOk result (λ next. next ≡ value.now +ℤ pos 1) }
+{
+    let one = Whole::small(alloc, 1);
+    value.plus_times(alloc, &one, &one)
+}

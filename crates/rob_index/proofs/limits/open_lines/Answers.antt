@@ -1,0 +1,7 @@
+use Rattle.rob_index.proofs.ExpandedDepths.{expansion_shallow}
+use Rattle.rob_index.proofs.LineOpenLemmas.{line_deepest, line_shallow}
+use Rattle.rob_index.proofs.OpenLemmas.{deepest-bare}
+use Rattle.rob_index.proofs.limits.open_lines.Goals as goal
+
+pub returns : goal.returns
+returns c = record { depth = line_shallow; line = line_deepest; expanded = expansion_shallow; bare = deepest-bare }

@@ -1,0 +1,4 @@
+pub mod AroundLemmas
+pub mod PriceLemmas
+pub mod StepLemmas
+pub mod WalkLemmas

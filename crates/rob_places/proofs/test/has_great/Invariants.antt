@@ -1,0 +1,12 @@
+use Rattle.std.proofs.Common.{◌≡◌, drop, map}
+use Rattle.std.specs.List.{list_any}
+use Rattle.rob_index.specs.Statements.{Step}
+use Rattle.rob_index.specs.Rules.{is_great_atom}
+use Rattle.rob_syntax.specs.Seen.{seen_step}
+use Rattle.rob_places.proofs.test.has_great.Given as goal
+
+-- what is left to be looked at decides
+abbrev pub invariant-loop-step : goal.invariant-loop-step
+invariant-loop-step l =
+    list_any (λ (s : Step). is_great_atom s.atom) (map seen_step (drop l.step-index l.index.more))
+    ≡ list_any (λ (s : Step). is_great_atom s.atom) (map seen_step l.index.more)

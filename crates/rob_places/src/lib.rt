@@ -1,0 +1,9 @@
+//! Whether some place of a statement is at fault: an index of a name, or a range, in some setting of the ranges around
+//! it.
+#![tactic(auto)]
+
+mod around;
+pub mod fault;
+pub mod index;
+mod test;
+mod walk;

@@ -1,0 +1,4 @@
+pub mod DigitLemmas
+pub mod NestLemmas
+pub mod NestLists
+pub mod SeekingLemmas

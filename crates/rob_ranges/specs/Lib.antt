@@ -1,0 +1,4 @@
+pub mod DigitLists
+pub mod Digits
+pub mod Nests
+pub mod Seeking

@@ -1,0 +1,22 @@
+-- What the ends of nested ranges tell, whatever is asked of them.
+use Rattle.std.specs.Prelude.{◌≡◌, List, [], ◌∷◌}
+use Rattle.rob_index.specs.Forms.{Ends, all_run, is_dead}
+use Rattle.rob_ranges.specs.declared.nest.Told.{Told}
+
+-- what the ends of a nest tell, the innermost first
+pub record IsTold (nest : List Ends) (told : Told) : Type 0 where
+  pub runs : told.runs ≡ all_run nest
+  pub dead : told.dead ≡ is_dead nest
+
+-- the same of each range of some, the outermost first, inside a nest
+abbrev pub AreTold : List Ends → List Ends → List Told → Type 0
+AreTold nest [] [] = Unit {0}
+AreTold nest [] (t ∷ ts) = ⊥
+AreTold nest (r ∷ rs) [] = ⊥
+AreTold nest (r ∷ rs) (t ∷ ts) = IsTold (r ∷ nest) t × AreTold (r ∷ nest) rs ts
+
+-- all but the last of a list
+abbrev pub all_but_last : {A : Type 0} → List A → List A
+all_but_last [] = []
+all_but_last (x ∷ []) = []
+all_but_last (x ∷ y ∷ ys) = x ∷ all_but_last (y ∷ ys)

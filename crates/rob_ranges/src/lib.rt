@@ -1,0 +1,15 @@
+//! Whole numbers of any size, linear forms over the values of nested ranges, and whether a form reaches a bound there.
+#![tactic(auto)]
+
+mod digits;
+pub mod form;
+pub mod nest;
+pub mod reach;
+pub mod run;
+pub mod search;
+pub mod whole;
+
+pub use form::{Ends, Form};
+pub use nest::Nest;
+pub use search::Purse;
+pub use whole::Whole;

@@ -1,0 +1,176 @@
+//! Whether a form reaches a bound somewhere in nested ranges: from the ends of the ranges where these tell, else with
+//! values put in for the outermost range, one after the other. `ranges` are those that are open, the outermost first;
+//! `values` are those put in for the ranges around them, the innermost first.
+
+ghost use Rattle.std.specs.Prelude.{◌≡◌, ◌∷◌, pos, int_le, int_lt, IfOk};
+ghost use Rattle.std.specs.List.{list_any};
+ghost use Rattle.rob_index.specs.Forms.{all_run, fixed, from_ends, greatest, is_dead, lack_form, length_form, onto, reaches, values_of};
+
+use crate::form::{Ends, Form, append_copies};
+use crate::run::Run;
+use crate::whole::Whole;
+use rob_number::{List, Memory};
+use std::alloc::Global;
+
+/// The greatest value of a form, by back substitution. It is never passed; where a range may be empty it may not be
+/// reached.
+pub fn greatest(
+    alloc: Global,
+    ranges: &[Ends],
+    values: &[Whole],
+    form: &Form,
+) -> Result<Whole, Memory>
+    ensures greatest { IfOk result (λ value. value ≡ greatest (onto ranges.now (fixed values.now)) form.now) }
+{
+    match ranges {
+        [] => form.value(alloc, values),
+        [around @ .., innermost] => {
+            let outer = form.without(alloc, innermost)?;
+            greatest(alloc, around, values, &outer)
+        }
+    }
+}
+
+/// Whether a range has a value, whatever the values of those around it.
+pub fn always_runs(
+    alloc: Global,
+    around: &[Ends],
+    values: &[Whole],
+    range: &Ends,
+) -> Result<bool, Memory>
+    ensures runs { IfOk result (λ runs.
+        runs ≡ int_le (greatest (onto around.now (fixed values.now)) (lack_form range.now)) (pos 0)) }
+{
+    let zero = Whole::small(alloc, 0);
+    let lack = range.lack(alloc)?;
+    let most = greatest(alloc, around, values, &lack)?;
+    most.is_at_most(alloc, &zero)
+}
+
+/// Whether a range has no value, whatever the values of those around it.
+pub fn never_runs(
+    alloc: Global,
+    around: &[Ends],
+    values: &[Whole],
+    range: &Ends,
+) -> Result<bool, Memory>
+    ensures dead { IfOk result (λ dead.
+        dead ≡ int_lt (greatest (onto around.now (fixed values.now)) (length_form range.now)) (pos 0)) }
+{
+    let length = range.length(alloc)?;
+    let most = greatest(alloc, around, values, &length)?;
+    Ok(most.is_negative())
+}
+
+/// Whether each range has a value, whatever the values around it.
+pub fn all_run(alloc: Global, ranges: &[Ends], values: &[Whole]) -> Result<bool, Memory>
+    ensures runs { IfOk result (λ runs. runs ≡ all_run (onto ranges.now (fixed values.now))) }
+{
+    match ranges {
+        [] => Ok(true),
+        [around @ .., innermost] => {
+            if always_runs(alloc, around, values, innermost)? {
+                all_run(alloc, around, values)
+            } else {
+                Ok(false)
+            }
+        }
+    }
+}
+
+/// Whether some range has no value, whatever the values around it.
+pub fn is_dead(alloc: Global, ranges: &[Ends], values: &[Whole]) -> Result<bool, Memory>
+    ensures dead { IfOk result (λ dead. dead ≡ is_dead (onto ranges.now (fixed values.now))) }
+{
+    match ranges {
+        [] => Ok(false),
+        [around @ .., innermost] => {
+            if never_runs(alloc, around, values, innermost)? {
+                Ok(true)
+            } else {
+                is_dead(alloc, around, values)
+            }
+        }
+    }
+}
+
+/// Whether the form reaches the bound somewhere, where that is seen from the ends alone.
+pub fn from_ends(
+    alloc: Global,
+    ranges: &[Ends],
+    values: &[Whole],
+    form: &Form,
+    bound: &Whole,
+) -> Result<Option<bool>, Memory>
+    ensures seen { IfOk result (λ seen. seen ≡ from_ends (onto ranges.now (fixed values.now)) form.now bound.now) }
+{
+    let most = greatest(alloc, ranges, values, form)?;
+    if most.is_less(alloc, bound)? {
+        return Ok(Some(false));
+    }
+    if is_dead(alloc, ranges, values)? {
+        return Ok(Some(false));
+    }
+    if all_run(alloc, ranges, values)? {
+        Ok(Some(true))
+    } else {
+        Ok(None)
+    }
+}
+
+/// Whether the form reaches the bound at some values of the ranges.
+#[tactic(auto, using(crate::proofs::NestLemmas::reach_told, crate::proofs::NestLemmas::reach_open))]
+#[cycle(reaches)]
+pub fn reaches(
+    alloc: Global,
+    ranges: &[Ends],
+    values: &[Whole],
+    form: &Form,
+    bound: &Whole,
+) -> Result<bool, Memory>
+    ensures reaches { IfOk result (λ found. found ≡ reaches ranges.now values.now form.now bound.now) }
+{
+    match ranges {
+        [] => {
+            let value = form.value(alloc, values)?;
+            bound.is_at_most(alloc, &value)
+        }
+        [outermost, inner @ ..] => match from_ends(alloc, ranges, values, form, bound)? {
+            Some(seen) => Ok(seen),
+            None => some_reaches(alloc, outermost, inner, values, form, bound),
+        },
+    }
+}
+
+/// Whether the form reaches the bound at some values of the inner ranges, with a value of the outermost put in.
+#[cycle(reaches)]
+pub fn some_reaches(
+    alloc: Global,
+    outermost: &Ends,
+    inner: &[Ends],
+    values: &[Whole],
+    form: &Form,
+    bound: &Whole,
+) -> Result<bool, Memory>
+    ensures some { IfOk result (λ found. found
+        ≡ list_any (λ v. reaches inner.now (v ∷ values.now) form.now bound.now) (values_of outermost.now values.now)) }
+{
+    let mut run = Run::new(alloc, outermost, values)?;
+    'upwards: while let Some(value) = run.next(alloc)? {
+        let put_in = in_front(alloc, &value, values)?;
+        if reaches(alloc, inner, put_in.items(), form, bound)? {
+            return Ok(true);
+        }
+    }
+    Ok(false)
+}
+
+/// A value in front of others.
+pub fn in_front(alloc: Global, value: &Whole, values: &[Whole]) -> Result<List<Whole>, Memory>
+    ensures all { IfOk result (λ all. all ≡ value.now ∷ values.now) }
+{
+    let mut out = List::new(alloc);
+    out.push(value.copy(alloc)?)?;
+    append_copies(&mut out, alloc, values)?;
+    Ok(out)
+}

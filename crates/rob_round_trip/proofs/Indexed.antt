@@ -1,0 +1,8 @@
+-- A line of version 1, which has no indices, as rob_index has it, and a text of such lines.
+pub mod PlainExpressions
+pub mod PlainLines
+pub mod PlainNames
+pub mod PlainFollows
+pub mod PlainTexts
+pub mod NumberedCounts
+pub mod ReadLengths

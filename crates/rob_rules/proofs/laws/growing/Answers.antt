@@ -1,0 +1,6 @@
+use Rattle.rob_rules.proofs.GrowingLemmas.{statement_grows}
+use Rattle.rob_rules.proofs.WideLemmas.{fault_same}
+use Rattle.rob_rules.proofs.laws.growing.Goals as goal
+
+pub returns : goal.returns
+returns c = record { numbers = statement_grows; faults = fault_same }

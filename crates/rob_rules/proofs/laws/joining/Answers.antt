@@ -1,0 +1,5 @@
+use Rattle.rob_rules.proofs.JoinLemmas.{reading_append, breaking_behind}
+use Rattle.rob_rules.proofs.laws.joining.Goals as goal
+
+pub returns : goal.returns
+returns c = record { reading = reading_append; breaking = breaking_behind }

@@ -1,0 +1,37 @@
+use Rattle.std.proofs.Common.{refl}
+use Rattle.std.proofs.lemmas.Result.{err_from_is_err_and}
+use Rattle.rob_syntax.specs.Seen.{seen_ranged, seen_share}
+use Rattle.rob_syntax.proofs.Fronts.ChainLemmas.{front_start, front_push, front_end, front_refused}
+use Rattle.rob_syntax.proofs.Fronts.IndexLemmas.{comma_stuck}
+use Rattle.rob_syntax.proofs.Fronts.ListLemmas.{share_chain}
+use Rattle.rob_syntax.proofs.Fronts.PartLemmas.{pushed, led_found, led_missing, cause_up, refused_with, first_pushed}
+use Rattle.rob_syntax.proofs.indexed.budget.members_behind.Goals as goal
+
+pub loop-behind-init : goal.loop-behind-init
+loop-behind-init c =
+    front_start (first_pushed (seen_ranged seen_share) _ c.new-list.ensures.empty c.in_ok-push.ensures.appended)
+
+pub returns-in_err-next : goal.returns-in_err-next
+returns-in_err-next c =
+    record {
+      read =
+          let p = err_from_is_err_and c.from_residual-in_err-next.result c.from_residual-in_err-next.ensures.1 in
+          refused_with c.from_residual-in_err-next.result _ _ c.in_err-next.field-0.0 p.0 p.1 p.2
+          (cause_up (λ missing. front_refused share_chain c.loop-behind.invariant
+          (led_missing c.in-Some.ensures.read missing) (comma_stuck c.in-Some.ensures.read))
+          c.in_err-next.field-0.0 c.in_err-next.ensures.read);
+    }
+
+pub loop-behind-preserved : goal.loop-behind-preserved
+loop-behind-preserved c =
+    front_push share_chain (seen_ranged seen_share c.in_ok-next.next)
+    (seen_ranged seen_share c.in_ok-next.next) (λ xs. refl)
+    c.loop-behind.invariant (led_found c.in-Some.ensures.read c.in_ok-next.ensures.read)
+    (comma_stuck c.in-Some.ensures.read) (pushed (seen_ranged seen_share) _ _ c.in_ok-push-2.ensures.appended)
+
+pub returns : goal.returns
+returns c =
+    record {
+      read = front_end share_chain refl c.loop-behind.invariant
+          (λ x end same. c.in_default.ensures.read _ same);
+    }

@@ -1,0 +1,10 @@
+use Rattle.std.proofs.Common.{ap}
+use Rattle.rob_syntax.specs.Seen.{seen_line}
+use Rattle.rob_syntax.proofs.Seeing.{no_digits}
+use Rattle.rob_syntax.proofs.indexed.front.front_digits.Goals as goal
+
+pub returns-in-Some : goal.returns-in-Some
+returns-in-Some c = record { read = ap seen_line c.in-Some.ensures.read }
+
+pub returns-in-None : goal.returns-in-None
+returns-in-None c = record { read = no_digits c.args.symbols.now c.in-None.ensures.read }
