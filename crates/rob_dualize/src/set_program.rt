@@ -1,6 +1,6 @@
 // The program of an uncertainty set, solved.
 
-ghost use Rattle.std.specs.Prelude.{◌≡◌, ◌<◌, ◌≤◌, ◌+◌, ◌^◌, ℕ, map, IfOk, IfErr, IfSome, MatchResult};
+ghost use Rattle.std.specs.Prelude.{◌≡◌, ◌<◌, ◌≤◌, ◌+◌, ◌^◌, ℕ, map, IfOk, IfErr, MatchResult};
 ghost use Rattle.rob_meaning.specs.RobustModel.{RobustModel};
 ghost use Rattle.rob_meaning.specs.WellFormed.{IsModel};
 ghost use Rattle.rob_counterpart.specs.ReadNumbers.{differences};
@@ -9,7 +9,6 @@ ghost use Rattle.rob_number.specs.Counts.{NeverFell};
 ghost use Rattle.rob_sets.specs.SetForm.{IsSetForm};
 ghost use Rattle.rob_simplex.specs.Solvers.{positions, HasPoint, HasWeights};
 ghost use Rattle.rob_simplex.specs.Solutions.{point_of, weights_of};
-ghost use Rattle.rob_simplex.specs.Counting.{CountsRows};
 ghost use Rattle.rob_solver.specs.Solving.{CountsSolving};
 ghost use Rattle.rob_dualize.specs.Ending.{IsMadeAs, IsSolvedAs, IsStoppedAs, TellsWeights};
 ghost use Rattle.rob_dualize.specs.SetSolving.{program_of_set, HasSetCause, IsFewSet, IsSetOfModel, IsSolved};
@@ -71,27 +70,6 @@ fn solve_set<N: Exact, L: Ledger>(
         Err(Memory) => return Err(Stopped::Memory),
     };
     solve(alloc, &lp, ledger)
-}
-
-/// The same over deep rows, or nothing where these don't lead to a basis with a scenario. It counts no wide result.
-pub fn deep_set<N: Exact, L: Ledger>(
-    alloc: Global,
-    set: &SetForm,
-    ledger: &mut L,
-) -> Result<Option<Solver<N>>, Memory>
-    requires model { IsSetOfModel N.limit set.now }
-    requires few { IsFewSet set.now }
-    ensures solved { IfOk result (λ found. IfSome found (λ solver. IsSolved (program_of_set set.now) solver)) }
-    ensures counted { CountsRows L.ops L.wides ledger.old ledger.new }
-{
-    let lp = set_lp(alloc, set)?;
-    let mut solver = Solver::deep(alloc, &lp)?;
-    match solver.solve(ledger) {
-        Ok(LpKind::Infeasible) => Ok(None),
-        Ok(LpKind::Optimal) => Ok(Some(solver)),
-        Ok(LpKind::Unbounded) => Ok(Some(solver)),
-        Err(_) => Ok(None),
-    }
 }
 
 /// The weights of the set rows that show that no scenario is admitted.

@@ -1,6 +1,7 @@
 -- Rows that were lent and written back, within the cells.
-use Rattle.std.proofs.Common.{◌≡◌, ◌⊎◌, ℕ, ◌+◌, ◌-◌, ◌<◌, ◌≤◌, sym, refl, ap, ◌∙◌, subst, arith, inl, inr, rules, List, [], ◌∷◌, ◌++◌, Any, take, drop, length, map}
-use Rattle.std.proofs.lemmas.List.{get_or-take, get_or-drop, length-take, length-drop, length-map, take-map, drop-map, map-append, places, get_or_default}
+use Rattle.std.proofs.Common.{◌≡◌, ◌⊎◌, ℕ, ◌+◌, ◌-◌, ◌<◌, ◌≤◌, sym, refl, ap, ◌∙◌, subst, arith, inl, inr, rules, List, [], ◌∷◌, ◌++◌, Any, take, drop, length, map, set}
+use Rattle.std.proofs.lemmas.Bool.{cases_eq}
+use Rattle.std.proofs.lemmas.List.{get_or-take, get_or-drop, length-take, length-drop, length-map, take-map, drop-map, map-append, places, get_or_default, get_or-set_same, get_or-set_other}
 use borrow.Rule.Slice.PartMut.{put_mid, post_of, put_same, same_len_mid}
 use lib.IntN.{ℤ, pos, nat_abs}
 use Rattle.rob_linear.specs.Vectors.{at}
@@ -119,3 +120,11 @@ module _ {X : Type 0} (f : X → ℤ) (cells : List ℤ) (items now : List X) (l
     -- where the row is as it was, so are the cells
     pub stored_same : s ≡ part now a w → map f stored ≡ cells
     stored_same e = stored_numbers ∙ ap (λ (t : List ℤ). put cells a w t) (ap (map f) e ∙ row_part) ∙ put_same a (a + w - a) cells
+
+-- ---- one number more is written as it is in another list
+pub one_more : (xs new ys : List ℤ) (k : ℕ) (x : ℤ) → length xs ≡ length ys → k < length ys → new ≡ set xs k x → x ≡ at ys k → ((j : ℕ) → j < k → at xs j ≡ at ys j)
+    → (j : ℕ) → j < k + 1 → at new j ≡ at ys j
+one_more xs new ys k x size l e is h j jl = elim (cases_eq j k) [
+  | inl same ↦ ap (λ (t : List ℤ). at t j) e ∙ ap (at (set xs k x)) same ∙ get_or-set_same xs k x (pos 0) (omega arith) ∙ is ∙ ap (at ys) (sym same)
+  | inr other ↦ ap (λ (t : List ℤ). at t j) e ∙ get_or-set_other xs k j x (pos 0) other ∙ h j (omega arith)
+]

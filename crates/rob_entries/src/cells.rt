@@ -1,6 +1,6 @@
 // The numbers of rows, one row behind another. A row of a given width begins at its start.
 
-ghost use Rattle.std.specs.Prelude.{◌≡◌, ◌≢◌, ◌⊎◌, ℕ, ℤ, ◌<◌, ◌≤◌, ◌+◌, ◌-◌, ◌*ℤ◌, ◌<ℤ◌, pos, neg_ℤ, nat_abs, set, take, drop, length, slice_index_or, IfOk, OnErr};
+ghost use Rattle.std.specs.Prelude.{◌≡◌, ◌≢◌, ◌⊎◌, ℕ, ℤ, ◌<◌, ◌≤◌, ◌+◌, ◌-◌, ◌^◌, ◌*ℤ◌, ◌<ℤ◌, pos, neg_ℤ, nat_abs, set, take, drop, length, slice_index_or, IfOk, OnErr};
 ghost use Rattle.rob_linear.specs.Vectors.{at};
 ghost use Rattle.rob_linear.specs.Multiples.{IsClearedBy};
 ghost use Rattle.rob_rows.specs.PrimitiveParts.{content};
@@ -38,6 +38,19 @@ impl<E: Entry> Cells<E> {
         Ok(Cells {
             items: vec![in alloc; E::of(0); count]?,
         })
+    }
+
+    /// The numbers of another one, each of 62 bits, as entries of this type.
+    pub fn deepened<F: Entry>(alloc: Global, other: &Cells<F>) -> Result<Cells<E>, AllocError>
+        requires short { (k : ℕ) → k < length other.now → nat_abs (at other.now k) < 2 ^ 62 }
+        ensures same { IfOk result (λ cells. cells ≡ other.now) }
+    {
+        let count = other.len();
+        let mut cells = Cells::new(alloc, count)?;
+        for k in 0..count {
+            cells.set(k, deeper(other.get(k)));
+        }
+        Ok(cells)
     }
 
     /// Copies the other one, which has as many numbers.
@@ -194,4 +207,12 @@ impl<E: Entry> Cells<E> {
             limit,
         )
     }
+}
+
+// An entry of 62 bits as one of another type.
+fn deeper<F: Entry, E: Entry>(entry: F) -> E
+    requires short { nat_abs (F.value entry) < 2 ^ 62 }
+    ensures value { E.value result ≡ F.value entry }
+{
+    E::of(entry.whole().unwrap())
 }

@@ -1,7 +1,10 @@
 -- A dictionary, and a solver, that are made like others.
-use Rattle.std.proofs.Common.{◌≡◌, ℕ, ◌∙◌, sym, ap, subst, List}
-use lib.IntN.{ℤ}
+use Rattle.std.proofs.Common.{◌≡◌, ℕ, zero, suc, ◌+◌, ◌-◌, ◌*◌, ◌<◌, ◌≤◌, ◌∙◌, sym, ap, subst, arith, inl, inr, List, length}
+use Rattle.std.proofs.lemmas.Bool.{cases_lt}
+use lib.IntN.{ℤ, nat_abs}
+use Rattle.rob_linear.specs.Vectors.{at}
 use Rattle.rob_simplex.specs.declared.state.State.{State}
+use Rattle.rob_simplex.specs.Tables.{HasBounds}
 use Rattle.rob_simplex.specs.Dictionaries.{Table, IsSound}
 use Rattle.rob_simplex.specs.Solvers.{Solver}
 
@@ -28,3 +31,33 @@ solver_of s t w = record { state = s; dictionary = t; weights = w }
 
 pub same_solver : (s : State) (t t' : Table) (w w' : List ℤ) → t ≡ t' → w ≡ w' → solver_of s t w ≡ solver_of s t' w'
 same_solver s t t' w w' et ew = ap (λ v. solver_of s v w) et ∙ ap (λ v. solver_of s t' v) ew
+
+-- ---- rows of a greater limit
+pub raised_sound : (l l' n : ℕ) (b p k : List ℕ) (t : List ℤ) (u : List ℕ) (room room' : ℕ) → l ≤ l' → room' ≡ n + 4 → IsSound l n b p k t u room → IsSound l' n b p k t u room'
+raised_sound l l' n b p k t u room room' up er h = record {
+  few = h.few;
+  limit_low = omega (arith, h.limit_low);
+  count = h.count;
+  bounded = record { size = h.bounded.size; within = h.bounded.within; low = λ i il. let x = h.bounded.low i il in omega arith };
+  places_size = h.places_size;
+  near_size = h.near_size;
+  placed = h.placed;
+  right_at = h.right_at;
+  room_is = er;
+}
+
+-- a place stands in a row
+pub in_row : (width count k : ℕ) → k < count * width → (i : ℕ) × (j : ℕ) × (i < count) × (j < width) × (k ≡ i * width + j)
+in_row width zero k l = absurd (omega arith)
+in_row width (suc count) k l = elim (cases_lt k (count * width)) [
+  | inl b ↦ let r = in_row width count k b in (r.0, r.1, (let x : r.0 < count = r.2 in omega arith), r.3, r.4)
+  | inr a ↦ (count, k - count * width, omega arith, omega arith, omega arith)
+]
+
+-- so each number is within the limit
+pub place_within : (limit width : ℕ) (table : List ℤ) (bounds : List ℕ) → HasBounds limit width table bounds → (k : ℕ) → k < length table → nat_abs (at table k) ≤ limit
+place_within limit width table bounds h k l =
+    let r = in_row width (length bounds) k (subst (λ n. k < n) h.size l) in
+    let w = h.within r.0 r.1 r.2 r.3 in
+    let b = h.low r.0 r.2 in
+    subst (λ n. nat_abs (at table n) ≤ limit) (sym r.4) (omega (arith, w, b))

@@ -42,3 +42,4 @@ pub mod ClearedObjective
 pub mod CopiedTables
 pub mod FreeColumns
 pub mod OwnEntries
+pub mod Deepened

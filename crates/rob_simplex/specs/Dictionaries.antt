@@ -24,6 +24,10 @@ pub record Table : Type 0 where
   pub places : List ℕ
   pub table : List ℤ
 
+-- the same rows, of another limit
+abbrev pub with_limit : ℕ → Table → Table
+with_limit limit t = record { limit = limit; columns = t.columns; basis = t.basis; places = t.places; table = t.table }
+
 -- the number of positions but the objective's
 abbrev pub positions : Table → ℕ
 positions t = length t.basis

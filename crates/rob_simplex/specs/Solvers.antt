@@ -6,7 +6,7 @@ use Rattle.rob_linear.specs.Beside.{without_column}
 use Rattle.rob_rows.specs.PrimitiveParts.{IsWithin}
 use Rattle.rob_simplex.specs.declared.state.State.{State}
 use Rattle.rob_simplex.specs.declared.state.State.TheVariants.{New, Optimal, Infeasible, Unbounded, Stopped}
-use Rattle.rob_simplex.specs.Dictionaries.{Table, rows_of, columns_of, sized}
+use Rattle.rob_simplex.specs.Dictionaries.{Table, rows_of, columns_of, sized, with_limit}
 use Rattle.rob_simplex.specs.LowestTerms.{lowest_terms}
 use Rattle.rob_simplex.specs.Judging.{Tells}
 use Rattle.rob_simplex.specs.Starts.{IsStartingTable}
@@ -90,3 +90,8 @@ pub record IsMadeFor (P : Program) (s : Solver) : Type 0 where
   pub rows : P.m ≡ positions s
   pub columns : P.n ≡ s.columns
   pub starting : IsStartingTable P s.dictionary
+
+-- the solver s' stands as s does: in the same state, at the same basis, with the same rows, of another limit
+pub record StandsAs (limit : ℕ) (s s' : Solver) : Type 0 where
+  pub state : s'.state ≡ s.state
+  pub dictionary : s'.dictionary ≡ with_limit limit s.dictionary

@@ -3,7 +3,7 @@
 ghost use Rattle.std.specs.Prelude.{◌≡◌, ◌+◌, ◌^◌, ◌<◌, ◌≤◌, suc, neg_ℤ, nat_abs, length, IfOk, IfErr, MatchResult};
 ghost use Rattle.rob_algebra.specs.Fraction.{of_pair};
 ghost use Rattle.rob_rows.specs.LinearPrograms.{HasNumbersWithin, program_of};
-ghost use Rattle.rob_simplex.specs.Solvers.{positions, HasPoint, HasOptimum, HasRay, HasWeights, column_of, IsMadeFor};
+ghost use Rattle.rob_simplex.specs.Solvers.{positions, HasPoint, HasOptimum, HasRay, HasWeights, column_of, IsMadeFor, StandsAs};
 ghost use Rattle.rob_simplex.specs.Solutions.{point_of, ray_of, dual_of, value_of, weights_of};
 ghost use Rattle.rob_linear.specs.Vectors.{at};
 ghost use Rattle.rob_rows.specs.PrimitiveParts.{IsWithin};
@@ -60,6 +60,24 @@ impl<N: Exact, E: Entry> Work<N, E> {
             dictionary,
             weights,
             state: State::New,
+            number: PhantomData,
+        })
+    }
+
+    /// A solver that stands as the other one does, whose rows have up to 62 bits: in the same state, at the same basis,
+    /// with the same rows, of entries of this type. It has all the memory that it will ever need. Weights are not taken
+    /// over.
+    pub fn deepened<F: Entry>(alloc: Global, other: &Work<N, F>) -> Result<Work<N, E>, Memory>
+        requires short { F.top < 2 ^ 62 }
+        requires weightless { HasWeights other.now → ⊥ }
+        ensures stands { IfOk result (StandsAs E.top other.now) }
+    {
+        let dictionary = Dictionary::deepened(alloc, &other.dictionary)?;
+        let weights = Cells::new(alloc, dictionary.positions())?;
+        Ok(Work {
+            dictionary,
+            weights,
+            state: other.state,
             number: PhantomData,
         })
     }

@@ -11,7 +11,7 @@ ghost use Rattle.rob_simplex.specs.Dictionaries.{columns_of};
 ghost use Rattle.rob_simplex.specs.Endings.{IsFresh, HasAnswered, HasSolved, HasStopped, IsCaused};
 ghost use Rattle.rob_simplex.specs.Resuming.{CanResume, HasResumed, HasStoppedFrom, IsCausedFrom};
 ghost use Rattle.rob_simplex.specs.Solutions.{point_of, ray_of, dual_of, value_of, weights_of};
-ghost use Rattle.rob_simplex.specs.Solvers.{positions, HasPoint, HasOptimum, HasRay, HasWeights, column_of, IsMadeFor};
+ghost use Rattle.rob_simplex.specs.Solvers.{positions, HasPoint, HasOptimum, HasRay, HasWeights, column_of, IsMadeFor, StandsAs};
 ghost use Rattle.rob_solver.specs.Depths.{narrow_limit, deep_limit};
 
 use crate::depth::Depth;
@@ -81,6 +81,27 @@ impl<N: Exact> Solver<N> {
             Solver::deep(alloc, source)
         } else {
             Solver::narrow(alloc, source)
+        }
+    }
+
+    /// A solver over rows of up to 126 bits that stands as this one does, whose rows have up to 62: in the same state,
+    /// at the same basis. Weights are not taken over.
+    pub fn deepened(&self, alloc: Global) -> Result<Solver<N>, Memory>
+        requires narrow { self.now.limit ≡ narrow_limit }
+        requires weightless { HasWeights self.now → ⊥ }
+        ensures stands { IfOk result (StandsAs deep_limit self.now) }
+    {
+        match &self.depth {
+            Depth::Narrow(work) => {
+                let work = Work::deepened(alloc, work)?;
+                Ok(Solver {
+                    depth: Depth::Deep(work),
+                })
+            }
+            Depth::Deep(work) => {
+                let _limit = work.limit();
+                unreachable!()
+            }
         }
     }
 

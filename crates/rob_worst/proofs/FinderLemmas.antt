@@ -14,7 +14,7 @@ use Rattle.rob_number.specs.declared.lp_kind.LpKind.{LpKind}
 use Rattle.rob_number.specs.declared.lp_kind.LpKind.TheVariants as kind
 use Rattle.rob_simplex.specs.Dictionaries.{columns_of}
 use Rattle.rob_simplex.specs.Endings.{HasAnswered}
-use Rattle.rob_simplex.specs.Resuming.{HasResumed, HasStoppedFrom}
+use Rattle.rob_simplex.specs.Resuming.{HasResumed, HasStoppedFrom, IsCausedFrom}
 use Rattle.rob_simplex.specs.Solvers.{Solver, positions, entries, column_of}
 use Rattle.rob_simplex.specs.Solutions.{point_of, dual_of, ray_of, value_of}
 use Rattle.rob_simplex.specs.declared.state.LpStop.{LpStop}
@@ -69,8 +69,9 @@ module _ (Q : Program) (solved : Solver) (h : IsSolved Q solved) (start now : So
     answered = a;
   }
 
-  pub stopped_search : (limit : ℕ) (cost : List ℤ) (stop : LpStop) → HasStoppedFrom limit (with_cost h.last.program (at cost)) (columns_of start.basis) stop now → HasStoppedSearch limit Q cost stop now
-  stopped_search limit cost stop w = record {
+  pub stopped_search : (limit : ℕ) (cost : List ℤ) (stop : LpStop) → HasStoppedFrom limit (with_cost h.last.program (at cost)) (columns_of start.basis) stop now
+      → IsCausedFrom limit (with_cost h.last.program (at cost)) (columns_of start.basis) stop now → HasStoppedSearch limit Q cost stop now
+  stopped_search limit cost stop w why = record {
     program = h.last.program;
     same = h.last.same;
     start = columns_of start.basis;
@@ -78,6 +79,7 @@ module _ (Q : Program) (solved : Solver) (h : IsSolved Q solved) (start now : So
     without = starts_without;
     rows = now_rows;
     stopped = w;
+    caused = why;
   }
 
 -- ---- what is told

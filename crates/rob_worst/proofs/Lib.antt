@@ -6,3 +6,4 @@ pub mod SearchLemmas
 pub mod ReadingLemmas
 pub mod FinderLemmas
 pub mod SlackLemmas
+pub mod DeepLemmas

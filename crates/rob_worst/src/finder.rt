@@ -13,8 +13,8 @@ ghost use Rattle.rob_sets.specs.declared.set_form.SetForm.{SetForm as SetRows};
 ghost use Rattle.rob_elab.specs.Elaborated.{AreElaborated};
 ghost use Rattle.rob_elab.specs.Forms.{IsForms};
 ghost use Rattle.rob_dualize.specs.Solving.{CountsStop, HasScenario, IsLastScenario};
-ghost use Rattle.rob_dualize.specs.SetSolving.{IsSetOfModel, IsFewSet};
-ghost use Rattle.rob_worst.specs.Finders.{IsFinder};
+ghost use Rattle.rob_dualize.specs.SetSolving.{program_of_set, IsSetOfModel, IsFewSet};
+ghost use Rattle.rob_worst.specs.Finders.{IsFinder, IsRefusedDeep};
 ghost use Rattle.rob_dualize.specs.SetSolving.{HasSetCause};
 ghost use Rattle.rob_worst.specs.Finding.{HasConstantWithin, HasSearchCause, Searches};
 ghost use Rattle.rob_worst.specs.Tasks.{FitsSet, IsTaskOf};
@@ -124,7 +124,7 @@ impl<N: Exact> Finder<N> {
         self.search(alloc, set, task, ledger)
     }
 
-    /// The search: from the set's last basis, with the task's cost.
+    /// The search: from the set's last basis, with the task's cost. Only deep rows refuse it.
     fn search<L: Ledger>(
         &mut self,
         alloc: Global,
@@ -140,6 +140,7 @@ impl<N: Exact> Finder<N> {
             → (step : Bool) (i : ℕ) → i < length (matrices m) → (z : List Fraction) → length z ≡ form_columns m
             → MatchResult task (IsTaskOf m step i z) (HasSearchCause N.limit m step i z)
             → Searches N.value N.limit m step i z (L.wides ledger.old) (L.wides ledger.new) result }
+        ensures deep { IfOk task (λ task. IfErr result (IsRefusedDeep N.limit (program_of_set set.now) task)) }
         ensures within { IfOk result (HasConstantWithin N.limit) }
         ensures finder { IsFinder set.now self.new }
         ensures counted { NeverFell L.ops L.wides ledger.old ledger.new }
@@ -154,7 +155,7 @@ impl<N: Exact> Finder<N> {
         self.search.set_to(&self.solved);
         match go_on(alloc, set, &task, &mut self.search, ledger) {
             Ok(Ok(worst)) => Ok(worst),
-            Ok(Err(stop)) => go_deeper(alloc, set, &task, &self.search, stop, ledger),
+            Ok(Err(stop)) => go_deeper(alloc, set, &task, &self.solved, &self.search, stop, ledger),
             Err(Memory) => Err(Stop::Memory),
         }
     }

@@ -1,6 +1,6 @@
 // A search, from the last basis of the set's program: on the rows that stand, and on deeper ones where those stop.
 
-ghost use Rattle.std.specs.Prelude.{◌≡◌, ◌<◌, ℕ, Bool, List, length, IfOk, IfSome, MatchResult};
+ghost use Rattle.std.specs.Prelude.{◌≡◌, ◌<◌, ℕ, Bool, List, length, IfOk, IfErr, MatchResult};
 ghost use Rattle.rob_algebra.specs.Fraction.{Fraction};
 ghost use Rattle.rob_meaning.specs.Forms.{matrices, form_columns};
 ghost use Rattle.rob_meaning.specs.RobustModel.{RobustModel};
@@ -10,7 +10,8 @@ ghost use Rattle.rob_simplex.specs.Counting.{CountsRows};
 ghost use Rattle.rob_simplex.specs.Solvers.{positions};
 ghost use Rattle.rob_dualize.specs.SetSolving.{program_of_set, IsFewSet, IsSetOfModel, IsSolved};
 ghost use Rattle.rob_dualize.specs.Solving.{CountsStop};
-ghost use Rattle.rob_worst.specs.Finders.{HasStoppedSearch, TellsTask};
+ghost use Rattle.rob_solver.specs.Depths.{deep_limit};
+ghost use Rattle.rob_worst.specs.Finders.{HasStoppedSearch, IsRefusedDeep, TellsTask};
 ghost use Rattle.rob_worst.specs.Finding.{HasConstantWithin, HasSearchCause, Searches};
 ghost use Rattle.rob_worst.specs.Tasks.{FitsSet, IsTaskOf};
 
@@ -18,7 +19,6 @@ use crate::reading::told;
 use crate::refusal::program;
 use crate::task::Task;
 use rob_cert::{Stop, Worst};
-use rob_dualize::set_program::deep_set;
 use rob_dualize::stop::{position, wide};
 use rob_number::{Exact, Ledger, Memory};
 use rob_sets::SetForm;
@@ -55,12 +55,13 @@ pub fn go_on<N: Exact, L: Ledger>(
     }
 }
 
-/// The search where the rows stopped it: on deep rows, which are let go of behind the answer. Where the rows that
-/// stopped are deep ones, or deep ones don't lead to the last basis of the set's program, that stop is the answer.
+/// The search where its rows stopped it: once more from the last basis of the set's program, which a solver over deep
+/// rows takes over. That one is let go of behind the answer. Where the rows are deep ones, the stop is the answer.
 pub fn go_deeper<N: Exact, L: Ledger>(
     alloc: Global,
     set: &SetForm,
     task: &Task,
+    solved: &Solver<N>,
     search: &Solver<N>,
     stop: LpStop,
     ledger: &mut L,
@@ -68,46 +69,33 @@ pub fn go_deeper<N: Exact, L: Ledger>(
     requires model { IsSetOfModel N.limit set.now }
     requires few { IsFewSet set.now }
     requires task { FitsSet N.limit set.now.columns task.now }
+    requires solved { IsSolved (program_of_set set.now) solved.now }
     requires rows { length set.now.rows ≡ positions search.now }
+    requires depth { search.now.limit ≡ solved.now.limit }
     requires stopped { HasStoppedSearch N.limit (program_of_set set.now) task.now.cost stop search.now }
     ensures answer { (m : RobustModel) → IsSetForm m set.now
         → (step : Bool) (i : ℕ) → i < length (matrices m) → (z : List Fraction) → length z ≡ form_columns m
         → IsTaskOf m step i z task.now
         → Searches N.value N.limit m step i z (L.wides ledger.old) (L.wides ledger.new) result }
+    ensures deep { IfErr result (IsRefusedDeep N.limit (program_of_set set.now) task.now) }
     ensures within { IfOk result (HasConstantWithin N.limit) }
     ensures counted { NeverFell L.ops L.wides ledger.old ledger.new }
 {
-    match deeper(alloc, set, search, ledger) {
-        Ok(Some(mut deep)) => match go_on(alloc, set, task, &mut deep, ledger) {
-            Ok(Ok(worst)) => Ok(worst),
-            Ok(Err(stop)) => Err(refused(alloc, set, task, &deep, stop, ledger)),
-            Err(Memory) => Err(Stop::Memory),
-        },
-        Ok(None) => Err(refused(alloc, set, task, search, stop, ledger)),
+    if solved.is_deep() {
+        return Err(refused(alloc, set, task, search, stop, ledger));
+    }
+    let mut deep = match solved.deepened(alloc) {
+        Ok(deep) => deep,
+        Err(Memory) => return Err(Stop::Memory),
+    };
+    match go_on(alloc, set, task, &mut deep, ledger) {
+        Ok(Ok(worst)) => Ok(worst),
+        Ok(Err(stop)) => Err(refused(alloc, set, task, &deep, stop, ledger)),
         Err(Memory) => Err(Stop::Memory),
     }
 }
 
-/// A solver of the set's program over deep rows that stands at its last basis; nothing where the other one's rows are
-/// deep, or these don't lead there.
-fn deeper<N: Exact, L: Ledger>(
-    alloc: Global,
-    set: &SetForm,
-    other: &Solver<N>,
-    ledger: &mut L,
-) -> Result<Option<Solver<N>>, Memory>
-    requires model { IsSetOfModel N.limit set.now }
-    requires few { IsFewSet set.now }
-    ensures solved { IfOk result (λ found. IfSome found (λ solver. IsSolved (program_of_set set.now) solver)) }
-    ensures counted { CountsRows L.ops L.wides ledger.old ledger.new }
-{
-    if other.is_deep() {
-        return Ok(None);
-    }
-    deep_set(alloc, set, ledger)
-}
-
-/// The stop at the row where the solver stands, counted.
+/// The stop at the row where the solver, whose rows are deep, stands, counted.
 fn refused<N: Exact, L: Ledger>(
     alloc: Global,
     set: &SetForm,
@@ -118,7 +106,9 @@ fn refused<N: Exact, L: Ledger>(
 ) -> Stop
     requires few { IsFewSet set.now }
     requires rows { length set.now.rows ≡ positions solver.now }
+    requires depth { solver.now.limit ≡ deep_limit }
     requires stopped { HasStoppedSearch N.limit (program_of_set set.now) task.now.cost stop solver.now }
+    ensures deep { IsRefusedDeep N.limit (program_of_set set.now) task.now result }
     ensures cause { (m : RobustModel) → IsSetForm m set.now → (step : Bool) (i : ℕ) → (z : List Fraction)
         → IsTaskOf m step i z task.now → HasSearchCause N.limit m step i z result }
     ensures wides { CountsStop (L.wides ledger.old) (L.wides ledger.new) result }

@@ -3,7 +3,7 @@ use lib.IntN.{ℤ}
 use Rattle.rob_linear.specs.Vectors.{at}
 use Rattle.rob_linear.specs.Programs.{with_cost}
 use Rattle.rob_simplex.specs.Dictionaries.{columns_of}
-use Rattle.rob_simplex.specs.Resuming.{HasResumed, HasStoppedFrom}
+use Rattle.rob_simplex.specs.Resuming.{HasResumed, HasStoppedFrom, IsCausedFrom}
 use Rattle.rob_dualize.specs.SetSolving.{program_of_set, IsSolved}
 use Rattle.rob_worst.proofs.FinderLemmas.{searched, stopped_search}
 use Rattle.rob_worst.proofs.TaskLemmas.{costs_count}
@@ -28,3 +28,5 @@ returns-in-Err-clause-told g c =
     stopped_search (program_of_set c.args.set.now) c.args.solver.now h c.args.solver.now c.resume.new.self refl c.resume.ensures.positions c.resume.ensures.columns g.N.Exact.limit c.args.task.now.cost c.in-Err.stop
     (subst (λ (xs : List ℤ). HasStoppedFrom g.N.Exact.limit (with_cost h.last.program (at xs)) (columns_of c.args.solver.now.basis) c.in-Err.stop c.resume.new.self) c.items.ensures.list
     (c.in-Err.ensures.resumed h.last.program h.stands))
+    (subst (λ (xs : List ℤ). IsCausedFrom g.N.Exact.limit (with_cost h.last.program (at xs)) (columns_of c.args.solver.now.basis) c.in-Err.stop c.resume.new.self) c.items.ensures.list
+    (c.in-Err.ensures.caused h.last.program h.stands))
