@@ -1,4 +1,5 @@
 pub mod Parts
 mod Recipes
 pub mod Signs
+pub mod WholeNumbers
 pub mod WidthLaws

@@ -1,4 +1,5 @@
--- A box that grows, one step at a time: its scenario, what is asked of a box behind it, what is counted, and why it may stop.
+-- A box that grows, one step at a time: its scenario, what is asked of a box
+-- behind it, what is counted, and why it may stop.
 use Rattle.std.proofs.Common.{◌≡◌, ℕ, List, [], ◌⊎◌, inl, inr, refl, sym, subst, arith, append-nil}
 use Rattle.std.specs.Prelude.{map, None, Result, Ok, Err, IfErr}
 use Rattle.rob_cert.specs.declared.ending.Stop.{Stop}
@@ -37,45 +38,61 @@ allowed_named m names b h = by h.side
     by (inr e) = subst (λ (b : boxes.Branch). IsIn b.variable names) (sym e) h.allows.named
 
 -- ---- what a search counts
-pub counts_behind : {S T : Type 0} (ops wides : S → ℕ) (old mid now : S) (r : Result T TreeStop) → NeverFell ops wides old mid → CountsGrowth ops wides mid now r
+pub counts_behind : {S T : Type 0} (ops wides : S → ℕ) (old mid now : S) (r : Result T TreeStop)
+    → NeverFell ops wides old mid → CountsGrowth ops wides mid now r
     → CountsGrowth ops wides old now r
 counts_behind {T = T} ops wides old mid now r h g = record {
-  never_fell = record { ops = omega (arith, h.ops, g.never_fell.ops); wides = omega (arith, h.wides, g.never_fell.wides) };
+  never_fell =
+      record { ops = omega (arith, h.ops, g.never_fell.ops); wides = omega (arith, h.wides, g.never_fell.wides) };
   refused = by r g.refused;
 }
   where
-    by : (r : Result T TreeStop) → IfErr r (RoseIfWide (wides mid) (wides now)) → IfErr r (RoseIfWide (wides old) (wides now))
+    by : (r : Result T TreeStop) → IfErr r (RoseIfWide (wides mid) (wides now))
+        → IfErr r (RoseIfWide (wides old) (wides now))
     by (Ok x) k = tt
     by (Err e) k = rose_wider (wides old) (wides mid) (wides now) e h.wides k
 
 -- ---- causes
 -- a cause of a box stays one where the box and its path are told otherwise
-pub cause_told : {T : Type 0} (limit : ℕ) (told box : RobustModel) (names : List ℕ) (before : Search) (back front : List boxes.Branch) (r : Result T TreeStop)
-    → told ≡ box → back ≡ front → IfErr r (HasCauseBehind limit told names before back) → IfErr r (HasCauseBehind limit box names before front)
+pub cause_told : {T : Type 0} (limit : ℕ) (told box : RobustModel) (names : List ℕ) (before : Search)
+    (back front : List boxes.Branch) (r : Result T TreeStop)
+    → told ≡ box → back ≡ front → IfErr r (HasCauseBehind limit told names before back)
+    → IfErr r (HasCauseBehind limit box names before front)
 cause_told limit told box names before back front r e f h =
-    subst (λ path. IfErr r (HasCauseBehind limit box names before path)) f (subst (λ m. IfErr r (HasCauseBehind limit m names before back)) e h)
+    subst (λ path. IfErr r (HasCauseBehind limit box names before path)) f
+    (subst (λ m. IfErr r (HasCauseBehind limit m names before back)) e h)
 
 -- the stop of a box that has a scenario is a cause behind it
-pub cause_here : (limit : ℕ) (m : RobustModel) (names : List ℕ) (before : Search) (path : List Branch) (stop : Stop) (told : TreeStop) → before.endless ≡ None
-    → HasScenario m → HasModelCause limit m stop → TellsStop path stop told → HasCauseBehind limit m names before (map branch_of path) told
-cause_here limit m names before path (route.EmptySet weights) told going some h e = absurd (h.1.shown.empty some.0 some.1)
+pub cause_here : (limit : ℕ) (m : RobustModel) (names : List ℕ) (before : Search) (path : List Branch) (stop : Stop)
+    (told : TreeStop) → before.endless ≡ None
+    → HasScenario m → HasModelCause limit m stop → TellsStop path stop told
+    → HasCauseBehind limit m names before (map branch_of path) told
+cause_here limit m names before path (route.EmptySet weights) told going some h e =
+    absurd (h.1.shown.empty some.0 some.1)
 cause_here limit m names before path (route.Wide spot trace) told going some h (inl e) =
-    subst (HasCauseBehind limit m names before (map branch_of path)) (sym e) ([], sym (append-nil (map branch_of path)), (before, (going, refl)), tt, h.0)
-cause_here limit m names before path (route.Wide spot trace) told going some h (inr e) = subst (HasCauseBehind limit m names before (map branch_of path)) (sym e) tt
-cause_here limit m names before path route.Memory told going some h e = subst (HasCauseBehind limit m names before (map branch_of path)) (sym e) tt
+    subst (HasCauseBehind limit m names before (map branch_of path)) (sym e)
+    ([], sym (append-nil (map branch_of path)), (before, (going, refl)), tt, h.0)
+cause_here limit m names before path (route.Wide spot trace) told going some h (inr e) =
+    subst (HasCauseBehind limit m names before (map branch_of path)) (sym e) tt
+cause_here limit m names before path route.Memory told going some h e =
+    subst (HasCauseBehind limit m names before (map branch_of path)) (sym e) tt
 
 -- the stop of the root's box is a cause
-pub cause_at_root : (limit : ℕ) (m : RobustModel) (names : List ℕ) (stop : Stop) (told : TreeStop) → HasModelCause limit m stop → TellsStop [] stop told
+pub cause_at_root : (limit : ℕ) (m : RobustModel) (names : List ℕ) (stop : Stop) (told : TreeStop)
+    → HasModelCause limit m stop → TellsStop [] stop told
     → HasCause limit m names told
 cause_at_root limit m names (route.EmptySet weights) told h e = subst (HasCause limit m names) (sym e) h
-cause_at_root limit m names (route.Wide spot trace) told h (inl e) = subst (HasCause limit m names) (sym e) ((start, (refl, refl)), tt, h.0)
+cause_at_root limit m names (route.Wide spot trace) told h (inl e) =
+    subst (HasCause limit m names) (sym e) ((start, (refl, refl)), tt, h.0)
 cause_at_root limit m names (route.Wide spot trace) told h (inr e) = subst (HasCause limit m names) (sym e) tt
 cause_at_root limit m names route.Memory told h e = subst (HasCause limit m names) (sym e) tt
 
 -- and so is one behind it
-pub cause_of_root : (limit : ℕ) (m : RobustModel) (names : List ℕ) (stop : TreeStop) → HasCauseBehind limit m names start [] stop → HasCause limit m names stop
+pub cause_of_root : (limit : ℕ) (m : RobustModel) (names : List ℕ) (stop : TreeStop)
+    → HasCauseBehind limit m names start [] stop → HasCause limit m names stop
 cause_of_root limit m names (Rule rule) h = absurd h
 cause_of_root limit m names (EmptySet weights) h = absurd h
 cause_of_root limit m names (Wide path spot) h =
-    subst (λ path. Visits m names start path × IsWrittenUpTo limit m path × IsWideIn limit (boxes.box m path) spot) (sym h.1) (h.2, h.3, h.4)
+    subst (λ path. Visits m names start path × IsWrittenUpTo limit m path × IsWideIn limit (boxes.box m path) spot)
+    (sym h.1) (h.2, h.3, h.4)
 cause_of_root limit m names Memory h = tt

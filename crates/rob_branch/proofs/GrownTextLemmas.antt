@@ -30,5 +30,6 @@ read_again m limit names model named words low kept t h =
       text = is;
       fits = fits;
       breaks_none = laws.breaks_none m limit names model named words low bounded t (tree_text m t) is fits;
-      alone = λ u other fit. laws.read_once m limit names model named words low bounded u t (tree_text m t) other is fit fits;
+      alone = λ u other fit. laws.read_once m limit names model named words low bounded u t
+          (tree_text m t) other is fit fits;
     }

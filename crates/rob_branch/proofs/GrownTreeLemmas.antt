@@ -2,7 +2,6 @@
 use Rattle.std.proofs.Common.{◌≡◌, ◌≢◌, ℕ, ◌≤◌, List, refl, ap, sym, ◌∙◌, subst}
 use Rattle.std.specs.Prelude.{ℤ, pos, nat_abs, Option, Some, None}
 use Rattle.rob_algebra.specs.Fraction.{Fraction}
-use Rattle.rob_dualize.specs.Models.{IsWritten}
 use Rattle.rob_meaning.specs.Certificates.{Certificate}
 use Rattle.rob_meaning.specs.Places.{Each}
 use Rattle.rob_meaning.specs.RobustModel.{RobustModel}
@@ -18,13 +17,17 @@ use Rattle.rob_branch.proofs.GrowthLemmas.{shaped_both}
 use Rattle.rob_branch.specs.Growth.{AreBoxesWritten, IsGrownTo}
 use Rattle.rob_branch.specs.View.{search_of}
 use Rattle.rob_branch.specs.declared.grow.Grown.{Grown}
+use Rattle.rob_elab.specs.Written.{IsWritten}
 
 module _ {N : Type 0} (value : N → Fraction) (limit : ℕ) (m : RobustModel) (names : List ℕ) (before : Search) where
   -- the node of a branch
-  pub grown_joined : (c : Certificate) (j : ℕ) (k : ℤ) (first second grown : Grown N) → Decides m names before c (branches j k)
-      → (nat_abs k ≤ limit) × (k ≢ pos limit) → IsWritten limit m → IsGrownTo value limit (box_below m j k) names before first
+  pub grown_joined : (c : Certificate) (j : ℕ) (k : ℤ) (first second grown : Grown N)
+      → Decides m names before c (branches j k)
+      → (nat_abs k ≤ limit) × (k ≢ pos limit) → IsWritten limit m
+      → IsGrownTo value limit (box_below m j k) names before first
       → IsGrownTo value limit (box_above m j k) names (search_of value first.after) second → grown.after ≡ second.after
-      → node_of value grown.node ≡ split j k (node_of value first.node) (node_of value second.node) → IsGrownTo value limit m names before grown
+      → node_of value grown.node ≡ split j k (node_of value first.node) (node_of value second.node)
+      → IsGrownTo value limit m names before grown
   grown_joined c j k first second grown decides within written h g after node =
       let both = split j k (node_of value first.node) (node_of value second.node) in
       record {
@@ -38,7 +41,8 @@ module _ {N : Type 0} (value : N → Fraction) (limit : ℕ) (m : RobustModel) (
       }
 
 -- the tree of a search that is over
-module _ (limit : ℕ) (m : RobustModel) (names : List ℕ) (t : Tree) (after : Search) (root : Node) (is : t ≡ tree_by after.endless after.best root) where
+module _ (limit : ℕ) (m : RobustModel) (names : List ℕ) (t : Tree) (after : Search) (root : Node)
+    (is : t ≡ tree_by after.endless after.best root) where
   root_is : t.root ≡ root
   root_is = ap (λ (t : Tree). t.root) is ∙ by after.endless after.best
     where
@@ -63,7 +67,8 @@ module _ (limit : ℕ) (m : RobustModel) (names : List ℕ) (t : Tree) (after : 
       by None (Some b) = tt
       by None None = (refl, refl)
 
-  pub tree_shaped : IsModel m → whole_rule m names ≡ None → Grows m names start root after → Each IsShaped (leaves m root) → BranchesFit limit root
+  pub tree_shaped : IsModel m → whole_rule m names ≡ None → Grows m names start root after
+      → Each IsShaped (leaves m root) → BranchesFit limit root
       → HasTreeShape limit m names t
   tree_shaped model kept grows shaped numbers = record {
     tree = grown_is_tree m names t (tree_grown grows) model kept;

@@ -1,6 +1,6 @@
 -- The leaves of a branch's two nodes behind one another, as the check of a tree passes them.
 use Rattle.std.proofs.Common.{◌≡◌, ℕ, zero, suc, ◌+◌, List, [], ◌∷◌, ◌++◌, map, length, arith, refl, ap, sym, ◌∙◌, subst, append_assoc, length-append, inl, inr}
-use Rattle.std.specs.Prelude.{ℤ, Some, take}
+use Rattle.std.specs.Prelude.{ℤ, Some}
 use Rattle.rob_algebra.specs.Fraction.{Fraction}
 use Rattle.rob_meaning.proofs.EachLemmas.{each_append}
 use Rattle.rob_meaning.specs.Certificates.{Certificate, Status}
@@ -15,15 +15,11 @@ use Rattle.rob_tree.specs.declared.tree.Branch as declared
 use Rattle.rob_tree.specs.declared.verdict.LeafFault.{LeafFault}
 use Rattle.rob_tree.specs.declared.verdict.TreeVerdict.{TreeVerdict}
 use Rattle.rob_tree.specs.declared.verdict.TreeVerdict.TheVariants.{Accepted, Rejected, TooWide, Memory}
-use Rattle.rob_branch.specs.Leaves.{FailsAt, IsJudged, IsPassedLeaf, IsPassedNode, Stops, StopsAt, TellsWide}
-use Rattle.rob_branch.specs.Verdicts.{IsWideAt, path_at, paths}
+use Rattle.rob_branch.specs.Leaves.{FailsAt, IsLeafJudged, IsPassedLeaf, IsPassedNode, Stops, StopsAt, TellsWide}
+use Rattle.rob_branch.specs.Verdicts.{IsWideInLeaf, path_at, paths}
 use Rattle.rob_branch.specs.declared.leaf.LeafCheck.TheVariants as check
 
 -- ---- places in a list
-pub take_front : {A : Type 0} (xs ys : List A) → take (length xs) (xs ++ ys) ≡ xs
-take_front [] ys = refl
-take_front (x ∷ xs) ys = ap (λ l. x ∷ l) (take_front xs ys)
-
 pub leaf_at_front : (xs : List Leaf) (l : Leaf) (ys : List Leaf) → leaf_at (xs ++ l ∷ ys) (suc (length xs)) ≡ Some l
 leaf_at_front [] l ys = refl
 leaf_at_front (x ∷ xs) l ys = leaf_at_front xs l ys
@@ -66,7 +62,7 @@ length-paths front left_open = refl
 
 module _ (limit : ℕ) (claimed : Status) (value : Fraction) where
   -- ---- one leaf
-  pub passed_leaf : (box : RobustModel) (c : Certificate) (n : ℕ) → IsJudged limit claimed value box c check.Passed
+  pub passed_leaf : (box : RobustModel) (c : Certificate) (n : ℕ) → IsLeafJudged limit claimed value box c check.Passed
       → IsPassedNode limit claimed value box (leaf c) n (n + 1)
   passed_leaf box c n h = record { number = refl; passed = (h, tt) }
 
@@ -91,17 +87,17 @@ module _ (limit : ℕ) (claimed : Status) (value : Fraction) where
   }
 
   pub leaf_fails : (box : RobustModel) (front : List Branch) (c : Certificate) (n : ℕ) (told : LeafFault)
-      → IsJudged limit claimed value box c (check.Fails told)
+      → IsLeafJudged limit claimed value box c (check.Fails told)
       → Stops limit claimed value box front (leaf c) n (Rejected n told)
   leaf_fails box front c n told h = (front, leaf_stops box front c n (FailsAt limit claimed value told) (c, refl, h))
 
   pub leaf_wide : (box : RobustModel) (path : List declared.Branch) (c : Certificate) (n : ℕ) (spot : Spot)
       (told : TreeVerdict)
-      → IsWideAt limit (record { box = box; certificate = Some c }) spot → TellsWide path spot told
+      → IsWideInLeaf limit (record { box = box; certificate = Some c }) spot → TellsWide path spot told
       → Stops limit claimed value box (map branch_of path) (leaf c) n told
   leaf_wide box path c n spot told h (inl e) =
       subst (Stops limit claimed value box (map branch_of path) (leaf c) n) (sym e)
-      (n, leaf_stops box (map branch_of path) c n (λ l. IsWideAt limit l spot) h)
+      (n, leaf_stops box (map branch_of path) c n (λ l. IsWideInLeaf limit l spot) h)
   leaf_wide box path c n spot told h (inr e) = subst (Stops limit claimed value box (map branch_of path) (leaf c) n)
       (sym e) tt
 
@@ -174,7 +170,7 @@ module _ (limit : ℕ) (claimed : Status) (value : Fraction) where
       stops_below first Accepted h = h
       stops_below first (Rejected i told) h = (h.0, at_below first i h.0 (FailsAt limit claimed value told) h.1)
       stops_below first (TooWide path spot) h =
-          (h.0, at_below first h.0 (map branch_of path) (λ l. IsWideAt limit l spot) h.1)
+          (h.0, at_below first h.0 (map branch_of path) (λ l. IsWideInLeaf limit l spot) h.1)
       stops_below first Memory h = h
 
       pub stops_above : (first middle : ℕ) (v : TreeVerdict)
@@ -185,5 +181,5 @@ module _ (limit : ℕ) (claimed : Status) (value : Fraction) where
       stops_above first middle (Rejected i told) passed h =
           (h.0, at_above first middle i h.0 (FailsAt limit claimed value told) passed h.1)
       stops_above first middle (TooWide path spot) passed h =
-          (h.0, at_above first middle h.0 (map branch_of path) (λ l. IsWideAt limit l spot) passed h.1)
+          (h.0, at_above first middle h.0 (map branch_of path) (λ l. IsWideInLeaf limit l spot) passed h.1)
       stops_above first middle Memory passed h = h

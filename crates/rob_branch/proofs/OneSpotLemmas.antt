@@ -3,7 +3,6 @@ use Rattle.std.proofs.Common.{◌≡◌, ℕ, zero, suc, ◌≤◌, List, [], �
 use Rattle.std.specs.Prelude.{Some, IfSome, take}
 use Rattle.rob_check.specs.declared.verdict.Verdict.{Verdict}
 use Rattle.rob_check.specs.declared.verdict.Verdict.TheVariants as check
-use Rattle.rob_dualize.specs.Models.{judged}
 use Rattle.rob_meaning.proofs.EachLemmas.{each_right}
 use Rattle.rob_meaning.specs.Certificates.{Certificate}
 use Rattle.rob_meaning.specs.Places.{Each}
@@ -17,7 +16,8 @@ use Rattle.rob_reach.specs.Verdicts.{leaf_at}
 use Rattle.rob_sets.specs.FirstWide.{IsFirstWide, IsWideThere, Judged, NothingWide, spot_of}
 use Rattle.rob_tree.specs.View.{branch_of}
 use Rattle.rob_tree.specs.declared.tree.Branch.{Branch}
-use Rattle.rob_branch.specs.Verdicts.{HasVerdict, IsPassed, IsWideAt, checking, writing}
+use Rattle.rob_branch.specs.Verdicts.{HasVerdict, IsPassed, IsWideInLeaf, checking, writing}
+use Rattle.rob_elab.specs.Written.{judged}
 
 -- ---- places in a list
 -- the leaf of a number has what holds of each leaf; or of each of the first few, where it is one of them
@@ -54,7 +54,8 @@ one_path (p ∷ ps) (q ∷ qs) e =
 
 -- ---- the first number that is wide
 -- a list has one first item with a property, where the items before it have one that excludes it
-pub split_once : {A : Type 0} (P Q : A → Type 0) → ((x : A) → P x → Q x → ⊥) → (xs ys : List A) (x y : A) (us vs : List A)
+pub split_once : {A : Type 0} (P Q : A → Type 0) → ((x : A) → P x → Q x → ⊥)
+    → (xs ys : List A) (x y : A) (us vs : List A)
     → xs ++ x ∷ us ≡ ys ++ y ∷ vs → Each P xs → Each P ys → Q x → Q y → x ≡ y
 split_once P Q apart [] [] x y us vs e hx hy p q = let same : x ≡ y = cc in same
 split_once P Q apart [] (z ∷ ys) x y us vs e hx hy p q = let same : x ≡ z = cc in absurd (apart z hy.0 (subst Q same p))
@@ -81,7 +82,7 @@ module _ (limit : ℕ) (m : RobustModel) (all : List Judged) where
 
 module _ (limit : ℕ) (l : Leaf) where
   -- one spot is wide for a leaf
-  pub one_spot : (a b : Spot) → IsWideAt limit l a → IsWideAt limit l b → a ≡ b
+  pub one_spot : (a b : Spot) → IsWideInLeaf limit l a → IsWideInLeaf limit l b → a ≡ b
   one_spot a b (writing c some first) (writing d also second) = first_once limit l.box (judged l.box) a b first second
   one_spot a b (writing c some first) (checking d place also has is) =
       absurd (none_first limit l.box (judged l.box) a has.written first)
@@ -97,7 +98,7 @@ module _ (limit : ℕ) (l : Leaf) where
       is ∙ ap Check place ∙ sym names
 
   -- none is wide where the verdict on its certificate is another
-  narrow : (v : Verdict) → ((place : Place) → v ≡ check.TooWide place → ⊥) → (spot : Spot) → IsWideAt limit l spot
+  narrow : (v : Verdict) → ((place : Place) → v ≡ check.TooWide place → ⊥) → (spot : Spot) → IsWideInLeaf limit l spot
       → IfSome l.certificate (λ c. HasVerdict limit l.box c v) → ⊥
   narrow v other spot (writing c some first) h =
       let has : HasVerdict limit l.box c v = subst (λ o. IfSome o (λ c. HasVerdict limit l.box c v)) some h in
@@ -106,13 +107,13 @@ module _ (limit : ℕ) (l : Leaf) where
       let has : HasVerdict limit l.box c v = subst (λ o. IfSome o (λ c. HasVerdict limit l.box c v)) some h in
       other place (sym has.verdict ∙ wide.verdict)
 
-  pub passed_narrow : (spot : Spot) → IsWideAt limit l spot → IsPassed limit l → ⊥
+  pub passed_narrow : (spot : Spot) → IsWideInLeaf limit l spot → IsPassed limit l → ⊥
   passed_narrow = narrow check.Accepted (λ place e. apart place e)
     where
       apart : (place : Place) → check.Accepted ≡ check.TooWide place → ⊥
       apart place e = cc
 
-  pub rejected_narrow : (at : Place) (spot : Spot) → IsWideAt limit l spot
+  pub rejected_narrow : (at : Place) (spot : Spot) → IsWideInLeaf limit l spot
       → IfSome l.certificate (λ c. HasVerdict limit l.box c (check.Rejected at)) → ⊥
   rejected_narrow at = narrow (check.Rejected at) (λ place e. apart place e)
     where

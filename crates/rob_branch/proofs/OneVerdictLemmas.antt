@@ -24,11 +24,11 @@ use Rattle.rob_tree.specs.declared.verdict.TreeVerdict.TheVariants.{Accepted, Re
 use Rattle.rob_branch.proofs.LeafLemmas.{leaf_at_front}
 use Rattle.rob_branch.proofs.OneSpotLemmas.{at_place, at_taken, one_leaf, one_path, one_place, one_spot, passed_narrow, rejected_narrow}
 use Rattle.rob_branch.proofs.VerdictLemmas.{all_leaves, proved, IsLeafOf}
-use Rattle.rob_branch.specs.Verdicts.{IsAccepted, IsKept, IsPassed, IsRejectedAt, IsTooWideAt, IsVerdict, IsWideAt, Tells, checked_before, path_at, paths}
+use Rattle.rob_branch.specs.Verdicts.{IsAccepted, IsKept, IsPassed, IsRejectedAt, IsTooWideAt, IsVerdict, IsWideInLeaf, TellsFault, checked_before, path_at, paths}
 
 -- what is told of a leaf whose condition fails is one
 one_told : (limit : ℕ) (f : verdicts.LeafFault) (l : Leaf) (a b : LeafFault) → (f ≡ proof → IsProved l → ⊥)
-    → Tells limit f a l → Tells limit f b l → a ≡ b
+    → TellsFault limit f a l → TellsFault limit f b l → a ≡ b
 one_told limit proof l a b fails h k = by l.certificate refl
   where
     by : (o : Option Certificate) → l.certificate ≡ o → a ≡ b
@@ -108,7 +108,7 @@ module _ (limit : ℕ) (m : RobustModel) (names : List ℕ) (t : Tree) (model : 
         (all_leaves limit m names t model shape)
 
     -- the leaf of the wide number is that of the condition, stands behind it, or before it
-    at_leaf : Each (IsPassed limit) (take (i - 1) all) → (IsWideAt limit r.condition.leaf spot → ⊥)
+    at_leaf : Each (IsPassed limit) (take (i - 1) all) → (IsWideInLeaf limit r.condition.leaf spot → ⊥)
         → (IsKept limit m names t r.condition.leaf → ⊥) → ⊥
     at_leaf before narrow broken = by (cases_order i w.number)
       where
@@ -117,14 +117,14 @@ module _ (limit : ℕ) (m : RobustModel) (names : List ℕ) (t : Tree) (model : 
             let same : w.leaf ≡ r.condition.leaf =
             one_leaf all w.number i w.leaf r.condition.leaf w.here here (sym e)
             in
-            narrow (subst (λ l. IsWideAt limit l spot) same w.wide)
+            narrow (subst (λ l. IsWideInLeaf limit l spot) same w.wide)
         by (inr (inl less)) =
             broken (at_taken (IsKept limit m names t) all i (w.number - 1) r.condition.leaf here (omega arith) w.before)
         by (inr (inr more)) =
             passed_narrow limit w.leaf spot w.wide
             (at_taken (IsPassed limit) all w.number (i - 1) w.leaf w.here (omega arith) before)
 
-    clash : (f : verdicts.LeafFault) → Tells limit f told r.condition.leaf
+    clash : (f : verdicts.LeafFault) → TellsFault limit f told r.condition.leaf
         → Each (IsPassed limit) (checked_before f i all)
         → (HoldsOf f m.sense names t.status t.value r.condition.leaf → ⊥) → ⊥
     clash proof tells before fails =
@@ -148,8 +148,8 @@ module _ (limit : ℕ) (m : RobustModel) (names : List ℕ) (t : Tree) (model : 
   one_rejection i j a b r q =
       let same : r.condition ≡ q.condition = one_fault m names t r.condition q.condition r.first q.first in
       let number : i ≡ j = sym r.number ∙ ap (λ (c : Condition). c.number) same ∙ q.number in
-      let tells : Tells limit r.condition.fault b r.condition.leaf =
-      subst (λ (c : Condition). Tells limit c.fault b c.leaf) (sym same) q.tells
+      let tells : TellsFault limit r.condition.fault b r.condition.leaf =
+      subst (λ (c : Condition). TellsFault limit c.fault b c.leaf) (sym same) q.tells
       in
       let told : a ≡ b =
       one_told limit r.condition.fault r.condition.leaf a b
@@ -175,7 +175,7 @@ module _ (limit : ℕ) (m : RobustModel) (names : List ℕ) (t : Tree) (model : 
       by : (w.number ≡ v.number) ⊎ ((w.number < v.number) ⊎ (v.number < w.number)) → TooWide p a ≡ TooWide q b
       by (inl e) =
           let leaf : v.leaf ≡ w.leaf = one_leaf all v.number w.number v.leaf w.leaf v.here w.here (sym e) in
-          let spot : a ≡ b = one_spot limit w.leaf a b w.wide (subst (λ l. IsWideAt limit l b) leaf v.wide) in
+          let spot : a ≡ b = one_spot limit w.leaf a b w.wide (subst (λ l. IsWideInLeaf limit l b) leaf v.wide) in
           let path : map branch_of p ≡ map branch_of q = sym w.path_is ∙ ap (path_at (paths [] t.root)) e ∙ v.path_is in
           ap (λ p. TooWide p a) (one_path p q path) ∙ ap (TooWide q) spot
       by (inr (inl less)) = absurd (later (map branch_of p) (map branch_of q) a b w v less)

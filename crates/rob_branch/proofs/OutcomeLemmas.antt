@@ -18,15 +18,18 @@ is_least-is_le Equal = refl
 is_least-is_le Greater = refl
 
 -- a name whose number is whole is passed, and another one is the first
-pub first_broken-whole : (names : List ℕ) (plan : List Fraction) (i j : ℕ) → i < length names → j ≡ get_or names i j → IsWhole (at plan j)
+pub first_broken-whole : (names : List ℕ) (plan : List Fraction) (i j : ℕ) → i < length names
+    → j ≡ get_or names i j → IsWhole (at plan j)
     → first_broken (drop i names) plan ≡ first_broken (drop (i + 1) names) plan
 first_broken-whole names plan i j inside is whole =
     ap (λ ns. first_broken ns plan) (drop_at names i j inside is) ∙ by (at plan j).den whole
   where
-    by : (d : ℕ) → d ≡ 1 → if eqb d 1 then first_broken (drop (i + 1) names) plan else Some j ≡ first_broken (drop (i + 1) names) plan
+    by : (d : ℕ) → d ≡ 1 → if eqb d 1 then first_broken (drop (i + 1) names) plan else Some j
+        ≡ first_broken (drop (i + 1) names) plan
     by d e = ap (λ n. if eqb n 1 then first_broken (drop (i + 1) names) plan else Some j) e
 
-pub first_broken-here : (names : List ℕ) (plan : List Fraction) (i j : ℕ) → i < length names → j ≡ get_or names i j → (IsWhole (at plan j) → ⊥)
+pub first_broken-here : (names : List ℕ) (plan : List Fraction) (i j : ℕ) → i < length names → j ≡ get_or names i j
+    → (IsWhole (at plan j) → ⊥)
     → first_broken (drop i names) plan ≡ Some j
 first_broken-here names plan i j inside is broken =
     ap (λ ns. first_broken ns plan) (drop_at names i j inside is)

@@ -3,7 +3,6 @@ use Rattle.std.proofs.Common.{◌≡◌, ◌≢◌, ℕ, ◌+◌, ◌<◌, ◌�
 use Rattle.std.proofs.lemmas.Int.{ints}
 use Rattle.std.specs.Prelude.{ℤ, pos, negsuc, ◌+ℤ◌, nat_abs, Result, Ok, Err, IfOk}
 use Rattle.rob_algebra.specs.Fraction.{Fraction}
-use Rattle.rob_dualize.specs.Models.{IsWritten}
 use Rattle.rob_meaning.specs.Certificates.{Certificate}
 use Rattle.rob_meaning.specs.RobustModel.{RobustModel}
 use Rattle.rob_meaning.specs.WellFormed.{IsModel}
@@ -22,6 +21,7 @@ use Rattle.rob_branch.proofs.GrownTreeLemmas.{grown_joined}
 use Rattle.rob_branch.specs.Growth.{IsGrownTo}
 use Rattle.rob_branch.specs.View.{search_of}
 use Rattle.rob_branch.specs.declared.grow.Grown.{Grown}
+use Rattle.rob_elab.specs.Written.{IsWritten}
 
 -- ---- K + 1
 pub next_seen : (z : ℤ) → nat_abs z < 2 ^ 62 → to_z w64 (of_z w64 (to_z w64 (of_z w64 z) +ℤ pos 1)) ≡ z +ℤ pos 1

@@ -27,11 +27,12 @@ use Rattle.rob_tree.specs.declared.verdict.LeafFault.{LeafFault}
 use Rattle.rob_tree.specs.declared.verdict.LeafFault.TheVariants as fault
 use Rattle.rob_tree.specs.declared.verdict.TreeVerdict.{TreeVerdict}
 use Rattle.rob_tree.specs.declared.verdict.TreeVerdict.TheVariants.{Accepted, Rejected, TooWide, Memory}
-use Rattle.rob_branch.proofs.LeafLemmas.{leaf_at_front, path_at_front, take_front}
+use Rattle.rob_branch.proofs.LeafLemmas.{leaf_at_front, path_at_front}
 use Rattle.rob_branch.proofs.PathLemmas.{box_at}
-use Rattle.rob_branch.specs.Leaves.{Ends, FailsAt, IsJudged, IsPassedLeaf, Stops, StopsAt}
+use Rattle.rob_branch.specs.Leaves.{Ends, FailsAt, IsLeafJudged, IsPassedLeaf, Stops, StopsAt}
 use Rattle.rob_branch.specs.declared.leaf.LeafCheck.TheVariants as leaf
-use Rattle.rob_branch.specs.Verdicts.{HasVerdict, IsAccepted, IsKept, IsPassed, IsRejectedAt, IsTooWideAt, IsVerdict, IsWideAt, OnAccepted, RoseIfTooWide, path_at, paths}
+use Rattle.rob_branch.specs.Verdicts.{HasVerdict, IsAccepted, IsKept, IsPassed, IsRejectedAt, IsTooWideAt, IsVerdict, IsWideInLeaf, OnAccepted, RoseIfTooWide, path_at, paths}
+use Rattle.std.proofs.lemmas.List.{take_at}
 
 if_some : (o : Option Certificate) (P Q : Certificate → Type 0) → ((c : Certificate) → P c → Q c) → IfSome o P
     → IfSome o Q
@@ -65,7 +66,7 @@ module _ (limit : ℕ) (m : RobustModel) (names : List ℕ) (t : Tree) (model : 
       (leaves_boxed m t.root) shape.shaped
 
   abbrev kept : Leaf → Certificate → Type 0
-  kept l c = IsJudged limit t.status t.value l.box c leaf.Passed
+  kept l c = IsLeafJudged limit t.status t.value l.box c leaf.Passed
 
   kept_of : (l : Leaf) → IsLeafOf l → IsPassedLeaf limit t.status t.value l → IsKept limit m names t l
   kept_of l is h = record {
@@ -114,7 +115,7 @@ module _ (limit : ℕ) (m : RobustModel) (names : List ℕ) (t : Tree) (model : 
     taken : take (i - 1) (leaves m t.root) ≡ h.done
     taken =
         ap (λ n. take n (leaves m t.root)) (omega (arith, h.number)) ∙ ap (λ ls. take (length h.done) ls) h.order
-        ∙ take_front h.done (h.here ∷ h.rest)
+        ∙ take_at h.done (h.here ∷ h.rest) (length h.done) refl
 
     before_kept : Each (IsKept limit m names t) (take (i - 1) (leaves m t.root))
     before_kept = subst (Each (IsKept limit m names t)) (sym taken) done_kept
@@ -180,7 +181,7 @@ module _ (limit : ℕ) (m : RobustModel) (names : List ℕ) (t : Tree) (model : 
     passes c some q = subst (λ o. IfSome o (λ c. HasVerdict limit h.here.box c check.Accepted)) (sym some) q
 
     rejects : (c : Certificate) (told : LeafFault) → h.here.certificate ≡ Some c
-        → IsJudged limit t.status t.value h.here.box c (leaf.Fails told)
+        → IsLeafJudged limit t.status t.value h.here.box c (leaf.Fails told)
         → IsRejectedAt limit m names t i told
     rejects c (fault.At place) some q = record {
       condition = of_here proof;
@@ -225,10 +226,10 @@ module _ (limit : ℕ) (m : RobustModel) (names : List ℕ) (t : Tree) (model : 
   rejected_at i path told h = rejects i path (FailsAt limit t.status t.value told) h h.holds.0 told h.holds.1 h.holds.2
 
   too_wide_at : (i : ℕ) (path : List Branch) (spot : Spot)
-      → StopsAt limit t.status t.value m [] t.root 1 i path (λ l. IsWideAt limit l spot)
+      → StopsAt limit t.status t.value m [] t.root 1 i path (λ l. IsWideInLeaf limit l spot)
       → IsTooWideAt limit m names t path spot
   too_wide_at i path spot h =
-      let place : i ≡ suc (length h.done) = number_is i path (λ l. IsWideAt limit l spot) h in
+      let place : i ≡ suc (length h.done) = number_is i path (λ l. IsWideInLeaf limit l spot) h in
       let here : leaf_at (leaves m t.root) i ≡ Some h.here =
       ap (λ ls. leaf_at ls i) h.order ∙ ap (λ n. leaf_at (h.done ++ h.here ∷ h.rest) n) place
       ∙ leaf_at_front h.done h.here h.rest
@@ -245,7 +246,7 @@ module _ (limit : ℕ) (m : RobustModel) (names : List ℕ) (t : Tree) (model : 
         path_is = path_is;
         boxed = box_at m t.root i h.here here ∙ ap (box m) path_is;
         wide = h.holds;
-        before = before_kept i path (λ l. IsWideAt limit l spot) h;
+        before = before_kept i path (λ l. IsWideInLeaf limit l spot) h;
       }
 
   -- the verdict where the check of the root stops

@@ -3,7 +3,7 @@ use Rattle.std.specs.Prelude.{◌≡◌, ℕ, List, [], ◌∷◌, ◌++◌, map
 use Rattle.rob_algebra.specs.Fraction.{Fraction}
 use Rattle.rob_cert.specs.declared.ending.Stop.{Stop}
 use Rattle.rob_cert.specs.declared.ending.Stop.TheVariants as route
-use Rattle.rob_dualize.specs.Models.{IsWideIn, IsWritten}
+use Rattle.rob_dualize.specs.Models.{IsWideIn}
 use Rattle.rob_dualize.specs.Solving.{TellsEmpty}
 use Rattle.rob_meaning.specs.Places.{Each}
 use Rattle.rob_meaning.specs.RobustModel.{RobustModel}
@@ -19,6 +19,7 @@ use Rattle.rob_tree.specs.declared.error.TreeStop.{TreeStop}
 use Rattle.rob_tree.specs.declared.error.TreeStop.TheVariants.{Rule, EmptySet, Wide, Memory}
 use Rattle.rob_branch.specs.View.{search_of}
 use Rattle.rob_branch.specs.declared.grow.Grown.{Grown}
+use Rattle.rob_elab.specs.Written.{IsWritten}
 
 -- nothing is wide when the box of a node is written in whole numbers, nor when one behind its branches is; open leaves
 -- aside

@@ -21,7 +21,7 @@ use Rattle.rob_tree.specs.declared.verdict.LeafFault.{LeafFault}
 use Rattle.rob_tree.specs.declared.verdict.LeafFault.TheVariants as fault
 use Rattle.rob_tree.specs.declared.verdict.TreeVerdict.{TreeVerdict}
 use Rattle.rob_tree.specs.declared.verdict.TreeVerdict.TheVariants.{Accepted, Rejected, TooWide, Memory}
-use Rattle.rob_branch.specs.Verdicts.{HasVerdict, IsWideAt, RoseIfTooWide, paths}
+use Rattle.rob_branch.specs.Verdicts.{HasVerdict, IsWideInLeaf, RoseIfTooWide, paths}
 use Rattle.rob_branch.specs.declared.leaf.LeafCheck.{LeafCheck}
 use Rattle.rob_branch.specs.declared.leaf.LeafCheck.TheVariants as leaf
 use Rattle.rob_branch.specs.declared.walk.Walk.{Walk}
@@ -41,18 +41,19 @@ IsClaimed claimed sense value c (leaf.Wide spot) = ⊥
 IsClaimed claimed sense value c leaf.Memory = ⊥
 
 -- what comes of the check of a leaf with a certificate
-abbrev pub IsJudged : ℕ → Status → Fraction → RobustModel → Certificate → LeafCheck → Type 0
-IsJudged limit claimed value box c leaf.Passed =
+abbrev pub IsLeafJudged : ℕ → Status → Fraction → RobustModel → Certificate → LeafCheck → Type 0
+IsLeafJudged limit claimed value box c leaf.Passed =
     HasVerdict limit box c check.Accepted × MayBe claimed c.status × KeepsValue claimed box.sense value c
-IsJudged limit claimed value box c (leaf.Fails (fault.At place)) = HasVerdict limit box c (check.Rejected place)
-IsJudged limit claimed value box c (leaf.Fails fault.Status) =
+IsLeafJudged limit claimed value box c (leaf.Fails (fault.At place)) = HasVerdict limit box c (check.Rejected place)
+IsLeafJudged limit claimed value box c (leaf.Fails fault.Status) =
     HasVerdict limit box c check.Accepted × (MayBe claimed c.status → ⊥)
-IsJudged limit claimed value box c (leaf.Fails fault.Value) =
+IsLeafJudged limit claimed value box c (leaf.Fails fault.Value) =
     HasVerdict limit box c check.Accepted × MayBe claimed c.status × (KeepsValue claimed box.sense value c → ⊥)
-IsJudged limit claimed value box c (leaf.Fails fault.Best) = ⊥
-IsJudged limit claimed value box c (leaf.Fails fault.Whole) = ⊥
-IsJudged limit claimed value box c (leaf.Wide spot) = IsWideAt limit (record { box = box; certificate = Some c }) spot
-IsJudged limit claimed value box c leaf.Memory = Unit {0}
+IsLeafJudged limit claimed value box c (leaf.Fails fault.Best) = ⊥
+IsLeafJudged limit claimed value box c (leaf.Fails fault.Whole) = ⊥
+IsLeafJudged limit claimed value box c (leaf.Wide spot) =
+    IsWideInLeaf limit (record { box = box; certificate = Some c }) spot
+IsLeafJudged limit claimed value box c leaf.Memory = Unit {0}
 
 -- what comes of the check where the box cannot be written
 abbrev pub leaf_refusal : ElabErr → LeafCheck
@@ -88,11 +89,12 @@ pub record IsBoxNode (limit : ℕ) (box : RobustModel) (names : List ℕ) (node 
 module _ (limit : ℕ) (claimed : Status) (value : Fraction) where
   -- a leaf is passed unless its check says something else; an open one always is
   abbrev pub IsPassedLeaf : Leaf → Type 0
-  IsPassedLeaf l = IfSome l.certificate (λ c. IsJudged limit claimed value l.box c leaf.Passed)
+  IsPassedLeaf l = IfSome l.certificate (λ c. IsLeafJudged limit claimed value l.box c leaf.Passed)
 
   -- of a leaf with a certificate that is what fails
   abbrev pub FailsAt : LeafFault → Leaf → Type 0
-  FailsAt told l = (c : Certificate) × (l.certificate ≡ Some c) × IsJudged limit claimed value l.box c (leaf.Fails told)
+  FailsAt told l = (c : Certificate) × (l.certificate ≡ Some c)
+      × IsLeafJudged limit claimed value l.box c (leaf.Fails told)
 
   module _ (box : RobustModel) (front : List Branch) (node : Node) where
     -- the leaf of a number, counted on, has the property, its path is that, and all leaves before it are passed
@@ -113,7 +115,7 @@ module _ (limit : ℕ) (claimed : Status) (value : Fraction) where
     abbrev pub Stops : ℕ → TreeVerdict → Type 0
     Stops first Accepted = ⊥
     Stops first (Rejected i told) = (path : List Branch) × StopsAt first i path (FailsAt told)
-    Stops first (TooWide path spot) = (i : ℕ) × StopsAt first i (map branch_of path) (λ l. IsWideAt limit l spot)
+    Stops first (TooWide path spot) = (i : ℕ) × StopsAt first i (map branch_of path) (λ l. IsWideInLeaf limit l spot)
     Stops first Memory = Unit {0}
 
   -- all leaves of a node are passed; the number of the next leaf

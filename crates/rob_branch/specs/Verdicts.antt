@@ -4,7 +4,6 @@ use Rattle.std.specs.Prelude.{◌≡◌, ◌-◌, ℕ, zero, suc, List, [], ◌�
 use Rattle.rob_check.specs.Conditions.{verdict_of}
 use Rattle.rob_check.specs.declared.verdict.Verdict.{Verdict}
 use Rattle.rob_check.specs.declared.verdict.Verdict.TheVariants as check
-use Rattle.rob_dualize.specs.Models.{IsWritten, judged}
 use Rattle.rob_meaning.specs.Certificates.{Certificate}
 use Rattle.rob_meaning.specs.Places.{Each}
 use Rattle.rob_meaning.specs.RobustModel.{RobustModel}
@@ -22,6 +21,7 @@ use Rattle.rob_tree.specs.declared.verdict.LeafFault.{LeafFault}
 use Rattle.rob_tree.specs.declared.verdict.LeafFault.TheVariants as fault
 use Rattle.rob_tree.specs.declared.verdict.TreeVerdict.{TreeVerdict}
 use Rattle.rob_tree.specs.declared.verdict.TreeVerdict.TheVariants.{Accepted, Rejected, TooWide, Memory}
+use Rattle.rob_elab.specs.Written.{judged, IsWritten}
 
 -- the path of each leaf, in order, behind that of the node
 abbrev pub paths : List Branch → Node → List (List Branch)
@@ -58,23 +58,24 @@ module _ (limit : ℕ) where
 
   -- the spot is the first that is wide: where the leaf's box is written, or, where none is there, in the check of its
   -- certificate
-  pub data IsWideAt (l : Leaf) (spot : Spot) : Type 0 where
-    writing : (c : Certificate) → l.certificate ≡ Some c → IsFirstWide limit l.box (judged l.box) spot → IsWideAt l spot
+  pub data IsWideInLeaf (l : Leaf) (spot : Spot) : Type 0 where
+    writing : (c : Certificate) → l.certificate ≡ Some c → IsFirstWide limit l.box (judged l.box) spot
+        → IsWideInLeaf l spot
     checking : (c : Certificate) (place : Place) → l.certificate ≡ Some c → HasVerdict l.box c (check.TooWide place)
-        → spot ≡ Check place → IsWideAt l spot
+        → spot ≡ Check place → IsWideInLeaf l spot
 
   -- no number of the tree's check is wide, of whichever leaf
   abbrev pub NoneWide : RobustModel → Tree → Type 0
-  NoneWide m t = Each (λ l. (spot : Spot) → IsWideAt l spot → ⊥) (leaves m t.root)
+  NoneWide m t = Each (λ l. (spot : Spot) → IsWideInLeaf l spot → ⊥) (leaves m t.root)
 
   -- what is told of a leaf whose condition of that kind fails; of its certificate's check the place at which it fails
-  abbrev pub Tells : verdicts.LeafFault → LeafFault → Leaf → Type 0
-  Tells proof told l =
+  abbrev pub TellsFault : verdicts.LeafFault → LeafFault → Leaf → Type 0
+  TellsFault proof told l =
       (place : Place) × (told ≡ fault.At place) × IfSome l.certificate (λ c. HasVerdict l.box c (check.Rejected place))
-  Tells status told l = (told ≡ fault.Status) × IsPassed l
-  Tells value told l = (told ≡ fault.Value) × IsPassed l
-  Tells best told l = told ≡ fault.Best
-  Tells whole told l = told ≡ fault.Whole
+  TellsFault status told l = (told ≡ fault.Status) × IsPassed l
+  TellsFault value told l = (told ≡ fault.Value) × IsPassed l
+  TellsFault best told l = told ≡ fault.Best
+  TellsFault whole told l = told ≡ fault.Whole
 
   module _ (m : RobustModel) (names : List ℕ) (t : Tree) where
     -- the leaf is passed, and keeps the tree's status and value
@@ -93,7 +94,7 @@ module _ (limit : ℕ) where
       pub condition : Condition
       pub first : IsFirstFault m names t condition
       pub number : condition.number ≡ i
-      pub tells : Tells condition.fault told condition.leaf
+      pub tells : TellsFault condition.fault told condition.leaf
       pub before : Each IsPassed (checked_before condition.fault i (leaves m t.root))
 
     -- a number is wide at that spot for the leaf behind that path, whose box is the one that the path leads to, and all
@@ -104,7 +105,7 @@ module _ (limit : ℕ) where
       pub here : leaf_at (leaves m t.root) number ≡ Some leaf
       pub path_is : path_at (paths [] t.root) number ≡ path
       pub boxed : leaf.box ≡ box m path
-      pub wide : IsWideAt leaf spot
+      pub wide : IsWideInLeaf leaf spot
       pub before : Each IsKept (take (number - 1) (leaves m t.root))
 
     -- the verdict is the tree's; want of memory has no cause

@@ -23,9 +23,9 @@ use crate::leaf::{Claim, LeafCheck, judge_leaf, last_fault};
 use crate::path::{branch_above, branch_below, longer};
 use crate::walk::{Walk, leaf_of};
 use rob_cert::{Cert, Status};
+use rob_model::copy::copy_list;
 use rob_model::{Model, Spot};
 use rob_number::{Exact, Ledger};
-use rob_tree::copy::copy_list;
 use rob_tree::{Branch, LeafFault, Node, Tree, TreeVerdict, behind};
 use std::alloc::Global;
 

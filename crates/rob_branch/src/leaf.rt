@@ -4,22 +4,23 @@
 ghost use Rattle.std.specs.Prelude.{◌≡◌, ◌↔◌, IsTrue, map};
 ghost use Rattle.rob_cert.specs.Shape.{HasShape};
 ghost use Rattle.rob_cert.specs.View.{certificate_of, status_of};
-ghost use Rattle.rob_meaning.specs.Certificates.{optimal, unbounded};
+ghost use Rattle.rob_elab.specs.Elaborated.{IsElaborated};
+ghost use Rattle.rob_elab.specs.Written.{IsWritten};
 ghost use Rattle.rob_meaning.specs.Guarantee.{IsNoWorse};
 ghost use Rattle.rob_model.specs.Valid.{IsValid};
 ghost use Rattle.rob_model.specs.View.{robust, sense_of};
 ghost use Rattle.rob_reach.specs.Verdicts.{KeepsValue, MayBe, Shows};
 ghost use Rattle.rob_reach.specs.WholeStatus.{IsWholeOn};
-ghost use Rattle.rob_branch.specs.Leaves.{CountsLeaf, IsClaimed, IsJudged, IsLastFault, leaf_refusal};
+ghost use Rattle.rob_branch.specs.Leaves.{CountsLeaf, IsClaimed, IsLeafJudged, IsLastFault, leaf_refusal};
 
 use crate::search::first_broken;
 use rob_cert::{Cert, Status};
 use rob_check::{Verdict, check};
-use rob_elab::elaborate;
+use rob_elab::{ElabErr, Forms, written};
 use rob_model::numbers::at_most;
 use rob_model::{Model, Sense, Spot};
 use rob_number::{Exact, Ledger};
-use rob_sets::{ElabErr, clear_set};
+use rob_sets::SetForm;
 use rob_tree::LeafFault;
 use std::alloc::Global;
 
@@ -102,6 +103,31 @@ fn refused(error: ElabErr) -> LeafCheck
     }
 }
 
+/// What comes of the check of a leaf whose box is written in whole numbers: of its certificate, and then of what it
+/// claims.
+fn judge_written<N: Exact, L: Ledger>(
+    model: &Model<N>,
+    forms: &Forms,
+    set: &SetForm,
+    claim: Claim<N>,
+    cert: &Cert<N>,
+    ledger: &mut L,
+) -> LeafCheck
+    requires valid { IsValid N.value model.now }
+    requires elaborated { IsElaborated N.limit (robust N.value model.now) forms.now set.now }
+    requires none_wide { IsWritten N.limit (robust N.value model.now) }
+    requires shape { HasShape (robust N.value model.now) (certificate_of N.value cert.now) }
+    ensures judged { IsLeafJudged N.limit (status_of claim.status) (N.value claim.value) (robust N.value model.now)
+        (certificate_of N.value cert.now) result }
+    ensures counted { CountsLeaf L.ops L.wides ledger.old ledger.new result }
+{
+    match check(model, forms, set, cert, ledger) {
+        Verdict::TooWide(place) => LeafCheck::Wide(Spot::Check(place)),
+        Verdict::Rejected(place) => LeafCheck::Fails(LeafFault::At(place)),
+        Verdict::Accepted => claimed(claim, model.sense, cert),
+    }
+}
+
 /// What comes of the check of a leaf: of its certificate for its box, and then of what it claims.
 pub fn judge_leaf<N: Exact, L: Ledger>(
     alloc: Global,
@@ -112,22 +138,13 @@ pub fn judge_leaf<N: Exact, L: Ledger>(
 ) -> LeafCheck
     requires valid { IsValid N.value model.now }
     requires shape { HasShape (robust N.value model.now) (certificate_of N.value cert.now) }
-    ensures judged { IsJudged N.limit (status_of claim.status) (N.value claim.value) (robust N.value model.now)
+    ensures judged { IsLeafJudged N.limit (status_of claim.status) (N.value claim.value) (robust N.value model.now)
         (certificate_of N.value cert.now) result }
     ensures counted { CountsLeaf L.ops L.wides ledger.old ledger.new result }
 {
-    let set = match clear_set(alloc, model, ledger) {
-        Ok(set) => set,
-        Err(error) => return refused(error),
-    };
-    let forms = match elaborate(alloc, model, &set, ledger) {
-        Ok(forms) => forms,
-        Err(error) => return refused(error),
-    };
-    match check(model, &forms, &set, cert, ledger) {
-        Verdict::TooWide(place) => LeafCheck::Wide(Spot::Check(place)),
-        Verdict::Rejected(place) => LeafCheck::Fails(LeafFault::At(place)),
-        Verdict::Accepted => claimed(claim, model.sense, cert),
+    match written(alloc, model, ledger) {
+        Ok((set, forms)) => judge_written(model, &forms, &set, claim, cert, ledger),
+        Err(error) => refused(error),
     }
 }
 

@@ -4,9 +4,9 @@ ghost use Rattle.std.specs.Prelude.{◌≡◌, ◌<◌, ◌∷◌, ◌++◌, ◌
 ghost use Rattle.rob_reach.specs.Boxes.{at_least_branch, at_most_branch};
 ghost use Rattle.rob_tree.specs.View.{branch_of};
 
+use rob_model::copy::copy_list;
 use rob_number::{List, Memory};
 use rob_tree::Branch;
-use rob_tree::copy::copy_list;
 use std::alloc::Global;
 
 /// The path with one branch more.

@@ -20,7 +20,9 @@ of_parts case wanted bytes (Ok x) h = parts case wanted ∙ ap (option_map (rebu
 of_parts case wanted bytes (Err e) h = (λ line. parts case wanted ∙ ap (option_map (rebuilt case)) (h.0 line), h.1)
 
 -- where bytes were appended, the case as it was before has those more
-pub with_more : {T : Type 0} (case before : CaseState) → case ≡ before → (wanted : Option (List ℕ)) (bytes : List ℕ) (r : Result T Trouble)
+pub with_more : {T : Type 0} (case before : CaseState) → case ≡ before
+    → (wanted : Option (List ℕ)) (bytes : List ℕ) (r : Result T Trouble)
     → Appends case.bytes wanted bytes r → Answers (with_bytes before wanted) (λ _. rebuilt case bytes) r
 with_more case before e wanted bytes r h =
-    subst (λ (v : CaseState). Answers (with_bytes v wanted) (λ _. rebuilt case bytes) r) e (of_parts case wanted bytes r h)
+    subst (λ (v : CaseState). Answers (with_bytes v wanted) (λ _. rebuilt case bytes) r) e
+    (of_parts case wanted bytes r h)

@@ -52,10 +52,12 @@ plain_no_mark byte true e h =
 
 spelled_shown : (byte : ℕ) (v : Bool) (rest : List ℕ) → is_plain byte ≡ v → byte < 256
     → spelled (shown_byte byte ++ rest) ≡ option_map (λ more. byte ∷ more) (spelled rest)
-spelled_shown byte true rest e h = let no : eqb byte 92 ≡ false = plain_no_mark byte (eqb byte 92) refl e in rw (e, no) refl
+spelled_shown byte true rest e h =
+    let no : eqb byte 92 ≡ false = plain_no_mark byte (eqb byte 92) refl e in rw (e, no) refl
 spelled_shown byte false rest e h = rw (e, hex_byte-digits byte h) refl
 
-pub spelled-shown_bytes : (bytes : List ℕ) → ((i : ℕ) → get_or bytes i 0 < 2 ^ 8) → spelled (shown_bytes bytes) ≡ Some bytes
+pub spelled-shown_bytes : (bytes : List ℕ) → ((i : ℕ) → get_or bytes i 0 < 2 ^ 8)
+    → spelled (shown_bytes bytes) ≡ Some bytes
 spelled-shown_bytes [] h = refl
 spelled-shown_bytes (byte ∷ rest) h =
     spelled_shown byte (is_plain byte) (shown_bytes rest) refl (h 0)

@@ -43,18 +43,28 @@ some_where b x y e s = rw e (ap Some (sym s))
 
 -- the number below 2 ^ 32 that a text writes, which begins with a plus or not
 module _ (word : List ℕ) where
-  pub small_read : (n : ℕ) → IsNumeral 10 (without_leading_plus word) × (digits_value 10 (without_leading_plus word) < 2 ^ 32)
+  pub small_read : (n : ℕ) → IsNumeral 10 (without_leading_plus word)
+      × (digits_value 10 (without_leading_plus word) < 2 ^ 32)
       → n ≡ digits_value 10 (without_leading_plus word) → small_of word ≡ Some n
   small_read n h e =
       some_where _ _ n (both_true (numeral_true _ h.0) (lt-ltb _ (2 ^ 32) h.1)) e
 
-  pub small_unread : ¬ (IsNumeral 10 (without_leading_plus word) × (digits_value 10 (without_leading_plus word) < 2 ^ 32)) → small_of word ≡ None
-  small_unread h = none_where _ _ (λ t. h (numeral_from _ (left_true _ _ t), ltb-true _ (2 ^ 32) (right_true (is_numeral (without_leading_plus word)) _ t)))
+  pub small_unread : ¬ (IsNumeral 10 (without_leading_plus word)
+      × (digits_value 10 (without_leading_plus word) < 2 ^ 32)) → small_of word ≡ None
+  small_unread h =
+      none_where _ _
+      (λ t. h (
+        numeral_from _ (left_true _ _ t),
+        ltb-true _ (2 ^ 32) (right_true (is_numeral (without_leading_plus word)) _ t),
+      ))
 
   -- the whole number of 64 bits
   pub whole_read : (z : ℤ) → IsNumeral 10 (without_leading_sign word) × FitsSigned w64 (signed_digits_value 10 word)
       → z ≡ signed_digits_value 10 word → whole_of word ≡ Some z
   whole_read z h e = some_where _ _ z (both_true (numeral_true _ h.0) (fits_true _ h.1)) e
 
-  pub whole_unread : ¬ (IsNumeral 10 (without_leading_sign word) × FitsSigned w64 (signed_digits_value 10 word)) → whole_of word ≡ None
-  whole_unread h = none_where _ _ (λ t. h (numeral_from _ (left_true _ _ t), fits_from _ (right_true (is_numeral (without_leading_sign word)) _ t)))
+  pub whole_unread : ¬ (IsNumeral 10 (without_leading_sign word) × FitsSigned w64 (signed_digits_value 10 word))
+      → whole_of word ≡ None
+  whole_unread h =
+      none_where _ _
+      (λ t. h (numeral_from _ (left_true _ _ t), fits_from _ (right_true (is_numeral (without_leading_sign word)) _ t)))

@@ -42,8 +42,10 @@ module _ {X Y : Type 0} (f : X → Option Y) where
   nothing_before (Some ys) = refl
 
   onto : (first : Option Y) (xs ys : Option (List Y))
-      → option_and_then (λ y. option_map (λ more. y ∷ more) (option_and_then (λ some. option_map (λ more. some ++ more) ys) xs)) first
-      ≡ option_and_then (λ some. option_map (λ more. some ++ more) ys) (option_and_then (λ y. option_map (λ more. y ∷ more) xs) first)
+      → option_and_then
+      (λ y. option_map (λ more. y ∷ more) (option_and_then (λ some. option_map (λ more. some ++ more) ys) xs)) first
+      ≡ option_and_then (λ some. option_map (λ more. some ++ more) ys)
+      (option_and_then (λ y. option_map (λ more. y ∷ more) xs) first)
   onto None xs ys = refl
   onto (Some y) None ys = refl
   onto (Some y) (Some xs) None = refl

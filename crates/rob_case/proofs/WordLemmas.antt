@@ -45,17 +45,22 @@ words_step line = step line (ltb (position_or_len is_space line) (length line)) 
 
 -- and so are their numbers
 wholes_parts : (line : List ℕ) → wholes_of line
-    ≡ option_and_then (λ some. option_map (λ more. some ++ more) (wholes_of (rest_of line))) (of_all whole_of (filter is_filled (keyword_of line ∷ [])))
+    ≡ option_and_then (λ some. option_map (λ more. some ++ more) (wholes_of (rest_of line)))
+    (of_all whole_of (filter is_filled (keyword_of line ∷ [])))
 wholes_parts line =
-    ap (of_all whole_of) (words_step line) ∙ of_all-append whole_of (filter is_filled (keyword_of line ∷ [])) (words (rest_of line))
+    ap (of_all whole_of) (words_step line)
+    ∙ of_all-append whole_of (filter is_filled (keyword_of line ∷ [])) (words (rest_of line))
 
 module _ (line word rest : List ℕ) (front : word ≡ keyword_of line) (back : rest ≡ rest_of line) (done : List ℤ) where
   -- the number in front is taken, and those of the rest are left
-  pub wholes_more : (new : List ℤ) → option_map (λ more. done ++ more) (of_all whole_of (filter is_filled (word ∷ []))) ≡ Some new
+  pub wholes_more : (new : List ℤ)
+      → option_map (λ more. done ++ more) (of_all whole_of (filter is_filled (word ∷ []))) ≡ Some new
       → option_map (λ more. new ++ more) (wholes_of rest) ≡ option_map (λ more. done ++ more) (wholes_of line)
   wholes_more new e =
-      let taken = ap (λ w. option_map (λ more. done ++ more) (of_all whole_of (filter is_filled (w ∷ [])))) (sym front) ∙ e in
-      rw (back, wholes_parts line) (grown done new (of_all whole_of (filter is_filled (keyword_of line ∷ []))) (wholes_of (rest_of line)) taken)
+      let taken =
+      ap (λ w. option_map (λ more. done ++ more) (of_all whole_of (filter is_filled (w ∷ [])))) (sym front) ∙ e in
+      rw (back, wholes_parts line)
+      (grown done new (of_all whole_of (filter is_filled (keyword_of line ∷ []))) (wholes_of (rest_of line)) taken)
 
   -- the word in front is no number
   pub wholes_stop : option_map (λ more. done ++ more) (of_all whole_of (filter is_filled (word ∷ []))) ≡ None

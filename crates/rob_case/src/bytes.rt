@@ -1,8 +1,8 @@
-// The bytes that lines give.
+//! The bytes that lines give.
 
 ghost use Rattle.rob_case.specs.Answers.{Appends};
 ghost use Rattle.rob_case.specs.Cases.{line_bytes, lines_bytes, times_bytes};
-ghost use Rattle.rob_case.specs.Texts.{all_numbered, repeated, spelled};
+ghost use Rattle.rob_case.specs.Texts.{all_numbered, repeated};
 
 use crate::numbers::small;
 use crate::text::{keyword, unescape};

@@ -1,4 +1,4 @@
-// A case: what is given to the calls, and what they answered.
+//! A case: what is given to the calls, and what they answered.
 
 ghost use Rattle.std.specs.Prelude.{◌≡◌, []};
 ghost use Rattle.rob_case.specs.Answers.{Answers};

@@ -1,4 +1,4 @@
-// The lines of a case that give something to the calls behind.
+//! The lines of a case that give something to the calls behind.
 
 ghost use Rattle.std.specs.Prelude.{◌≡◌, ◌≢◌, false};
 ghost use Rattle.rob_case.specs.Answers.{Answers};

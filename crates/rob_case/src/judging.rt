@@ -1,4 +1,4 @@
-// What is said of a case at its end.
+//! What is said of a case at its end.
 
 ghost use Rattle.std.specs.Prelude.{◌≡◌, ◌↔◌, IfOk, IsTrue, MatchResult, string_bytes};
 ghost use Rattle.rob_case.specs.Cases.{verdict_text};

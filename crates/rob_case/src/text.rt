@@ -3,7 +3,7 @@
 ghost use Rattle.std.specs.Prelude.{◌≡◌, ◌<◌, ◌∷◌, IfOk, MatchResult, codes, length, option_map, string_bytes};
 ghost use Rattle.std.specs.Char.{digit_char};
 ghost use Rattle.rob_case.specs.Answers.{Answers, Appends};
-ghost use Rattle.rob_case.specs.Texts.{broken_text, hex_value, in_front, joined, keyword_of, rest_of, shown_byte};
+ghost use Rattle.rob_case.specs.Texts.{broken_text, hex_value, joined, keyword_of, rest_of, shown_byte};
 ghost use Rattle.rob_case.specs.Texts.{shown_bytes, spelled};
 
 use crate::trouble::Trouble;

@@ -1,4 +1,4 @@
-// Why the cases can't be run.
+//! Why the cases can't be run.
 
 use rob_number::Memory;
 use std::alloc::{AllocError, AllocFailed};

@@ -1,4 +1,4 @@
-// The first words of the lines that give something to calls.
+//! The first words of the lines that give something to calls.
 
 ghost use Rattle.std.specs.Prelude.{◌≡◌, MatchOption};
 ghost use Rattle.rob_case.specs.Cases.{word_text};

@@ -21,7 +21,8 @@ use Rattle.rob_cells.proofs.ExpressionLemmas.{variable_is}
 use Rattle.rob_cells.specs.Building.{split_over, with_cell}
 
 -- ---- numbers
-pub number_more : (old done : List ℕ) (n k : ℕ) {new : List ℕ} → new ≡ done ++ n ∷ [] → done ≡ old ++ tabulate k (λ _. n)
+pub number_more : (old done : List ℕ) (n k : ℕ) {new : List ℕ} → new ≡ done ++ n ∷ []
+    → done ≡ old ++ tabulate k (λ _. n)
     → new ≡ old ++ tabulate (k + 1) (λ _. n)
 number_more old done n k pushed so_far =
     pushed
@@ -78,10 +79,12 @@ module _ (m : RobustModel) (cuts : List Cut) where
   next_cell k =
       ap (λ c. with_cell m cuts c (split_over m cuts (tabulate k suc))) (let e : k + 1 ≡ suc k = omega arith in e)
       ∙ cell_more (tabulate k suc) (suc k)
-      ∙ ap (split_over m cuts) (sym (tabulate-more k suc) ∙ ap (λ j. tabulate j suc) (let e : suc k ≡ k + 1 = omega arith in e))
+      ∙ ap (split_over m cuts) (sym (tabulate-more k suc)
+      ∙ ap (λ j. tabulate j suc) (let e : suc k ≡ k + 1 = omega arith in e))
 
 -- ---- lists that grew
-module _ {A B : Type 0} (view : A → B) (old new : List A) (more : List B) (grown : map view new ≡ map view old ++ more) where
+module _ {A B : Type 0} (view : A → B) (old new : List A) (more : List B)
+    (grown : map view new ≡ map view old ++ more) where
   longer : length new ≡ length old + length more
   longer =
       omega (
@@ -103,7 +106,8 @@ module _ {A B : Type 0} (view : A → B) (old new : List A) (more : List B) (gro
 -- ---- the program's models
 module _ {N : Type 0} (value : N → Fraction) (m : RobustModel) (cuts : List Cut) where
   -- with one cell more
-  pub added : (c : ℕ) (split : Model N) (set : List ℕ) (params : List (Param N)) (sets : List (List ℕ)) (lines : List (TheLine N))
+  pub added : (c : ℕ) (split : Model N) (set : List ℕ) (params : List (Param N)) (sets : List (List ℕ))
+      (lines : List (TheLine N))
       (line_sets : List ℕ) (adaptives : List (Adaptive N)) (rows : List (RowDef N)) (row_sets : List ℕ)
       → set ≡ numbered (codes "cell") c
       → map (parameter_of value) params ≡ map (parameter_of value) split.params ++ map (in_set set) m.parameters
@@ -122,15 +126,20 @@ module _ {N : Type 0} (value : N → Fraction) (m : RobustModel) (cuts : List Cu
         rows = rows;
         row_sets = row_sets;
       }) ≡ with_cell m cuts c (robust value split)
-  added c split set params sets lines line_sets adaptives rows row_sets named p s l ls a r rs = λ i. record (robust value split) {
-    parameters = (p ∙ ap (λ name. map (parameter_of value) split.params ++ map (in_set name) m.parameters) named) i;
-    sets = (s ∙ ap (λ name. split.sets ++ name ∷ []) named) i;
-    set_lines = l i;
-    line_sets = (ls ∙ ap (λ ns. split.line_sets ++ ns) (number_for_each (set_line_of value) split.set_lines lines (cell_lines m c cuts) l c _ refl)) i;
-    adaptives = a i;
-    rows = r i;
-    row_sets = (rs ∙ ap (λ ns. split.row_sets ++ ns) (number_for_each (row_of value) split.rows rows (cell_rows m c) r c _ refl)) i;
-  }
+  added c split set params sets lines line_sets adaptives rows row_sets named p s l ls a r rs =
+      λ i. record (robust value split) {
+        parameters = (p ∙ ap (λ name. map (parameter_of value) split.params ++ map (in_set name) m.parameters) named) i;
+        sets = (s ∙ ap (λ name. split.sets ++ name ∷ []) named) i;
+        set_lines = l i;
+        line_sets =
+            (ls ∙ ap (λ ns. split.line_sets ++ ns)
+            (number_for_each (set_line_of value) split.set_lines lines (cell_lines m c cuts) l c _ refl)) i;
+        adaptives = a i;
+        rows = r i;
+        row_sets = (rs
+            ∙ ap (λ ns. split.row_sets ++ ns) (number_for_each (row_of value) split.rows rows (cell_rows m c) r c _ refl))
+            i;
+      }
 
 module _ {N : Type 0} (value : N → Fraction) (model : Model N) (cuts : List Cut) where
   variables_with : (vars list : List (Var N)) (name : List ℕ) → vars ≡ model.vars → name ≡ codes "cells_worst"
@@ -139,12 +148,21 @@ module _ {N : Type 0} (value : N → Fraction) (model : Model N) (cuts : List Cu
   variables_with vars list name same named pushed =
       ap (map (variable_of value)) pushed
       ∙ map-append (variable_of value) vars (record { name = name; lower = None; upper = None } ∷ [])
-      ∙ ap (λ (xs : List (Var N)). map (variable_of value) xs ++ record { name = name; lower = None; upper = None } ∷ []) same
-      ∙ ap (λ (n : List ℕ). map (variable_of value) model.vars ++ record { name = n; lower = None; upper = None } ∷ []) named
+      ∙ ap (λ (xs : List (Var N)). map (variable_of value) xs ++ record {
+        name = name;
+        lower = None;
+        upper = None;
+      } ∷ []) same
+      ∙ ap (λ (n : List ℕ). map (variable_of value) model.vars ++ record {
+        name = n;
+        lower = None;
+        upper = None;
+      } ∷ []) named
 
   -- before the first cell
   pub started : (params : List (Param N)) (sets : List (List ℕ)) (lines : List (TheLine N)) (line_sets : List ℕ)
-      (vars list : List (Var N)) (name : List ℕ) (adaptives : List (Adaptive N)) (count : ℕ) (rows : List (RowDef N)) (row_sets : List ℕ)
+      (vars list : List (Var N)) (name : List ℕ) (adaptives : List (Adaptive N)) (count : ℕ)
+      (rows : List (RowDef N)) (row_sets : List ℕ)
       → params ≡ model.params → sets ≡ [] → lines ≡ [] → line_sets ≡ [] → vars ≡ model.vars → name ≡ codes "cells_worst"
       → list ≡ vars ++ record { name = name; lower = None; upper = None } ∷ []
       → adaptives ≡ [] → count ≡ length model.vars → rows ≡ [] → row_sets ≡ []
@@ -161,14 +179,17 @@ module _ {N : Type 0} (value : N → Fraction) (model : Model N) (cuts : List Cu
         rows = rows;
         row_sets = row_sets;
       }) ≡ split_over (robust value model) cuts []
-  started params sets lines line_sets vars list name adaptives count rows row_sets p s l ls v n pushed a k r rs = λ i. record (split_over (robust value model) cuts []) {
-    parameters = (ap (map (parameter_of value)) p ∙ sym (append-nil (map (parameter_of value) model.params))) i;
-    sets = s i;
-    set_lines = map (set_line_of value) (l i);
-    line_sets = ls i;
-    variables = variables_with vars list name v n pushed i;
-    adaptives = map (adaptive_of value) (a i);
-    objective = (variable_is (robust value model) 0 value count ∙ ap variable (k ∙ sym (length-map model.vars (variable_of value)))) i;
-    rows = map (row_of value) (r i);
-    row_sets = rs i;
-  }
+  started params sets lines line_sets vars list name adaptives count rows row_sets p s l ls v n pushed a k r rs =
+      λ i. record (split_over (robust value model) cuts []) {
+        parameters = (ap (map (parameter_of value)) p ∙ sym (append-nil (map (parameter_of value) model.params))) i;
+        sets = s i;
+        set_lines = map (set_line_of value) (l i);
+        line_sets = ls i;
+        variables = variables_with vars list name v n pushed i;
+        adaptives = map (adaptive_of value) (a i);
+        objective =
+            (variable_is (robust value model) 0 value count
+            ∙ ap variable (k ∙ sym (length-map model.vars (variable_of value)))) i;
+        rows = map (row_of value) (r i);
+        row_sets = rs i;
+      }

@@ -12,7 +12,8 @@ use Rattle.rob_model.specs.declared.model.Adaptive.{Adaptive}
 use Rattle.rob_pieces.specs.Cuts.{Cut, bit}
 use Rattle.rob_pieces.specs.SplitModel.{bound_row, bound_rows, side_line, side_lines}
 
-module _ {X Y : Type 0} (view : Y → SetLine) (of : X → Cut) (m : RobustModel) (c : ℕ) (xs : List X) (all : List SetLine) where
+module _ {X Y : Type 0} (view : Y → SetLine) (of : X → Cut) (m : RobustModel) (c : ℕ) (xs : List X)
+    (all : List SetLine) where
   -- one side more
   pub sides_more : (j : ℕ) (x : X) (y : Y) (done next : List Y) (b : ℕ) → j < length xs → x ≡ get_or xs j x
       → b ≡ bit (length xs - 1 - j) (c - 1) → view y ≡ side_line m c (of x) b → next ≡ done ++ y ∷ []
@@ -20,7 +21,8 @@ module _ {X Y : Type 0} (view : Y → SetLine) (of : X → Cut) (m : RobustModel
       → map view next ++ side_lines m c (map of (drop (j + 1) xs)) ≡ all
   sides_more j x y done next b h e is made pushed so_far =
       pushed_append view done next y (side_lines m c (map of (drop (j + 1) xs))) pushed
-      ∙ ap (λ l. map view done ++ l ∷ side_lines m c (map of (drop (j + 1) xs))) (made ∙ ap (side_line m c (of x)) (is ∙ same))
+      ∙ ap (λ l. map view done ++ l ∷ side_lines m c (map of (drop (j + 1) xs)))
+      (made ∙ ap (side_line m c (of x)) (is ∙ same))
       ∙ ap (λ l. map view done ++ side_lines m c (map of l)) (sym (drop_at xs j x h e))
       ∙ so_far
     where
@@ -57,6 +59,7 @@ module _ {N : Type 0} (value : N → Fraction) (m : RobustModel) (c : ℕ) (ys :
       → before ++ bound_rows m c k (map (adaptive_of value) (drop i ys)) ≡ all
       → behind ++ bound_rows m c (k + 1) (map (adaptive_of value) (drop (i + 1) ys)) ≡ all
   bounds_more k i y before between behind h e lower upper so_far =
-      bounds_step m c k (adaptive_of value y) (map (adaptive_of value) (drop (i + 1) ys)) before between behind lower upper
+      bounds_step m c k (adaptive_of value y) (map (adaptive_of value) (drop (i + 1) ys)) before
+      between behind lower upper
       ∙ ap (λ l. before ++ bound_rows m c k (map (adaptive_of value) l)) (sym (drop_at ys i y h e))
       ∙ so_far

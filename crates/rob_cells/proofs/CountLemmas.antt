@@ -3,15 +3,10 @@ use Rattle.std.proofs.Common.{◌≡◌, ℕ, zero, suc, ◌+◌, ◌*◌, ◌-�
 use Rattle.std.specs.Prelude.{pred}
 use Rattle.std.proofs.lemmas.List.{length-map}
 use Rattle.rob_algebra.specs.Fraction.{Fraction}
-use Rattle.rob_meaning.specs.RobustModel.{AdaptiveVariable, column_from}
 use Rattle.rob_model.specs.Valid.{IsValid}
 use Rattle.rob_model.specs.View.{adaptive_of, parameter_of, row_of, set_line_of, variable_of}
 use Rattle.rob_model.specs.declared.model.Model.{Model}
-
--- each adaptive variable has a column
-columns_many : (column : ℕ) (ys : List AdaptiveVariable) → column + length ys ≤ column_from column ys (length ys)
-columns_many column [] = omega arith
-columns_many column (y ∷ ys) = omega (arith, columns_many (suc column + length y.on) ys)
+use Rattle.rob_model.proofs.NameCountLemmas.{columns_many}
 
 module _ {N : Type 0} (value : N → Fraction) (m : Model N) (valid : IsValid value m) where
   pub few_params : length m.params ≤ 96
@@ -27,7 +22,11 @@ module _ {N : Type 0} (value : N → Fraction) (m : Model N) (valid : IsValid va
       )
     where
       many : length (map (variable_of value) m.vars) + length (map (adaptive_of value) m.adaptives) ≤ 600
-      many = omega (arith, valid.limits.columns, columns_many (length (map (variable_of value) m.vars)) (map (adaptive_of value) m.adaptives))
+      many = omega (
+        arith,
+        valid.limits.columns,
+        columns_many (length (map (variable_of value) m.vars)) (map (adaptive_of value) m.adaptives),
+      )
 
   pub few_vars : length m.vars ≤ 600
   few_vars = omega (arith, few_both)
@@ -56,4 +55,5 @@ pub rule_number : {A B : Type 0} (of : A → B) (xs : List A) (c y : ℕ)
     → (c - 1) * length xs + y ≡ pred c * length (map of xs) + y
 rule_number of xs zero y = ap (λ n. 0 * n + y) (sym (length-map xs of))
 rule_number of xs (suc c) y =
-    (let e : suc c - 1 ≡ c = omega arith in ap (λ n. n * length xs + y) e) ∙ ap (λ n. c * n + y) (sym (length-map xs of))
+    (let e : suc c - 1 ≡ c = omega arith in ap (λ n. n * length xs + y) e)
+    ∙ ap (λ n. c * n + y) (sym (length-map xs of))

@@ -68,11 +68,13 @@ new_decides : (seen xs : List Name) → Decides (are_new seen xs) (AreDistinct x
 new_decides seen [] = ((λ e. (tt, tt)), (λ p. refl))
 new_decides seen (x ∷ xs) = by (is_seen seen x) refl (new_decides (seen ++ x ∷ []) xs)
   where
-    by : (b : Bool) → is_seen seen x ≡ b → Decides (are_new (seen ++ x ∷ []) xs) (AreDistinct xs × Each (IsNew (seen ++ x ∷ [])) xs)
+    by : (b : Bool) → is_seen seen x ≡ b
+        → Decides (are_new (seen ++ x ∷ []) xs) (AreDistinct xs × Each (IsNew (seen ++ x ∷ [])) xs)
         → Decides (not b && are_new (seen ++ x ∷ []) xs) (AreDistinct (x ∷ xs) × Each (IsNew seen) (x ∷ xs))
     by true is rest = ((λ e. cc), (λ p. absurd (seen_not seen x is p.1.0)))
     by false is rest = (
-      (λ e. let all = rest.0 e in let parts = old_new seen x xs all.1 in ((parts.1, all.0), (not_seen seen x is, parts.0))),
+      (λ e. let all = rest.0 e in let parts = old_new seen x xs all.1 in
+          ((parts.1, all.0), (not_seen seen x is, parts.0))),
       (λ p. rest.1 (p.0.1, both_new seen x xs p.1.1 p.0.0)),
     )
 
@@ -85,15 +87,18 @@ distinct_decides xs =
     let d = new_decides [] xs in ((λ e. (d.0 e).0), (λ p. d.1 (p, all_new xs)))
 
 -- ---- on the way over a list, what was seen being owned
-any-texts : (x : Name) (keys : List (Vec ℕ Global)) → list_any (λ (v : Vec ℕ Global). bytes_eq x v.items) keys ≡ is_seen (texts keys) x
+any-texts : (x : Name) (keys : List (Vec ℕ Global))
+    → list_any (λ (v : Vec ℕ Global). bytes_eq x v.items) keys ≡ is_seen (texts keys) x
 any-texts x [] = refl
 any-texts x (k ∷ keys) = ap (λ b. bytes_eq x k.items || b) (any-texts x keys)
 
 module _ (names : List Name) (i : ℕ) (keys : List (Vec ℕ Global))
     (so_far : are_new (texts keys) (drop i names) ≡ are_new [] names) where
-  module _ (x : Name) (key : Vec ℕ Global) (inside : i < length names) (is : x ≡ get_or names i x) (same : key.items ≡ x) where
+  module _ (x : Name) (key : Vec ℕ Global) (inside : i < length names) (is : x ≡ get_or names i x)
+      (same : key.items ≡ x) where
     -- an item that was seen
-    pub found : list_any (λ (v : Vec ℕ Global). bytes_eq key.items v.items) keys ≡ true → Decides false (AreDistinct names)
+    pub found : list_any (λ (v : Vec ℕ Global). bytes_eq key.items v.items) keys ≡ true
+        → Decides false (AreDistinct names)
     found seen =
         subst (λ b. Decides b (AreDistinct names))
         (sym so_far ∙ ap (are_new (texts keys)) (drop_at names i x inside is)
@@ -107,7 +112,8 @@ module _ (names : List Name) (i : ℕ) (keys : List (Vec ℕ Global))
         → are_new (texts next) (drop (i + 1) names) ≡ are_new [] names
     noted next new added =
         ap (λ l. are_new (texts l) (drop (i + 1) names)) (added ∙ ap (λ b. cond b keys (keys ++ key ∷ [])) new)
-        ∙ ap (λ l. are_new l (drop (i + 1) names)) (map-append (λ (v : Vec ℕ Global). v.items) keys (key ∷ []) ∙ ap (λ n. texts keys ++ n ∷ []) same)
+        ∙ ap (λ l. are_new l (drop (i + 1) names))
+        (map-append (λ (v : Vec ℕ Global). v.items) keys (key ∷ []) ∙ ap (λ n. texts keys ++ n ∷ []) same)
         ∙ sym (ap (λ b. not b && are_new (texts keys ++ x ∷ []) (drop (i + 1) names))
         (ap (is_seen (texts keys)) (sym same) ∙ sym (any-texts key.items keys) ∙ new))
         ∙ ap (are_new (texts keys)) (sym (drop_at names i x inside is))
@@ -116,7 +122,8 @@ module _ (names : List Name) (i : ℕ) (keys : List (Vec ℕ Global))
   -- no item is left
   pub none_left : length names ≤ i → Decides true (AreDistinct names)
   none_left past =
-      subst (λ b. Decides b (AreDistinct names)) (sym so_far ∙ ap (are_new (texts keys)) (drop_past names i past)) (distinct_decides names)
+      subst (λ b. Decides b (AreDistinct names)) (sym so_far ∙ ap (are_new (texts keys)) (drop_past names i past))
+      (distinct_decides names)
 
 -- ---- what the set answers
 pub was_seen : (b r : Bool) → r ≡ not b → r ≡ false → b ≡ true

@@ -24,7 +24,8 @@ module _ (m : RobustModel) (c : ℕ) where
     sum_is : (ts : List (Term N)) → expression_of value (expr.Sum ts) ≡ sum (terms_of (map (signed_of value) ts))
     sum_is ts = search (rules, the_lemmas)
 
-    product_is : (fs : List (Expr N)) → expression_of value (expr.Product fs) ≡ product (factors_of (map (expression_of value) fs))
+    product_is : (fs : List (Expr N)) → expression_of value (expr.Product fs)
+        ≡ product (factors_of (map (expression_of value) fs))
     product_is fs = search (rules, the_lemmas)
 
     pub sum_over : (over ts : List (Term N)) (e : Expr N) → e ≡ expr.Sum ts
@@ -46,7 +47,8 @@ module _ (m : RobustModel) (c : ℕ) where
         ∙ ap (over_cell m c) (sym (ap (expression_of value) is ∙ product_is fs))
 
     -- a part of a sum over the cell
-    pub part_over : (inner : Expr N) (t : Term N) → expression_of value inner ≡ over_cell m c (expression_of value t.inner)
+    pub part_over : (inner : Expr N) (t : Term N)
+        → expression_of value inner ≡ over_cell m c (expression_of value t.inner)
         → signed_of value (record { minus = t.minus; inner = inner }) ≡ signed_over m c (signed_of value t)
     part_over inner t made =
         signed_is value (record { minus = t.minus; inner = inner })

@@ -1,7 +1,6 @@
 -- Loops that append what is made of each item of a list, one after another.
-use Rattle.std.proofs.Common.{◌≡◌, ℕ, zero, suc, ◌+◌, ◌<◌, ◌≤◌, List, [], ◌∷◌, ◌++◌, map, length, get_or, drop, ap, sym, ◌∙◌, append_assoc, append-nil, subst, arith}
+use Rattle.std.proofs.Common.{◌≡◌, ℕ, ◌+◌, ◌<◌, ◌≤◌, List, [], ◌∷◌, ◌++◌, map, length, get_or, drop, ap, sym, ◌∙◌, append_assoc, append-nil, subst}
 use Rattle.std.proofs.lemmas.List.{map-append}
-use Rattle.rob_meaning.specs.Places.{Each}
 use Rattle.rob_model.proofs.PartLemmas.{drop_at, drop_past}
 
 module _ {A : Type 0} where
@@ -31,13 +30,6 @@ module _ {X Y B C : Type 0} (view : Y → B) (of : X → C) (f : C → B) (xs : 
       sym (append-nil (map view done))
       ∙ ap (λ l. map view done ++ map f (map of l)) (sym (drop_past xs i h))
       ∙ so_far
-
--- what is true of what each item is, is true of what the item at a number is
-pub each_of : {X C : Type 0} (P : C → Type 0) (of : X → C) (xs : List X) (i : ℕ) (x : X) → i < length xs → x ≡ get_or xs i x
-    → Each P (map of xs) → P (of x)
-each_of P of [] i x h e all = absurd (omega arith)
-each_of P of (y ∷ xs) zero x h e all = subst (λ z. P (of z)) (sym e) all.0
-each_of P of (y ∷ xs) (suc i) x h e all = each_of P of xs i x (omega arith) e all.1
 
 -- an item of the same list
 module _ {X : Type 0} {xs ys : List X} (same : ys ≡ xs) (i : ℕ) where

@@ -45,7 +45,8 @@ module _ (m : RobustModel) (cuts : List Cut) (kept : KeepsRules m cuts) where
       some_admitted = some_in_each m model kept.alone cuts are;
     }
 
-module _ {N : Type 0} (value : N → Fraction) (model other : Model N) (cuts : List Cut) (kept : KeepsRules (robust value model) cuts)
+module _ {N : Type 0} (value : N → Fraction) (model other : Model N) (cuts : List Cut)
+    (kept : KeepsRules (robust value model) cuts)
     (same : robust value other ≡ split_model (robust value model) cuts) (are : AreCuts (robust value model) cuts)
     (valid : IsValid value model) where
   pub valid_split : IsValid value other
@@ -64,4 +65,5 @@ module _ {N : Type 0} (value : N → Fraction) (model other : Model N) (cuts : L
 
   pub sets_of_cells : HasCellSets (robust value model) cuts (robust value other)
   sets_of_cells =
-      subst (HasCellSets (robust value model) cuts) (sym same) (cell_sets (robust value model) cuts kept valid.well_formed are)
+      subst (HasCellSets (robust value model) cuts) (sym same)
+      (cell_sets (robust value model) cuts kept valid.well_formed are)

@@ -41,7 +41,8 @@ bound_name c name bound = if_declared (λ b. numbered name c) bound
 abbrev pub bound_row_names : ℕ → List AdaptiveVariable → List Name
 bound_row_names c [] = []
 bound_row_names c (y ∷ ys) =
-    bound_name c (y.name ++ codes "_lower") y.lower ++ (bound_name c (y.name ++ codes "_upper") y.upper ++ bound_row_names c ys)
+    bound_name c (y.name ++ codes "_lower") y.lower
+    ++ (bound_name c (y.name ++ codes "_upper") y.upper ++ bound_row_names c ys)
 
 -- each name has at most 32 bytes
 abbrev pub AreShort : List Name → Type 0
@@ -67,10 +68,12 @@ cell_names_more f old done next i grown so_far =
     ∙ ap₂ (λ xs c. xs ++ f c) so_far (let e : i + 1 ≡ suc i = omega arith in e)
     ∙ append_assoc old (flat_map f (tabulate i suc)) (f (suc i))
     ∙ ap (λ xs. old ++ xs) (sym (flat_more f (tabulate i suc) (suc i)))
-    ∙ ap (λ cs. old ++ flat_map f cs) (sym (tabulate-more i suc) ∙ ap (λ k. tabulate k suc) (let e : suc i ≡ i + 1 = omega arith in e))
+    ∙ ap (λ cs. old ++ flat_map f cs)
+    (sym (tabulate-more i suc) ∙ ap (λ k. tabulate k suc) (let e : suc i ≡ i + 1 = omega arith in e))
 
 -- the name of one cell more
-pub set_name_more : (old done next : List Name) (word name : Name) (i : ℕ) → word ≡ codes "cell" → name ≡ numbered word (i + 1)
+pub set_name_more : (old done next : List Name) (word name : Name) (i : ℕ) → word ≡ codes "cell"
+    → name ≡ numbered word (i + 1)
     → next ≡ done ++ name ∷ [] → done ≡ old ++ map (numbered (codes "cell")) (tabulate i suc)
     → next ≡ old ++ map (numbered (codes "cell")) (tabulate (i + 1) suc)
 set_name_more old done next word name i same named pushed so_far =
@@ -79,7 +82,8 @@ set_name_more old done next word name i same named pushed so_far =
     (named ∙ ap₂ numbered same (let e : i + 1 ≡ suc i = omega arith in e))
     ∙ append_assoc old (map (numbered (codes "cell")) (tabulate i suc)) (numbered (codes "cell") (suc i) ∷ [])
     ∙ ap (λ xs. old ++ xs) (sym (map_more (numbered (codes "cell")) (tabulate i suc) (suc i)))
-    ∙ ap (λ cs. old ++ map (numbered (codes "cell")) cs) (sym (tabulate-more i suc) ∙ ap (λ k. tabulate k suc) (let e : suc i ≡ i + 1 = omega arith in e))
+    ∙ ap (λ cs. old ++ map (numbered (codes "cell")) cs)
+    (sym (tabulate-more i suc) ∙ ap (λ k. tabulate k suc) (let e : suc i ≡ i + 1 = omega arith in e))
 
 -- ---- the rows of declared bounds
 pub bound_names_are : (m : RobustModel) (c k : ℕ) (ys : List AdaptiveVariable)
@@ -131,10 +135,13 @@ pub cell_row_names : (m : RobustModel) (c : ℕ) (old first own all : List Name)
     → all ≡ own ++ map (λ (r : Row). r.name) (bound_rows m c 0 m.adaptives) → all ≡ old ++ row_names_in m c
 cell_row_names m c old first own all word cost same named f o a =
     a
-    ∙ ap (λ l. l ++ bounds) (o ∙ ap (λ l. l ++ map (row_name c) m.rows) (f ∙ ap (λ n. old ++ n ∷ []) (named ∙ ap (λ w. numbered w c) same)))
+    ∙ ap (λ l. l ++ bounds)
+    (o ∙ ap (λ l. l ++ map (row_name c) m.rows) (f ∙ ap (λ n. old ++ n ∷ []) (named ∙ ap (λ w. numbered w c) same)))
     ∙ append_assoc (old ++ numbered (codes "cost") c ∷ []) (map (row_name c) m.rows) bounds
     ∙ append_assoc old (numbered (codes "cost") c ∷ []) (map (row_name c) m.rows ++ bounds)
-    ∙ ap (λ l. old ++ numbered (codes "cost") c ∷ l) (ap (λ l. l ++ bounds) (sym (own_names m.rows)) ∙ sym (map-append (λ (r : Row). r.name) (map (row_over m c) m.rows) (bound_rows m c 0 m.adaptives)))
+    ∙ ap (λ l. old ++ numbered (codes "cost") c ∷ l)
+    (ap (λ l. l ++ bounds) (sym (own_names m.rows))
+    ∙ sym (map-append (λ (r : Row). r.name) (map (row_over m c) m.rows) (bound_rows m c 0 m.adaptives)))
   where
     bounds : List Name
     bounds = map (λ (r : Row). r.name) (bound_rows m c 0 m.adaptives)
@@ -153,15 +160,18 @@ module _ {N : Type 0} (value : N → Fraction) (model : Model N) (cuts : List Cu
   abbrev m : RobustModel
   m = robust value model
 
-  param_names : (ps : List (Param N)) → map (λ (p : Param N). p.name) ps ≡ map (λ (p : Parameter). p.name) (map (parameter_of value) ps)
+  param_names : (ps : List (Param N))
+      → map (λ (p : Param N). p.name) ps ≡ map (λ (p : Parameter). p.name) (map (parameter_of value) ps)
   param_names [] = refl
   param_names (p ∷ ps) = ap (λ l. p.name ∷ l) (param_names ps)
 
-  var_names : (xs : List (Var N)) → map (λ (x : Var N). x.name) xs ≡ map (λ (x : Variable). x.name) (map (variable_of value) xs)
+  var_names : (xs : List (Var N)) → map (λ (x : Var N). x.name) xs
+      ≡ map (λ (x : Variable). x.name) (map (variable_of value) xs)
   var_names [] = refl
   var_names (x ∷ xs) = ap (λ l. x.name ∷ l) (var_names xs)
 
-  copies_named : (c : ℕ) (ys : List AdaptiveVariable) → map (λ (y : AdaptiveVariable). y.name) (map (copy_in m c) ys) ≡ copy_names_in ys c
+  copies_named : (c : ℕ) (ys : List AdaptiveVariable)
+      → map (λ (y : AdaptiveVariable). y.name) (map (copy_in m c) ys) ≡ copy_names_in ys c
   copies_named c [] = refl
   copies_named c (y ∷ ys) = ap (λ l. numbered y.name c ∷ l) (copies_named c ys)
 
@@ -182,7 +192,9 @@ module _ {N : Type 0} (value : N → Fraction) (model : Model N) (cuts : List Cu
       → f ≡ declared_names (split_model m cuts)
   names_are count a b c d e f worst counted pa pb pc pd named pe pf =
       pf
-      ∙ ap (λ l. l ++ copies) (pe ∙ ap₂ (λ l n. l ++ n ∷ []) (pd ∙ ap (λ l. l ++ vars) (pc ∙ ap (λ l. l ++ rows) (pb ∙ ap (λ l. l ++ sets) pa))) named)
+      ∙ ap (λ l. l ++ copies)
+      (pe ∙ ap₂ (λ l n. l ++ n ∷ [])
+      (pd ∙ ap (λ l. l ++ vars) (pc ∙ ap (λ l. l ++ rows) (pb ∙ ap (λ l. l ++ sets) pa))) named)
       ∙ regroup params sets rows vars (codes "cells_worst" ∷ []) copies
       ∙ ap₂ (λ x y. x ++ y) params_are
       (ap₂ (λ x y. x ++ y) sets_are (ap₂ (λ x y. x ++ y) rows_are (ap₂ (λ x y. x ++ y) vars_are copies_are)))
@@ -210,7 +222,8 @@ module _ {N : Type 0} (value : N → Fraction) (model : Model N) (cuts : List Cu
           ∙ append_assoc p s (r ++ ((v ++ w) ++ y))
 
       params_are : params ≡ written_names (split_model m cuts)
-      params_are = param_names model.params ∙ ap (map (λ (p : Parameter). p.name)) (sym (written_parameters_split m cuts))
+      params_are =
+          param_names model.params ∙ ap (map (λ (p : Parameter). p.name)) (sym (written_parameters_split m cuts))
 
       sets_are : sets ≡ cell_names cuts
       sets_are = ap (λ k. map (numbered (codes "cell")) (tabulate k suc)) counted
@@ -226,4 +239,5 @@ module _ {N : Type 0} (value : N → Fraction) (model : Model N) (cuts : List Cu
           ∙ sym (map-append (λ (x : Variable). x.name) m.variables (cells_worst ∷ []))
 
       copies_are : copies ≡ adaptive_names (split_model m cuts)
-      copies_are = ap (λ k. flat_map (copy_names_in m.adaptives) (tabulate k suc)) counted ∙ copies_flat (cell_numbers cuts)
+      copies_are =
+          ap (λ k. flat_map (copy_names_in m.adaptives) (tabulate k suc)) counted ∙ copies_flat (cell_numbers cuts)

@@ -1,19 +1,15 @@
 -- What the tests of the rules tell.
-use Rattle.std.proofs.Common.{◌≡◌, ℕ, Bool, true, false, List, [], ◌∷◌, length, refl, arith}
+use Rattle.std.proofs.Common.{◌≡◌, ℕ, true, List, [], ◌∷◌, length, refl, arith}
 use Rattle.std.specs.Prelude.{Option, Some, None}
-use Rattle.std.specs.Bool.{Decides, ◌==◌}
+use Rattle.std.specs.Bool.{◌==◌}
 use Rattle.std.proofs.lemmas.Bool.Decides.{nat_tests}
 use Rattle.rob_cells.specs.Rules.{IsFirstBroken, KeepsRules}
 use Rattle.rob_meaning.specs.RobustModel.{RobustModel}
 use Rattle.rob_pieces.specs.Cuts.{Cut}
 
--- what a test denies isn't so
-pub not_within : {P : Type 0} (b : Bool) → Decides b P → b ≡ false → P → ⊥
-not_within true d h p = cc
-not_within false d h p = let e = d.1 p in cc
-
 -- where no rule is broken, all are kept
-pub kept_rules : (m : RobustModel) (cuts : List Cut) (rule : Option ℕ) → rule ≡ None → IsFirstBroken m cuts rule → KeepsRules m cuts
+pub kept_rules : (m : RobustModel) (cuts : List Cut) (rule : Option ℕ) → rule ≡ None
+    → IsFirstBroken m cuts rule → KeepsRules m cuts
 kept_rules m cuts None e h = h
 kept_rules m cuts (Some rule) e h = cc
 

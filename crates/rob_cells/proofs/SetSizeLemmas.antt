@@ -6,20 +6,22 @@ use Rattle.rob_algebra.specs.Fraction.{Fraction}
 use Rattle.rob_cells.proofs.SizeLemmas.{length-both, length-sides, sides_of}
 use Rattle.rob_cells.specs.Counts.{declared_count}
 use Rattle.rob_meaning.specs.Forms.{sides}
-use Rattle.rob_meaning.specs.RobustModel.{Member, Parameter, RobustModel, SetLine, budget, in_set, line}
+use Rattle.rob_meaning.specs.RobustModel.{Parameter, RobustModel, SetLine, budget, in_set, line}
 use Rattle.rob_meaning.specs.SetConditions.{if_declared}
 use Rattle.rob_meaning.specs.SetRows as meaning
-use Rattle.rob_meaning.specs.SetRows.{budget_row, expression_row, lift_count, member_rows, set_rows, statement_rows}
+use Rattle.rob_meaning.specs.SetRows.{budget_row, expression_row, lift_count, member_rows, statement_rows}
 use Rattle.rob_model.specs.GroupNames.{bound_names, parameter_bound_names}
 use Rattle.rob_pieces.specs.Cuts.{Cut, bit}
 use Rattle.rob_pieces.specs.SplitModel.{cell_lines, line_over, member_over, side_line, side_lines}
+use Rattle.rob_meaning.proofs.SetRowLemmas.{length-member_rows}
 
 -- ---- the declared bounds of parameters
 abbrev pub parameter_bounds : List Parameter → ℕ
 parameter_bounds [] = 0
 parameter_bounds (p ∷ ps) = declared_count p.lower p.upper + parameter_bounds ps
 
-both_names : (name : List ℕ) (lower upper : Option Fraction) → length (bound_names name lower upper) ≡ declared_count lower upper
+both_names : (name : List ℕ) (lower upper : Option Fraction)
+    → length (bound_names name lower upper) ≡ declared_count lower upper
 both_names name lower upper = length-both _ _ lower upper
 
 pub length-parameter_bound_names : (ps : List Parameter) → length (parameter_bound_names ps) ≡ parameter_bounds ps
@@ -37,12 +39,14 @@ length-bound_rows k [] = refl
 length-bound_rows k (p ∷ ps) =
     omega (
       arith,
-      length-append (if_declared (meaning.lower_row k) p.lower ++ if_declared (meaning.upper_row k) p.upper) (meaning.bound_rows (suc k) ps),
+      length-append (if_declared (meaning.lower_row k) p.lower ++ if_declared (meaning.upper_row k) p.upper)
+          (meaning.bound_rows (suc k) ps),
       length-both (meaning.lower_row k) (meaning.upper_row k) p.lower p.upper,
       length-bound_rows (suc k) ps,
     )
 
-parameter_bounds-append : (ps qs : List Parameter) → parameter_bounds (ps ++ qs) ≡ parameter_bounds ps + parameter_bounds qs
+parameter_bounds-append : (ps qs : List Parameter)
+    → parameter_bounds (ps ++ qs) ≡ parameter_bounds ps + parameter_bounds qs
 parameter_bounds-append [] qs = omega arith
 parameter_bounds-append (p ∷ ps) qs = omega (arith, parameter_bounds-append ps qs)
 
@@ -60,7 +64,8 @@ bounds_in_sets ps sets =
       suc-mul (length sets) (parameter_bounds ps),
     )
   where
-    later : (sets : List (List ℕ)) → parameter_bounds (flat_map (λ set. map (in_set set) ps) sets) ≡ length sets * parameter_bounds ps
+    later : (sets : List (List ℕ)) → parameter_bounds (flat_map (λ set. map (in_set set) ps) sets)
+        ≡ length sets * parameter_bounds ps
     later [] = omega (arith, zero-mul (parameter_bounds ps))
     later (set ∷ sets) =
         omega (
@@ -79,10 +84,6 @@ line_rows (budget limit members) = 2 * length members + 1
 abbrev pub rows_of : List SetLine → ℕ
 rows_of [] = 0
 rows_of (c ∷ cs) = line_rows c + rows_of cs
-
-length-member_rows : (t : ℕ) (hs : List Member) → length (member_rows t hs) ≡ 2 * length hs
-length-member_rows t [] = refl
-length-member_rows t (h ∷ hs) = omega (arith, length-member_rows (suc t) hs)
 
 pub length-statement_rows : (m : RobustModel) (t : ℕ) (cs : List SetLine) → length (statement_rows m t cs) ≡ rows_of cs
 length-statement_rows m t [] = refl

@@ -18,17 +18,29 @@ module _ {A : Type 0} (measure : List A → ℕ) (none : measure [] ≡ 0)
   pub blocks : (n : ℕ) (g : ℕ → ℕ) → measure (flat_map f (tabulate n g)) ≡ n * k
   blocks zero g = omega (arith, none, zero-mul k)
   blocks (suc n) g =
-      omega (arith, plus (f (g zero)) (flat_map f (tabulate n (λ i. g (suc i)))), each (g zero), blocks n (λ i. g (suc i)), suc-mul n k)
+      omega (
+        arith,
+        plus (f (g zero)) (flat_map f (tabulate n (λ i. g (suc i)))),
+        each (g zero),
+        blocks n (λ i. g (suc i)),
+        suc-mul n k,
+      )
 
 -- ---- how much stands for declared bounds
-length-declared : {A : Type 0} (f : Fraction → A) (o : Option Fraction) → length (if_declared f o) ≡ length (option_to_list o)
+length-declared : {A : Type 0} (f : Fraction → A) (o : Option Fraction)
+    → length (if_declared f o) ≡ length (option_to_list o)
 length-declared f None = refl
 length-declared f (Some b) = refl
 
 pub length-both : {A : Type 0} (f g : Fraction → A) (lower upper : Option Fraction)
     → length (if_declared f lower ++ if_declared g upper) ≡ declared_count lower upper
 length-both f g lower upper =
-    omega (arith, length-append (if_declared f lower) (if_declared g upper), length-declared f lower, length-declared g upper)
+    omega (
+      arith,
+      length-append (if_declared f lower) (if_declared g upper),
+      length-declared f lower,
+      length-declared g upper,
+    )
 
 -- ---- forms
 -- the inequalities of a relation
@@ -42,7 +54,8 @@ length-sides at_most a b = refl
 length-sides at_least a b = refl
 length-sides equal a b = refl
 
-pub row_forms-append : (xs ys : List Row) → length (row_forms (xs ++ ys)) ≡ length (row_forms xs) + length (row_forms ys)
+pub row_forms-append : (xs ys : List Row)
+    → length (row_forms (xs ++ ys)) ≡ length (row_forms xs) + length (row_forms ys)
 row_forms-append [] ys = omega arith
 row_forms-append (r ∷ rs) ys =
     omega (
@@ -54,7 +67,11 @@ row_forms-append (r ∷ rs) ys =
 
 row_forms-first : (r : Row) (rs : List Row) → length (row_forms (r ∷ rs)) ≡ sides_of r.relation + length (row_forms rs)
 row_forms-first r rs =
-    omega (arith, length-append (sides r.relation r.left r.right) (row_forms rs), length-sides r.relation r.left r.right)
+    omega (
+      arith,
+      length-append (sides r.relation r.left r.right) (row_forms rs),
+      length-sides r.relation r.left r.right,
+    )
 
 pub length-variable_forms : (k : ℕ) (xs : List Variable) → length (variable_forms k xs) ≡ variable_bounds xs
 length-variable_forms k [] = refl
@@ -66,7 +83,8 @@ length-variable_forms k (x ∷ xs) =
       length-variable_forms (suc k) xs,
     )
   where
-    bounds : (e : Expression) (lower upper : Option Fraction) → length (bound_forms e lower upper) ≡ declared_count lower upper
+    bounds : (e : Expression) (lower upper : Option Fraction)
+        → length (bound_forms e lower upper) ≡ declared_count lower upper
     bounds e lower upper = length-both _ _ lower upper
 
 pub length-adaptive_forms : (k : ℕ) (ys : List AdaptiveVariable) → length (adaptive_forms k ys) ≡ adaptive_bounds ys
@@ -79,14 +97,17 @@ length-adaptive_forms k (y ∷ ys) =
       length-adaptive_forms (suc k) ys,
     )
   where
-    bounds : (e : Expression) (lower upper : Option Fraction) → length (bound_forms e lower upper) ≡ declared_count lower upper
+    bounds : (e : Expression) (lower upper : Option Fraction)
+        → length (bound_forms e lower upper) ≡ declared_count lower upper
     bounds e lower upper = length-both _ _ lower upper
 
-pub variable_bounds-append : (xs ys : List Variable) → variable_bounds (xs ++ ys) ≡ variable_bounds xs + variable_bounds ys
+pub variable_bounds-append : (xs ys : List Variable)
+    → variable_bounds (xs ++ ys) ≡ variable_bounds xs + variable_bounds ys
 variable_bounds-append [] ys = omega arith
 variable_bounds-append (x ∷ xs) ys = omega (arith, variable_bounds-append xs ys)
 
-pub adaptive_bounds-append : (xs ys : List AdaptiveVariable) → adaptive_bounds (xs ++ ys) ≡ adaptive_bounds xs + adaptive_bounds ys
+pub adaptive_bounds-append : (xs ys : List AdaptiveVariable)
+    → adaptive_bounds (xs ++ ys) ≡ adaptive_bounds xs + adaptive_bounds ys
 adaptive_bounds-append [] ys = omega arith
 adaptive_bounds-append (y ∷ ys) zs = omega (arith, adaptive_bounds-append ys zs)
 
@@ -143,7 +164,8 @@ module _ (m : RobustModel) (c : ℕ) where
   cell_forms =
       omega (
         arith,
-        length-append (sides (cost_row m c).relation (cost_row m c).left (cost_row m c).right) (row_forms (map (row_over m c) m.rows ++ bound_rows m c 0 m.adaptives)),
+        length-append (sides (cost_row m c).relation (cost_row m c).left (cost_row m c).right)
+            (row_forms (map (row_over m c) m.rows ++ bound_rows m c 0 m.adaptives)),
         cost_forms m.sense (cost_row m c) refl,
         row_forms-append (map (row_over m c) m.rows) (bound_rows m c 0 m.adaptives),
         rows_over m.rows,

@@ -53,11 +53,13 @@ module _ (m : RobustModel) (cuts : List Cut) where
 
   lines_split : length s.set_lines ≡ cell_count cuts * (length m.set_lines + length cuts)
   lines_split =
-      blocks (length {A = SetLine}) refl length-append (λ c. cell_lines m c cuts) _ (λ c. cell_line_count m c cuts) (cell_count cuts) suc
+      blocks (length {A = SetLine}) refl length-append (λ c. cell_lines m c cuts) _
+      (λ c. cell_line_count m c cuts) (cell_count cuts) suc
 
   members_split : lift_count s.set_lines ≡ cell_count cuts * lift_count m.set_lines
   members_split =
-      blocks lift_count refl lift_count-append (λ c. cell_lines m c cuts) _ (λ c. cell_members m c cuts) (cell_count cuts) suc
+      blocks lift_count refl lift_count-append (λ c. cell_lines m c cuts) _
+      (λ c. cell_members m c cuts) (cell_count cuts) suc
 
   no_bounds : adaptive_bounds s.adaptives ≡ 0
   no_bounds =
@@ -71,7 +73,8 @@ module _ (m : RobustModel) (cuts : List Cut) where
         arith,
         length-append (row_forms s.rows) (variable_forms 0 s.variables ++ adaptive_forms 0 s.adaptives),
         length-append (variable_forms 0 s.variables) (adaptive_forms 0 s.adaptives),
-        blocks (λ rs. length (row_forms rs)) refl row_forms-append (cell_rows m) (cell_form_count m) (λ c. cell_forms m c) (cell_count cuts) suc,
+        blocks (λ rs. length (row_forms rs)) refl row_forms-append (cell_rows m) (cell_form_count m)
+            (λ c. cell_forms m c) (cell_count cuts) suc,
         length-variable_forms 0 s.variables,
         variable_bounds-append m.variables (cells_worst ∷ []),
         length-adaptive_forms 0 s.adaptives,
@@ -87,7 +90,8 @@ module _ (m : RobustModel) (cuts : List Cut) where
         statements,
         bounds_in_sets m.parameters (cell_names cuts)
             ∙ ap (λ n. n * parameter_bounds m.parameters)
-            (let n = length-names m cuts in let e : suc (length (cell_names cuts)) ≡ cell_count cuts + 1 = omega (arith, n) in e),
+            (let n = length-names m cuts in
+            let e : suc (length (cell_names cuts)) ≡ cell_count cuts + 1 = omega (arith, n) in e),
       )
     where
       nothing : rows_of [] ≡ 0
@@ -95,7 +99,8 @@ module _ (m : RobustModel) (cuts : List Cut) where
 
       statements : rows_of s.set_lines ≡ cell_count cuts * (rows_of m.set_lines + length cuts)
       statements =
-          blocks rows_of nothing rows_of-append (λ c. cell_lines m c cuts) _ (λ c. cell_set_rows m c cuts) (cell_count cuts) suc
+          blocks rows_of nothing rows_of-append (λ c. cell_lines m c cuts) _
+          (λ c. cell_set_rows m c cuts) (cell_count cuts) suc
 
   -- the program's counts
   module _ (cells sides parameters variables columns pb vb ab members forms set_rows rows lines : ℕ) where
@@ -117,25 +122,32 @@ module _ (m : RobustModel) (cuts : List Cut) where
         → lines ≡ length m.set_lines → AreCountsOf s counted
     counts_are c sd p v k b vbs abs mem f r rs ls = record {
       parameters =
-          ap₂ (λ n x. n * x) (let e : cells + 1 ≡ suc (cell_count cuts) = omega (arith, c) in e) p ∙ sym (parameters_count m cuts);
+          ap₂ (λ n x. n * x) (let e : cells + 1 ≡ suc (cell_count cuts) = omega (arith, c) in e) p
+          ∙ sym (parameters_count m cuts);
       columns =
-          ap₂ (λ n x. variables + 1 + n * x) c (let e : columns - variables ≡ policy_columns m = omega (arith, k, v, own_columns m) in e)
-          ∙ (let e : variables + 1 + cell_count cuts * policy_columns m ≡ suc (length m.variables) + cell_count cuts * policy_columns m = omega (arith, v) in e)
+          ap₂ (λ n x. variables + 1 + n * x) c (let e : columns - variables ≡ policy_columns m =
+          omega (arith, k, v, own_columns m) in e)
+          ∙ (let e : variables + 1 + cell_count cuts * policy_columns m
+          ≡ suc (length m.variables) + cell_count cuts * policy_columns m = omega (arith, v) in e)
           ∙ sym (columns_count m cuts);
       rows =
-          ap₂ (λ n x. n * x) c (let e : 1 + rows + ab ≡ 1 + (length m.rows + adaptive_bounds m.adaptives) = omega (arith, rs, abs) in e)
+          ap₂ (λ n x. n * x) c (let e : 1 + rows + ab ≡ 1 + (length m.rows + adaptive_bounds m.adaptives) =
+          omega (arith, rs, abs) in e)
           ∙ sym rows_split;
       set_lines =
-          ap₂ (λ n x. n * x) c (let e : lines + sides ≡ length m.set_lines + length cuts = omega (arith, ls, sd) in e) ∙ sym lines_split;
+          ap₂ (λ n x. n * x) c (let e : lines + sides ≡ length m.set_lines + length cuts = omega (arith, ls, sd) in e)
+          ∙ sym lines_split;
       members = ap₂ (λ n x. n * x) c mem ∙ sym members_split;
       forms =
-          ap₂ (λ n x. 1 + n * x + vb) c (let e : forms - vb ≡ cell_form_count m = omega (arith, f, vbs, own_forms m) in e)
+          ap₂ (λ n x. 1 + n * x + vb) c (let e : forms - vb ≡ cell_form_count m =
+          omega (arith, f, vbs, own_forms m) in e)
           ∙ ap (λ x. 1 + cell_count cuts * cell_form_count m + x) vbs
           ∙ sym forms_split;
       set_rows =
           ap₂ (λ n x. (n + 1) * x + n * (set_rows - pb + sides)) c b
           ∙ ap (λ x. (cell_count cuts + 1) * parameter_bounds m.parameters + cell_count cuts * x)
-          (let e : set_rows - pb + sides ≡ rows_of m.set_lines + length cuts = omega (arith, r, b, sd, own_set_rows m) in e)
+          (let e : set_rows - pb + sides ≡ rows_of m.set_lines + length cuts =
+          omega (arith, r, b, sd, own_set_rows m) in e)
           ∙ sym set_rows_split;
     }
 
@@ -145,24 +157,27 @@ few_times n a b h k =
     let one : n * a ≤ 9 * a = mul-le-mul_right a h in
     omega (arith, one, k)
 
-pub counts_few : (cells sides parameters variables columns pb vb ab members forms set_rows rows lines : ℕ) → (m : RobustModel) (cuts : List Cut)
-    → cells ≤ 8 → sides ≤ 3 → parameters ≤ 96 → variables ≤ 600 → columns ≤ 600 → pb ≤ 192 → vb ≤ 1200 → ab ≤ 1200 → members ≤ 64
+pub counts_few : (cells sides parameters variables columns pb vb ab members forms set_rows rows lines : ℕ)
+    → (m : RobustModel) (cuts : List Cut)
+    → cells ≤ 8 → sides ≤ 3 → parameters ≤ 96 → variables ≤ 600 → columns ≤ 600 → pb ≤ 192 → vb ≤ 1200
+    → ab ≤ 1200 → members ≤ 64
     → forms ≤ 5000 → set_rows ≤ 5000 → rows ≤ 300 → lines ≤ 64
     → AreSmall (counted m cuts cells sides parameters variables columns pb vb ab members forms set_rows rows lines)
-counts_few cells sides parameters variables columns pb vb ab members forms set_rows rows lines m cuts c sd p v k b vbs abs mem f r rs ls = record {
-  parameters = omega (arith, few_times (cells + 1) parameters 96 (omega (arith, c)) p);
-  columns = omega (arith, v, few_times cells (columns - variables) 600 (omega (arith, c)) (omega (arith, k)));
-  rows = omega (arith, few_times cells (1 + rows + ab) 1501 (omega (arith, c)) (omega (arith, rs, abs)));
-  set_lines = omega (arith, few_times cells (lines + sides) 67 (omega (arith, c)) (omega (arith, ls, sd)));
-  members = omega (arith, few_times cells members 64 (omega (arith, c)) mem);
-  forms = omega (arith, vbs, few_times cells (forms - vb) 5000 (omega (arith, c)) (omega (arith, f)));
-  set_rows =
-      omega (
-        arith,
-        few_times (cells + 1) pb 192 (omega (arith, c)) b,
-        few_times cells (set_rows - pb + sides) 5003 (omega (arith, c)) (omega (arith, r, sd)),
-      );
-}
+counts_few cells sides parameters variables columns pb vb ab members forms set_rows rows lines m cuts c sd p v k b vbs
+    abs mem f r rs ls = record {
+      parameters = omega (arith, few_times (cells + 1) parameters 96 (omega (arith, c)) p);
+      columns = omega (arith, v, few_times cells (columns - variables) 600 (omega (arith, c)) (omega (arith, k)));
+      rows = omega (arith, few_times cells (1 + rows + ab) 1501 (omega (arith, c)) (omega (arith, rs, abs)));
+      set_lines = omega (arith, few_times cells (lines + sides) 67 (omega (arith, c)) (omega (arith, ls, sd)));
+      members = omega (arith, few_times cells members 64 (omega (arith, c)) mem);
+      forms = omega (arith, vbs, few_times cells (forms - vb) 5000 (omega (arith, c)) (omega (arith, f)));
+      set_rows =
+          omega (
+            arith,
+            few_times (cells + 1) pb 192 (omega (arith, c)) b,
+            few_times cells (set_rows - pb + sides) 5003 (omega (arith, c)) (omega (arith, r, sd)),
+          );
+    }
 
 -- at most eight cells
 pub few_cells : {X : Type 0} (m : RobustModel) (of : X → Cut) (cuts : List X) → length cuts ≤ 3

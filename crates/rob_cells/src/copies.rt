@@ -6,9 +6,9 @@ ghost use Rattle.rob_model.specs.View.{adaptive_of, parameter_of};
 ghost use Rattle.rob_pieces.specs.SplitModel as split;
 
 use crate::cell::numbered;
+use rob_model::copy::{copy_list, copy_text};
 use rob_model::{Adaptive, Param};
 use rob_number::{Exact, List, Memory, Text};
-use rob_tree::copy::{copy_list, copy_text};
 use std::alloc::Global;
 
 /// Appends the same parameters.

@@ -17,9 +17,9 @@ use crate::cell::{numbered, word};
 use crate::cut::Cut;
 use crate::split::cell_count;
 use indexmap::IndexSet;
+use rob_model::copy::copy_text;
 use rob_model::{Adaptive, Model, Param, RowDef, Var};
 use rob_number::{Exact, List, Memory, Text};
-use rob_tree::copy::copy_text;
 use std::alloc::Global;
 
 /// The bytes that a name may have.

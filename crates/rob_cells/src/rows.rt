@@ -10,9 +10,9 @@ ghost use Rattle.rob_pieces.specs.SplitModel as split;
 
 use crate::cell::{numbered, rule_in, word};
 use crate::expression::{expr_over, side};
+use rob_model::copy::copy_text;
 use rob_model::{Expr, Model, Rel, RowDef, Sense};
 use rob_number::{Exact, List, Memory, Text};
-use rob_tree::copy::copy_text;
 use std::alloc::Global;
 
 /// Appends the rows over cell `c`, from 1: its cost, the model's rows, and the declared bounds of its adaptive

@@ -14,27 +14,11 @@ ghost use Rattle.rob_pieces.specs.SplitModel.{split_model};
 use crate::cut::Cut;
 use crate::split::cell_count;
 use rob_model::bounds::{bound_count, declared};
+use rob_model::limits::{
+    GREATEST_SIZE, MOST_COLUMNS, MOST_MEMBERS, MOST_PARAMETERS, MOST_ROWS, MOST_SET_LINES,
+};
 use rob_model::{Adaptive, Model, SetLine, Var, column_count, form_count, set_row_count};
 use rob_number::Exact;
-
-/// The joint parameters that a model may have.
-const MOST_PARAMETERS: u64 = 96;
-
-/// The decision columns that a model may have.
-const MOST_COLUMNS: u64 = 600;
-
-/// The row statements that a model may have.
-const MOST_ROWS: u64 = 300;
-
-/// The set statements and budgets that a model may have together.
-const MOST_SET_LINES: u64 = 64;
-
-/// The members that all budgets may have together.
-const MOST_MEMBERS: u64 = 64;
-
-/// The size that a model may have: its forms times one more than its set rows, joint parameters and members, the last
-/// two counted twice.
-const GREATEST_SIZE: u64 = 12_000;
 
 /// What is counted of a model.
 #[derive(Clone, Copy)]

@@ -14,9 +14,9 @@ use crate::copies::{append_copies, append_params, append_params_in};
 use crate::cut::Cut;
 use crate::lines::append_cell_lines;
 use crate::rows::append_cell_rows;
+use rob_model::copy::append_vars;
 use rob_model::{Expr, Model, Var};
 use rob_number::{Exact, List, Memory};
-use rob_tree::copy::append_vars;
 use std::alloc::Global;
 
 /// The split model.

@@ -54,7 +54,8 @@ some_below P decide (suc n) = by (some_below P decide n) (decide n)
     by : Decided ((k : ℕ) × (k < n) × P k) → Decided (P n) → Decided ((k : ℕ) × (k < suc n) × P k)
     by (inl h) q = inl (h.0, (let l : h.0 < n = h.1 in omega arith), h.2)
     by (inr none) (inl p) = inl (n, omega arith, p)
-    by (inr none) (inr other) = inr (λ h. elim (lt_cases h.0 n h.1) [ inl l ↦ none (h.0, l, h.2) | inr e ↦ other (subst P e h.2) ])
+    by (inr none) (inr other) =
+        inr (λ h. elim (lt_cases h.0 n h.1) [ inl l ↦ none (h.0, l, h.2) | inr e ↦ other (subst P e h.2) ])
 
 -- ---- lines and words
 -- a text begins with a line, or has no line's end
@@ -65,7 +66,8 @@ first_line (b ∷ text) = by (same_number b 10) (first_line text)
     by : Decided (b ≡ 10) → ((line : List ℕ) × (after : List ℕ) × BeginsWithLine text line after) ⊎ Lacks 10 text
         → ((line : List ℕ) × (after : List ℕ) × BeginsWithLine (b ∷ text) line after) ⊎ Lacks 10 (b ∷ text)
     by (inl e) rest = inl ([], text, record { split = ap (λ c. c ∷ text) e; whole = tt })
-    by (inr ne) (inl (line, after, h)) = inl (b ∷ line, after, record { split = ap (λ t. b ∷ t) h.split; whole = (ne, h.whole) })
+    by (inr ne) (inl (line, after, h)) =
+        inl (b ∷ line, after, record { split = ap (λ t. b ∷ t) h.split; whole = (ne, h.whole) })
     by (inr ne) (inr h) = inr (ne, h)
 
 first_is : (word : Name) (words : List Name) → Decided ((more : List Name) × (words ≡ word ∷ more))
@@ -77,16 +79,22 @@ first_is word (w ∷ more) = by (same_word w word)
     by (inr ne) = inr (λ h. ne (let p : w ∷ more ≡ word ∷ h.0 = h.1 in let q : w ≡ word = cc in q))
 
 -- the next line has the word first, or no such line is next
-pub next_line : (word : Name) (text : List ℕ) → ((front : List ℕ) × (back : List ℕ) × (more : List Name) × BeginsWithLine text front back × (words_in front ≡ word ∷ more)) ⊎ HasNoLineOf word text
+pub next_line : (word : Name) (text : List ℕ)
+    → ((front : List ℕ) × (back : List ℕ) × (more : List Name) × BeginsWithLine text front back
+    × (words_in front ≡ word ∷ more)) ⊎ HasNoLineOf word text
 next_line word text = by (first_line text)
   where
-    then : (front back : List ℕ) → BeginsWithLine text front back → Decided ((more : List Name) × (words_in front ≡ word ∷ more))
-        → ((front : List ℕ) × (back : List ℕ) × (more : List Name) × BeginsWithLine text front back × (words_in front ≡ word ∷ more)) ⊎ HasNoLineOf word text
+    then : (front back : List ℕ) → BeginsWithLine text front back
+        → Decided ((more : List Name) × (words_in front ≡ word ∷ more))
+        → ((front : List ℕ) × (back : List ℕ) × (more : List Name) × BeginsWithLine text front back
+        × (words_in front ≡ word ∷ more)) ⊎ HasNoLineOf word text
     then front back h (inl (more, is)) = inl (front, back, more, h, is)
-    then front back h (inr other) = inr (λ line after more b e. other (more, ap words_in (one_line text front back line after h b).0 ∙ e))
+    then front back h (inr other) =
+        inr (λ line after more b e. other (more, ap words_in (one_line text front back line after h b).0 ∙ e))
 
     by : ((line : List ℕ) × (after : List ℕ) × BeginsWithLine text line after) ⊎ Lacks 10 text
-        → ((front : List ℕ) × (back : List ℕ) × (more : List Name) × BeginsWithLine text front back × (words_in front ≡ word ∷ more)) ⊎ HasNoLineOf word text
+        → ((front : List ℕ) × (back : List ℕ) × (more : List Name) × BeginsWithLine text front back
+        × (words_in front ≡ word ∷ more)) ⊎ HasNoLineOf word text
     by (inl (front, back, h)) = then front back h (first_is word (words_in front))
     by (inr none) = inr (λ line after more b e. no_line text line after none b)
 
@@ -110,9 +118,11 @@ nth n words = get_or words n []
 
 -- ---- names
 -- a number from `least` on has the name, or none has
-pub some_name : (names : List Name) (least : ℕ) (name : Name) → Decided ((k : ℕ) × (k < length names) × ((least ≤ k) × (name_at names k ≡ name)))
+pub some_name : (names : List Name) (least : ℕ) (name : Name)
+    → Decided ((k : ℕ) × (k < length names) × ((least ≤ k) × (name_at names k ≡ name)))
 some_name names least name =
-    some_below (λ k. (least ≤ k) × (name_at names k ≡ name)) (λ k. both_decided (at_least least k) (same_word (name_at names k) name)) (length names)
+    some_below (λ k. (least ≤ k) × (name_at names k ≡ name))
+    (λ k. both_decided (at_least least k) (same_word (name_at names k) name)) (length names)
 
 stands_at_least : (form place i r : ℕ) → Decided (IsAtLeast form place i r)
 stands_at_least form place i r = either_decided (below form i) (both_decided (same_number form i) (at_least place r))
@@ -123,14 +133,20 @@ module _ (names : Naming) (form place : ℕ) (form_name row_name : Name) where
   Matches i r = (name_at names.forms i ≡ form_name) × ((name_at names.set_rows r ≡ row_name) × IsAtLeast form place i r)
 
   matches : (i r : ℕ) → Decided (Matches i r)
-  matches i r = both_decided (same_word (name_at names.forms i) form_name) (both_decided (same_word (name_at names.set_rows r) row_name) (stands_at_least form place i r))
+  matches i r =
+      both_decided (same_word (name_at names.forms i) form_name)
+      (both_decided (same_word (name_at names.set_rows r) row_name) (stands_at_least form place i r))
 
   -- a pair of numbers has the names of a form and of a set row, or none has
   pub some_pair : Decided ((i : ℕ) × (r : ℕ) × IsPair names form place form_name row_name i r)
-  some_pair = by (some_below (λ i. (r : ℕ) × (r < length names.set_rows) × Matches i r) (λ i. some_below (Matches i) (matches i) (length names.set_rows)) (length names.forms))
+  some_pair =
+      by (some_below (λ i. (r : ℕ) × (r < length names.set_rows) × Matches i r)
+      (λ i. some_below (Matches i) (matches i) (length names.set_rows)) (length names.forms))
     where
-      by : Decided ((i : ℕ) × (i < length names.forms) × ((r : ℕ) × (r < length names.set_rows) × Matches i r)) → Decided ((i : ℕ) × (r : ℕ) × IsPair names form place form_name row_name i r)
-      by (inl (i, l, (r, m, h))) = inl (i, r, record { ordered = h.1.1; form_named = l; row_named = m; form_is = h.0; row_is = h.1.0 })
+      by : Decided ((i : ℕ) × (i < length names.forms) × ((r : ℕ) × (r < length names.set_rows) × Matches i r))
+          → Decided ((i : ℕ) × (r : ℕ) × IsPair names form place form_name row_name i r)
+      by (inl (i, l, (r, m, h))) =
+          inl (i, r, record { ordered = h.1.1; form_named = l; row_named = m; form_is = h.0; row_is = h.1.0 })
       by (inr none) = inr (λ (i, r, h). none (i, h.form_named, (r, h.row_named, (h.form_is, (h.row_is, h.ordered)))))
 
 -- ---- numbers
@@ -154,16 +170,28 @@ module _ (limit : ℕ) (word : Name) where
 
   -- a word spells a number that fits, or none: both parts of one that fits are within the limit
   pub some_number : Decided ((q : Fraction) × Spells q)
-  some_number = by (some_below (λ n. (d : ℕ) × (d < suc limit) × OfSize n d) (λ n. some_below (OfSize n) (of_size n) (suc limit)) (suc limit))
+  some_number =
+      by (some_below (λ n. (d : ℕ) × (d < suc limit) × OfSize n d)
+      (λ n. some_below (OfSize n) (of_size n) (suc limit)) (suc limit))
     where
       is_pair : (q : Fraction) (z : ℤ) → q.num ≡ z → of_pair z q.den ≡ q
       is_pair q z e = ap (λ (y : ℤ). of_pair y q.den) (sym e) ∙ of_pair_parts q
 
-      inside : (q : Fraction) (z : ℤ) → q.num ≡ z → Spells q → (n : ℕ) × (n < suc limit) × ((d : ℕ) × (d < suc limit) × OfSize n d)
-      inside q (pos n) e h = (n, omega (arith, h.0.num_fits, ap nat_abs e), (q.den, omega (arith, h.0.den_fits), inl (subst Spells (sym (is_pair q (pos n) e)) h)))
-      inside q (negsuc n) e h = (n, omega (arith, h.0.num_fits, ap nat_abs e), (q.den, omega (arith, h.0.den_fits), inr (subst Spells (sym (is_pair q (negsuc n) e)) h)))
+      inside : (q : Fraction) (z : ℤ) → q.num ≡ z → Spells q → (n : ℕ) × (n < suc limit)
+          × ((d : ℕ) × (d < suc limit) × OfSize n d)
+      inside q (pos n) e h = (
+        n,
+        omega (arith, h.0.num_fits, ap nat_abs e),
+        (q.den, omega (arith, h.0.den_fits), inl (subst Spells (sym (is_pair q (pos n) e)) h)),
+      )
+      inside q (negsuc n) e h = (
+        n,
+        omega (arith, h.0.num_fits, ap nat_abs e),
+        (q.den, omega (arith, h.0.den_fits), inr (subst Spells (sym (is_pair q (negsuc n) e)) h)),
+      )
 
-      by : Decided ((n : ℕ) × (n < suc limit) × ((d : ℕ) × (d < suc limit) × OfSize n d)) → Decided ((q : Fraction) × Spells q)
+      by : Decided ((n : ℕ) × (n < suc limit) × ((d : ℕ) × (d < suc limit) × OfSize n d))
+          → Decided ((q : Fraction) × Spells q)
       by (inl (n, l, (d, m, inl h))) = inl (of_pair (pos n) d, h)
       by (inl (n, l, (d, m, inr h))) = inl (of_pair (negsuc n) d, h)
       by (inr none) = inr (λ (q, h). none (inside q q.num refl h))

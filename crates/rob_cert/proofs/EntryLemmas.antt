@@ -18,7 +18,8 @@ pub one_line : (text a x b y : List ℕ) → BeginsWithLine text a x → BeginsW
 one_line text a x b y h k = cut_once 10 a b x y h.whole k.whole (sym h.split ∙ k.split)
 
 -- a line with another first word
-pub other_first : (text line after front back word first : List ℕ) (more more' : List Name) → BeginsWithLine text front back → words_in front ≡ first ∷ more' → first ≢ word
+pub other_first : (text line after front back word first : List ℕ) (more more' : List Name)
+    → BeginsWithLine text front back → words_in front ≡ first ∷ more' → first ≢ word
     → BeginsWithLine text line after → words_in line ≡ word ∷ more → ⊥
 other_first text line after front back word first more more' h is ne b e =
     let same = one_line text front back line after h b in
@@ -30,9 +31,11 @@ unfolding ratio
 zero_text = decimal_digit 0 (omega arith)
 
 -- a word that is not 0 spells a number that is not 0
-pub not_zero : (word : List ℕ) (q : Fraction) (b : Bool) → b ≡ false → (IsTrue b ↔ (word ≡ codes "0")) → word ≡ number_text q → q ≢ 0ℚ
+pub not_zero : (word : List ℕ) (q : Fraction) (b : Bool) → b ≡ false → (IsTrue b ↔ (word ≡ codes "0"))
+    → word ≡ number_text q → q ≢ 0ℚ
 not_zero word q b f h is e = let t : b ≡ true = h.1 (is ∙ ap number_text e ∙ zero_text) in cc
 
 -- three words, by the first, the name and the number
-pub three_are : (words : List Name) (w f s t name n : Name) (more : List Name) → words ≡ w ∷ more → words ≡ f ∷ (s ∷ (t ∷ [])) → name ≡ s → t ≡ n → words ≡ w ∷ (name ∷ (n ∷ []))
+pub three_are : (words : List Name) (w f s t name n : Name) (more : List Name) → words ≡ w ∷ more
+    → words ≡ f ∷ (s ∷ (t ∷ [])) → name ≡ s → t ≡ n → words ≡ w ∷ (name ∷ (n ∷ []))
 three_are words w f s t name n more p q e d = cc

@@ -50,7 +50,8 @@ pub word_injective : (k j : Kind) → word_of k ≡ word_of j → k ≡ j
 word_injective k j e = sym (decode-word k) ∙ ap (λ w. decode (code w)) e ∙ decode-word j
 
 -- a line's first word is that of its kind
-pub first_of : (names : Naming) (line : Line Name) → (more : List Name) × (words_of names line ≡ word_of (kind_of line) ∷ more)
+pub first_of : (names : Naming) (line : Line Name) → (more : List Name)
+    × (words_of names line ≡ word_of (kind_of line) ∷ more)
 first_of names (status_line s) = (_, refl)
 first_of names (value_line a) = (_, refl)
 first_of names (scale_line a) = (_, refl)
@@ -69,17 +70,21 @@ kind_of-spelled (item_line i w b) = refl
 kind_of-spelled end_line = refl
 
 -- a line whose words begin with the word of a kind is of that kind
-pub kind_by_word : (names : Naming) (line : Line Name) (kind : Kind) (words more : List Name) → words_of names line ≡ words → words ≡ word_of kind ∷ more → kind_of line ≡ kind
+pub kind_by_word : (names : Naming) (line : Line Name) (kind : Kind) (words more : List Name)
+    → words_of names line ≡ words → words ≡ word_of kind ∷ more → kind_of line ≡ kind
 kind_by_word names line kind words more e f =
     let first = first_of names line in
     let p : word_of (kind_of line) ∷ first.0 ≡ word_of kind ∷ more = sym first.1 ∙ e ∙ f in
     word_injective (kind_of line) kind (let q : word_of (kind_of line) ≡ word_of kind = cc in q)
 
-pub kind_by_spelled : (names : Naming) (line : Line Fraction) (kind : Kind) (words more : List Name) → words_of names (spelled line) ≡ words → words ≡ word_of kind ∷ more → kind_of line ≡ kind
-kind_by_spelled names line kind words more e f = sym (kind_of-spelled line) ∙ kind_by_word names (spelled line) kind words more e f
+pub kind_by_spelled : (names : Naming) (line : Line Fraction) (kind : Kind) (words more : List Name)
+    → words_of names (spelled line) ≡ words → words ≡ word_of kind ∷ more → kind_of line ≡ kind
+kind_by_spelled names line kind words more e f =
+    sym (kind_of-spelled line) ∙ kind_by_word names (spelled line) kind words more e f
 
 -- ---- lines of a kind
-pub entry_by_kind : {A : Type 0} (v : Vector) (line : Line A) → kind_of line ≡ entries v → (k : ℕ) × (a : A) × (line ≡ entry_line v k a)
+pub entry_by_kind : {A : Type 0} (v : Vector) (line : Line A) → kind_of line ≡ entries v → (k : ℕ) × (a : A)
+    × (line ≡ entry_line v k a)
 entry_by_kind v (entry_line w k a) e = (k, a, ap (λ u. entry_line u k a) (let p : w ≡ v = cc in p))
 entry_by_kind v (status_line s) e = absurd (cc)
 entry_by_kind v (value_line a) e = absurd (cc)
@@ -88,7 +93,8 @@ entry_by_kind v (cover_line which i r a) e = absurd (cc)
 entry_by_kind v (item_line i w b) e = absurd (cc)
 entry_by_kind v end_line e = absurd (cc)
 
-pub cover_by_kind : {A : Type 0} (w : Multipliers) (line : Line A) → kind_of line ≡ multipliers w → (i : ℕ) × (r : ℕ) × (a : A) × (line ≡ cover_line w i r a)
+pub cover_by_kind : {A : Type 0} (w : Multipliers) (line : Line A) → kind_of line ≡ multipliers w → (i : ℕ) × (r : ℕ)
+    × (a : A) × (line ≡ cover_line w i r a)
 cover_by_kind w (cover_line which i r a) e = (i, r, a, ap (λ u. cover_line u i r a) (let p : which ≡ w = cc in p))
 cover_by_kind w (entry_line v k a) e = absurd (cc)
 cover_by_kind w (status_line s) e = absurd (cc)
@@ -97,7 +103,8 @@ cover_by_kind w (scale_line a) e = absurd (cc)
 cover_by_kind w (item_line i x b) e = absurd (cc)
 cover_by_kind w end_line e = absurd (cc)
 
-pub item_by_kind : {A : Type 0} (line : Line A) → kind_of line ≡ items → (i : ℕ) × (w : A) × (b : A) × (line ≡ item_line i w b)
+pub item_by_kind : {A : Type 0} (line : Line A) → kind_of line ≡ items → (i : ℕ) × (w : A) × (b : A)
+    × (line ≡ item_line i w b)
 item_by_kind (item_line i w b) e = (i, w, b, refl)
 item_by_kind (cover_line which i r a) e = absurd (cc)
 item_by_kind (entry_line v k a) e = absurd (cc)
@@ -108,7 +115,8 @@ item_by_kind end_line e = absurd (cc)
 
 -- ---- what may stand behind what
 -- a kind of list that may stand somewhere may stand behind itself
-pub entries_again : (s : Status) (last : Kind) (v : Vector) → may_follow s last (entries v) ≡ true → may_follow s (entries v) (entries v) ≡ true
+pub entries_again : (s : Status) (last : Kind) (v : Vector) → may_follow s last (entries v) ≡ true
+    → may_follow s (entries v) (entries v) ≡ true
 entries_again s last Inside e = refl
 entries_again optimal last Plan e = refl
 entries_again infeasible claims Plan e = e

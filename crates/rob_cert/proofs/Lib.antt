@@ -15,6 +15,7 @@ pub mod WholeLemmas
 pub mod ShapeLemmas
 pub mod NameWords
 pub mod ApartLemmas
+pub mod LineLeads
 pub mod LeadLemmas
 pub mod SpellingLaws
 pub mod OneBreach
@@ -22,5 +23,8 @@ pub mod OneCertificate
 pub mod FitLemmas
 pub mod ReadLemmas
 pub mod Decisions
-pub mod SomeSections
+pub mod SomeEntries
+pub mod SomeCovers
+pub mod SomeItems
+pub mod SomeHead
 pub mod SomeCertificate

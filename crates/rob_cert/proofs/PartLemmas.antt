@@ -17,6 +17,7 @@ use Rattle.rob_cert.specs.Reading.{Kind, claims, values, scales, items, ends, en
 use Rattle.rob_cert.specs.Sections.{IsSection, HasNoLineOf, StandsAt, StandsBehind, StandsItem, IsThereOrIn, AreEntries, AreCovers}
 use Rattle.rob_cert.specs.Spelling.{Naming, lines_text}
 use Rattle.rob_cert.proofs.SectionLemmas.{Leads-append, further, section_further}
+use Rattle.std.proofs.lemmas.Bool.{and_parts, and_from}
 
 -- ---- ranks
 decode : ℕ → Kind
@@ -62,12 +63,9 @@ eight (multipliers Covers) h = absurd (omega arith)
 eight (multipliers Holds) h = absurd (omega arith)
 
 -- ---- what is used
-pub both_true : (a b : Bool) → (a && b) ≡ true → (a ≡ true) × (b ≡ true)
-both_true true b h = (refl, h)
-both_true false b h = cc
-
 -- what may stand behind a line of a list is used
-used_behind_claims : (s : Status) (kind : Kind) → 3 ≤ rank kind → may_follow s claims kind ≡ true → is_used s kind ≡ true
+used_behind_claims : (s : Status) (kind : Kind) → 3 ≤ rank kind
+    → may_follow s claims kind ≡ true → is_used s kind ≡ true
 used_behind_claims infeasible (entries At) l h = refl
 used_behind_claims infeasible (entries Inside) l h = h
 used_behind_claims infeasible (entries Plan) l h = h
@@ -93,7 +91,8 @@ used_behind_claims unbounded ends l h = absurd (cc)
 used_behind_claims unbounded (entries v) l h = absurd (cc)
 used_behind_claims unbounded (multipliers v) l h = absurd (cc)
 
-used_behind_values : (s : Status) (kind : Kind) → 3 ≤ rank kind → may_follow s values kind ≡ true → is_used s kind ≡ true
+used_behind_values : (s : Status) (kind : Kind) → 3 ≤ rank kind
+    → may_follow s values kind ≡ true → is_used s kind ≡ true
 used_behind_values s claims l h = absurd (omega arith)
 used_behind_values s values l h = absurd (omega arith)
 used_behind_values s scales l h = absurd (omega arith)
@@ -106,10 +105,10 @@ pub used : (s : Status) (last kind : Kind) → 3 ≤ rank kind → may_follow s 
 used s claims kind l h = used_behind_claims s kind l h
 used s values kind l h = used_behind_values s kind l h
 used s ends kind l h = absurd (cc)
-used s scales kind l h = (both_true (is_used s kind) (is_behind scales kind) h).0
-used s items kind l h = (both_true (is_used s kind) (is_behind items kind) h).0
-used s (entries v) kind l h = (both_true (is_used s kind) (is_behind (entries v) kind) h).0
-used s (multipliers w) kind l h = (both_true (is_used s kind) (is_behind (multipliers w) kind) h).0
+used s scales kind l h = (and_parts (is_used s kind) (is_behind scales kind) h).0
+used s items kind l h = (and_parts (is_used s kind) (is_behind items kind) h).0
+used s (entries v) kind l h = (and_parts (is_used s kind) (is_behind (entries v) kind) h).0
+used s (multipliers w) kind l h = (and_parts (is_used s kind) (is_behind (multipliers w) kind) h).0
 
 -- ---- what is ready
 -- the order of kinds, where an item's entries do not count
@@ -125,11 +124,12 @@ behind-rank last (entries Move) h = refl
 behind-rank last (entries At) h = absurd (h refl)
 behind-rank last (multipliers w) h = refl
 
-may_by : (a b : Bool) → a ≡ true → b ≡ true → (a && b) ≡ true
-may_by a b p q = rw p q
-
-ready_by : (s : Status) (last kind : Kind) → suc (rank last) ≤ rank kind → is_used s kind ≡ true → kind ≢ entries At → (is_used s kind && is_behind last kind) ≡ true × (nat_eq (rank last) (rank kind) ≡ false)
-ready_by s last kind l u ne = (may_by (is_used s kind) (is_behind last kind) u (behind-rank last kind ne ∙ grind (arith, nat_tests)), grind (arith, nat_tests))
+ready_by : (s : Status) (last kind : Kind) → suc (rank last) ≤ rank kind → is_used s kind ≡ true → kind ≢ entries At
+    → (is_used s kind && is_behind last kind) ≡ true × (nat_eq (rank last) (rank kind) ≡ false)
+ready_by s last kind l u ne = (
+  and_from (is_used s kind) (is_behind last kind) u (behind-rank last kind ne ∙ grind (arith, nat_tests)),
+  grind (arith, nat_tests),
+)
 
 -- behind a line of a list, the used kinds of a greater rank
 pub ready_entries : (s : Status) (v : Vector) → IsReady s (entries v) (suc (rank (entries v)))
@@ -169,14 +169,18 @@ behind_le last (entries At) ne h = absurd (ne (grind (arith, nat_tests)))
 behind_le last (multipliers Covers) ne h = grind (arith, nat_tests)
 behind_le last (multipliers Holds) ne h = grind (arith, nat_tests)
 
-pub entries_le : (s : Status) (v : Vector) (other : Kind) → rank (entries v) ≢ 8 → may_follow s (entries v) other ≡ true → rank (entries v) ≤ rank other
-entries_le s v other ne h = behind_le (entries v) other ne (both_true (is_used s other) (is_behind (entries v) other) h).1
+pub entries_le : (s : Status) (v : Vector) (other : Kind) → rank (entries v) ≢ 8 → may_follow s (entries v) other ≡ true
+    → rank (entries v) ≤ rank other
+entries_le s v other ne h =
+    behind_le (entries v) other ne (and_parts (is_used s other) (is_behind (entries v) other) h).1
 
-pub multipliers_le : (s : Status) (w : Multipliers) (other : Kind) → rank (multipliers w) ≢ 8 → may_follow s (multipliers w) other ≡ true → rank (multipliers w) ≤ rank other
-multipliers_le s w other ne h = behind_le (multipliers w) other ne (both_true (is_used s other) (is_behind (multipliers w) other) h).1
+pub multipliers_le : (s : Status) (w : Multipliers) (other : Kind) → rank (multipliers w) ≢ 8
+    → may_follow s (multipliers w) other ≡ true → rank (multipliers w) ≤ rank other
+multipliers_le s w other ne h =
+    behind_le (multipliers w) other ne (and_parts (is_used s other) (is_behind (multipliers w) other) h).1
 
 at_eight : (n : ℕ) (b : Bool) → (b && nat_eq n 8) ≡ true → n ≡ 8
-at_eight n b h = let p = (both_true b (nat_eq n 8) h).1 in grind (arith, nat_tests)
+at_eight n b h = let p = (and_parts b (nat_eq n 8) h).1 in grind (arith, nat_tests)
 
 -- an item's entry stands behind a line of the items alone
 pub at_needs : (s : Status) (last : Kind) → may_follow s last (entries At) ≡ true → rank last ≡ 8
@@ -196,112 +200,172 @@ items_used optimal h = refl
 items_used infeasible h = refl
 items_used unbounded h = cc
 
-pub none_read : (names : Naming) (more : List (Line Fraction)) (rest rest' : List ℕ) (line line' : ℕ) → more ≡ [] → IsSection names rest line more rest' line' → (rest ≡ rest')
+pub none_read : (names : Naming) (more : List (Line Fraction)) (rest rest' : List ℕ) (line line' : ℕ) → more ≡ []
+    → IsSection names rest line more rest' line' → (rest ≡ rest')
 none_read names more rest rest' line line' none h = h.split ∙ ap (λ ls. lines_text names ls ++ rest') none
 
 module _ (names : Naming) (limit : ℕ) (s : Status) where
   -- a part that is not used
-  pub unused_part : (kind : Kind) (rest : List ℕ) (line : ℕ) → 3 ≤ rank kind → rank kind ≢ 8 → is_used s kind ≡ false → Extends names limit s (rank kind) (suc (rank kind)) rest line [] rest line
+  pub unused_part : (kind : Kind) (rest : List ℕ) (line : ℕ) → 3 ≤ rank kind → rank kind ≢ 8 → is_used s kind ≡ false
+      → Extends names limit s (rank kind) (suc (rank kind)) rest line [] rest line
   unused_part kind rest line l ne none text lines so = record {
     last = so.last;
     form = so.form;
     place = so.place;
-    leads = subst (λ ls. Leads names limit start ls (behind s so.last so.form so.place)) (sym (append-nil lines)) so.leads;
+    leads = subst (λ ls. Leads names limit start ls (behind s so.last so.form so.place))
+        (sym (append-nil lines)) so.leads;
     section = subst (λ ls. IsSection names text 1 ls rest line) (sym (append-nil lines)) so.section;
     ready = ready_more s so.last (rank kind) so.ready;
     passed = λ other may m. passed_by other may (lt_cases (rank other) (rank kind) m);
   }
     where
-      passed_by : (other : Kind) → may_follow s so.last other ≡ true → (rank other < rank kind) ⊎ (rank other ≡ rank kind) → HasNoLineOf (word_of other) rest
+      passed_by : (other : Kind) → may_follow s so.last other ≡ true → (rank other < rank kind)
+          ⊎ (rank other ≡ rank kind) → HasNoLineOf (word_of other) rest
       passed_by other may (inl m) = so.passed other may m
-      passed_by other may (inr e) = let same = rank_injective other kind ne e in absurd (let t : is_used s kind ≡ true = subst (λ k. is_used s k ≡ true) same (used s so.last other (subst (λ n. 3 ≤ n) (sym e) l) may) in cc)
+      passed_by other may (inr e) =
+          let same = rank_injective other kind ne e in
+          absurd (let t : is_used s kind ≡ true =
+          subst (λ k. is_used s k ≡ true) same (used s so.last other (subst (λ n. 3 ≤ n) (sym e) l) may) in cc)
 
   -- ---- a part of a kind that is used
   -- the kind may begin
-  begins_at : (n : ℕ) (kind : Kind) (text : List ℕ) (lines : List (Line Fraction)) (rest : List ℕ) (line : ℕ) (so : SoFar names limit s text lines rest line n) → n ≤ rank kind → is_used s kind ≡ true → kind ≢ entries At
+  begins_at : (n : ℕ) (kind : Kind) (text : List ℕ) (lines : List (Line Fraction)) (rest : List ℕ) (line : ℕ)
+      (so : SoFar names limit s text lines rest line n) → n ≤ rank kind → is_used s kind ≡ true → kind ≢ entries At
       → (may_follow s so.last kind ≡ true) × ((k : ℕ) → from so.last kind k ≡ 0)
   begins_at n kind text lines rest line so l u ne = let h = so.ready kind l u ne in (h.0, λ k. rw h.1 refl)
 
-  pub part_step : (kind : Kind) (rest : List ℕ) (line : ℕ) (more : List (Line Fraction)) (rest' : List ℕ) (line' : ℕ) (text : List ℕ) (lines : List (Line Fraction)) (so : SoFar names limit s text lines rest line (rank kind)) (new : Stage)
-      → 3 ≤ rank kind → rank kind ≢ 8 → IsReady s kind (suc (rank kind)) → ((other : Kind) → may_follow s kind other ≡ true → rank kind ≤ rank other)
-      → Leads names limit (behind s so.last so.form so.place) more new → IsSection names rest line more rest' line' → IsThereOrIn s kind (behind s so.last so.form so.place) more new → HasNoLineOf (word_of kind) rest'
+  pub part_step : (kind : Kind) (rest : List ℕ) (line : ℕ) (more : List (Line Fraction)) (rest' : List ℕ) (line' : ℕ)
+      (text : List ℕ) (lines : List (Line Fraction))
+      (so : SoFar names limit s text lines rest line (rank kind)) (new : Stage)
+      → 3 ≤ rank kind → rank kind ≢ 8 → IsReady s kind (suc (rank kind))
+      → ((other : Kind) → may_follow s kind other ≡ true → rank kind ≤ rank other)
+      → Leads names limit (behind s so.last so.form so.place) more new → IsSection names rest line more rest' line'
+      → IsThereOrIn s kind (behind s so.last so.form so.place) more new → HasNoLineOf (word_of kind) rest'
       → SoFar names limit s text (lines ++ more) rest' line' (suc (rank kind))
-  part_step kind rest line more rest' line' text lines so new l ne ready order leads section (inl (none, same)) stopped =
+  part_step kind rest line more rest' line' text lines so new l ne ready order leads section
+      (inl (none, same)) stopped =
       let rests = none_read names more rest rest' line line' none section in
       record {
         last = so.last;
         form = so.form;
         place = so.place;
-        leads = Leads-append names limit start lines more (behind s so.last so.form so.place) (behind s so.last so.form so.place) so.leads (subst (λ st. Leads names limit (behind s so.last so.form so.place) more st) same leads);
+        leads = Leads-append names limit start lines more (behind s so.last so.form so.place)
+            (behind s so.last so.form so.place) so.leads
+            (subst (λ st. Leads names limit (behind s so.last so.form so.place) more st) same leads);
         section = section_further names limit lines more text rest rest' 1 line line' so.section section;
         ready = ready_more s so.last (rank kind) so.ready;
         passed = λ other may m. by other may (lt_cases (rank other) (rank kind) m);
       }
     where
-      by : (other : Kind) → may_follow s so.last other ≡ true → (rank other < rank kind) ⊎ (rank other ≡ rank kind) → HasNoLineOf (word_of other) rest'
-      by other may (inl m) = subst (HasNoLineOf (word_of other)) (none_read names more rest rest' line line' none section) (so.passed other may m)
+      by : (other : Kind) → may_follow s so.last other ≡ true → (rank other < rank kind) ⊎ (rank other ≡ rank kind)
+          → HasNoLineOf (word_of other) rest'
+      by other may (inl m) =
+          subst (HasNoLineOf (word_of other))
+          (none_read names more rest rest' line line' none section) (so.passed other may m)
       by other may (inr e) = subst (λ k. HasNoLineOf (word_of k) rest') (sym (rank_injective other kind ne e)) stopped
-  part_step kind rest line more rest' line' text lines so new l ne ready order leads section (inr (form, place, e)) stopped = record {
-    last = kind;
-    form = form;
-    place = place;
-    leads = Leads-append names limit start lines more (behind s so.last so.form so.place) (behind s kind form place) so.leads (subst (λ st. Leads names limit (behind s so.last so.form so.place) more st) e leads);
-    section = section_further names limit lines more text rest rest' 1 line line' so.section section;
-    ready = ready;
-    passed = λ other may m. subst (λ k. HasNoLineOf (word_of k) rest') (sym (rank_injective other kind ne (omega (arith, order other may, m)))) stopped;
-  }
+  part_step kind rest line more rest' line' text lines so new l ne ready order leads section
+      (inr (form, place, e)) stopped = record {
+        last = kind;
+        form = form;
+        place = place;
+        leads = Leads-append names limit start lines more (behind s so.last so.form so.place) (behind s kind form place)
+            so.leads (subst (λ st. Leads names limit (behind s so.last so.form so.place) more st) e leads);
+        section = section_further names limit lines more text rest rest' 1 line line' so.section section;
+        ready = ready;
+        passed = λ other may m. subst (λ k. HasNoLineOf (word_of k) rest')
+            (sym (rank_injective other kind ne (omega (arith, order other may, m)))) stopped;
+      }
 
   -- entries
-  stands_entries : (v : Vector) (text : List ℕ) (lines : List (Line Fraction)) (rest : List ℕ) (line : ℕ) (so : SoFar names limit s text lines rest line (rank (entries v))) → is_used s (entries v) ≡ true → rank (entries v) ≢ 8
+  stands_entries : (v : Vector) (text : List ℕ) (lines : List (Line Fraction)) (rest : List ℕ) (line : ℕ)
+      (so : SoFar names limit s text lines rest line (rank (entries v)))
+      → is_used s (entries v) ≡ true → rank (entries v) ≢ 8
       → StandsAt s (entries v) so.form 0 (behind s so.last so.form so.place)
   stands_entries v text lines rest line so u ne =
       let b = begins_at (rank (entries v)) (entries v) text lines rest line so (omega arith) u (λ e. ne (ap rank e)) in
       record { last = so.last; last_place = so.place; is = refl; may = b.0; anew = b.1 so.place }
 
-  pub entries_part : (v : Vector) (count : ℕ) (rest : List ℕ) (line : ℕ) (qs : List Fraction) (rest' : List ℕ) (line' : ℕ) → 3 ≤ rank (entries v) → rank (entries v) ≢ 8 → is_used s (entries v) ≡ true
-      → AreEntries names limit v count rest line qs rest' line' → Extends names limit s (rank (entries v)) (suc (rank (entries v))) rest line (entry_lines v 0 qs) rest' line'
+  pub entries_part : (v : Vector) (count : ℕ) (rest : List ℕ) (line : ℕ) (qs : List Fraction) (rest' : List ℕ)
+      (line' : ℕ) → 3 ≤ rank (entries v) → rank (entries v) ≢ 8 → is_used s (entries v) ≡ true
+      → AreEntries names limit v count rest line qs rest' line'
+      → Extends names limit s (rank (entries v)) (suc (rank (entries v))) rest line (entry_lines v 0 qs) rest' line'
   entries_part v count rest line qs rest' line' l ne u r text lines so =
-      let (new, leads, at, there) = r.leads s so.form (behind s so.last so.form so.place) (stands_entries v text lines rest line so u ne) in
-      part_step (entries v) rest line (entry_lines v 0 qs) rest' line' text lines so new l ne (ready_entries s v) (λ other may. entries_le s v other ne may) leads r.section there r.stopped
+      let (new, leads, at, there) =
+      r.leads s so.form (behind s so.last so.form so.place) (stands_entries v text lines rest line so u ne) in
+      part_step (entries v) rest line (entry_lines v 0 qs) rest' line' text lines so new l ne (ready_entries s v)
+      (λ other may. entries_le s v other ne may) leads r.section there r.stopped
 
-  pub entries_fails : (v : Vector) (rest : List ℕ) (line : ℕ) (e : CertErr) → rank (entries v) ≢ 8 → is_used s (entries v) ≡ true
-      → ((t : Status) (form : ℕ) (stage : Stage) → StandsAt t (entries v) form 0 stage → HasCause names limit stage rest line e) → Fails names limit s (rank (entries v)) rest line e
+  pub entries_fails : (v : Vector) (rest : List ℕ) (line : ℕ) (e : CertErr) → rank (entries v) ≢ 8
+      → is_used s (entries v) ≡ true
+      → ((t : Status) (form : ℕ) (stage : Stage) → StandsAt t (entries v) form 0 stage
+      → HasCause names limit stage rest line e) → Fails names limit s (rank (entries v)) rest line e
   entries_fails v rest line (Rule rule l) ne u fault text lines so =
-      let (o, r, breaks) = fault s so.form (behind s so.last so.form so.place) (stands_entries v text lines rest line so u ne) in
-      (o, r, further names limit start (behind s so.last so.form so.place) lines text rest 1 line l o so.leads so.section breaks)
+      let (o, r, breaks) =
+      fault s so.form (behind s so.last so.form so.place) (stands_entries v text lines rest line so u ne) in (
+        o,
+        r,
+        further names limit start (behind s so.last so.form so.place) lines text rest 1 line l o
+            so.leads so.section breaks,
+      )
   entries_fails v rest line Memory ne u fault text lines so = tt
 
   -- covers
-  stands_covers : (w : Multipliers) (text : List ℕ) (lines : List (Line Fraction)) (rest : List ℕ) (line : ℕ) (so : SoFar names limit s text lines rest line (rank (multipliers w))) → is_used s (multipliers w) ≡ true
+  stands_covers : (w : Multipliers) (text : List ℕ) (lines : List (Line Fraction)) (rest : List ℕ) (line : ℕ)
+      (so : SoFar names limit s text lines rest line (rank (multipliers w))) → is_used s (multipliers w) ≡ true
       → StandsBehind s (multipliers w) 0 0 (behind s so.last so.form so.place)
   stands_covers w text lines rest line so u =
       let b = begins_at (rank (multipliers w)) (multipliers w) text lines rest line so (omega arith) u (λ e. cc) in
-      record { last = so.last; last_form = so.form; last_place = so.place; is = refl; may = b.0; form_anew = b.1 so.form; place_anew = b.1 so.place }
+      record {
+        last = so.last;
+        last_form = so.form;
+        last_place = so.place;
+        is = refl;
+        may = b.0;
+        form_anew = b.1 so.form;
+        place_anew = b.1 so.place;
+      }
 
-  pub covers_part : (w : Multipliers) (rest : List ℕ) (line : ℕ) (cs : List Cover) (rest' : List ℕ) (line' : ℕ) → 3 ≤ rank (multipliers w) → rank (multipliers w) ≢ 8 → is_used s (multipliers w) ≡ true
-      → AreCovers names limit w rest line cs rest' line' → Extends names limit s (rank (multipliers w)) (suc (rank (multipliers w))) rest line (cover_lines w cs) rest' line'
+  pub covers_part : (w : Multipliers) (rest : List ℕ) (line : ℕ) (cs : List Cover) (rest' : List ℕ) (line' : ℕ)
+      → 3 ≤ rank (multipliers w) → rank (multipliers w) ≢ 8 → is_used s (multipliers w) ≡ true
+      → AreCovers names limit w rest line cs rest' line'
+      → Extends names limit s (rank (multipliers w)) (suc (rank (multipliers w))) rest line
+      (cover_lines w cs) rest' line'
   covers_part w rest line cs rest' line' l ne u r text lines so =
-      let (new, leads, at, there) = r.leads s (behind s so.last so.form so.place) (stands_covers w text lines rest line so u) in
-      part_step (multipliers w) rest line (cover_lines w cs) rest' line' text lines so new l ne (ready_multipliers s w) (λ other may. multipliers_le s w other ne may) leads r.section there r.stopped
+      let (new, leads, at, there) =
+      r.leads s (behind s so.last so.form so.place) (stands_covers w text lines rest line so u) in
+      part_step (multipliers w) rest line (cover_lines w cs) rest' line' text lines so new l ne (ready_multipliers s w)
+      (λ other may. multipliers_le s w other ne may) leads r.section there r.stopped
 
   pub covers_fails : (w : Multipliers) (rest : List ℕ) (line : ℕ) (e : CertErr) → is_used s (multipliers w) ≡ true
-      → ((t : Status) (stage : Stage) → StandsBehind t (multipliers w) 0 0 stage → HasCause names limit stage rest line e) → Fails names limit s (rank (multipliers w)) rest line e
+      → ((t : Status) (stage : Stage) → StandsBehind t (multipliers w) 0 0 stage
+      → HasCause names limit stage rest line e) → Fails names limit s (rank (multipliers w)) rest line e
   covers_fails w rest line (Rule rule l) u fault text lines so =
-      let (o, r, breaks) = fault s (behind s so.last so.form so.place) (stands_covers w text lines rest line so u) in
-      (o, r, further names limit start (behind s so.last so.form so.place) lines text rest 1 line l o so.leads so.section breaks)
+      let (o, r, breaks) = fault s (behind s so.last so.form so.place) (stands_covers w text lines rest line so u) in (
+        o,
+        r,
+        further names limit start (behind s so.last so.form so.place) lines text rest 1 line l o
+            so.leads so.section breaks,
+      )
   covers_fails w rest line Memory u fault text lines so = tt
 
   -- items
-  pub stands_items : (text : List ℕ) (lines : List (Line Fraction)) (rest : List ℕ) (line : ℕ) (so : SoFar names limit s text lines rest line 8) → is_used s items ≡ true → StandsItem s 0 (behind s so.last so.form so.place)
+  pub stands_items : (text : List ℕ) (lines : List (Line Fraction)) (rest : List ℕ) (line : ℕ)
+      (so : SoFar names limit s text lines rest line 8) → is_used s items ≡ true
+      → StandsItem s 0 (behind s so.last so.form so.place)
   stands_items text lines rest line so u =
       let b = begins_at 8 items text lines rest line so (omega arith) u (λ e. cc) in
       record { last = so.last; last_form = so.form; last_place = so.place; is = refl; may = b.0; anew = b.1 so.form }
 
   pub items_fails : (rest : List ℕ) (line : ℕ) (e : CertErr) → is_used s items ≡ true
-      → ((t : Status) (stage : Stage) → StandsItem t 0 stage → HasCause names limit stage rest line e) → Fails names limit s 8 rest line e
+      → ((t : Status) (stage : Stage) → StandsItem t 0 stage → HasCause names limit stage rest line e)
+      → Fails names limit s 8 rest line e
   items_fails rest line (Rule rule l) u fault text lines so =
-      let (o, r, breaks) = fault s (behind s so.last so.form so.place) (stands_items text lines rest line so u) in
-      (o, r, further names limit start (behind s so.last so.form so.place) lines text rest 1 line l o so.leads so.section breaks)
+      let (o, r, breaks) = fault s (behind s so.last so.form so.place) (stands_items text lines rest line so u) in (
+        o,
+        r,
+        further names limit start (behind s so.last so.form so.place) lines text rest 1 line l o
+            so.leads so.section breaks,
+      )
   items_fails rest line Memory u fault text lines so = tt
 
 -- ---- answers

@@ -14,22 +14,27 @@ use Rattle.rob_cert.specs.Lines.{Line, entry_line, item_line, entry_lines, cover
 use Rattle.rob_cert.specs.Spelling.{Naming, line_text, lines_text}
 
 -- what holds of each item holds of the item at a place
-pub each_read : {X Y : Type 0} (P : Y → Type 0) (f : X → Y) (xs : List X) (i : ℕ) (x : X) → Each P (map f xs) → i < length xs → x ≡ get_or xs i x → P (f x)
+pub each_read : {X Y : Type 0} (P : Y → Type 0) (f : X → Y) (xs : List X) (i : ℕ) (x : X) → Each P (map f xs)
+    → i < length xs → x ≡ get_or xs i x → P (f x)
 each_read P f [] i x all h e = absurd (omega arith)
 each_read P f (y ∷ ys) zero x all h e = subst (λ z. P (f z)) (sym e) all.0
 each_read P f (y ∷ ys) (suc i) x all h e = each_read P f ys i x all.1 (omega arith) e
 
-module _ {X : Type 0} (text : ℕ → List X → List ℕ) (cons : (p : ℕ) (x : X) (xs : List X) → text p (x ∷ xs) ≡ text p (x ∷ []) ++ text (suc p) xs) where
+module _ {X : Type 0} (text : ℕ → List X → List ℕ)
+    (cons : (p : ℕ) (x : X) (xs : List X) → text p (x ∷ xs) ≡ text p (x ∷ []) ++ text (suc p) xs) where
   -- one item more
-  pub text_more : (p : ℕ) (xs : List X) (i : ℕ) (x : X) (old new total : List ℕ) → i < length xs → x ≡ get_or xs i x → new ≡ old ++ text p (x ∷ []) → old ++ text p (drop i xs) ≡ total → new ++ text (p + 1) (drop (i + 1) xs) ≡ total
+  pub text_more : (p : ℕ) (xs : List X) (i : ℕ) (x : X) (old new total : List ℕ) → i < length xs → x ≡ get_or xs i x
+      → new ≡ old ++ text p (x ∷ []) → old ++ text p (drop i xs) ≡ total → new ++ text (p + 1) (drop (i + 1) xs) ≡ total
   text_more p xs i x old new total h e is before =
       ap (λ o. o ++ text (p + 1) (drop (i + 1) xs)) is
       ∙ append_assoc old (text p (x ∷ [])) (text (p + 1) (drop (i + 1) xs))
-      ∙ ap (λ t. old ++ t) (ap (λ n. text p (x ∷ []) ++ text n (drop (i + 1) xs)) (add-one p) ∙ sym (cons p x (drop (i + 1) xs)) ∙ ap (text p) (sym (drop_at xs i x h e)))
+      ∙ ap (λ t. old ++ t) (ap (λ n. text p (x ∷ []) ++ text n (drop (i + 1) xs)) (add-one p)
+      ∙ sym (cons p x (drop (i + 1) xs)) ∙ ap (text p) (sym (drop_at xs i x h e)))
       ∙ before
 
   -- no item is left
-  pub text_done : (p : ℕ) (xs : List X) (i : ℕ) (old total : List ℕ) → text p [] ≡ [] → length xs ≤ i → old ++ text p (drop i xs) ≡ total → old ≡ total
+  pub text_done : (p : ℕ) (xs : List X) (i : ℕ) (old total : List ℕ) → text p [] ≡ [] → length xs ≤ i
+      → old ++ text p (drop i xs) ≡ total → old ≡ total
   text_done p xs i old total none h before =
       sym (append-nil old) ∙ ap (λ t. old ++ t) (sym none ∙ ap (text p) (sym (drop_past xs i h))) ∙ before
 
@@ -43,23 +48,32 @@ on_ok (Ok x) f p = f p
 on_ok (Err e) f p = tt
 
 -- ---- the text of lines
-pub lines_text-append : (names : Naming) (xs ys : List (Line Fraction)) → lines_text names (xs ++ ys) ≡ lines_text names xs ++ lines_text names ys
+pub lines_text-append : (names : Naming) (xs ys : List (Line Fraction))
+    → lines_text names (xs ++ ys) ≡ lines_text names xs ++ lines_text names ys
 lines_text-append names [] ys = refl
-lines_text-append names (x ∷ xs) ys = ap (λ t. line_text names x ++ t) (lines_text-append names xs ys) ∙ sym (append_assoc (line_text names x) (lines_text names xs) (lines_text names ys))
+lines_text-append names (x ∷ xs) ys =
+    ap (λ t. line_text names x ++ t) (lines_text-append names xs ys)
+    ∙ sym (append_assoc (line_text names x) (lines_text names xs) (lines_text names ys))
 
 -- the entries of a list are those of its first number and those of the rest
-pub entry_lines-cons : (v : Vector) (p : ℕ) (q : Fraction) (qs : List Fraction) → entry_lines v p (q ∷ qs) ≡ entry_lines v p (q ∷ []) ++ entry_lines v (suc p) qs
+pub entry_lines-cons : (v : Vector) (p : ℕ) (q : Fraction) (qs : List Fraction)
+    → entry_lines v p (q ∷ qs) ≡ entry_lines v p (q ∷ []) ++ entry_lines v (suc p) qs
 entry_lines-cons v p q qs = by (eq_ℚ q 0ℚ)
   where
-    by : (b : Bool) → (if b then entry_lines v (suc p) qs else (entry_line v p q ∷ entry_lines v (suc p) qs)) ≡ (if b then [] else (entry_line v p q ∷ [])) ++ entry_lines v (suc p) qs
+    by : (b : Bool) → (if b then entry_lines v (suc p) qs else (entry_line v p q ∷ entry_lines v (suc p) qs))
+        ≡ (if b then [] else (entry_line v p q ∷ [])) ++ entry_lines v (suc p) qs
     by true = refl
     by false = refl
 
-pub entry_lines-append : (v : Vector) (p : ℕ) (xs ys : List Fraction) → entry_lines v p (xs ++ ys) ≡ entry_lines v p xs ++ entry_lines v (p + length xs) ys
+pub entry_lines-append : (v : Vector) (p : ℕ) (xs ys : List Fraction)
+    → entry_lines v p (xs ++ ys) ≡ entry_lines v p xs ++ entry_lines v (p + length xs) ys
 entry_lines-append v p [] ys = ap (λ n. entry_lines v n ys) (sym (add-zero p))
 entry_lines-append v p (x ∷ xs) ys =
     entry_lines-cons v p x (xs ++ ys)
-    ∙ ap (λ ls. entry_lines v p (x ∷ []) ++ ls) (entry_lines-append v (suc p) xs ys ∙ ap (λ n. entry_lines v (suc p) xs ++ entry_lines v n ys) (let e : suc p + length xs ≡ p + suc (length xs) = omega arith in e))
+    ∙ ap (λ ls. entry_lines v p (x ∷ []) ++ ls)
+    (entry_lines-append v (suc p) xs ys
+    ∙ ap (λ n. entry_lines v (suc p) xs ++ entry_lines v n ys)
+    (let e : suc p + length xs ≡ p + suc (length xs) = omega arith in e))
     ∙ sym (append_assoc (entry_lines v p (x ∷ [])) (entry_lines v (suc p) xs) (entry_lines v (p + suc (length xs)) ys))
     ∙ ap (λ ls. ls ++ entry_lines v (p + suc (length xs)) ys) (sym (entry_lines-cons v p x xs))
 
@@ -72,7 +86,8 @@ pieces_text names s a b c d e f g h = simp lines_text-append
 
 -- nine pieces, each behind the one before
 pub nine : (o0 o1 o2 o3 o4 o5 o6 o7 o8 o9 a b c d e f g h i : List ℕ)
-    → o1 ≡ o0 ++ a → o2 ≡ o1 ++ b → o3 ≡ o2 ++ c → o4 ≡ o3 ++ d → o5 ≡ o4 ++ e → o6 ≡ o5 ++ f → o7 ≡ o6 ++ g → o8 ≡ o7 ++ h → o9 ≡ o8 ++ i
+    → o1 ≡ o0 ++ a → o2 ≡ o1 ++ b → o3 ≡ o2 ++ c → o4 ≡ o3 ++ d → o5 ≡ o4 ++ e → o6 ≡ o5 ++ f → o7 ≡ o6 ++ g
+    → o8 ≡ o7 ++ h → o9 ≡ o8 ++ i
     → o9 ≡ o0 ++ (a ++ (b ++ (c ++ (d ++ (e ++ (f ++ (g ++ (h ++ i))))))))
 nine o0 o1 o2 o3 o4 o5 o6 o7 o8 o9 a b c d e f g h i p1 p2 p3 p4 p5 p6 p7 p8 p9 =
     behind o0 o1 o9 a _ p1 (behind o1 o2 o9 b _ p2 (behind o2 o3 o9 c _ p3 (behind o3 o4 o9 d _ p4
@@ -83,24 +98,30 @@ module _ (names : Naming) {N : Type 0} (value : N → Fraction) where
   abbrev pub entries_text : Vector → ℕ → List N → List ℕ
   entries_text v p xs = lines_text names (entry_lines v p (map value xs))
 
-  pub entries_text-cons : (v : Vector) (p : ℕ) (x : N) (xs : List N) → entries_text v p (x ∷ xs) ≡ entries_text v p (x ∷ []) ++ entries_text v (suc p) xs
+  pub entries_text-cons : (v : Vector) (p : ℕ) (x : N) (xs : List N)
+      → entries_text v p (x ∷ xs) ≡ entries_text v p (x ∷ []) ++ entries_text v (suc p) xs
   entries_text-cons v p x xs =
       ap (lines_text names) (entry_lines-cons v p (value x) (map value xs))
       ∙ lines_text-append names (entry_lines v p (value x ∷ [])) (entry_lines v (suc p) (map value xs))
 
   -- the numbers of a list, and one more behind them
-  pub entries_text-push : (v : Vector) (xs : List N) (x : N) → lines_text names (entry_lines v 0 (map value xs ++ value x ∷ [])) ≡ entries_text v 0 xs ++ entries_text v (length xs) (x ∷ [])
+  pub entries_text-push : (v : Vector) (xs : List N) (x : N)
+      → lines_text names (entry_lines v 0 (map value xs ++ value x ∷ []))
+      ≡ entries_text v 0 xs ++ entries_text v (length xs) (x ∷ [])
   entries_text-push v xs x =
       ap (lines_text names) (entry_lines-append v 0 (map value xs) (value x ∷ []))
-      ∙ lines_text-append names (entry_lines v 0 (map value xs)) (entry_lines v (0 + length (map value xs)) (value x ∷ []))
-      ∙ ap (λ n. entries_text v 0 xs ++ lines_text names (entry_lines v n (value x ∷ []))) (let e : 0 + length (map value xs) ≡ length xs = omega (arith, length-map xs value) in e)
+      ∙ lines_text-append names (entry_lines v 0 (map value xs))
+      (entry_lines v (0 + length (map value xs)) (value x ∷ []))
+      ∙ ap (λ n. entries_text v 0 xs ++ lines_text names (entry_lines v n (value x ∷ [])))
+      (let e : 0 + length (map value xs) ≡ length xs = omega (arith, length-map xs value) in e)
 
 module _ (names : Naming) {N : Type 0} (cover_of : N → Cover) where
   -- the text of covers; places do not count here
   abbrev pub covers_text : Multipliers → ℕ → List N → List ℕ
   covers_text which p cs = lines_text names (cover_lines which (map cover_of cs))
 
-  pub covers_text-cons : (which : Multipliers) (p : ℕ) (c : N) (cs : List N) → covers_text which p (c ∷ cs) ≡ covers_text which p (c ∷ []) ++ covers_text which (suc p) cs
+  pub covers_text-cons : (which : Multipliers) (p : ℕ) (c : N) (cs : List N)
+      → covers_text which p (c ∷ cs) ≡ covers_text which p (c ∷ []) ++ covers_text which (suc p) cs
   covers_text-cons which p c cs =
       lines_text-append names (cover_lines which (cover_of c ∷ [])) (cover_lines which (map cover_of cs))
 
@@ -112,7 +133,8 @@ module _ (names : Naming) {N : Type 0} (item_of : N → Item) where
   abbrev pub items_text : ℕ → List N → List ℕ
   items_text p is = lines_text names (item_lines (map item_of is))
 
-  pub items_text-cons : (p : ℕ) (i : N) (is : List N) → items_text p (i ∷ is) ≡ items_text p (i ∷ []) ++ items_text (suc p) is
+  pub items_text-cons : (p : ℕ) (i : N) (is : List N)
+      → items_text p (i ∷ is) ≡ items_text p (i ∷ []) ++ items_text (suc p) is
   items_text-cons p i is =
       let one = item_line (item_of i).form (item_of i).weight (item_of i).base ∷ entry_lines At 0 (item_of i).vector in
       ap (lines_text names) (sym (append-nil_front one (item_lines (map item_of is))))

@@ -1,4 +1,5 @@
--- What a text needs so that it is the text of one certificate alone: names that stand in a line as words, and numbers that fit.
+-- What a text needs so that it is the text of one certificate alone: names that stand in a line as words, and numbers
+-- that fit.
 use Rattle.std.specs.Prelude.{◌≢◌, ℕ}
 use Rattle.rob_meaning.specs.Certificates.{Certificate}
 use Rattle.rob_meaning.specs.Named.{declared_names}

@@ -13,7 +13,8 @@ rule_of NoLine = 31
 rule_of NoShape = 32
 rule_of NoNumber = 33
 
--- the text breaks the rule on that line, which is the first bad one; no lower rule is broken there. Want of memory has no cause
+-- the text breaks the rule on that line, which is the first bad one; no lower rule is broken there. Want of memory has
+-- no cause
 abbrev pub HasCause : Naming → ℕ → Stage → List ℕ → ℕ → CertErr → Type 0
 HasCause names limit stage text number (Rule rule line) =
     (offence : Offence) × (rule ≡ rule_of offence) × BreaksFrom names limit stage text number offence line

@@ -12,6 +12,7 @@ use Rattle.rob_cert.specs.Lines.{Line, value_line, scale_line}
 use Rattle.rob_cert.specs.Reading.{BeginsWithLine, words_in, Kind, values, scales, word_of, HasWords}
 use Rattle.rob_cert.specs.Spelling.{number_text, status_word}
 
+-- the kind of the line of the value or the scale
 abbrev pub bound_kind : Bound → Kind
 bound_kind Value = values
 bound_kind Scale = scales
@@ -31,4 +32,5 @@ HasBoundFault limit which text NoLine =
     (line after : List ℕ) → BeginsWithLine text line after → HasWords (bound_kind which) (words_in line) → ⊥
 HasBoundFault limit which text NoShape = ⊥
 HasBoundFault limit which text NoNumber = (line after : List ℕ) × (word : Name) × BeginsWithLine text line after
-    × (words_in line ≡ word_of (bound_kind which) ∷ (word ∷ [])) × ((q : Fraction) → Fits limit q → word ≡ number_text q → ⊥)
+    × (words_in line ≡ word_of (bound_kind which) ∷ (word ∷ []))
+    × ((q : Fraction) → Fits limit q → word ≡ number_text q → ⊥)

@@ -9,8 +9,8 @@ use Rattle.rob_cert.specs.declared.kind.Multipliers.TheVariants.{Covers, Holds}
 use Rattle.rob_cert.specs.declared.kind.Vector.{Vector}
 use Rattle.rob_cert.specs.declared.kind.Vector.TheVariants.{Inside, Plan, Move, At}
 
--- a line; forms, set rows and the places of entries are numbers from 0. `A` is what stands for its fractions: fractions, or
--- the words that spell them
+-- a line; forms, set rows and the places of entries are numbers from 0. `A` is what stands for its fractions:
+-- fractions, or the words that spell them
 pub data Line (A : Type 0) : Type 0 where
   status_line : Status → Line A
   value_line : A → Line A

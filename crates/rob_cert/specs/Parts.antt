@@ -10,14 +10,16 @@ use Rattle.rob_cert.specs.Reading.{Kind, entries, rank, is_used, may_follow, wor
 use Rattle.rob_cert.specs.Sections.{IsSection, HasNoLineOf}
 use Rattle.rob_cert.specs.Spelling.{Naming}
 
--- behind a line of that kind the used kinds from that rank on may stand, and begin anew; an item's entries do not count here
+-- behind a line of that kind the used kinds from that rank on may stand, and begin anew; an item's entries do not count
+-- here
 abbrev pub IsReady : Status → Kind → ℕ → Type 0
 IsReady s last n = (kind : Kind) → n ≤ rank kind → is_used s kind ≡ true → kind ≢ entries At
     → (may_follow s last kind ≡ true) × (nat_eq (rank last) (rank kind) ≡ false)
 
--- the lines are the text's first ones, in a certificate of that status: kinds from rank `n` on may follow, and what stands
--- behind is no line of a lower kind that might follow
-pub record SoFar (names : Naming) (limit : ℕ) (s : Status) (text : List ℕ) (lines : List (Line Fraction)) (rest : List ℕ) (line n : ℕ) : Type 0 where
+-- the lines are the text's first ones, in a certificate of that status: kinds from rank `n` on may follow, and what
+-- stands behind is no line of a lower kind that might follow
+pub record SoFar (names : Naming) (limit : ℕ) (s : Status) (text : List ℕ) (lines : List (Line Fraction))
+    (rest : List ℕ) (line n : ℕ) : Type 0 where
   pub last : Kind
   pub form : ℕ
   pub place : ℕ

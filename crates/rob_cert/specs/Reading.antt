@@ -1,5 +1,5 @@
--- How the text of a certificate is read line by line, and which line breaks which rule. A reader stands behind the lines that
--- it has taken; the next line breaks a rule where no such line may stand there.
+-- How the text of a certificate is read line by line, and which line breaks which rule. A reader stands behind the
+-- lines that it has taken; the next line breaks a rule where no such line may stand there.
 use Rattle.std.specs.Prelude.{◌≡◌, ◌≢◌, ℕ, suc, ◌+◌, ◌<◌, ◌≤◌, nat_eq, nat_le, Bool, true, false, ◌&&◌, ◌⊎◌, List, [], ◌∷◌, ◌++◌, length, codes, if◌then◌else◌, ◌==◌}
 use Rattle.rob_algebra.specs.Fraction.{Fraction}
 use Rattle.rob_algebra.specs.Width.{Fits}
@@ -41,6 +41,7 @@ pub data Kind : Type 0 where
   entries : Vector → Kind
   multipliers : Multipliers → Kind
 
+-- the kind of a line
 abbrev pub kind_of : {A : Type 0} → Line A → Kind
 kind_of (status_line s) = claims
 kind_of (value_line a) = values
@@ -121,8 +122,8 @@ may_follow s values kind = false
 may_follow s ends kind = false
 may_follow s last kind = is_used s kind && is_behind last kind
 
--- ---- where a reader stands: at the start; or behind a line of a kind, in a certificate of a status, where the next line of
--- that kind has at least that form, and at that form at least that place
+-- ---- where a reader stands: at the start; or behind a line of a kind, in a certificate of a status, where the next
+-- line of that kind has at least that form, and at that form at least that place
 pub data Stage : Type 0 where
   start : Stage
   behind : Status → (last : Kind) → (form place : ℕ) → Stage
@@ -156,6 +157,7 @@ advanced stage line = stage
 abbrev pub IsNotZeroWord : Name → Type 0
 IsNotZeroWord word = word ≢ codes "0"
 
+-- the number isn't 0
 abbrev pub IsNotZero : Fraction → Type 0
 IsNotZero q = q ≢ 0ℚ
 
@@ -207,10 +209,11 @@ module _ (names : Naming) (limit : ℕ) where
   IsNumberedAt stage words =
       (line : Line Fraction) × (words_of names (spelled line) ≡ words) × Follows IsNotZero stage line × FitsLine line
 
-  -- why the text has no further line there: no line of a kind that may stand there, an end among them; such a line, but not
-  -- with names and an order; such a line, but not with numbers
+  -- why the text has no further line there: no line of a kind that may stand there, an end among them; such a line, but
+  -- not with names and an order; such a line, but not with numbers
   abbrev pub IsCause : Stage → List ℕ → Offence → Type 0
-  IsCause stage text NoLine = (line after : List ℕ) → BeginsWithLine text line after → IsLineAt stage (words_in line) → ⊥
+  IsCause stage text NoLine = (line after : List ℕ) → BeginsWithLine text line after → IsLineAt stage (words_in line)
+      → ⊥
   IsCause stage text NoShape = (line after : List ℕ) × BeginsWithLine text line after
       × IsLineAt stage (words_in line) × (IsShapedAt stage (words_in line) → ⊥)
   IsCause stage text NoNumber = (line after : List ℕ) × BeginsWithLine text line after
@@ -220,9 +223,11 @@ module _ (names : Naming) (limit : ℕ) where
   -- the lines lead from a stage to another, each being one that may stand where it stands
   abbrev pub Leads : Stage → List (Line Fraction) → Stage → Type 0
   Leads stage [] last = stage ≡ last
-  Leads stage (line ∷ lines) last = Follows IsNotZero stage line × FitsLine line × Leads (advanced stage line) lines last
+  Leads stage (line ∷ lines) last = Follows IsNotZero stage line × FitsLine line
+      × Leads (advanced stage line) lines last
 
-  -- from a stage on, the text's lines are good up to one that has the offence, the first line of the text being `number`
+  -- from a stage on, the text's lines are good up to one that has the offence, the first line of the text being
+  -- `number`
   pub record BreaksFrom (from_stage : Stage) (text : List ℕ) (number : ℕ) (offence : Offence) (line : ℕ) : Type 0 where
     pub before : List (Line Fraction)
     pub stage : Stage

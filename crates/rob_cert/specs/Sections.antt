@@ -2,9 +2,9 @@
 use Rattle.std.specs.Prelude.{Bool, false, ◌≡◌, ◌≢◌, true, ℕ, ◌+◌, ◌<◌, ◌≤◌, List, [], ◌∷◌, ◌++◌, length, ◌⊎◌, slice_index_or, codes}
 use Rattle.rob_algebra.specs.Fraction.{Fraction}
 use Rattle.rob_algebra.specs.Width.{Fits}
-use Rattle.rob_meaning.specs.Certificates.{Status, Cover, Item}
+use Rattle.rob_meaning.specs.Certificates.{Status, Cover, Item, IsBefore}
 use Rattle.rob_meaning.specs.Names.{Name}
-use Rattle.rob_meaning.specs.Places.{0ℚ, Each}
+use Rattle.rob_meaning.specs.Places.{0ℚ, Each, InOrder}
 use Rattle.rob_cert.specs.declared.error.CertErr.{CertErr}
 use Rattle.rob_cert.specs.declared.error.CertErr.TheVariants.{Rule, Memory}
 use Rattle.rob_cert.specs.declared.error.Offence.{Offence}
@@ -15,7 +15,6 @@ use Rattle.rob_cert.specs.declared.kind.Vector.TheVariants.{At}
 use Rattle.rob_cert.specs.Lines.{Line, entry_line, cover_line, item_line, entry_lines, cover_lines, item_lines}
 use Rattle.rob_cert.specs.Reading.{BeginsWithLine, words_in, Kind, items, entries, multipliers, rank, may_follow, from, Stage, behind, IsAtLeast, IsNotZeroWord, Leads}
 use Rattle.rob_cert.specs.Causes.{HasCause, rule_of}
-use Rattle.rob_cert.specs.Shape.{InOrder, IsBefore}
 use Rattle.rob_cert.specs.Spelling.{Naming, entry_names, multipliers_word, name_at, vector_word, words_of, spelled, lines_text}
 
 -- the text does not begin with a line that has the word first
@@ -28,7 +27,8 @@ abbrev pub HasFirst : Name → List ℕ → Type 0
 HasFirst word line = (more : List Name) × (words_in line ≡ word ∷ more)
 
 -- the text is the lines and the rest, which begins on that line
-pub record IsSection (names : Naming) (text : List ℕ) (number : ℕ) (lines : List (Line Fraction)) (rest : List ℕ) (line : ℕ) : Type 0 where
+pub record IsSection (names : Naming) (text : List ℕ) (number : ℕ) (lines : List (Line Fraction)) (rest : List ℕ)
+    (line : ℕ) : Type 0 where
   pub split : text ≡ lines_text names lines ++ rest
   pub counted : line ≡ number + length lines
 
@@ -79,19 +79,22 @@ module _ (names : Naming) (limit : ℕ) where
   -- why the words of a line of that kind are no entry
   abbrev pub HasEntryFault : Vector → ℕ → List Name → Offence → Type 0
   HasEntryFault v least words NoLine = length words ≢ 3
-  HasEntryFault v least words NoShape = (length words ≡ 3) × ((k : ℕ) (word : Name) → IsEntryShape v least words k word → ⊥)
+  HasEntryFault v least words NoShape = (length words ≡ 3)
+      × ((k : ℕ) (word : Name) → IsEntryShape v least words k word → ⊥)
   HasEntryFault v least words NoNumber = (k : ℕ) × (word : Name) × IsEntryShape v least words k word
       × ((q : Fraction) → Fits limit q → (j : ℕ) → words ≡ words_of names (spelled (entry_line v j q)) → ⊥)
 
   -- the entries lead on from each stage at which they may begin
   abbrev pub LeadOn : Kind → ℕ → List (Line Fraction) → Type 0
   LeadOn kind least lines = (s : Status) (form : ℕ) (stage : Stage) → StandsAt s kind form 0 stage
-      → (new : Stage) × Leads names limit stage lines new × StandsAt s kind form least new × IsThereOrIn s kind stage lines new
+      → (new : Stage) × Leads names limit stage lines new × StandsAt s kind form least new
+      × IsThereOrIn s kind stage lines new
 
 -- ---- covers
 module _ (names : Naming) (limit : ℕ) where
   -- the words are a cover of that form and set row, which is at least that form and place
-  pub record IsCoverLine (which : Multipliers) (form place : ℕ) (words : List Name) (i r : ℕ) (q : Fraction) : Type 0 where
+  pub record IsCoverLine (which : Multipliers) (form place : ℕ) (words : List Name) (i r : ℕ)
+      (q : Fraction) : Type 0 where
     pub is : words ≡ words_of names (spelled (cover_line which i r q))
     pub ordered : IsAtLeast form place i r
     pub form_named : i < length names.forms
@@ -99,7 +102,8 @@ module _ (names : Naming) (limit : ℕ) where
     pub not_zero : q ≢ 0ℚ
 
   -- the same with any word for the number
-  pub record IsCoverShape (which : Multipliers) (form place : ℕ) (words : List Name) (i r : ℕ) (word : Name) : Type 0 where
+  pub record IsCoverShape (which : Multipliers) (form place : ℕ) (words : List Name) (i r : ℕ)
+      (word : Name) : Type 0 where
     pub is : words ≡ words_of names (cover_line which i r word)
     pub ordered : IsAtLeast form place i r
     pub form_named : i < length names.forms
@@ -136,7 +140,8 @@ pub record IsPair (names : Naming) (form place : ℕ) (form_name row_name : Name
   pub row_is : name_at names.set_rows r ≡ row_name
 
 -- what is read of a text: the lines of good covers in order, and behind them no further line of that kind
-pub record AreCovers (names : Naming) (limit : ℕ) (which : Multipliers) (text : List ℕ) (number : ℕ) (cs : List Cover) (rest : List ℕ) (line : ℕ) : Type 0 where
+pub record AreCovers (names : Naming) (limit : ℕ) (which : Multipliers) (text : List ℕ) (number : ℕ) (cs : List Cover)
+    (rest : List ℕ) (line : ℕ) : Type 0 where
   pub section : IsSection names text number (cover_lines which cs) rest line
   pub each : Each (IsGoodCover names) cs
   pub ordered : InOrder IsBefore cs
@@ -146,7 +151,8 @@ pub record AreCovers (names : Naming) (limit : ℕ) (which : Multipliers) (text 
   pub stopped : HasNoLineOf (multipliers_word which) rest
 
 -- what is read of a text: the lines of a vector of `count` numbers, and behind them no further line of that kind
-pub record AreEntries (names : Naming) (limit : ℕ) (v : Vector) (count : ℕ) (text : List ℕ) (number : ℕ) (qs : List Fraction) (rest : List ℕ) (line : ℕ) : Type 0 where
+pub record AreEntries (names : Naming) (limit : ℕ) (v : Vector) (count : ℕ) (text : List ℕ) (number : ℕ)
+    (qs : List Fraction) (rest : List ℕ) (line : ℕ) : Type 0 where
   pub size : length qs ≡ count
   pub section : IsSection names text number (entry_lines v 0 qs) rest line
   pub least : ℕ
@@ -166,7 +172,8 @@ pub record StandsItem (s : Status) (form : ℕ) (stage : Stage) : Type 0 where
 -- the last line was of an item, or no line was read
 abbrev pub IsThereOrInItem : {A : Type 0} → Status → Stage → List A → Stage → Type 0
 IsThereOrInItem s stage lines new =
-    ((lines ≡ []) × (new ≡ stage)) ⊎ ((kind : Kind) × (form : ℕ) × (place : ℕ) × (new ≡ behind s kind form place) × (rank kind ≡ 8))
+    ((lines ≡ []) × (new ≡ stage)) ⊎ ((kind : Kind) × (form : ℕ) × (place : ℕ) × (new ≡ behind s kind form place)
+    × (rank kind ≡ 8))
 
 module _ (names : Naming) (limit : ℕ) where
   -- the words are an item's line, of a form that is at least that one
@@ -186,10 +193,12 @@ module _ (names : Naming) (limit : ℕ) where
   HasItemFault form words NoLine = length words ≢ 4
   HasItemFault form words NoShape = (length words ≡ 4) × ((i : ℕ) (w b : Name) → IsItemShape form words i w b → ⊥)
   HasItemFault form words NoNumber = (i : ℕ) × (w : Name) × (b : Name) × IsItemShape form words i w b
-      × ((x y : Fraction) → Fits limit x → Fits limit y → (j : ℕ) → words ≡ words_of names (spelled (item_line j x y)) → ⊥)
+      × ((x y : Fraction) → Fits limit x → Fits limit y → (j : ℕ) → words ≡ words_of names (spelled (item_line j x y))
+      → ⊥)
 
   -- an item was read: its line, and behind it the entries of its vector
-  pub record IsItemRead (form : ℕ) (words : List Name) (text : List ℕ) (number : ℕ) (item : Item) (rest : List ℕ) (line : ℕ) : Type 0 where
+  pub record IsItemRead (form : ℕ) (words : List Name) (text : List ℕ) (number : ℕ) (item : Item) (rest : List ℕ)
+      (line : ℕ) : Type 0 where
     pub head : IsItemLine form words item.form item.weight item.base
     pub weight_fits : Fits limit item.weight
     pub base_fits : Fits limit item.base
@@ -200,7 +209,8 @@ module _ (names : Naming) (limit : ℕ) where
   HasItemReadFault form words text number here (Rule rule line) =
       ((o : Offence) × (rule ≡ rule_of o) × (line ≡ here) × HasItemFault form words o)
       ⊎ ((i : ℕ) × (w : Fraction) × (b : Fraction) × IsItemLine form words i w b × Fits limit w × Fits limit b
-      × ((s : Status) (f : ℕ) (stage : Stage) → StandsAt s (entries At) f 0 stage → HasCause names limit stage text number (Rule rule line)))
+      × ((s : Status) (f : ℕ) (stage : Stage) → StandsAt s (entries At) f 0 stage
+      → HasCause names limit stage text number (Rule rule line)))
   HasItemReadFault form words text number here Memory = Unit {0}
 
   -- the items lead on from each stage at which they may begin
@@ -214,7 +224,8 @@ pub record IsGoodItem (names : Naming) (i : Item) : Type 0 where
   pub numbers : length i.vector ≡ length names.parameters
 
 -- what is read of a text: the lines of good items in order, and behind them no further line of an item
-pub record AreItems (names : Naming) (limit : ℕ) (text : List ℕ) (number : ℕ) (list : List Item) (rest : List ℕ) (line : ℕ) : Type 0 where
+pub record AreItems (names : Naming) (limit : ℕ) (text : List ℕ) (number : ℕ) (list : List Item) (rest : List ℕ)
+    (line : ℕ) : Type 0 where
   pub section : IsSection names text number (item_lines list) rest line
   pub each : Each (IsGoodItem names) list
   pub ordered : InOrder (λ (a b : Item). a.form ≤ b.form) list

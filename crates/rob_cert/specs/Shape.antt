@@ -1,26 +1,17 @@
--- When a certificate has its shape: its lists are as long as the model says, what it names exists and stands in order, and
--- the parts that its status does not use say nothing.
-use Rattle.std.specs.Prelude.{◌≡◌, ◌≢◌, ◌^◌, ◌<◌, ◌≤◌, ◌⊎◌, List, [], ◌∷◌, length}
-use Rattle.rob_meaning.specs.Certificates.{Status, optimal, infeasible, unbounded, Cover, Item, Certificate}
+-- When a certificate has its shape: its lists are as long as the model says, what it names exists and stands in order,
+-- and the parts that its status does not use say nothing.
+use Rattle.std.specs.Prelude.{◌≡◌, ◌≢◌, ◌^◌, ◌<◌, ◌≤◌, List, [], length}
+use Rattle.rob_meaning.specs.Certificates.{Status, optimal, infeasible, unbounded, Cover, Item, Certificate, IsBefore}
 use Rattle.rob_meaning.specs.Forms.{forms}
-use Rattle.rob_meaning.specs.Places.{0ℚ, 1ℚ, Each}
+use Rattle.rob_meaning.specs.Places.{0ℚ, 1ℚ, Each, InOrder}
 use Rattle.rob_meaning.specs.RobustModel.{RobustModel, column_count}
 use Rattle.rob_meaning.specs.SetRows.{set_rows}
-
--- each item stands in the relation to all behind it
-abbrev pub InOrder : {A : Type 0} → (A → A → Type 0) → List A → Type 0
-InOrder R [] = Unit {0}
-InOrder R (x ∷ xs) = Each (R x) xs × InOrder R xs
 
 -- the cover names a form and a set row of the model, and its amount isn't 0
 pub record IsCoverOf (m : RobustModel) (c : Cover) : Type 0 where
   pub form : c.form < length (forms m)
   pub set_row : c.set_row < length (set_rows m)
   pub amount : c.amount ≢ 0ℚ
-
--- a cover stands before another: by form, then set row; so no form and set row have two
-abbrev pub IsBefore : Cover → Cover → Type 0
-IsBefore a b = (a.form < b.form) ⊎ ((a.form ≡ b.form) × (a.set_row < b.set_row))
 
 -- the covers are the model's, in order
 pub record AreCoversOf (m : RobustModel) (covers : List Cover) : Type 0 where

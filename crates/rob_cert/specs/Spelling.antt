@@ -17,17 +17,20 @@ use Rattle.rob_cert.specs.Lines.{Line, status_line, value_line, scale_line, entr
 abbrev pub number_text : Fraction → Name
 number_text q = if q.den == 1 then signed_decimal q.num else (signed_decimal q.num ++ (codes "/" ++ decimal q.den))
 
+-- the word of a status
 abbrev pub status_word : Status → Name
 status_word optimal = codes "optimal"
 status_word infeasible = codes "infeasible"
 status_word unbounded = codes "unbounded"
 
+-- the first word of a line of a vector
 abbrev pub vector_word : Vector → Name
 vector_word Inside = codes "inside"
 vector_word Plan = codes "plan"
 vector_word Move = codes "move"
 vector_word At = codes "at"
 
+-- the first word of a line of multipliers
 abbrev pub multipliers_word : Multipliers → Name
 multipliers_word Covers = codes "cover"
 multipliers_word Holds = codes "hold"
@@ -95,6 +98,7 @@ spaced (word ∷ words) = word ++ behind_spaces words
 abbrev pub line_text : Naming → Line Fraction → List ℕ
 line_text names line = spaced (words_of names (spelled line))
 
+-- the bytes of lines, one behind another
 abbrev pub lines_text : Naming → List (Line Fraction) → List ℕ
 lines_text names [] = []
 lines_text names (line ∷ lines) = line_text names line ++ lines_text names lines

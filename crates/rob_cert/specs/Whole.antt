@@ -24,7 +24,8 @@ vector_lines inside plan moved = entry_lines Inside 0 inside ++ (entry_lines Pla
 
 -- the lines of the lists, and the end
 abbrev pub list_lines : (covers holds : List Cover) → List Item → List (Line Fraction)
-list_lines covers holds list = cover_lines Covers covers ++ (cover_lines Holds holds ++ (item_lines list ++ end_line ∷ []))
+list_lines covers holds list = cover_lines Covers covers
+    ++ (cover_lines Holds holds ++ (item_lines list ++ end_line ∷ []))
 
 -- a vector has as many numbers as it has names, or none where the status does not use it
 abbrev pub HasSize : Naming → Status → Vector → List Fraction → Type 0

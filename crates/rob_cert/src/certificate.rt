@@ -14,8 +14,8 @@ pub enum Status {
     Unbounded,
 }
 
-/// A multiplier of a set row, which helps to cover a form: an entry of a dual solution. (Ben-Tal, El Ghaoui, Nemirovski,
-/// Robust Optimization, chapter 1.)
+/// A multiplier of a set row, which helps to cover a form: an entry of a dual solution. (Ben-Tal, El Ghaoui,
+/// Nemirovski, Robust Optimization, chapter 1.)
 #[derive(Clone, Copy, Debug)]
 pub struct Cover<N> {
     /// The form's number, from 0.

@@ -1,7 +1,7 @@
 //! Lines and words of a text.
 
 ghost use Rattle.std.specs.Prelude.{◌≡◌, ◌≢◌, ◌∷◌, ◌++◌, [], List, ℕ, length, MatchOption, slice_index, take, ◌<◌};
-ghost use Rattle.rob_cert.specs.Reading.{BeginsWithLine, Lacks, words_in};
+ghost use Rattle.rob_cert.specs.Reading.{Lacks, words_in};
 
 /// A text cut at a byte.
 #[derive(Clone, Copy, Debug)]

@@ -1,8 +1,11 @@
 //! How a search for the worst scenario of a form ends, and why a route ends without a certificate.
 
+ghost use Rattle.std.specs.Prelude.{◌≡◌};
+ghost use Rattle.rob_cert.specs.declared.ending.Stop.TheVariants as Stopped;
+
 use crate::trace::Trace;
 use rob_model::{Scenario, Spot};
-use rob_number::List;
+use rob_number::{List, Memory};
 
 /// The worst scenario of a form at a plan, or a ray along which it has none. (The pessimisation problem of robust
 /// optimisation.)
@@ -10,7 +13,8 @@ use rob_number::List;
 pub enum Worst<N> {
     /// The greatest value is attained.
     At {
-        /// The least common denominator of the plan and its bound: `peak` and `constant` are `scale` times the form's parts.
+        /// The least common denominator of the plan and its bound: `peak` and `constant` are `scale` times the form's
+        /// parts.
         scale: N,
         /// The greatest value of the parameter part over the set.
         peak: N,
@@ -43,4 +47,12 @@ pub enum Stop {
     Wide(Spot, Trace),
     /// Memory was refused.
     Memory,
+}
+
+impl From<Memory> for Stop {
+    ghost from_gives = { λ _ stop. stop ≡ Stopped.Memory };
+
+    fn from(_memory: Memory) -> Stop {
+        Stop::Memory
+    }
 }

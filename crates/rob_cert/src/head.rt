@@ -154,7 +154,8 @@ fn read_bounds<'a, N: Exact, L: Ledger>(
     requires small { at.line + length at.rest.now < 2 ^ 32 }
     ensures read { (names : Naming) → IfOk result (λ r. IsSection names at.entry.rest.now at.entry.line
         (bound_lines (status_of status) (N.value r.value) (N.value r.scale)) r.at.rest.now r.at.line) }
-    ensures unused { IfOk result (λ r. status_of status ≡ infeasible → (N.value r.value ≡ 0ℚ) × (N.value r.scale ≡ 1ℚ)) }
+    ensures unused { IfOk result (λ r. status_of status ≡ infeasible
+        → (N.value r.value ≡ 0ℚ) × (N.value r.scale ≡ 1ℚ)) }
     ensures small { IfOk result (λ r. r.at.line + length r.at.rest.now ≤ at.entry.line + length at.entry.rest.now) }
     ensures fault { IfErr result (λ e. (names : Naming)
         → HasCause names N.limit (behind (status_of status) claims 0 0) at.entry.rest.now at.entry.line e) }
@@ -181,7 +182,8 @@ pub fn read_front<'a, N: Exact, L: Ledger>(
     ensures read { (names : Naming) → IfOk result (λ r. SoFar names N.limit (status_of r.status) text.now
         (status_line (status_of r.status) ∷ bound_lines (status_of r.status) (N.value r.value) (N.value r.scale))
         r.at.rest.now r.at.line 3) }
-    ensures unused { IfOk result (λ r. status_of r.status ≡ infeasible → (N.value r.value ≡ 0ℚ) × (N.value r.scale ≡ 1ℚ)) }
+    ensures unused { IfOk result (λ r. status_of r.status ≡ infeasible
+        → (N.value r.value ≡ 0ℚ) × (N.value r.scale ≡ 1ℚ)) }
     ensures small { IfOk result (λ r. r.at.line + length r.at.rest.now ≤ 2 + length text.now) }
     ensures fault { IfErr result (λ e. (names : Naming) → HasCause names N.limit start text.now 1 e) }
     ensures ops { L.ops ledger.old ≤ L.ops ledger.new }

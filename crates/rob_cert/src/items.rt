@@ -52,7 +52,8 @@ fn read_head<N: Exact, L: Ledger>(
     requires first { HasFirst (codes "item") line.now }
     requires few { length names.now.forms < 2 ^ 32 }
     ensures head { MatchResult result
-        (λ h. IsItemLine (naming names.now) N.limit least (words_in line.now) h.form (N.value h.weight) (N.value h.base))
+        (λ h. IsItemLine (naming names.now) N.limit least (words_in line.now) h.form (N.value h.weight)
+        (N.value h.base))
         (λ o. HasItemFault (naming names.now) N.limit least (words_in line.now) o) }
     ensures ops { L.ops ledger.old ≤ L.ops ledger.new }
     ensures wides { L.wides ledger.old ≤ L.wides ledger.new }
@@ -88,10 +89,12 @@ fn read_item<'a, N: Exact, L: Ledger>(
     requires first { HasFirst (codes "item") split.front.now }
     requires few { length names.now.forms < 2 ^ 32 }
     requires small { line + 1 + length split.back.now < 2 ^ 32 }
-    ensures read { IfOk result (λ r. IsItemRead (naming names.now) N.limit least (words_in split.entry.front.now) split.entry.back.now
+    ensures read { IfOk result (λ r. IsItemRead (naming names.now) N.limit least
+        (words_in split.entry.front.now) split.entry.back.now
         (line + 1) (item_of N.value r.item) r.at.rest.now r.at.line) }
     ensures small { IfOk result (λ r. r.at.line + length r.at.rest.now ≤ line + 1 + length split.entry.back.now) }
-    ensures fault { IfErr result (λ e. HasItemReadFault (naming names.now) N.limit least (words_in split.entry.front.now)
+    ensures fault { IfErr result (λ e. HasItemReadFault (naming names.now) N.limit least
+        (words_in split.entry.front.now)
         split.entry.back.now (line + 1) line e) }
     ensures ops { L.ops ledger.old ≤ L.ops ledger.new }
     ensures wides { L.wides ledger.old ≤ L.wides ledger.new }

@@ -12,15 +12,17 @@ ghost use Rattle.rob_cert.specs.Spelling.{naming_of};
 ghost use Rattle.rob_cert.specs.Whole.{IsTextOf};
 ghost use Rattle.rob_cert.specs.declared.error.CertErr.TheVariants.{Rule};
 
-/// Laws of spelling: a text is that of exactly one certificate whose numbers fit, or breaks exactly one rule at one line.
+/// Laws of spelling: a text is that of exactly one certificate whose numbers fit, or breaks exactly one rule at one
+/// line.
 pub fn spelling_laws()
-    // Each text is that of a certificate whose numbers fit, or breaks a rule. A certificate has fewer than 2^32 items, so the
-    // text of that many would do neither.
+    // Each text is that of a certificate whose numbers fit, or breaks a rule. A certificate has fewer than 2^32 items,
+    // so the text of that many would do neither.
     ensures some { (m : RobustModel) (limit : ℕ) (text : List ℕ) → length text < 2 ^ 32
         → ((c : Certificate) × IsTextOf m c text × FitsLines limit m c)
         ⊎ ((rule : ℕ) × (line : ℕ) × HasCause (naming_of m) limit start text 1 (Rule rule line)) }
     // A certificate has one spelling.
-    ensures spelled_once { (m : RobustModel) (c : Certificate) (s t : List ℕ) → IsTextOf m c s → IsTextOf m c t → s ≡ t }
+    ensures spelled_once { (m : RobustModel) (c : Certificate) (s t : List ℕ) → IsTextOf m c s → IsTextOf m c t
+        → s ≡ t }
     // Where no name has a space or a line's end, the text of a certificate whose numbers fit breaks no rule.
     ensures breaks_none { (m : RobustModel) (limit : ℕ) (c : Certificate) (text : List ℕ) → IsModel m → IsNamed m
         → IsNamedInWords m → limit ≤ 2 ^ 62 - 1 → IsTextOf m c text → FitsLines limit m c

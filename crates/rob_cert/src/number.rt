@@ -110,7 +110,8 @@ fn strip_whole(text: &[u8], whole: i64) -> Option<&[u8]>
 /// Whether a text is what stands behind a numerator.
 fn spells_denominator(text: &[u8], den: i64) -> bool
     requires positive { pos 0 <ℤ den }
-    ensures spells { IsTrue result ↔ (text.now ≡ (if nat_abs den == 1 then [] else (codes "/" ++ decimal (nat_abs den)))) }
+    ensures spells { IsTrue result ↔ (text.now
+        ≡ (if nat_abs den == 1 then [] else (codes "/" ++ decimal (nat_abs den)))) }
 {
     if den == 1 {
         text.is_empty()

@@ -6,9 +6,9 @@ ghost use Rattle.rob_meaning.specs.Named.{AreDistinct};
 ghost use Rattle.rob_cert.specs.Lines.{Line, cover_lines, end_line, entry_lines, item_lines};
 ghost use Rattle.rob_cert.specs.NamesView.{naming};
 ghost use Rattle.rob_cert.specs.Parts.{Extends, Fails, SoFar};
-ghost use Rattle.rob_cert.specs.Reading.{entries as entries_kind, is_used, items as items_kind, multipliers as multipliers_kind, rank, start};
+ghost use Rattle.rob_cert.specs.Reading.{entries as entries_kind, is_used, items as items_kind, multipliers as multipliers_kind, rank};
 ghost use Rattle.rob_cert.specs.Sections.{AreGoodCovers, AreGoodItems};
-ghost use Rattle.rob_cert.specs.Spelling.{Naming, entry_names, lines_text};
+ghost use Rattle.rob_cert.specs.Spelling.{entry_names, lines_text};
 ghost use Rattle.rob_cert.specs.View.{cover_of, item_of, status_of};
 
 use crate::certificate::Status;
@@ -38,7 +38,8 @@ pub fn entries_part<'a, N: Exact, L: Ledger>(
         (suc (rank (entries_kind vector))) at.entry.rest.now at.entry.line
         (entry_lines vector 0 (map N.value r.numbers.items)) r.at.rest.now r.at.line) }
     ensures size { IfOk result (λ r. length (map N.value r.numbers.items)
-        ≡ (if is_used (status_of status) (entries_kind vector) then length (entry_names (naming names.now) vector) else 0)) }
+        ≡ (if is_used (status_of status) (entries_kind vector)
+        then length (entry_names (naming names.now) vector) else 0)) }
     ensures small { IfOk result (λ r. r.at.line + length r.at.rest.now ≤ at.entry.line + length at.entry.rest.now) }
     ensures fault { IfErr result (λ e. Fails (naming names.now) N.limit (status_of status) (rank (entries_kind vector))
         at.entry.rest.now at.entry.line e) }
@@ -68,13 +69,16 @@ pub fn covers_part<'a, N: Exact, L: Ledger>(
     requires distinct { AreDistinct names.now.forms }
     requires few { (length names.now.forms < 2 ^ 32) × (length names.now.set_rows < 2 ^ 32) }
     requires small { at.line + length at.rest.now < 2 ^ 32 }
-    ensures read { IfOk result (λ r. Extends (naming names.now) N.limit (status_of status) (rank (multipliers_kind which))
+    ensures read { IfOk result (λ r. Extends (naming names.now) N.limit (status_of status)
+        (rank (multipliers_kind which))
         (suc (rank (multipliers_kind which))) at.entry.rest.now at.entry.line
         (cover_lines which (map (cover_of N.value) r.list)) r.at.rest.now r.at.line) }
-    ensures good { IfOk result (λ r. AreGoodCovers (naming names.now) (is_used (status_of status) (multipliers_kind which))
+    ensures good { IfOk result (λ r. AreGoodCovers (naming names.now)
+        (is_used (status_of status) (multipliers_kind which))
         (map (cover_of N.value) r.list)) }
     ensures small { IfOk result (λ r. r.at.line + length r.at.rest.now ≤ at.entry.line + length at.entry.rest.now) }
-    ensures fault { IfErr result (λ e. Fails (naming names.now) N.limit (status_of status) (rank (multipliers_kind which))
+    ensures fault { IfErr result (λ e. Fails (naming names.now) N.limit (status_of status)
+        (rank (multipliers_kind which))
         at.entry.rest.now at.entry.line e) }
     ensures ops { L.ops ledger.old ≤ L.ops ledger.new }
     ensures wides { L.wides ledger.old ≤ L.wides ledger.new }
@@ -99,11 +103,14 @@ pub fn items_part<'a, N: Exact, L: Ledger>(
 ) -> Result<Items<'a, N>, CertErr>
     requires few { length names.now.forms < 2 ^ 32 }
     requires small { at.line + length at.rest.now < 2 ^ 32 }
-    ensures read { IfOk result (λ r. Extends (naming names.now) N.limit (status_of status) 8 9 at.entry.rest.now at.entry.line
+    ensures read { IfOk result (λ r. Extends (naming names.now) N.limit
+        (status_of status) 8 9 at.entry.rest.now at.entry.line
         (item_lines (map (item_of N.value) r.list)) r.at.rest.now r.at.line) }
-    ensures good { IfOk result (λ r. AreGoodItems (naming names.now) (is_used (status_of status) items_kind) (map (item_of N.value) r.list)) }
+    ensures good { IfOk result (λ r. AreGoodItems (naming names.now) (is_used (status_of status) items_kind)
+        (map (item_of N.value) r.list)) }
     ensures small { IfOk result (λ r. r.at.line + length r.at.rest.now ≤ at.entry.line + length at.entry.rest.now) }
-    ensures fault { IfErr result (λ e. Fails (naming names.now) N.limit (status_of status) 8 at.entry.rest.now at.entry.line e) }
+    ensures fault { IfErr result (λ e. Fails (naming names.now) N.limit
+        (status_of status) 8 at.entry.rest.now at.entry.line e) }
     ensures ops { L.ops ledger.old ≤ L.ops ledger.new }
     ensures wides { L.wides ledger.old ≤ L.wides ledger.new }
 {

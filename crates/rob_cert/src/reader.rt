@@ -62,12 +62,15 @@ fn read_vectors<'a, N: Exact, L: Ledger>(
 ) -> Result<Vectors<'a, N>, CertErr>
     requires few { length names.now.columns < 2 ^ 32 }
     requires small { at.line + length at.rest.now < 2 ^ 32 }
-    ensures read { IfOk result (λ r. Extends (naming names.now) N.limit (status_of status) 3 6 at.entry.rest.now at.entry.line
-        (vector_lines (map N.value r.inside.items) (map N.value r.plan.items) (map N.value r.moved.items)) r.at.rest.now r.at.line) }
+    ensures read { IfOk result (λ r. Extends (naming names.now) N.limit
+        (status_of status) 3 6 at.entry.rest.now at.entry.line
+        (vector_lines (map N.value r.inside.items) (map N.value r.plan.items)
+        (map N.value r.moved.items)) r.at.rest.now r.at.line) }
     ensures sizes { IfOk result (λ r. HasSizes (naming names.now) (status_of status)
         (map N.value r.inside.items) (map N.value r.plan.items) (map N.value r.moved.items)) }
     ensures small { IfOk result (λ r. r.at.line + length r.at.rest.now ≤ at.entry.line + length at.entry.rest.now) }
-    ensures fault { IfErr result (λ e. Fails (naming names.now) N.limit (status_of status) 3 at.entry.rest.now at.entry.line e) }
+    ensures fault { IfErr result (λ e. Fails (naming names.now) N.limit
+        (status_of status) 3 at.entry.rest.now at.entry.line e) }
     ensures ops { L.ops ledger.old ≤ L.ops ledger.new }
     ensures wides { L.wides ledger.old ≤ L.wides ledger.new }
 {
@@ -99,11 +102,13 @@ fn read_lists<N: Exact, L: Ledger>(
     requires distinct { AreDistinct names.now.forms }
     requires few { (length names.now.forms < 2 ^ 32) × (length names.now.set_rows < 2 ^ 32) }
     requires small { at.line + length at.rest.now < 2 ^ 32 }
-    ensures read { IfOk result (λ r. EndsWith (naming names.now) N.limit (status_of status) at.entry.rest.now at.entry.line
+    ensures read { IfOk result (λ r. EndsWith (naming names.now) N.limit
+        (status_of status) at.entry.rest.now at.entry.line
         (map (cover_of N.value) r.covers) (map (cover_of N.value) r.holds) (map (item_of N.value) r.items)) }
     ensures good { IfOk result (λ r. AreGoodLists (naming names.now) (status_of status)
         (map (cover_of N.value) r.covers) (map (cover_of N.value) r.holds) (map (item_of N.value) r.items)) }
-    ensures fault { IfErr result (λ e. Fails (naming names.now) N.limit (status_of status) 6 at.entry.rest.now at.entry.line e) }
+    ensures fault { IfErr result (λ e. Fails (naming names.now) N.limit
+        (status_of status) 6 at.entry.rest.now at.entry.line e) }
     ensures ops { L.ops ledger.old ≤ L.ops ledger.new }
     ensures wides { L.wides ledger.old ≤ L.wides ledger.new }
 {
@@ -193,9 +198,11 @@ fn read_text<N: Exact, L: Ledger>(
     ledger: &mut L,
 ) -> Result<Cert<N>, CertErr>
     requires distinct { AreDistinct names.now.forms }
-    requires few { (length names.now.forms < 2 ^ 32) × (length names.now.set_rows < 2 ^ 32) × (length names.now.columns < 2 ^ 32) }
+    requires few { (length names.now.forms < 2 ^ 32) × (length names.now.set_rows < 2 ^ 32)
+        × (length names.now.columns < 2 ^ 32) }
     requires small { length text.now ≤ 2 ^ 30 }
-    ensures read { IfOk result (λ cert. text.now ≡ lines_text (naming names.now) (lines_of (certificate_of N.value cert))) }
+    ensures read { IfOk result (λ cert. text.now
+        ≡ lines_text (naming names.now) (lines_of (certificate_of N.value cert))) }
     ensures shape { IfOk result (λ cert. IsWellRead (naming names.now) (certificate_of N.value cert)) }
     ensures fault { IfErr result (λ e. HasCause (naming names.now) N.limit start text.now 1 e) }
     ensures ops { L.ops ledger.old ≤ L.ops ledger.new }
@@ -216,8 +223,8 @@ fn read_text<N: Exact, L: Ledger>(
     }
 }
 
-/// The certificate for the model that a text is: each text is that of one certificate at most. The text has lines of words
-/// with one space between two; the first bad line decides, and on it the lowest rule.
+/// The certificate for the model that a text is: each text is that of one certificate at most. The text has lines of
+/// words with one space between two; the first bad line decides, and on it the lowest rule.
 pub fn read_cert<N: Exact, L: Ledger>(
     alloc: Global,
     text: &[u8],
@@ -230,8 +237,10 @@ pub fn read_cert<N: Exact, L: Ledger>(
     ensures read { IfOk result (λ cert. IsTextOf (robust N.value model.now) (certificate_of N.value cert) text.now) }
     ensures fits { IfOk result (λ cert. FitsLines N.limit (robust N.value model.now) (certificate_of N.value cert)) }
     ensures fault { IfErr result (λ e. HasCause (naming_of (robust N.value model.now)) N.limit start text.now 1 e) }
-    // Where no name has a space or a line's end, each text of a certificate with numbers that fit is read as that certificate.
-    ensures exact { (c : Certificate) → IsNamedInWords (robust N.value model.now) → IsTextOf (robust N.value model.now) c text.now
+    // Where no name has a space or a line's end, each text of a certificate with numbers that fit is read as that
+    // certificate.
+    ensures exact { (c : Certificate) → IsNamedInWords (robust N.value model.now)
+        → IsTextOf (robust N.value model.now) c text.now
         → FitsLines N.limit (robust N.value model.now) c → Reads N.value c result }
     ensures ops { L.ops ledger.old ≤ L.ops ledger.new }
     ensures wides { L.wides ledger.old ≤ L.wides ledger.new }

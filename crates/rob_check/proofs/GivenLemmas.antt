@@ -45,19 +45,28 @@ module _ (m : RobustModel) (forms : Forms) (h : IsForms m forms) where
   each_columns n e =
       subst (λ k. Each (HasColumns k) forms.matrices) (sym (e ∙ h.columns))
       (subst (Each (HasColumns (column_count m))) (sym h.matrices)
-      (each_matrix (HasColumns (column_count m)) (matrices m) (λ i. rows_of (column_count m) (matrix_at (matrices m) i) (matrix_rows m i))))
+      (each_matrix (HasColumns (column_count m)) (matrices m)
+      (λ i. rows_of (column_count m) (matrix_at (matrices m) i) (matrix_rows m i))))
 
   pub few_forms : IsWithinLimits m → length forms.matrices < 2 ^ 32
   few_forms limits =
-      omega (arith, ap length h.matrices, length-map (meaning.forms m) (matrix_of m), length-form_names m, kind_few m limits Form)
+      omega (
+        arith,
+        ap length h.matrices,
+        length-map (meaning.forms m) (matrix_of m),
+        length-form_names m,
+        kind_few m limits Form,
+      )
 
   takes : (item : Item) → IsItemOf m item → TakesForm forms.matrices item
   takes item k =
-      let inside : item.form < length (matrices m) = (let e = length-map (meaning.forms m) (matrix_of m) in let f = k.form in omega (arith, e, f)) in
+      let inside : item.form < length (matrices m) =
+      (let e = length-map (meaning.forms m) (matrix_of m) in let f = k.form in omega (arith, e, f)) in
       subst (λ (all : List (List (List ℤ))). TakesForm all item) (sym h.matrices)
       (record {
         form = inside;
-        rows = sym (length-map (matrix_at (matrices m) item.form) (map of_int)) ∙ matrix_height m item.form inside ∙ ap suc (sym k.numbers);
+        rows = sym (length-map (matrix_at (matrices m) item.form) (map of_int)) ∙ matrix_height m item.form inside
+            ∙ ap suc (sym k.numbers);
       })
 
   pub each_takes : (items : List Item) → Each (IsItemOf m) items → Each (TakesForm forms.matrices) items
@@ -67,9 +76,17 @@ module _ (m : RobustModel) (forms : Forms) (h : IsForms m forms) where
 module _ (m : RobustModel) (set : SetForm) (h : IsSetForm m set) where
   pub lifted_is : lifted_of set ≡ lifted m
   lifted_is =
-      ap₂ (λ (columns : ℕ) (rs : List SetRow). let all : LiftedSet = record { columns = columns; rows = map (λ (row : SetRow). map of_int row.g) rs; limits = map (λ (row : SetRow). of_int row.h) rs } in all)
+      ap₂ (λ (columns : ℕ) (rs : List SetRow). let all : LiftedSet = record {
+        columns = columns;
+        rows = map (λ (row : SetRow). map of_int row.g) rs;
+        limits = map (λ (row : SetRow). of_int row.h) rs;
+      } in all)
       h.columns h.rows
-      ∙ ap₂ (λ (xs : List (List Fraction)) (ys : List Fraction). let all : LiftedSet = record { columns = rows.set_column_count m; rows = xs; limits = ys } in all)
+      ∙ ap₂ (λ (xs : List (List Fraction)) (ys : List Fraction). let all : LiftedSet = record {
+        columns = rows.set_column_count m;
+        rows = xs;
+        limits = ys;
+      } in all)
       (map_map (λ (row : SetRow). map of_int row.g) (cleared_row m) (rows.set_rows m))
       (map_map (λ (row : SetRow). of_int row.h) (cleared_row m) (rows.set_rows m))
 
@@ -82,25 +99,30 @@ module _ (m : RobustModel) (set : SetForm) (h : IsSetForm m set) where
   pub ordered : (covers : List Cover) → AreCoversOf m covers → AreOrdered (length set.rows) covers
   ordered covers k =
       record {
-        rows = each_map (IsCoverOf m) (λ (c : Cover). c.set_row < length set.rows) (λ c here. (let e = row_count in let r = here.set_row in omega (arith, e, r))) covers k.each;
+        rows = each_map (IsCoverOf m) (λ (c : Cover). c.set_row < length set.rows)
+            (λ c here. (let e = row_count in let r = here.set_row in omega (arith, e, r))) covers k.each;
         ordered = k.ordered;
       }
 
 -- ---- the parts that a status uses
-module _ {N : Type 0} (value : N → Fraction) (m : RobustModel) (forms : Forms) (h : IsForms m forms) (cert : Cert N) where
-  pub optimal_plan : cert.status ≡ Optimal → HasParts m (status_of cert.status) (certificate_of value cert) → length cert.plan ≡ forms.columns
+module _ {N : Type 0} (value : N → Fraction) (m : RobustModel) (forms : Forms)
+    (h : IsForms m forms) (cert : Cert N) where
+  pub optimal_plan : cert.status ≡ Optimal → HasParts m (status_of cert.status) (certificate_of value cert)
+      → length cert.plan ≡ forms.columns
   optimal_plan e parts = by (subst (λ (s : Status). HasParts m (status_of s) (certificate_of value cert)) e parts)
     where
       by : HasParts m (status_of Optimal) (certificate_of value cert) → length cert.plan ≡ forms.columns
       by k = sym (length-map cert.plan value) ∙ k.plan ∙ sym h.columns
 
-  pub unbounded_plan : cert.status ≡ Unbounded → HasParts m (status_of cert.status) (certificate_of value cert) → length cert.plan ≡ forms.columns
+  pub unbounded_plan : cert.status ≡ Unbounded → HasParts m (status_of cert.status) (certificate_of value cert)
+      → length cert.plan ≡ forms.columns
   unbounded_plan e parts = by (subst (λ (s : Status). HasParts m (status_of s) (certificate_of value cert)) e parts)
     where
       by : HasParts m (status_of Unbounded) (certificate_of value cert) → length cert.plan ≡ forms.columns
       by k = sym (length-map cert.plan value) ∙ k.plan ∙ sym h.columns
 
-  pub unbounded_step : cert.status ≡ Unbounded → HasParts m (status_of cert.status) (certificate_of value cert) → length cert.step ≡ forms.columns
+  pub unbounded_step : cert.status ≡ Unbounded → HasParts m (status_of cert.status) (certificate_of value cert)
+      → length cert.step ≡ forms.columns
   unbounded_step e parts = by (subst (λ (s : Status). HasParts m (status_of s) (certificate_of value cert)) e parts)
     where
       by : HasParts m (status_of Unbounded) (certificate_of value cert) → length cert.step ≡ forms.columns

@@ -1,5 +1,5 @@
 -- One item more.
-use Rattle.std.proofs.Common.{◌≡◌, ℕ, zero, suc, ◌+◌, ◌<◌, ◌≤◌, ℤ, List, [], ◌∷◌, ◌++◌, map, length, get_or, drop, arith, sym, ◌∙◌, ap, ap₂, add-one}
+use Rattle.std.proofs.Common.{◌≡◌, ℕ, ◌+◌, ◌<◌, ◌≤◌, ℤ, List, [], ◌∷◌, ◌++◌, map, length, get_or, drop, sym, ◌∙◌, ap, ap₂, add-one}
 use Rattle.std.specs.Prelude.{Option, Some, None}
 use Rattle.rob_algebra.specs.Fraction.{Fraction, ◌+ℚ◌, ◌*ℚ◌}
 use Rattle.rob_algebra.specs.Width.{kept}
@@ -17,61 +17,73 @@ use Rattle.rob_check.specs.declared.verdict.Verdict.{Verdict}
 use Rattle.rob_check.specs.declared.verdict.Verdict.TheVariants.{Accepted}
 use Rattle.rob_check.proofs.SumLemmas.{part_wide}
 use Rattle.rob_check.proofs.VerdictLemmas.{goes, stops}
-
--- the matrix of a form that is there
-pub matrix_is : (forms : List (List (List ℤ))) (i : ℕ) (form : List (List ℤ)) → i < length forms → form ≡ get_or forms i form → matrix_at forms i ≡ form
-matrix_is [] i form inside is = absurd (omega arith)
-matrix_is (a ∷ forms) zero form inside is = sym is
-matrix_is (a ∷ forms) (suc i) form inside is = matrix_is forms i form (omega arith) is
+use Rattle.rob_meaning.proofs.MatrixLemmas.{matrix_is}
 
 module _ {N : Type 0} (value : N → Fraction) (limit : ℕ) (forms : List (List (List ℤ))) (j : ℕ) where
   -- ---- an item in a column
-  module _ (item : Item N) (form entries : List (List ℤ)) (inside : item.form < length forms) (is : form ≡ get_or forms item.form form) (same : entries ≡ form) where
-    cut_is : (vector : List N) → vector ≡ item.vector → dot_within limit (value item.base ∷ map value vector) (column j (fractions entries))
+  module _ (item : Item N) (form entries : List (List ℤ)) (inside : item.form < length forms)
+      (is : form ≡ get_or forms item.form form) (same : entries ≡ form) where
+    cut_is : (vector : List N) → vector ≡ item.vector
+        → dot_within limit (value item.base ∷ map value vector) (column j (fractions entries))
         ≡ dot_within limit (value item.base ∷ map value item.vector) (column j (fractions (matrix_at forms item.form)))
     cut_is vector v =
-        ap₂ (λ (xs : List N) (rows : List (List ℤ)). dot_within limit (value item.base ∷ map value xs) (column j (fractions rows))) v
+        ap₂ (λ (xs : List N) (rows : List (List ℤ)).
+        dot_within limit (value item.base ∷ map value xs) (column j (fractions rows))) v
         (same ∙ sym (matrix_is forms item.form form inside is))
 
     pub item_stops : (vector : List N) → vector ≡ item.vector
-        → None ≡ dot_within limit (value item.base ∷ map value vector) (column j (fractions entries)) → None ≡ item_within limit forms j (item_of value item)
+        → None ≡ dot_within limit (value item.base ∷ map value vector) (column j (fractions entries))
+        → None ≡ item_within limit forms j (item_of value item)
     item_stops vector v none = ap (λ o. o >>= (λ x. kept limit (value item.weight *ℚ x))) (none ∙ cut_is vector v)
 
     pub item_goes : (vector : List N) → vector ≡ item.vector → (cut : Fraction) (r : Option Fraction)
         → Some cut ≡ dot_within limit (value item.base ∷ map value vector) (column j (fractions entries))
         → r ≡ kept limit (value item.weight *ℚ cut) → r ≡ item_within limit forms j (item_of value item)
-    item_goes vector v cut r some h = h ∙ ap (λ o. o >>= (λ x. kept limit (value item.weight *ℚ x))) (some ∙ cut_is vector v)
+    item_goes vector v cut r some h =
+        h ∙ ap (λ o. o >>= (λ x. kept limit (value item.weight *ℚ x))) (some ∙ cut_is vector v)
 
   -- ---- the sum in a column
   abbrev pub column_left : List (Item N) → ℕ → Fraction → Option Fraction
-  column_left items k so_far = added_within limit so_far (map (item_within limit forms j) (map (item_of value) (drop k items)))
+  column_left items k so_far =
+      added_within limit so_far (map (item_within limit forms j) (map (item_of value) (drop k items)))
 
-  module _ (items : List (Item N)) (k : ℕ) (item : Item N) (so_far : Fraction) (inside : k < length items) (is : item ≡ get_or items k item) where
+  module _ (items : List (Item N)) (k : ℕ) (item : Item N) (so_far : Fraction) (inside : k < length items)
+      (is : item ≡ get_or items k item) where
     column_split : column_left items k so_far
-        ≡ added_within limit so_far (item_within limit forms j (item_of value item) ∷ map (item_within limit forms j) (map (item_of value) (drop (k + 1) items)))
-    column_split = ap (λ (xs : List (Item N)). added_within limit so_far (map (item_within limit forms j) (map (item_of value) xs))) (drop_at items k item inside is)
+        ≡ added_within limit so_far
+        (item_within limit forms j (item_of value item)
+        ∷ map (item_within limit forms j) (map (item_of value) (drop (k + 1) items)))
+    column_split =
+        ap (λ (xs : List (Item N)).
+        added_within limit so_far (map (item_within limit forms j) (map (item_of value) xs)))
+        (drop_at items k item inside is)
 
     pub column_stops : None ≡ item_within limit forms j (item_of value item) → None ≡ column_left items k so_far
     column_stops none =
         part_wide limit so_far _ _ (ap (λ o. o >>= (λ x. kept limit (so_far +ℚ x))) none) ∙ sym column_split
 
     module _ (part : Fraction) (some : Some part ≡ item_within limit forms j (item_of value item)) where
-      part_is : (r : Option Fraction) → r ≡ kept limit (so_far +ℚ part) → r ≡ with_part limit so_far (item_within limit forms j (item_of value item))
+      part_is : (r : Option Fraction) → r ≡ kept limit (so_far +ℚ part)
+          → r ≡ with_part limit so_far (item_within limit forms j (item_of value item))
       part_is r h = h ∙ ap (λ o. o >>= (λ x. kept limit (so_far +ℚ x))) some
 
 -- ---- the verdict on items
-module _ {N : Type 0} (value : N → Fraction) (limit : ℕ) (m : RobustModel) (items : List (Item N)) (k : ℕ) (item : Item N)
+module _ {N : Type 0} (value : N → Fraction) (limit : ℕ) (m : RobustModel)
+    (items : List (Item N)) (k : ℕ) (item : Item N)
     (inside : k < length items) (is : item ≡ get_or items k item) where
   items_split : items_tests limit m k (map (item_of value) (drop k items))
-      ≡ item_tests limit m k (item_of value item) ++ items_tests limit m (k + 1) (map (item_of value) (drop (k + 1) items))
+      ≡ item_tests limit m k (item_of value item)
+      ++ items_tests limit m (k + 1) (map (item_of value) (drop (k + 1) items))
   items_split =
       ap (λ (xs : List (Item N)). items_tests limit m k (map (item_of value) xs)) (drop_at items k item inside is)
-      ∙ ap (λ i. item_tests limit m k (item_of value item) ++ items_tests limit m i (map (item_of value) (drop (k + 1) items))) (sym (add-one k))
+      ∙ ap (λ i. item_tests limit m k (item_of value item)
+      ++ items_tests limit m i (map (item_of value) (drop (k + 1) items))) (sym (add-one k))
 
   pub items_stop : (v : Verdict) → (v ≡ Accepted → ⊥) → v ≡ verdict (item_tests limit m k (item_of value item))
       → v ≡ verdict (items_tests limit m k (map (item_of value) (drop k items)))
   items_stop v flaw h = stops (item_tests limit m k (item_of value item)) _ v flaw h ∙ ap verdict (sym items_split)
 
   pub items_go : Accepted ≡ verdict (item_tests limit m k (item_of value item))
-      → verdict (items_tests limit m (k + 1) (map (item_of value) (drop (k + 1) items))) ≡ verdict (items_tests limit m k (map (item_of value) (drop k items)))
+      → verdict (items_tests limit m (k + 1) (map (item_of value) (drop (k + 1) items)))
+      ≡ verdict (items_tests limit m k (map (item_of value) (drop k items)))
   items_go h = goes (item_tests limit m k (item_of value item)) _ h ∙ ap verdict (sym items_split)

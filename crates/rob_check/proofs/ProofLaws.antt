@@ -39,7 +39,8 @@ module _ (limit : ℕ) (m : RobustModel) (model : IsModel m) (c : Certificate) (
 
   base_judged : Judges base (verdict (base_tests limit m c))
   base_judged =
-      judges_append (Admits m c.inside) (Each (IsItem m) c.items) (inside_tests limit m c.inside) (items_tests limit m zero c.items)
+      judges_append (Admits m c.inside) (Each (IsItem m) c.items) (inside_tests limit m c.inside)
+      (items_tests limit m zero c.items)
       (inside_judged limit m model c.inside shape.inside) (items_judged limit m model zero c.items shape.items.each)
 
   abbrev planned : Type 0
@@ -58,30 +59,45 @@ module _ (limit : ℕ) (m : RobustModel) (model : IsModel m) (c : Certificate) (
 
   move_judged : Judges (Improves m.sense c.step_bound × moves) (verdict (move_tests limit m c))
   move_judged =
-      judges_first (Improves m.sense c.step_bound) moves At.MoveBound (Some (improves m.sense c.step_bound)) (verdict (covering_tests limit m (step_covering c)))
-      (tells_test (Improves m.sense c.step_bound) (improves m.sense c.step_bound) (improves_decides m.sense c.step_bound))
+      judges_first (Improves m.sense c.step_bound) moves At.MoveBound (Some (improves m.sense c.step_bound))
+      (verdict (covering_tests limit m (step_covering c)))
+      (tells_test (Improves m.sense c.step_bound) (improves m.sense c.step_bound)
+      (improves_decides m.sense c.step_bound))
       (covering_judged limit m (step_covering c) shape.holds)
 
   ray_judged : Judges (planned × (Improves m.sense c.step_bound × moves)) (verdict (ray_tests limit m c))
   ray_judged =
-      judges_append planned (Improves m.sense c.step_bound × moves) (covering_tests limit m (plan_covering c)) (move_tests limit m c)
+      judges_append planned (Improves m.sense c.step_bound × moves)
+      (covering_tests limit m (plan_covering c)) (move_tests limit m c)
       (covering_judged limit m (plan_covering c) shape.covers) move_judged
 
-  as_judged : (status : Status) → HasParts m status c → Judges (ProvesAs status m c) (verdict (conditions_as limit m status c))
+  as_judged : (status : Status) → HasParts m status c
+      → Judges (ProvesAs status m c) (verdict (conditions_as limit m status c))
   as_judged optimal parts =
-      judges_as ((0ℚ <ℚ c.scale) × (base × (sums × planned))) (ProvesOptimal m c) (verdict (conditions_as limit m optimal c))
-      (λ h. record { inside = h.1.0.0; items = h.1.0.1; scale = h.0; columns = parts.plan; covered = h.1.1.1; sums = h.1.1.0 })
+      judges_as ((0ℚ <ℚ c.scale) × (base × (sums × planned))) (ProvesOptimal m c)
+      (verdict (conditions_as limit m optimal c))
+      (λ h. record {
+        inside = h.1.0.0;
+        items = h.1.0.1;
+        scale = h.0;
+        columns = parts.plan;
+        covered = h.1.1.1;
+        sums = h.1.1.0;
+      })
       (λ h. (h.scale, ((h.inside, h.items), (h.sums, h.covered))))
-      (judges_first (0ℚ <ℚ c.scale) (base × (sums × planned)) At.Scale (Some (is_positive c.scale)) (verdict (base_tests limit m c ++ optimum_tests limit m c))
+      (judges_first (0ℚ <ℚ c.scale) (base × (sums × planned)) At.Scale (Some (is_positive c.scale))
+      (verdict (base_tests limit m c ++ optimum_tests limit m c))
       (tells_test (0ℚ <ℚ c.scale) (is_positive c.scale) (positive_decides c.scale))
       (judges_append base (sums × planned) (base_tests limit m c) (optimum_tests limit m c) base_judged optimum_judged))
   as_judged infeasible parts =
       judges_as (base × SumsToPositive m c.items) (ProvesInfeasible m c) (verdict (conditions_as limit m infeasible c))
       (λ h. record { inside = h.0.0; items = h.0.1; constant = h.1.constant; positive = h.1.positive; sums = h.1.sums })
       (λ h. ((h.inside, h.items), record { constant = h.constant; positive = h.positive; sums = h.sums }))
-      (judges_append base (SumsToPositive m c.items) (base_tests limit m c) (items_sum_tests limit m None c) base_judged (infeasible_sums limit m c.items))
+      (judges_append base (SumsToPositive m c.items) (base_tests limit m c) (items_sum_tests limit m None c) base_judged
+      (infeasible_sums limit m c.items))
   as_judged unbounded parts =
-      judges_as ((0ℚ <ℚ c.scale) × (base × (planned × (Improves m.sense c.step_bound × moves)))) (ProvesUnbounded m c) (verdict (conditions_as limit m unbounded c))
+      judges_as ((0ℚ <ℚ c.scale) × (base × (planned × (Improves m.sense c.step_bound × moves)))) (ProvesUnbounded m c)
+      (verdict (conditions_as limit m unbounded c))
       (λ h. record {
         inside = h.1.0.0;
         items = h.1.0.1;
@@ -93,9 +109,11 @@ module _ (limit : ℕ) (m : RobustModel) (model : IsModel m) (c : Certificate) (
         improves = h.1.1.1.0;
       })
       (λ h. (h.scale, ((h.inside, h.items), (h.covered, (h.improves, h.held)))))
-      (judges_first (0ℚ <ℚ c.scale) (base × (planned × (Improves m.sense c.step_bound × moves))) At.Scale (Some (is_positive c.scale)) (verdict (base_tests limit m c ++ ray_tests limit m c))
+      (judges_first (0ℚ <ℚ c.scale) (base × (planned × (Improves m.sense c.step_bound × moves))) At.Scale
+      (Some (is_positive c.scale)) (verdict (base_tests limit m c ++ ray_tests limit m c))
       (tells_test (0ℚ <ℚ c.scale) (is_positive c.scale) (positive_decides c.scale))
-      (judges_append base (planned × (Improves m.sense c.step_bound × moves)) (base_tests limit m c) (ray_tests limit m c) base_judged ray_judged))
+      (judges_append base (planned × (Improves m.sense c.step_bound × moves)) (base_tests limit m c)
+      (ray_tests limit m c) base_judged ray_judged))
 
   -- accepted, it proves; rejected, it doesn't
   pub proves_judged : Judges (Proves m c) (verdict_of limit m c)
@@ -108,7 +126,9 @@ module _ (limit : ℕ) (m : RobustModel) (model : IsModel m) (c : Certificate) (
 
   -- an accepted certificate is true, and the items of an optimal one are tight
   pub accepted_true : OnAccepted (verdict_of limit m c) (HasStatus m c.status c.value)
-  accepted_true = on_accepted (Proves m c) (HasStatus m c.status c.value) (verdict_of limit m c) (certificate_true m model c) proves_judged
+  accepted_true =
+      on_accepted (Proves m c) (HasStatus m c.status c.value) (verdict_of limit m c)
+      (certificate_true m model c) proves_judged
 
   pub accepted_tight : OnAccepted (verdict_of limit m c) (c.status ≡ optimal → IsTight m c)
   accepted_tight =

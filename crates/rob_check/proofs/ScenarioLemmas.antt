@@ -21,7 +21,8 @@ use Rattle.rob_check.proofs.VerdictLemmas.{goes, stops, judged_is}
 abbrev count_of : {A : Type 0} → Option A → ℕ
 count_of o = length (option_to_list o)
 
-length-declared : {A : Type 0} (value : A → Fraction) (f : Fraction → SetCondition) (o : Option A) → length (if_declared f (option_map value o)) ≡ count_of o
+length-declared : {A : Type 0} (value : A → Fraction) (f : Fraction → SetCondition) (o : Option A)
+    → length (if_declared f (option_map value o)) ≡ count_of o
 length-declared value f None = refl
 length-declared value f (Some x) = refl
 
@@ -31,16 +32,19 @@ few_declared (Some x) = omega arith
 
 module _ (limit : ℕ) (m : RobustModel) (place : ℕ → Place) (s : Fraction) (p : List Fraction) where
   set_tests-append : (k : ℕ) (xs ys : List SetCondition)
-      → set_tests limit m place s p k (xs ++ ys) ≡ set_tests limit m place s p k xs ++ set_tests limit m place s p (k + length xs) ys
+      → set_tests limit m place s p k (xs ++ ys) ≡ set_tests limit m place s p k xs
+      ++ set_tests limit m place s p (k + length xs) ys
   set_tests-append k [] ys = ap (λ j. set_tests limit m place s p j ys) (let e : k ≡ k + 0 = omega arith in e)
   set_tests-append k (c ∷ xs) ys =
       ap (λ rest. record { place = place k; holds = holds_within limit m s p c } ∷ rest)
       (set_tests-append (suc k) xs ys
-      ∙ ap (λ j. set_tests limit m place s p (suc k) xs ++ set_tests limit m place s p j ys) (let e : suc k + length xs ≡ k + suc (length xs) = omega arith in e))
+      ∙ ap (λ j. set_tests limit m place s p (suc k) xs ++ set_tests limit m place s p j ys)
+      (let e : suc k + length xs ≡ k + suc (length xs) = omega arith in e))
 
   -- a declared bound, or none
   declared_judged : (f : Fraction → SetCondition) (o : Option Fraction) (i : ℕ)
-      → decided (place i) (declared_within limit m s p f o) Accepted ≡ verdict (set_tests limit m place s p i (if_declared f o))
+      → decided (place i) (declared_within limit m s p f o) Accepted
+      ≡ verdict (set_tests limit m place s p i (if_declared f o))
   declared_judged f None i = refl
   declared_judged f (Some b) i = refl
 
@@ -51,13 +55,16 @@ module _ (limit : ℕ) (m : RobustModel) (place : ℕ → Place) (s : Fraction) 
       lower_tests = set_tests limit m place s p i (if_declared (lower_bound k) (option_map value d.lower))
 
       upper_tests : List Condition
-      upper_tests = set_tests limit m place s p (i + count_of d.lower) (if_declared (upper_bound k) (option_map value d.upper))
+      upper_tests =
+          set_tests limit m place s p (i + count_of d.lower) (if_declared (upper_bound k) (option_map value d.upper))
 
       both_tests : bound_tests limit m place s p i k (parameter_of value d) ≡ lower_tests ++ upper_tests
       unfolding lower_tests upper_tests
       both_tests =
-          set_tests-append i (if_declared (lower_bound k) (option_map value d.lower)) (if_declared (upper_bound k) (option_map value d.upper))
-          ∙ ap (λ n. set_tests limit m place s p i (if_declared (lower_bound k) (option_map value d.lower)) ++ set_tests limit m place s p (i + n) (if_declared (upper_bound k) (option_map value d.upper)))
+          set_tests-append i (if_declared (lower_bound k) (option_map value d.lower))
+          (if_declared (upper_bound k) (option_map value d.upper))
+          ∙ ap (λ n. set_tests limit m place s p i (if_declared (lower_bound k) (option_map value d.lower))
+          ++ set_tests limit m place s p (i + n) (if_declared (upper_bound k) (option_map value d.upper)))
           (length-declared value (lower_bound k) d.lower)
 
       lower_judged : (at : Place) (test : Option Bool) (v : Verdict) → v ≡ decided at test Accepted → at ≡ place i
@@ -66,7 +73,8 @@ module _ (limit : ℕ) (m : RobustModel) (place : ℕ → Place) (s : Fraction) 
       lower_judged at test v h is same =
           h ∙ ap₂ (λ q t. decided q t Accepted) is same ∙ declared_judged (lower_bound k) (option_map value d.lower) i
 
-      pub lower_stops : (at : Place) (test : Option Bool) (v : Verdict) → (v ≡ Accepted → ⊥) → v ≡ decided at test Accepted → at ≡ place i
+      pub lower_stops : (at : Place) (test : Option Bool) (v : Verdict) → (v ≡ Accepted → ⊥)
+          → v ≡ decided at test Accepted → at ≡ place i
           → test ≡ declared_within limit m s p (lower_bound k) (option_map value d.lower)
           → v ≡ verdict (bound_tests limit m place s p i k (parameter_of value d))
       lower_stops at test v flaw h is same =
@@ -74,7 +82,8 @@ module _ (limit : ℕ) (m : RobustModel) (place : ℕ → Place) (s : Fraction) 
 
       pub upper_decides : (at : Place) (test : Option Bool) → Accepted ≡ decided at test Accepted → at ≡ place i
           → test ≡ declared_within limit m s p (lower_bound k) (option_map value d.lower)
-          → (up : Place) (upper : Option Bool) (v : Verdict) → v ≡ decided up upper Accepted → (n : ℕ) → n ≡ length (option_to_list d.lower) → up ≡ place (i + n)
+          → (up : Place) (upper : Option Bool) (v : Verdict) → v ≡ decided up upper Accepted → (n : ℕ)
+          → n ≡ length (option_to_list d.lower) → up ≡ place (i + n)
           → upper ≡ declared_within limit m s p (upper_bound k) (option_map value d.upper)
           → v ≡ verdict (bound_tests limit m place s p i k (parameter_of value d))
       unfolding upper_tests
@@ -84,16 +93,20 @@ module _ (limit : ℕ) (m : RobustModel) (place : ℕ → Place) (s : Fraction) 
           ∙ goes lower_tests upper_tests (lower_judged at test Accepted h is same) ∙ ap verdict (sym both_tests)
 
     -- ---- the bounds of all parameters, and behind them other conditions
-    module _ (ps : List (Param N)) (k i : ℕ) (d : Param N) (others : List SetCondition) (inside : k < length ps) (is : d ≡ get_or ps k d) where
+    module _ (ps : List (Param N)) (k i : ℕ) (d : Param N) (others : List SetCondition) (inside : k < length ps)
+        (is : d ≡ get_or ps k d) where
       bounds_left : List SetCondition
       bounds_left = bounds_from (k + 1) (map (parameter_of value) (drop (k + 1) ps)) ++ others
 
-      bounds_split : bounds_from k (map (parameter_of value) (drop k ps)) ++ others ≡ bounds_of k (parameter_of value d) ++ bounds_left
+      bounds_split : bounds_from k (map (parameter_of value) (drop k ps)) ++ others
+          ≡ bounds_of k (parameter_of value d) ++ bounds_left
       unfolding bounds_left
       bounds_split =
           ap (λ (xs : List (Param N)). bounds_from k (map (parameter_of value) xs) ++ others) (drop_at ps k d inside is)
-          ∙ append_assoc (bounds_of k (parameter_of value d)) (bounds_from (suc k) (map (parameter_of value) (drop (k + 1) ps))) others
-          ∙ ap (λ j. bounds_of k (parameter_of value d) ++ (bounds_from j (map (parameter_of value) (drop (k + 1) ps)) ++ others)) (sym (add-one k))
+          ∙ append_assoc (bounds_of k (parameter_of value d))
+          (bounds_from (suc k) (map (parameter_of value) (drop (k + 1) ps))) others
+          ∙ ap (λ j. bounds_of k (parameter_of value d)
+          ++ (bounds_from j (map (parameter_of value) (drop (k + 1) ps)) ++ others)) (sym (add-one k))
 
       whole : List Condition
       whole = set_tests limit m place s p i (bounds_from k (map (parameter_of value) (drop k ps)) ++ others)
@@ -105,25 +118,31 @@ module _ (limit : ℕ) (m : RobustModel) (place : ℕ → Place) (s : Fraction) 
           ap (set_tests limit m place s p i) bounds_split
           ∙ set_tests-append i (bounds_of k (parameter_of value d)) bounds_left
 
-      pub parameter_stops : (v : Verdict) → (v ≡ Accepted → ⊥) → v ≡ verdict (bound_tests limit m place s p i k (parameter_of value d))
+      pub parameter_stops : (v : Verdict) → (v ≡ Accepted → ⊥)
+          → v ≡ verdict (bound_tests limit m place s p i k (parameter_of value d))
           → v ≡ verdict (set_tests limit m place s p i (bounds_from k (map (parameter_of value) (drop k ps)) ++ others))
       parameter_stops v flaw h =
-          stops (bound_tests limit m place s p i k (parameter_of value d)) (set_tests limit m place s p (i + length (bounds_of k (parameter_of value d))) bounds_left) v flaw h
+          stops (bound_tests limit m place s p i k (parameter_of value d))
+          (set_tests limit m place s p (i + length (bounds_of k (parameter_of value d))) bounds_left) v flaw h
           ∙ ap verdict (sym whole_is)
 
-      length-bounds : length (bounds_of k (parameter_of value d)) ≡ length (option_to_list d.lower) + length (option_to_list d.upper)
+      length-bounds : length (bounds_of k (parameter_of value d))
+          ≡ length (option_to_list d.lower) + length (option_to_list d.upper)
       length-bounds =
-          length-append (if_declared (lower_bound k) (option_map value d.lower)) (if_declared (upper_bound k) (option_map value d.upper))
+          length-append (if_declared (lower_bound k) (option_map value d.lower))
+          (if_declared (upper_bound k) (option_map value d.upper))
           ∙ ap₂ ◌+◌ (length-declared value (lower_bound k) d.lower) (length-declared value (upper_bound k) d.upper)
 
       pub parameter_goes : Accepted ≡ verdict (bound_tests limit m place s p i k (parameter_of value d))
           → (a b : ℕ) → a ≡ length (option_to_list d.lower) → b ≡ length (option_to_list d.upper)
-          → verdict (set_tests limit m place s p (i + (a + b)) (bounds_from (k + 1) (map (parameter_of value) (drop (k + 1) ps)) ++ others))
+          → verdict (set_tests limit m place s p (i + (a + b))
+          (bounds_from (k + 1) (map (parameter_of value) (drop (k + 1) ps)) ++ others))
           ≡ verdict (set_tests limit m place s p i (bounds_from k (map (parameter_of value) (drop k ps)) ++ others))
       unfolding bounds_left
       parameter_goes h a b lower upper =
           ap (λ n. verdict (set_tests limit m place s p (i + n) bounds_left)) (ap₂ ◌+◌ lower upper ∙ sym length-bounds)
-          ∙ goes (bound_tests limit m place s p i k (parameter_of value d)) (set_tests limit m place s p (i + length (bounds_of k (parameter_of value d))) bounds_left) h
+          ∙ goes (bound_tests limit m place s p i k (parameter_of value d))
+          (set_tests limit m place s p (i + length (bounds_of k (parameter_of value d))) bounds_left) h
           ∙ ap verdict (sym whole_is)
 
     -- ---- statements
@@ -135,20 +154,29 @@ module _ (limit : ℕ) (m : RobustModel) (place : ℕ → Place) (s : Fraction) 
           ≡ here ∷ set_tests limit m place s p (i + 1) (all_stated (map (set_line_of value) (drop (k + 1) ls)))
       unfolding here
       statement_split =
-          ap (λ (xs : List (SetLine N)). set_tests limit m place s p i (all_stated (map (set_line_of value) xs))) (drop_at ls k l inside is)
-          ∙ ap (λ j. here ∷ set_tests limit m place s p j (all_stated (map (set_line_of value) (drop (k + 1) ls)))) (sym (add-one i))
+          ap (λ (xs : List (SetLine N)). set_tests limit m place s p i (all_stated (map (set_line_of value) xs)))
+          (drop_at ls k l inside is)
+          ∙ ap (λ j. here ∷ set_tests limit m place s p j (all_stated (map (set_line_of value) (drop (k + 1) ls))))
+          (sym (add-one i))
 
-      module _ (at : Place) (test : Option Bool) (v : Verdict) (judged : v ≡ decided at test Accepted) (at_is : at ≡ place i)
+      module _ (at : Place) (test : Option Bool) (v : Verdict)
+          (judged : v ≡ decided at test Accepted) (at_is : at ≡ place i)
           (same : test ≡ holds_within limit m s p (stated (set_line_of value l))) where
-        pub statement_stops : (v ≡ Accepted → ⊥) → v ≡ verdict (set_tests limit m place s p i (all_stated (map (set_line_of value) (drop k ls))))
+        pub statement_stops : (v ≡ Accepted → ⊥)
+            → v ≡ verdict (set_tests limit m place s p i (all_stated (map (set_line_of value) (drop k ls))))
         unfolding here
         statement_stops flaw =
-            stops (here ∷ []) (set_tests limit m place s p (i + 1) (all_stated (map (set_line_of value) (drop (k + 1) ls)))) v flaw (judged_is at (place i) test _ v judged at_is same)
+            stops (here ∷ [])
+            (set_tests limit m place s p (i + 1) (all_stated (map (set_line_of value) (drop (k + 1) ls)))) v flaw
+            (judged_is at (place i) test _ v judged at_is same)
             ∙ ap verdict (sym statement_split)
 
-        pub statement_goes : Accepted ≡ v → verdict (set_tests limit m place s p (i + 1) (all_stated (map (set_line_of value) (drop (k + 1) ls))))
+        pub statement_goes : Accepted ≡ v
+            → verdict (set_tests limit m place s p (i + 1) (all_stated (map (set_line_of value) (drop (k + 1) ls))))
             ≡ verdict (set_tests limit m place s p i (all_stated (map (set_line_of value) (drop k ls))))
         unfolding here
         statement_goes accepted =
-            goes (here ∷ []) (set_tests limit m place s p (i + 1) (all_stated (map (set_line_of value) (drop (k + 1) ls)))) (accepted ∙ judged_is at (place i) test _ v judged at_is same)
+            goes (here ∷ [])
+            (set_tests limit m place s p (i + 1) (all_stated (map (set_line_of value) (drop (k + 1) ls))))
+            (accepted ∙ judged_is at (place i) test _ v judged at_is same)
             ∙ ap verdict (sym statement_split)

@@ -1,7 +1,7 @@
 -- One part of a sum more.
 use Rattle.std.proofs.Common.{◌≡◌, ℕ, zero, suc, ◌+◌, ◌-◌, ◌<◌, ◌≤◌, ℤ, pos, nat_abs, List, [], ◌∷◌, length, map, get_or, drop, arith, refl, sym, ◌∙◌, ap, subst, ◌^◌, to_z, of_z, w64, SFits, to_z-of_z}
 use Rattle.std.specs.Prelude.{Option, Some, None}
-use Rattle.rob_number.proofs.CastLemmas.{seen}
+use Rattle.rob_number.proofs.CastLemmas.{seen_within}
 use Rattle.rob_algebra.proofs.WidthLaws.{kept-fits, kept-of_int}
 use Rattle.rob_algebra.specs.Fraction.{Fraction, of_int, ◌+ℚ◌, ◌*ℚ◌}
 use Rattle.rob_algebra.specs.FractionLaws as Q
@@ -21,15 +21,18 @@ module _ (limit : ℕ) (so_far number : Fraction) where
       ∙ ap (kept limit) (Q.ring (so_far ∷ []) v0 (v0 :+ lit (pos 0)) refl)
       ∙ ap (λ o. with_part limit so_far o)
       (sym (kept-of_int limit (pos 0) one (omega arith))
-      ∙ ap (kept limit) (Q.ring (number ∷ []) (lit (pos 0)) (v0 :* lit (pos 0)) refl ∙ ap (λ z. number *ℚ of_int z) (sym none)))
+      ∙ ap (kept limit) (Q.ring (number ∷ []) (lit (pos 0)) (v0 :* lit (pos 0)) refl
+      ∙ ap (λ z. number *ℚ of_int z) (sym none)))
 
   module _ (whole : Fraction) (entry : ℤ) (is : whole ≡ of_int entry) where
-    pub product_wide : None ≡ kept limit (number *ℚ whole) → None ≡ with_part limit so_far (kept limit (number *ℚ of_int entry))
+    pub product_wide : None ≡ kept limit (number *ℚ whole)
+        → None ≡ with_part limit so_far (kept limit (number *ℚ of_int entry))
     product_wide none = ap (λ o. with_part limit so_far o) (none ∙ ap (λ w. kept limit (number *ℚ w)) is)
 
     pub product_added : (product : Fraction) (r : Option Fraction) → Some product ≡ kept limit (number *ℚ whole)
         → r ≡ kept limit (so_far +ℚ product) → r ≡ with_part limit so_far (kept limit (number *ℚ of_int entry))
-    product_added product r some h = h ∙ ap (λ o. with_part limit so_far o) (some ∙ ap (λ w. kept limit (number *ℚ w)) is)
+    product_added product r some h =
+        h ∙ ap (λ o. with_part limit so_far o) (some ∙ ap (λ w. kept limit (number *ℚ w)) is)
 
 -- ---- the parts of a sum
 module _ (limit : ℕ) (so_far : Fraction) (part : Option Fraction) (parts : List (Option Fraction)) where
@@ -41,10 +44,6 @@ module _ (limit : ℕ) (so_far : Fraction) (part : Option Fraction) (parts : Lis
   part_added next some = ap (λ o. o >>= (λ next. added_within limit next parts)) some
 
 -- ---- entries
--- a whole number within the limit is read as it is
-pub seen_within : (limit : ℕ) (entry : ℤ) → limit ≤ 2 ^ 62 - 1 → nat_abs entry ≤ limit → to_z w64 (of_z w64 entry) ≡ entry
-seen_within limit entry high fits = seen entry (omega arith)
-
 pub zero_bits : (entry : ℤ) → SFits w64 entry → of_z w64 entry ≡ 0 → entry ≡ pos 0
 zero_bits entry fits h = sym (to_z-of_z fits) ∙ ap (to_z w64) h
 
@@ -87,4 +86,5 @@ module _ {N : Type 0} (value : N → Fraction) (limit column : ℕ) where
   -- the numbers from a place on, with the rows from a place on, added to the sum so far
   abbrev pub cut_left : List N → ℕ → List (List ℤ) → ℕ → Fraction → Option Fraction
   cut_left vector k form i so_far =
-      added_within limit so_far (products limit (map value (drop k vector)) (column_of column (fractions (drop i form))))
+      added_within limit so_far
+      (products limit (map value (drop k vector)) (column_of column (fractions (drop i form))))

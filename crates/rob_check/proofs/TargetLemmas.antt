@@ -27,16 +27,19 @@ at_inner : (a b : Fraction) (n j : ℕ) → j ≢ 0 → j ≢ n + 1 → at (plan
 at_inner a b n zero h k = absurd (h refl)
 at_inner a b n (suc i) h k = at_other b n i (λ e. k (ap suc e ∙ sym (add-one n)))
 
-pub tau_minimise : (sense : Sense) (n j : ℕ) (v unit negated : Fraction) → sense ≡ Minimise → j ≡ n + 1 → unit ≡ 1ℚ → negated ≡ neg_ℚ unit
+pub tau_minimise : (sense : Sense) (n j : ℕ) (v unit negated : Fraction) → sense ≡ Minimise → j ≡ n + 1
+    → unit ≡ 1ℚ → negated ≡ neg_ℚ unit
     → negated ≡ at (target (sense_of sense) n v) j
 tau_minimise sense n j v unit negated is last one negation =
     negation ∙ ap neg_ℚ one ∙ Q.ring [] (minus (lit (pos 1))) (lit (negsuc 0)) refl
     ∙ sym (at_last v (of_int (negsuc 0)) n j last) ∙ ap (λ s. at (target (sense_of s) n v) j) (sym is)
 
-pub tau_maximise : (sense : Sense) (n j : ℕ) (v unit : Fraction) → sense ≡ Maximise → j ≡ n + 1 → unit ≡ 1ℚ → unit ≡ at (target (sense_of sense) n v) j
+pub tau_maximise : (sense : Sense) (n j : ℕ) (v unit : Fraction) → sense ≡ Maximise → j ≡ n + 1 → unit ≡ 1ℚ
+    → unit ≡ at (target (sense_of sense) n v) j
 tau_maximise sense n j v unit is last one =
     one ∙ sym (at_last (neg_ℚ v) 1ℚ n j last) ∙ ap (λ s. at (target (sense_of s) n v) j) (sym is)
 
-pub inner_target : (sense : Sense) (n j : ℕ) (v nothing : Fraction) → j ≢ 0 → j ≢ n + 1 → nothing ≡ 0ℚ → nothing ≡ at (target (sense_of sense) n v) j
+pub inner_target : (sense : Sense) (n j : ℕ) (v nothing : Fraction) → j ≢ 0 → j ≢ n + 1 → nothing ≡ 0ℚ
+    → nothing ≡ at (target (sense_of sense) n v) j
 inner_target Minimise n j v nothing first last none = none ∙ sym (at_inner v (of_int (negsuc 0)) n j first last)
 inner_target Maximise n j v nothing first last none = none ∙ sym (at_inner (neg_ℚ v) 1ℚ n j first last)

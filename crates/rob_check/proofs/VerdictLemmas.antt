@@ -13,7 +13,8 @@ behind Accepted w = w
 behind (Rejected place) w = Rejected place
 behind (TooWide place) w = TooWide place
 
-decided-behind : (place : Place) (holds : Option Bool) (v w : Verdict) → decided place holds (behind v w) ≡ behind (decided place holds v) w
+decided-behind : (place : Place) (holds : Option Bool) (v w : Verdict)
+    → decided place holds (behind v w) ≡ behind (decided place holds v) w
 unfolding behind
 decided-behind place (Some true) v w = refl
 decided-behind place (Some false) v w = refl
@@ -42,7 +43,8 @@ module _ (xs ys : List Condition) where
       is (TooWide place) flaw = refl
 
 -- one condition that was judged
-pub judged_is : (place other : Place) (holds test : Option Bool) (v : Verdict) → v ≡ decided place holds Accepted → place ≡ other → holds ≡ test
+pub judged_is : (place other : Place) (holds test : Option Bool) (v : Verdict) → v ≡ decided place holds Accepted
+    → place ≡ other → holds ≡ test
     → v ≡ verdict (record { place = other; holds = test } ∷ [])
 judged_is place other holds test v h p t = h ∙ ap₂ (λ p t. decided p t Accepted) p t
 
@@ -71,11 +73,13 @@ module _ (test : ℕ → Condition) (last : Condition) (k end : ℕ) where
 
   pub column_stops : (v : Verdict) → k < end → (v ≡ Accepted → ⊥) → v ≡ verdict (test k ∷ []) → v ≡ verdict tests_left
   column_stops v inside flaw h =
-      stops (test k ∷ []) tests_behind v flaw h ∙ ap (λ js. verdict (map test js ++ last ∷ [])) (sym (numbers_step k end inside))
+      stops (test k ∷ []) tests_behind v flaw h
+      ∙ ap (λ js. verdict (map test js ++ last ∷ [])) (sym (numbers_step k end inside))
 
   pub column_goes : k < end → Accepted ≡ verdict (test k ∷ []) → verdict tests_behind ≡ verdict tests_left
   column_goes inside h =
-      goes (test k ∷ []) tests_behind h ∙ ap (λ js. verdict (map test js ++ last ∷ [])) (sym (numbers_step k end inside))
+      goes (test k ∷ []) tests_behind h
+      ∙ ap (λ js. verdict (map test js ++ last ∷ [])) (sym (numbers_step k end inside))
 
   pub columns_end : end ≤ k → verdict (last ∷ []) ≡ verdict tests_left
   columns_end h = ap (λ js. verdict (map test js ++ last ∷ [])) (sym (numbers_end k end h))

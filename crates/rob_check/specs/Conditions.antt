@@ -59,8 +59,8 @@ module _ (limit : ℕ) (forms : List (List (List ℤ))) where
   abbrev pub column_within : List Item → ℕ → Option Fraction
   column_within items j = added_within limit 0ℚ (map (item_within j) items)
 
--- what the sum in column j must be: for an optimal certificate the entry of the target of its value; for an infeasible one,
--- which has no value, 0 and in the constant a positive number
+-- what the sum in column j must be: for an optimal certificate the entry of the target of its value; for an infeasible
+-- one, which has no value, 0 and in the constant a positive number
 abbrev pub is_asked : Sense → ℕ → Option Fraction → ℕ → Fraction → Bool
 is_asked sense n (Some v) j x = eq_ℚ x (at (target sense n v) j)
 is_asked sense n None zero x = is_positive x
@@ -105,8 +105,8 @@ abbrev pub rows_within : ℕ → List meaning.Cover → List Fraction → Option
 rows_within limit mine numbers =
     added_within limit 0ℚ (map (λ (c : meaning.Cover). kept limit (c.amount *ℚ at numbers c.set_row)) mine)
 
--- the scale times the form's number at the vector: row 0 is the constant, row k + 1 parameter k. A column t has no row, so its
--- number is 0
+-- the scale times the form's number at the vector: row 0 is the constant, row k + 1 parameter k. A column t has no row,
+-- so its number is 0
 abbrev pub form_within : ℕ → Covering → List (List Fraction) → ℕ → Option Fraction
 form_within limit g form k = dot_within limit g.vector (row_at form k) >>= (λ x. kept limit (g.scale *ℚ x))
 
@@ -168,6 +168,7 @@ step_covering c = record {
   covers = c.holds;
 }
 
+-- the scale is above 0
 abbrev pub scale_test : Certificate → Condition
 scale_test c = record { place = At.Scale; holds = Some (is_positive c.scale) }
 
@@ -176,16 +177,21 @@ abbrev pub improves : Sense → Fraction → Bool
 improves minimise d = if is_nonnegative d then false else true
 improves maximise d = is_positive d
 
+-- the direction's bound improves
 abbrev pub move_test : Sense → Certificate → Condition
 move_test sense c = record { place = At.MoveBound; holds = Some (improves sense c.step_bound) }
 
 module _ (limit : ℕ) (m : RobustModel) where
+  -- the scenario `inside` meets the set conditions, and each item has its weight, its base and its vector
   abbrev pub base_tests : Certificate → List Condition
   base_tests c = inside_tests limit m c.inside ++ items_tests limit m zero c.items
 
+  -- the items sum to the value in the constant, or to more than 0 where there is none, and to what they must in each
+  -- column
   abbrev pub items_sum_tests : Option Fraction → Certificate → List Condition
   items_sum_tests value c = sum_tests limit (matrices m) m.sense (column_count m) value c.items
 
+  -- each form is covered
   abbrev pub covering_tests : Covering → List Condition
   covering_tests g = cover_tests limit (lifted m) g zero (matrices m)
 
@@ -197,6 +203,7 @@ module _ (limit : ℕ) (m : RobustModel) where
   abbrev pub move_tests : Certificate → List Condition
   move_tests c = move_test m.sense c ∷ covering_tests (step_covering c)
 
+  -- the plan is covered, and the direction improves and is covered
   abbrev pub ray_tests : Certificate → List Condition
   ray_tests c = covering_tests (plan_covering c) ++ move_tests c
 

@@ -1,5 +1,5 @@
--- A check none of whose numbers is wide: it accepts a certificate exactly where that proves, and else rejects it at the first
--- place whose condition fails.
+-- A check none of whose numbers is wide: it accepts a certificate exactly where that proves, and else rejects it at the
+-- first place whose condition fails.
 use Rattle.std.specs.Prelude.{◌≡◌, ◌≢◌, ◌↔◌, ℕ, List, ◌∷◌, ◌++◌, true, false, Some, None}
 use Rattle.rob_meaning.specs.Certificates.{Certificate}
 use Rattle.rob_meaning.specs.Places.{Each}

@@ -1,5 +1,5 @@
--- Sums and scalar products as they are computed: from the left, each product and each prefix in turn, and nothing where one
--- of these numbers is wide. And the tests that numbers are put to.
+-- Sums and scalar products as they are computed: from the left, each product and each prefix in turn, and nothing where
+-- one of these numbers is wide. And the tests that numbers are put to.
 use Rattle.std.specs.Prelude.{ℕ, zero, suc, List, [], ◌∷◌, map, Bool, true, false, Option, Some, if◌then◌else◌}
 use Rattle.rob_algebra.specs.Fraction.{Fraction, ◌+ℚ◌, ◌*ℚ◌}
 use Rattle.rob_algebra.specs.Width.{kept}
@@ -46,5 +46,6 @@ numbers_from k (suc n) = k ∷ numbers_from (suc k) n
 abbrev pub is_nonnegative : Fraction → Bool
 is_nonnegative x = is_at_most 0ℚ x
 
+-- whether a number is above 0
 abbrev pub is_positive : Fraction → Bool
 is_positive x = if is_at_most x 0ℚ then false else true

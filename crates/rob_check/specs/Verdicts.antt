@@ -5,7 +5,8 @@ use Rattle.rob_number.specs.Counts.{Rose}
 use Rattle.rob_check.specs.declared.verdict.Verdict.{Verdict}
 use Rattle.rob_check.specs.declared.verdict.Verdict.TheVariants.{Accepted, Rejected, TooWide}
 
--- a condition of a certificate: its place, and whether it holds, or nothing where a number that is computed for it is wide
+-- a condition of a certificate: its place, and whether it holds, or nothing where a number that is computed for it is
+-- wide
 pub record Condition : Type 0 where
   pub place : Place
   pub holds : Option Bool

@@ -1,4 +1,4 @@
-// The check of a certificate.
+//! The check of a certificate.
 
 ghost use Rattle.std.specs.Prelude.{◌≡◌};
 ghost use Rattle.rob_cert.specs.Shape.{HasShape};

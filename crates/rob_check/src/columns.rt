@@ -1,4 +1,4 @@
-// The sums of the items, column by column.
+//! The sums of the items, column by column.
 
 ghost use Rattle.std.specs.Prelude.{◌≡◌, ◌≤◌, map, option_map};
 ghost use Rattle.std.specs.Result.{result_ok};
@@ -22,8 +22,8 @@ use rob_model::numbers::{one, zero};
 use rob_model::{Place, Sense};
 use rob_number::{Exact, Ledger, Wide};
 
-/// What the items of an optimal certificate sum to in a column: the value in the constant and -1 in `tau`, or for maximise the
-/// value's negative and 1; 0 in each decision column.
+/// What the items of an optimal certificate sum to in a column: the value in the constant and -1 in `tau`, or for
+/// maximise the value's negative and 1; 0 in each decision column.
 fn target_at<N: Exact, L: Ledger>(
     sense: Sense,
     columns: u32,
@@ -51,7 +51,8 @@ fn target_at<N: Exact, L: Ledger>(
     }
 }
 
-/// Whether a sum in a column is what it must be: the target of the value; or, with no value, 0, and in the constant above 0.
+/// Whether a sum in a column is what it must be: the target of the value; or, with no value, 0, and in the constant
+/// above 0.
 fn is_asked_sum<N: Exact, L: Ledger>(
     forms: &Forms,
     value: Option<N>,

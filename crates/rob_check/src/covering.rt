@@ -1,4 +1,4 @@
-// What is covered by multipliers of set rows.
+//! What is covered by multipliers of set rows.
 
 use rob_cert::Cover;
 

@@ -1,4 +1,4 @@
-// The covers of forms: multipliers of set rows that keep a form at most 0 at a vector in every scenario.
+//! The covers of forms: multipliers of set rows that keep a form at most 0 at a vector in every scenario.
 
 ghost use Rattle.std.specs.Prelude.{◌≡◌, ◌+◌, ◌<◌, ◌≤◌, ◌^◌, ℕ, nat_abs, length, map};
 ghost use Rattle.std.specs.Result.{result_ok};
@@ -111,8 +111,8 @@ fn row_number<N: Exact, L: Ledger>(
     add_entry(sum, covering.bound, row, columns.len() + 1, ledger)
 }
 
-/// The scale times the number of a form at a vector: row 0 is the constant, row `k + 1` is parameter `k`. A row that the form
-/// hasn't, of a column `t`, is 0.
+/// The scale times the number of a form at a vector: row 0 is the constant, row `k + 1` is parameter `k`. A row that
+/// the form hasn't, of a column `t`, is 0.
 fn form_number<N: Exact, L: Ledger>(
     form: &[List<i64>],
     row: usize,
@@ -121,7 +121,8 @@ fn form_number<N: Exact, L: Ledger>(
 ) -> Result<N, Wide>
     requires fits { MatrixFits N.limit form.now }
     requires columns { HasColumns (length covering.now.columns.now) form.now }
-    ensures exact { answer N.value result ≡ form_within N.limit (covering_of N.value covering.now) (fractions form.now) row }
+    ensures exact { answer N.value result
+        ≡ form_within N.limit (covering_of N.value covering.now) (fractions form.now) row }
     ensures told { Told (L.wides ledger.old) (L.wides ledger.new) result }
     ensures counted { NeverFell L.ops L.wides ledger.old ledger.new }
 {
@@ -148,7 +149,8 @@ fn column_holds<N: Exact, L: Ledger>(
     requires set_fits { SetFits N.limit set.now }
     requires rows { NameRows (length set.now.rows) (map (cover_of N.value) mine.now) }
     requires small { column < 2 ^ 32 }
-    ensures exact { (i : ℕ) → result_ok result ≡ (column_test N.limit (lifted_of set.now) (covering_of N.value covering.now) i
+    ensures exact { (i : ℕ) → result_ok result
+        ≡ (column_test N.limit (lifted_of set.now) (covering_of N.value covering.now) i
         (fractions form.now) (map (cover_of N.value) mine.now) column).holds }
     ensures told { Told (L.wides ledger.old) (L.wides ledger.new) result }
     ensures counted { NeverFell L.ops L.wides ledger.old ledger.new }
@@ -170,7 +172,8 @@ fn constant_holds<N: Exact, L: Ledger>(
     requires columns { HasColumns (length covering.now.columns.now) form.now }
     requires set_fits { SetFits N.limit set.now }
     requires rows { NameRows (length set.now.rows) (map (cover_of N.value) mine.now) }
-    ensures exact { (i : ℕ) → result_ok result ≡ (constant_test N.limit (lifted_of set.now) (covering_of N.value covering.now) i
+    ensures exact { (i : ℕ) → result_ok result
+        ≡ (constant_test N.limit (lifted_of set.now) (covering_of N.value covering.now) i
         (fractions form.now) (map (cover_of N.value) mine.now)).holds }
     ensures told { Told (L.wides ledger.old) (L.wides ledger.new) result }
     ensures counted { NeverFell L.ops L.wides ledger.old ledger.new }

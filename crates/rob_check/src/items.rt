@@ -1,7 +1,6 @@
-// The items of a certificate: multiples of forms, each taken at a multiple of a scenario or at a ray.
+//! The items of a certificate: multiples of forms, each taken at a multiple of a scenario or at a ray.
 
 ghost use Rattle.std.specs.Prelude.{◌≡◌, ◌<◌, ◌^◌, suc, ◌∷◌, length, map};
-ghost use Rattle.rob_algebra.specs.Fraction.{of_int};
 ghost use Rattle.rob_cert.specs.View.{item_of};
 ghost use Rattle.rob_check.specs.Conditions.{column_within, item_tests, item_within, items_tests};
 ghost use Rattle.rob_check.specs.Sums.{column as column_of, dot_within};
@@ -24,8 +23,8 @@ use rob_model::numbers::zero;
 use rob_model::{Model, Place};
 use rob_number::{Exact, Ledger, List, Wide};
 
-/// A form in a column, taken at a base and a vector: the base times the constant's entry, and each number of the vector times
-/// the entry of its parameter.
+/// A form in a column, taken at a base and a vector: the base times the constant's entry, and each number of the vector
+/// times the entry of its parameter.
 fn cut_at<N: Exact, L: Ledger>(
     form: &[List<i64>],
     column: usize,
@@ -122,7 +121,8 @@ pub fn check_items<N: Exact, L: Ledger>(
 ) -> Verdict
     requires valid { IsValid N.value model.now }
     requires few { length items.now < 2 ^ 32 }
-    ensures exact { result ≡ verdict (items_tests N.limit (robust N.value model.now) 0 (map (item_of N.value) items.now)) }
+    ensures exact { result ≡ verdict (items_tests N.limit (robust N.value model.now) 0
+        (map (item_of N.value) items.now)) }
     ensures counted { Counted L.ops L.wides ledger.old ledger.new result }
 {
     for (index, item) in items.iter().enumerate() {

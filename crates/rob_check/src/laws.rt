@@ -1,4 +1,4 @@
-// What the verdicts on groups of conditions say.
+//! What the verdicts on groups of conditions say.
 
 ghost use Rattle.std.specs.Prelude.{◌≡◌, ℕ, List, length, None, Some};
 ghost use Rattle.rob_algebra.specs.Fraction.{Fraction};
@@ -36,8 +36,8 @@ pub fn check_laws()
     // The whole: accepted, the certificate proves what it claims; rejected, it doesn't.
     ensures proves { (limit : ℕ) (m : RobustModel) (c : Certificate) → IsModel m → HasShape m c
         → Judges (Proves m c) (verdict_of limit m c) }
-    // Where no number of the check is wide it is accepted exactly where it proves, and else rejected at the first place whose
-    // condition fails.
+    // Where no number of the check is wide it is accepted exactly where it proves, and else rejected at the first place
+    // whose condition fails.
     ensures none_wide { (limit : ℕ) (m : RobustModel) (c : Certificate) → IsModel m → HasShape m c → NoneWide limit m c
         → IsDecided limit m c }
 {}

@@ -1,5 +1,5 @@
-//! The checker of certificates: it accepts a certificate exactly where that proves what it claims and no number of the check
-//! is wide. It shares no code with the solver but numbers, models, their forms and the rows of their sets.
+//! The checker of certificates: it accepts a certificate exactly where that proves what it claims and no number of the
+//! check is wide. It shares no code with the solver but numbers, models, their forms and the rows of their sets.
 #![tactic(auto)]
 
 pub mod checker;

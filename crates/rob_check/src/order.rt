@@ -1,4 +1,4 @@
-// The conditions of a certificate, in order, by what it claims.
+//! The conditions of a certificate, in order, by what it claims.
 
 ghost use Rattle.std.specs.Prelude.{◌≡◌, length};
 ghost use Rattle.rob_cert.specs.View.{certificate_of};

@@ -1,4 +1,4 @@
-// Scenarios and rays: the set conditions, each taken some number of times.
+//! Scenarios and rays: the set conditions, each taken some number of times.
 
 ghost use Rattle.std.specs.Prelude.{◌≡◌, ◌≤◌, map};
 ghost use Rattle.rob_check.specs.Conditions.{set_tests};

@@ -1,4 +1,4 @@
-// Parts of sums, and the tests that sums are put to.
+//! Parts of sums, and the tests that sums are put to.
 
 ghost use Rattle.std.specs.Prelude.{◌≡◌, ◌≤◌, ℕ, [], ◌∷◌, map, nat_abs};
 ghost use Rattle.rob_algebra.specs.Fraction.{of_int, ◌*ℚ◌};

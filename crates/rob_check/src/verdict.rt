@@ -1,4 +1,4 @@
-// The verdict on a certificate.
+//! The verdict on a certificate.
 
 ghost use Rattle.std.specs.Prelude.{◌≡◌, Option};
 ghost use Rattle.std.specs.Result.{result_ok};

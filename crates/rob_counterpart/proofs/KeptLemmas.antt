@@ -10,10 +10,22 @@ use Rattle.rob_meaning.specs.Forms.{matrices}
 use Rattle.rob_meaning.specs.SetRows.{set_rows}
 use Rattle.rob_meaning.specs.Certificates.{Cover}
 use Rattle.rob_meaning.specs.Proves.{amount_at}
-use Rattle.rob_meaning.proofs.EachLemmas.{each_append}
 use Rattle.rob_counterpart.specs.Counterpart.{robust_of}
 use Rattle.rob_counterpart.specs.ReadCertificates.{covers_of, amount_read, HasAmounts}
 use Rattle.rob_counterpart.specs.ReadNumbers.{covers_kept, covers_at, concat}
+use Rattle.rob_meaning.proofs.TabulateLemmas.{each_tabulate}
+use Rattle.rob_counterpart.proofs.KeptOrder.{each_concat}
+
+-- what is kept of two lists
+pub covers_kept-append : (xs ys : List Cover) → covers_kept (xs ++ ys) ≡ covers_kept xs ++ covers_kept ys
+covers_kept-append [] ys = refl
+covers_kept-append (x ∷ xs) ys = by (eq_ℚ x.amount 0ℚ) (covers_kept-append xs ys)
+  where
+    by : (v : Bool) → covers_kept (xs ++ ys) ≡ covers_kept xs ++ covers_kept ys
+        → (if v then covers_kept (xs ++ ys) else x ∷ covers_kept (xs ++ ys))
+        ≡ (if v then covers_kept xs else x ∷ covers_kept xs) ++ covers_kept ys
+    by true e = e
+    by false e = ap (λ (zs : List Cover). x ∷ zs) e
 
 -- a cover of form i and set row r
 abbrev pub matches : ℕ → ℕ → Cover → Bool
@@ -107,26 +119,15 @@ module _ (i r : ℕ) where
   some_concat (suc n) f (suc k) l s =
       some_right (f zero) (concat (tabulate n (λ j. f (suc j)))) (some_concat n (λ j. f (suc j)) k (omega arith) s)
 
-pub each_tabulate : {A : Type 0} (P : A → Type 0) (n : ℕ) (f : ℕ → A) → ((k : ℕ) → P (f k)) → Each P (tabulate n f)
-each_tabulate P zero f h = tt
-each_tabulate P (suc n) f h = (h zero, each_tabulate P n (λ k. f (suc k)) (λ k. h (suc k)))
-
-pub each_concat : (P : Cover → Type 0) (n : ℕ) (f : ℕ → List Cover) → ((k : ℕ) → Each P (f k))
-    → Each P (concat (tabulate n f))
-each_concat P zero f h = tt
-each_concat P (suc n) f h =
-    each_append P (f zero) (concat (tabulate n (λ k. f (suc k)))) (h zero)
-    (each_concat P n (λ k. f (suc k)) (λ k. h (suc k)))
-
 -- the covers that are read have the multipliers as their amounts
 pub covers_have_amounts : (m : RobustModel) (x : ℕ → Fraction) → HasAmounts m x (covers_of m x)
 covers_have_amounts m x i r il rl =
     some_kept i r (amount_read m x i r) (concat (tabulate (length (matrices m)) (covers_at (robust_of m) x)))
     (each_concat (λ (c : Cover). matches i r c ≡ true → c.amount ≡ amount_read m x i r) (length (matrices m))
     (covers_at (robust_of m) x)
-    (λ h. each_tabulate (λ (c : Cover). matches i r c ≡ true → c.amount ≡ amount_read m x i r) (length (set_rows m))
+    (λ h hl. each_tabulate (λ (c : Cover). matches i r c ≡ true → c.amount ≡ amount_read m x i r) (length (set_rows m))
     (λ q. record { form = h; set_row = q; amount = amount_read m x h q })
-    (λ q e. ap (λ v. amount_read m x v q) (matched h q i r e).0 ∙ ap (amount_read m x i) (matched h q i r e).1)))
+    (λ q ql e. ap (λ v. amount_read m x v q) (matched h q i r e).0 ∙ ap (amount_read m x i) (matched h q i r e).1)))
     (some_concat i r (length (matrices m)) (covers_at (robust_of m) x) i il
     (some_tabulate i r (length (set_rows m)) (λ q. record { form = i; set_row = q; amount = amount_read m x i q })
     r rl (matches_own i r)))

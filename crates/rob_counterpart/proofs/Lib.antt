@@ -19,6 +19,7 @@ pub mod TargetLemmas
 pub mod CoverLemmas
 pub mod ItemLemmas
 pub mod KeptLemmas
+pub mod KeptOrder
 pub mod MasterLemmas
 pub mod SetLemmas
 pub mod SearchLemmas

@@ -3,7 +3,7 @@
 ghost use Rattle.rob_linear.specs.Vectors.{Vector, Matrix, Columns};
 ghost use Rattle.rob_algebra.specs.Fraction.{Fraction, ◌-ℚ◌, neg_ℚ};
 ghost use Rattle.rob_counterpart.specs.BasicPairs.{KeepsPair, KeepsPairs};
-ghost use Rattle.rob_counterpart.specs.Endings.{OptimalEnding, InfeasibleEnding, UnboundedEnding, slack_entries};
+ghost use Rattle.rob_counterpart.specs.Endings.{OptimalEnding, InfeasibleEnding, UnboundedEnding};
 ghost use Rattle.rob_counterpart.specs.Master.{Cuts, IsMaster};
 ghost use Rattle.rob_counterpart.specs.ReadCertificates.{weight_of};
 ghost use Rattle.rob_counterpart.specs.Reform.{IsReform, positive_row, negative_row};

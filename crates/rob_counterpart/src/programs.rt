@@ -3,7 +3,7 @@
 ghost use Rattle.rob_linear.specs.Vectors.{Columns, Matrix, Vector};
 ghost use Rattle.rob_counterpart.specs.Master.{Cuts, IsMaster, master_of};
 ghost use Rattle.rob_counterpart.specs.Reform.{IsReform, reform};
-ghost use Rattle.rob_counterpart.specs.RobustProgram.{RobustProgram, number_at};
+ghost use Rattle.rob_counterpart.specs.RobustProgram.{RobustProgram};
 ghost use Rattle.rob_counterpart.specs.SamePrograms.{AreSame};
 ghost use Rattle.rob_counterpart.specs.SetPrograms.{IsOverSet, HasCost, IsSearch, over_set, search_of};
 ghost use Rattle.rob_counterpart.specs.Endings.{OptimalEnding, InfeasibleEnding, UnboundedEnding};

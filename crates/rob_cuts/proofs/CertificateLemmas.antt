@@ -11,14 +11,13 @@ use Rattle.rob_meaning.specs.SetRows.{set_rows}
 use Rattle.rob_meaning.specs.UncertaintySet.{Admits}
 use Rattle.rob_meaning.specs.Vectors.{scale}
 use Rattle.rob_meaning.proofs.EachLemmas.{each_map}
-use Rattle.rob_cert.specs.Shape.{InOrder, IsBefore, IsCoverOf, IsItemOf, AreCoversOf, AreItemsOf}
+use Rattle.rob_cert.specs.Shape.{IsCoverOf, IsItemOf, AreCoversOf, AreItemsOf}
 use Rattle.rob_cert.specs.declared.trace.Round.{Round as Told}
 use Rattle.rob_counterpart.specs.ReadCertificates.{plan_read, bound_read, weight_of}
 use Rattle.rob_dualize.specs.Solving.{IsLastScenario}
 use Rattle.rob_runs.specs.Cuts.{Cut, IsCut, master_over}
 use Rattle.rob_runs.specs.Readings.{AreKept, GivesAmounts, covers_of_amounts, run_items, cleared_by}
 use Rattle.rob_runs.specs.Runs.{plan_at, direction_at, MasterIsOptimal, MasterIsUnbounded, MasterIsInfeasible}
-use Rattle.rob_runs.specs.Shapes as run
 use Rattle.rob_runs.proofs.CoverLists.{covers_give_amounts}
 use Rattle.rob_runs.proofs.RunCertificates.{length-plan}
 use Rattle.rob_runs.proofs.ShapeLemmas.{covers_in, covers_in_order, items_in, items_in_order, items_count}
@@ -28,11 +27,6 @@ use Rattle.rob_cuts.specs.Certificates.{CoveredPlan, optimal_with, infeasible_wi
 use Rattle.rob_cuts.specs.Rounds.{cuts_told, TellsRun}
 use Rattle.rob_cuts.specs.Outcomes.{IsEnd}
 use Rattle.rob_cuts.proofs.RunLemmas.{are_cuts_told, items_are, length-cuts}
-
--- ---- the order is the same
-ordered : {A : Type 0} (R : A → A → Type 0) (xs : List A) → run.InOrder R xs → InOrder R xs
-ordered R [] h = tt
-ordered R (x ∷ xs) h = (h.0, ordered R xs h.1)
 
 module _ (m : RobustModel) where
   forms_count : length (matrices m) ≡ length (forms m)
@@ -44,7 +38,7 @@ module _ (m : RobustModel) where
     each = each_map (λ (c : Cover). (c.form < length (matrices m)) × (c.set_row < length (set_rows m)) × (c.amount ≢ 0ℚ)) (IsCoverOf m)
         (λ c h. record { form = subst (λ n. c.form < n) forms_count h.0; set_row = h.1; amount = h.2 })
         (covers_of_amounts m amounts) (covers_in m amounts);
-    ordered = ordered IsBefore (covers_of_amounts m amounts) (covers_in_order m amounts);
+    ordered = covers_in_order m amounts;
   }
 
   items_shape : (cuts : List Cut) (weight : ℕ → Fraction) → Each (IsCut m) cuts → length cuts < 2 ^ 32 → AreItemsOf m (run_items m cuts weight)
@@ -52,7 +46,7 @@ module _ (m : RobustModel) where
     each = each_map (λ (i : Item). (i.form < length (matrices m)) × (length i.vector ≡ length m.parameters)) (IsItemOf m)
         (λ i k. record { form = subst (λ n. i.form < n) forms_count k.0; numbers = k.1 })
         (run_items m cuts weight) (items_in m cuts weight h);
-    ordered = ordered (λ (a b : Item). a.form ≤ b.form) (run_items m cuts weight) (items_in_order m cuts weight);
+    ordered = items_in_order m cuts weight;
     few = let l : length (run_items m cuts weight) ≤ length cuts = items_count m cuts weight in omega arith;
   }
 

@@ -1,8 +1,7 @@
 -- Covers and items, one after another.
-use Rattle.std.proofs.Common.{◌≡◌, ℕ, zero, suc, ◌+◌, ◌<◌, List, [], ◌∷◌, ◌++◌, map, length, refl, sym, ap, ap₂, ◌∙◌, arith, add-one, append_assoc, Bool, true, false, get_or}
+use Rattle.std.proofs.Common.{◌≡◌, ℕ, zero, suc, ◌+◌, ◌<◌, List, [], ◌∷◌, ◌++◌, map, length, sym, ap, ap₂, ◌∙◌, arith, add-one, append_assoc, get_or}
 use Rattle.std.specs.Prelude.{if◌then◌else◌}
 use Rattle.rob_algebra.specs.Fraction.{Fraction, of_int}
-use Rattle.rob_algebra.specs.FractionOrder.{eq_ℚ}
 use Rattle.rob_meaning.specs.Certificates.{Cover, Item}
 use Rattle.rob_meaning.specs.Places.{0ℚ, tabulate}
 use Rattle.rob_cert.specs.declared.trace.Round.{Round as Told}
@@ -16,17 +15,9 @@ use Rattle.rob_sets.proofs.RowLemmas.{tabulate-more}
 use Rattle.rob_cuts.specs.Items.{item_of_cut, weighted_cuts, item_told}
 use Rattle.rob_cuts.specs.Certificates.{items_told}
 use Rattle.rob_cuts.specs.Rounds.{cut_of, cuts_told}
+use Rattle.rob_counterpart.proofs.KeptLemmas.{covers_kept-append}
 
 -- ---- covers
-covers_kept-append : (xs ys : List Cover) → covers_kept (xs ++ ys) ≡ covers_kept xs ++ covers_kept ys
-covers_kept-append [] ys = refl
-covers_kept-append (x ∷ xs) ys = by (eq_ℚ x.amount 0ℚ) (covers_kept-append xs ys)
-  where
-    by : (v : Bool) → covers_kept (xs ++ ys) ≡ covers_kept xs ++ covers_kept ys
-        → (if v then covers_kept (xs ++ ys) else x ∷ covers_kept (xs ++ ys)) ≡ (if v then covers_kept xs else x ∷ covers_kept xs) ++ covers_kept ys
-    by true e = e
-    by false e = ap (λ (zs : List Cover). x ∷ zs) e
-
 -- a set row more
 pub covers_more : (before all now : List Cover) (g : ℕ → Cover) (r : ℕ) (x : Cover) → all ≡ before ++ covers_kept (tabulate r g)
     → now ≡ all ++ covers_kept (x ∷ []) → x ≡ g r → now ≡ before ++ covers_kept (tabulate (r + 1) g)

@@ -6,7 +6,6 @@ use Rattle.rob_algebra.specs.Fraction.{Fraction, of_int, ◌*ℚ◌}
 use Rattle.rob_algebra.specs.Width.{IsWide}
 use Rattle.rob_algebra.proofs.Parts.{of_int-parts}
 use Rattle.rob_linear.specs.Vectors as V
-use Rattle.rob_linear.specs.Programs.{Program}
 use Rattle.rob_meaning.specs.Forms.{plan_vector}
 use Rattle.rob_meaning.specs.Places.{0ℚ, 1ℚ, at, tabulate}
 use Rattle.rob_meaning.specs.RobustModel.{RobustModel, column_count}
@@ -17,10 +16,9 @@ use Rattle.rob_model.specs.declared.plan.Plan.{Plan}
 use Rattle.rob_counterpart.specs.Counterpart.{robust_of}
 use Rattle.rob_counterpart.specs.ReadCertificates.{plan_read, bound_read}
 use Rattle.rob_counterpart.specs.ReadNumbers.{differences}
-use Rattle.rob_counterpart.specs.SamePrograms.{AreSame}
 use Rattle.rob_counterpart.specs.Splitting.{difference, plus, minus, OneIsZero}
 use Rattle.rob_counterpart.proofs.MasterLemmas.{master_is}
-use Rattle.rob_counterpart.proofs.TabulateLemmas.{tabulate-same, length-tabulate}
+use Rattle.rob_counterpart.proofs.TabulateLemmas.{tabulate-same, length-tabulate, scale-tabulate}
 use Rattle.rob_counterpart.proofs.SplitLemmas.{point_opposite, move_opposite, master_pair}
 use Rattle.rob_runs.specs.Cuts.{Cut, cuts_of, master_over, wholes}
 use Rattle.rob_runs.specs.Readings.{cleared_by}
@@ -125,19 +123,6 @@ module _ (m : RobustModel) (cuts : List Cut) where
       (master_pair (robust_of m) (cuts_of cuts) (master_over m cuts) (master_is (robust_of m) (cuts_of cuts)) j l)
       (own_at (master_over m cuts) basis) o.rows o.ending.basis column r o.ending.ends.improving o.ending.move
 
--- ---- programs with the same numbers
-pub same_then : (P Q R : Program) → AreSame P Q → AreSame Q R → AreSame P R
-same_then P Q R s t =
-    let height : P.m ≡ Q.m = s.height in
-    let width : P.n ≡ Q.n = s.width in
-    record {
-      height = s.height ∙ t.height;
-      width = s.width ∙ t.width;
-      rows = λ q k ql kl. s.rows q k ql kl ∙ t.rows q k (omega arith) (omega arith);
-      rights = λ q ql. s.rights q ql ∙ t.rights q (omega arith);
-      costs = λ k kl. s.costs k kl ∙ t.costs k (omega arith);
-    }
-
 -- ---- a direction times its denominator
 at-scale : (c : Fraction) (xs : List Fraction) (k : ℕ) → k < length xs → at (scale c xs) k ≡ c *ℚ at xs k
 at-scale c [] k l = absurd (omega arith)
@@ -162,10 +147,6 @@ wide_cleared limit z k one l w =
     size v (inr h) = let p : (of_int v).den ≡ 1 = (of_int-parts v).1 in absurd (omega arith)
 
 -- ---- a direction in whole numbers
-scale-tabulate : (c : Fraction) (n : ℕ) (f : ℕ → Fraction) → scale c (tabulate n f) ≡ tabulate n (λ j. c *ℚ f j)
-scale-tabulate c zero f = refl
-scale-tabulate c (suc n) f = ap (λ (xs : List Fraction). (c *ℚ f 0) ∷ xs) (scale-tabulate c n (λ j. f (suc j)))
-
 module _ (m : RobustModel) (r : ℕ → Fraction) (c : Fraction) (numbers : List Fraction) (e : numbers ≡ differences (suc (column_count m)) r) where
   number_at_place : (j : ℕ) → j < suc (column_count m) → c *ℚ at numbers j ≡ c *ℚ difference r j
   number_at_place j l = ap (λ v. c *ℚ v) (ap (λ (xs : List Fraction). at xs j) e ∙ at-tabulate (suc (column_count m)) (difference r) j l)

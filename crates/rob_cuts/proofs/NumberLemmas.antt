@@ -1,13 +1,11 @@
 -- A cut's numbers, summed term by term, its row, pair by pair, and the costs.
-use Rattle.std.proofs.Common.{◌≡◌, ℕ, zero, suc, ◌+◌, ◌<◌, ◌≤◌, ◌/◌, ◌-◌, ◌^◌, Bool, true, false, cond, List, [], ◌∷◌, ◌++◌, length, sym, ap, ap₂, ◌∙◌, subst, arith, add-one, append_assoc, to_z, of_z, w64}
-use Rattle.std.proofs.lemmas.Int.{ints}
+use Rattle.std.proofs.Common.{◌≡◌, ℕ, zero, suc, ◌+◌, ◌<◌, ◌≤◌, ◌/◌, ◌-◌, ◌^◌, Bool, true, false, cond, List, [], ◌∷◌, ◌++◌, length, sym, ap, ap₂, ◌∙◌, subst, arith, add-one, append_assoc}
 use Rattle.std.proofs.lemmas.List.Elements.{All-append}
 use Rattle.std.specs.Prelude.{All, slice_index_or, nat_eq}
 use lib.IntN.{ℤ, pos, nat_abs, neg_ℤ, ◌+ℤ◌, ◌*ℤ◌}
 use Rattle.rob_algebra.specs.Width.{IsWideWhole}
-use Rattle.rob_number.proofs.CastLemmas.{seen}
 use Rattle.rob_linear.specs.Vectors.{Vector, sum_to, at}
-use Rattle.rob_meaning.specs.Places.{tabulate, Each}
+use Rattle.rob_meaning.specs.Places.{tabulate}
 use Rattle.rob_meaning.specs.RobustModel.{Sense, minimise, maximise}
 use Rattle.rob_model.specs.View.{sense_of}
 use Rattle.rob_elab.specs.declared.forms.Forms.{Forms}
@@ -24,6 +22,8 @@ use Rattle.rob_runs.specs.Spots.{HasWidePrefix}
 use Rattle.rob_sets.proofs.RowLemmas.{tabulate-more}
 use Rattle.rob_cuts.specs.Master.{cut_number, cut_entry, plan_cost}
 use Rattle.rob_cuts.specs.Rounds.{CutFits}
+use Rattle.rob_dualize.proofs.Soundness.{at_small}
+use Rattle.rob_sets.proofs.SetProgramLemmas.{negated_within}
 
 -- a term more
 pub sum_more : (f : Vector) (k : ℕ) (sum a b next : ℤ) → sum ≡ sum_to k f → a *ℤ b ≡ f k → next ≡ sum +ℤ (a *ℤ b) → next ≡ sum_to (k + 1) f
@@ -55,21 +55,9 @@ pair_more forms c j row now number h e is =
     ∙ ap (λ v. tabulate v (cut_entry forms c)) (sym n)
 
 -- ---- sizes
--- a number within the limit, as it is read
-pub seen_within : (limit : ℕ) (z : ℤ) → limit ≤ 2 ^ 62 - 1 → nat_abs z ≤ limit → to_z w64 (of_z w64 z) ≡ z
-seen_within limit z low h = seen z (omega arith)
-
-at_small : (limit : ℕ) (row : List ℤ) → Each (λ a. nat_abs a ≤ limit) row → (k : ℕ) → nat_abs (at row k) ≤ limit
-at_small limit [] h k = omega arith
-at_small limit (x ∷ row) h zero = h.0
-at_small limit (x ∷ row) h (suc k) = at_small limit row h.1 k
-
 -- what the form is taken with is within the limit
 pub multiplier_small : (limit n : ℕ) (c : Cut) → CutFits limit n c → (k : ℕ) → nat_abs (at (c.base ∷ c.vector) k) ≤ limit
 multiplier_small limit n c h = at_small limit (c.base ∷ c.vector) (h.base, h.vector)
-
-pub neg_small : (limit : ℕ) (v : ℤ) → nat_abs v ≤ limit → nat_abs (neg_ℤ v) ≤ limit
-neg_small limit v h = omega (arith, ints)
 
 -- a row and a pair more
 pub within_pair : (limit : ℕ) (row now : List ℤ) (number : ℤ) → IsWithin limit row → nat_abs number ≤ limit → now ≡ row ++ number ∷ (neg_ℤ number ∷ [])
@@ -79,7 +67,7 @@ within_pair limit row now number h small e =
   where
     two : (k : ℕ) (d : ℤ) → k < 2 → nat_abs (slice_index_or (number ∷ (neg_ℤ number ∷ [])) k d) ≤ limit
     two zero d l = small
-    two (suc zero) d l = neg_small limit number small
+    two (suc zero) d l = negated_within limit number small
     two (suc (suc k)) d l = absurd (omega arith)
 
 -- ---- costs

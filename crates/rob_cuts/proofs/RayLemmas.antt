@@ -16,6 +16,7 @@ use Rattle.rob_runs.specs.Spots.{SomeWide}
 use Rattle.rob_runs.proofs.DenominatorLemmas.{denominator_bounded}
 use Rattle.rob_runs.proofs.WholeLemmas.{length-wholes}
 use Rattle.rob_sets.specs.FirstWide.{Some_of}
+use Rattle.rob_worst.proofs.StopLemmas.{some_at}
 
 -- all numbers are 0, or some is not
 zero_or_some : (qs : List Fraction) → Each (λ (q : Fraction). q ≡ 0ℚ) qs ⊎ ((k : ℕ) × (k < length qs) × ((at qs k).num ≢ pos 0))
@@ -70,14 +71,8 @@ denominator_wide limit qs small one wide =
               omega arith),
         )
 
--- a wide number of the list
-some_wide : (limit d : ℕ) (qs : List Fraction) → Some_of (λ q. IsWideWhole limit (whole_at d q)) qs → SomeWide limit (map (whole_at d) qs)
-some_wide limit d [] w = absurd w
-some_wide limit d (q ∷ qs) (inl w) = (zero, omega arith, w)
-some_wide limit d (q ∷ qs) (inr w) = let s = some_wide limit d qs w in (suc s.0, omega (arith, s.1), s.2)
-
 pub wide_at_denominator : (limit d : ℕ) (qs : List Fraction) → d ≡ denominator qs → Some_of (λ q. IsWideWhole limit (whole_at d q)) qs → SomeWide limit (wholes qs)
-wide_at_denominator limit d qs e w = some_wide limit (denominator qs) qs (subst (λ (n : ℕ). Some_of (λ q. IsWideWhole limit (whole_at n q)) qs) e w)
+wide_at_denominator limit d qs e w = some_at limit (denominator qs) qs (subst (λ (n : ℕ). Some_of (λ q. IsWideWhole limit (whole_at n q)) qs) e w)
 
 -- the denominators of exact numbers
 pub each_den : {N : Type 0} (value : N → Fraction) (limit : ℕ) → ((x : N) → (value x).den ≤ limit) → (xs : List N)

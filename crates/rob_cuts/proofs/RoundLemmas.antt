@@ -46,17 +46,18 @@ use Rattle.rob_cuts.specs.Rounds.{round_told, cut_of, cuts_told, CutFits, TellsR
 use Rattle.rob_cuts.specs.Outcomes.{IsEnd, IsNext, IsWideNext}
 use Rattle.rob_cuts.proofs.CertificateLemmas.{IsCoveredAt, optimal_end_is, infeasible_end_is, unbounded_end_is}
 use Rattle.rob_cuts.proofs.EndingLemmas.{optimal_master, unbounded_master, infeasible_master}
-use Rattle.rob_cuts.proofs.LookLemmas.{same_then, best_pairs, boundless_pairs, direction_pairs}
+use Rattle.rob_cuts.proofs.LookLemmas.{best_pairs, boundless_pairs, direction_pairs}
 use Rattle.rob_cuts.proofs.MasterLemmas.{master_same, rights_count}
 use Rattle.rob_cuts.proofs.RunLemmas.{length-cuts}
 use Rattle.rob_cuts.proofs.StopLemmas.{master_place}
+use Rattle.rob_dualize.proofs.SetLemmas.{same_trans}
 
 module _ (m : RobustModel) (forms : Forms) (f : IsForms m forms) (rounds : List Told) (master : Lp)
     (list : IsMasterList forms (cuts_told rounds) master) (s : Solver) where
   pub ended_as : (k : LpKind) → HasEnded (program_of master) k s → HasEnded (master_over m (cuts_told rounds)) k s
   ended_as k h = record {
     program = h.program;
-    same = same_then h.program (program_of master) (master_over m (cuts_told rounds)) h.same (master_same forms (cuts_told rounds) master list m f);
+    same = same_trans h.program (program_of master) (master_over m (cuts_told rounds)) h.same (master_same forms (cuts_told rounds) master list m f);
     rows = h.rows;
     columns = h.columns;
     solved = h.solved;

@@ -21,7 +21,8 @@ use Rattle.rob_cuts.specs.Rounds.{cut_of, cuts_told, CutFits, RoundFits, TellsRu
 use Rattle.rob_cuts.specs.Runs.{IsRunSoFar, round_limit}
 use Rattle.rob_cuts.specs.Outcomes.{IsNext}
 use Rattle.rob_cuts.proofs.MasterLemmas.{cut_added}
-use Rattle.rob_cuts.proofs.RunLemmas.{cuts-more, each_round_more, tells_more, rounds_few, limit_is, next_form, fits_alone}
+use Rattle.rob_cuts.proofs.RunLemmas.{cuts-more, tells_more, rounds_few, limit_is, next_form, fits_alone}
+use Rattle.rob_meaning.proofs.EachLemmas.{each_push}
 
 -- no round yet
 pub state_none : (limit : ℕ) (forms : Forms) (set : SetForm) (run : Run) → 1 ≤ limit → IsMasterList forms [] run.master
@@ -41,7 +42,7 @@ state_more limit forms set before now round s adds within e fits next = record {
   master = subst (λ (cs : List Cut). IsMasterList forms cs now.master) (sym (ap cuts_told e ∙ cuts-more before.rounds round))
       (cut_added forms (cuts_told before.rounds) (cut_of round) before.master now.master s.master adds);
   within = within;
-  fits = subst (λ (rounds : List Told). Each (RoundFits limit) rounds) (sym e) (each_round_more (RoundFits limit) before.rounds round s.fits fits);
+  fits = subst (λ (rounds : List Told). Each (RoundFits limit) rounds) (sym e) (each_push (RoundFits limit) before.rounds round s.fits fits);
   tells = λ m model f st. let n = next m model f st in
       subst (λ (rounds : List Told). TellsRun m rounds) (sym e)
       (tells_more m before.rounds (s.tells m model f st) n.next round n.is_round n.told);

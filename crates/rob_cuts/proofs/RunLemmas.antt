@@ -38,10 +38,6 @@ pub length-cuts : (rounds : List Told) → length (cuts_told rounds) ≡ length 
 length-cuts [] = refl
 length-cuts (r ∷ rounds) = ap suc (length-cuts rounds)
 
-pub each_round_more : {A : Type 0} (P : A → Type 0) (xs : List A) (x : A) → Each P xs → P x → Each P (xs ++ x ∷ [])
-each_round_more P [] x h p = (p, tt)
-each_round_more P (y ∷ xs) x h p = (h.0, each_round_more P xs x h.1 p)
-
 pub fits_alone : (limit n : ℕ) (r : Told) → CutFits limit n (cut_of r) → RoundFits limit r
 fits_alone limit n r h = record { base = h.base; vector = h.vector }
 

@@ -1,4 +1,4 @@
-// The certificate of each ending of a run.
+//! The certificate of each ending of a run.
 
 ghost use Rattle.std.specs.Prelude.{◌≡◌, ◌<◌, ◌^◌, map, length, IfOk};
 ghost use Rattle.rob_algebra.specs.Fraction.{of_int};

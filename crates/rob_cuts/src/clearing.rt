@@ -1,5 +1,5 @@
-// A ray in whole numbers. Its least common denominator is no number of the cut, so it may be over the limit where the
-// cleared numbers are not.
+//! A ray in whole numbers. Its least common denominator is no number of the cut, so it may be over the limit where the
+//! cleared numbers are not.
 
 ghost use Rattle.std.specs.Prelude.{◌≡◌, ◌≤◌, ◌<◌, ◌*◌, ◌/◌, ◌^◌, pos, ◌*ℤ◌, ◌<ℤ◌, nat_abs, map, IfOk, IfErr, MatchOption};
 ghost use Rattle.rob_algebra.specs.Width.{IsWideWhole};

@@ -1,4 +1,4 @@
-// The cut at a worst scenario or ray, in whole numbers.
+//! The cut at a worst scenario or ray, in whole numbers.
 
 ghost use Rattle.std.specs.Prelude.{◌≡◌, map, length, IfOk, IfErr};
 ghost use Rattle.rob_model.specs.declared.place.Spot.TheVariants.{Clearing};

@@ -1,4 +1,4 @@
-// The covers and the items of a certificate of a run: covers by form and set row, items by form and round.
+//! The covers and the items of a certificate of a run: covers by form and set row, items by form and round.
 
 ghost use Rattle.std.specs.Prelude.{◌≡◌, ◌≤◌, ◌<◌, ◌++◌, ◌∷◌, [], ◌^◌, nat_abs, map, length, IfOk};
 ghost use Rattle.rob_algebra.specs.Fraction.{of_int};

@@ -1,4 +1,4 @@
-// Whether a form is kept at its worst case, and what shows that all are.
+//! Whether a form is kept at its worst case, and what shows that all are.
 
 ghost use Rattle.std.specs.Prelude.{◌≤◌, ◌-◌, ◌^◌, nat_abs};
 ghost use Rattle.std.specs.Bool.{Decides};

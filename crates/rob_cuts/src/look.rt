@@ -1,4 +1,4 @@
-// The plan and the direction of a solved master, and whether all forms are kept there.
+//! The plan and the direction of a solved master, and whether all forms are kept there.
 
 ghost use Rattle.std.specs.Prelude.{◌≡◌, ◌≤◌, ◌<◌, ◌+◌, ◌^◌, ℕ, true, false, suc, MatchResult};
 ghost use Rattle.rob_counterpart.specs.Splitting.{OneIsZero, plus, minus};

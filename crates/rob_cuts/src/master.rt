@@ -1,4 +1,4 @@
-// The master program over the cuts so far: it grows by a row with each cut.
+//! The master program over the cuts so far: it grows by a row with each cut.
 
 ghost use Rattle.std.specs.Prelude.{◌≡◌, ◌≤◌, ◌<◌, ◌++◌, ◌∷◌, [], ◌-◌, ◌^◌, ℕ, neg_ℤ, nat_abs, length, IfOk, IfErr};
 ghost use Rattle.rob_rows.specs.LinearPrograms.{HasNumbersWithin};
@@ -17,6 +17,7 @@ use rob_elab::Forms;
 use rob_model::{Sense, Spot, Where};
 use rob_number::{Exact, List, Memory};
 use rob_rows::Lp;
+use rob_worst::cost::push_pair;
 use std::alloc::Global;
 
 /// The master over no cuts: it has a pair of columns for each decision column and for `tau`, and no row.
@@ -87,21 +88,9 @@ fn row<N: Exact>(alloc: Global, forms: &Forms, round: &Round) -> Result<List<i64
         let Some(number) = number::<N>(forms, round, j + 1) else {
             return Err(wide(alloc, Spot::Sum(Where::Cut(round.form), j as u32 + 1)));
         };
-        if let Err(Memory) = push_pair(&mut row, number) {
-            return Err(Stop::Memory);
-        }
+        push_pair(&mut row, number)?;
     }
     Ok(row)
-}
-
-/// Appends a number and its negation.
-fn push_pair(row: &mut List<i64>, number: i64) -> Result<(), Memory>
-    requires small { nat_abs number ≤ 2 ^ 62 - 1 }
-    ensures pair { IfOk result (λ _. row.new ≡ row.old ++ number ∷ (neg_ℤ number ∷ [])) }
-{
-    row.push(number)?;
-    row.push(-number)?;
-    Ok(())
 }
 
 /// Appends a row, whose right side is the constant's negation.

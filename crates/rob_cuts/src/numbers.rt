@@ -1,4 +1,4 @@
-// A cut's numbers: sums over the constant and the parameters of the form's number times the cut's.
+//! A cut's numbers: sums over the constant and the parameters of the form's number times the cut's.
 
 ghost use Rattle.std.specs.Prelude.{◌≡◌, ◌≤◌, ◌<◌, ◌-◌, ◌^◌, suc, ◌+ℤ◌, ◌*ℤ◌, ◌∷◌, nat_abs, length, MatchOption};
 ghost use Rattle.rob_algebra.specs.Width.{IsWideWhole};

@@ -1,5 +1,5 @@
-// The plan and the direction of a master, read off its solver. The columns of a pair count as the difference of their
-// numbers.
+//! The plan and the direction of a master, read off its solver. The columns of a pair count as the difference of their
+//! numbers.
 
 ghost use Rattle.std.specs.Prelude.{◌≡◌, ◌≤◌, ◌<◌, ◌+◌, ◌^◌, ℕ, suc, map, IfOk};
 ghost use Rattle.rob_counterpart.specs.ReadNumbers.{differences};

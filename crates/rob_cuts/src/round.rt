@@ -1,4 +1,4 @@
-// A round: the master is solved, its direction and its plan are tried, and a cut or the end follows.
+//! A round: the master is solved, its direction and its plan are tried, and a cut or the end follows.
 
 ghost use Rattle.std.specs.Prelude.{◌≡◌, ◌≤◌, ◌<◌, ◌^◌, false, nat_abs, length, IfOk, IfErr, MatchResult};
 ghost use Rattle.rob_algebra.specs.Fraction.{of_int};

@@ -1,4 +1,4 @@
-// The route: rounds until the run is finished.
+//! The route: rounds until the run is finished.
 
 ghost use Rattle.std.specs.Prelude.{◌≡◌, ◌≤◌, ◌<◌, ◌^◌, ◌++◌, ◌∷◌, [], ℕ, length, IfOk, IfErr, MatchResult};
 ghost use Rattle.rob_meaning.specs.Places.{Each};
@@ -29,12 +29,12 @@ use std::alloc::Global;
 
 /// Solves the model of the forms and the set rows by cutting planes. Each round solves the master program over the cuts
 /// so far. Its direction, where it has no best plan, and then its plan are tried form by form; the first form that is
-/// broken gives the next cut: the form at its worst basic scenario, or at a ray along which it has no greatest value.
-/// A round without a broken form, or whose master is infeasible, ends the run. The certificate's plan, bound and
+/// broken gives the next cut: the form at its worst basic scenario, or at a ray along which it has no greatest value. A
+/// round without a broken form, or whose master is infeasible, ends the run. The certificate's plan, bound and
 /// direction are those of the last master's basis, its items are the cuts with the master's dual values or Farkas
 /// weights, and its covers are the dual values of the last searches. `EmptySet` comes where no scenario is admitted,
-/// with the weights of the set rows that show it; `Wide` where a number of the next round is over the limit, with the
-/// rounds before it. A master whose rows and columns together reach 2^31 is want of memory.
+/// with the weights of the set rows that show it; `Wide` only where a number of the next round is over the limit, with
+/// the rounds before it. A master whose rows and columns together reach 2^31 is want of memory.
 pub fn solve_cuts<N: Exact, L: Ledger>(
     alloc: Global,
     forms: &Forms,
@@ -103,10 +103,8 @@ fn go_on<N: Exact>(alloc: Global, forms: &Forms, round: Round, run: &mut Run) ->
     if let Err(stop) = append_cut::<N>(alloc, forms, &round, &mut run.master) {
         return Err(stop);
     }
-    match run.rounds.push(round) {
-        Ok(()) => Ok(()),
-        Err(Memory) => Err(Stop::Memory),
-    }
+    run.rounds.push(round)?;
+    Ok(())
 }
 
 /// The stop with the rounds before it.

@@ -1,4 +1,4 @@
-// A run so far: its rounds, and the master over their cuts.
+//! A run so far: its rounds, and the master over their cuts.
 
 use rob_cert::Round;
 use rob_number::List;

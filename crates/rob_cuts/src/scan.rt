@@ -1,4 +1,4 @@
-// The forms in order at the master's plan or direction: the first that is broken there, or what covers them all.
+//! The forms in order at the master's plan or direction: the first that is broken there, or what covers them all.
 
 ghost use Rattle.std.specs.Prelude.{◌≡◌, ◌<◌, ◌^◌, List, length, IfOk, MatchResult};
 ghost use Rattle.rob_meaning.specs.Forms.{form_columns, matrices};

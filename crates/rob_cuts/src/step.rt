@@ -1,4 +1,4 @@
-// A direction in whole numbers.
+//! A direction in whole numbers.
 
 ghost use Rattle.std.specs.Prelude.{◌≡◌, ◌<◌, suc, map, length, IfOk, IfErr, MatchOption};
 ghost use Rattle.rob_algebra.specs.Fraction.{◌*ℚ◌};
@@ -8,7 +8,7 @@ ghost use Rattle.rob_sets.specs.Stops.{StopsFor};
 ghost use Rattle.rob_cuts.specs.Steps.{SomeWideProduct};
 
 use rob_model::Plan;
-use rob_number::{Exact, List, Memory, Tally};
+use rob_number::{Exact, List, Tally};
 use rob_sets::error::Stop as Refusal;
 use std::alloc::Global;
 
@@ -31,9 +31,7 @@ pub fn whole_step<N: Exact>(
         let Some(number) = product(scale, step[j]) else {
             return Err(Refusal::Wide);
         };
-        if let Err(Memory) = columns.push(number) {
-            return Err(Refusal::Memory);
-        }
+        columns.push(number)?;
     }
     match product(scale, step[decisions as usize]) {
         Some(bound) => Ok(Plan { columns, bound }),

@@ -1,4 +1,4 @@
-// Why the route stops, and after which rounds.
+//! Why the route stops, and after which rounds.
 
 ghost use Rattle.std.specs.Prelude.{◌≡◌, []};
 ghost use Rattle.rob_cert.specs.declared.ending.Stop.TheVariants as Is;

@@ -1,9 +1,9 @@
-// What divides all entries of a row.
+//! What divides all entries of a row.
 
 ghost use Rattle.std.specs.Prelude.{◌≡◌, ◌↔◌, IsTrue};
 ghost use Rattle.rob_rows.specs.PrimitiveParts.{content};
 
-use crate::divisor::common_divisor;
+use rob_number::gcd128;
 
 /// The greatest common divisor of the entries, 0 where all are 0. Nothing but 1 divides 1, so the search ends there.
 pub fn content_of(row: &[i128]) -> u128
@@ -11,7 +11,7 @@ pub fn content_of(row: &[i128]) -> u128
 {
     let mut common: u128 = 0;
     for entry in row {
-        common = common_divisor(common, entry.unsigned_abs());
+        common = gcd128(common, entry.unsigned_abs());
         if common == 1 {
             return common;
         }

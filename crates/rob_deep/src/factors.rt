@@ -1,9 +1,9 @@
-// The two factors of a combination, over their greatest common divisor.
+//! The two factors of a combination, over their greatest common divisor.
 
 ghost use Rattle.std.specs.Prelude.{◌^◌, ◌<◌, nat_abs};
 ghost use Rattle.rob_deep.specs.Factors.{IsMultiple, AreLowest};
 
-use crate::divisor::common_divisor;
+use rob_number::gcd128;
 
 /// Two factors of a combination of rows: `p` times one row less `q` times another.
 #[derive(Clone, Copy, Drop)]
@@ -19,7 +19,7 @@ pub fn lowest(p: i128, q: i128) -> Factors
     ensures multiple { IsMultiple p q result }
     ensures lowest { AreLowest result }
 {
-    let common = common_divisor(p.unsigned_abs(), q.unsigned_abs());
+    let common = gcd128(p.unsigned_abs(), q.unsigned_abs());
     if common <= 1 {
         return Factors { p, q };
     }

@@ -1,4 +1,4 @@
-// Combinations of two rows whose entries have at most 127 bits, as the sizes of the factors and of the entries show.
+//! Combinations of two rows whose entries have at most 127 bits, as the sizes of the factors and of the entries show.
 
 ghost use Rattle.std.specs.Prelude.{◌≡◌, ◌+◌, ◌*◌, ◌^◌, ◌<◌, ◌≤◌, ◌*ℤ◌, ◌-ℤ◌, nat_abs, IfSome, IfNone};
 

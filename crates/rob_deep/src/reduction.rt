@@ -1,4 +1,4 @@
-// A row over the greatest common divisor of its entries, in place.
+//! A row over the greatest common divisor of its entries, in place.
 
 ghost use Rattle.std.specs.Prelude.{◌^◌, ◌<◌, OnOk, OnErr};
 ghost use Rattle.rob_rows.specs.PrimitiveParts.{IsPrimitivePart, IsWithin, HasWidePart};

@@ -1,4 +1,4 @@
-// The sizes of a row's entries.
+//! The sizes of a row's entries.
 
 ghost use Rattle.std.specs.Prelude.{◌≡◌, ◌^◌, ◌<◌, ◌≤◌, nat_abs, Any};
 ghost use Rattle.std.specs.Bool.{OnTrue, OnFalse};

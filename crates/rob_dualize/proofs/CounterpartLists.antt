@@ -1,6 +1,5 @@
 -- The counterpart as lists of rows.
 use Rattle.std.proofs.Common.{◌≡◌, ◌≢◌, ◌⊎◌, inl, inr, Bool, true, false, ℕ, suc, ◌+◌, ◌-◌, ◌*◌, ◌/◌, ◌%◌, ◌<◌, ◌≤◌, List, [], ◌∷◌, ◌++◌, length, sym, ap, ap₂, ◌∙◌, subst, arith, cond, ltb, eqb}
-use Rattle.std.proofs.lemmas.Int.{ints}
 use Rattle.std.proofs.lemmas.Nat.{div-mul-add, mod-mul-add}
 use Rattle.std.specs.Prelude.{slice_index_or}
 use lib.IntN.{ℤ, pos, nat_abs, neg_ℤ}
@@ -18,6 +17,7 @@ use Rattle.rob_counterpart.proofs.ReformPlaces.{where_not_less, where_same, wher
 use Rattle.rob_counterpart.proofs.TabulateLemmas.{length-tabulate}
 use Rattle.rob_sets.proofs.RowLemmas.{tabulate-more}
 use Rattle.rob_dualize.proofs.TabulateLemmas.{item-tabulate}
+use Rattle.rob_sets.proofs.SetProgramLemmas.{negated_within}
 
 -- the rows of a program, its right sides and its costs as lists
 pub record IsListed (P : Program) (lp : Lp) : Type 0 where
@@ -83,15 +83,12 @@ write_next d i p count a a' b b' row right l ce w ae be re ge =
     }
 
 -- ---- sizes of the numbers
-neg_small : (limit : ℕ) (v : ℤ) → nat_abs v ≤ limit → nat_abs (neg_ℤ v) ≤ limit
-neg_small limit v h = omega (arith, ints)
-
 cond_small : (limit : ℕ) (t : Bool) (v w : ℤ) → nat_abs v ≤ limit → nat_abs w ≤ limit → nat_abs (cond t v w) ≤ limit
 cond_small limit true v w hv hw = hv
 cond_small limit false v w hv hw = hw
 
 pub turned_small : (limit k : ℕ) (v : ℤ) → nat_abs v ≤ limit → nat_abs (turned k v) ≤ limit
-turned_small limit k v h = cond_small limit (eqb (k % 2) 0) v (neg_ℤ v) h (neg_small limit v h)
+turned_small limit k v h = cond_small limit (eqb (k % 2) 0) v (neg_ℤ v) h (negated_within limit v h)
 
 module _ (d : RobustProgram) (limit : ℕ) (forms : (i k j : ℕ) → nat_abs (d.form i k j) ≤ limit) (left : (r c : ℕ) → nat_abs (d.left r c) ≤ limit)
     (right : (r : ℕ) → nat_abs (d.right r) ≤ limit) (sense : nat_abs d.sense ≤ limit) where
@@ -101,7 +98,7 @@ module _ (d : RobustProgram) (limit : ℕ) (forms : (i k j : ℕ) → nat_abs (d
   plan_small : (i p j : ℕ) → nat_abs (plan_entry d i p j) ≤ limit
   plan_small i p j =
       cond_small limit (ltb p (d.set_columns + d.set_columns)) (turned p (neg_ℤ (entry d i (p / 2) (suc j)))) (d.form i 0 (suc j))
-      (turned_small limit p (neg_ℤ (entry d i (p / 2) (suc j))) (neg_small limit (entry d i (p / 2) (suc j)) (entry_small i (p / 2) (suc j)))) (forms i 0 (suc j))
+      (turned_small limit p (neg_ℤ (entry d i (p / 2) (suc j))) (negated_within limit (entry d i (p / 2) (suc j)) (entry_small i (p / 2) (suc j)))) (forms i 0 (suc j))
 
   multiplier_small : (p r : ℕ) → nat_abs (multiplier_entry d p r) ≤ limit
   multiplier_small p r =
@@ -116,7 +113,7 @@ module _ (d : RobustProgram) (limit : ℕ) (forms : (i k j : ℕ) → nat_abs (d
   right_small : (i p : ℕ) → nat_abs (right_entry d i p) ≤ limit
   right_small i p =
       cond_small limit (ltb p (d.set_columns + d.set_columns)) (turned p (entry d i (p / 2) 0)) (neg_ℤ (d.form i 0 0))
-      (turned_small limit p (entry d i (p / 2) 0) (entry_small i (p / 2) 0)) (neg_small limit (d.form i 0 0) (forms i 0 0))
+      (turned_small limit p (entry d i (p / 2) 0) (entry_small i (p / 2) 0)) (negated_within limit (d.form i 0 0) (forms i 0 0))
 
   cost_small : (k : ℕ) → nat_abs (tau_cost d k) ≤ limit
   cost_small k = cond_small limit (eqb (k / 2) d.decisions) (turned k d.sense) (pos 0) (turned_small limit k d.sense sense) (omega arith)

@@ -17,6 +17,7 @@ use Rattle.rob_sets.specs.declared.set_form.SetRow.{SetRow}
 use Rattle.rob_elab.specs.declared.forms.Forms.{Forms}
 use Rattle.rob_dualize.specs.Wholes.{AreSound, IsSound}
 use Rattle.rob_dualize.proofs.CounterpartLists.{in_multipliers, outside_multipliers}
+use Rattle.rob_meaning.proofs.MatrixLemmas.{matrix_is as matrix_item}
 
 -- a machine number that is small is what it is read as
 pub seen_as : (v w : ℤ) → v ≡ w → nat_abs w ≤ 2 ^ 62 - 1 → to_z w64 (of_z w64 v) ≡ w
@@ -30,11 +31,6 @@ item_any : {A : Type 0} (xs : List A) (k : ℕ) (x d : A) → k < length xs → 
 item_any [] k x d l e = absurd (omega arith)
 item_any (y ∷ xs) zero x d l e = sym e
 item_any (y ∷ xs) (suc k) x d l e = item_any xs k x d (omega arith) e
-
-matrix_item : (all : List (List (List ℤ))) (i : ℕ) (a : List (List ℤ)) → i < length all → a ≡ get_or all i a → matrix_at all i ≡ a
-matrix_item [] i a l e = absurd (omega arith)
-matrix_item (b ∷ all) zero a l e = sym e
-matrix_item (b ∷ all) (suc i) a l e = matrix_item all i a (omega arith) e
 
 module _ (forms : Forms) (sound : AreSound forms) (i k : ℕ) (l : i < length forms.matrices) (kl : k ≤ forms.params)
     (all : List (List (List ℤ))) (a rows : List (List ℤ)) (row numbers : List ℤ)

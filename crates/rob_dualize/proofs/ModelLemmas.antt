@@ -1,22 +1,19 @@
 -- What is answered of one model, from what its steps answer.
 use Rattle.std.proofs.Common.{◌≡◌, ℕ, ◌+◌, ◌-◌, ◌^◌, ◌≤◌, min, max, arith, sym, subst, inl, inr, Result, Ok, Err}
 use Rattle.std.specs.Prelude.{MatchResult, IfErr}
-use Rattle.rob_elab.specs.Forms.{judged_forms}
 use Rattle.rob_meaning.specs.RobustModel.{RobustModel}
 use Rattle.rob_model.specs.declared.place.Spot.{Spot}
 use Rattle.rob_number.specs.Counts.{Rose, raised}
-use Rattle.rob_sets.proofs.JudgedLemmas.{first_left, first_right}
-use Rattle.rob_sets.proofs.SubexpressionLemmas.{each_both}
 use Rattle.rob_sets.specs.FirstWide as writing
-use Rattle.rob_sets.specs.FirstWide.{IsWideThere, NothingWide}
-use Rattle.rob_sets.specs.SetForm.{judged_set}
 use Rattle.rob_sets.specs.declared.error.ElabErr.{ElabErr}
 use Rattle.rob_sets.specs.declared.error.ElabErr.TheVariants as refused
 use Rattle.rob_cert.specs.declared.ending.Stop.{Stop}
 use Rattle.rob_cert.specs.declared.ending.Stop.TheVariants.{EmptySet, Wide, Memory}
 use Rattle.rob_dualize.specs.Ending.{IsWideStop}
-use Rattle.rob_dualize.specs.Models.{HasModelCause, IsRefusal, IsWideIn, IsWritten, RoseIfStopped}
+use Rattle.rob_dualize.specs.Models.{HasModelCause, IsRefusal, IsWideIn, RoseIfStopped}
 use Rattle.rob_dualize.specs.Solving.{CountsStop, HasCause}
+use Rattle.rob_elab.specs.Written.{IsWritten, judged}
+use Rattle.rob_elab.proofs.WrittenLemmas.{rose_wider}
 
 -- ---- why a model has no certificate
 module _ (limit : ℕ) (m : RobustModel) where
@@ -25,21 +22,11 @@ module _ (limit : ℕ) (m : RobustModel) where
   wide_there spot (Wide place trace) wide h = (subst (IsWideIn limit m) (sym h.0) wide, h.1)
   wide_there spot Memory wide h = absurd h
 
-  -- its sets have a wide number
-  pub refused_in_set : (e : ElabErr) (stop : Stop) → writing.HasCause limit m (judged_set m) e → IsRefusal e stop → HasModelCause limit m stop
-  refused_in_set (refused.Wide spot) stop h is = wide_there spot stop (inl (first_left limit m (judged_set m) (judged_forms m) spot h)) is
-  refused_in_set refused.Memory stop h is = subst (HasModelCause limit m) (sym is) tt
-
-  -- its sets have none, but its forms have one
-  pub refused_in_forms : (e : ElabErr) (stop : Stop) → NothingWide limit m (judged_set m) → writing.HasCause limit m (judged_forms m) e → IsRefusal e stop
+  -- a number of its set rows and forms is wide, first; or memory is refused
+  pub refused_written : (e : ElabErr) (stop : Stop) → writing.HasCause limit m (judged m) e → IsRefusal e stop
       → HasModelCause limit m stop
-  refused_in_forms (refused.Wide spot) stop none h is =
-      wide_there spot stop (inl (first_right limit m (judged_set m) (judged_forms m) spot none h)) is
-  refused_in_forms refused.Memory stop none h is = subst (HasModelCause limit m) (sym is) tt
-
-  -- neither has one
-  pub written : NothingWide limit m (judged_set m) → NothingWide limit m (judged_forms m) → IsWritten limit m
-  written h k = each_both (λ j. IsWideThere limit m j → ⊥) (judged_set m) (judged_forms m) h k
+  refused_written (refused.Wide spot) stop h is = wide_there spot stop (inl h) is
+  refused_written refused.Memory stop h is = subst (HasModelCause limit m) (sym is) tt
 
   stop_of_route : (stop : Stop) → IsWritten limit m → HasCause limit m stop → HasModelCause limit m stop
   stop_of_route (EmptySet weights) w h = (w, h)
@@ -52,12 +39,6 @@ module _ (limit : ℕ) (m : RobustModel) where
 
 -- ---- what is counted behind what never fell
 module _ (before between now : ℕ) (least : before ≤ between) where
-  rose_wider : Rose between now → Rose before now
-  rose_wider h =
-      let f : max between (min (between + 1) (2 ^ 64 - 1)) ≤ now = h in
-      let g : max before (min (before + 1) (2 ^ 64 - 1)) ≤ now = omega arith in
-      g
-
   rose_raised : now ≡ raised between → Rose before now
   rose_raised e =
       let f : now ≡ max between (min (between + 1) (2 ^ 64 - 1)) = e in
@@ -66,7 +47,7 @@ module _ (before between now : ℕ) (least : before ≤ between) where
 
   pub refused_counted_behind : (e : ElabErr) (stop : Stop) → writing.RoseIfWide between now e → IsRefusal e stop → RoseIfStopped before now stop
   refused_counted_behind e (EmptySet weights) rose is = tt
-  refused_counted_behind (refused.Wide spot) (Wide place trace) rose is = rose_wider rose
+  refused_counted_behind (refused.Wide spot) (Wide place trace) rose is = rose_wider before between now least rose
   refused_counted_behind refused.Memory (Wide place trace) rose is = cc
   refused_counted_behind e Memory rose is = tt
 

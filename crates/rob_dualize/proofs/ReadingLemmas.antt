@@ -1,7 +1,7 @@
 -- Covers, items and differences, read one after another; and what is read depends on the places alone that are read.
 use Rattle.std.proofs.Common.{◌≡◌, ◌≢◌, ℕ, zero, suc, ◌+◌, ◌*◌, ◌<◌, ◌≤◌, List, [], ◌∷◌, ◌++◌, map, length, refl, sym, ap, ap₂, ◌∙◌, arith, Bool, true, false, inl, inr, append_assoc, drop, ◌^◌, nat_eq, eqb-true, eq-eqb, w32, of_z}
 use Rattle.std.specs.Prelude.{if◌then◌else◌, slice_index_or, ◌&&◌}
-use Rattle.std.proofs.lemmas.List.{append-nil}
+use Rattle.std.proofs.lemmas.List.{append-nil, map-append}
 use Rattle.std.proofs.lemmas.Int.{ints}
 use Rattle.std.specs.Prelude.{◌↔◌}
 use Rattle.std.specs.Bool.{Decides}
@@ -23,19 +23,12 @@ use Rattle.rob_counterpart.specs.Splitting.{difference, plus, minus, OneIsZero}
 use Rattle.rob_counterpart.specs.Reform.{multiplier, positive_row, negative_row, constant_row, block, pairs}
 use Rattle.rob_counterpart.proofs.Blocks.{block_in}
 use Rattle.rob_counterpart.proofs.TabulateLemmas.{tabulate-same}
-use Rattle.rob_sets.proofs.RowLemmas.{tabulate-more, map-append}
+use Rattle.rob_sets.proofs.RowLemmas.{tabulate-more}
 use Rattle.rob_dualize.specs.Numbers.{told}
 use Rattle.rob_counterpart.specs.ReadNumbers.{differences, cover_at, covers_at, covers_to, vector_at, item_at, items_to, concat, covers_kept, items_kept, all_zero}
+use Rattle.rob_counterpart.proofs.KeptLemmas.{covers_kept-append}
 
 -- ---- covers, one after another
-covers_kept-append : (xs ys : List Cover) → covers_kept (xs ++ ys) ≡ covers_kept xs ++ covers_kept ys
-covers_kept-append [] ys = refl
-covers_kept-append (c ∷ xs) ys = by (eq_ℚ c.amount 0ℚ) (covers_kept-append xs ys)
-  where
-    by : (v : Bool) → covers_kept (xs ++ ys) ≡ covers_kept xs ++ covers_kept ys → (if v then covers_kept (xs ++ ys) else c ∷ covers_kept (xs ++ ys)) ≡ (if v then covers_kept xs else c ∷ covers_kept xs) ++ covers_kept ys
-    by true h = h
-    by false h = ap (λ (zs : List Cover). c ∷ zs) h
-
 concat-next : (xs : List (List Cover)) (ys : List Cover) → concat (xs ++ ys ∷ []) ≡ concat xs ++ ys
 concat-next [] ys = append-nil ys
 concat-next (x ∷ xs) ys = ap (λ (zs : List Cover). x ++ zs) (concat-next xs ys) ∙ sym (append_assoc x (concat xs) ys)
@@ -221,8 +214,3 @@ zero_bits r l e = omega (arith, ints)
 
 pub zero_test : {P : Type 0} (r : ℤ) → mag r < 2 ^ 31 → (r ≡ pos 0) ↔ P → Decides (nat_eq (of_z w32 r) 0) P
 zero_test r l f = (λ e. f.0 (zero_bits r l (eqb-true (of_z w32 r) 0 e)), λ p. eq-eqb (of_z w32 r) 0 (ap (of_z w32) (f.1 p)))
-
--- a test that says no
-pub refuted : {P : Type 0} (t : Bool) → Decides t P → t ≡ false → P → ⊥
-refuted true d e p = cc
-refuted false d e p = let f : false ≡ true = d.1 p in cc

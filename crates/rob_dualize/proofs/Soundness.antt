@@ -1,5 +1,5 @@
 -- Forms and set rows of one model can be read at each place, and their numbers are the model's.
-use Rattle.std.proofs.Common.{◌≡◌, ℕ, zero, suc, ◌-◌, ◌^◌, ◌<◌, ◌≤◌, List, [], ◌∷◌, map, length, refl, sym, ap, ap₂, ◌∙◌, subst, arith}
+use Rattle.std.proofs.Common.{◌≡◌, ℕ, zero, suc, ◌-◌, ◌^◌, ◌<◌, ◌≤◌, List, [], ◌∷◌, map, length, sym, ap, ap₂, ◌∙◌, subst, arith}
 use Rattle.std.proofs.lemmas.List.{length-map}
 use Rattle.std.specs.Prelude.{slice_index_or}
 use lib.IntN.{ℤ, nat_abs}
@@ -26,16 +26,9 @@ use Rattle.rob_counterpart.specs.RobustProgram.{RobustProgram}
 use Rattle.rob_counterpart.specs.Counterpart.{cell, sign_of, robust_of}
 use Rattle.rob_counterpart.proofs.ModelLemmas.{set_shape}
 use Rattle.rob_dualize.specs.Wholes.{wholes, AreSound, IsSound}
+use Rattle.rob_sets.proofs.SetProgramLemmas.{left_sides-cleared, right_sides-cleared, rights_within}
 
 -- ---- the model's numbers
-lefts_are : (m : RobustModel) (rows : List meaning.SetRow) → left_sides (map (cleared_row m) rows) ≡ map (whole_row m) rows
-lefts_are m [] = refl
-lefts_are m (r ∷ rows) = ap (λ (xs : List (List ℤ)). whole_row m r ∷ xs) (lefts_are m rows)
-
-rights_are : (m : RobustModel) (rows : List meaning.SetRow) → right_sides (map (cleared_row m) rows) ≡ map (whole_limit m) rows
-rights_are m [] = refl
-rights_are m (r ∷ rows) = ap (λ (xs : List ℤ). whole_limit m r ∷ xs) (rights_are m rows)
-
 -- a robust program, from its parts
 abbrev program : (forms parameters decisions set_rows set_columns : ℕ) (all : List (List (List ℤ))) (left : List (List ℤ)) (right : List ℤ) (sense : ℤ) → RobustProgram
 program forms parameters decisions set_rows set_columns all left right sense = record {
@@ -54,8 +47,8 @@ pub wholes_are : (m : RobustModel) (forms : Forms) (set : SetForm) → IsForms m
 wholes_are m forms set f s =
     let ml : length forms.matrices ≡ length (matrices m) = ap length f.matrices in
     let sl : length set.rows ≡ length (set_rows m) = ap length s.rows ∙ length-map (set_rows m) (cleared_row m) in
-    let l : left_sides set.rows ≡ map (whole_row m) (set_rows m) = ap left_sides s.rows ∙ lefts_are m (set_rows m) in
-    let r : right_sides set.rows ≡ map (whole_limit m) (set_rows m) = ap right_sides s.rows ∙ rights_are m (set_rows m) in
+    let l : left_sides set.rows ≡ map (whole_row m) (set_rows m) = ap left_sides s.rows ∙ left_sides-cleared m (set_rows m) in
+    let r : right_sides set.rows ≡ map (whole_limit m) (set_rows m) = ap right_sides s.rows ∙ right_sides-cleared m (set_rows m) in
     ap₂ (λ v w. program v w forms.columns (length set.rows) set.columns forms.matrices (left_sides set.rows) (right_sides set.rows) (sign_of (sense_of forms.sense))) ml f.params
     ∙ ap₂ (λ v w. program (length (matrices m)) (length m.parameters) v w set.columns forms.matrices (left_sides set.rows) (right_sides set.rows) (sign_of (sense_of forms.sense))) f.columns sl
     ∙ ap₂ (λ v w. program (length (matrices m)) (length m.parameters) (column_count m) (length (set_rows m)) v w (left_sides set.rows) (right_sides set.rows) (sign_of (sense_of forms.sense))) s.columns f.matrices
@@ -75,7 +68,7 @@ row_width m n (x ∷ rows) zero h l = sym (length-map (whole_row m x) of_int) �
 row_width m n (x ∷ rows) (suc r) h l = row_width m n rows r h.1 (omega arith)
 
 -- ---- sizes
-at_small : (limit : ℕ) (row : List ℤ) → Each (λ a. nat_abs a ≤ limit) row → (j : ℕ) → nat_abs (at row j) ≤ limit
+pub at_small : (limit : ℕ) (row : List ℤ) → Each (λ a. nat_abs a ≤ limit) row → (j : ℕ) → nat_abs (at row j) ≤ limit
 at_small limit [] h j = omega arith
 at_small limit (x ∷ row) h zero = h.0
 at_small limit (x ∷ row) h (suc j) = at_small limit row h.1 j
@@ -94,10 +87,6 @@ lefts_fit : (limit : ℕ) (rows : List SetRow) → Each (RowFits limit) rows →
 lefts_fit limit [] h = tt
 lefts_fit limit (r ∷ rows) h = (h.0.coefficients, lefts_fit limit rows h.1)
 
-rights_fit : (limit : ℕ) (rows : List SetRow) → Each (RowFits limit) rows → Each (λ a. nat_abs a ≤ limit) (right_sides rows)
-rights_fit limit [] h = tt
-rights_fit limit (r ∷ rows) h = (h.0.right_side, rights_fit limit rows h.1)
-
 module _ (limit : ℕ) (forms : Forms) (set : SetForm) (h : FormsFit limit forms) (k : SetFits limit set) where
   pub form_fits : (i k j : ℕ) → nat_abs (cell (matrix_at forms.matrices i) k j) ≤ limit
   form_fits = form_small limit forms.matrices h
@@ -106,7 +95,7 @@ module _ (limit : ℕ) (forms : Forms) (set : SetForm) (h : FormsFit limit forms
   left_fits = cell_small limit (left_sides set.rows) (lefts_fit limit set.rows k)
 
   pub right_fits : (r : ℕ) → nat_abs (at (right_sides set.rows) r) ≤ limit
-  right_fits = at_small limit (right_sides set.rows) (rights_fit limit set.rows k)
+  right_fits = at_small limit (right_sides set.rows) (rights_within limit set.rows k)
 
 -- ---- both
 module _ (forms : Forms) (set : SetForm) (one : AreElaborated (2 ^ 62 - 1) forms set) where
@@ -129,7 +118,7 @@ module _ (forms : Forms) (set : SetForm) (one : AreElaborated (2 ^ 62 - 1) forms
 
   pub set_sound : IsSound set
   set_sound =
-      let l : left_sides set.rows ≡ map (whole_row one.model) (set_rows one.model) = ap left_sides one.is_set.rows ∙ lefts_are one.model (set_rows one.model) in
+      let l : left_sides set.rows ≡ map (whole_row one.model) (set_rows one.model) = ap left_sides one.is_set.rows ∙ left_sides-cleared one.model (set_rows one.model) in
       record {
         columns = λ r rl. ap (λ rows. length (slice_index_or rows r [])) l
             ∙ row_width one.model (set_column_count one.model) (set_rows one.model) r (set_shape one.model) (let e : length set.rows ≡ length (set_rows one.model) = ap length one.is_set.rows ∙ length-map (set_rows one.model) (cleared_row one.model) in omega arith)

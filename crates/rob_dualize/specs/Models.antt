@@ -1,25 +1,16 @@
 -- What is answered of one model: it is written in whole numbers, and its robust counterpart is solved.
-use Rattle.std.specs.Prelude.{◌≡◌, ◌⊎◌, ◌++◌, ℕ, List, [], Result, IfErr, ⊤}
+use Rattle.std.specs.Prelude.{◌≡◌, ◌⊎◌, ℕ, [], Result, IfErr, ⊤}
 use Rattle.rob_meaning.specs.RobustModel.{RobustModel}
 use Rattle.rob_model.specs.declared.place.Spot.{Spot}
 use Rattle.rob_number.specs.Counts.{NeverFell, Rose}
-use Rattle.rob_sets.specs.FirstWide.{IsFirstWide, Judged, NothingWide}
-use Rattle.rob_sets.specs.SetForm.{judged_set}
+use Rattle.rob_sets.specs.FirstWide.{IsFirstWide}
 use Rattle.rob_sets.specs.declared.error.ElabErr.{ElabErr}
 use Rattle.rob_sets.specs.declared.error.ElabErr.TheVariants as refused
-use Rattle.rob_elab.specs.Forms.{judged_forms}
+use Rattle.rob_elab.specs.Written.{IsWritten, judged}
 use Rattle.rob_cert.specs.declared.ending.Stop.{Stop}
 use Rattle.rob_cert.specs.declared.ending.Stop.TheVariants.{EmptySet, Wide, Memory}
 use Rattle.rob_dualize.specs.Ending.{IsWideStop}
 use Rattle.rob_dualize.specs.Solving.{IsWideOnPath, TellsEmpty}
-
--- what is judged when the model is written in whole numbers, in order: its sets before its forms
-abbrev pub judged : RobustModel → List Judged
-judged m = judged_set m ++ judged_forms m
-
--- nothing is wide when the model is written in whole numbers
-abbrev pub IsWritten : ℕ → RobustModel → Type 0
-IsWritten limit m = NothingWide limit m (judged m)
 
 -- the spot is wide for the model by the reformulation route: where its set rows and forms are written in whole numbers
 -- it is the first; or nothing is wide there, and it is a row of a basis on the path of the set's program or of the

@@ -18,4 +18,5 @@ module _ {N : Type 0} (value : N → Fraction) where
   -- of each pair of equating rows one number is 0
   abbrev pub KeepRows : RobustProgram → List N → Type 0
   KeepRows d numbers =
-      (i c : ℕ) → i < d.forms → c < d.set_columns → OneIsZero (told numbers (negative_row d i c)) (told numbers (positive_row d i c))
+      (i c : ℕ) → i < d.forms → c < d.set_columns
+      → OneIsZero (told numbers (negative_row d i c)) (told numbers (positive_row d i c))

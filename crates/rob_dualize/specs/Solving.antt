@@ -37,7 +37,8 @@ use Rattle.rob_cert.specs.declared.ending.Stop.TheVariants.{EmptySet, Wide, Memo
 abbrev pub HasScenario : RobustModel → Type 0
 HasScenario m = (u : List Fraction) × Admits m u
 
--- the certificate is read off the rows of the counterpart at this basis, in the entering column where they are unbounded
+-- the certificate is read off the rows of the counterpart at this basis, in the entering column where they are
+-- unbounded
 abbrev pub IsReadAt : RobustModel → Columns → Matrix → Status → Certificate → Type 0
 IsReadAt m basis rows optimal c =
     (x y : ℕ → Fraction) × IsReadOptimal m (own_of (system_of (counterpart m)) basis) rows x y c
@@ -70,8 +71,8 @@ pub record IsSolution (m : RobustModel) (c : Certificate) : Type 0 where
   pub read : IsReadAtEnd m c
   pub inside : IsLastScenario m c.inside
 
--- no joint scenario is admitted, as the Farkas weights of the last basis of the set's program show. They belong to rows of one set,
--- which admits nothing itself
+-- no joint scenario is admitted, as the Farkas weights of the last basis of the set's program show. They belong to rows
+-- of one set, which admits nothing itself
 pub record IsShownEmpty (m : RobustModel) (weights : List Fraction) : Type 0 where
   pub empty : IsEmptySet m
   pub shows : ShowsEmpty m weights
@@ -95,8 +96,8 @@ pub record TellsWideRow (limit : ℕ) (P : Program) (basis : List ℕ) (i : ℕ)
   pub whole : length basis ≡ P.m
   pub row : HasWideRow limit P (columns_of basis) i
 
--- the row of that position is wide at the told basis, which is on the path of the set's program, or, where some scenario
--- is admitted, of the counterpart
+-- the row of that position is wide at the told basis, which is on the path of the set's program, or, where some
+-- scenario is admitted, of the counterpart
 abbrev pub IsWideOnPath : ℕ → RobustModel → Spot → Type 0
 IsWideOnPath limit m (spot.Dictionary program.Set basis i) = TellsWideRow limit (set_program m) basis i
 IsWideOnPath limit m (spot.Dictionary program.Reform basis i) =

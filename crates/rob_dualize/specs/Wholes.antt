@@ -33,8 +33,8 @@ counterpart_of forms set = reform (wholes forms set)
 abbrev pub IsFew : Program → Type 0
 IsFew P = P.n + P.m < 2 ^ 31
 
--- what the numbers are read by: each matrix has a row for the constant and each parameter, each row a number for the constant,
--- each decision column and tau; and no number is over 2^62 - 1 in size
+-- what the numbers are read by: each matrix has a row for the constant and each parameter, each row a number for the
+-- constant, each decision column and tau; and no number is over 2^62 - 1 in size
 pub record AreSound (forms : Forms) : Type 0 where
   pub rows : (i : ℕ) → i < length forms.matrices → length (matrix_at forms.matrices i) ≡ suc forms.params
   pub columns : (i k : ℕ) → i < length forms.matrices → k ≤ forms.params

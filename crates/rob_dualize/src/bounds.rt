@@ -8,7 +8,7 @@ ghost use Rattle.rob_sets.specs.SetForm.{IsSetForm};
 ghost use Rattle.rob_elab.specs.Elaborated.{AreElaborated};
 ghost use Rattle.rob_elab.specs.Forms.{IsForms};
 ghost use Rattle.rob_dualize.specs.RowBounds.{AreBothWithin, TellsBound, TellsBounds};
-ghost use Rattle.rob_dualize.specs.SetSolving.{IsSetOfModel, IsFewSet, program_of_set};
+ghost use Rattle.rob_dualize.specs.SetSolving.{IsSetOfModel, program_of_set};
 ghost use Rattle.rob_dualize.specs.Solving.{IsNarrowModel};
 ghost use Rattle.rob_dualize.specs.Wholes.{counterpart_of, IsFew};
 

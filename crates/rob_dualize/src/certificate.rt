@@ -1,4 +1,4 @@
-// The certificate that is read off an ending of the counterpart.
+//! The certificate that is read off an ending of the counterpart.
 
 ghost use Rattle.std.specs.Prelude.{◌≡◌, ◌≤◌, IfOk};
 ghost use Rattle.rob_model.specs.View.{scenario_of};

@@ -1,4 +1,4 @@
-// The robust counterpart as a linear program, row by row.
+//! The robust counterpart as a linear program, row by row.
 
 ghost use Rattle.std.specs.Prelude.{◌≡◌, ◌<◌, ◌≤◌, ◌-◌, ◌^◌, ℕ, ℤ, pos, length, IfOk, OnOk};
 ghost use Rattle.rob_meaning.specs.Places.{tabulate};
@@ -8,7 +8,7 @@ ghost use Rattle.rob_elab.specs.Elaborated.{AreElaborated};
 ghost use Rattle.rob_elab.specs.Forms.{FormsFit, IsForms};
 ghost use Rattle.rob_rows.specs.LinearPrograms.{IsShaped, HasNumbersWithin, program_of};
 ghost use Rattle.rob_counterpart.specs.Counterpart.{counterpart};
-ghost use Rattle.rob_counterpart.specs.Reform.{block, row_entry, tau_cost};
+ghost use Rattle.rob_counterpart.specs.Reform.{row_entry, tau_cost};
 ghost use Rattle.rob_counterpart.specs.SamePrograms.{AreSame};
 ghost use Rattle.rob_dualize.specs.Wholes.{wholes, counterpart_of, IsFew, AreSound, IsSound};
 
@@ -19,11 +19,11 @@ use rob_rows::Lp;
 use rob_sets::SetForm;
 use std::alloc::Global;
 
-/// The robust counterpart: maximise `tau` or its negation, as the sense says. Its columns are the decision columns and `tau`,
-/// each as a pair whose first column counts positively; then a multiplier for each form and set row. Its rows, for each form:
-/// for each set column two rows that equate the multipliers' sum of the set rows with the form's number at the plan, the one
-/// with the positive multipliers first; then one row that bounds the multipliers' sum of the right sides. (Ben-Tal, El Ghaoui,
-/// Nemirovski, Robust Optimization, chapter 1.)
+/// The robust counterpart: maximise `tau` or its negation, as the sense says. Its columns are the decision columns and
+/// `tau`, each as a pair whose first column counts positively; then a multiplier for each form and set row. Its rows,
+/// for each form: for each set column two rows that equate the multipliers' sum of the set rows with the form's number
+/// at the plan, the one with the positive multipliers first; then one row that bounds the multipliers' sum of the right
+/// sides. (Ben-Tal, El Ghaoui, Nemirovski, Robust Optimization, chapter 1.)
 pub fn reform(alloc: Global, forms: &Forms, set: &SetForm) -> Result<Lp, Memory>
     requires model { AreElaborated (2 ^ 62 - 1) forms.now set.now }
     requires few { IsFew (counterpart_of forms.now set.now) }
@@ -48,7 +48,7 @@ pub fn reform(alloc: Global, forms: &Forms, set: &SetForm) -> Result<Lp, Memory>
     Ok(Lp { a, b, c })
 }
 
-// Appends form i's numbers of row p, up to the column before `to`.
+/// Appends form i's numbers of row p, up to the column before `to`.
 fn push_numbers(
     numbers: &mut Vec<i64>,
     forms: &Forms,
@@ -62,7 +62,8 @@ fn push_numbers(
     requires few { IsFew (counterpart_of forms.now set.now) }
     requires form_in { i < length forms.now.matrices }
     requires to_in { (length numbers.old.items ≤ to) × (to ≤ (counterpart_of forms.now set.now).n) }
-    requires so_far { numbers.old.items ≡ tabulate (length numbers.old.items) (row_entry (wholes forms.now set.now) i p) }
+    requires so_far { numbers.old.items ≡ tabulate (length numbers.old.items)
+        (row_entry (wholes forms.now set.now) i p) }
     ensures more { OnOk result (numbers.new.items ≡ tabulate to (row_entry (wholes forms.now set.now) i p)) }
 {
     for k in numbers.len()..to {
@@ -71,7 +72,7 @@ fn push_numbers(
     Ok(())
 }
 
-// Appends zeros, up to the place before `to`.
+/// Appends zeros, up to the place before `to`.
 fn push_zeros(numbers: &mut Vec<i64>, to: usize) -> Result<(), Memory>
     requires to_in { length numbers.old.items ≤ to }
     ensures more { (f : ℕ → ℤ) → numbers.old.items ≡ tabulate (length numbers.old.items) f
@@ -90,7 +91,8 @@ fn row(alloc: Global, forms: &Forms, set: &SetForm, i: usize, p: usize) -> Resul
     requires set { IsSound set.now }
     requires few { IsFew (counterpart_of forms.now set.now) }
     requires form_in { i < length forms.now.matrices }
-    ensures row { IfOk result (λ row. row ≡ tabulate (counterpart_of forms.now set.now).n (row_entry (wholes forms.now set.now) i p)) }
+    ensures row { IfOk result (λ row. row
+        ≡ tabulate (counterpart_of forms.now set.now).n (row_entry (wholes forms.now set.now) i p)) }
 {
     let plan = 2 * (forms.columns as usize + 1);
     let rows = set.rows.items().len();
@@ -107,7 +109,8 @@ fn row(alloc: Global, forms: &Forms, set: &SetForm, i: usize, p: usize) -> Resul
 /// The costs of all columns.
 fn costs(alloc: Global, forms: &Forms, set: &SetForm) -> Result<List<i64>, Memory>
     requires few { IsFew (counterpart_of forms.now set.now) }
-    ensures costs { IfOk result (λ costs. costs ≡ tabulate (counterpart_of forms.now set.now).n (tau_cost (wholes forms.now set.now))) }
+    ensures costs { IfOk result (λ costs. costs
+        ≡ tabulate (counterpart_of forms.now set.now).n (tau_cost (wholes forms.now set.now))) }
 {
     let mut numbers = List::new(alloc);
     for k in 0..program_columns(forms, set) {

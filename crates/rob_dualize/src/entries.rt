@@ -1,4 +1,4 @@
-// The numbers of the counterpart, by form, row of that form, and column.
+//! The numbers of the counterpart, by form, row of that form, and column.
 
 ghost use Rattle.std.specs.Prelude.{◌≡◌, ◌<◌, ◌≤◌, ◌+◌, ◌-◌, ◌*◌, ◌^◌, suc, nat_abs, length};
 ghost use Rattle.rob_linear.specs.Vectors.{at};
@@ -6,7 +6,7 @@ ghost use Rattle.rob_meaning.specs.Forms.{matrix_at};
 ghost use Rattle.rob_counterpart.specs.Counterpart.{cell};
 ghost use Rattle.rob_counterpart.specs.RobustProgram.{entry as entry_of};
 ghost use Rattle.rob_counterpart.specs.Splitting.{turned as turned_of};
-ghost use Rattle.rob_counterpart.specs.Reform.{block, plan_entry, multiplier_entry, right_entry, row_entry, tau_cost};
+ghost use Rattle.rob_counterpart.specs.Reform.{plan_entry, multiplier_entry, right_entry, row_entry, tau_cost};
 ghost use Rattle.rob_sets.specs.SetProgram.{left_sides, right_sides};
 ghost use Rattle.rob_dualize.specs.Wholes.{wholes, counterpart_of, IsFew, AreSound, IsSound};
 

@@ -1,4 +1,4 @@
-// What the calls' conditions ask of a model.
+//! What the calls' conditions ask of a model.
 
 ghost use Rattle.std.specs.Prelude.{◌^◌, ◌-◌, ◌∷◌, [], ℕ, pos};
 ghost use Rattle.rob_algebra.specs.Fraction.{of_int};
@@ -23,7 +23,8 @@ ghost use Rattle.rob_dualize.specs.Wholes.{counterpart_of, IsFew};
 /// Models within the limits can be solved. It does nothing, and its clause is the claim.
 pub fn size_laws()
     // The rows and columns of the counterpart are as few as a solver takes.
-    ensures few { (m : RobustModel) (forms : Forms) (set : SetForm) → IsWithinLimits m → IsForms m forms → IsSetForm m set
+    ensures few { (m : RobustModel) (forms : Forms) (set : SetForm) → IsWithinLimits m → IsForms m forms
+        → IsSetForm m set
         → IsFew (counterpart_of forms set) }
 {}
 

@@ -1,5 +1,5 @@
-//! The reformulation route: the robust counterpart of a model, solved by the simplex method, and the certificate that is
-//! read off its last basis.
+//! The reformulation route: the robust counterpart of a model, solved by the simplex method, and the certificate that
+//! is read off its last basis.
 #![tactic(auto)]
 
 pub mod bounds;

@@ -1,19 +1,19 @@
-// One model: its set rows and forms in whole numbers, and then the route.
+//! One model: its set rows and forms in whole numbers, and then the route.
 
 ghost use Rattle.std.specs.Prelude.{IfOk, IfErr, OnOk};
 ghost use Rattle.rob_cert.specs.View.{certificate_of};
 ghost use Rattle.rob_model.specs.Valid.{IsValid};
 ghost use Rattle.rob_model.specs.View.{robust};
-ghost use Rattle.rob_dualize.specs.Models.{CountsModel, HasModelCause, IsRefusal, IsWritten};
+ghost use Rattle.rob_dualize.specs.Models.{CountsModel, HasModelCause, IsRefusal};
+ghost use Rattle.rob_elab.specs.Written.{IsWritten};
 ghost use Rattle.rob_dualize.specs.Solving.{IsSolution};
 
 use crate::route::solve_dual;
 use crate::stop::wide_at;
 use rob_cert::{Cert, Stop};
-use rob_elab::elaborate;
+use rob_elab::{ElabErr, written};
 use rob_model::Model;
 use rob_number::{Exact, Ledger};
-use rob_sets::{ElabErr, clear_set};
 use std::alloc::Global;
 
 /// The certificate of a model, by one solve of its robust counterpart, as `solve_dual` gives it. `EmptySet` comes where
@@ -31,15 +31,10 @@ pub fn solve_model<N: Exact, L: Ledger>(
     ensures cause { IfErr result (HasModelCause N.limit (robust N.value model.now)) }
     ensures counted { CountsModel L.ops L.wides ledger.old ledger.new result }
 {
-    let set = match clear_set(alloc, model, ledger) {
-        Ok(set) => set,
-        Err(error) => return Err(refused(alloc, error)),
-    };
-    let forms = match elaborate(alloc, model, &set, ledger) {
-        Ok(forms) => forms,
-        Err(error) => return Err(refused(alloc, error)),
-    };
-    solve_dual(alloc, &forms, &set, ledger)
+    match written(alloc, model, ledger) {
+        Ok((set, forms)) => solve_dual(alloc, &forms, &set, ledger),
+        Err(error) => Err(refused(alloc, error)),
+    }
 }
 
 /// The same refusal.

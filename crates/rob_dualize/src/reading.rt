@@ -1,13 +1,13 @@
-// Plans, covers and items, read off the numbers of an ending. The columns of a pair, and a pair of equating rows, count as the
-// difference of their numbers.
+//! Plans, covers and items, read off the numbers of an ending. The columns of a pair, and a pair of equating rows,
+//! count as the difference of their numbers.
 
 ghost use Rattle.std.specs.Prelude.{◌≡◌, ◌<◌, ◌≤◌, ◌+◌, ◌*◌, ◌^◌, ◌++◌, ℕ, suc, map, length, IfOk, IsTrue, ◌↔◌};
 ghost use Rattle.std.specs.Bool.{Decides};
 ghost use Rattle.rob_algebra.specs.Fraction.{◌-ℚ◌};
-ghost use Rattle.rob_meaning.specs.Places.{0ℚ, 1ℚ, tabulate};
+ghost use Rattle.rob_meaning.specs.Places.{0ℚ};
 ghost use Rattle.rob_cert.specs.View.{cover_of, item_of};
 ghost use Rattle.rob_counterpart.specs.Splitting.{difference as difference_of, OneIsZero, plus, minus};
-ghost use Rattle.rob_counterpart.specs.Reform.{positive_row, negative_row, pairs, block};
+ghost use Rattle.rob_counterpart.specs.Reform.{pairs};
 ghost use Rattle.rob_dualize.specs.Numbers.{told, KeepPairs, KeepRows};
 ghost use Rattle.rob_counterpart.specs.ReadNumbers.{differences, covers_at, covers_to, vector_at, items_to, all_zero, covers_kept};
 ghost use Rattle.rob_dualize.specs.Wholes.{wholes, counterpart_of, IsFew};
@@ -84,7 +84,8 @@ fn append_covers<N: Exact>(
     requires numbers { length numbers.now ≡ (counterpart_of forms.now set.now).n }
     requires form_in { i < length forms.now.matrices }
     ensures covers { IfOk result (λ _. map (cover_of N.value) all.new
-        ≡ map (cover_of N.value) all.old ++ covers_kept (covers_at (wholes forms.now set.now) (told N.value numbers.now) i)) }
+        ≡ map (cover_of N.value) all.old
+        ++ covers_kept (covers_at (wholes forms.now set.now) (told N.value numbers.now) i)) }
 {
     let rows = set.rows.items().len();
     let first = 2 * (forms.columns as usize + 1) + i * rows;

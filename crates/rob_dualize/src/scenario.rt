@@ -1,4 +1,4 @@
-// A scenario that is admitted, or weights that show that there is none.
+//! A scenario that is admitted, or weights that show that there is none.
 
 ghost use Rattle.rob_meaning.specs.RobustModel.{RobustModel};
 ghost use Rattle.rob_meaning.specs.WellFormed.{IsModel};
@@ -17,8 +17,8 @@ use rob_number::{Exact, Ledger, Memory};
 use rob_sets::SetForm;
 use std::alloc::Global;
 
-/// A scenario of the set: the parameters of the basic solution of the last basis of the set's program. Where no scenario
-/// is admitted, the Farkas weights of that basis.
+/// A scenario of the set: the parameters of the basic solution of the last basis of the set's program. Where no
+/// scenario is admitted, the Farkas weights of that basis.
 pub fn scenario<N: Exact, L: Ledger>(
     alloc: Global,
     forms: &Forms,

@@ -1,4 +1,4 @@
-// The program of an uncertainty set, solved.
+//! The program of an uncertainty set, solved.
 
 ghost use Rattle.std.specs.Prelude.{◌≡◌, ◌<◌, ◌≤◌, ◌+◌, ◌^◌, ℕ, map, IfOk, IfErr, MatchResult};
 ghost use Rattle.rob_meaning.specs.RobustModel.{RobustModel};

@@ -1,4 +1,4 @@
-// The robust counterpart, told row by row.
+//! The robust counterpart, told row by row.
 
 ghost use Rattle.std.specs.Prelude.{◌≡◌, ◌<◌, ◌≤◌, ◌⊎◌, ℕ, length};
 ghost use Rattle.rob_linear.specs.Vectors.{at};
@@ -48,8 +48,8 @@ impl<'a> Rows for Counterpart<'a> {
     ghost shaped = { λ source _. listed_is_shaped (counterpart_of source.forms.now source.set.now) };
 }
 
-// Writes form i's row p: the numbers at the plan's columns and at the form's own multipliers, and 0 at those of other
-// forms.
+/// Writes form i's row p: the numbers at the plan's columns and at the form's own multipliers, and 0 at those of other
+/// forms.
 fn write_form_row(forms: &Forms, set: &SetForm, i: usize, p: usize, numbers: &mut [i64])
     requires told { CanBeTold forms.now set.now }
     requires form_in { i < length forms.now.matrices }
@@ -62,7 +62,7 @@ fn write_form_row(forms: &Forms, set: &SetForm, i: usize, p: usize, numbers: &mu
     write_multipliers(forms, set, i, p, numbers);
 }
 
-// Writes its numbers at the plan's columns.
+/// Writes its numbers at the plan's columns.
 fn write_plan(forms: &Forms, set: &SetForm, i: usize, p: usize, numbers: &mut [i64])
     requires told { CanBeTold forms.now set.now }
     requires form_in { i < length forms.now.matrices }
@@ -76,7 +76,7 @@ fn write_plan(forms: &Forms, set: &SetForm, i: usize, p: usize, numbers: &mut [i
     }
 }
 
-// Writes its numbers at the form's own multipliers.
+/// Writes its numbers at the form's own multipliers.
 fn write_multipliers(forms: &Forms, set: &SetForm, i: usize, p: usize, numbers: &mut [i64])
     requires told { CanBeTold forms.now set.now }
     requires form_in { i < length forms.now.matrices }
@@ -95,7 +95,7 @@ fn write_multipliers(forms: &Forms, set: &SetForm, i: usize, p: usize, numbers: 
     }
 }
 
-// Writes the costs of all columns.
+/// Writes the costs of all columns.
 fn write_costs(forms: &Forms, set: &SetForm, numbers: &mut [i64])
     requires size { length numbers.old ≡ (counterpart_of forms.now set.now).n }
     ensures costs { numbers.new

@@ -1,4 +1,4 @@
-// Why the route stops.
+//! Why the route stops.
 
 ghost use Rattle.std.specs.Prelude.{◌≡◌, IsOk, IsErr, MatchResult, Ok};
 ghost use Rattle.rob_cert.specs.declared.ending.Stop.TheVariants.{Memory as OutOfMemory};

@@ -1,4 +1,4 @@
-// The numbers that a solver tells, as lists.
+//! The numbers that a solver tells, as lists.
 
 ghost use Rattle.std.specs.Prelude.{◌≡◌, ◌≤◌, ℕ, map, nat_abs, IfOk};
 ghost use Rattle.rob_algebra.specs.Fraction.{of_int};

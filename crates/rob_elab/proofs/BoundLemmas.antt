@@ -12,16 +12,20 @@ use Rattle.rob_sets.proofs.PrefixLemmas.{number_is}
 module _ (e : Expression) where
   -- the forms of a bound that may be declared
   abbrev pub bound_form : Bool → Option Fraction → List Expression
-  bound_form lower bound = if_declared (λ b. if lower then difference (constant b) e else difference e (constant b)) bound
+  bound_form lower bound =
+      if_declared (λ b. if lower then difference (constant b) e else difference e (constant b)) bound
 
-  module _ {N : Type 0} (value : N → Fraction) (lower : Bool) (bound : Option N) (b : N) (declared : bound ≡ Some b) where
-    pub lower_form : lower ≡ true → difference (expression_of value (Number b)) e ∷ [] ≡ bound_form lower (option_map value bound)
+  module _ {N : Type 0} (value : N → Fraction) (lower : Bool) (bound : Option N) (b : N)
+      (declared : bound ≡ Some b) where
+    pub lower_form : lower ≡ true → difference (expression_of value (Number b)) e ∷ []
+        ≡ bound_form lower (option_map value bound)
     lower_form is_lower =
         ap (λ (x : Expression). difference x e ∷ []) (number_is value (Number b) b refl)
         ∙ sym (ap (λ (side : Bool). bound_form side (option_map value bound)) is_lower
         ∙ ap (λ (d : Option N). bound_form true (option_map value d)) declared)
 
-    pub upper_form : lower ≡ false → difference e (expression_of value (Number b)) ∷ [] ≡ bound_form lower (option_map value bound)
+    pub upper_form : lower ≡ false → difference e (expression_of value (Number b)) ∷ []
+        ≡ bound_form lower (option_map value bound)
     upper_form is_upper =
         ap (λ (x : Expression). difference e x ∷ []) (number_is value (Number b) b refl)
         ∙ sym (ap (λ (side : Bool). bound_form side (option_map value bound)) is_upper

@@ -4,3 +4,4 @@ pub mod ColumnLemmas
 pub mod LeftLemmas
 pub mod ObjectiveLemmas
 pub mod RowLemmas
+pub mod WrittenLemmas

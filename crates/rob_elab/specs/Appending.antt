@@ -8,6 +8,7 @@ use Rattle.rob_sets.specs.declared.error.ElabErr.{ElabErr}
 use Rattle.rob_elab.specs.Forms.{MatrixFits, judged_from}
 
 -- the matrices of forms are appended, the first of which has number `i`, or the call says why not
-abbrev pub Appends : ℕ → RobustModel → ℕ → List Expression → List (List (List ℤ)) → List (List (List ℤ)) → ℕ → ℕ → Result (Unit {0}) ElabErr → Type 0
+abbrev pub Appends : ℕ → RobustModel → ℕ → List Expression → List (List (List ℤ)) → List (List (List ℤ)) → ℕ → ℕ
+    → Result (Unit {0}) ElabErr → Type 0
 Appends limit m i forms old new before now result =
     AppendsOr (matrix_of m) (MatrixFits limit) limit m forms (judged_from m i forms) old new before now result

@@ -6,7 +6,8 @@ use Rattle.rob_sets.specs.declared.set_form.SetForm.{SetForm}
 use Rattle.rob_elab.specs.Forms.{FormsFit, IsForms}
 use Rattle.rob_elab.specs.declared.forms.Forms.{Forms}
 
--- the forms are those of the model, the set rows are those of its sets, and no number of theirs is over the limit in size
+-- the forms are those of the model, the set rows are those of its sets, and no number of theirs is over the limit in
+-- size
 pub record IsElaborated (limit : ℕ) (m : RobustModel) (forms : Forms) (set : SetForm) : Type 0 where
   pub are_forms : IsForms m forms
   pub is_set : IsSetForm m set

@@ -38,7 +38,8 @@ module _ (m : RobustModel) where
   abbrev pub judged_from : ℕ → List Expression → List Judged
   judged_from i [] = []
   judged_from i (e ∷ es) =
-      judge.coefficients (Form i) e ∷ (judge.clearing (Form i) (entries (entries_of m (table m e))) ∷ judged_from (suc i) es)
+      judge.coefficients (Form i) e ∷ (judge.clearing (Form i) (entries (entries_of m (table m e)))
+      ∷ judged_from (suc i) es)
 
   -- the forms in order
   abbrev pub judged_forms : List Judged

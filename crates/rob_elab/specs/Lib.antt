@@ -1,3 +1,4 @@
 pub mod Appending
 pub mod Elaborated
 pub mod Forms
+pub mod Written

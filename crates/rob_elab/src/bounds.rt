@@ -1,4 +1,4 @@
-// The forms of the declared bounds of variables and of adaptive variables.
+//! The forms of the declared bounds of variables and of adaptive variables.
 
 ghost use Rattle.std.specs.Prelude.{◌≡◌, ◌<◌, ◌+◌, ◌∷◌, [], zero, length, option_map, if◌then◌else◌};
 ghost use Rattle.rob_number.specs.Counts.{NeverFell};

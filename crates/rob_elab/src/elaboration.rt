@@ -1,4 +1,4 @@
-// The forms of a model, in order.
+//! The forms of a model, in order.
 
 ghost use Rattle.std.specs.Prelude.{◌≡◌, zero, [], OnOk, IfOk, IfErr};
 ghost use Rattle.rob_number.specs.Counts.{NeverFell};
@@ -19,10 +19,10 @@ use rob_number::{Exact, Ledger, List};
 use rob_sets::{ElabErr, SetForm};
 use std::alloc::Global;
 
-/// The forms of a model in whole numbers: each matrix times its least common denominator. Forms are computed in order, and
-/// in each the coefficients, subexpression by subexpression, come before the clearing; `Wide` names the first spot of that
-/// order where a number is wide. The set form is that of the model; the forms don't depend on it. A form takes time in
-/// proportion to its tree and to its matrix, which is filled once.
+/// The forms of a model in whole numbers: each matrix times its least common denominator. Forms are computed in order,
+/// and in each the coefficients, subexpression by subexpression, come before the clearing; `Wide` names the first spot
+/// of that order where a number is wide. The set form is that of the model; the forms don't depend on it. A form takes
+/// time in proportion to its tree and to its matrix, which is filled once.
 pub fn elaborate<N: Exact, L: Ledger>(
     alloc: Global,
     model: &Model<N>,
@@ -33,8 +33,10 @@ pub fn elaborate<N: Exact, L: Ledger>(
     ensures forms { IfOk result (λ forms. IsForms (robust N.value model.now) forms) }
     ensures fits { IfOk result (λ forms. FormsFit N.limit forms) }
     // An answer comes only where nothing that is judged is wide; a refusal names the first spot where something is.
-    ensures none_wide { OnOk result (NothingWide N.limit (robust N.value model.now) (judged_forms (robust N.value model.now))) }
-    ensures cause { IfErr result (HasCause N.limit (robust N.value model.now) (judged_forms (robust N.value model.now))) }
+    ensures none_wide { OnOk result (NothingWide N.limit (robust N.value model.now)
+        (judged_forms (robust N.value model.now))) }
+    ensures cause { IfErr result (HasCause N.limit (robust N.value model.now)
+        (judged_forms (robust N.value model.now))) }
     ensures rose { IfErr result (RoseIfWide (L.wides ledger.old) (L.wides ledger.new)) }
     ensures counted { NeverFell L.ops L.wides ledger.old ledger.new }
 {

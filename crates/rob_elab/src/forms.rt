@@ -1,11 +1,11 @@
-// The forms of a model in whole numbers.
+//! The forms of a model in whole numbers.
 
 use rob_model::Sense;
 use rob_number::List;
 
-/// The robust constraints of a model, each an expression that is at most 0 in every joint scenario, times its least common
-/// denominator. Form 0 is the objective's, with `tau` for its bound; the rows follow, and the declared bounds of variables and
-/// adaptive variables. (Ben-Tal, El Ghaoui, Nemirovski, Robust Optimization, chapter 1.)
+/// The robust constraints of a model, each an expression that is at most 0 in every joint scenario, times its least
+/// common denominator. Form 0 is the objective's, with `tau` for its bound; the rows follow, and the declared bounds of
+/// variables and adaptive variables. (Ben-Tal, El Ghaoui, Nemirovski, Robust Optimization, chapter 1.)
 #[derive(Debug, Drop)]
 pub struct Forms {
     /// The number of decision columns.

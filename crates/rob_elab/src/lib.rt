@@ -8,7 +8,9 @@ pub mod laws;
 pub mod matrix;
 pub mod objective;
 pub mod rows;
+pub mod writing;
 
 pub use elaboration::elaborate;
 pub use forms::Forms;
 pub use rob_sets::ElabErr;
+pub use writing::written;

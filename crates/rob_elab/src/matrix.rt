@@ -1,4 +1,4 @@
-// One form: its table in rows, and its matrix in whole numbers.
+//! One form: its table in rows, and its matrix in whole numbers.
 
 ghost use Rattle.std.specs.Prelude.{◌≡◌, ◌≤◌, ◌<◌, ◌+◌, ◌++◌, ◌∷◌, [], ℕ, map, length, OnOk, IfOk, IfErr, MatchOption};
 ghost use Rattle.rob_algebra.specs.Width.{IsWideWhole};

@@ -1,4 +1,4 @@
-// The objective's form: the epigraph of the objective, with `tau` for its bound.
+//! The objective's form: the epigraph of the objective, with `tau` for its bound.
 
 ghost use Rattle.std.specs.Prelude.{◌≡◌, ◌<◌, ◌∷◌, [], ℕ, true, length, OnOk, IfOk, IfErr};
 ghost use Rattle.rob_algebra.specs.Fraction.{◌+ℚ◌};
@@ -49,12 +49,16 @@ fn objective_table<N: Exact, L: Ledger>(
 ) -> Result<Table<N>, Stop>
     requires valid { IsValid N.value model.now }
     ensures table { IfOk result (λ t. (k j : ℕ) → numbers_of N.value t k j ≡ table_of (robust N.value model.now)
-        (objective_form (robust N.value model.now).sense (robust N.value model.now).objective (tau_column (robust N.value model.now))) k j) }
-    ensures none_wide { OnOk result (Each (λ s. HasWideCoefficient N.limit (robust N.value model.now) s → ⊥) (subexpressions
-        (objective_form (robust N.value model.now).sense (robust N.value model.now).objective (tau_column (robust N.value model.now))))) }
+        (objective_form (robust N.value model.now).sense (robust N.value model.now).objective
+        (tau_column (robust N.value model.now))) k j) }
+    ensures none_wide { OnOk result (Each (λ s. HasWideCoefficient N.limit (robust N.value model.now) s → ⊥)
+        (subexpressions
+        (objective_form (robust N.value model.now).sense (robust N.value model.now).objective
+        (tau_column (robust N.value model.now))))) }
     ensures wide { IfErr result (StopsFor (Rose (L.wides ledger.old) (L.wides ledger.new)
         × Some_of (HasWideCoefficient N.limit (robust N.value model.now)) (subexpressions
-        (objective_form (robust N.value model.now).sense (robust N.value model.now).objective (tau_column (robust N.value model.now)))))) }
+        (objective_form (robust N.value model.now).sense (robust N.value model.now).objective
+        (tau_column (robust N.value model.now)))))) }
     ensures counted { NeverFell L.ops L.wides ledger.old ledger.new }
 {
     let goal = coefficients(alloc, &model.objective, model, ledger)?;
@@ -76,7 +80,8 @@ pub fn append_objective<N: Exact, L: Ledger>(
     requires valid { IsValid N.value model.now }
     requires few { length matrices.old < 1000 }
     ensures form { Appends N.limit (robust N.value model.now) (length matrices.old)
-        (objective_form (robust N.value model.now).sense (robust N.value model.now).objective (tau_column (robust N.value model.now)) ∷ [])
+        (objective_form (robust N.value model.now).sense (robust N.value model.now).objective
+        (tau_column (robust N.value model.now)) ∷ [])
         matrices.old matrices.new (L.wides ledger.old) (L.wides ledger.new) result }
     ensures counted { NeverFell L.ops L.wides ledger.old ledger.new }
 {

@@ -1,4 +1,4 @@
-// The forms of rows: differences of two sides.
+//! The forms of rows: differences of two sides.
 
 ghost use Rattle.std.specs.Prelude.{◌≡◌, ◌<◌, ◌+◌, ◌∷◌, [], length};
 ghost use Rattle.rob_number.specs.Counts.{NeverFell};

@@ -1,5 +1,6 @@
--- The model of a number is that of the number's remainder by 12, so that it is well formed is tested of twelve models. That
--- it is within the limits and well named is tested for 2, 3, 4 and 5 periods, since the centres count nothing for it.
+-- The model of a number is that of the number's remainder by 12, so that it is well
+-- formed is tested of twelve models. That it is within the limits and well named is
+-- tested for 2, 3, 4 and 5 periods, since the centres count nothing for it.
 use Rattle.std.proofs.Common.{◌≡◌, ℕ, suc, ◌+◌, ◌%◌, ◌^◌, ◌<◌, List, [], ◌∷◌, map, length, ap, sym, ◌∙◌, subst, arith}
 use Rattle.std.specs.Fmt.{digits}
 use Rattle.std.specs.Prelude.{◌≢◌, Option, Some, None, codes}
@@ -60,7 +61,8 @@ test_limits m =
 four_limited : (centres : ℕ → ℕ) (r : ℕ) → r < 4 → IsWithinLimits (model_over (r + 2) centres)
 unfolding ratio digits
 four_limited centres =
-    found (test_numbers 4 (λ r. IsWithinLimits (model_over (r + 2) centres)) (λ r. test_limits (model_over (r + 2) centres))) tt
+    found (test_numbers 4 (λ r. IsWithinLimits (model_over (r + 2) centres))
+    (λ r. test_limits (model_over (r + 2) centres))) tt
 
 pub within_limits : (n : ℕ) → IsWithinLimits (generated n)
 within_limits = by_periods IsWithinLimits four_limited
@@ -131,7 +133,8 @@ unfolding ratio digits
 twelve_admitted =
     found
     (test_numbers 12 (λ r. HasScenario (generated r))
-    (λ r. so (λ (h : Admits (generated r) (central r)). (central r, h)) (test_admits (generated r) (well_formed r) (central r))))
+    (λ r. so (λ (h : Admits (generated r) (central r)). (central r, h))
+    (test_admits (generated r) (well_formed r) (central r))))
     tt
 
 pub admitted : (n : ℕ) → HasScenario (generated n)

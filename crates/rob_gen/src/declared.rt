@@ -1,4 +1,4 @@
-// What the model declares: demands, the budget's members, and orders.
+//! What the model declares: demands, the budget's members, and orders.
 
 ghost use Rattle.std.specs.Prelude.{◌≡◌, ◌≤◌, ◌<◌, ◌^◌, ◌+◌, ◌-◌, [], ◌∷◌, map, IfOk};
 ghost use Rattle.rob_meaning.specs.Places.{tabulate};

@@ -1,4 +1,4 @@
-// The model's expressions: orders, demands, stock and cost.
+//! The model's expressions: orders, demands, stock and cost.
 
 ghost use Rattle.std.specs.Prelude.{◌≡◌, ◌≤◌, ◌<◌, ◌^◌, ◌-◌, suc, ◌++◌, map, IfOk, OnOk};
 ghost use Rattle.rob_meaning.specs.Expressions.{parameter};

@@ -1,4 +1,4 @@
-// The model of a number.
+//! The model of a number.
 
 ghost use Rattle.std.specs.Prelude.{◌≡◌, ◌≤◌, IfOk};
 ghost use Rattle.rob_model.specs.Valid.{IsValid};

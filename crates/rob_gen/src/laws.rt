@@ -1,4 +1,4 @@
-// What the model of a number is, for every number.
+//! What the model of a number is, for every number.
 
 ghost use Rattle.std.specs.Prelude.{◌≡◌, ℕ, ◌%◌, List};
 ghost use Rattle.rob_algebra.specs.Fraction.{Fraction};

@@ -1,4 +1,4 @@
-// The model's rows.
+//! The model's rows.
 
 ghost use Rattle.std.specs.Prelude.{◌≡◌, ◌≤◌, ◌<◌, map, IfOk};
 ghost use Rattle.rob_meaning.specs.Places.{tabulate};

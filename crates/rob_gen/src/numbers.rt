@@ -1,4 +1,4 @@
-// Small whole numbers, the centres of demands, numbered names and lists of places.
+//! Small whole numbers, the centres of demands, numbered names and lists of places.
 
 ghost use Rattle.std.specs.Prelude.{◌≡◌, ◌≤◌, ◌<◌, ◌^◌, ◌+◌, ◌++◌, IfOk};
 ghost use Rattle.rob_meaning.specs.Places.{tabulate};

@@ -16,9 +16,10 @@ use Rattle.rob_linear.proofs.Solutions.{own_below}
 use Rattle.rob_linear.proofs.Endings.{own_positive, improving_not_basic}
 use Rattle.rob_linear.proofs.Unique.{point_exists, move_exists}
 use Rattle.rob_linear.proofs.Truths.{infeasible, unbounded}
-use Rattle.rob_linear.proofs.Scaling.{of_int_lt, cancel_ℚ, swap_factor, zero_scaled, over, over_scaled}
+use Rattle.rob_linear.proofs.Scaling.{cancel_ℚ, swap_factor, zero_scaled, over, over_scaled}
 use Rattle.rob_linear.proofs.Optimality.{not_objective, optimal_ending, optimal_duals_ℚ, farkas, no_greatest_is_unbounded}
 use Rattle.rob_linear.proofs.LastBases.{HasEnded, last_ends, last_exists}
+use Rattle.rob_algebra.proofs.WholeNumbers.{of_int_lt}
 
 -- each basis has a basic solution
 pub basic_point_exists : (S : System) (own : ℕ → ℕ) (rows : ℕ → ℕ → ℤ) → IsBasis S own rows → (x : ℕ → Fraction)

@@ -7,24 +7,16 @@ use lib.Signed.{◌<ℤ◌, ◌≤ℤ◌}
 use Rattle.rob_algebra.specs.Ring.{lit, ◌:+◌, ◌:*◌, v0, v1, v2, v3}
 use Rattle.rob_algebra.specs.Integer.{mul-pos_z, *ℤ_comm}
 use Rattle.rob_algebra.specs.IntRing as Z
-use Rattle.rob_algebra.specs.Fraction.{Fraction, of_int, of_pair, ◌+ℚ◌, ◌*ℚ◌, ◌≤ℚ◌, ◌<ℚ◌, is_int, is_self, is_mul, is_of_pair, same_is, is_le_in, is_le_out, is_lt_in, is_lt_out, den_pos, pos_lt}
+use Rattle.rob_algebra.specs.Fraction.{Fraction, of_int, of_pair, ◌+ℚ◌, ◌*ℚ◌, ◌≤ℚ◌, ◌<ℚ◌, is_int, is_self, is_mul, is_of_pair, same_is, den_pos, pos_lt}
 use Rattle.rob_algebra.specs.FractionLaws.{ring, of_int-add, of_int-mul, mul_mono_ℚ, cancel_le_ℚ, le_antisym_ℚ, le_refl_ℚ, le_total_ℚ}
 use Rattle.rob_linear.specs.Vectors.{sum_to, dot}
 use Rattle.rob_linear.specs.Programs.{Program, Admits, Keeps, IsDual}
 use Rattle.rob_linear.specs.Optimality.{linear_form, IsFeasible, objective_at, IsDualFeasible, dual_objective_at, IsImprovingRay, IsScaled}
 use Rattle.rob_linear.proofs.Unique.{scaled_to}
 use Rattle.rob_linear.proofs.Sums.{sum_ext}
+use Rattle.rob_algebra.proofs.WholeNumbers.{of_int_le, le_of_int, of_int_lt}
 
--- ---- whole numbers as fractions
-pub of_int_le : (a b : ℤ) → a ≤ℤ b → of_int a ≤ℚ of_int b
-of_int_le a b h = is_le_in (is_int a) (is_int b) (omega (arith, ints))
-
-pub le_of_int : (a b : ℤ) → of_int a ≤ℚ of_int b → a ≤ℤ b
-le_of_int a b h = let k : (a *ℤ pos 1) ≤ℤ (b *ℤ pos 1) = is_le_out (is_int a) (is_int b) h in omega (arith, ints)
-
-pub of_int_lt : (a b : ℤ) → a <ℤ b → of_int a <ℚ of_int b
-of_int_lt a b h = is_lt_in (is_int a) (is_int b) (omega (arith, ints))
-
+-- ---- whole factors
 -- a positive whole factor cancels
 pub cancel_ℚ : (s : ℤ) (x y : Fraction) → pos 0 <ℤ s → of_int s *ℚ x ≡ of_int s *ℚ y → x ≡ y
 cancel_ℚ s x y sp e =

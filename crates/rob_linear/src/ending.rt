@@ -2,7 +2,7 @@
 
 ghost use Rattle.std.specs.Prelude.{◌≡◌, ℕ, ◌+◌, ◌<◌, ℤ, pos, ◌*ℤ◌, ◌<ℤ◌};
 ghost use Rattle.rob_algebra.specs.Fraction.{Fraction};
-ghost use Rattle.rob_linear.specs.Vectors.{dot, Columns, Matrix, Vector};
+ghost use Rattle.rob_linear.specs.Vectors.{Columns, Matrix, Vector};
 ghost use Rattle.rob_linear.specs.Systems.{System, IsBasis, IsSolution, Feasible, Point, Move, EndsOptimal, EndsUnbounded, IsPrimitive};
 ghost use Rattle.rob_linear.specs.Programs.{Program, system_of, auxiliary_of, IsBest, IsDual, ShowsEmpty, Admits, Keeps, HasNoGreatest, EndsInfeasible, FallsIntoBlocks, LieInOneBlock};
 ghost use Rattle.rob_linear.specs.Optimality.{IsFeasible, objective_at, IsOptimal, IsInfeasible, IsUnbounded, IsDualFeasible, dual_objective_at, IsImprovingRay, IsScaled, IsBasicPoint, IsBasicMove};

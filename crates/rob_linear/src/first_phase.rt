@@ -4,7 +4,7 @@ ghost use Rattle.std.specs.Prelude.{◌≡◌, ◌≢◌, ℕ, zero, suc, ◌+�
 ghost use Rattle.std.specs.Int.RustNames.{unsigned_abs};
 ghost use Rattle.rob_linear.specs.Vectors.{Columns, Matrix, Vector};
 ghost use Rattle.rob_linear.specs.Systems.{System, right, RowOf, IsPrimitive, IsBasis, IsNonnegative};
-ghost use Rattle.rob_linear.specs.Programs.{Program, without_auxiliary, auxiliary_place, system_of, auxiliary_of, auxiliary_row, kept_row, kept_of, ShowsEmpty, EndsInfeasible};
+ghost use Rattle.rob_linear.specs.Programs.{Program, without_auxiliary, auxiliary_place, system_of, auxiliary_of, auxiliary_row, kept_row, kept_of};
 ghost use Rattle.rob_linear.specs.Turns.{own_of, Enters, Leaves, StandsWith};
 ghost use Rattle.rob_linear.specs.Rank.{rank, IsWithin};
 ghost use Rattle.rob_linear.specs.Paths.{auxiliary_column, StartsAtSlacks, StartsAtAuxiliary, HasAuxiliary, Turned, Reached, EndsInFirstPhase};

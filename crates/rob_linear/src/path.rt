@@ -3,9 +3,9 @@
 
 ghost use Rattle.std.specs.Prelude.{ℕ, suc, ◌+◌, ◌^◌, ◌<◌, ℤ, ◌⊎◌};
 ghost use Rattle.rob_linear.specs.Vectors.{Columns, Matrix};
-ghost use Rattle.rob_linear.specs.Systems.{System, IsTagged, IsBasis, IsNonnegative};
-ghost use Rattle.rob_linear.specs.Programs.{Program, system_of, auxiliary_of};
-ghost use Rattle.rob_linear.specs.Turns.{Enters, Rises, own_of, IsSameBasis, StandsWith, TurnsFrom};
+ghost use Rattle.rob_linear.specs.Systems.{System, IsTagged};
+ghost use Rattle.rob_linear.specs.Programs.{Program};
+ghost use Rattle.rob_linear.specs.Turns.{Rises, IsSameBasis, StandsWith, TurnsFrom};
 ghost use Rattle.rob_linear.specs.Paths.{Turned, Reached, Last, LastFrom, EndsAtOptimum, EndsAtRay, EndsInFirstPhase};
 
 /// Turns from a basis: the objective's row rises, no basis comes back, and there are fewer turns

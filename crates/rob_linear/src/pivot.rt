@@ -3,7 +3,7 @@
 ghost use Rattle.std.specs.Prelude.{ℕ, ◌<◌, ℤ};
 ghost use Rattle.rob_linear.specs.Vectors.{Columns, Matrix, Vector};
 ghost use Rattle.rob_linear.specs.Systems.{System, IsTagged, IsBasis};
-ghost use Rattle.rob_linear.specs.Turns.{IsPivotable, IsExchange, IsPivot, IsTurn, IsLexFeasible, Rises, own_of, IsSameBasis, StandsWith, TurnsTo};
+ghost use Rattle.rob_linear.specs.Turns.{IsPivotable, IsExchange, IsPivot, IsTurn, IsLexFeasible, Rises, own_of, IsSameBasis, TurnsTo};
 ghost use Rattle.rob_linear.specs.Rank.{rank, rank_limit, IsWithin};
 
 /// A pivot turns the rows of a basis into the rows of the next, and each pivot at a positive entry

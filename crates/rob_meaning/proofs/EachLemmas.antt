@@ -1,6 +1,6 @@
 -- Properties of each item of a list.
-use Rattle.std.specs.Prelude.{◌≡◌, ℕ, zero, suc, All, get_or, List, [], ◌∷◌, ◌++◌, Option, Some, None}
-use Rattle.std.proofs.Common.{arith, refl}
+use Rattle.std.specs.Prelude.{◌≡◌, ℕ, zero, suc, ◌<◌, All, get_or, List, [], ◌∷◌, ◌++◌, length, map, Option, Some, None}
+use Rattle.std.proofs.Common.{arith, subst, sym}
 use Rattle.rob_algebra.specs.Fraction.{Fraction}
 use Rattle.rob_meaning.specs.Places.{0ℚ, at, Each}
 use Rattle.rob_meaning.specs.SetConditions.{if_declared}
@@ -8,6 +8,11 @@ use Rattle.rob_meaning.specs.SetConditions.{if_declared}
 pub each_append : {A : Type 0} (P : A → Type 0) (xs ys : List A) → Each P xs → Each P ys → Each P (xs ++ ys)
 each_append P [] ys h k = k
 each_append P (x ∷ xs) ys h k = (h.0, each_append P xs ys h.1 k)
+
+-- an item more
+pub each_push : {A : Type 0} (P : A → Type 0) (xs : List A) (x : A) → Each P xs → P x → Each P (xs ++ x ∷ [])
+each_push P [] x h p = (p, tt)
+each_push P (y ∷ xs) x h p = (h.0, each_push P xs x h.1 p)
 
 pub each_left : {A : Type 0} (P : A → Type 0) (xs ys : List A) → Each P (xs ++ ys) → Each P xs
 each_left P [] ys h = tt
@@ -43,3 +48,11 @@ pub each_at : {A : Type 0} (P : A → Type 0) (xs : List A) → Each P xs → Al
 each_at P [] h k d some = absurd (omega arith)
 each_at P (x ∷ xs) h zero d some = h.0
 each_at P (x ∷ xs) h (suc k) d some = each_at P xs h.1 k d (omega arith)
+
+-- what is true of what each item is made to, is true of what the item at a place is made to
+pub each_get : {A B : Type 0} (P : B → Type 0) (f : A → B) (xs : List A) (i : ℕ) (x : A)
+    → i < length xs → x ≡ get_or xs i x
+    → Each P (map f xs) → P (f x)
+each_get P f [] i x h e all = absurd (omega arith)
+each_get P f (y ∷ xs) zero x h e all = subst (λ z. P (f z)) (sym e) all.0
+each_get P f (y ∷ xs) (suc i) x h e all = each_get P f xs i x (omega arith) e all.1

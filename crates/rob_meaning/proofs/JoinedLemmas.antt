@@ -10,7 +10,7 @@ use Rattle.rob_meaning.specs.Names.{Name, Parts, behind_dots, joined}
 use Rattle.rob_meaning.specs.Places.{Each}
 
 -- ---- lists of bytes
-head_same : {A : Type 0} (x y : A) (xs ys : List A) → x ∷ xs ≡ y ∷ ys → x ≡ y
+pub head_same : {A : Type 0} (x y : A) (xs ys : List A) → x ∷ xs ≡ y ∷ ys → x ≡ y
 head_same x y xs ys e = ap (λ zs. get_or zs 0 x) e
 
 tail_of_list : {A : Type 0} → List A → List A

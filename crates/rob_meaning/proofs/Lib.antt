@@ -4,6 +4,7 @@ pub mod LinearLemmas
 pub mod AbsoluteLemmas
 pub mod TableLemmas
 pub mod TabulateLemmas
+pub mod OrderLemmas
 pub mod EntryLemmas
 pub mod ClearingLemmas
 pub mod LeastLemmas

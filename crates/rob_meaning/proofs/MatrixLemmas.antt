@@ -1,6 +1,6 @@
 -- The matrix of an expression at a vector and a plan: its table there, times the least common denominator.
-use Rattle.std.specs.Prelude.{◌≡◌, ℕ, zero, suc, ◌<◌, ℤ, pos, List, [], ◌∷◌, length, map, refl}
-use Rattle.std.proofs.Common.{◌∙◌, ap, ap₂, subst, arith}
+use Rattle.std.specs.Prelude.{◌≡◌, ℕ, zero, suc, ◌<◌, ℤ, pos, List, [], ◌∷◌, length, map, get_or, refl}
+use Rattle.std.proofs.Common.{◌∙◌, ap, ap₂, subst, sym, arith}
 use Rattle.std.proofs.lemmas.List.{length-map}
 use Rattle.rob_algebra.specs.Fraction.{Fraction, of_int, ◌+ℚ◌, ◌*ℚ◌, ◌≤ℚ◌, ◌<ℚ◌}
 use Rattle.rob_algebra.specs.FractionLaws as Q
@@ -18,6 +18,13 @@ use Rattle.rob_meaning.specs.Forms.{entries_of, form_columns, form_rows, forms, 
 use Rattle.rob_meaning.specs.Places.{0ℚ, 1ℚ, Each, along, tabulate}
 use Rattle.rob_meaning.specs.RobustModel.{RobustModel, column_count}
 use Rattle.rob_meaning.specs.Values.{value}
+
+-- the matrix of a number that is there
+pub matrix_is : (forms : List (List (List ℤ))) (i : ℕ) (form : List (List ℤ)) → i < length forms
+    → form ≡ get_or forms i form → matrix_at forms i ≡ form
+matrix_is [] i form inside is = absurd (omega arith)
+matrix_is (a ∷ forms) zero form inside is = sym is
+matrix_is (a ∷ forms) (suc i) form inside is = matrix_is forms i form (omega arith) is
 
 pub dot-scale_right : (c : Fraction) (xs ys : List Fraction) → dot ℚ_ring xs (scale ℚ_ring c ys) ≡ c *ℚ dot ℚ_ring xs ys
 dot-scale_right c xs ys =

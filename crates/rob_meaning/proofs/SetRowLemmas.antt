@@ -1,5 +1,5 @@
 -- A vector meets the set conditions taken s times exactly where some numbers in the columns t make all set rows hold.
-use Rattle.std.specs.Prelude.{◌≡◌, ℕ, zero, suc, ◌+◌, pos, List, [], ◌∷◌, ◌++◌, length, map, refl}
+use Rattle.std.specs.Prelude.{◌≡◌, ℕ, zero, suc, ◌+◌, ◌*◌, pos, List, [], ◌∷◌, ◌++◌, length, map, refl}
 use Rattle.std.proofs.Common.{sym, ◌∙◌, ap, ap₂, subst, arith, append_assoc, length-append}
 use Rattle.rob_algebra.specs.Fraction.{Fraction, ◌+ℚ◌, ◌-ℚ◌, ◌*ℚ◌, neg_ℚ, ◌≤ℚ◌, ◌<ℚ◌}
 use Rattle.rob_algebra.specs.FractionLaws as Q
@@ -25,6 +25,11 @@ use Rattle.rob_meaning.specs.WellFormed.{IsMember, IsSetLine}
 -- a set row, before it is cleared, with its right side taken s times holds in the parameters p and the columns t
 pub record RowHolds (s : Fraction) (p t : List Fraction) (r : SetRow) : Type 0 where
   pub at_most : along r.on_parameters p +ℚ along r.on_lifts t ≤ℚ s *ℚ r.limit
+
+-- two rows for each member
+pub length-member_rows : (t : ℕ) (hs : List Member) → length (member_rows t hs) ≡ 2 * length hs
+length-member_rows t [] = refl
+length-member_rows t (h ∷ hs) = omega (arith, length-member_rows (suc t) hs)
 
 module _ (m : RobustModel) (s : Fraction) (p : List Fraction) where
   -- what an expression of the set counts, taken s times: its coefficients at p, and s times its constant

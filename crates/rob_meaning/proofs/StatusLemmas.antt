@@ -17,6 +17,10 @@ pub no_worse_both : (sense : Sense) (a b : Fraction) → IsNoWorse sense a b →
 no_worse_both minimise a b h k = Q.le_antisym_ℚ a b h k
 no_worse_both maximise a b h k = Q.le_antisym_ℚ a b k h
 
+pub no_worse_refl : (sense : Sense) (a : Fraction) → IsNoWorse sense a a
+no_worse_refl minimise a = Q.le_refl_ℚ a
+no_worse_refl maximise a = Q.le_refl_ℚ a
+
 pub no_worse_trans : (sense : Sense) (a b c : Fraction) → IsNoWorse sense a b → IsNoWorse sense b c →
     IsNoWorse sense a c
 no_worse_trans minimise a b c h k = Q.le_trans_ℚ a b c h k

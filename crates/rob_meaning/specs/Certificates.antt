@@ -1,6 +1,6 @@
 -- Certificates, as data: what a solver hands out, so that its answer can be checked without it.
 -- Multipliers: Schrijver, Theory of Linear and Integer Programming (1986), chapter 7.
-use Rattle.std.specs.Prelude.{ℕ, List}
+use Rattle.std.specs.Prelude.{◌≡◌, ◌<◌, ◌⊎◌, ℕ, List}
 use Rattle.rob_algebra.specs.Fraction.{Fraction}
 
 -- what a certificate claims
@@ -12,6 +12,10 @@ pub record Cover : Type 0 where
   pub form : ℕ
   pub set_row : ℕ
   pub amount : Fraction
+
+-- a cover stands before another: by form, then set row; so no form and set row have two
+abbrev pub IsBefore : Cover → Cover → Type 0
+IsBefore a b = (a.form < b.form) ⊎ ((a.form ≡ b.form) × (a.set_row < b.set_row))
 
 -- a form with a weight, and where the form is taken: at a vector that is `base`
 -- times a scenario, or, with base 0, a ray

@@ -26,6 +26,11 @@ abbrev pub EachFrom : {A : Type 0} → ℕ → (ℕ → A → Type 0) → List A
 EachFrom k P [] = Unit {0}
 EachFrom k P (x ∷ xs) = P k x × EachFrom (suc k) P xs
 
+-- each item stands in the relation to all behind it
+abbrev pub InOrder : {A : Type 0} → (A → A → Type 0) → List A → Type 0
+InOrder R [] = Unit {0}
+InOrder R (x ∷ xs) = Each (R x) xs × InOrder R xs
+
 -- the list of f 0, f 1 .. f (n - 1)
 abbrev pub tabulate : {A : Type 0} → ℕ → (ℕ → A) → List A
 tabulate zero f = []

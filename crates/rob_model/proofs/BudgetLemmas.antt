@@ -15,7 +15,8 @@ use Rattle.rob_model.specs.declared.model.SetLine.{SetLine}
 use Rattle.rob_model.specs.declared.model.SetLine.TheVariants.{Budget}
 
 module _ {N : Type 0} (value : N → Fraction) (m : RobustModel) where
-  members_positive : (hs : List (Member N)) → Each (IsMember m) (map (member_of value) hs) → Each (λ (h : Member N). 0ℚ <ℚ value h.deviation) hs
+  members_positive : (hs : List (Member N)) → Each (IsMember m) (map (member_of value) hs)
+      → Each (λ (h : Member N). 0ℚ <ℚ value h.deviation) hs
   members_positive [] all = tt
   members_positive (h ∷ hs) all = (all.0.1, members_positive hs all.1)
 
@@ -31,22 +32,29 @@ module _ {N : Type 0} (value : N → Fraction) (m : RobustModel) where
       budget_test total = kept limit (s *ℚ value most) >>= (λ scaled. Some (is_at_most total scaled))
 
       -- a budget is judged by its members' sum, and then s times its limit
-      budget_step : holds_within limit m s p (stated (set_line_of value line)) ≡ (total_within limit m s p (map (member_of value) xs) 0ℚ >>= budget_test)
+      budget_step : holds_within limit m s p (stated (set_line_of value line))
+          ≡ (total_within limit m s p (map (member_of value) xs) 0ℚ >>= budget_test)
       unfolding budget_test
       budget_step =
           ap (λ (l : SetLine N). holds_within limit m s p (stated (set_line_of value l))) is
-          ∙ ap (λ (ys : List (Member N)). total_within limit m s p (map (member_of value) ys) 0ℚ >>= budget_test) (sym same)
+          ∙ ap (λ (ys : List (Member N)). total_within limit m s p (map (member_of value) ys) 0ℚ >>= budget_test)
+          (sym same)
 
-      pub budget_stops : None ≡ total_within limit m s p (map (member_of value) xs) 0ℚ → None ≡ holds_within limit m s p (stated (set_line_of value line))
+      pub budget_stops : None ≡ total_within limit m s p (map (member_of value) xs) 0ℚ
+          → None ≡ holds_within limit m s p (stated (set_line_of value line))
       budget_stops none = stops _ budget_test none ∙ sym budget_step
 
       module _ (total : Fraction) (some : Some total ≡ total_within limit m s p (map (member_of value) xs) 0ℚ) where
-        pub limit_stops : None ≡ kept limit (s *ℚ value most) → None ≡ holds_within limit m s p (stated (set_line_of value line))
+        pub limit_stops : None ≡ kept limit (s *ℚ value most)
+            → None ≡ holds_within limit m s p (stated (set_line_of value line))
         unfolding budget_test
-        limit_stops none = stops _ (λ scaled. Some (is_at_most total scaled)) none ∙ goes _ budget_test total some ∙ sym budget_step
+        limit_stops none =
+            stops _ (λ scaled. Some (is_at_most total scaled)) none ∙ goes _ budget_test total some ∙ sym budget_step
 
-        pub budget_is : (scaled : Fraction) (b : Bool) → Some scaled ≡ kept limit (s *ℚ value most) → b ≡ is_at_most total scaled
+        pub budget_is : (scaled : Fraction) (b : Bool) → Some scaled ≡ kept limit (s *ℚ value most)
+            → b ≡ is_at_most total scaled
             → Some b ≡ holds_within limit m s p (stated (set_line_of value line))
         unfolding budget_test
         budget_is scaled b is_kept test =
-            ap Some test ∙ goes _ (λ scaled. Some (is_at_most total scaled)) scaled is_kept ∙ goes _ budget_test total some ∙ sym budget_step
+            ap Some test ∙ goes _ (λ scaled. Some (is_at_most total scaled)) scaled is_kept
+            ∙ goes _ budget_test total some ∙ sym budget_step

@@ -27,15 +27,22 @@ two_sides at_most name = omega arith
 two_sides at_least name = omega arith
 two_sides equal name = omega arith
 
-two_each : {A : Type 0} (f : A → List Name) → ((x : A) → length (f x) ≤ 2) → (xs : List A) → length (flat_map f xs) ≤ 2 * length xs
+two_each : {A : Type 0} (f : A → List Name) → ((x : A) → length (f x) ≤ 2) → (xs : List A)
+    → length (flat_map f xs) ≤ 2 * length xs
 two_each f h [] = omega arith
 two_each f h (x ∷ xs) = omega (arith, h x, two_each f h xs, length-append (f x) (flat_map f xs))
 
-row_names_few : (ps : List Parameter) (n : ℕ) (cs : List SetLine) → length (by_statement (statement_row_names ps) n cs) ≤ 2 * length cs + 2 * lift_count cs
+row_names_few : (ps : List Parameter) (n : ℕ) (cs : List SetLine)
+    → length (by_statement (statement_row_names ps) n cs) ≤ 2 * length cs + 2 * lift_count cs
 unfolding by_statement
 row_names_few ps n [] = omega arith
 row_names_few ps n (line l r e ∷ cs) =
-    omega (arith, two_sides r (numbered (codes "set") n), row_names_few ps (suc n) cs, length-append (statement_row_names ps n (line l r e)) (by_statement (statement_row_names ps) (suc n) cs))
+    omega (
+      arith,
+      two_sides r (numbered (codes "set") n),
+      row_names_few ps (suc n) cs,
+      length-append (statement_row_names ps n (line l r e)) (by_statement (statement_row_names ps) (suc n) cs),
+    )
 row_names_few ps n (budget limit hs ∷ cs) =
     omega (
       arith,
@@ -51,7 +58,7 @@ conditions_few n (line l r e ∷ cs) = ap suc (conditions_few (suc n) cs)
 conditions_few n (budget limit hs ∷ cs) = ap suc (conditions_few (suc n) cs)
 
 -- each adaptive variable has a column
-columns_many : (column : ℕ) (ys : List AdaptiveVariable) → column + length ys ≤ column_from column ys (length ys)
+pub columns_many : (column : ℕ) (ys : List AdaptiveVariable) → column + length ys ≤ column_from column ys (length ys)
 columns_many column [] = omega arith
 columns_many column (y ∷ ys) = omega (arith, columns_many (suc column + length y.on) ys)
 
@@ -72,8 +79,10 @@ module _ (m : RobustModel) where
         length-append rows (vars ++ adaptives),
         length-append vars adaptives,
         two_each (λ (r : Row). side_names r.relation r.name) (λ r. two_sides r.relation r.name) m.rows,
-        two_each (λ (x : Variable). bound_names x.name x.lower x.upper) (λ x. two_bounds x.name x.lower x.upper) m.variables,
-        two_each (λ (y : AdaptiveVariable). bound_names y.name y.lower y.upper) (λ y. two_bounds y.name y.lower y.upper) m.adaptives,
+        two_each (λ (x : Variable). bound_names x.name x.lower x.upper)
+            (λ x. two_bounds x.name x.lower x.upper) m.variables,
+        two_each (λ (y : AdaptiveVariable). bound_names y.name y.lower y.upper)
+            (λ y. two_bounds y.name y.lower y.upper) m.adaptives,
       )
 
   -- two set rows at most for each parameter, statement and member
@@ -84,7 +93,8 @@ module _ (m : RobustModel) where
         arith,
         bounds_few m.parameters,
         row_names_few m.parameters 1 m.set_lines,
-        length-append (parameter_bound_names m.parameters) (by_statement (statement_row_names m.parameters) 1 m.set_lines),
+        length-append (parameter_bound_names m.parameters)
+            (by_statement (statement_row_names m.parameters) 1 m.set_lines),
       )
 
   pub few_forms : length (forms m) ≤ 1 + 2 * (length m.rows + length m.variables + length m.adaptives)

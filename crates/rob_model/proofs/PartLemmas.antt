@@ -16,8 +16,10 @@ use Rattle.rob_model.specs.declared.expr.Term.{Term, fold_out-Term}
 use Rattle.rob_model.proofs.KeptLemmas.{some_is}
 
 -- the items from a place on are the item there and those behind it
-pub drop_at : {A : Type 0} (xs : List A) (i : ℕ) (x : A) → i < length xs → x ≡ get_or xs i x → drop i xs ≡ x ∷ drop (i + 1) xs
-drop_at xs i x h e = drop-cons xs i x h ∙ ap (λ y. y ∷ drop (suc i) xs) (sym e) ∙ ap (λ j. x ∷ drop j xs) (sym (add-one i))
+pub drop_at : {A : Type 0} (xs : List A) (i : ℕ) (x : A) → i < length xs → x ≡ get_or xs i x
+    → drop i xs ≡ x ∷ drop (i + 1) xs
+drop_at xs i x h e =
+    drop-cons xs i x h ∙ ap (λ y. y ∷ drop (suc i) xs) (sym e) ∙ ap (λ j. x ∷ drop j xs) (sym (add-one i))
 
 pub drop_past : {A : Type 0} (xs : List A) (i : ℕ) → length xs ≤ i → drop i xs ≡ []
 drop_past [] i h = search (rules, common_steps)
@@ -25,7 +27,8 @@ drop_past (x ∷ xs) zero h = absurd (omega arith)
 drop_past (x ∷ xs) (suc i) h = drop_past xs i (omega arith)
 
 -- what is true of each item from a place on is true of the item there and of those behind it
-pub each_at : {A : Type 0} (P : A → Type 0) (xs : List A) (i : ℕ) (x : A) → i < length xs → x ≡ get_or xs i x → Each P (drop i xs) → P x × Each P (drop (i + 1) xs)
+pub each_at : {A : Type 0} (P : A → Type 0) (xs : List A) (i : ℕ) (x : A) → i < length xs → x ≡ get_or xs i x
+    → Each P (drop i xs) → P x × Each P (drop (i + 1) xs)
 each_at P xs i x h e all = subst (Each P) (drop_at xs i x h e) all
 
 -- what is true of each item is true of the item at a number
@@ -34,7 +37,8 @@ each_get P [] i x e all = cc
 each_get P (y ∷ xs) zero x e all = subst P (some_is e) all.0
 each_get P (y ∷ xs) (suc i) x e all = each_get P xs i x e all.1
 
-pub each_at_map : {A B : Type 0} (P : B → Type 0) (f : A → B) (xs : List A) (i : ℕ) (x : A) → i < length xs → x ≡ get_or xs i x
+pub each_at_map : {A B : Type 0} (P : B → Type 0) (f : A → B) (xs : List A) (i : ℕ) (x : A)
+    → i < length xs → x ≡ get_or xs i x
     → Each P (map f (drop i xs)) → P (f x) × Each P (map f (drop (i + 1) xs))
 each_at_map P f xs i x h e all = subst (λ ys. Each P (map f ys)) (drop_at xs i x h e) all
 
@@ -52,13 +56,15 @@ module _ {N : Type 0} (value : N → Fraction) where
 
   -- the terms from a place on are the term there and those behind it, and so are the factors
   pub terms_at : (ts : List (Term N)) (i : ℕ) (t : Term N) → i < length ts → t ≡ get_or ts i t
-      → terms_of (map (signed_of value) (drop i ts)) ≡ term t.minus (expression_of value t.inner) (terms_of (map (signed_of value) (drop (i + 1) ts)))
+      → terms_of (map (signed_of value) (drop i ts))
+      ≡ term t.minus (expression_of value t.inner) (terms_of (map (signed_of value) (drop (i + 1) ts)))
   terms_at ts i t h e =
       ap (λ xs. terms_of (map (signed_of value) xs)) (drop_at ts i t h e)
       ∙ ap (λ (s : Signed). term s.0 s.1 (terms_of (map (signed_of value) (drop (i + 1) ts)))) (signed_is t)
 
   pub factors_at : (fs : List (Expr N)) (i : ℕ) (f : Expr N) → i < length fs → f ≡ get_or fs i f
-      → factors_of (map (expression_of value) (drop i fs)) ≡ factor (expression_of value f) (factors_of (map (expression_of value) (drop (i + 1) fs)))
+      → factors_of (map (expression_of value) (drop i fs))
+      ≡ factor (expression_of value f) (factors_of (map (expression_of value) (drop (i + 1) fs)))
   factors_at fs i f h e = ap (λ xs. factors_of (map (expression_of value) xs)) (drop_at fs i f h e)
 
   pub terms_inside : (m : RobustModel) (ts : List (Term N)) (i : ℕ) (t : Term N) → i < length ts → t ≡ get_or ts i t
@@ -77,31 +83,41 @@ module _ {N : Type 0} (value : N → Fraction) where
         → None ≡ value_within limit m plan scenario (expression_of value t.inner)
         → None ≡ sum_within limit m plan scenario (terms_of (map (signed_of value) (drop i ts))) so_far
     sum_stops ts i t so_far h e none =
-        stops _ (λ part. kept limit (joined t.minus so_far part) >>= sum_within limit m plan scenario (terms_of (map (signed_of value) (drop (i + 1) ts)))) none
+        stops _ (λ part. kept limit (joined t.minus so_far part) >>= sum_within limit m plan scenario
+        (terms_of (map (signed_of value) (drop (i + 1) ts)))) none
         ∙ ap (λ x. sum_within limit m plan scenario x so_far) (sym (terms_at ts i t h e))
 
-    pub sum_goes : (ts : List (Term N)) (i : ℕ) (t : Term N) (so_far part : Fraction) (next : Option Fraction) → i < length ts → t ≡ get_or ts i t
+    pub sum_goes : (ts : List (Term N)) (i : ℕ) (t : Term N) (so_far part : Fraction) (next : Option Fraction)
+        → i < length ts → t ≡ get_or ts i t
         → Some part ≡ value_within limit m plan scenario (expression_of value t.inner)
         → next ≡ kept limit (joined t.minus so_far part)
-        → (next >>= sum_within limit m plan scenario (terms_of (map (signed_of value) (drop (i + 1) ts)))) ≡ sum_within limit m plan scenario (terms_of (map (signed_of value) (drop i ts))) so_far
+        → (next >>= sum_within limit m plan scenario (terms_of (map (signed_of value) (drop (i + 1) ts))))
+        ≡ sum_within limit m plan scenario (terms_of (map (signed_of value) (drop i ts))) so_far
     sum_goes ts i t so_far part next h e some is =
         ap (λ o. o >>= sum_within limit m plan scenario (terms_of (map (signed_of value) (drop (i + 1) ts)))) is
-        ∙ goes _ (λ part. kept limit (joined t.minus so_far part) >>= sum_within limit m plan scenario (terms_of (map (signed_of value) (drop (i + 1) ts)))) part some
+        ∙ goes _ (λ part. kept limit (joined t.minus so_far part) >>= sum_within limit m plan scenario
+        (terms_of (map (signed_of value) (drop (i + 1) ts)))) part some
         ∙ ap (λ x. sum_within limit m plan scenario x so_far) (sym (terms_at ts i t h e))
 
     -- the same for a product
-    pub product_stops : (fs : List (Expr N)) (i : ℕ) (f : Expr N) (so_far : Fraction) → i < length fs → f ≡ get_or fs i f
+    pub product_stops : (fs : List (Expr N)) (i : ℕ) (f : Expr N) (so_far : Fraction)
+        → i < length fs → f ≡ get_or fs i f
         → None ≡ value_within limit m plan scenario (expression_of value f)
         → None ≡ product_within limit m plan scenario (factors_of (map (expression_of value) (drop i fs))) so_far
     product_stops fs i f so_far h e none =
-        stops _ (λ part. kept limit (so_far *ℚ part) >>= product_within limit m plan scenario (factors_of (map (expression_of value) (drop (i + 1) fs)))) none
+        stops _ (λ part. kept limit (so_far *ℚ part) >>= product_within limit m plan scenario
+        (factors_of (map (expression_of value) (drop (i + 1) fs)))) none
         ∙ ap (λ x. product_within limit m plan scenario x so_far) (sym (factors_at fs i f h e))
 
-    pub product_goes : (fs : List (Expr N)) (i : ℕ) (f : Expr N) (so_far part : Fraction) (next : Option Fraction) → i < length fs → f ≡ get_or fs i f
+    pub product_goes : (fs : List (Expr N)) (i : ℕ) (f : Expr N) (so_far part : Fraction) (next : Option Fraction)
+        → i < length fs → f ≡ get_or fs i f
         → Some part ≡ value_within limit m plan scenario (expression_of value f)
         → next ≡ kept limit (so_far *ℚ part)
-        → (next >>= product_within limit m plan scenario (factors_of (map (expression_of value) (drop (i + 1) fs)))) ≡ product_within limit m plan scenario (factors_of (map (expression_of value) (drop i fs))) so_far
+        → (next >>= product_within limit m plan scenario (factors_of (map (expression_of value) (drop (i + 1) fs))))
+        ≡ product_within limit m plan scenario (factors_of (map (expression_of value) (drop i fs))) so_far
     product_goes fs i f so_far part next h e some is =
-        ap (λ o. o >>= product_within limit m plan scenario (factors_of (map (expression_of value) (drop (i + 1) fs)))) is
-        ∙ goes _ (λ part. kept limit (so_far *ℚ part) >>= product_within limit m plan scenario (factors_of (map (expression_of value) (drop (i + 1) fs)))) part some
+        ap (λ o. o >>= product_within limit m plan scenario (factors_of (map (expression_of value) (drop (i + 1) fs))))
+        is
+        ∙ goes _ (λ part. kept limit (so_far *ℚ part) >>= product_within limit m plan scenario
+        (factors_of (map (expression_of value) (drop (i + 1) fs)))) part some
         ∙ ap (λ x. product_within limit m plan scenario x so_far) (sym (factors_at fs i f h e))

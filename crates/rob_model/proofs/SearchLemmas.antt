@@ -10,29 +10,42 @@ use Rattle.rob_model.proofs.ConditionLemmas.{append_stops, append_fails, append_
 use Rattle.rob_model.specs.declared.model.Model.{Model}
 use Rattle.rob_model.specs.declared.model.Param.{Param}
 
-module _ (limit : ℕ) {N : Type 0} (value : N → Fraction) (m : Model N) (s : Fraction) (p : List Fraction) (ps : List (Param N)) (same : ps ≡ m.params) where
+module _ (limit : ℕ) {N : Type 0} (value : N → Fraction) (m : Model N) (s : Fraction) (p : List Fraction)
+    (ps : List (Param N)) (same : ps ≡ m.params) where
   bounds_at : Option (Option ℕ)
   bounds_at = first_within limit (robust value m) s p (bounds_from 0 (map (parameter_of value) ps)) 0
 
-  bounds_same : bounds_at ≡ first_within limit (robust value m) s p (bounds_from 0 (map (parameter_of value) m.params)) 0
+  bounds_same : bounds_at ≡ first_within limit (robust value m) s p
+      (bounds_from 0 (map (parameter_of value) m.params)) 0
   unfolding bounds_at
-  bounds_same = ap (λ (xs : List (Param N)). first_within limit (robust value m) s p (bounds_from 0 (map (parameter_of value) xs)) 0) same
+  bounds_same =
+      ap (λ (xs : List (Param N)).
+      first_within limit (robust value m) s p (bounds_from 0 (map (parameter_of value) xs)) 0) same
 
-  pub search_stops : None ≡ first_within limit (robust value m) s p (bounds_from 0 (map (parameter_of value) ps)) 0 → None ≡ first_broken_within limit (robust value m) s p
+  pub search_stops : None ≡ first_within limit (robust value m) s p (bounds_from 0 (map (parameter_of value) ps)) 0
+      → None ≡ first_broken_within limit (robust value m) s p
   unfolding bounds_at
   search_stops none =
-      append_stops limit (robust value m) s p (bounds_from 0 (map (parameter_of value) m.params)) (all_stated (map (set_line_of value) m.set_lines)) (none ∙ bounds_same)
+      append_stops limit (robust value m) s p (bounds_from 0 (map (parameter_of value) m.params))
+      (all_stated (map (set_line_of value) m.set_lines)) (none ∙ bounds_same)
 
-  pub search_fails : (k : ℕ) → Some (Some k) ≡ first_within limit (robust value m) s p (bounds_from 0 (map (parameter_of value) ps)) 0
+  pub search_fails : (k : ℕ)
+      → Some (Some k) ≡ first_within limit (robust value m) s p (bounds_from 0 (map (parameter_of value) ps)) 0
       → Some (Some k) ≡ first_broken_within limit (robust value m) s p
   unfolding bounds_at
   search_fails k broken =
-      append_fails limit (robust value m) s p (bounds_from 0 (map (parameter_of value) m.params)) (all_stated (map (set_line_of value) m.set_lines)) k (broken ∙ bounds_same)
+      append_fails limit (robust value m) s p (bounds_from 0 (map (parameter_of value) m.params))
+      (all_stated (map (set_line_of value) m.set_lines)) k (broken ∙ bounds_same)
 
-  pub search_goes : (n : ℕ) (qs : List (Param N)) → qs ≡ m.params → n ≡ length (parameter_bound_names (map (parameter_of value) qs))
+  pub search_goes : (n : ℕ) (qs : List (Param N)) → qs ≡ m.params
+      → n ≡ length (parameter_bound_names (map (parameter_of value) qs))
       → Some None ≡ first_within limit (robust value m) s p (bounds_from 0 (map (parameter_of value) ps)) 0
-      → first_within limit (robust value m) s p (all_stated (map (set_line_of value) m.set_lines)) n ≡ first_broken_within limit (robust value m) s p
+      → first_within limit (robust value m) s p (all_stated (map (set_line_of value) m.set_lines)) n
+      ≡ first_broken_within limit (robust value m) s p
   unfolding bounds_at
   search_goes n qs also count all =
-      append_goes limit (robust value m) s p (bounds_from 0 (map (parameter_of value) m.params)) (all_stated (map (set_line_of value) m.set_lines)) n
-      (count_is value n m.params (count ∙ ap (λ (xs : List (Param N)). length (parameter_bound_names (map (parameter_of value) xs))) also)) (all ∙ bounds_same)
+      append_goes limit (robust value m) s p (bounds_from 0 (map (parameter_of value) m.params))
+      (all_stated (map (set_line_of value) m.set_lines)) n
+      (count_is value n m.params
+      (count ∙ ap (λ (xs : List (Param N)). length (parameter_bound_names (map (parameter_of value) xs))) also))
+      (all ∙ bounds_same)

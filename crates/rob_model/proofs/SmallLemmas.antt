@@ -40,7 +40,8 @@ pub one_made : (limit : ℕ) → 1 ≤ limit → None ≡ kept limit (of_pair (p
 one_made limit h e = none_is_none 1ℚ (e ∙ one_kept limit h)
 
 -- a number of a list, and its fraction
-pub at_map : {N : Type 0} (value : N → Fraction) (xs : List N) (k : ℕ) (x : N) → k < length xs → x ≡ get_or xs k x → value x ≡ at (map value xs) k
+pub at_map : {N : Type 0} (value : N → Fraction) (xs : List N) (k : ℕ) (x : N) → k < length xs → x ≡ get_or xs k x
+    → value x ≡ at (map value xs) k
 at_map value [] k x h e = absurd (omega arith)
 at_map value (y ∷ ys) zero x h e = ap value e
 at_map value (y ∷ ys) (suc k) x h e = at_map value ys k x (omega arith) e
@@ -56,11 +57,15 @@ pub one_item : {A : Type 0} {a b : List A} {x : A} → a ≡ [] → b ≡ a ++ x
 one_item {x = x} e f = f ∙ ap (λ xs. xs ++ x ∷ []) e
 
 -- ---- the size of a number
-size_by : (x : Fraction) (z : ℤ) → x.num ≡ z → (sign_of z <ℤ pos 0 → neg_ℚ x ≡ abs_ℚ x) × (pos 0 ≤ℤ sign_of z → x ≡ abs_ℚ x)
-size_by x (pos zero) e = (λ h. absurd (omega (arith, ints)), λ h. ext x (abs_ℚ x) (e ∙ ap (λ (z : ℤ). pos (nat_abs z)) (sym e)) refl)
-size_by x (pos (suc n)) e = (λ h. absurd (omega (arith, ints)), λ h. ext x (abs_ℚ x) (e ∙ ap (λ (z : ℤ). pos (nat_abs z)) (sym e)) refl)
+size_by : (x : Fraction) (z : ℤ) → x.num ≡ z → (sign_of z <ℤ pos 0 → neg_ℚ x ≡ abs_ℚ x)
+    × (pos 0 ≤ℤ sign_of z → x ≡ abs_ℚ x)
+size_by x (pos zero) e =
+    (λ h. absurd (omega (arith, ints)), λ h. ext x (abs_ℚ x) (e ∙ ap (λ (z : ℤ). pos (nat_abs z)) (sym e)) refl)
+size_by x (pos (suc n)) e =
+    (λ h. absurd (omega (arith, ints)), λ h. ext x (abs_ℚ x) (e ∙ ap (λ (z : ℤ). pos (nat_abs z)) (sym e)) refl)
 size_by x (negsuc n) e = (
-  λ h. same_is (is_neg (is_self x)) (is_self (abs_ℚ x)) (ap (λ (z : ℤ). z *ℤ pos x.den) (ap neg_ℤ e ∙ sym (ap (λ (z : ℤ). pos (nat_abs z)) e))),
+  λ h. same_is (is_neg (is_self x)) (is_self (abs_ℚ x))
+      (ap (λ (z : ℤ). z *ℤ pos x.den) (ap neg_ℤ e ∙ sym (ap (λ (z : ℤ). pos (nat_abs z)) e))),
   λ h. absurd (omega (arith, ints)),
 )
 

@@ -40,7 +40,8 @@ module _ (ps : List Parameter) where
       dotted (dotted of_budget (parameter_name ps h.parameter)) (codes "up")
       ∷ dotted (dotted of_budget (parameter_name ps h.parameter)) (codes "down") ∷ []
 
-  -- the names of the rows of statement n: `set.n`, or `set.n.le` and `set.n.ge`; those of a budget's members, and `budget.n.sum`
+  -- the names of the rows of statement n: `set.n`, or `set.n.le` and `set.n.ge`; those of a budget's members, and
+  -- `budget.n.sum`
   abbrev pub statement_row_names : ℕ → SetLine → List Name
   statement_row_names n (line left relation right) = side_names relation (numbered (codes "set") n)
   statement_row_names n (budget limit members) =

@@ -32,8 +32,8 @@ most_members = 64
 abbrev pub most_size : ℕ
 most_size = 12000
 
--- the size of a model: its forms times the sum of its set rows, twice its joint parameters and members, and one, which is how
--- many rows and multipliers its robust counterpart has together
+-- the size of a model: its forms times the sum of its set rows, twice its joint parameters and members, and one, which
+-- is how many rows and multipliers its robust counterpart has together
 abbrev pub model_size : RobustModel → ℕ
 model_size m = length (forms m) * (length (set_rows m) + 2 * (length m.parameters + lift_count m.set_lines) + 1)
 

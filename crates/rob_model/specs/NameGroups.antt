@@ -15,7 +15,8 @@ use Rattle.rob_model.specs.declared.group.Kind.TheVariants.{Form, Column, SetRow
 abbrev pub names_in : {N : Type 0} → (N → Fraction) → Group N → List Name
 names_in value (Single name) = name.now ∷ []
 names_in value (Sides name rel) = side_names (relation_of rel) name.now
-names_in value (Bounds name lower upper) = bound_names name.now (option_map value lower.now) (option_map value upper.now)
+names_in value (Bounds name lower upper) = bound_names name.now (option_map value lower.now)
+    (option_map value upper.now)
 names_in value (Rule rule params) = rule_names (map (parameter_of value) params.now) (adaptive_of value rule.now)
 names_in value (StatementRows statement number params) =
     statement_row_names (map (parameter_of value) params.now) number (set_line_of value statement.now)
@@ -42,21 +43,27 @@ groups_by_number names n (c ∷ cs) = names n c ∷ groups_by_number names (suc 
 abbrev pub row_groups : RobustModel → List (List Name)
 row_groups m = map (λ (r : Row). side_names r.relation r.name) m.rows
 
+-- the names of the forms of each variable's declared bounds
 abbrev pub variable_bound_groups : RobustModel → List (List Name)
 variable_bound_groups m = map (λ (x : Variable). bound_names x.name x.lower x.upper) m.variables
 
+-- the names of the forms of each adaptive variable's declared bounds
 abbrev pub adaptive_bound_groups : RobustModel → List (List Name)
 adaptive_bound_groups m = map (λ (y : AdaptiveVariable). bound_names y.name y.lower y.upper) m.adaptives
 
+-- the names of the set rows of each joint parameter's declared bounds
 abbrev pub parameter_bound_groups : RobustModel → List (List Name)
 parameter_bound_groups m = map (λ (d : Parameter). bound_names d.name d.lower d.upper) m.parameters
 
+-- the name of each joint parameter
 abbrev pub parameter_groups : RobustModel → List (List Name)
 parameter_groups m = map (λ (d : Parameter). d.name ∷ []) m.parameters
 
+-- the name of each statement's set condition
 abbrev pub condition_groups : RobustModel → List (List Name)
 condition_groups m = groups_by_number condition_names 1 m.set_lines
 
+-- the names of the columns of each budget's members
 abbrev pub lift_groups : RobustModel → List (List Name)
 lift_groups m = groups_by_number (lift_names m.parameters) 1 m.set_lines
 

@@ -21,10 +21,12 @@ use Rattle.rob_model.specs.declared.model.Var.{Var}
 use Rattle.rob_model.specs.declared.plan.Plan.{Plan}
 use Rattle.rob_model.specs.declared.plan.Scenario.{Scenario}
 
+-- the sense that a `Sense` is
 abbrev pub sense_of : Sense → meaning.Sense
 sense_of Minimise = meaning.minimise
 sense_of Maximise = meaning.maximise
 
+-- the relation that a `Rel` is
 abbrev pub relation_of : Rel → meaning.Relation
 relation_of AtMost = meaning.at_most
 relation_of AtLeast = meaning.at_least
@@ -34,10 +36,12 @@ relation_of Equal = meaning.equal
 abbrev pub Signed : Type 0
 Signed = Bool × Expression
 
+-- the terms of a sum, from a list of them
 abbrev pub terms_of : List Signed → Terms
 terms_of [] = no_terms
 terms_of (t ∷ ts) = term t.0 t.1 (terms_of ts)
 
+-- the factors of a product, from a list of them
 abbrev pub factors_of : List Expression → Factors
 factors_of [] = no_factors
 factors_of (f ∷ fs) = factor f (factors_of fs)
@@ -53,6 +57,7 @@ module _ {N : Type 0} (value : N → Fraction) where
   expression_step (Expr-F.Sum ts) = sum (terms_of ts)
   expression_step (Expr-F.Product fs) = product (factors_of fs)
 
+  -- a part of a sum with its sign, its expression being there already
   abbrev pub signed_step : Term-F N Expression Signed → Signed
   signed_step t = (t.minus, t.inner)
 
@@ -64,24 +69,40 @@ module _ {N : Type 0} (value : N → Fraction) where
   abbrev pub signed_of : Term N → Signed
   signed_of = fold-Term N Expression Signed expression_step signed_step
 
+  -- the parameter that a `Param` is
   abbrev pub parameter_of : Param N → meaning.Parameter
   parameter_of p = record { name = p.name; lower = option_map value p.lower; upper = option_map value p.upper }
 
+  -- the variable that a `Var` is
   abbrev pub variable_of : Var N → meaning.Variable
   variable_of x = record { name = x.name; lower = option_map value x.lower; upper = option_map value x.upper }
 
+  -- the adaptive variable that an `Adaptive` is
   abbrev pub adaptive_of : Adaptive N → meaning.AdaptiveVariable
-  adaptive_of y = record { name = y.name; on = y.on; lower = option_map value y.lower; upper = option_map value y.upper }
+  adaptive_of y = record {
+    name = y.name;
+    on = y.on;
+    lower = option_map value y.lower;
+    upper = option_map value y.upper;
+  }
 
+  -- the member that a `Member` is
   abbrev pub member_of : Member N → meaning.Member
   member_of h = record { parameter = h.param; centre = value h.centre; deviation = value h.deviation }
 
+  -- the statement on a set that a `SetLine` is
   abbrev pub set_line_of : SetLine N → meaning.SetLine
   set_line_of (Line left rel right) = meaning.line (expression_of left) (relation_of rel) (expression_of right)
   set_line_of (Budget limit members) = meaning.budget (value limit) (map member_of members)
 
+  -- the row that a `RowDef` is
   abbrev pub row_of : RowDef N → meaning.Row
-  row_of r = record { name = r.name; left = expression_of r.left; relation = relation_of r.rel; right = expression_of r.right }
+  row_of r = record {
+    name = r.name;
+    left = expression_of r.left;
+    relation = relation_of r.rel;
+    right = expression_of r.right;
+  }
 
   -- the model that a `Model` is
   abbrev pub robust : Model N → meaning.RobustModel

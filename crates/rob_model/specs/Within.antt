@@ -1,5 +1,5 @@
--- Values and set conditions as they are computed: one number after another, each in lowest terms, and nothing where one of them
--- is wide. The order is the definitions' own, from the left, a sum and a product prefix by prefix.
+-- Values and set conditions as they are computed: one number after another, each in lowest terms, and nothing where one
+-- of them is wide. The order is the definitions' own, from the left, a sum and a product prefix by prefix.
 use Rattle.std.specs.Prelude.{ℕ, ◌+◌, List, [], ◌∷◌, Bool, true, false, Option, Some, None, is_none, if◌then◌else◌}
 use Rattle.std.specs.Ordering.{is_le}
 use Rattle.rob_algebra.specs.Fraction.{Fraction, ◌+ℚ◌, ◌-ℚ◌, ◌*ℚ◌, ◌/ℚ◌}
@@ -13,6 +13,7 @@ use Rattle.rob_meaning.specs.UncertaintySet.{abs_ℚ}
 
 -- what follows from a number, if there is one
 infixl 10 ◌>>=◌
+-- what is computed from something, where it is there
 abbrev pub ◌>>=◌ : {A B : Type 0} → Option A → (A → Option B) → Option B
 (Some x) >>= f = f x
 None >>= f = None
@@ -38,10 +39,11 @@ module _ (limit : ℕ) (m : RobustModel) (plan scenario : List Fraction) where
 
   -- the same with the parameters of set `S`
   abbrev pub policy_in_within : ℕ → ℕ → Option Fraction
-  policy_in_within S y = rule_within limit plan scenario (list_in_set m S y) (column_of m y + 1) (at plan (column_of m y))
+  policy_in_within S y = rule_within limit plan scenario (list_in_set m S y) (column_of m y + 1)
+      (at plan (column_of m y))
 
-  -- a sum begins with 0 and a product with 1, so the first prefix of a sum is its first part with its sign, and that of a
-  -- product its first factor
+  -- a sum begins with 0 and a product with 1, so the first prefix of a sum is its first part with its sign, and that of
+  -- a product its first factor
   abbrev mutual
     pub value_within : Expression → Option Fraction
     value_within (number q) = Some q
@@ -68,6 +70,7 @@ module _ (limit : ℕ) (m : RobustModel) (plan scenario : List Fraction) where
 abbrev pub is_at_most : Fraction → Fraction → Bool
 is_at_most a b = is_le (cmp_ℚ a b)
 
+-- whether two numbers stand in the relation
 abbrev pub is_related : Relation → Fraction → Fraction → Bool
 is_related at_most a b = is_at_most a b
 is_related at_least a b = is_at_most b a
@@ -98,7 +101,8 @@ module _ (limit : ℕ) (m : RobustModel) (s : Fraction) (p : List Fraction) wher
     next ← kept limit (so_far +ℚ deviation)
     total_within hs next
 
-  -- whether a set condition, taken s times, holds: the left side before the right, a budget's sum before s times its limit
+  -- whether a set condition, taken s times, holds: the left side before the right, a budget's sum before s times its
+  -- limit
   abbrev pub holds_within : SetCondition → Option Bool
   holds_within (lower_bound k l) = do
     scaled ← kept limit (s *ℚ l)
@@ -120,7 +124,8 @@ module _ (limit : ℕ) (m : RobustModel) (s : Fraction) (p : List Fraction) wher
   declared_within f None = Some true
   declared_within f (Some b) = holds_within (f b)
 
-  -- the number of the first condition of a list that fails, the list's first having number `k`; those behind it are not computed
+  -- the number of the first condition of a list that fails, the list's first having number `k`; those behind it are not
+  -- computed
   abbrev pub first_within : List SetCondition → ℕ → Option (Option ℕ)
   first_within [] k = Some None
   first_within (c ∷ cs) k = do

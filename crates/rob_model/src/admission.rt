@@ -1,4 +1,4 @@
-// Which set conditions hold: admission of a scenario, and the first condition that a vector breaks.
+//! Which set conditions hold: admission of a scenario, and the first condition that a vector breaks.
 
 ghost use Rattle.std.specs.Prelude.{◌≡◌, ◌≤◌, ◌↔◌, length, map, IfOk, IsTrue};
 ghost use Rattle.std.specs.Result.{result_ok};
@@ -25,8 +25,10 @@ pub fn admits<N: Exact, L: Ledger>(
     requires valid { IsValid N.value model.now }
     requires fits { length scenario.now.values ≡ length model.now.params }
     // Condition by condition up to the first that fails; refused exactly where a number on the way is wide.
-    ensures exact { result_ok result ≡ admits_within N.limit (robust N.value model.now) (scenario_of N.value scenario.now) }
-    ensures admitted { IfOk result (λ yes. IsTrue yes ↔ Admits (robust N.value model.now) (scenario_of N.value scenario.now)) }
+    ensures exact { result_ok result ≡ admits_within N.limit (robust N.value model.now)
+        (scenario_of N.value scenario.now) }
+    ensures admitted { IfOk result (λ yes. IsTrue yes
+        ↔ Admits (robust N.value model.now) (scenario_of N.value scenario.now)) }
     ensures told { Told (L.wides ledger.old) (L.wides ledger.new) result }
     ensures ops { L.ops ledger.old ≤ L.ops ledger.new }
 {
@@ -35,10 +37,10 @@ pub fn admits<N: Exact, L: Ledger>(
     Ok(broken.is_none())
 }
 
-/// The number of the first set condition that fails at the vector when it is taken `base` times: an expression `e` counts
-/// as `e(vector) - e(0) + base * e(0)`, and each bound, centre and budget is multiplied by `base`. With base 1 this is
-/// admission, with base 0 it tells a ray of the set. `None` where all hold. Conditions count from 0: the declared bounds
-/// of the parameters, each lower before upper, and then the statements.
+/// The number of the first set condition that fails at the vector when it is taken `base` times: an expression `e`
+/// counts as `e(vector) - e(0) + base * e(0)`, and each bound, centre and budget is multiplied by `base`. With base 1
+/// this is admission, with base 0 it tells a ray of the set. `None` where all hold. Conditions count from 0: the
+/// declared bounds of the parameters, each lower before upper, and then the statements.
 pub fn first_broken<N: Exact, L: Ledger>(
     model: &Model<N>,
     base: N,

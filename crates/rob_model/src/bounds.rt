@@ -1,4 +1,4 @@
-// The declared bounds of parameters as set conditions.
+//! The declared bounds of parameters as set conditions.
 
 ghost use Rattle.std.specs.Prelude.{◌≡◌, ◌≤◌, ◌*◌, length, map, option_map, option_to_list};
 ghost use Rattle.std.specs.Result.{result_ok};
@@ -22,7 +22,8 @@ pub fn broken_bound<N: Exact, L: Ledger>(
     ledger: &mut L,
 ) -> Result<Option<u32>, Wide>
     requires few { length params.now ≤ most_parameters }
-    ensures exact { (m : RobustModel) → result_ok result ≡ first_within N.limit m (N.value base) (map N.value vector.now)
+    ensures exact { (m : RobustModel) → result_ok result
+        ≡ first_within N.limit m (N.value base) (map N.value vector.now)
         (bounds_from 0 (map (parameter_of N.value) params.now)) 0 }
     ensures told { Told (L.wides ledger.old) (L.wides ledger.new) result }
     ensures ops { L.ops ledger.old ≤ L.ops ledger.new }
@@ -72,7 +73,8 @@ pub fn keeps_lower<N: Exact, L: Ledger>(
     vector: &[N],
     ledger: &mut L,
 ) -> Result<bool, Wide>
-    ensures exact { (m : RobustModel) → result_ok result ≡ declared_within N.limit m (N.value base) (map N.value vector.now)
+    ensures exact { (m : RobustModel) → result_ok result
+        ≡ declared_within N.limit m (N.value base) (map N.value vector.now)
         (lower_bound k) (option_map N.value bound.now) }
     ensures told { Told (L.wides ledger.old) (L.wides ledger.new) result }
     ensures ops { L.ops ledger.old ≤ L.ops ledger.new }
@@ -94,7 +96,8 @@ pub fn keeps_upper<N: Exact, L: Ledger>(
     vector: &[N],
     ledger: &mut L,
 ) -> Result<bool, Wide>
-    ensures exact { (m : RobustModel) → result_ok result ≡ declared_within N.limit m (N.value base) (map N.value vector.now)
+    ensures exact { (m : RobustModel) → result_ok result
+        ≡ declared_within N.limit m (N.value base) (map N.value vector.now)
         (upper_bound k) (option_map N.value bound.now) }
     ensures told { Told (L.wides ledger.old) (L.wides ledger.new) result }
     ensures ops { L.ops ledger.old ≤ L.ops ledger.new }

@@ -1,4 +1,4 @@
-// Expressions, as they are written.
+//! Expressions, as they are written.
 
 use rob_number::List;
 
@@ -11,8 +11,8 @@ pub struct Term<N> {
     pub inner: Expr<N>,
 }
 
-/// An expression over a model's parameters and variables. A sum inside a sum stays as it is, and so does a product inside
-/// a product: values are computed on the tree as written.
+/// An expression over a model's parameters and variables. A sum inside a sum stays as it is, and so does a product
+/// inside a product: values are computed on the tree as written.
 #[cycle(expr)]
 #[derive(Debug, Drop)]
 pub enum Expr<N> {

@@ -1,4 +1,4 @@
-// The names that one part of a model has: a row, a variable, a parameter, a statement.
+//! The names that one part of a model has: a row, a variable, a parameter, a statement.
 
 ghost use Rattle.std.specs.Prelude.{◌≡◌, ◌<◌, ◌≤◌, ◌+◌, ◌++◌, ◌*◌, ◌/◌, ◌%◌, ◌==◌, if◌then◌else◌, ℕ, List, [], ◌∷◌, length, map, slice_get, option_map, codes};
 ghost use Rattle.std.specs.Option.{option_copied};
@@ -108,7 +108,8 @@ fn side_count(rel: Rel) -> u32
 /// The number of set rows of a statement: two for each member of a budget, and one for their sum.
 fn row_count<N: Exact>(line: &SetLine<N>) -> u32
     requires few { member_count (set_line_of N.value line.now) ≤ 5000 }
-    ensures count { (ps : List Parameter) (n : ℕ) → result ≡ length (statement_row_names ps n (set_line_of N.value line.now)) }
+    ensures count { (ps : List Parameter) (n : ℕ)
+        → result ≡ length (statement_row_names ps n (set_line_of N.value line.now)) }
 {
     match line {
         SetLine::Line { rel, .. } => side_count(*rel),
@@ -219,7 +220,8 @@ fn bound_name<'a, N: Exact>(
     upper: &Option<N>,
     index: u32,
 ) -> Spelling<'a>
-    requires inside { index < length (bound_names name.now (option_map N.value lower.now) (option_map N.value upper.now)) }
+    requires inside { index < length (bound_names name.now (option_map N.value lower.now)
+        (option_map N.value upper.now)) }
     ensures name { slice_get (bound_names name.now (option_map N.value lower.now) (option_map N.value upper.now)) index
         ≡ Some (name_of result) }
 {
@@ -235,7 +237,8 @@ fn rule_name<'a, N: Exact>(
     params: &'a [Param<N>],
     index: u32,
 ) -> Spelling<'a>
-    requires inside { index < length (rule_names (map (parameter_of N.value) params.now) (adaptive_of N.value rule.now)) }
+    requires inside { index < length (rule_names (map (parameter_of N.value) params.now)
+        (adaptive_of N.value rule.now)) }
     ensures name { slice_get (rule_names (map (parameter_of N.value) params.now) (adaptive_of N.value rule.now)) index
         ≡ Some (name_of result) }
 {
@@ -254,8 +257,10 @@ fn row_name<'a, N: Exact>(
     index: u32,
 ) -> Spelling<'a>
     requires few { member_count (set_line_of N.value line.now) ≤ 5000 }
-    requires inside { index < length (statement_row_names (map (parameter_of N.value) params.now) number (set_line_of N.value line.now)) }
-    ensures name { slice_get (statement_row_names (map (parameter_of N.value) params.now) number (set_line_of N.value line.now)) index
+    requires inside { index < length (statement_row_names (map (parameter_of N.value) params.now) number
+        (set_line_of N.value line.now)) }
+    ensures name { slice_get (statement_row_names (map (parameter_of N.value) params.now) number
+        (set_line_of N.value line.now)) index
         ≡ Some (name_of result) }
 {
     match line {
@@ -267,7 +272,8 @@ fn row_name<'a, N: Exact>(
 /// The name of a set row of a linear condition.
 fn line_row_name(rel: Rel, number: u32, index: u32) -> Spelling<'static>
     requires inside { index < length (side_names (relation_of rel) (numbered_name (codes "set") number)) }
-    ensures name { slice_get (side_names (relation_of rel) (numbered_name (codes "set") number)) index ≡ Some (name_of result) }
+    ensures name { slice_get (side_names (relation_of rel) (numbered_name (codes "set") number)) index
+        ≡ Some (name_of result) }
 {
     Spelling {
         first: b"set",
@@ -331,8 +337,10 @@ fn lift_name<'a, N: Exact>(
     params: &'a [Param<N>],
     index: u32,
 ) -> Spelling<'a>
-    requires inside { index < length (lift_names (map (parameter_of N.value) params.now) number (set_line_of N.value line.now)) }
-    ensures name { slice_get (lift_names (map (parameter_of N.value) params.now) number (set_line_of N.value line.now)) index
+    requires inside { index < length (lift_names (map (parameter_of N.value) params.now) number
+        (set_line_of N.value line.now)) }
+    ensures name { slice_get (lift_names (map (parameter_of N.value) params.now) number
+        (set_line_of N.value line.now)) index
         ≡ Some (name_of result) }
 {
     match line {

@@ -1,9 +1,8 @@
-// The groups of names of each kind, by their numbers.
+//! The groups of names of each kind, by their numbers.
 
 ghost use Rattle.std.specs.Prelude.{◌≡◌, ◌<◌, ◌++◌, length, map, slice_get};
-ghost use Rattle.rob_model.specs.GroupNames.{bound_names, side_names, rule_names, statement_row_names, lift_names, condition_names};
-ghost use Rattle.rob_meaning.specs.RobustModel.{Row, Variable, AdaptiveVariable, Parameter};
-ghost use Rattle.rob_model.specs.NameGroups.{names_in, groups, groups_by_number, row_groups, variable_bound_groups, adaptive_bound_groups, parameter_bound_groups, parameter_groups, lift_groups, condition_groups};
+ghost use Rattle.rob_meaning.specs.RobustModel.{Row, Parameter};
+ghost use Rattle.rob_model.specs.NameGroups.{names_in, groups, row_groups, variable_bound_groups, adaptive_bound_groups, parameter_groups, lift_groups, condition_groups};
 ghost use Rattle.rob_model.specs.Valid.{IsValid};
 ghost use Rattle.rob_model.specs.declared.group.Kind.TheVariants.{Form, Column, SetRow, SetPlace, Parameters};
 ghost use Rattle.rob_model.specs.View.{robust};
@@ -59,9 +58,11 @@ fn form_group<'a, N: Exact>(model: &'a Model<N>, i: usize) -> Group<'a, N>
 
 /// The rows, and behind them the bounds.
 fn row_group<'a, N: Exact>(model: &'a Model<N>, i: usize) -> Group<'a, N>
-    requires inside { i < length (row_groups (robust N.value model.now) ++ (variable_bound_groups (robust N.value model.now)
+    requires inside { i < length (row_groups (robust N.value model.now)
+        ++ (variable_bound_groups (robust N.value model.now)
         ++ adaptive_bound_groups (robust N.value model.now))) }
-    ensures group { slice_get (row_groups (robust N.value model.now) ++ (variable_bound_groups (robust N.value model.now)
+    ensures group { slice_get (row_groups (robust N.value model.now)
+        ++ (variable_bound_groups (robust N.value model.now)
         ++ adaptive_bound_groups (robust N.value model.now))) i ≡ Some (names_in N.value result) }
 {
     let rows = model.rows.items();
@@ -157,7 +158,8 @@ fn condition_group<'a, N: Exact>(model: &'a Model<N>, i: usize) -> Group<'a, N>
 /// The set columns: the parameters, and the columns of the budgets' members.
 fn set_column_group<'a, N: Exact>(model: &'a Model<N>, i: usize) -> Group<'a, N>
     requires valid { IsValid N.value model.now }
-    requires inside { i < length (parameter_groups (robust N.value model.now) ++ lift_groups (robust N.value model.now)) }
+    requires inside { i < length (parameter_groups (robust N.value model.now)
+        ++ lift_groups (robust N.value model.now)) }
     ensures group { slice_get (parameter_groups (robust N.value model.now) ++ lift_groups (robust N.value model.now)) i
         ≡ Some (names_in N.value result) }
 {

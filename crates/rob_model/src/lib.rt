@@ -3,9 +3,11 @@
 
 pub mod admission;
 pub mod bounds;
+pub mod copy;
 pub mod expr;
 pub mod group;
 pub mod groups;
+pub mod limits;
 pub mod model;
 pub mod names;
 pub mod numbers;
@@ -17,6 +19,7 @@ pub mod statements;
 pub mod value;
 
 pub use admission::{admits, first_broken};
+pub use copy::copy_model;
 pub use expr::{Expr, Term};
 pub use model::{Adaptive, Member, Model, Param, Rel, RowDef, Sense, SetLine, Var};
 pub use names::{

@@ -1,4 +1,4 @@
-// Robust linear models.
+//! Robust linear models.
 
 use crate::expr::Expr;
 use rob_number::{List, Text};
@@ -63,8 +63,8 @@ pub enum SetLine<N> {
         rel: Rel,
         right: Expr<N>,
     },
-    /// A budget of uncertainty: the members' distances from their centres, each over its deviation, are together at most
-    /// `limit`. (Bertsimas and Sim, The Price of Robustness.)
+    /// A budget of uncertainty: the members' distances from their centres, each over its deviation, are together at
+    /// most `limit`. (Bertsimas and Sim, The Price of Robustness.)
     Budget {
         limit: N,
         members: List<Member<N>>,

@@ -1,5 +1,5 @@
-// The names of forms, decision columns, set rows, set places and parameters: how many there are, the number of a name, and
-// the name of a number.
+//! The names of forms, decision columns, set rows, set places and parameters: how many there are, the number of a name,
+//! and the name of a number.
 
 ghost use Rattle.std.specs.Prelude.{◌≡◌, ◌<◌, ◌≤◌, length, OnOk, OnErr};
 ghost use Rattle.rob_meaning.specs.Named.{IsNamed};

@@ -1,4 +1,4 @@
-// Small whole numbers, the number at a place of a list, sizes, and the order.
+//! Small whole numbers, the number at a place of a list, sizes, and the order.
 
 ghost use Rattle.std.specs.Prelude.{◌≡◌, ◌≤◌, map};
 ghost use Rattle.rob_meaning.specs.Places.{0ℚ, 1ℚ, at};

@@ -1,4 +1,4 @@
-// The places at which a computation meets a number that is wide, and the conditions of a certificate.
+//! The places at which a computation meets a number that is wide, and the conditions of a certificate.
 
 use rob_number::List;
 
@@ -34,8 +34,8 @@ pub enum Program {
     SearchMove(u32),
 }
 
-/// A condition of a certificate. Items, set conditions, forms and set rows count from 0 in their orders. Of columns, 0 is
-/// the constant, and the others count from 1.
+/// A condition of a certificate. Items, set conditions, forms and set rows count from 0 in their orders. Of columns, 0
+/// is the constant, and the others count from 1.
 #[derive(Clone, Copy, Debug, PartialEq, Eq)]
 pub enum Place {
     /// The scale is above 0.

@@ -1,4 +1,4 @@
-// Plans and scenarios.
+//! Plans and scenarios.
 
 use rob_number::List;
 

@@ -1,4 +1,4 @@
-// The values of adaptive variables.
+//! The values of adaptive variables.
 
 ghost use Rattle.std.specs.Prelude.{◌≡◌, ◌≤◌, ◌<◌, ◌+◌, ◌^◌, length, map, drop, IfOk, List};
 ghost use Rattle.rob_number.specs.Answer.{answer};

@@ -1,4 +1,4 @@
-// Names as they are spelled, compared and written without making a text of their own.
+//! Names as they are spelled, compared and written without making a text of their own.
 
 ghost use Rattle.std.specs.Prelude.{◌≡◌, ◌++◌, ℕ, List, IsTrue, ◌↔◌, MatchOption, OnOk, OnErr, take, length};
 ghost use Rattle.std.specs.Option.{option_copied};
@@ -7,8 +7,8 @@ ghost use Rattle.rob_model.specs.Spelling.{tail_of, number_tail, name_of};
 use itoa::Buffer;
 use rob_number::{Memory, Text};
 
-/// A name made of a first part, a number, and two further parts; those behind the first may be missing, and stand behind a
-/// dot. So `budget.1.d.up` has all four, and the name of a variable only the first.
+/// A name made of a first part, a number, and two further parts; those behind the first may be missing, and stand
+/// behind a dot. So `budget.1.d.up` has all four, and the name of a variable only the first.
 #[derive(Clone, Copy)]
 pub struct Spelling<'a> {
     pub first: &'a [u8],

@@ -1,4 +1,4 @@
-// The statements on the uncertainty set as set conditions, each taken some number of times.
+//! The statements on the uncertainty set as set conditions, each taken some number of times.
 
 ghost use Rattle.std.specs.Prelude.{◌≡◌, ◌≢◌, ◌≤◌, ◌+◌, length, map};
 ghost use Rattle.std.specs.Result.{result_ok};
@@ -8,8 +8,8 @@ ghost use Rattle.rob_number.specs.Counts.{Told};
 ghost use Rattle.rob_meaning.specs.Places.{0ℚ, Each};
 ghost use Rattle.rob_meaning.specs.RobustModel.{RobustModel, column_count};
 ghost use Rattle.rob_meaning.specs.SetConditions.{all_stated, stated};
-ghost use Rattle.rob_meaning.specs.WellFormed.{IsInside, IsSetLine, IsMember};
-ghost use Rattle.rob_model.specs.Limits.{most_columns, most_set_lines};
+ghost use Rattle.rob_meaning.specs.WellFormed.{IsInside, IsSetLine};
+ghost use Rattle.rob_model.specs.Limits.{most_columns};
 ghost use Rattle.rob_model.specs.View.{robust, expression_of, relation_of, member_of, set_line_of};
 ghost use Rattle.rob_model.specs.Within.{taken_within, deviation_within, total_within, holds_within, first_within, is_related};
 
@@ -30,7 +30,8 @@ pub fn broken_statement<N: Exact, L: Ledger>(
     requires lines { Each (IsSetLine (robust N.value model.now)) (map (set_line_of N.value) model.now.set_lines) }
     requires few { column_count (robust N.value model.now) ≤ most_columns }
     requires small { first + length model.now.set_lines ≤ 1000 }
-    ensures exact { result_ok result ≡ first_within N.limit (robust N.value model.now) (N.value base) (map N.value vector.now)
+    ensures exact { result_ok result ≡ first_within N.limit (robust N.value model.now) (N.value base)
+        (map N.value vector.now)
         (all_stated (map (set_line_of N.value) model.now.set_lines)) first }
     ensures told { Told (L.wides ledger.old) (L.wides ledger.new) result }
     ensures ops { L.ops ledger.old ≤ L.ops ledger.new }
@@ -55,7 +56,8 @@ pub fn holds<N: Exact, L: Ledger>(
 ) -> Result<bool, Wide>
     requires line { IsSetLine (robust N.value model.now) (set_line_of N.value line.now) }
     requires few { column_count (robust N.value model.now) ≤ most_columns }
-    ensures exact { result_ok result ≡ holds_within N.limit (robust N.value model.now) (N.value base) (map N.value vector.now)
+    ensures exact { result_ok result ≡ holds_within N.limit (robust N.value model.now) (N.value base)
+        (map N.value vector.now)
         (stated (set_line_of N.value line.now)) }
     ensures told { Told (L.wides ledger.old) (L.wides ledger.new) result }
     ensures ops { L.ops ledger.old ≤ L.ops ledger.new }
@@ -84,7 +86,8 @@ fn taken<N: Exact, L: Ledger>(
 ) -> Result<N, Wide>
     requires inside { IsInside (robust N.value model.now) (expression_of N.value e.now) }
     requires few { column_count (robust N.value model.now) ≤ most_columns }
-    ensures exact { answer N.value result ≡ taken_within N.limit (robust N.value model.now) (N.value base) (map N.value vector.now)
+    ensures exact { answer N.value result
+        ≡ taken_within N.limit (robust N.value model.now) (N.value base) (map N.value vector.now)
         (expression_of N.value e.now) }
     ensures told { Told (L.wides ledger.old) (L.wides ledger.new) result }
     ensures ops { L.ops ledger.old ≤ L.ops ledger.new }
@@ -104,7 +107,8 @@ fn total_deviation<N: Exact, L: Ledger>(
     ledger: &mut L,
 ) -> Result<N, Wide>
     requires positive { Each (λ (h : Member N). 0ℚ <ℚ N.value h.deviation) members.now }
-    ensures exact { (m : RobustModel) → answer N.value result ≡ total_within N.limit m (N.value base) (map N.value vector.now)
+    ensures exact { (m : RobustModel) → answer N.value result
+        ≡ total_within N.limit m (N.value base) (map N.value vector.now)
         (map (member_of N.value) members.now) 0ℚ }
     ensures told { Told (L.wides ledger.old) (L.wides ledger.new) result }
     ensures ops { L.ops ledger.old ≤ L.ops ledger.new }
@@ -125,7 +129,8 @@ fn deviation<N: Exact, L: Ledger>(
     ledger: &mut L,
 ) -> Result<N, Wide>
     requires positive { 0ℚ <ℚ N.value member.now.deviation }
-    ensures exact { (m : RobustModel) → answer N.value result ≡ deviation_within N.limit m (N.value base) (map N.value vector.now)
+    ensures exact { (m : RobustModel) → answer N.value result
+        ≡ deviation_within N.limit m (N.value base) (map N.value vector.now)
         (member_of N.value member.now) }
     ensures told { Told (L.wides ledger.old) (L.wides ledger.new) result }
     ensures ops { L.ops ledger.old ≤ L.ops ledger.new }

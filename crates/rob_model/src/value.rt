@@ -1,4 +1,4 @@
-// The value of an expression under a plan in a scenario.
+//! The value of an expression under a plan in a scenario.
 
 ghost use Rattle.std.specs.Prelude.{◌≡◌, ◌≤◌, map, IfOk};
 ghost use Rattle.rob_number.specs.Answer.{answer};
@@ -20,8 +20,8 @@ use crate::plan::{Plan, Scenario};
 use crate::policy::{rule_value, rule_value_in};
 use rob_number::{Exact, Ledger, Wide};
 
-/// The value of an expression under a plan in a scenario, by recursion on the tree as it is written. Numbers that the plan
-/// or the scenario lacks count as 0.
+/// The value of an expression under a plan in a scenario, by recursion on the tree as it is written. Numbers that the
+/// plan or the scenario lacks count as 0.
 pub fn value_at<N: Exact, L: Ledger>(
     e: &Expr<N>,
     model: &Model<N>,

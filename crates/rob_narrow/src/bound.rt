@@ -1,4 +1,4 @@
-// The bound on the entries of a program's rows.
+//! The bound on the entries of a program's rows.
 
 ghost use Rattle.std.specs.Prelude.{◌≡◌, ℕ, ◌≤◌, ◌^◌, ◌-◌, pos, ◌≤ℤ◌, ◌<ℤ◌, length};
 ghost use Rattle.std.specs.Option.{MatchOption};

@@ -1,4 +1,4 @@
-// Powers up to a limit.
+//! Powers up to a limit.
 
 ghost use Rattle.std.specs.Prelude.{◌≡◌, suc, ◌<◌, ◌≤◌, ◌^◌};
 ghost use Rattle.std.specs.Option.{MatchOption};

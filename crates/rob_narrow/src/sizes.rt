@@ -1,4 +1,4 @@
-// The size of a program's numbers.
+//! The size of a program's numbers.
 
 ghost use Rattle.std.specs.Prelude.{ℕ, ◌≤◌, ◌^◌, ◌-◌, pos, ◌<ℤ◌, nat_abs};
 ghost use Rattle.rob_rows.specs.PrimitiveParts.{IsWithin};

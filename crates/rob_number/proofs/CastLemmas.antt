@@ -17,6 +17,10 @@ fits_small z h = omega (arith, ints)
 pub seen : (z : ℤ) → nat_abs z < 2 ^ 62 → to_z w64 (of_z w64 z) ≡ z
 seen z h = to_z-of_z (fits_small z h)
 
+-- a number within a limit is read as it is
+pub seen_within : (limit : ℕ) (z : ℤ) → limit ≤ 2 ^ 62 - 1 → nat_abs z ≤ limit → to_z w64 (of_z w64 z) ≡ z
+seen_within limit z high h = seen z (omega arith)
+
 pub seen_small : (z : ℤ) → nat_abs z < 2 ^ 62 → nat_abs (to_z w64 (of_z w64 z)) < 2 ^ 62
 seen_small z h = subst (λ x. nat_abs x < 2 ^ 62) (sym (seen z h)) h
 

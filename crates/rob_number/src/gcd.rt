@@ -23,7 +23,7 @@ pub fn gcd128(a: u128, b: u128) -> u128
 }
 
 /// The same in 64 bits, where a division is several times as fast.
-pub(crate) fn gcd64(a: u64, b: u64) -> u64
+pub fn gcd64(a: u64, b: u64) -> u64
     ensures divisor { result ≡ gcd a b }
 {
     let mut x = a;

@@ -13,7 +13,7 @@ pub mod text;
 
 pub use exact::{Exact, Wide};
 pub use fraction::Frac;
-pub use gcd::gcd128;
+pub use gcd::{gcd64, gcd128};
 pub use ledger::{Ledger, Tally};
 pub use list::List;
 pub use lp_kind::LpKind;

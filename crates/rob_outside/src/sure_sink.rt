@@ -3,7 +3,6 @@
 ghost use Rattle.std.specs.Prelude.{◌≡◌, [], ◌∷◌, ◌++◌, MatchResult};
 ghost use Rattle.rob_outside.specs.Puts.{put_of};
 ghost use Rattle.rob_outside.specs.SureSink.{empty_bytes};
-ghost use Rattle.rob_outside.specs.Taken.{Takes};
 
 use crate::note::PutNote;
 use crate::sink::{Sink, SinkErr};

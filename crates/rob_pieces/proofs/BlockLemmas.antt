@@ -1,13 +1,9 @@
 -- Lists that consist of one block for each cell, and what is said of each item by its cell.
-use Rattle.std.specs.Prelude.{◌≡◌, ℕ, zero, suc, ◌+◌, ◌<◌, List, [], ◌∷◌, ◌++◌, length, map, flat_map, get_or, take, refl}
+use Rattle.std.specs.Prelude.{◌≡◌, ℕ, zero, suc, ◌+◌, ◌<◌, List, [], ◌∷◌, ◌++◌, map, flat_map, get_or}
 use Rattle.std.proofs.Common.{sym, ◌∙◌, ap, subst, arith}
 use Rattle.rob_meaning.proofs.EachLemmas.{each_append}
 use Rattle.rob_meaning.specs.Places.{Each, EachFrom, tabulate}
 use Rattle.rob_pieces.specs.Cuts.{Cut, IsCell, cell_count, cell_numbers}
-
-pub take_left : {A : Type 0} (xs ys : List A) → take (length xs) (xs ++ ys) ≡ xs
-take_left [] ys = refl
-take_left (x ∷ xs) ys = ap (λ l. x ∷ l) (take_left xs ys)
 
 -- ---- over tabulated lists
 module _ {A : Type 0} (P : A → Type 0) where

@@ -1,13 +1,12 @@
 -- The decision columns of a split model: those of a cell's policies stand together, in the order of the model's.
 use Rattle.std.specs.Prelude.{◌≡◌, ℕ, zero, suc, pred, ◌+◌, ◌*◌, ◌/◌, ◌<◌, ◌≤◌, List, [], ◌∷◌, ◌++◌, length, map, flat_map, take, refl, codes}
 use Rattle.std.proofs.Common.{sym, ◌∙◌, ap, ap₂, subst, arith, length-append, suc-mul, zero-mul, mul_comm, mul-le-mul_right}
-use Rattle.std.proofs.lemmas.List.{length-map}
+use Rattle.std.proofs.lemmas.List.{length-map, take_at}
 use Rattle.std.proofs.lemmas.Nat.{div-mul-add}
 use Rattle.rob_meaning.proofs.AdmittedLemmas.{length-later}
 use Rattle.rob_meaning.proofs.JointScenarioLemmas.{length-tabulate}
 use Rattle.rob_meaning.specs.Places.{tabulate}
 use Rattle.rob_meaning.specs.RobustModel.{AdaptiveVariable, RobustModel, column_count, column_from, column_of, in_set, list_in, list_of, set_count, written_count, written_parameters}
-use Rattle.rob_pieces.proofs.BlockLemmas.{take_left}
 use Rattle.rob_pieces.specs.Cuts.{Cut, cell_count, cell_numbers, IsCell}
 use Rattle.rob_pieces.specs.Pieces.{policy_columns}
 use Rattle.rob_pieces.specs.SplitModel.{cell_names, copy_in, numbered, rule_in, split_model}
@@ -166,7 +165,8 @@ module _ (m : RobustModel) (cuts : List Cut) where
   pub written_parameters_split : written_parameters split ≡ m.parameters
   written_parameters_split =
       ap (λ n. take n split.parameters) written_split
-      ∙ take_left m.parameters (flat_map (λ set. map (in_set set) m.parameters) (cell_names cuts))
+      ∙ take_at m.parameters (flat_map (λ set. map (in_set set) m.parameters) (cell_names cuts))
+      (length m.parameters) refl
 
   pub variables_count : length split.variables ≡ suc (length m.variables)
   variables_count =

@@ -5,7 +5,7 @@ use Rattle.rob_algebra.specs.Fraction.{Fraction}
 use Rattle.rob_algebra.specs.FractionLaws as Q
 use Rattle.rob_meaning.proofs.AdmittedLemmas.{each_from_append, each_from_left, each_from_map}
 use Rattle.rob_meaning.proofs.EachLemmas.{each_append, each_left, each_map, each_right}
-use Rattle.rob_meaning.proofs.StatusLemmas.{better, no_worse_both, no_worse_trans, not_better}
+use Rattle.rob_meaning.proofs.StatusLemmas.{better, no_worse_both, no_worse_trans, not_better, no_worse_refl}
 use Rattle.rob_meaning.specs.Expressions.{Expression, adaptive}
 use Rattle.rob_meaning.specs.Guarantee.{HasBound, IsNoWorse, KeepsIn}
 use Rattle.rob_meaning.specs.Names.{Name}
@@ -25,10 +25,6 @@ use Rattle.rob_pieces.proofs.ScenarioLemmas.{cell_admits, cell_admitted, default
 use Rattle.rob_pieces.specs.Cuts.{AreCuts, CellHolds, Cut, IsCell, cell_numbers}
 use Rattle.rob_pieces.specs.Pieces.{IsPieceInfeasible, IsPieceOptimal, IsPieceUnbounded, Piece, PieceBound, piece_of, plan_in, plan_of, same_in_all}
 use Rattle.rob_pieces.specs.SplitModel.{bound_row, bound_rows, cell_rows, cells_worst, copy_in, cost_relation, over_cell, row_over, split_model}
-
-no_worse_same : (sense : Sense) (x : Fraction) → IsNoWorse sense x x
-no_worse_same minimise x = Q.le_refl_ℚ x
-no_worse_same maximise x = Q.le_refl_ℚ x
 
 -- the relation of a cost row says that the cost is no worse
 cost_in : (m : RobustModel) (c : ℕ) (sense : Sense) (worst cost : Fraction) → IsNoWorse sense cost worst →
@@ -214,7 +210,7 @@ module _ (m : RobustModel) (model : IsModel m) (alone : m.sets ≡ []) (cuts : L
 
     split_keeps : (S : ℕ) → S < set_count s → (u : List Fraction) → AdmitsIn s S u → KeepsIn s whole tau S u
     split_keeps S some u admitted = record {
-      objective = λ e. subst (λ x. IsNoWorse m.sense x tau) (sym worst_is) (no_worse_same m.sense tau);
+      objective = λ e. subst (λ x. IsNoWorse m.sense x tau) (sym worst_is) (no_worse_refl m.sense tau);
       rows =
           by_cells
           (λ c (r : Row). c ≡ S

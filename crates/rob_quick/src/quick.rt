@@ -1,6 +1,6 @@
-// Fractions of machine numbers, most of which are whole.
-//     a + b,   a - b,   a * b   of whole numbers are whole: their size alone decides whether they fit
-// Every other operation is that of `Frac<B>`.
+//! Fractions of machine numbers, most of which are whole.
+//!     a + b,   a - b,   a * b   of whole numbers are whole: their size alone decides whether they fit
+//! Every other operation is that of `Frac<B>`.
 
 ghost use Rattle.std.specs.Prelude.{◌≡◌, ◌^◌, ◌<◌, ◌↔◌, ◌+ℤ◌, ◌-ℤ◌, IsTrue, nat_abs, pos};
 ghost use Rattle.rob_algebra.specs.Fraction.{of_int};

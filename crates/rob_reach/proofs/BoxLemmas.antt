@@ -14,11 +14,12 @@ use Rattle.rob_meaning.specs.RobustModel.{Variable, RobustModel}
 use Rattle.rob_meaning.specs.UncertaintySet.{part_of, Admits, AdmitsIn, KeepsBounds, KeepsLower, KeepsUpper}
 use Rattle.rob_meaning.specs.WellFormed.{IsModel}
 use Rattle.rob_reach.proofs.SameColumns as Same
-use Rattle.rob_reach.proofs.WholeNumberLemmas.{whole_is, int_le_in}
+use Rattle.rob_reach.proofs.WholeNumberLemmas.{whole_is}
 use Rattle.rob_reach.specs.Boxes.{lesser_by, lesser, greater, change_at, Branch, tightened, behind, box, box_below, box_above, at_most_branch, at_least_branch}
 use Rattle.rob_reach.specs.Trees.{IsIn}
 use Rattle.rob_reach.specs.WholeNumbers.{IsWhole}
 use Rattle.rob_reach.specs.WholeStatus.{IsWholeOn, WholeBound}
+use Rattle.rob_algebra.proofs.WholeNumbers.{of_int_le}
 
 -- ---- the lesser and the greater of two bounds
 lesser_ranked : (r : Ordering) (a b x : Fraction) → MatchOrdering r (a <ℚ b) (a ≡ b) (b <ℚ a) → x ≤ℚ lesser_by r a b →
@@ -181,9 +182,9 @@ on_one_side x k h = by (Z.le_total x.num k)
     next a b h = omega (arith, ints)
 
     by : (x.num ≤ℤ k) ⊎ (k <ℤ x.num) → (x ≤ℚ of_int k) ⊎ (of_int (k +ℤ pos 1) ≤ℚ x)
-    by (inl g) = inl (subst (λ y. y ≤ℚ of_int k) (sym (whole_is x h)) (int_le_in x.num k g))
+    by (inl g) = inl (subst (λ y. y ≤ℚ of_int k) (sym (whole_is x h)) (of_int_le x.num k g))
     by (inr g) =
-        inr (subst (λ y. of_int (k +ℤ pos 1) ≤ℚ y) (sym (whole_is x h)) (int_le_in (k +ℤ pos 1) x.num (next k x.num g)))
+        inr (subst (λ y. of_int (k +ℤ pos 1) ≤ℚ y) (sym (whole_is x h)) (of_int_le (k +ℤ pos 1) x.num (next k x.num g)))
 
 -- a plan whose number of variable j is whole has its bound in one of the two boxes
 pub split_covers : (m : RobustModel) (j : ℕ) (k : ℤ) (plan : List Fraction) (tau : Fraction) → IsWhole (at plan j) →

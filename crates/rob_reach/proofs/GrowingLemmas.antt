@@ -15,7 +15,7 @@ use Rattle.rob_reach.proofs.CertificateLemmas.{optimal_bound, unbounded_bound}
 use Rattle.rob_reach.proofs.RangeLemmas.{bounded_in, number_between, lower_at, upper_at, changes_bounded}
 use Rattle.rob_reach.proofs.SplitLemmas.{products_split, product_positive}
 use Rattle.rob_reach.specs.Boxes.{Branch, behind, box_below, box_above, at_most_branch, at_least_branch}
-use Rattle.rob_reach.specs.Growing.{Search, is_beaten, first_broken, Outcome, ends, branches, outcome_by, outcome, Decides, AllowsBranch, IsAllowed, IsAllowedPath, ComesTo, Grows}
+use Rattle.rob_reach.specs.Growing.{Search, is_beaten, first_broken, Outcome, ends, branches, outcome_by, outcome, Decides, AllowsBranch, IsAllowed, IsAllowedPath, ComesToBox, Grows}
 use Rattle.rob_reach.specs.Ranges.{are_bounded, product_of_ranges}
 use Rattle.rob_reach.specs.Trees.{Node, leaf, split, left_open, leaves, leaf_count, branch_count, node_count, IsIn, BranchesOn}
 use Rattle.rob_reach.specs.WholeNumbers.{IsWhole, floor}
@@ -117,7 +117,7 @@ module _ (m : RobustModel) (names : List ℕ) (s : Search) (c : Certificate) (j 
 
 -- what a search comes to is behind an allowed path
 pub comes_allowed : (m : RobustModel) (names : List ℕ) (before there : Search) (path : List Branch)
-    → ComesTo m names before path there → IsAllowedPath m names path
+    → ComesToBox m names before path there → IsAllowedPath m names path
 comes_allowed m names before there [] h = tt
 comes_allowed m names before there (b ∷ path) (c, j, k, decides, inl h) = (
   subst (IsAllowed m names) (sym h.0) (allowed_below m names before c j k decides),

@@ -6,7 +6,7 @@ use Rattle.std.specs.Ordering.{MatchOrdering}
 use Rattle.rob_algebra.specs.Fraction.{Fraction, ◌≤ℚ◌, ◌<ℚ◌}
 use Rattle.rob_algebra.specs.FractionLaws as Q
 use Rattle.rob_algebra.specs.FractionOrder.{cmp_ℚ, cmp_ℚ-ranks}
-use Rattle.rob_meaning.proofs.StatusLemmas.{no_worse_trans}
+use Rattle.rob_meaning.proofs.StatusLemmas.{no_worse_trans, no_worse_refl}
 use Rattle.rob_meaning.specs.Certificates.{Certificate, Status, optimal, infeasible, unbounded}
 use Rattle.rob_meaning.specs.Guarantee.{IsNoWorse}
 use Rattle.rob_meaning.specs.Places.{Each}
@@ -53,10 +53,6 @@ no_better_false maximise a b e = by (cmp_ℚ a b) (cmp_ℚ-ranks a b) e
     by Less h e = cc
     by Equal h e = cc
     by Greater h e = Q.le_of_lt_ℚ b a h
-
-no_worse_refl : (sense : Sense) (a : Fraction) → IsNoWorse sense a a
-no_worse_refl minimise a = Q.le_refl_ℚ a
-no_worse_refl maximise a = Q.le_refl_ℚ a
 
 -- ---- what the leaves so far show
 has_leaf_left : (P : Leaf → Type 0) (xs ys : List Leaf) (i : ℕ) → HasLeaf P xs i → HasLeaf P (xs ++ ys) i

@@ -11,11 +11,12 @@ use Rattle.rob_algebra.specs.Integer as Z
 use Rattle.rob_algebra.proofs.Parts.{of_int-parts}
 use Rattle.rob_meaning.specs.RobustModel.{Variable}
 use Rattle.rob_reach.proofs.RangeLemmas.{declared, lower_at, upper_at}
-use Rattle.rob_reach.proofs.WholeNumberLemmas.{floor_greatest, at_most_floor, at_most_ceiling, int_le_in, floor-int, ceiling-int, below_floor_next}
+use Rattle.rob_reach.proofs.WholeNumberLemmas.{floor_greatest, at_most_floor, at_most_ceiling, floor-int, ceiling-int, below_floor_next}
 use Rattle.rob_reach.specs.Boxes.{lesser_by, lesser, greater, change_at, tightened}
 use Rattle.rob_reach.specs.Ranges.{has_both, is_bounded, range_between, range_at, product_of_ranges}
 use Rattle.rob_reach.specs.Trees.{IsIn}
 use Rattle.rob_reach.specs.WholeNumbers.{IsWhole, floor, ceiling, at_least_1, range}
+use Rattle.rob_algebra.proofs.WholeNumbers.{of_int_le}
 
 -- ---- counts of whole numbers
 at_least_1-some : (z : ℤ) (n : ℕ) → z ≡ pos n → at_least_1 (z +ℤ pos 1) ≡ suc n
@@ -84,7 +85,7 @@ module _ (x : Fraction) (broken : IsWhole x → ⊥) where
       by (inl g) =
           absurd (broken (subst IsWhole
           (Q.le_antisym_ℚ (of_int (floor x)) x below_number
-          (Q.le_trans_ℚ x (of_int z) (of_int (floor x)) h (int_le_in z (floor x) g)))
+          (Q.le_trans_ℚ x (of_int z) (of_int (floor x)) h (of_int_le z (floor x) g)))
           (of_int-parts (floor x)).1))
       by (inr g) = next (floor x) z g
 

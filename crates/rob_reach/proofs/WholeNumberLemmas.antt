@@ -7,8 +7,8 @@ use Rattle.rob_algebra.specs.Fraction.{Fraction, of_int, is_int, is_self, is_le_
 use Rattle.rob_algebra.specs.FractionLaws as Q
 use Rattle.rob_algebra.specs.Integer as Z
 use Rattle.rob_algebra.proofs.Parts.{of_int-parts}
-use Rattle.rob_algebra.specs.Integer.{products}
 use Rattle.rob_reach.specs.WholeNumbers.{IsWhole, rounded_down, floor, ceiling}
+use Rattle.rob_algebra.proofs.WholeNumbers.{of_int_le, le_of_int}
 
 -- ---- rounding down
 below_minus : (m n : ℕ) → n < m → neg_ℤ (pos m) ≤ℤ negsuc n
@@ -110,20 +110,10 @@ ceiling_least z x h =
         rw Z.neg-mul (omega (arith, ints))
 
 -- ---- whole numbers
--- the order of whole numbers is that of their fractions
-pub int_le_in : (a b : ℤ) → a ≤ℤ b → of_int a ≤ℚ of_int b
-int_le_in a b h = is_le_in (is_int a) (is_int b) (rw (Z.mul-one, Z.mul-one) h)
-
-pub int_le_out : (a b : ℤ) → of_int a ≤ℚ of_int b → a ≤ℤ b
-int_le_out a b h = along (is_le_out (is_int a) (is_int b) h)
-  where
-    along : (a *ℤ pos 1) ≤ℤ (b *ℤ pos 1) → a ≤ℤ b
-    along h = rw (← Z.mul-one a, ← Z.mul-one b) h
-
 pub floor-int : (z : ℤ) → floor (of_int z) ≡ z
 floor-int z =
     Z.le_antisym (floor (of_int z)) z
-    (int_le_out (floor (of_int z)) z (at_most_floor (floor (of_int z)) (of_int z) (le_self (floor (of_int z)))))
+    (le_of_int (floor (of_int z)) z (at_most_floor (floor (of_int z)) (of_int z) (le_self (floor (of_int z)))))
     (floor_greatest z (of_int z) (Q.le_refl_ℚ (of_int z)))
   where
     le_self : (a : ℤ) → a ≤ℤ a
@@ -132,7 +122,7 @@ floor-int z =
 pub ceiling-int : (z : ℤ) → ceiling (of_int z) ≡ z
 ceiling-int z =
     Z.le_antisym (ceiling (of_int z)) z (ceiling_least z (of_int z) (Q.le_refl_ℚ (of_int z)))
-    (int_le_out z (ceiling (of_int z)) (at_most_ceiling (of_int z)))
+    (le_of_int z (ceiling (of_int z)) (at_most_ceiling (of_int z)))
 
 -- a number with denominator 1 is its numerator
 pub whole_is : (x : Fraction) → IsWhole x → x ≡ of_int x.num
@@ -144,7 +134,7 @@ floor_law z x = (at_most_floor z x, floor_greatest z x)
 
 pub ceiling_law : (z : ℤ) (x : Fraction) → (ceiling x ≤ℤ z) ↔ (x ≤ℚ of_int z)
 ceiling_law z x = (
-  λ h. Q.le_trans_ℚ x (of_int (ceiling x)) (of_int z) (at_most_ceiling x) (int_le_in (ceiling x) z h),
+  λ h. Q.le_trans_ℚ x (of_int (ceiling x)) (of_int z) (at_most_ceiling x) (of_int_le (ceiling x) z h),
   ceiling_least z x,
 )
 

@@ -123,17 +123,17 @@ Grows m names before left_open after = ((i : ℕ) × (before.endless ≡ Some i)
 -- a search that stands at `before` comes to the box behind a path, and stands at `there` then: it is still on; and
 -- where a branch leads on, a certificate of the box asks for it, and before the second of its boxes the first one has
 -- grown
-abbrev pub ComesTo : RobustModel → List ℕ → Search → List Branch → Search → Type 0
-ComesTo m names before [] there = (before.endless ≡ None) × (there ≡ before)
-ComesTo m names before (b ∷ path) there =
+abbrev pub ComesToBox : RobustModel → List ℕ → Search → List Branch → Search → Type 0
+ComesToBox m names before [] there = (before.endless ≡ None) × (there ≡ before)
+ComesToBox m names before (b ∷ path) there =
     (c : Certificate) × (j : ℕ) × (k : ℤ) × Decides m names before c (branches j k)
-    × (((b ≡ at_most_branch j k) × ComesTo (behind m b) names before path there)
+    × (((b ≡ at_most_branch j k) × ComesToBox (behind m b) names before path there)
     ⊎ ((b ≡ at_least_branch j k) × ((below : Node) × (middle : Search)
-    × Grows (box_below m j k) names before below middle × ComesTo (behind m b) names middle path there)))
+    × Grows (box_below m j k) names before below middle × ComesToBox (behind m b) names middle path there)))
 
 -- it comes to that box
 abbrev pub Visits : RobustModel → List ℕ → Search → List Branch → Type 0
-Visits m names before path = (there : Search) × ComesTo m names before path there
+Visits m names before path = (there : Search) × ComesToBox m names before path there
 
 -- the tree of a search that is over
 abbrev pub tree_by : Option ℕ → Option Best → Node → Tree

@@ -6,7 +6,7 @@ ghost use Rattle.rob_meaning.specs.Places.{at};
 ghost use Rattle.rob_meaning.specs.RobustModel.{RobustModel};
 ghost use Rattle.rob_meaning.specs.WellFormed.{IsModel};
 ghost use Rattle.rob_reach.specs.Boxes.{Branch, behind, box_above, box_below};
-ghost use Rattle.rob_reach.specs.Growing.{AllowsBranch, ComesTo, Decides, IsAllowedPath, IsGrown, Search, Solves, branches, first_broken};
+ghost use Rattle.rob_reach.specs.Growing.{AllowsBranch, ComesToBox, Decides, IsAllowedPath, IsGrown, Search, Solves, branches, first_broken};
 ghost use Rattle.rob_reach.specs.Ranges.{KeepsBothBounds, product_of_ranges, whole_rule};
 ghost use Rattle.rob_reach.specs.Trees.{BranchesOn, IsIn, ProvesTree, Tree, branch_count, leaf_count};
 ghost use Rattle.rob_reach.specs.Verdicts.{IsTree};
@@ -41,7 +41,7 @@ pub fn branching_laws()
         → length path < product_of_ranges m.variables names }
     // What a search comes to is behind such a path.
     ensures comes { (m : RobustModel) (names : List ℕ) (before there : Search) (path : List Branch)
-        → ComesTo m names before path there → IsAllowedPath m names path }
+        → ComesToBox m names before path there → IsAllowedPath m names path }
     // A box stays bounded.
     ensures bounded { (m : RobustModel) (names : List ℕ) (b : Branch)
         → KeepsBothBounds m names → KeepsBothBounds (behind m b) names }

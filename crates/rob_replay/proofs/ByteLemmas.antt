@@ -19,7 +19,8 @@ IsFresh s = ⊥
 -- ---- one byte
 pub goes_step : (s s2 : State) (a : Action) (c : ℕ) (xs : List ℕ) (fields : List (List ℕ)) (field : List ℕ)
     → step default_config s c ≡ (s2, a) → is_end a ≡ false
-    → next_record default_config s fields field (c ∷ xs) ≡ next_record default_config s2 (fields_after a fields field) (field_after a c field) xs
+    → next_record default_config s fields field (c ∷ xs)
+    ≡ next_record default_config s2 (fields_after a fields field) (field_after a c field) xs
 unfolding next_record
 goes_step s s2 a c xs fields field e n = rw (e, n) refl
 
@@ -41,7 +42,8 @@ is_it c n h = eqb→eq c n (subst T (sym h) tt)
 -- what a byte in a field does: it ends the field, it ends the record, or it joins the field
 pub data Byte (c : ℕ) : Type 0 where
   ends_it : c ≡ 44 → step default_config st.InField c ≡ (st.StartField, act.EndField) → ends_field c ≡ true → Byte c
-  ends_all : (s : State) → step default_config st.InField c ≡ (s, act.EndRecord) → IsFresh s → is_line_end c ≡ true → ends_field c ≡ true → Byte c
+  ends_all : (s : State) → step default_config st.InField c ≡ (s, act.EndRecord) → IsFresh s → is_line_end c ≡ true
+      → ends_field c ≡ true → Byte c
   joins : step default_config st.InField c ≡ (st.InField, act.Copy) → ends_field c ≡ false → Byte c
 
 byte_comma : (c : ℕ) → (c == 44) ≡ true → Byte c
@@ -72,5 +74,6 @@ byte c = elim (cases_Bool (c == 44)) [
 pub line_step : (c : ℕ) → is_line_end c ≡ true → step default_config st.StartRecord c ≡ (st.StartRecord, act.Skip)
 line_step c e = rw e refl
 
-pub field_step : (c : ℕ) → is_line_end c ≡ false → step default_config st.StartRecord c ≡ step default_config st.StartField c
+pub field_step : (c : ℕ) → is_line_end c ≡ false
+    → step default_config st.StartRecord c ≡ step default_config st.StartField c
 field_step c e = rw e refl

@@ -15,7 +15,8 @@ blank_goes field i b inside is one = ap behind_blanks (drop_at field i b inside 
 
 pub blank_stops : (field : List ℕ) (i b : ℕ) → i < length field → b ≡ get_or field i b → is_blank b ≡ false
     → behind_blanks (drop i field) ≡ drop i field
-blank_stops field i b inside is other = ap behind_blanks (drop_at field i b inside is) ∙ stops ∙ sym (drop_at field i b inside is)
+blank_stops field i b inside is other =
+    ap behind_blanks (drop_at field i b inside is) ∙ stops ∙ sym (drop_at field i b inside is)
   where
     stops : behind_blanks (b ∷ drop (i + 1) field) ≡ b ∷ drop (i + 1) field
     stops = rw other refl
@@ -59,14 +60,18 @@ take_last : (field : List ℕ) (end b d : ℕ) → 0 < end → end ≤ length fi
 take_last field zero b d some h is = absurd (omega arith)
 take_last field (suc k) b d some h is =
     let e : suc k - 1 ≡ k = omega arith in
-    take_next field k b d (omega arith) (subst (λ i. b ≡ get_or field i d) e is) ∙ ap (λ i. take i field ++ b ∷ []) (sym e)
+    take_next field k b d (omega arith) (subst (λ i. b ≡ get_or field i d) e is)
+    ∙ ap (λ i. take i field ++ b ∷ []) (sym e)
 
-module _ (field : List ℕ) (end b d : ℕ) (some : 0 < end) (h : end ≤ length field) (is : b ≡ get_or field (end - 1) d) where
+module _ (field : List ℕ) (end b d : ℕ) (some : 0 < end) (h : end ≤ length field)
+    (is : b ≡ get_or field (end - 1) d) where
   pub before_goes : is_blank b ≡ true → before_blanks (take end field) ≡ before_blanks (take (end - 1) field)
   before_goes one = ap before_blanks (take_last field end b d some h is) ∙ blank_last (take (end - 1) field) b one
 
   pub before_stops : is_blank b ≡ false → before_blanks (take end field) ≡ take end field
-  before_stops other = ap before_blanks (take_last field end b d some h is) ∙ no_blank_last (take (end - 1) field) b other ∙ sym (take_last field end b d some h is)
+  before_stops other =
+      ap before_blanks (take_last field end b d some h is) ∙ no_blank_last (take (end - 1) field) b other
+      ∙ sym (take_last field end b d some h is)
 
 -- ---- digits
 abbrev pub whole_left : ℕ → ℕ → List ℕ → Option ℕ
@@ -82,7 +87,8 @@ value_grows so_far [] = omega arith
 value_grows so_far (b ∷ bytes) = le_trans (omega arith) (value_grows (so_far * 10 + (b - 48)) bytes)
 
 abbrev pub next_digit : ℕ → ℕ → ℕ → Option ℕ
-next_digit limit so_far b = if is_digit b && nat_le (so_far * 10 + (b - 48)) limit then Some (so_far * 10 + (b - 48)) else None
+next_digit limit so_far b =
+    if is_digit b && nat_le (so_far * 10 + (b - 48)) limit then Some (so_far * 10 + (b - 48)) else None
 
 pub digit_goes : (limit so_far b next : ℕ) (bytes : List ℕ) → Some next ≡ next_digit limit so_far b
     → whole_left limit so_far (b ∷ bytes) ≡ whole_left limit next bytes
@@ -100,7 +106,8 @@ digit_goes limit so_far b next bytes h = case (is_digit b) (nat_le (so_far * 10 
 over : (limit value : ℕ) → limit < value → nat_le value limit ≡ false
 over limit value h = grind arith
 
-pub digit_stops : (limit so_far b : ℕ) (bytes : List ℕ) → None ≡ next_digit limit so_far b → whole_left limit so_far (b ∷ bytes) ≡ None
+pub digit_stops : (limit so_far b : ℕ) (bytes : List ℕ) → None ≡ next_digit limit so_far b
+    → whole_left limit so_far (b ∷ bytes) ≡ None
 digit_stops limit so_far b bytes h = case (is_digit b) (nat_le (so_far * 10 + (b - 48)) limit) refl refl
   where
     big : nat_le (so_far * 10 + (b - 48)) limit ≡ false → limit < value_behind (so_far * 10 + (b - 48)) bytes
@@ -110,9 +117,11 @@ digit_stops limit so_far b bytes h = case (is_digit b) (nat_le (so_far * 10 + (b
     none true n = refl
     none false n = refl
 
-    case : (d l : Bool) → is_digit b ≡ d → nat_le (so_far * 10 + (b - 48)) limit ≡ l → whole_left limit so_far (b ∷ bytes) ≡ None
+    case : (d l : Bool) → is_digit b ≡ d → nat_le (so_far * 10 + (b - 48)) limit ≡ l
+        → whole_left limit so_far (b ∷ bytes) ≡ None
     case true true d l = let e : None ≡ Some (so_far * 10 + (b - 48)) = rw (d, l) at h in cc
-    case true false d l = rw (d, over limit (value_behind (so_far * 10 + (b - 48)) bytes) (big l)) (none (all_digits bytes) _)
+    case true false d l =
+        rw (d, over limit (value_behind (so_far * 10 + (b - 48)) bytes) (big l)) (none (all_digits bytes) _)
     case false l d e = rw d refl
 
 pub digits_end : (limit so_far : ℕ) → so_far ≤ limit → whole_left limit so_far [] ≡ Some so_far
@@ -124,7 +133,8 @@ digits_end limit so_far h = rw within refl
 -- a whole number that was read is within the limit
 pub whole_within : (limit : ℕ) (digits : List ℕ) (n : ℕ) → Some n ≡ whole_in limit digits → n ≤ limit
 whole_within limit [] n h = cc
-whole_within limit (b ∷ digits) n h = case (all_digits (b ∷ digits)) (nat_le (value_behind 0 (b ∷ digits)) limit) refl refl
+whole_within limit (b ∷ digits) n h =
+    case (all_digits (b ∷ digits)) (nat_le (value_behind 0 (b ∷ digits)) limit) refl refl
   where
     case : (d l : Bool) → all_digits (b ∷ digits) ≡ d → nat_le (value_behind 0 (b ∷ digits)) limit ≡ l → n ≤ limit
     case true true d l =
@@ -136,11 +146,13 @@ whole_within limit (b ∷ digits) n h = case (all_digits (b ∷ digits)) (nat_le
 
 -- ---- the slash
 module _ (word : List ℕ) (i b : ℕ) (inside : i < length word) (is : b ≡ get_or word i b) where
-  pub slash_found : (b == 47) ≡ true → (numerator_in (drop i word) ≡ []) × (denominator_in (drop i word) ≡ Some (drop (i + 1) word))
+  pub slash_found : (b == 47) ≡ true → (numerator_in (drop i word) ≡ [])
+      × (denominator_in (drop i word) ≡ Some (drop (i + 1) word))
   slash_found one = rw (drop_at word i b inside is, one) (refl, refl)
 
   pub slash_later : (b == 47) ≡ false
-      → (numerator_in (drop i word) ≡ b ∷ numerator_in (drop (i + 1) word)) × (denominator_in (drop i word) ≡ denominator_in (drop (i + 1) word))
+      → (numerator_in (drop i word) ≡ b ∷ numerator_in (drop (i + 1) word))
+      × (denominator_in (drop i word) ≡ denominator_in (drop (i + 1) word))
   slash_later other = rw (drop_at word i b inside is, other) (refl, refl)
 
 -- ---- a digit at its place
@@ -149,8 +161,10 @@ get_or_any [] i d e h = absurd (omega arith)
 get_or_any (x ∷ xs) zero d e h = refl
 get_or_any (x ∷ xs) (suc i) d e h = get_or_any xs i d e (omega arith)
 
-pub whole_stops : (limit so_far : ℕ) (digits : List ℕ) (i d : ℕ) → i < length digits → None ≡ next_digit limit so_far (get_or digits i d)
+pub whole_stops : (limit so_far : ℕ) (digits : List ℕ) (i d : ℕ) → i < length digits
+    → None ≡ next_digit limit so_far (get_or digits i d)
     → whole_left limit so_far (drop i digits) ≡ None
 whole_stops limit so_far digits i d inside h =
     let b = get_or digits i d in
-    ap (whole_left limit so_far) (drop_at digits i b inside (get_or_any digits i d b inside)) ∙ digit_stops limit so_far b (drop (i + 1) digits) h
+    ap (whole_left limit so_far) (drop_at digits i b inside (get_or_any digits i d b inside))
+    ∙ digit_stops limit so_far b (drop (i + 1) digits) h

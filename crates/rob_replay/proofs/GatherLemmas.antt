@@ -22,10 +22,12 @@ module _ {A : Type 0} where
   one_more so_far x None = refl
   one_more so_far x (Some ys) = ap Some (sym (append_assoc so_far (x ∷ []) ys))
 
-  pub gathered_more : (so_far : List A) (x : A) (xs : List (Option A)) → gathered so_far (Some x ∷ xs) ≡ gathered (so_far ++ x ∷ []) xs
+  pub gathered_more : (so_far : List A) (x : A) (xs : List (Option A))
+      → gathered so_far (Some x ∷ xs) ≡ gathered (so_far ++ x ∷ []) xs
   gathered_more so_far x xs = one_more so_far x (all_of xs)
 
-  pub gathered_next : (so_far next : List A) (o : Option A) (xs : List (Option A)) → gathered so_far (o ∷ []) ≡ Some next
+  pub gathered_next : (so_far next : List A) (o : Option A) (xs : List (Option A))
+      → gathered so_far (o ∷ []) ≡ Some next
       → gathered so_far (o ∷ xs) ≡ gathered next xs
   gathered_next so_far next None xs h = cc
   gathered_next so_far next (Some x) xs h =
@@ -45,18 +47,21 @@ module _ {A : Type 0} where
       ap (λ l. gathered l ys) d
   gathered_append so_far next (None ∷ xs) ys h = cc
   gathered_append so_far next (Some x ∷ xs) ys h =
-      gathered_more so_far x (xs ++ ys) ∙ gathered_append (so_far ++ x ∷ []) next xs ys (sym (gathered_more so_far x xs) ∙ h)
+      gathered_more so_far x (xs ++ ys)
+      ∙ gathered_append (so_far ++ x ∷ []) next xs ys (sym (gathered_more so_far x xs) ∙ h)
 
   pub gathered_append_stops : (so_far : List A) (xs ys : List (Option A)) → gathered so_far xs ≡ None
       → gathered so_far (xs ++ ys) ≡ None
   gathered_append_stops so_far [] ys h = cc (gathered_end so_far)
   gathered_append_stops so_far (None ∷ xs) ys h = refl
   gathered_append_stops so_far (Some x ∷ xs) ys h =
-      gathered_more so_far x (xs ++ ys) ∙ gathered_append_stops (so_far ++ x ∷ []) xs ys (sym (gathered_more so_far x xs) ∙ h)
+      gathered_more so_far x (xs ++ ys)
+      ∙ gathered_append_stops (so_far ++ x ∷ []) xs ys (sym (gathered_more so_far x xs) ∙ h)
 
 -- ---- behind the items before a place
 module _ {A B : Type 0} (f : A → Option B) (xs : List A) (i : ℕ) where
-  pub left_past : (so_far : List B) (o : Option (List B)) → length xs ≤ i → gathered so_far (map f (drop i xs)) ≡ o → o ≡ Some so_far
+  pub left_past : (so_far : List B) (o : Option (List B)) → length xs ≤ i
+      → gathered so_far (map f (drop i xs)) ≡ o → o ≡ Some so_far
   left_past so_far o h e =
       sym e ∙ ap (λ l. gathered so_far (map f l)) (drop_past xs i h) ∙ gathered_end so_far
 

@@ -1,5 +1,5 @@
--- A header is the names of the joint parameters in some order: where names differ, that is as many fields as names, among
--- which each name is found.
+-- A header is the names of the joint parameters in some order: where names differ, that is as many fields as names,
+-- among which each name is found.
 use Rattle.std.proofs.Common.{◌≡◌, ◌≢◌, ℕ, suc, List, [], ◌∷◌, ◌++◌, length, refl, sym, ap, ◌∙◌, subst, arith, inl, inr, ◌⊎◌, true, false, length-append, All}
 use Rattle.std.proofs.lemmas.List.Elements.{All-cons, All-head, All-nil, All-tail}
 use Rattle.std.proofs.lemmas.List.Sorted.{All-permutation, IsPermutation-cons, IsPermutation-middle, IsPermutation-refl, IsPermutation-sym, IsPermutation-trans, length_permutation}
@@ -19,7 +19,8 @@ IsAmong [] name = ⊥
 IsAmong (field ∷ fields) name = (field ≡ name) ⊎ IsAmong fields name
 
 -- ---- a field is found exactly where it is among them
-place_at : (k : ℕ) (fields : List Name) (name : Name) → IsAmong fields name → (p : ℕ) × (place_from k fields name ≡ Some p)
+place_at : (k : ℕ) (fields : List Name) (name : Name) → IsAmong fields name → (p : ℕ)
+    × (place_from k fields name ≡ Some p)
 place_at k [] name h = absurd h
 place_at k (field ∷ fields) name h = by (bytes_eq field name) refl h (place_at (suc k) fields name)
   where
@@ -40,7 +41,8 @@ among_at k (field ∷ fields) name p h = by (bytes_eq field name) refl h (among_
     by false e found rest = inr (rest found)
 
 -- ---- and so are all
-all_places : (header names : List Name) → Each (IsAmong header) names → (ps : List ℕ) × (places_in header names ≡ Some ps)
+all_places : (header names : List Name) → Each (IsAmong header) names → (ps : List ℕ)
+    × (places_in header names ≡ Some ps)
 all_places header [] h = ([], refl)
 all_places header (name ∷ names) h =
     let p = place_at 0 header name h.0 in
@@ -57,7 +59,8 @@ all_among header (name ∷ names) ps h =
   where
     by : (o : Option ℕ) → place_from 0 header name ≡ o → (r : Option (List ℕ)) → places_in header names ≡ r
         → (o >>= (λ x. r >>= (λ xs. Some (x ∷ xs)))) ≡ Some ps
-        → ((qs : List ℕ) → places_in header names ≡ Some qs → Each (IsAmong header) names) → Each (IsAmong header) (name ∷ names)
+        → ((qs : List ℕ) → places_in header names ≡ Some qs → Each (IsAmong header) names)
+        → Each (IsAmong header) (name ∷ names)
     by None e r f found rest = absurd (let none : None ≡ Some ps = found in cc)
     by (Some p) e None f found rest = absurd (let none : None ≡ Some ps = found in cc)
     by (Some p) e (Some qs) f found rest = (among_at 0 header name p e, rest qs f)
@@ -74,7 +77,8 @@ around (field ∷ fields) name (inr behind) =
     (field ∷ parts.0, parts.1, ap (λ (xs : List Name). field ∷ xs) parts.2)
 
 -- another one is among those
-among_rest : (front back : List Name) (name other : Name) → name ≢ other → IsAmong (front ++ name ∷ back) other → IsAmong (front ++ back) other
+among_rest : (front back : List Name) (name other : Name) → name ≢ other → IsAmong (front ++ name ∷ back) other
+    → IsAmong (front ++ back) other
 among_rest [] back name other differ (inl same) = absurd (differ same)
 among_rest [] back name other differ (inr behind) = behind
 among_rest (field ∷ front) back name other differ (inl same) = inl same
@@ -96,9 +100,11 @@ arranged (name ∷ names) header distinct long h =
     subst (λ (xs : List Name). Each (IsAmong xs) names) parts.2 h.1
     in
     let short : length (parts.0 ++ parts.1) ≡ length names = shorter parts.0 parts.1 parts.2 in
-    let rest = arranged names (parts.0 ++ parts.1) distinct.1 short (all_rest parts.0 parts.1 name names distinct.0 there) in
+    let rest = arranged names (parts.0 ++ parts.1) distinct.1 short
+    (all_rest parts.0 parts.1 name names distinct.0 there) in
     subst (IsPermutation (name ∷ names)) (sym parts.2)
-    (IsPermutation-trans _ _ _ (IsPermutation-cons name _ _ rest) (IsPermutation-sym _ _ (IsPermutation-middle parts.0 name parts.1)))
+    (IsPermutation-trans _ _ _ (IsPermutation-cons name _ _ rest)
+    (IsPermutation-sym _ _ (IsPermutation-middle parts.0 name parts.1)))
   where
     shorter : (front back : List Name) → header ≡ front ++ name ∷ back → length (front ++ back) ≡ length names
     shorter front back e =
@@ -106,7 +112,8 @@ arranged (name ∷ names) header distinct long h =
         omega (arith, whole, long, length-append front (name ∷ back), length-append front back)
 
 -- ---- the other way
-among_more : (field : Name) (fields names : List Name) → All (IsAmong fields) names → All (IsAmong (field ∷ fields)) names
+among_more : (field : Name) (fields names : List Name) → All (IsAmong fields) names
+    → All (IsAmong (field ∷ fields)) names
 among_more field fields [] h = All-nil (IsAmong (field ∷ fields))
 among_more field fields (name ∷ names) h =
     All-cons (IsAmong (field ∷ fields)) name names (inr (All-head (IsAmong fields) name names h))
@@ -122,13 +129,15 @@ each_of P [] h = tt
 each_of P (name ∷ names) h = (All-head P name names h, each_of P names (All-tail P name names h))
 
 -- ---- so the header is the names in some order
-places_are : (header names : List Name) → AreDistinct names → (places : List ℕ) → header_places header names ≡ Some places
+places_are : (header names : List Name) → AreDistinct names → (places : List ℕ)
+    → header_places header names ≡ Some places
     → (names ≢ []) × IsPermutation names header
 places_are header [] distinct places h = absurd (let none : None ≡ Some places = h in cc)
 places_are header (name ∷ names) distinct places h = by (length header == length (name ∷ names)) refl h
   where
     by : (b : Bool) → (length header == length (name ∷ names)) ≡ b
-        → (if b then places_in header (name ∷ names) else None) ≡ Some places → (name ∷ names ≢ []) × IsPermutation (name ∷ names) header
+        → (if b then places_in header (name ∷ names) else None) ≡ Some places → (name ∷ names ≢ [])
+        × IsPermutation (name ∷ names) header
     by true e found =
         let long : length header ≡ length (name ∷ names) = grind (arith, nat_tests) in
         ((λ none. cc), arranged (name ∷ names) header distinct long (all_among header (name ∷ names) places found))
@@ -142,11 +151,13 @@ are_places header (name ∷ names) some h =
     let same : (length header == length (name ∷ names)) ≡ true = grind (arith, nat_tests) in
     let among : Each (IsAmong header) (name ∷ names) =
     each_of (IsAmong header) (name ∷ names)
-    (All-permutation (IsAmong header) header (name ∷ names) (IsPermutation-sym (name ∷ names) header h) (among_itself header))
+    (All-permutation (IsAmong header) header (name ∷ names)
+    (IsPermutation-sym (name ∷ names) header h) (among_itself header))
     in
     let places = all_places header (name ∷ names) among in
     (places.0, ap (λ (b : Bool). if b then places_in header (name ∷ names) else None) same ∙ places.1)
 
 pub header_is : (header names : List Name) → AreDistinct names
     → ((places : List ℕ) × (header_places header names ≡ Some places)) ↔ ((names ≢ []) × IsPermutation names header)
-header_is header names distinct = ((λ h. places_are header names distinct h.0 h.1), (λ h. are_places header names h.0 h.1))
+header_is header names distinct =
+    ((λ h. places_are header names distinct h.0 h.1), (λ h. are_places header names h.0 h.1))

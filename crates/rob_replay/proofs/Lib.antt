@@ -8,6 +8,7 @@ pub mod LineLemmas
 pub mod ReplayedLemmas
 pub mod RowLemmas
 pub mod ByteLemmas
+pub mod RecordLemmas
 pub mod FileLemmas
 pub mod OneFileLemmas
 pub mod OutcomeLemmas

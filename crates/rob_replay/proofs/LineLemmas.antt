@@ -13,36 +13,48 @@ use Rattle.rob_model.specs.declared.model.Adaptive.{Adaptive}
 use Rattle.rob_replay.proofs.GatherLemmas.{gathered_next, gathered_stops, gathered_end, gathered_append, gathered_append_stops}
 use Rattle.rob_replay.specs.Gathering.{all_of, gathered}
 use Rattle.rob_replay.specs.Lines.{policies_within, bound_slacks, variable_slacks, row_slack, slacks_within, inside_within}
+use Rattle.rob_model.proofs.NameCountLemmas.{columns_many}
 
 module _ {N : Type 0} (value : N → Fraction) (limit : ℕ) (m : RobustModel) (plan scenario : List Fraction) where
   from_place : (k n : ℕ) (ys : List (Adaptive N)) → k < length ys
       → policies_within limit m plan scenario n (map (adaptive_of value) (drop k ys))
-      ≡ policy_within limit m plan scenario n ∷ policies_within limit m plan scenario (suc n) (map (adaptive_of value) (drop (suc k) ys))
+      ≡ policy_within limit m plan scenario n
+      ∷ policies_within limit m plan scenario (suc n) (map (adaptive_of value) (drop (suc k) ys))
   from_place k n [] inside = absurd (omega arith)
   from_place zero n (y ∷ ys) inside = refl
   from_place (suc k) n (y ∷ ys) inside = from_place k n ys (omega arith)
 
   policies_split : (k : ℕ) (ys : List (Adaptive N)) → k < length ys
       → policies_within limit m plan scenario k (map (adaptive_of value) (drop k ys))
-      ≡ policy_within limit m plan scenario k ∷ policies_within limit m plan scenario (k + 1) (map (adaptive_of value) (drop (k + 1) ys))
+      ≡ policy_within limit m plan scenario k
+      ∷ policies_within limit m plan scenario (k + 1) (map (adaptive_of value) (drop (k + 1) ys))
   policies_split k ys inside =
       from_place k k ys inside
-      ∙ ap (λ j. policy_within limit m plan scenario k ∷ policies_within limit m plan scenario j (map (adaptive_of value) (drop j ys))) (sym (add-one k))
+      ∙ ap (λ j. policy_within limit m plan scenario k
+      ∷ policies_within limit m plan scenario j (map (adaptive_of value) (drop j ys))) (sym (add-one k))
 
   module _ (ys : List (Adaptive N)) (k : ℕ) (so_far : List Fraction) where
-    pub policies_next : k < length ys → (next : List Fraction) → gathered so_far (policy_within limit m plan scenario k ∷ []) ≡ Some next
+    pub policies_next : k < length ys → (next : List Fraction)
+        → gathered so_far (policy_within limit m plan scenario k ∷ []) ≡ Some next
         → gathered so_far (policies_within limit m plan scenario k (map (adaptive_of value) (drop k ys)))
         ≡ gathered next (policies_within limit m plan scenario (k + 1) (map (adaptive_of value) (drop (k + 1) ys)))
-    policies_next inside next h = ap (gathered so_far) (policies_split k ys inside) ∙ gathered_next so_far next (policy_within limit m plan scenario k) (policies_within limit m plan scenario (k + 1) (map (adaptive_of value) (drop (k + 1) ys))) h
+    policies_next inside next h =
+        ap (gathered so_far) (policies_split k ys inside)
+        ∙ gathered_next so_far next (policy_within limit m plan scenario k)
+        (policies_within limit m plan scenario (k + 1) (map (adaptive_of value) (drop (k + 1) ys))) h
 
     pub policies_stop : k < length ys → gathered so_far (policy_within limit m plan scenario k ∷ []) ≡ None
         → gathered so_far (policies_within limit m plan scenario k (map (adaptive_of value) (drop k ys))) ≡ None
-    policies_stop inside h = ap (gathered so_far) (policies_split k ys inside) ∙ gathered_stops so_far (policy_within limit m plan scenario k) (policies_within limit m plan scenario (k + 1) (map (adaptive_of value) (drop (k + 1) ys))) h
+    policies_stop inside h =
+        ap (gathered so_far) (policies_split k ys inside)
+        ∙ gathered_stops so_far (policy_within limit m plan scenario k)
+        (policies_within limit m plan scenario (k + 1) (map (adaptive_of value) (drop (k + 1) ys))) h
 
     pub policies_end : length ys ≤ k
         → gathered so_far (policies_within limit m plan scenario k (map (adaptive_of value) (drop k ys))) ≡ Some so_far
     policies_end h =
-        ap (λ (l : List (Adaptive N)). gathered so_far (policies_within limit m plan scenario k (map (adaptive_of value) l))) (drop_past ys k h)
+        ap (λ (l : List (Adaptive N)).
+        gathered so_far (policies_within limit m plan scenario k (map (adaptive_of value) l))) (drop_past ys k h)
         ∙ gathered_end so_far
 
 -- the number of values that were gathered
@@ -59,9 +71,11 @@ policies_length : (limit : ℕ) (m : RobustModel) (plan scenario : List Fraction
 policies_length limit m plan scenario n [] = refl
 policies_length limit m plan scenario n (y ∷ ys) = ap suc (policies_length limit m plan scenario (suc n) ys)
 
-pub policies_count : (limit : ℕ) (m : RobustModel) (plan scenario : List Fraction) (n : ℕ) (ys : List AdaptiveVariable) (xs : List Fraction)
+pub policies_count : (limit : ℕ) (m : RobustModel) (plan scenario : List Fraction) (n : ℕ)
+    (ys : List AdaptiveVariable) (xs : List Fraction)
     → all_of (policies_within limit m plan scenario n ys) ≡ Some xs → length ys ≡ length xs
-policies_count limit m plan scenario n ys xs h = sym (policies_length limit m plan scenario n ys) ∙ all_count (policies_within limit m plan scenario n ys) xs h
+policies_count limit m plan scenario n ys xs h =
+    sym (policies_length limit m plan scenario n ys) ∙ all_count (policies_within limit m plan scenario n ys) xs h
 
 module _ {N : Type 0} (value : N → Fraction) (limit : ℕ) where
   abbrev pub bounds_left : List (Adaptive N) → List N → ℕ → List (Option Fraction)
@@ -69,50 +83,61 @@ module _ {N : Type 0} (value : N → Fraction) (limit : ℕ) where
 
   module _ (ys : List (Adaptive N)) (xs : List N) (k : ℕ) (y : Adaptive N) (x : N) (so_far : List Fraction)
       (inside_y : k < length ys) (is_y : y ≡ get_or ys k y) (inside_x : k < length xs) (is_x : x ≡ get_or xs k x) where
-    bounds_split : bounds_left ys xs k ≡ variable_slacks limit (adaptive_of value y) (value x) ++ bounds_left ys xs (k + 1)
+    bounds_split : bounds_left ys xs k ≡ variable_slacks limit (adaptive_of value y) (value x)
+        ++ bounds_left ys xs (k + 1)
     bounds_split =
-        ap (λ (l : List (Adaptive N)). bound_slacks limit (map (adaptive_of value) l) (map value (drop k xs))) (drop_at ys k y inside_y is_y)
-        ∙ ap (λ (l : List N). bound_slacks limit (map (adaptive_of value) (y ∷ drop (k + 1) ys)) (map value l)) (drop_at xs k x inside_x is_x)
+        ap (λ (l : List (Adaptive N)). bound_slacks limit (map (adaptive_of value) l) (map value (drop k xs)))
+        (drop_at ys k y inside_y is_y)
+        ∙ ap (λ (l : List N). bound_slacks limit (map (adaptive_of value) (y ∷ drop (k + 1) ys)) (map value l))
+        (drop_at xs k x inside_x is_x)
 
-    pub bounds_next : (next : List Fraction) → gathered so_far (variable_slacks limit (adaptive_of value y) (value x)) ≡ Some next
+    pub bounds_next : (next : List Fraction)
+        → gathered so_far (variable_slacks limit (adaptive_of value y) (value x)) ≡ Some next
         → gathered so_far (bounds_left ys xs k) ≡ gathered next (bounds_left ys xs (k + 1))
-    bounds_next next h = ap (gathered so_far) bounds_split ∙ gathered_append so_far next (variable_slacks limit (adaptive_of value y) (value x)) (bounds_left ys xs (k + 1)) h
+    bounds_next next h =
+        ap (gathered so_far) bounds_split
+        ∙ gathered_append so_far next (variable_slacks limit (adaptive_of value y) (value x))
+        (bounds_left ys xs (k + 1)) h
 
     pub bounds_stop : gathered so_far (variable_slacks limit (adaptive_of value y) (value x)) ≡ None
         → gathered so_far (bounds_left ys xs k) ≡ None
-    bounds_stop h = ap (gathered so_far) bounds_split ∙ gathered_append_stops so_far (variable_slacks limit (adaptive_of value y) (value x)) (bounds_left ys xs (k + 1)) h
+    bounds_stop h =
+        ap (gathered so_far) bounds_split
+        ∙ gathered_append_stops so_far (variable_slacks limit (adaptive_of value y) (value x))
+        (bounds_left ys xs (k + 1)) h
 
   pub bounds_end : (ys : List (Adaptive N)) (xs : List N) (k : ℕ) (so_far : List Fraction) → length ys ≤ k
       → gathered so_far (bounds_left ys xs k) ≡ Some so_far
   bounds_end ys xs k so_far h =
-      ap (λ (l : List (Adaptive N)). gathered so_far (bound_slacks limit (map (adaptive_of value) l) (map value (drop k xs)))) (drop_past ys k h)
+      ap (λ (l : List (Adaptive N)).
+      gathered so_far (bound_slacks limit (map (adaptive_of value) l) (map value (drop k xs)))) (drop_past ys k h)
       ∙ gathered_end so_far
 
 -- the slack of a row as it is stored
-abbrev pub slack_in : {N : Type 0} → (N → Fraction) → ℕ → RobustModel → List Fraction → List Fraction → RowDef N → Option Fraction
+abbrev pub slack_in : {N : Type 0} → (N → Fraction) → ℕ → RobustModel → List Fraction → List Fraction
+    → RowDef N → Option Fraction
 slack_in value limit m plan scenario r = row_slack limit m plan scenario (row_of value r)
 
-pub slacks_in : {N : Type 0} (value : N → Fraction) (limit : ℕ) (m : RobustModel) (plan scenario : List Fraction) (rs : List (RowDef N))
+pub slacks_in : {N : Type 0} (value : N → Fraction) (limit : ℕ) (m : RobustModel)
+    (plan scenario : List Fraction) (rs : List (RowDef N))
     → map (slack_in value limit m plan scenario) rs ≡ map (row_slack limit m plan scenario) (map (row_of value) rs)
 slacks_in value limit m plan scenario [] = refl
 slacks_in value limit m plan scenario (r ∷ rs) =
     ap (λ l. slack_in value limit m plan scenario r ∷ l) (slacks_in value limit m plan scenario rs)
 
 -- ---- a line that is inside
-module _ (limit : ℕ) (m : RobustModel) (plan scenario : List Fraction) (number : ℕ) (adaptives : List Fraction) (objective : Fraction)
+module _ (limit : ℕ) (m : RobustModel) (plan scenario : List Fraction) (number : ℕ)
+    (adaptives : List Fraction) (objective : Fraction)
     (policies : all_of (policies_within limit m plan scenario 0 m.adaptives) ≡ Some adaptives)
     (goal : Some objective ≡ value_within limit m plan scenario m.objective) where
-  pub inside_stops : all_of (slacks_within limit m plan scenario adaptives) ≡ None → inside_within limit m plan number scenario ≡ None
+  pub inside_stops : all_of (slacks_within limit m plan scenario adaptives) ≡ None
+      → inside_within limit m plan number scenario ≡ None
   inside_stops none = rw (policies, sym goal, none) refl
 
--- adaptive variables are few
-few_from : (column : ℕ) (ys : List AdaptiveVariable) → column + length ys ≤ column_from column ys (length ys)
-few_from column [] = omega arith
-few_from column (y ∷ ys) = omega (arith, few_from (suc column + length y.on) ys)
-
 pub few_policies : {N : Type 0} (value : N → Fraction) (vars : ℕ) (ys : List (Adaptive N))
-    → column_from vars (map (adaptive_of value) ys) (length (map (adaptive_of value) ys)) ≤ 600 → (k : ℕ) → k < length ys → k < 2 ^ 32
+    → column_from vars (map (adaptive_of value) ys) (length (map (adaptive_of value) ys)) ≤ 600 → (k : ℕ)
+    → k < length ys → k < 2 ^ 32
 few_policies value vars ys few k h =
-    let n = few_from vars (map (adaptive_of value) ys) in
+    let n = columns_many vars (map (adaptive_of value) ys) in
     let l = length-map ys (adaptive_of value) in
     omega arith

@@ -7,7 +7,8 @@ module _ {A : Type 0} where
   take_nothing zero = refl
   take_nothing (suc n) = refl
 
-  take_room : (n : ℕ) (more : List A) (x : A) → length (take n more) < n → take n (more ++ x ∷ []) ≡ take n more ++ x ∷ []
+  take_room : (n : ℕ) (more : List A) (x : A) → length (take n more) < n
+      → take n (more ++ x ∷ []) ≡ take n more ++ x ∷ []
   take_room zero more x h = absurd (omega arith)
   take_room (suc n) [] x h = ap (λ l. x ∷ l) (take_nothing n)
   take_room (suc n) (y ∷ more) x h = ap (λ l. y ∷ l) (take_room n more x (omega arith))
@@ -17,7 +18,8 @@ module _ {A : Type 0} where
   take_full (suc n) [] x h = absurd (omega arith)
   take_full (suc n) (y ∷ more) x h = ap (λ l. y ∷ l) (take_full n more x (omega arith))
 
-module _ {A B : Type 0} (f : A → B) (n : ℕ) (rows : List A) (x : A) (more : List B) (is : map f rows ≡ take n more) where
+module _ {A B : Type 0} (f : A → B) (n : ℕ) (rows : List A) (x : A) (more : List B)
+    (is : map f rows ≡ take n more) where
   pub kept_room : length rows < n → map f (rows ++ x ∷ []) ≡ take n (more ++ f x ∷ [])
   kept_room h =
       let len : length rows ≡ length (take n more) = sym (length-map rows f) ∙ ap length is in

@@ -9,29 +9,34 @@ use Rattle.rob_replay.specs.declared.line.Stopped.{Stopped}
 use Rattle.rob_replay.specs.declared.line.Stopped.TheVariants.{Wide, Memory}
 
 -- what stops a part stops the whole
-pub stops_by : {A B : Type 0} (part : Option A) (whole : Option B) (e : Stopped) → (part ≡ None → whole ≡ None) → StopsAt part e → StopsAt whole e
+pub stops_by : {A B : Type 0} (part : Option A) (whole : Option B) (e : Stopped) → (part ≡ None → whole ≡ None)
+    → StopsAt part e → StopsAt whole e
 stops_by part whole Wide f h = f h
 stops_by part whole Memory f h = tt
 
 module _ {N : Type 0} (value : N → Fraction) where
   pub gathers_then : (old mid new : List N) (xs ys : List (Option Fraction)) (r : Result Unit Stopped)
-      → gathered (map value old) xs ≡ Some (map value mid) → Gathers value mid new ys r → Gathers value old new (xs ++ ys) r
+      → gathered (map value old) xs ≡ Some (map value mid) → Gathers value mid new ys r
+      → Gathers value old new (xs ++ ys) r
   gathers_then old mid new xs ys (Ok done) h g = gathered_append (map value old) (map value mid) xs ys h ∙ g
   gathers_then old mid new xs ys (Err e) h g =
       stops_by (gathered (map value mid) ys) (gathered (map value old) (xs ++ ys)) e
       (λ none. gathered_append (map value old) (map value mid) xs ys h ∙ none) g
 
-  pub gathers_not : (old : List N) (xs ys : List (Option Fraction)) (e : Stopped) → StopsAt (gathered (map value old) xs) e
+  pub gathers_not : (old : List N) (xs ys : List (Option Fraction)) (e : Stopped)
+      → StopsAt (gathered (map value old) xs) e
       → StopsAt (gathered (map value old) (xs ++ ys)) e
   gathers_not old xs ys e h =
-      stops_by (gathered (map value old) xs) (gathered (map value old) (xs ++ ys)) e (gathered_append_stops (map value old) xs ys) h
+      stops_by (gathered (map value old) xs) (gathered (map value old) (xs ++ ys)) e
+      (gathered_append_stops (map value old) xs ys) h
 
   -- from the empty list all is gathered
   module _ (old : List N) (empty : old ≡ []) (xs ys : List (Option Fraction)) where
     from_nothing : gathered (map value old) (xs ++ ys) ≡ all_of (xs ++ ys)
     from_nothing = ap (λ l. gathered (map value l) (xs ++ ys)) empty ∙ gathered_all (xs ++ ys)
 
-    pub all_gathered : (mid new : List N) → gathered (map value old) xs ≡ Some (map value mid) → gathered (map value mid) ys ≡ Some (map value new)
+    pub all_gathered : (mid new : List N) → gathered (map value old) xs ≡ Some (map value mid)
+        → gathered (map value mid) ys ≡ Some (map value new)
         → all_of (xs ++ ys) ≡ Some (map value new)
     all_gathered mid new h g = sym from_nothing ∙ gathered_append (map value old) (map value mid) xs ys h ∙ g
 

@@ -71,8 +71,8 @@ abbrev pub EndsRecord : List ℕ → List ℕ → Type 0
 EndsRecord [] behind = behind ≡ []
 EndsRecord (b ∷ rest) behind = (is_line_end b ≡ true) × (behind ≡ rest)
 
--- what stands behind a field: the end of the record where no field is left, and otherwise a comma and the fields that are
--- left
+-- what stands behind a field: the end of the record where no field is left, and otherwise a comma and the fields that
+-- are left
 abbrev pub GoesOn : (List ℕ → Type 0) → List (List ℕ) → List ℕ → List ℕ → Type 0
 GoesOn AreLeft [] rest behind = EndsRecord rest behind
 GoesOn AreLeft (field ∷ fields) rest behind = (after : List ℕ) × (rest ≡ comma ∷ after) × AreLeft after

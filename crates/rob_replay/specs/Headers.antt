@@ -1,5 +1,5 @@
--- The header of a scenario file: the names of the joint parameters in some order. Since names differ, that is as many fields
--- as there are joint parameters, among which the name of each is found.
+-- The header of a scenario file: the names of the joint parameters in some order. Since names differ, that is as many
+-- fields as there are joint parameters, among which the name of each is found.
 use Rattle.std.specs.Prelude.{ℕ, suc, List, [], ◌∷◌, length, map, Option, Some, None, bytes_eq, ◌==◌, if◌then◌else◌}
 use Rattle.rob_algebra.specs.Fraction.{Fraction}
 use Rattle.rob_meaning.specs.Names.{Name}

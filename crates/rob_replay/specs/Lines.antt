@@ -1,5 +1,5 @@
--- A line of the table: the values of a plan in one joint scenario, as they are computed: one number after another, and nothing
--- where one of them is wide. Admission comes first, then the adaptive variables, the objective, and the slacks.
+-- A line of the table: the values of a plan in one joint scenario, as they are computed: one number after another, and
+-- nothing where one of them is wide. Admission comes first, then the adaptive variables, the objective, and the slacks.
 use Rattle.std.specs.Prelude.{ℕ, suc, List, [], ◌∷◌, ◌++◌, map, Bool, true, false, Option, Some, None, if◌then◌else◌}
 use Rattle.rob_algebra.specs.Fraction.{Fraction, ◌-ℚ◌}
 use Rattle.rob_algebra.specs.Width.{kept}

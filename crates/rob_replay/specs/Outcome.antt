@@ -19,6 +19,7 @@ most_records = 10000
 
 -- what follows, unless there was a refusal
 infixl 10 ◌then◌
+-- what comes of something, where it isn't refused
 abbrev pub ◌then◌ : {A B : Type 0} → Result A Refusal → (A → Result B Refusal) → Result B Refusal
 (Ok x) then f = f x
 (Err e) then f = Err e

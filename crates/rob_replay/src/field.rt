@@ -3,7 +3,7 @@
 ghost use Rattle.std.specs.Prelude.{◌≡◌, ◌≤◌, ◌<◌, ◌+◌, ◌*◌, ◌-◌, ◌^◌, take, drop, length, nat_le, Some, None, option_map, MatchOption, if◌then◌else◌, ◌&&◌, pos};
 ghost use Rattle.rob_algebra.specs.Fraction.{of_pair};
 ghost use Rattle.rob_number.specs.Counts.{NeverFell};
-ghost use Rattle.rob_replay.specs.Fields.{is_blank, is_digit, behind_blanks as behind, before_blanks as before, whole_in, numerator_in, denominator_in, divisor_in, unsigned_in, signed_in, number_in, quotient_in};
+ghost use Rattle.rob_replay.specs.Fields.{is_blank, is_digit, behind_blanks as behind, before_blanks as before, whole_in, numerator_in, denominator_in, divisor_in, unsigned_in, signed_in, number_in};
 
 use rob_number::{Exact, Ledger};
 

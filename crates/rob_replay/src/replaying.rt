@@ -124,8 +124,8 @@ fn replay_rows<N: Exact, L: Ledger>(
     }
 }
 
-/// The table of a scenario file under a plan: for each record behind the header whether its joint scenario is admitted, and
-/// if so the values of the adaptive variables, the objective, and the slacks. The plan isn't checked.
+/// The table of a scenario file under a plan: for each record behind the header whether its joint scenario is admitted,
+/// and if so the values of the adaptive variables, the objective, and the slacks. The plan isn't checked.
 pub fn replay<N: Exact, L: Ledger>(
     alloc: Global,
     model: &Model<N>,

@@ -12,6 +12,7 @@ module _ {N : Type 0} (value : N → Fraction) where
   abbrev pub front_of : Param N → Name
   front_of p = p.name ++ codes "*"
 
-  pub map-front_of : (ps : List (Param N)) → map front_of ps ≡ map (λ row. row ++ codes "*") (map (λ (p : Parameter). p.name) (map (parameter_of value) ps))
+  pub map-front_of : (ps : List (Param N))
+      → map front_of ps ≡ map (λ row. row ++ codes "*") (map (λ (p : Parameter). p.name) (map (parameter_of value) ps))
   map-front_of [] = refl
   map-front_of (p ∷ ps) = ap (λ fs. front_of p ∷ fs) (map-front_of ps)

@@ -11,7 +11,8 @@ use Rattle.rob_model.specs.GroupNames.{bound_names, dotted, parameter_bound_name
 use Rattle.rob_model.specs.Naming.{AppendsName, set_place_names}
 
 -- the name that is told stands at its number
-pub named_at : (names : List Name) (k : ℕ) (old new : List ℕ) → AppendsName names k old new → new ≡ old ++ name_at names k
+pub named_at : (names : List Name) (k : ℕ) (old new : List ℕ) → AppendsName names k old new
+    → new ≡ old ++ name_at names k
 named_at names k old new h = h.appended ∙ ap (λ n. old ++ n) (sym (get_or_from_slice_get names k h.name [] h.number))
 
 -- the items of two lists behind one another
@@ -26,20 +27,25 @@ at_back (x ∷ xs) ys zero k e = absurd (omega (arith, e))
 at_back (x ∷ xs) ys (suc i) k e = at_back xs ys i k (omega (arith, e))
 
 -- ---- how many
-length-if_declared : {A B : Type 0} (f : Fraction → A) (g : Fraction → B) (o : Option Fraction) → length (if_declared f o) ≡ length (if_declared g o)
+length-if_declared : {A B : Type 0} (f : Fraction → A) (g : Fraction → B) (o : Option Fraction)
+    → length (if_declared f o) ≡ length (if_declared g o)
 length-if_declared f g None = refl
 length-if_declared f g (Some b) = refl
 
-pub length-parameter_bound_names : (k : ℕ) (ps : List Parameter) → length (parameter_bound_names ps) ≡ length (bounds_from k ps)
+pub length-parameter_bound_names : (k : ℕ) (ps : List Parameter)
+    → length (parameter_bound_names ps) ≡ length (bounds_from k ps)
 length-parameter_bound_names k [] = refl
 length-parameter_bound_names k (p ∷ ps) =
     length-append (bound_names p.name p.lower p.upper) (parameter_bound_names ps)
     ∙ ap₂ ◌+◌
-    (length-append (if_declared (λ l. dotted p.name (codes "lower")) p.lower) (if_declared (λ b. dotted p.name (codes "upper")) p.upper)
-    ∙ ap₂ ◌+◌ (length-if_declared (λ l. dotted p.name (codes "lower")) (lower_bound k) p.lower) (length-if_declared (λ b. dotted p.name (codes "upper")) (upper_bound k) p.upper)
+    (length-append (if_declared (λ l. dotted p.name (codes "lower")) p.lower)
+    (if_declared (λ b. dotted p.name (codes "upper")) p.upper)
+    ∙ ap₂ ◌+◌ (length-if_declared (λ l. dotted p.name (codes "lower")) (lower_bound k) p.lower)
+    (length-if_declared (λ b. dotted p.name (codes "upper")) (upper_bound k) p.upper)
     ∙ sym (length-append (if_declared (lower_bound k) p.lower) (if_declared (upper_bound k) p.upper)))
     (length-parameter_bound_names (suc k) ps)
-    ∙ sym (length-append (if_declared (lower_bound k) p.lower ++ if_declared (upper_bound k) p.upper) (bounds_from (suc k) ps))
+    ∙ sym (length-append (if_declared (lower_bound k) p.lower ++ if_declared (upper_bound k) p.upper)
+    (bounds_from (suc k) ps))
 
 length-all_stated : (cs : List SetLine) → length (all_stated cs) ≡ length cs
 length-all_stated [] = refl

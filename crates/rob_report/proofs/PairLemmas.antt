@@ -8,14 +8,17 @@ use Rattle.rob_model.proofs.PartLemmas.{drop_past}
 use Rattle.rob_report.specs.Lines.{for_pairs}
 
 -- the items from a place on are the item there and those behind it
-pub drop_here : {A : Type 0} (xs : List A) (i : ℕ) (x d : A) → i < length xs → x ≡ get_or xs i d → drop i xs ≡ x ∷ drop (i + 1) xs
-drop_here xs i x d h e = drop-cons xs i d h ∙ ap (λ y. y ∷ drop (suc i) xs) (sym e) ∙ ap (λ j. x ∷ drop j xs) (sym (add-one i))
+pub drop_here : {A : Type 0} (xs : List A) (i : ℕ) (x d : A) → i < length xs → x ≡ get_or xs i d
+    → drop i xs ≡ x ∷ drop (i + 1) xs
+drop_here xs i x d h e =
+    drop-cons xs i d h ∙ ap (λ y. y ∷ drop (suc i) xs) (sym e) ∙ ap (λ j. x ∷ drop j xs) (sym (add-one i))
 
 module _ {A B : Type 0} (piece : A → B → List ℕ) where
   -- one pair more
   pub pairs_more : (xs : List A) (ys : List B) (i : ℕ) (x d : A) (y e : B) (old new total : List ℕ)
       → i < length xs → i < length ys → x ≡ get_or xs i d → y ≡ get_or ys i e → new ≡ old ++ piece x y
-      → old ++ for_pairs piece (drop i xs) (drop i ys) ≡ total → new ++ for_pairs piece (drop (i + 1) xs) (drop (i + 1) ys) ≡ total
+      → old ++ for_pairs piece (drop i xs) (drop i ys) ≡ total
+      → new ++ for_pairs piece (drop (i + 1) xs) (drop (i + 1) ys) ≡ total
   pairs_more xs ys i x d y e old new total h k is js grown before =
       ap (λ o. o ++ for_pairs piece (drop (i + 1) xs) (drop (i + 1) ys)) grown
       ∙ append_assoc old (piece x y) (for_pairs piece (drop (i + 1) xs) (drop (i + 1) ys))
@@ -34,7 +37,9 @@ module _ {A B : Type 0} (piece : A → B → List ℕ) where
   pairs_done xs ys i old total h before =
       sym (append-nil old)
       ∙ ap (λ t. old ++ t) (sym (no_pair (drop i xs) (drop i ys) (elim (cases_lt (length xs) (length ys)) [
-        | inl lt ↦ inl (drop_past xs i (omega (arith, h, min-eq_left {n = length xs} {m = length ys} (omega (arith, lt)))))
-        | inr ge ↦ inr (drop_past ys i (omega (arith, h, min-eq_right {n = length ys} {m = length xs} (omega (arith, ge)))))
+        | inl lt ↦ inl
+            (drop_past xs i (omega (arith, h, min-eq_left {n = length xs} {m = length ys} (omega (arith, lt)))))
+        | inr ge ↦ inr
+            (drop_past ys i (omega (arith, h, min-eq_right {n = length ys} {m = length xs} (omega (arith, ge)))))
       ])))
       ∙ before

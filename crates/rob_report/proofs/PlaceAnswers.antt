@@ -9,7 +9,8 @@ use Rattle.rob_meaning.specs.RobustModel.{RobustModel}
 use Rattle.rob_cert.specs.Spelling.{name_at}
 use Rattle.rob_report.specs.Spots.{form_name, sum_words, weight_line}
 
-pub sum_last : {A E : Type 0} (m : RobustModel) (i column : ℕ) (r : Result A E) (old a b new : List ℕ) → (column ≡ 0 → ⊥)
+pub sum_last : {A E : Type 0} (m : RobustModel) (i column : ℕ) (r : Result A E) (old a b new : List ℕ)
+    → (column ≡ 0 → ⊥)
     → a ≡ old ++ form_name m i → b ≡ a ++ codes " at " → OnOk r (new ≡ b ++ name_at (set_column_names m) (column - 1))
     → OnOk r (new ≡ old ++ sum_words m i column)
 sum_last m i column (Err e) old a b new some ha hb h = tt
@@ -29,6 +30,8 @@ weight_last (Ok x) weight name old a b d new text some ha hb hd ht h =
     let end : d ++ 10 ∷ [] ≡ old ++ ((name ++ (codes " " ++ signed_decimal weight)) ++ 10 ∷ []) =
     ap (λ (l : List ℕ). l ++ 10 ∷ []) (hd ∙ ap (λ (l : List ℕ). b ++ l) ht
     ∙ ap (λ (l : List ℕ). l ++ signed_decimal weight) (hb ∙ ap (λ (l : List ℕ). l ++ codes " ") ha)
-    ∙ append_assoc (old ++ name) (codes " ") (signed_decimal weight) ∙ append_assoc old name (codes " " ++ signed_decimal weight))
+    ∙ append_assoc (old ++ name) (codes " ") (signed_decimal weight)
+    ∙ append_assoc old name (codes " " ++ signed_decimal weight))
     ∙ append_assoc old (name ++ (codes " " ++ signed_decimal weight)) (10 ∷ []) in
-    h ∙ end ∙ ap (λ (l : List ℕ). old ++ l) (sym (unless_zero-other weight (line (name ++ (codes " " ++ signed_decimal weight))) some))
+    h ∙ end ∙ ap (λ (l : List ℕ). old ++ l)
+    (sym (unless_zero-other weight (line (name ++ (codes " " ++ signed_decimal weight))) some))

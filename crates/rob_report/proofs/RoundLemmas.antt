@@ -17,14 +17,16 @@ module _ {N : Type 0} (value : N → Fraction) where
   abbrev pub entries_of : List (Param N) → List ℤ → List ℕ
   entries_of ps ns = for_pairs (λ (p : Param N) n. entry_words p.name n) ps ns
 
-  pub entries_whole : (ps : List (Param N)) (ns : List ℤ) → entries_of ps ns ≡ entries_words (map (parameter_of value) ps) ns
+  pub entries_whole : (ps : List (Param N)) (ns : List ℤ)
+      → entries_of ps ns ≡ entries_words (map (parameter_of value) ps) ns
   entries_whole [] ns = refl
   entries_whole (p ∷ ps) [] = refl
   entries_whole (p ∷ ps) (n ∷ ns) = ap (λ t. entry_words p.name n ++ t) (entries_whole ps ns)
 
 module _ (m : RobustModel) where
   -- one round more
-  pub rounds_more : (rounds : List Round) (i : ℕ) (r d : Round) (old new total : List ℕ) → i < length rounds → r ≡ get_or rounds i d
+  pub rounds_more : (rounds : List Round) (i : ℕ) (r d : Round) (old new total : List ℕ)
+      → i < length rounds → r ≡ get_or rounds i d
       → new ≡ old ++ round_line m (i + 1) r → old ++ round_lines m (suc i) (drop i rounds) ≡ total
       → new ++ round_lines m (suc (i + 1)) (drop (i + 1) rounds) ≡ total
   rounds_more rounds i r d old new total h is grown before =
@@ -35,9 +37,11 @@ module _ (m : RobustModel) where
       ∙ before
 
   -- the head line and what stands behind it
-  pub rounds_begun : (rounds : List Round) (old o1 o2 o3 : List ℕ) → o1 ≡ old ++ codes "rounds " → o2 ≡ o1 ++ decimal (length rounds)
+  pub rounds_begun : (rounds : List Round) (old o1 o2 o3 : List ℕ) → o1 ≡ old ++ codes "rounds "
+      → o2 ≡ o1 ++ decimal (length rounds)
       → o3 ≡ o2 ++ 10 ∷ []
-      → o3 ++ round_lines m 1 rounds ≡ old ++ (((codes "rounds " ++ decimal (length rounds)) ++ 10 ∷ []) ++ round_lines m 1 rounds)
+      → o3 ++ round_lines m 1 rounds
+      ≡ old ++ (((codes "rounds " ++ decimal (length rounds)) ++ 10 ∷ []) ++ round_lines m 1 rounds)
   rounds_begun rounds old o1 o2 o3 p1 p2 p3 =
       ap (λ o. o ++ round_lines m 1 rounds)
       (p3 ∙ ap (λ o. o ++ 10 ∷ []) (behind old o1 o2 (codes "rounds ") _ p1 p2)
@@ -45,9 +49,12 @@ module _ (m : RobustModel) where
       ∙ append_assoc old ((codes "rounds " ++ decimal (length rounds)) ++ 10 ∷ []) (round_lines m 1 rounds)
 
   -- a line's pieces
-  pub round_written : (number : ℕ) (r : Round) (old o1 o2 o3 o4 new : List ℕ) → o1 ≡ old ++ codes "round " → o2 ≡ o1 ++ decimal number
+  pub round_written : (number : ℕ) (r : Round) (old o1 o2 o3 o4 new : List ℕ) → o1 ≡ old ++ codes "round "
+      → o2 ≡ o1 ++ decimal number
       → o3 ≡ o2 ++ codes " " → o4 ≡ o3 ++ round_words m r → new ≡ o4 ++ 10 ∷ [] → new ≡ old ++ round_line m number r
   round_written number r old o1 o2 o3 o4 new p1 p2 p3 p4 p5 =
-      let whole = behind old o1 o4 (codes "round ") _ p1 (behind o1 o2 o4 (decimal number) _ p2 (behind o2 o3 o4 (codes " ") _ p3 p4)) in
+      let whole =
+      behind old o1 o4 (codes "round ") _ p1
+      (behind o1 o2 o4 (decimal number) _ p2 (behind o2 o3 o4 (codes " ") _ p3 p4)) in
       p5 ∙ ap (λ o. o ++ 10 ∷ []) whole
       ∙ append_assoc old (codes "round " ++ (decimal number ++ (codes " " ++ round_words m r))) (10 ∷ [])

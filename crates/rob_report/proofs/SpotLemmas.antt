@@ -22,7 +22,8 @@ module _ (m : RobustModel) where
   here [] j after h = h.0
   here (x ∷ xs) j after h = here xs j after h.1
 
-  first_named : (limit : ℕ) (all : List Judged) (spot : Spot) → Each IsNamed all → IsFirstWide limit m all spot → IsSpotOf m spot
+  first_named : (limit : ℕ) (all : List Judged) (spot : Spot) → Each IsNamed all
+      → IsFirstWide limit m all spot → IsSpotOf m spot
   first_named limit all spot named first =
       subst (IsSpotOf m) first.named (here first.before first.here first.after (subst (Each IsNamed) first.order named))
 
@@ -35,15 +36,18 @@ module _ (m : RobustModel) where
   forms_spot limit spot first = first_named limit (judged_forms m) spot (forms_named zero (forms m) (omega arith)) first
 
   -- ---- the set
-  rows_named : (r : ℕ) (rows : List SetRow) → r + length rows ≤ length (set_rows m) → Each IsNamed (judged_rows m r rows)
+  rows_named : (r : ℕ) (rows : List SetRow) → r + length rows ≤ length (set_rows m)
+      → Each IsNamed (judged_rows m r rows)
   rows_named r [] h = tt
   rows_named r (row ∷ rows) h = (omega (arith, h), rows_named (suc r) rows (omega (arith, h)))
 
-  sides_named : (i r : ℕ) (es : List Expression) → i < length m.set_lines → r + length es ≤ length (set_rows m) → Each IsNamed (judged_sides m i r es)
+  sides_named : (i r : ℕ) (es : List Expression) → i < length m.set_lines → r + length es ≤ length (set_rows m)
+      → Each IsNamed (judged_sides m i r es)
   sides_named i r [] k h = tt
   sides_named i r (e ∷ es) k h = (k, (omega (arith, h), sides_named i (suc r) es k (omega (arith, h))))
 
-  statements_named : (i t r : ℕ) (cs : List SetLine) → i + length cs ≤ length m.set_lines → r + length (statement_rows m t cs) ≤ length (set_rows m)
+  statements_named : (i t r : ℕ) (cs : List SetLine) → i + length cs ≤ length m.set_lines
+      → r + length (statement_rows m t cs) ≤ length (set_rows m)
       → Each IsNamed (judged_statements m i t r cs)
   statements_named i t r [] k h = tt
   statements_named i t r (line left relation right ∷ rest) k h =
@@ -55,11 +59,14 @@ module _ (m : RobustModel) where
       (statements_named (suc i) t (length es + r) rest (omega (arith, k)) (omega (arith, h, both, own)))
   statements_named i t r (budget limit members ∷ rest) k h =
       let rows = member_rows t members ++ budget_row t limit members ∷ [] in
-      let all = length-append (member_rows t members) (budget_row t limit members ∷ statement_rows m (length members + t) rest) in
+      let all = length-append (member_rows t members)
+      (budget_row t limit members ∷ statement_rows m (length members + t) rest) in
       let own = length-append (member_rows t members) (budget_row t limit members ∷ []) in
-      each_append IsNamed (judged_rows m r rows) (judged_statements m (suc i) (length members + t) (length rows + r) rest)
+      each_append IsNamed (judged_rows m r rows)
+      (judged_statements m (suc i) (length members + t) (length rows + r) rest)
       (rows_named r rows (omega (arith, h, all, own)))
-      (statements_named (suc i) (length members + t) (length rows + r) rest (omega (arith, k)) (omega (arith, h, all, own)))
+      (statements_named (suc i) (length members + t) (length rows + r) rest (omega (arith, k))
+      (omega (arith, h, all, own)))
 
   pub set_spot : (limit : ℕ) (spot : Spot) → IsFirstWide limit m (judged_set m) spot → IsSpotOf m spot
   set_spot limit spot first =

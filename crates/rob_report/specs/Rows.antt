@@ -53,6 +53,7 @@ module _ (m : RobustModel) where
   abbrev pub set_rows_text : List SetRow → List ℕ
   set_rows_text rows = for_pairs (set_row_line (set_column_names m)) (set_row_names m) rows
 
+  -- the lines of the forms, each with its name
   abbrev pub forms_text : List (List (List ℤ)) → List ℕ
   forms_text all = for_pairs (form_line (fronts_of m.parameters) form_column_names) (form_names m) all
 

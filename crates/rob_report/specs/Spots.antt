@@ -32,6 +32,7 @@ module _ (m : RobustModel) where
   abbrev pub statement_name : ℕ → Name
   statement_name i = name_at (set_condition_names m) (length (bounds_from 0 m.parameters) + i)
 
+  -- the words that tell where a number was computed
   abbrev pub where_words : Where → List ℕ
   where_words (Of.Form i) = form_name i
   where_words (Of.SetLine i) = statement_name i
@@ -41,6 +42,7 @@ module _ (m : RobustModel) where
   where_words (Of.Cut i) = codes "cut " ++ form_name i
   where_words (Of.Cost i) = codes "cost " ++ form_name i
 
+  -- the words that tell a program
   abbrev pub program_words : Program → List ℕ
   program_words Set = codes "set"
   program_words Reform = codes "reform"

@@ -6,7 +6,6 @@ ghost use Rattle.rob_meaning.specs.Names.{set_row_names};
 ghost use Rattle.rob_meaning.specs.SetRows.{set_rows};
 ghost use Rattle.rob_model.specs.Valid.{IsValid};
 ghost use Rattle.rob_model.specs.View.{robust};
-ghost use Rattle.rob_report.specs.Lines.{for_pairs};
 ghost use Rattle.rob_report.specs.Spots.{empty_set_lines, weight_line, weight_lines};
 
 use crate::names::put_set_row;
@@ -15,8 +14,8 @@ use rob_model::{Model, set_row_count};
 use rob_number::{Exact, Memory, Text};
 use std::alloc::Global;
 
-/// The lines for a set that admits no scenario: `empty set`, and `SETROW WEIGHT` for each weight that isn't 0. `weights` has
-/// one for each set row. (Farkas's lemma.)
+/// The lines for a set that admits no scenario: `empty set`, and `SETROW WEIGHT` for each weight that isn't 0.
+/// `weights` has one for each set row. (Farkas's lemma.)
 pub fn empty_set_text<N: Exact>(
     alloc: Global,
     model: &Model<N>,

@@ -1,6 +1,6 @@
-//! The texts that are printed: the rows of a model, the report of a certificate, the table of a scenario file, the spots of
-//! wide numbers, the places of rejected certificates, the worst case of a form, the rounds of the cutting-plane method, and
-//! the weights that show an empty set.
+//! The texts that are printed: the rows of a model, the report of a certificate, the table of a scenario file, the
+//! spots of wide numbers, the places of rejected certificates, the worst case of a form, the rounds of the
+//! cutting-plane method, and the weights that show an empty set.
 #![tactic(auto)]
 
 mod empty_set;

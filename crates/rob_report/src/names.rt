@@ -3,9 +3,9 @@
 ghost use Rattle.std.specs.Prelude.{◌≡◌, ◌<◌, ◌≤◌, ◌+◌, ◌++◌, ◌∷◌, codes, length, OnOk};
 ghost use Rattle.rob_cert.specs.Spelling.{name_at};
 ghost use Rattle.rob_meaning.specs.Forms.{forms};
-ghost use Rattle.rob_meaning.specs.Names.{column_names_with_tau, form_names, set_column_names, set_condition_names, set_row_names};
+ghost use Rattle.rob_meaning.specs.Names.{column_names_with_tau, set_column_names, set_condition_names, set_row_names};
 ghost use Rattle.rob_meaning.specs.RobustModel.{column_count as column_count_of};
-ghost use Rattle.rob_meaning.specs.SetConditions.{bounds_from, set_conditions};
+ghost use Rattle.rob_meaning.specs.SetConditions.{set_conditions};
 ghost use Rattle.rob_meaning.specs.SetRows.{set_column_count as set_column_count_of, set_rows};
 ghost use Rattle.rob_model.specs.Valid.{IsValid};
 ghost use Rattle.rob_model.specs.View.{robust};
@@ -36,8 +36,8 @@ pub fn put_set_row<N: Exact>(model: &Model<N>, index: u32, out: &mut Text) -> Re
     put_set_row_name(model, index, out)
 }
 
-/// Appends the name of what a certificate's items are summed in: 0 is the constant, decision columns count from 1, and the
-/// bound stands behind them.
+/// Appends the name of what a certificate's items are summed in: 0 is the constant, decision columns count from 1, and
+/// the bound stands behind them.
 pub fn put_sum_column<N: Exact>(model: &Model<N>, index: u32, out: &mut Text) -> Result<(), Memory>
     requires valid { IsValid N.value model.now }
     requires inside { index ≤ column_count_of (robust N.value model.now) + 1 }
@@ -57,7 +57,8 @@ pub fn put_sum_column<N: Exact>(model: &Model<N>, index: u32, out: &mut Text) ->
 pub fn put_condition<N: Exact>(model: &Model<N>, index: u32, out: &mut Text) -> Result<(), Memory>
     requires valid { IsValid N.value model.now }
     requires inside { index < length (set_conditions (robust N.value model.now)) }
-    ensures appended { OnOk result (out.new ≡ out.old ++ name_at (set_condition_names (robust N.value model.now)) index) }
+    ensures appended { OnOk result (out.new
+        ≡ out.old ++ name_at (set_condition_names (robust N.value model.now)) index) }
 {
     put_set_place_name(model, index, out)
 }

@@ -13,8 +13,8 @@ use rob_model::{Model, Place};
 use rob_number::{Exact, Memory, Text};
 use std::alloc::Global;
 
-/// The line for a certificate that is rejected at a place: `rejected ` and the condition that fails. Items are printed by their
-/// numbers from 1.
+/// The line for a certificate that is rejected at a place: `rejected ` and the condition that fails. Items are printed
+/// by their numbers from 1.
 pub fn place_text<N: Exact>(alloc: Global, model: &Model<N>, place: &Place) -> Result<Text, Memory>
     requires valid { IsValid N.value model.now }
     requires named { IsPlaceOf (robust N.value model.now) place.now }

@@ -15,9 +15,9 @@ use rob_model::{Adaptive, Model, Param, Var};
 use rob_number::{Exact, Memory, Text};
 use std::alloc::Global;
 
-/// What a certificate claims of a model. An optimal one has the lines `optimal VALUE`, `here NAME NUM` for each variable, and
-/// `policy NAME CONSTANT` with ` NUM*PARAM` for each parameter of an adaptive variable's list; the others have one line,
-/// `infeasible` or `unbounded`.
+/// What a certificate claims of a model. An optimal one has the lines `optimal VALUE`, `here NAME NUM` for each
+/// variable, and `policy NAME CONSTANT` with ` NUM*PARAM` for each parameter of an adaptive variable's list; the others
+/// have one line, `infeasible` or `unbounded`.
 pub fn report_text<N: Exact>(
     alloc: Global,
     model: &Model<N>,
@@ -55,7 +55,8 @@ fn put_optimal<N: Exact>(
 ) -> Result<(), Memory>
     requires valid { IsValid N.value model.now }
     requires columns { length plan.now ≡ column_count (robust N.value model.now) }
-    ensures appended { OnOk result (out.new ≡ out.old ++ optimal_text (robust N.value model.now) (N.value value) (map N.value plan.now)) }
+    ensures appended { OnOk result (out.new
+        ≡ out.old ++ optimal_text (robust N.value model.now) (N.value value) (map N.value plan.now)) }
 {
     put_single(out, b"optimal", value)?;
     put_variables(model.vars.items(), plan, out)?;

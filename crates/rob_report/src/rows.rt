@@ -20,9 +20,9 @@ use rob_number::{Exact, List, Memory, Text};
 use rob_sets::{SetForm, SetRow};
 use std::alloc::Global;
 
-/// The rows of a model, a line each: `set NAME:` with the terms ` NUM*COLUMN` of a row of the lifted set and ` <= NUM`, then
-/// `form NAME:` with the terms ` NUM*K*J` of a form and ` <= 0`. `K` is `1` or a parameter, `J` is `1`, a decision column or
-/// `tau`. Terms of 0 are left out, and ` 0` stands where there is no other.
+/// The rows of a model, a line each: `set NAME:` with the terms ` NUM*COLUMN` of a row of the lifted set and ` <= NUM`,
+/// then `form NAME:` with the terms ` NUM*K*J` of a form and ` <= 0`. `K` is `1` or a parameter, `J` is `1`, a decision
+/// column or `tau`. Terms of 0 are left out, and ` 0` stands where there is no other.
 pub fn rows_text<N: Exact>(
     alloc: Global,
     model: &Model<N>,

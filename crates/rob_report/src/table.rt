@@ -21,7 +21,8 @@ pub fn table_text<N: Exact>(
     model: &Model<N>,
     table: &Table<N>,
 ) -> Result<Text, Memory>
-    ensures text { IfOk result (λ text. text ≡ table_of (robust N.value model.now) (map (line_of N.value) table.now.lines)) }
+    ensures text { IfOk result (λ text. text
+        ≡ table_of (robust N.value model.now) (map (line_of N.value) table.now.lines)) }
 {
     let adaptives = adaptive_names(alloc, model.adaptives.items())?;
     let slacks = slack_names(alloc, model)?;

@@ -16,30 +16,37 @@ read z = to_z w64 (of_z w64 z)
 
 -- a product of 64 bits
 pub product_fits : (p a : ℤ) → nat_abs p * nat_abs a < 2 ^ 63 → SFits w64 (p *ℤ a)
-product_fits p a h = fits_signed_from_abs w64 (p *ℤ a) (let e : nat_abs (p *ℤ a) ≡ nat_abs p * nat_abs a = unsigned_abs-mul p a in omega arith)
+product_fits p a h =
+    fits_signed_from_abs w64 (p *ℤ a) (let e : nat_abs (p *ℤ a) ≡ nat_abs p * nat_abs a =
+    unsigned_abs-mul p a in omega arith)
 
-pub product_read : (p a : ℤ) → SFits w64 p → SFits w64 a → nat_abs p * nat_abs a < 2 ^ 63 → read (read p *ℤ read a) ≡ p *ℤ a
+pub product_read : (p a : ℤ) → SFits w64 p → SFits w64 a → nat_abs p * nat_abs a < 2 ^ 63
+    → read (read p *ℤ read a) ≡ p *ℤ a
 product_read p a f g h =
-    ap (λ t. read (t *ℤ read a)) (to_z-of_z w64 p f) ∙ ap (λ t. read (p *ℤ t)) (to_z-of_z w64 a g) ∙ to_z-of_z w64 (p *ℤ a) (product_fits p a h)
+    ap (λ t. read (t *ℤ read a)) (to_z-of_z w64 p f) ∙ ap (λ t. read (p *ℤ t)) (to_z-of_z w64 a g)
+    ∙ to_z-of_z w64 (p *ℤ a) (product_fits p a h)
 
 difference_fits : (x y : ℤ) → nat_abs x + nat_abs y < 2 ^ 63 → SFits w64 (x -ℤ y)
 difference_fits x y h = omega (arith, ints)
 
-narrow_sum : (p a q b : ℤ) → nat_abs p * nat_abs a + nat_abs q * nat_abs b < 2 ^ 63 → nat_abs (p *ℤ a) + nat_abs (q *ℤ b) < 2 ^ 63
+narrow_sum : (p a q b : ℤ) → nat_abs p * nat_abs a + nat_abs q * nat_abs b < 2 ^ 63
+    → nat_abs (p *ℤ a) + nat_abs (q *ℤ b) < 2 ^ 63
 narrow_sum p a q b h =
     let e : nat_abs (p *ℤ a) ≡ nat_abs p * nat_abs a = unsigned_abs-mul p a in
     let f : nat_abs (q *ℤ b) ≡ nat_abs q * nat_abs b = unsigned_abs-mul q b in
     omega arith
 
 -- an entry of 64 bits
-pub narrow_fits : (p a q b : ℤ) → SFits w64 p → SFits w64 a → SFits w64 q → SFits w64 b → nat_abs p * nat_abs a + nat_abs q * nat_abs b < 2 ^ 63
+pub narrow_fits : (p a q b : ℤ) → SFits w64 p → SFits w64 a → SFits w64 q → SFits w64 b
+    → nat_abs p * nat_abs a + nat_abs q * nat_abs b < 2 ^ 63
     → SFits w64 (read (read p *ℤ read a) -ℤ read (read q *ℤ read b))
 narrow_fits p a q b fp fa fq fb h =
     let first : read (read p *ℤ read a) ≡ p *ℤ a = product_read p a fp fa (omega arith) in
     let second : read (read q *ℤ read b) ≡ q *ℤ b = product_read q b fq fb (omega arith) in
     rw (first, second) (difference_fits (p *ℤ a) (q *ℤ b) (narrow_sum p a q b h))
 
-pub narrow_read : (p a q b : ℤ) → SFits w64 p → SFits w64 a → SFits w64 q → SFits w64 b → nat_abs p * nat_abs a + nat_abs q * nat_abs b < 2 ^ 63
+pub narrow_read : (p a q b : ℤ) → SFits w64 p → SFits w64 a → SFits w64 q → SFits w64 b
+    → nat_abs p * nat_abs a + nat_abs q * nat_abs b < 2 ^ 63
     → read (read (read p *ℤ read a) -ℤ read (read q *ℤ read b)) ≡ (p *ℤ a) -ℤ (q *ℤ b)
 narrow_read p a q b fp fa fq fb h =
     let first : read (read p *ℤ read a) ≡ p *ℤ a = product_read p a fp fa (omega arith) in
@@ -48,7 +55,8 @@ narrow_read p a q b fp fa fq fb h =
     ∙ to_z-of_z w64 ((p *ℤ a) -ℤ (q *ℤ b)) (difference_fits (p *ℤ a) (q *ℤ b) (narrow_sum p a q b h))
 
 -- bounds on the factors and the entries show it
-pub narrow_from_bounds : (p a q b m n x y : ℕ) → p ≡ m → q ≡ n → a ≤ x → b ≤ y → m * x + n * y < 2 ^ 63 → p * a + q * b < 2 ^ 63
+pub narrow_from_bounds : (p a q b m n x y : ℕ) → p ≡ m → q ≡ n → a ≤ x → b ≤ y → m * x + n * y < 2 ^ 63
+    → p * a + q * b < 2 ^ 63
 narrow_from_bounds p a q b m n x y e f h k l =
     let first : p * a ≤ m * x = mul-le-mul (omega arith) h in
     let second : q * b ≤ n * y = mul-le-mul (omega arith) k in
@@ -67,7 +75,8 @@ entry_more p top q low out k w kl h e j l =
       | inr d ↦ get_or-set_other out k j w (pos 0) d ∙ h j (omega arith)
     ]
 
-pub combination_written : (p : ℤ) (top : List ℤ) (q : ℤ) (low out : List ℤ) → length top ≡ length out → length low ≡ length out
+pub combination_written : (p : ℤ) (top : List ℤ) (q : ℤ) (low out : List ℤ) → length top ≡ length out
+    → length low ≡ length out
     → ((j : ℕ) → j < length out → get_or out j (pos 0) ≡ (p *ℤ get_or top j (pos 0)) -ℤ (q *ℤ get_or low j (pos 0)))
     → out ≡ combination p top q low
 combination_written p top q low out n m h =
@@ -118,11 +127,14 @@ long_read p a q b hp ha hq hb =
     let first : read_long (long p *ℤ long a) ≡ p *ℤ a = long_product p a hp ha in
     let second : read_long (long q *ℤ long b) ≡ q *ℤ b = long_product q b hq hb in
     ap (λ t. read_long (t -ℤ read_long (long q *ℤ long b))) first ∙ ap (λ t. read_long ((p *ℤ a) -ℤ t)) second
-    ∙ to_z-of_z w128 ((p *ℤ a) -ℤ (q *ℤ b)) (long_difference (p *ℤ a) (q *ℤ b) (long_size p a hp ha) (long_size q b hq hb))
+    ∙ to_z-of_z w128 ((p *ℤ a) -ℤ (q *ℤ b))
+    (long_difference (p *ℤ a) (q *ℤ b) (long_size p a hp ha) (long_size q b hq hb))
 
 -- an entry, whose arguments were read in 64 bits and whose result is read in 128
-pub entry_seen : (p : ℤ) (top : List ℤ) (q : ℤ) (low : List ℤ) (k : ℕ) (r : ℤ) → SFits w64 (get_or top k (pos 0)) → SFits w64 (get_or low k (pos 0)) → SFits w128 r
-    → length top ≡ length low → k < length top → r ≡ (p *ℤ read (get_or top k (pos 0))) -ℤ (q *ℤ read (get_or low k (pos 0)))
+pub entry_seen : (p : ℤ) (top : List ℤ) (q : ℤ) (low : List ℤ) (k : ℕ) (r : ℤ) → SFits w64 (get_or top k (pos 0))
+    → SFits w64 (get_or low k (pos 0)) → SFits w128 r
+    → length top ≡ length low → k < length top
+    → r ≡ (p *ℤ read (get_or top k (pos 0))) -ℤ (q *ℤ read (get_or low k (pos 0)))
     → read_long r ≡ get_or (combination p top q low) k (pos 0)
 entry_seen p top q low k r fa fb fr n l e =
     to_z-of_z w128 r fr ∙ e

@@ -7,15 +7,17 @@ use Rattle.std.proofs.lemmas.List.{drop_more}
 use Rattle.std.specs.Ordering.{MatchOrdering, ordering_then, is_ne}
 use Rattle.std.specs.Cmp.{int_ranks}
 use Rattle.std.specs.Cmp.Lexicographic.{slice_cmp}
-use lib.IntN.{ℤ, pos, negsuc, ◌*ℤ◌, nat_abs}
+use lib.IntN.{ℤ, pos, ◌*ℤ◌, nat_abs}
 use lib.Signed.{◌<ℤ◌}
 use Rattle.rob_algebra.specs.Fraction.{of_pair, of_pair_eq, is_of_pair, is_lt_out, ◌<ℚ◌}
 use Rattle.rob_algebra.specs.FractionOrder.{cmp_ℚ, cmp_ℚ-ranks}
 use Rattle.rob_rows.specs.Quotients.{quotients}
 use Rattle.rob_rows.proofs.Entries.{read, read_long}
+use Rattle.rob_number.specs.Lowest.{size_back}
 
 -- of three facts that exclude one another two orderings tell the same
-same_order : {P Q R : Type 0} (o o' : Ordering) → (P → Q → ⊥) → (P → R → ⊥) → (Q → R → ⊥) → MatchOrdering o P Q R → MatchOrdering o' P Q R → o ≡ o'
+same_order : {P Q R : Type 0} (o o' : Ordering) → (P → Q → ⊥) → (P → R → ⊥) → (Q → R → ⊥) → MatchOrdering o P Q R
+    → MatchOrdering o' P Q R → o ≡ o'
 same_order Less Less pq pr qr h k = refl
 same_order Less Equal pq pr qr h k = absurd (pq h k)
 same_order Less Greater pq pr qr h k = absurd (pr h k)
@@ -43,28 +45,29 @@ equal_not_greater : (a b : ℤ) → a ≡ b → b <ℤ a → ⊥
 equal_not_greater a b e h = omega (arith, ints)
 
 -- the order of two quotients is that of the cross products
-pub cmp_ℚ-of_pair : (x y : ℤ) (m n : ℕ) → 0 < m → 0 < n → cmp_ℚ (of_pair x m) (of_pair y n) ≡ int_cmp (x *ℤ pos n) (y *ℤ pos m)
+pub cmp_ℚ-of_pair : (x y : ℤ) (m n : ℕ) → 0 < m → 0 < n
+    → cmp_ℚ (of_pair x m) (of_pair y n) ≡ int_cmp (x *ℤ pos n) (y *ℤ pos m)
 cmp_ℚ-of_pair x y m n h k =
     same_order (cmp_ℚ (of_pair x m) (of_pair y n)) (int_cmp (x *ℤ pos n) (y *ℤ pos m))
-    (less_not_equal (x *ℤ pos n) (y *ℤ pos m)) (less_not_greater (x *ℤ pos n) (y *ℤ pos m)) (equal_not_greater (x *ℤ pos n) (y *ℤ pos m))
+    (less_not_equal (x *ℤ pos n) (y *ℤ pos m)) (less_not_greater (x *ℤ pos n) (y *ℤ pos m))
+    (equal_not_greater (x *ℤ pos n) (y *ℤ pos m))
     (crossed_order x y m n (cmp_ℚ (of_pair x m) (of_pair y n)) h k (cmp_ℚ-ranks (of_pair x m) (of_pair y n)))
     (int_ranks (x *ℤ pos n) (y *ℤ pos m))
 
-pub positive_is : (p : ℤ) → pos 0 <ℤ p → pos (nat_abs p) ≡ p
-positive_is (pos n) h = refl
-positive_is (negsuc n) h = absurd (omega (arith, ints))
-
 -- the order from a place on: there, and from the next place on where the quotients are equal
-pub order_from : (a : List ℤ) (p : ℤ) (b : List ℤ) (q : ℤ) (k : ℕ) → pos 0 <ℤ p → pos 0 <ℤ q → k < length a → k < length b
+pub order_from : (a : List ℤ) (p : ℤ) (b : List ℤ) (q : ℤ) (k : ℕ) → pos 0 <ℤ p → pos 0 <ℤ q
+    → k < length a → k < length b
     → slice_cmp cmp_ℚ (quotients (drop k a) p) (quotients (drop k b) q)
-    ≡ ordering_then (int_cmp (get_or a k (pos 0) *ℤ q) (get_or b k (pos 0) *ℤ p)) (slice_cmp cmp_ℚ (quotients (drop (k + 1) a) p) (quotients (drop (k + 1) b) q))
+    ≡ ordering_then (int_cmp (get_or a k (pos 0) *ℤ q) (get_or b k (pos 0) *ℤ p))
+    (slice_cmp cmp_ℚ (quotients (drop (k + 1) a) p) (quotients (drop (k + 1) b) q))
 order_from a p b q k hp hq la lb =
     let np : 0 < nat_abs p = omega (arith, ints) in
     let nq : 0 < nat_abs q = omega (arith, ints) in
     let x = get_or a k (pos 0) in
     let y = get_or b k (pos 0) in
     let here : cmp_ℚ (of_pair x (nat_abs p)) (of_pair y (nat_abs q)) ≡ int_cmp (x *ℤ q) (y *ℤ p) =
-    cmp_ℚ-of_pair x y (nat_abs p) (nat_abs q) np nq ∙ ap (λ t. int_cmp (x *ℤ t) (y *ℤ pos (nat_abs p))) (positive_is q hq) ∙ ap (λ t. int_cmp (x *ℤ q) (y *ℤ t)) (positive_is p hp) in
+    cmp_ℚ-of_pair x y (nat_abs p) (nat_abs q) np nq ∙ ap (λ t. int_cmp (x *ℤ t) (y *ℤ pos (nat_abs p))) (size_back q hq)
+    ∙ ap (λ t. int_cmp (x *ℤ q) (y *ℤ t)) (size_back p hp) in
     ap (λ t. slice_cmp cmp_ℚ (quotients t p) (quotients (drop k b) q)) (drop_more a k (pos 0) la)
     ∙ ap (λ t. slice_cmp cmp_ℚ (quotients (x ∷ drop (k + 1) a) p) (quotients t q)) (drop_more b k (pos 0) lb)
     ∙ ap (λ t. ordering_then t (slice_cmp cmp_ℚ (quotients (drop (k + 1) a) p) (quotients (drop (k + 1) b) q))) here

@@ -9,7 +9,8 @@ use Rattle.rob_rows.specs.PrimitiveParts.{HasWideEntry}
 abbrev pub IsReached : List ℤ → ℕ → ℕ → Type 0
 IsReached row i size = (size ≡ 0) ⊎ ((k : ℕ) × (k < i) × (nat_abs (get_or row k (pos 0)) ≡ size))
 
-pub reached_more : (row : List ℤ) (i size entry : ℕ) → IsReached row i size → entry ≡ nat_abs (get_or row i (pos 0)) → IsReached row (i + 1) (max entry size)
+pub reached_more : (row : List ℤ) (i size entry : ℕ) → IsReached row i size → entry ≡ nat_abs (get_or row i (pos 0))
+    → IsReached row (i + 1) (max entry size)
 reached_more row i size entry h e =
     elim (cases_lt size entry) [
       | inl l ↦ inr (i, omega arith, sym e ∙ omega arith)
@@ -19,7 +20,8 @@ reached_more row i size entry h e =
       ]
     ]
 
-pub reached_by : (row : List ℤ) (i size : ℕ) → i ≤ length row → IsReached row i size → 0 < size → Any (λ entry. nat_abs entry ≡ size) row
+pub reached_by : (row : List ℤ) (i size : ℕ) → i ≤ length row → IsReached row i size → 0 < size
+    → Any (λ entry. nat_abs entry ≡ size) row
 reached_by row i size n h p =
     elim h [
       | inl z ↦ absurd (omega arith)
@@ -29,5 +31,6 @@ reached_by row i size n h p =
           (r.0, get_or row r.0 (pos 0), l, get_or_default row r.0 (get_or row r.0 (pos 0)) (pos 0) l, r.2)
     ]
 
-pub wide_by : (row : List ℤ) (size limit : ℕ) → limit < size → Any (λ entry. nat_abs entry ≡ size) row → HasWideEntry limit row
+pub wide_by : (row : List ℤ) (size limit : ℕ) → limit < size → Any (λ entry. nat_abs entry ≡ size) row
+    → HasWideEntry limit row
 wide_by row size limit l a = (a.0, a.1, a.2, a.3, subst (λ t. limit < t) (sym a.4) l)

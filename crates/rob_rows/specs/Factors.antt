@@ -13,4 +13,5 @@ pub record IsMultiple (p q : ℤ) (factors : Factors) : Type 0 where
 abbrev pub IsNarrow : Factors → List ℤ → List ℤ → Type 0
 IsNarrow factors top low =
     (k : ℕ) → k < length top → k < length low
-    → nat_abs factors.p * nat_abs (slice_index_or top k (pos 0)) + nat_abs factors.q * nat_abs (slice_index_or low k (pos 0)) < 2 ^ 63
+    → nat_abs factors.p * nat_abs (slice_index_or top k (pos 0))
+    + nat_abs factors.q * nat_abs (slice_index_or low k (pos 0)) < 2 ^ 63

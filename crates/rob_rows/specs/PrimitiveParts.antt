@@ -14,6 +14,14 @@ combination p (a ∷ top) q (b ∷ low) = ((p *ℤ a) -ℤ (q *ℤ b)) ∷ combi
 abbrev pub content : List ℤ → ℕ
 content row = fold (λ common entry. gcd common (nat_abs entry)) 0 row
 
+-- the greatest common divisor of a number and all entries
+abbrev pub content_with : ℕ → List ℤ → ℕ
+content_with number row = fold (λ common entry. gcd common (nat_abs entry)) number row
+
+-- a number times each entry
+abbrev pub scaled : ℕ → List ℤ → List ℤ
+scaled number row = map (λ entry. pos number *ℤ entry) row
+
 -- row is whole in lowest terms: whole over a positive divisor of all its entries, with nothing but 1 left to divide by
 pub record IsPrimitivePart (row whole : List ℤ) : Type 0 where
   pub divisor : ℕ

@@ -1,4 +1,4 @@
-// The primitive part of a combination of two rows, without a ledger.
+//! The primitive part of a combination of two rows, without a ledger.
 
 ghost use Rattle.std.specs.Prelude.{◌≡◌, ◌^◌, ◌<◌, ◌≤◌, nat_abs, length, OnOk, OnErr};
 ghost use Rattle.rob_rows.specs.PrimitiveParts.{combination, IsPrimitivePart, IsWithin, HasWidePart};
@@ -32,7 +32,8 @@ pub fn combine_rows(
     combine_lowest(out, factors, top, low, limit)
 }
 
-/// The same, of any factors of 62 bits: a copy of `top` where that is all, in 64 bits where the entries fit, else in 128.
+/// The same, of any factors of 62 bits: a copy of `top` where that is all, in 64 bits where the entries fit, else in
+/// 128.
 pub fn combine_lowest(
     out: &mut [i64],
     factors: Factors,

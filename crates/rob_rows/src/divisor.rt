@@ -1,13 +1,15 @@
-// Greatest common divisors, and division by one number many times.
-//
-// A quotient that is known to be whole is the product with the divisor's inverse modulo 2^64, if it is below 2^64; a
-// common factor 2^k is shifted out first. (Granlund and Montgomery, Division by Invariant Integers using
-// Multiplication, 1994, section 9.) The product is taken as a guess that one more product confirms, so nothing rests
-// on the inverse; where the guess is wrong the division is done.
+//! Greatest common divisors, and division by one number many times.
+//!
+//! A quotient that is known to be whole is the product with the divisor's inverse modulo 2^64, if it is below 2^64; a
+//! common factor 2^k is shifted out first. (Granlund and Montgomery, Division by Invariant Integers using
+//! Multiplication, 1994, section 9.) The product is taken as a guess that one more product confirms, so nothing rests
+//! on the inverse; where the guess is wrong the division is done.
 
 ghost use Rattle.std.specs.Prelude.{◌≡◌, ◌+◌, ◌*◌, ◌^◌, ◌<◌, ◌≤◌, ◌↔◌, IsTrue, IfSome};
-ghost use Rattle.std.specs.Int.{IsGcd, ◌∣◌};
+ghost use Rattle.std.specs.Int.{◌∣◌};
 ghost use Rattle.rob_algebra.specs.Gcd.{gcd};
+
+use rob_number::gcd128;
 
 /// A number to divide by, with what makes division by it quick.
 #[derive(Clone, Copy, Drop)]
@@ -85,18 +87,18 @@ impl Divisor {
         if self.divides(whole) {
             self
         } else {
-            Divisor::new(common_divisor(self.value, whole))
+            Divisor::new(gcd128(self.value, whole))
         }
     }
 }
 
-// The last 64 bits.
+/// The last 64 bits.
 fn low_half(x: u128) -> u64 {
     (x % (1 << 64)) as u64
 }
 
-// The inverse of an odd number modulo 2^64, by Newton's iteration: each step doubles the number of right bits, of which
-// the start has five.
+/// The inverse of an odd number modulo 2^64, by Newton's iteration: each step doubles the number of right bits, of
+/// which the start has five.
 fn inverse_of(odd: u64) -> u64 {
     let mut inverse = odd.wrapping_mul(3) ^ 2;
     for _ in 0..4 {
@@ -104,35 +106,4 @@ fn inverse_of(odd: u64) -> u64 {
         inverse = inverse.wrapping_mul(2u64.wrapping_sub(error));
     }
     inverse
-}
-
-// The greatest common divisor of two numbers of 64 bits.
-pub fn common_divisor_64(a: u64, b: u64) -> u64
-    ensures divisor { result ≡ gcd a b }
-{
-    let mut x = a;
-    let mut y = b;
-    while y != 0 {
-        let rest = x % y;
-        x = y;
-        y = rest;
-    }
-    x
-}
-
-// The greatest common divisor, in 64 bits from where both numbers have no more.
-fn common_divisor(a: u128, b: u128) -> u128
-    ensures divisor { result ≡ gcd a b }
-{
-    let mut x = a;
-    let mut y = b;
-    while y != 0 {
-        if x <= u64::MAX as u128 && y <= u64::MAX as u128 {
-            return common_divisor_64(x as u64, y as u64) as u128;
-        }
-        let rest = x % y;
-        x = y;
-        y = rest;
-    }
-    x
 }

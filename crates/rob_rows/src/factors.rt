@@ -1,10 +1,10 @@
-// The two factors of a combination, over their greatest common divisor.
+//! The two factors of a combination, over their greatest common divisor.
 
-ghost use Rattle.std.specs.Prelude.{◌≡◌, ℕ, ◌^◌, ◌<◌, ◌≤◌, ◌*ℤ◌, pos, nat_abs};
+ghost use Rattle.std.specs.Prelude.{◌≡◌, ℕ, ◌^◌, ◌<◌, ◌≤◌, ◌*ℤ◌, nat_abs};
 ghost use Rattle.rob_algebra.specs.Gcd.{gcd};
 ghost use Rattle.rob_rows.specs.Factors.{IsMultiple};
 
-use crate::divisor::common_divisor_64;
+use rob_number::gcd64;
 
 /// Two factors of a combination of rows: `p` times one row less `q` times another.
 #[derive(Clone, Copy, Drop)]
@@ -22,7 +22,7 @@ pub fn lowest(p: i64, q: i64) -> Factors
     ensures q_size { nat_abs result.q < 2 ^ 62 }
     ensures lowest { gcd (nat_abs result.p) (nat_abs result.q) ≤ 1 }
 {
-    let common = common_divisor_64(p.unsigned_abs(), q.unsigned_abs());
+    let common = gcd64(p.unsigned_abs(), q.unsigned_abs());
     if common <= 1 {
         return Factors { p, q };
     }

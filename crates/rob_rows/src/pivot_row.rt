@@ -1,4 +1,4 @@
-// The row of a fraction-free pivot.
+//! The row of a fraction-free pivot.
 
 ghost use Rattle.std.specs.Prelude.{◌≡◌, ◌≤◌, nat_abs, length, OnOk, OnErr};
 ghost use Rattle.rob_number.specs.Counts.{CountsOne};

@@ -1,4 +1,4 @@
-// Linear programs as data.
+//! Linear programs as data.
 
 ghost use Rattle.std.specs.Prelude.{◌≤◌, ◌^◌, ◌↔◌, IsTrue};
 ghost use Rattle.rob_rows.specs.LinearPrograms.{IsShaped, HasNumbersWithin};

@@ -1,4 +1,4 @@
-// A row over the greatest common divisor of its entries, in place.
+//! A row over the greatest common divisor of its entries, in place.
 
 ghost use Rattle.std.specs.Prelude.{◌≡◌, ◌+◌, ◌/◌, ◌^◌, ◌<◌, ◌≤◌, ◌*ℤ◌, pos, nat_abs, IfOk, OnOk, OnErr};
 ghost use Rattle.std.specs.Int.{◌∣◌};
@@ -43,7 +43,7 @@ pub fn to_lowest_terms(row: &mut [i64], limit: u64)
     }
 }
 
-// Divides the row by what divides all its entries.
+/// Divides the row by what divides all its entries.
 fn divide(row: &mut [i64], common: Divisor, limit: u64) -> Result<(), Wide>
     requires limit { limit < 2 ^ 62 }
     requires content { common.value ≡ content row.old }
@@ -58,7 +58,7 @@ fn divide(row: &mut [i64], common: Divisor, limit: u64) -> Result<(), Wide>
     Ok(())
 }
 
-// The greatest common divisor of the entries. Nothing but 1 divides 1, so the search ends there.
+/// The greatest common divisor of the entries. Nothing but 1 divides 1, so the search ends there.
 fn content_of(row: &[i64]) -> Divisor
     ensures content { result.value ≡ content row.now }
 {
@@ -97,7 +97,7 @@ pub fn quotient_within(entry: i128, divisor: Divisor, limit: u64) -> Result<i64,
     }
 }
 
-// The quotient, without a division by 1.
+/// The quotient, without a division by 1.
 fn quotient_of(size: u128, divisor: Divisor) -> u128
     requires positive { 0 < divisor.value }
     requires divides { divisor.value ∣ size }

@@ -1,4 +1,4 @@
-// Linear programs that are told row by row, so that nobody has to hold them.
+//! Linear programs that are told row by row, so that nobody has to hold them.
 
 ghost use Rattle.std.specs.Prelude.{◌≡◌, ◌<◌, [], length, slice_index_or};
 ghost use Rattle.rob_linear.specs.Vectors.{at};

@@ -1,4 +1,4 @@
-// The cases that are timed.
+//! The cases that are timed.
 
 /// Two factors, and what the rows are drawn from.
 #[derive(Clone, Copy)]

@@ -33,7 +33,7 @@ fn main(rt: HostRuntime) -> anyhow::Result<()> {
     Ok(())
 }
 
-// The number that the word at this place says, or the other one.
+/// The number that the word at this place says, or the other one.
 fn number_at(words: &[String], place: usize, other: u32) -> u32 {
     match words.get(place) {
         Some(word) => word.as_str().parse::<u32>().unwrap_or(other),
@@ -41,7 +41,7 @@ fn number_at(words: &[String], place: usize, other: u32) -> u32 {
     }
 }
 
-// Combines two rows of this length as often as is wanted. The sum stands for the row that comes out.
+/// Combines two rows of this length as often as is wanted. The sum stands for the row that comes out.
 fn run(alloc: Global, case: &Case, length: usize, repeats: u32) -> anyhow::Result<u64> {
     let top = drawn_row(alloc, length, case, 1)?;
     let low = drawn_row(alloc, length, case, 2)?;

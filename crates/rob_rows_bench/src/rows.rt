@@ -1,4 +1,4 @@
-// Rows of numbers that a linear congruence draws.
+//! Rows of numbers that a linear congruence draws.
 
 ghost use Rattle.std.specs.Prelude.{◌≡◌, ◌-◌, ◌^◌, ◌<◌, ◌≤◌, nat_abs, length, IfOk};
 ghost use Rattle.rob_rows.specs.PrimitiveParts.{IsWithin};
@@ -21,7 +21,7 @@ pub fn drawn_row(
     Ok(row)
 }
 
-// Writes numbers into the row.
+/// Writes numbers into the row.
 fn draw(row: &mut [i64], case: &Case, seed: u64)
     ensures within { IsWithin (2 ^ 62 - 1) row.new }
 {
@@ -41,7 +41,7 @@ fn draw(row: &mut [i64], case: &Case, seed: u64)
     }
 }
 
-// The next state of the congruence (Knuth's MMIX).
+/// The next state of the congruence (Knuth's MMIX).
 fn next(state: u64) -> u64 {
     state
         .wrapping_mul(6_364_136_223_846_793_005)

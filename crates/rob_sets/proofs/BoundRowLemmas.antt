@@ -38,13 +38,16 @@ module _ {N : Type 0} (value : N → Fraction) where
       (if_declared (upper_row n) (option_map value p.upper) ++ other_bounds ps (i + 1))
   bounds_at ps i n p at same = record {
     is = ap (λ (xs : List (Param N)). bound_rows i (map (parameter_of value) xs)) at
-        ∙ append_assoc (if_declared (lower_row i) (option_map value p.lower)) (if_declared (upper_row i) (option_map value p.upper))
+        ∙ append_assoc (if_declared (lower_row i) (option_map value p.lower))
+        (if_declared (upper_row i) (option_map value p.upper))
         (bound_rows (suc i) (map (parameter_of value) (drop (i + 1) ps)))
-        ∙ ap₂ (λ a b. if_declared (lower_row a) (option_map value p.lower) ++ (if_declared (upper_row a) (option_map value p.upper)
+        ∙ ap₂ (λ a b. if_declared (lower_row a) (option_map value p.lower)
+        ++ (if_declared (upper_row a) (option_map value p.upper)
         ++ bound_rows b (map (parameter_of value) (drop (i + 1) ps)))) (sym same) (sym (add-one i));
   }
 
-  pub upper_at : (ps : List (Param N)) (i n : ℕ) (p : Param N) → Parted (if_declared (upper_row n) (option_map value p.upper) ++ other_bounds ps (i + 1))
+  pub upper_at : (ps : List (Param N)) (i n : ℕ) (p : Param N)
+      → Parted (if_declared (upper_row n) (option_map value p.upper) ++ other_bounds ps (i + 1))
       (if_declared (upper_row n) (option_map value p.upper)) (other_bounds ps (i + 1))
   upper_at ps i n p = record { is = refl }
 

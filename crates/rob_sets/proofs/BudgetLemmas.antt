@@ -1,12 +1,12 @@
 -- The row of a budget's sum, and the rows of its members.
 use Rattle.std.specs.Prelude.{◌≡◌, ℕ, zero, suc, ◌+◌, ◌*◌, ◌≤◌, ◌<◌, List, [], ◌∷◌, ◌++◌, length, map, drop, pos, refl}
-use Rattle.std.proofs.Common.{sym, ◌∙◌, ap, ap₂, arith, subst, get_or, add-one}
+use Rattle.std.proofs.Common.{sym, ◌∙◌, ap, ap₂, arith, get_or, add-one}
 use Rattle.std.proofs.lemmas.List.{length-map}
 use Rattle.rob_algebra.specs.Fraction.{Fraction, ◌+ℚ◌, ◌*ℚ◌, neg_ℚ}
 use Rattle.rob_algebra.specs.FractionLaws as Q
 use Rattle.rob_algebra.specs.Ring.{lit, ◌:+◌, ◌:*◌, v0, v1}
 use Rattle.rob_meaning.specs.Coefficients.{Table, unit, single}
-use Rattle.rob_meaning.specs.Places.{0ℚ, 1ℚ, Each}
+use Rattle.rob_meaning.specs.Places.{0ℚ, 1ℚ}
 use Rattle.rob_meaning.specs.RobustModel.{Member}
 use Rattle.rob_meaning.specs.SetRows as lifted
 use Rattle.rob_meaning.specs.SetRows.{budget_row, down_row, member_rows, members_sum, up_row}
@@ -17,7 +17,9 @@ use Rattle.rob_sets.specs.Appending.{row_of}
 use Rattle.rob_sets.proofs.BoundLemmas.{row_same, minus_minus}
 use Rattle.rob_sets.proofs.PartedLemmas.{Parted}
 use Rattle.rob_sets.proofs.ProgressLemmas.{length-both}
-use Rattle.rob_sets.proofs.CellLemmas.{times_zero, unit-other}
+use Rattle.rob_sets.proofs.CellLemmas.{unit-other}
+use Rattle.rob_meaning.proofs.TableLemmas.{times_zero}
+use Rattle.rob_meaning.proofs.SetRowLemmas.{length-member_rows}
 
 -- 1 in row 0 and the columns of n lifts, the first having number t
 abbrev pub lifts_from : ℕ → ℕ → Table
@@ -29,7 +31,9 @@ pub lifts-more : (t n k j : ℕ) → lifts_from t (n + 1) k j ≡ lifts_from t n
 lifts-more t n k j = ap (λ i. lifts_from t i k j) (add-one n) ∙ by t n
   where
     by : (t n : ℕ) → lifts_from t (suc n) k j ≡ lifts_from t n k j +ℚ single 0 (suc (t + n)) k j
-    by t zero = Q.ℚ-add_comm (single 0 (suc t) k j) 0ℚ ∙ ap (λ i. 0ℚ +ℚ single 0 (suc i) k j) (let e : t ≡ t + 0 = omega arith in e)
+    by t zero =
+        Q.ℚ-add_comm (single 0 (suc t) k j) 0ℚ
+        ∙ ap (λ i. 0ℚ +ℚ single 0 (suc i) k j) (let e : t ≡ t + 0 = omega arith in e)
     by t (suc n) =
         ap (λ u. single 0 (suc t) k j +ℚ u) (by (suc t) n)
         ∙ sym (Q.ℚ-add_assoc (single 0 (suc t) k j) (lifts_from (suc t) n k j) (single 0 (suc (suc t + n)) k j))
@@ -39,7 +43,8 @@ lifts-more t n k j = ap (λ i. lifts_from t i k j) (add-one n) ∙ by t n
 pub lifts-later : (t n j : ℕ) → t + n ≤ j → lifts_from t n 0 (suc j) ≡ 0ℚ
 lifts-later t zero j h = refl
 lifts-later t (suc n) j h =
-    ap₂ ◌+ℚ◌ (ap (λ u. 1ℚ *ℚ u) (unit-other t j (λ e. absurd (omega arith))) ∙ times_zero 1ℚ) (lifts-later (suc t) n j (omega arith))
+    ap₂ ◌+ℚ◌ (ap (λ u. 1ℚ *ℚ u) (unit-other t j (λ e. absurd (omega arith))) ∙ times_zero 1ℚ)
+    (lifts-later (suc t) n j (omega arith))
     ∙ Q.ℚ-zero-add 0ℚ
 
 pub lifts-constant : (t n k : ℕ) → lifts_from t n k 0 ≡ 0ℚ
@@ -62,17 +67,13 @@ sum_row t limit bound hs f is h =
     ∙ Q.ring (bound ∷ []) (lit (pos 0) :+ v0 :* (lit (pos 1) :* lit (pos 1))) v0 refl ∙ is) ∙ minus_minus limit)
 
 -- ---- the rows of the members that are left
-pub members_many : (t : ℕ) (hs : List Member) → length (member_rows t hs) ≡ 2 * length hs
-members_many t [] = refl
-members_many t (h ∷ hs) = omega (arith, members_many (suc t) hs)
-
 pub budget_many : {N : Type 0} (value : N → Fraction) (t : ℕ) (hs : List (MemberData N)) (last : lifted.SetRow)
     → length (member_rows t (map (member_of value) hs) ++ last ∷ []) ≡ 2 * length hs + 1
 budget_many value t hs last =
     omega (
       arith,
       length-both (member_rows t (map (member_of value) hs)) (last ∷ []),
-      members_many t (map (member_of value) hs),
+      length-member_rows t (map (member_of value) hs),
       length-map hs (member_of value),
     )
 
@@ -81,24 +82,25 @@ module _ {N : Type 0} (value : N → Fraction) where
   other_members hs t i = member_rows t (map (member_of value) (drop i hs))
 
   -- of the rows that are left, those of the next member come first
-  pub members_at : (hs : List (MemberData N)) (t i : ℕ) (h : MemberData N) (last : lifted.SetRow) → i < length hs → h ≡ get_or hs i h
+  pub members_at : (hs : List (MemberData N)) (t i : ℕ) (h : MemberData N) (last : lifted.SetRow)
+      → i < length hs → h ≡ get_or hs i h
       → Parted (other_members hs t i ++ last ∷ []) (up_row t (member_of value h) ∷ [])
       (down_row t (member_of value h) ∷ (other_members hs (t + 1) (i + 1) ++ last ∷ []))
   members_at hs t i h last inside e = record {
-    is = ap (λ (xs : List (MemberData N)). member_rows t (map (member_of value) xs) ++ last ∷ []) (drop_at hs i h inside e)
-        ∙ ap (λ n. up_row t (member_of value h) ∷ (down_row t (member_of value h) ∷ (member_rows n (map (member_of value) (drop (i + 1) hs)) ++ last ∷ []))) (sym (add-one t));
+    is = ap (λ (xs : List (MemberData N)). member_rows t (map (member_of value) xs) ++ last ∷ [])
+        (drop_at hs i h inside e)
+        ∙ ap (λ n. up_row t (member_of value h)
+        ∷ (down_row t (member_of value h) ∷ (member_rows n (map (member_of value) (drop (i + 1) hs)) ++ last ∷ [])))
+        (sym (add-one t));
   }
 
   pub down_at : (hs : List (MemberData N)) (t i : ℕ) (h : MemberData N) (last : lifted.SetRow)
-      → Parted (down_row t (member_of value h) ∷ (other_members hs (t + 1) (i + 1) ++ last ∷ [])) (down_row t (member_of value h) ∷ [])
+      → Parted (down_row t (member_of value h) ∷ (other_members hs (t + 1) (i + 1) ++ last ∷ []))
+      (down_row t (member_of value h) ∷ [])
       (other_members hs (t + 1) (i + 1) ++ last ∷ [])
   down_at hs t i h last = record { is = refl }
 
-  pub members_end : (hs : List (MemberData N)) (t i : ℕ) (last : lifted.SetRow) → length hs ≤ i → other_members hs t i ++ last ∷ [] ≡ last ∷ []
-  members_end hs t i last h = ap (λ (xs : List (MemberData N)). member_rows t (map (member_of value) xs) ++ last ∷ []) (drop_past hs i h)
-
--- what is true of each is true of the one at a place
-pub each_get : {A B : Type 0} (P : B → Type 0) (f : A → B) (xs : List A) (i : ℕ) (x : A) → i < length xs → x ≡ get_or xs i x → Each P (map f xs) → P (f x)
-each_get P f [] i x h e all = absurd (omega arith)
-each_get P f (y ∷ xs) zero x h e all = subst (λ z. P (f z)) (sym e) all.0
-each_get P f (y ∷ xs) (suc i) x h e all = each_get P f xs i x (omega arith) e all.1
+  pub members_end : (hs : List (MemberData N)) (t i : ℕ) (last : lifted.SetRow) → length hs ≤ i
+      → other_members hs t i ++ last ∷ [] ≡ last ∷ []
+  members_end hs t i last h =
+      ap (λ (xs : List (MemberData N)). member_rows t (map (member_of value) xs) ++ last ∷ []) (drop_past hs i h)

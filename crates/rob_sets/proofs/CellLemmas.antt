@@ -14,6 +14,8 @@ use Rattle.rob_meaning.specs.Coefficients.{unit, single}
 use Rattle.rob_meaning.specs.Places.{0ℚ, 1ℚ}
 use Rattle.rob_sets.specs.Tables.{cell_cmp, number_or_zero}
 use Rattle.rob_sets.specs.declared.table.Cell.{Cell}
+use Rattle.rob_model.proofs.ValueLemmas.{add-zero_ℚ, mul-one_ℚ}
+use Rattle.rob_meaning.proofs.TableLemmas.{zero_times, times_zero}
 
 -- ---- units
 pub unit-same : (a : ℕ) → unit a a ≡ 1ℚ
@@ -26,32 +28,30 @@ unit-other zero (suc k) h = refl
 unit-other (suc a) zero h = refl
 unit-other (suc a) (suc k) h = unit-other a k (λ e. h (ap suc e))
 
-pub zero_times : (x : Fraction) → 0ℚ *ℚ x ≡ 0ℚ
-zero_times x = Q.ring (x ∷ []) (lit (pos 0) :* v0) (lit (pos 0)) refl
-
-pub times_zero : (x : Fraction) → x *ℚ 0ℚ ≡ 0ℚ
-times_zero x = Q.ring (x ∷ []) (v0 :* lit (pos 0)) (lit (pos 0)) refl
-
-pub add_zero : (x : Fraction) → x +ℚ 0ℚ ≡ x
-add_zero x = Q.ring (x ∷ []) (v0 :+ lit (pos 0)) v0 refl
-
 -- two places are one cell, or the 1 in the first is not at the second
 abbrev pub AreOne : ℕ → ℕ → ℕ → ℕ → Ordering → Type 0
 AreOne a c k j o = ((is_eq o ≡ true) × (a ≡ k) × (c ≡ j)) ⊎ ((is_eq o ≡ false) × (single a c k j ≡ 0ℚ))
 
-by_columns : (a c k j : ℕ) (p : Ordering) → a ≡ k → MatchOrdering p (c < j) (c ≡ j) (j < c) → AreOne a c k j (ordering_then Equal p)
-by_columns a c k j Less e h = inr (refl, ap (λ u. unit a k *ℚ u) (unit-other c j (λ e. absurd (omega arith))) ∙ times_zero (unit a k))
+by_columns : (a c k j : ℕ) (p : Ordering) → a ≡ k → MatchOrdering p (c < j) (c ≡ j) (j < c)
+    → AreOne a c k j (ordering_then Equal p)
+by_columns a c k j Less e h =
+    inr (refl, ap (λ u. unit a k *ℚ u) (unit-other c j (λ e. absurd (omega arith))) ∙ times_zero (unit a k))
 by_columns a c k j Equal e h = inl (refl, e, h)
-by_columns a c k j Greater e h = inr (refl, ap (λ u. unit a k *ℚ u) (unit-other c j (λ e. absurd (omega arith))) ∙ times_zero (unit a k))
+by_columns a c k j Greater e h =
+    inr (refl, ap (λ u. unit a k *ℚ u) (unit-other c j (λ e. absurd (omega arith))) ∙ times_zero (unit a k))
 
-by_rows : (a c k j : ℕ) (o p : Ordering) → MatchOrdering o (a < k) (a ≡ k) (k < a) → MatchOrdering p (c < j) (c ≡ j) (j < c)
+by_rows : (a c k j : ℕ) (o p : Ordering) → MatchOrdering o (a < k) (a ≡ k) (k < a)
+    → MatchOrdering p (c < j) (c ≡ j) (j < c)
     → AreOne a c k j (ordering_then o p)
-by_rows a c k j Less p h g = inr (refl, ap (λ u. u *ℚ unit c j) (unit-other a k (λ e. absurd (omega arith))) ∙ zero_times (unit c j))
+by_rows a c k j Less p h g =
+    inr (refl, ap (λ u. u *ℚ unit c j) (unit-other a k (λ e. absurd (omega arith))) ∙ zero_times (unit c j))
 by_rows a c k j Equal p h g = by_columns a c k j p h g
-by_rows a c k j Greater p h g = inr (refl, ap (λ u. u *ℚ unit c j) (unit-other a k (λ e. absurd (omega arith))) ∙ zero_times (unit c j))
+by_rows a c k j Greater p h g =
+    inr (refl, ap (λ u. u *ℚ unit c j) (unit-other a k (λ e. absurd (omega arith))) ∙ zero_times (unit c j))
 
 pub are_one : (a c k j : ℕ) → AreOne a c k j (ordering_then (nat_cmp a k) (nat_cmp c j))
-are_one a c k j = by_rows a c k j (nat_cmp a k) (nat_cmp c j) (ranked a k (nat_cmp a k) refl) (ranked c j (nat_cmp c j) refl)
+are_one a c k j =
+    by_rows a c k j (nat_cmp a k) (nat_cmp c j) (ranked a k (nat_cmp a k) refl) (ranked c j (nat_cmp c j) refl)
 
 pub single-same : (a c : ℕ) → single a c a c ≡ 1ℚ
 single-same a c = ap₂ ◌*ℚ◌ (unit-same a) (unit-same c) ∙ Q.ring [] (lit (pos 1) :* lit (pos 1)) (lit (pos 1)) refl
@@ -65,9 +65,6 @@ unit-sym (suc a) (suc k) = unit-sym a k
 pub single-sym : (a c k j : ℕ) → single a c k j ≡ single k j a c
 single-sym a c k j = ap₂ ◌*ℚ◌ (unit-sym a k) (unit-sym c j)
 
-pub times_one : (x : Fraction) → x *ℚ 1ℚ ≡ x
-times_one x = Q.ring (x ∷ []) (v0 :* lit (pos 1)) v0 refl
-
 zero_is_one : 0ℚ ≡ 1ℚ → ⊥
 unfolding ratio
 zero_is_one h = let e : pos 0 ≡ pos 1 = ap (λ (x : Fraction). x.num) h in cc
@@ -75,35 +72,39 @@ zero_is_one h = let e : pos 0 ≡ pos 1 = ap (λ (x : Fraction). x.num) h in cc
 pub same_cell : (a c : ℕ) → is_eq (ordering_then (nat_cmp a a) (nat_cmp c c)) ≡ true
 same_cell a c = by (are_one a c a c)
   where
-    by : AreOne a c a c (ordering_then (nat_cmp a a) (nat_cmp c c)) → is_eq (ordering_then (nat_cmp a a) (nat_cmp c c)) ≡ true
+    by : AreOne a c a c (ordering_then (nat_cmp a a) (nat_cmp c c))
+        → is_eq (ordering_then (nat_cmp a a) (nat_cmp c c)) ≡ true
     by (inl here) = here.0
     by (inr apart) = absurd (zero_is_one (sym apart.1 ∙ single-same a c))
 
 -- ---- signs
-pub signed-zero : (minus : Bool) → signed minus 0ℚ ≡ 0ℚ
-signed-zero true = Q.ring [] (minus' (lit (pos 0))) (lit (pos 0)) refl
-signed-zero false = refl
-
-pub signed_parts : (minus : Bool) (x s y : Fraction) → signed minus x *ℚ s +ℚ signed minus y ≡ signed minus (x *ℚ s +ℚ y)
+pub signed_parts : (minus : Bool) (x s y : Fraction)
+    → signed minus x *ℚ s +ℚ signed minus y ≡ signed minus (x *ℚ s +ℚ y)
 signed_parts true x s y = Q.ring (x ∷ s ∷ y ∷ []) (minus' v0 :* v1 :+ minus' v2) (minus' (v0 :* v1 :+ v2)) refl
 signed_parts false x s y = refl
 
 -- ---- a number is added at a cell
 module _ {N : Type 0} (value : N → Fraction) where
   pub added_at : (cell : Cell) (x sum : N) (old : Cell → Option N) (k j : ℕ) (found : Option N)
-      → found ≡ cond (is_at (cell_cmp cell) (record { row = k; column = j })) (Some sum) (old (record { row = k; column = j }))
+      → found ≡ cond (is_at (cell_cmp cell) (record { row = k; column = j })) (Some sum)
+      (old (record { row = k; column = j }))
       → value sum ≡ number_or_zero value (old cell) +ℚ value x
-      → number_or_zero value found ≡ number_or_zero value (old (record { row = k; column = j })) +ℚ value x *ℚ single cell.row cell.column k j
+      → number_or_zero value found ≡ number_or_zero value (old (record { row = k; column = j }))
+      +ℚ value x *ℚ single cell.row cell.column k j
   added_at cell x sum old k j found is e = by (are_one cell.row cell.column k j)
     where
       by : AreOne cell.row cell.column k j (cell_cmp cell (record { row = k; column = j }))
-          → number_or_zero value found ≡ number_or_zero value (old (record { row = k; column = j })) +ℚ value x *ℚ single cell.row cell.column k j
+          → number_or_zero value found ≡ number_or_zero value (old (record { row = k; column = j }))
+          +ℚ value x *ℚ single cell.row cell.column k j
       by (inl here) =
           ap (number_or_zero value) (is ∙ ap (λ b. cond b (Some sum) (old (record { row = k; column = j }))) here.0)
           ∙ e
           ∙ ap₂ (λ (c : Cell) (u : Fraction). number_or_zero value (old c) +ℚ u)
           (ap₂ (λ (r c : ℕ). let cell : Cell = record { row = r; column = c } in cell) here.1 here.2)
-          (sym (ap (λ u. value x *ℚ u) (ap₂ (λ (r c : ℕ). single cell.row cell.column r c) (sym here.1) (sym here.2) ∙ single-same cell.row cell.column) ∙ times_one (value x)))
+          (sym (ap (λ u. value x *ℚ u) (ap₂ (λ (r c : ℕ). single cell.row cell.column r c) (sym here.1) (sym here.2)
+          ∙ single-same cell.row cell.column) ∙ mul-one_ℚ (value x)))
       by (inr apart) =
           ap (number_or_zero value) (is ∙ ap (λ b. cond b (Some sum) (old (record { row = k; column = j }))) apart.0)
-          ∙ sym (ap (λ u. number_or_zero value (old (record { row = k; column = j })) +ℚ u) (ap (λ u. value x *ℚ u) apart.1 ∙ times_zero (value x)) ∙ add_zero (number_or_zero value (old (record { row = k; column = j }))))
+          ∙ sym (ap (λ u. number_or_zero value (old (record { row = k; column = j })) +ℚ u)
+          (ap (λ u. value x *ℚ u) apart.1 ∙ times_zero (value x))
+          ∙ add-zero_ℚ (number_or_zero value (old (record { row = k; column = j }))))

@@ -10,20 +10,9 @@ use Rattle.rob_meaning.proofs.LeastLemmas.{denominator_least, whole_by_denominat
 use Rattle.rob_sets.specs.FirstWide.{IsWideCleared, Some_of}
 use Rattle.rob_sets.specs.declared.error.Stop.{Stop}
 use Rattle.std.specs.Prelude.{Result, Ok, Err, IfOk, OnOk}
-use Rattle.rob_sets.proofs.SubexpressionLemmas.{each_both, take_one_more, take_past}
-
--- ---- what is true of each of a list
-each_first : {A : Type 0} (P : A → Type 0) (xs ys : List A) → Each P (xs ++ ys) → Each P xs
-each_first P [] ys h = tt
-each_first P (x ∷ xs) ys h = (h.0, each_first P xs ys h.1)
-
-each_last : {A : Type 0} (P : A → Type 0) (xs ys : List A) → Each P (xs ++ ys) → Each P ys
-each_last P [] ys h = h
-each_last P (x ∷ xs) ys h = each_last P xs ys h.1
-
-map-both : {A B : Type 0} (f : A → B) (xs ys : List A) → map f (xs ++ ys) ≡ map f xs ++ map f ys
-map-both f [] ys = refl
-map-both f (x ∷ xs) ys = ap (λ zs. f x ∷ zs) (map-both f xs ys)
+use Rattle.rob_sets.proofs.SubexpressionLemmas.{take_one_more, take_past}
+use Rattle.std.proofs.lemmas.List.{map-append}
+use Rattle.rob_meaning.proofs.EachLemmas.{each_append, each_left, each_right}
 
 -- ---- the least common denominator
 -- one fraction more, behind the others or before them
@@ -32,11 +21,13 @@ denominator-more qs q =
     let behind = whole_by_denominator (qs ++ q ∷ []) in
     let before = whole_by_denominator (q ∷ qs) in
     let below : denominator (q ∷ qs) ≤ denominator (qs ++ q ∷ []) =
-    denominator_least (q ∷ qs) (denominator (qs ++ q ∷ [])) behind.0
-    ((each_last (MakesWhole (denominator (qs ++ q ∷ []))) qs (q ∷ []) behind.1).0, each_first (MakesWhole (denominator (qs ++ q ∷ []))) qs (q ∷ []) behind.1) in
+    denominator_least (q ∷ qs) (denominator (qs ++ q ∷ [])) behind.0 (
+      (each_right (MakesWhole (denominator (qs ++ q ∷ []))) qs (q ∷ []) behind.1).0,
+      each_left (MakesWhole (denominator (qs ++ q ∷ []))) qs (q ∷ []) behind.1,
+    ) in
     let above : denominator (qs ++ q ∷ []) ≤ denominator (q ∷ qs) =
     denominator_least (qs ++ q ∷ []) (denominator (q ∷ qs)) before.0
-    (each_both (MakesWhole (denominator (q ∷ qs))) qs (q ∷ []) before.1.1 (before.1.0, tt)) in
+    (each_append (MakesWhole (denominator (q ∷ qs))) qs (q ∷ []) before.1.1 (before.1.0, tt)) in
     omega arith
 
 -- that of no further ones
@@ -51,7 +42,7 @@ common_first qs = ap denominator (sym (nothing qs))
 pub denominator-first : (xs ys : List Fraction) → denominator xs ≤ denominator (xs ++ ys)
 denominator-first xs ys =
     let all = whole_by_denominator (xs ++ ys) in
-    denominator_least xs (denominator (xs ++ ys)) all.0 (each_first (MakesWhole (denominator (xs ++ ys))) xs ys all.1)
+    denominator_least xs (denominator (xs ++ ys)) all.0 (each_left (MakesWhole (denominator (xs ++ ys))) xs ys all.1)
 
 pub parted : {A : Type 0} (xs : List A) (i : ℕ) → xs ≡ take i xs ++ drop i xs
 parted [] zero = refl
@@ -63,51 +54,67 @@ module _ {N : Type 0} (value : N → Fraction) where
   -- the numbers up to a place, and the one there
   pub first_more : (xs : List N) (i : ℕ) (q : N) → i < length xs → q ≡ get_or xs i q
       → map value (take (i + 1) xs) ≡ map value (take i xs) ++ value q ∷ []
-  first_more xs i q h e = ap (map value) (take_one_more xs i q h e) ∙ map-both value (take i xs) (q ∷ [])
+  first_more xs i q h e = ap (map value) (take_one_more xs i q h e) ∙ map-append value (take i xs) (q ∷ [])
 
   -- behind other fractions
   behind_more : (before : List Fraction) (xs : List N) (i : ℕ) (q : N) → i < length xs → q ≡ get_or xs i q
       → before ++ map value (take (i + 1) xs) ≡ (before ++ map value (take i xs)) ++ value q ∷ []
   behind_more before xs i q h e =
-      ap (λ (ys : List Fraction). before ++ ys) (first_more xs i q h e) ∙ sym (append_assoc before (map value (take i xs)) (value q ∷ []))
+      ap (λ (ys : List Fraction). before ++ ys) (first_more xs i q h e)
+      ∙ sym (append_assoc before (map value (take i xs)) (value q ∷ []))
 
-  pub common_more : (before : List Fraction) (xs : List N) (i : ℕ) (q : N) (common multiple : ℕ) → i < length xs → q ≡ get_or xs i q
-      → common ≡ denominator (before ++ map value (take i xs)) → multiple ≡ lcm (value q).den common → multiple ≡ denominator (before ++ map value (take (i + 1) xs))
+  pub common_more : (before : List Fraction) (xs : List N) (i : ℕ) (q : N) (common multiple : ℕ)
+      → i < length xs → q ≡ get_or xs i q
+      → common ≡ denominator (before ++ map value (take i xs)) → multiple ≡ lcm (value q).den common
+      → multiple ≡ denominator (before ++ map value (take (i + 1) xs))
   common_more before xs i q common multiple h e so_far is =
-      is ∙ ap (lcm (value q).den) so_far ∙ sym (denominator-more (before ++ map value (take i xs)) (value q)) ∙ ap denominator (sym (behind_more before xs i q h e))
+      is ∙ ap (lcm (value q).den) so_far ∙ sym (denominator-more (before ++ map value (take i xs)) (value q))
+      ∙ ap denominator (sym (behind_more before xs i q h e))
 
-  pub common_wide : (before : List Fraction) (xs : List N) (i : ℕ) (q : N) (common limit : ℕ) → i < length xs → q ≡ get_or xs i q
-      → common ≡ denominator (before ++ map value (take i xs)) → limit < lcm (value q).den common → limit < denominator (before ++ map value xs)
+  pub common_wide : (before : List Fraction) (xs : List N) (i : ℕ) (q : N) (common limit : ℕ)
+      → i < length xs → q ≡ get_or xs i q
+      → common ≡ denominator (before ++ map value (take i xs)) → limit < lcm (value q).den common
+      → limit < denominator (before ++ map value xs)
   common_wide before xs i q common limit h e so_far wide =
-      let here : lcm (value q).den common ≡ denominator (before ++ map value (take (i + 1) xs)) = common_more before xs i q common (lcm (value q).den common) h e so_far refl in
+      let here : lcm (value q).den common ≡ denominator (before ++ map value (take (i + 1) xs)) =
+      common_more before xs i q common (lcm (value q).den common) h e so_far refl in
       let all : before ++ map value xs ≡ (before ++ map value (take (i + 1) xs)) ++ map value (drop (i + 1) xs) =
-      ap (λ (ys : List Fraction). before ++ ys) (ap (map value) (parted xs (i + 1)) ∙ map-both value (take (i + 1) xs) (drop (i + 1) xs))
+      ap (λ (ys : List Fraction). before ++ ys)
+      (ap (map value) (parted xs (i + 1)) ∙ map-append value (take (i + 1) xs) (drop (i + 1) xs))
       ∙ sym (append_assoc before (map value (take (i + 1) xs)) (map value (drop (i + 1) xs))) in
-      let most : denominator (before ++ map value xs) ≡ denominator ((before ++ map value (take (i + 1) xs)) ++ map value (drop (i + 1) xs)) = ap denominator all in
-      let below : denominator (before ++ map value (take (i + 1) xs)) ≤ denominator ((before ++ map value (take (i + 1) xs)) ++ map value (drop (i + 1) xs)) =
+      let most : denominator (before ++ map value xs)
+      ≡ denominator ((before ++ map value (take (i + 1) xs)) ++ map value (drop (i + 1) xs)) = ap denominator all in
+      let below : denominator (before ++ map value (take (i + 1) xs))
+      ≤ denominator ((before ++ map value (take (i + 1) xs)) ++ map value (drop (i + 1) xs)) =
       denominator-first (before ++ map value (take (i + 1) xs)) (map value (drop (i + 1) xs)) in
       omega arith
 
-  pub common_all : (before : List Fraction) (xs : List N) (i : ℕ) (common : ℕ) → length xs ≤ i → common ≡ denominator (before ++ map value (take i xs))
+  pub common_all : (before : List Fraction) (xs : List N) (i : ℕ) (common : ℕ) → length xs ≤ i
+      → common ≡ denominator (before ++ map value (take i xs))
       → common ≡ denominator (before ++ map value xs)
-  common_all before xs i common h so_far = so_far ∙ ap (λ (ys : List N). denominator (before ++ map value ys)) (take_past xs i h)
+  common_all before xs i common h so_far =
+      so_far ∙ ap (λ (ys : List N). denominator (before ++ map value ys)) (take_past xs i h)
 
   -- ---- whole numbers
-  pub whole_more : (xs : List N) (i : ℕ) (q : N) (common : ℕ) (list : List ℤ) (z : ℤ) → i < length xs → q ≡ get_or xs i q
-      → list ≡ map (whole_at common) (map value (take i xs)) → z ≡ whole_at common (value q) → list ++ z ∷ [] ≡ map (whole_at common) (map value (take (i + 1) xs))
+  pub whole_more : (xs : List N) (i : ℕ) (q : N) (common : ℕ) (list : List ℤ) (z : ℤ)
+      → i < length xs → q ≡ get_or xs i q
+      → list ≡ map (whole_at common) (map value (take i xs)) → z ≡ whole_at common (value q)
+      → list ++ z ∷ [] ≡ map (whole_at common) (map value (take (i + 1) xs))
   whole_more xs i q common list z h e so_far is =
       ap₂ (λ (ys : List ℤ) (y : ℤ). ys ++ y ∷ []) so_far is
-      ∙ sym (map-both (whole_at common) (map value (take i xs)) (value q ∷ []))
+      ∙ sym (map-append (whole_at common) (map value (take i xs)) (value q ∷ []))
       ∙ ap (map (whole_at common)) (sym (first_more xs i q h e))
 
-  pub whole_wide : (xs : List N) (i : ℕ) (q : N) (limit common : ℕ) → i < length xs → q ≡ get_or xs i q → IsWideWhole limit (whole_at common (value q))
+  pub whole_wide : (xs : List N) (i : ℕ) (q : N) (limit common : ℕ) → i < length xs → q ≡ get_or xs i q
+      → IsWideWhole limit (whole_at common (value q))
       → Some_of (λ q. IsWideWhole limit (whole_at common q)) (map value xs)
   whole_wide [] i q limit common h e w = absurd (omega arith)
-  whole_wide (x ∷ xs) zero q limit common h e w = inl (subst (λ (y : N). IsWideWhole limit (whole_at common (value y))) e w)
+  whole_wide (x ∷ xs) zero q limit common h e w =
+      inl (subst (λ (y : N). IsWideWhole limit (whole_at common (value y))) e w)
   whole_wide (x ∷ xs) (suc i) q limit common h e w = inr (whole_wide xs i q limit common (omega arith) e w)
 
 pub each_more : (P : ℤ → Type 0) (list : List ℤ) (z : ℤ) → Each P list → P z → Each P (list ++ z ∷ [])
-each_more P list z h here = each_both P list (z ∷ []) h (here, tt)
+each_more P list z h here = each_append P list (z ∷ []) h (here, tt)
 
 -- ---- machine numbers
 -- a number above 0 that was cast
@@ -115,19 +122,26 @@ pub cast_back : (z : ℤ) (n : ℕ) → z ≡ pos n → n < 2 ^ 62 → nat_abs (
 cast_back z n e h = ap (λ x. nat_abs (to_z w64 (of_z w64 x))) e ∙ ap nat_abs (seen (pos n) h)
 
 -- ---- what is cleared
-pub clear_fits : (limit : ℕ) (qs : List Fraction) (common : ℕ) (r : Result (List ℤ) Stop) → common ≡ denominator qs → common ≤ limit
-    → IfOk r (λ list. list ≡ map (whole_at common) qs) → IfOk r (λ list. Each (λ a. nat_abs a ≤ limit) list) → OnOk r (IsWideCleared limit qs → ⊥)
+pub clear_fits : (limit : ℕ) (qs : List Fraction) (common : ℕ) (r : Result (List ℤ) Stop)
+    → common ≡ denominator qs → common ≤ limit
+    → IfOk r (λ list. list ≡ map (whole_at common) qs) → IfOk r (λ list. Each (λ a. nat_abs a ≤ limit) list)
+    → OnOk r (IsWideCleared limit qs → ⊥)
 clear_fits limit qs common (Err e) is within h k = tt
 clear_fits limit qs common (Ok list) is within h k = by
   where
-    none : (xs : List Fraction) (d : ℕ) → Each (λ a. nat_abs a ≤ limit) (map (whole_at d) xs) → Some_of (λ q. IsWideWhole limit (whole_at d q)) xs → ⊥
+    none : (xs : List Fraction) (d : ℕ) → Each (λ a. nat_abs a ≤ limit) (map (whole_at d) xs)
+        → Some_of (λ q. IsWideWhole limit (whole_at d q)) xs → ⊥
     none [] d f w = w
     none (x ∷ xs) d f (inl w) = let le : nat_abs (whole_at d x) ≤ limit = f.0 in omega arith
     none (x ∷ xs) d f (inr w) = none xs d f.1 w
 
     by : IsWideCleared limit qs → ⊥
     by (inl w) = omega arith
-    by (inr w) = none qs (denominator qs) (subst (λ d. Each (λ a. nat_abs a ≤ limit) (map (whole_at d) qs)) is (subst (λ (xs : List ℤ). Each (λ a. nat_abs a ≤ limit) xs) h k)) w
+    by (inr w) =
+        none qs (denominator qs)
+        (subst (λ d. Each (λ a. nat_abs a ≤ limit) (map (whole_at d) qs)) is
+        (subst (λ (xs : List ℤ). Each (λ a. nat_abs a ≤ limit) xs) h k)) w
 
-pub clear_wide : (limit : ℕ) (qs : List Fraction) (common : ℕ) → common ≡ denominator qs → Some_of (λ q. IsWideWhole limit (whole_at common q)) qs → IsWideCleared limit qs
+pub clear_wide : (limit : ℕ) (qs : List Fraction) (common : ℕ) → common ≡ denominator qs
+    → Some_of (λ q. IsWideWhole limit (whole_at common q)) qs → IsWideCleared limit qs
 clear_wide limit qs common is w = inr (subst (λ d. Some_of (λ q. IsWideWhole limit (whole_at d q)) qs) is w)

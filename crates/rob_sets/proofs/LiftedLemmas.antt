@@ -16,27 +16,32 @@ module _ (m : RobustModel) (s : Fraction) (columns : List Fraction) where
   abbrev RowHolds : SetRow → Type 0
   RowHolds row = dot (map of_int row.g) columns ≤ℚ s *ℚ of_int row.h
 
-  rows_in : (rows : List lifted.SetRow) → Each (WholeRowHolds m s columns) rows → Each RowHolds (map (cleared_row m) rows)
+  rows_in : (rows : List lifted.SetRow) → Each (WholeRowHolds m s columns) rows
+      → Each RowHolds (map (cleared_row m) rows)
   rows_in [] h = tt
   rows_in (r ∷ rs) h = (h.0.at_most, rows_in rs h.1)
 
-  rows_out : (rows : List lifted.SetRow) → Each RowHolds (map (cleared_row m) rows) → Each (WholeRowHolds m s columns) rows
+  rows_out : (rows : List lifted.SetRow) → Each RowHolds (map (cleared_row m) rows)
+      → Each (WholeRowHolds m s columns) rows
   rows_out [] h = tt
   rows_out (r ∷ rs) h = (record { at_most = h.0 }, rows_out rs h.1)
 
-pub covered : (m : RobustModel) (set : SetForm) (s : Fraction) (p : List Fraction) → IsSetForm m set → IsLifted m s p ↔ IsCovered m set s p
+pub covered : (m : RobustModel) (set : SetForm) (s : Fraction) (p : List Fraction) → IsSetForm m set
+    → IsLifted m s p ↔ IsCovered m set s p
 covered m set s p is = (
   λ h. record {
     lifts = h.lifts;
     count = h.count;
     numbers = h.numbers;
-    rows = subst (λ (rows : List SetRow). Each (RowHolds m s (p ++ h.lifts)) rows) (sym is.rows) (rows_in m s (p ++ h.lifts) (set_rows m) h.rows);
+    rows = subst (λ (rows : List SetRow). Each (RowHolds m s (p ++ h.lifts)) rows) (sym is.rows)
+        (rows_in m s (p ++ h.lifts) (set_rows m) h.rows);
   },
   λ h. record {
     lifts = h.lifts;
     count = h.count;
     numbers = h.numbers;
-    rows = rows_out m s (p ++ h.lifts) (set_rows m) (subst (λ (rows : List SetRow). Each (RowHolds m s (p ++ h.lifts)) rows) is.rows h.rows);
+    rows = rows_out m s (p ++ h.lifts) (set_rows m)
+        (subst (λ (rows : List SetRow). Each (RowHolds m s (p ++ h.lifts)) rows) is.rows h.rows);
   },
 )
 

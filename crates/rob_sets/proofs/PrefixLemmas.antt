@@ -22,12 +22,13 @@ use Rattle.rob_sets.specs.declared.error.Stop.TheVariants.{Wide as StopWide, Mem
 use Rattle.rob_sets.specs.declared.table.Table.{Table}
 use Rattle.rob_sets.proofs.NumberLemmas.{number_fits}
 use Rattle.rob_sets.proofs.RuleLemmas.{default_table}
-use Rattle.rob_sets.proofs.SubexpressionLemmas.{each_both, some_left, some_right, first_terms, first_terms-more, first_factors, first_factors-more, sum_table-with, product_table-with}
+use Rattle.rob_sets.proofs.SubexpressionLemmas.{some_left, some_right, first_terms, first_terms-more, first_factors, first_factors-more, sum_table-with, product_table-with}
+use Rattle.rob_meaning.proofs.EachLemmas.{each_append}
 
 -- ---- lists: some items, then one, then the rest
 module _ {A : Type 0} (xs ys zs : List A) (p : A) (e : xs ≡ ys ++ (p ∷ zs)) where
   pub each_from : (P : A → Type 0) → Each P ys → P p → Each P zs → Each P xs
-  each_from P h here rest = subst (λ (l : List A). Each P l) (sym e) (each_both P ys (p ∷ zs) h (here, rest))
+  each_from P h here rest = subst (λ (l : List A). Each P l) (sym e) (each_append P ys (p ∷ zs) h (here, rest))
 
   pub some_first : (P : A → Type 0) → Some_of P ys → Some_of P xs
   some_first P h = subst (λ (l : List A). Some_of P l) (sym e) (some_left P ys (p ∷ zs) h)
@@ -55,32 +56,42 @@ module _ {N : Type 0} (value : N → Fraction) (e : Expr N) where
   pub adaptive_in_is : (y S : ℕ) → e ≡ Is.AdaptiveIn y S → expression_of value e ≡ adaptive_in y S
   adaptive_in_is y S h = search (rules, the_lemmas)
 
-  pub sum_is : (ts us : List (Term N)) → e ≡ Is.Sum ts → us ≡ ts → expression_of value e ≡ sum (terms_of (map (signed_of value) us))
+  pub sum_is : (ts us : List (Term N)) → e ≡ Is.Sum ts → us ≡ ts
+      → expression_of value e ≡ sum (terms_of (map (signed_of value) us))
   sum_is ts us h same = search (rules, the_lemmas)
 
-  pub product_is : (fs gs : List (Expr N)) → e ≡ Is.Product fs → gs ≡ fs → expression_of value e ≡ product (factors_of (map (expression_of value) gs))
+  pub product_is : (fs gs : List (Expr N)) → e ≡ Is.Product fs → gs ≡ fs
+      → expression_of value e ≡ product (factors_of (map (expression_of value) gs))
   product_is fs gs h same = search (rules, the_lemmas)
 
-module _ {N : Type 0} (value : N → Fraction) (limit : ℕ) (fits : (x : N) → Fits limit (value x)) (one : 1 ≤ limit) (m : RobustModel) where
+module _ {N : Type 0} (value : N → Fraction) (limit : ℕ) (fits : (x : N) → Fits limit (value x))
+    (one : 1 ≤ limit) (m : RobustModel) where
   -- where a table holds an expression's coefficients, none of them is wide
-  pub none_wide : (t : Table N) (s : Expression) → ((k j : ℕ) → numbers_of value t k j ≡ table m s k j) → HasWideCoefficient limit m s → ⊥
-  none_wide t s h w = fits_not_wide limit (table m s w.0 w.1) (subst (Fits limit) (h w.0 w.1) (number_fits value limit fits one t w.0 w.1)) w.2
+  pub none_wide : (t : Table N) (s : Expression) → ((k j : ℕ) → numbers_of value t k j ≡ table m s k j)
+      → HasWideCoefficient limit m s → ⊥
+  none_wide t s h w =
+      fits_not_wide limit (table m s w.0 w.1)
+      (subst (Fits limit) (h w.0 w.1) (number_fits value limit fits one t w.0 w.1)) w.2
 
   -- an expression that is its only subexpression
   pub leaf : (y x : Expression) → y ≡ x → subexpressions x ≡ x ∷ [] → (r : Result (Table N) Stop)
-      → IfOk r (λ t. (k j : ℕ) → numbers_of value t k j ≡ table m x k j) → OnOk r (Each (λ s. HasWideCoefficient limit m s → ⊥) (subexpressions y))
+      → IfOk r (λ t. (k j : ℕ) → numbers_of value t k j ≡ table m x k j)
+      → OnOk r (Each (λ s. HasWideCoefficient limit m s → ⊥) (subexpressions y))
   leaf y x e alone (Ok t) h =
-      subst (λ (l : List Expression). Each (λ s. HasWideCoefficient limit m s → ⊥) l) (sym (ap subexpressions e ∙ alone)) (none_wide t x h, tt)
+      subst (λ (l : List Expression). Each (λ s. HasWideCoefficient limit m s → ⊥) l)
+      (sym (ap subexpressions e ∙ alone)) (none_wide t x h, tt)
   leaf y x e alone (Err d) h = tt
 
   -- the table of an expression, said of another one that it is
   pub table_along : (y x : Expression) → y ≡ x → (r : Result (Table N) Stop)
-      → IfOk r (λ t. (k j : ℕ) → numbers_of value t k j ≡ table m x k j) → IfOk r (λ t. (k j : ℕ) → numbers_of value t k j ≡ table m y k j)
+      → IfOk r (λ t. (k j : ℕ) → numbers_of value t k j ≡ table m x k j)
+      → IfOk r (λ t. (k j : ℕ) → numbers_of value t k j ≡ table m y k j)
   table_along y x e (Ok t) h = λ k j. h k j ∙ ap (λ (z : Expression). table m z k j) (sym e)
   table_along y x e (Err d) h = tt
 
   -- an adaptive variable in the default set
-  pub default_ok : (y : ℕ) (r : Result (Table N) Stop) → IfOk r (λ t. (k j : ℕ) → numbers_of value t k j ≡ table m (adaptive_in y 0) k j)
+  pub default_ok : (y : ℕ) (r : Result (Table N) Stop)
+      → IfOk r (λ t. (k j : ℕ) → numbers_of value t k j ≡ table m (adaptive_in y 0) k j)
       → IfOk r (λ t. (k j : ℕ) → numbers_of value t k j ≡ table m (adaptive y) k j)
   default_ok y (Ok t) h = λ k j. h k j ∙ default_table m y k j
   default_ok y (Err d) h = tt
@@ -96,34 +107,44 @@ module _ {N : Type 0} (value : N → Fraction) (limit : ℕ) (fits : (x : N) →
         (inl (h.1.0, h.1.1, subst (IsWide limit) (default_table m y h.1.0 h.1.1) h.1.2)),
   )
 
-  pub parts_along : (y x : Expression) → y ≡ x → (r : Result (Table N) Stop) → OnOk r (Each (λ s. HasWideCoefficient limit m s → ⊥) (subexpressions x))
+  pub parts_along : (y x : Expression) → y ≡ x → (r : Result (Table N) Stop)
+      → OnOk r (Each (λ s. HasWideCoefficient limit m s → ⊥) (subexpressions x))
       → OnOk r (Each (λ s. HasWideCoefficient limit m s → ⊥) (subexpressions y))
-  parts_along y x e (Ok t) h = subst (λ (z : Expression). Each (λ s. HasWideCoefficient limit m s → ⊥) (subexpressions z)) (sym e) h
+  parts_along y x e (Ok t) h =
+      subst (λ (z : Expression). Each (λ s. HasWideCoefficient limit m s → ⊥) (subexpressions z)) (sym e) h
   parts_along y x e (Err d) h = tt
 
   -- a 1 in the row of a parameter, or in the column of a variable
-  pub parameter_table : (r : Result (Table N) Stop) (d : ℕ) → IfOk r (λ t. (k j : ℕ) → numbers_of value t k j ≡ single (d + 1) 0 k j)
+  pub parameter_table : (r : Result (Table N) Stop) (d : ℕ)
+      → IfOk r (λ t. (k j : ℕ) → numbers_of value t k j ≡ single (d + 1) 0 k j)
       → IfOk r (λ t. (k j : ℕ) → numbers_of value t k j ≡ table m (parameter d) k j)
   parameter_table (Ok t) d h = λ k j. h k j ∙ ap (λ n. single n 0 k j) (add-one d)
   parameter_table (Err e) d h = tt
 
-  pub variable_table : (r : Result (Table N) Stop) (v : ℕ) → IfOk r (λ t. (k j : ℕ) → numbers_of value t k j ≡ single 0 (v + 1) k j)
+  pub variable_table : (r : Result (Table N) Stop) (v : ℕ)
+      → IfOk r (λ t. (k j : ℕ) → numbers_of value t k j ≡ single 0 (v + 1) k j)
       → IfOk r (λ t. (k j : ℕ) → numbers_of value t k j ≡ table m (variable v) k j)
   variable_table (Ok t) v h = λ k j. h k j ∙ ap (λ n. single 0 n k j) (add-one v)
   variable_table (Err e) v h = tt
 
   -- ---- one term or one factor more
-  pub sum_more : (ts : List (Term N)) (i : ℕ) (t : Term N) → i < length ts → t ≡ get_or ts i t → (so_far part next : ℕ → ℕ → Fraction)
-      → ((k j : ℕ) → so_far k j ≡ sum_table m (first_terms value ts i) k j) → ((k j : ℕ) → part k j ≡ table m (expression_of value t.inner) k j)
-      → ((k j : ℕ) → next k j ≡ so_far k j +ℚ signed t.minus (part k j)) → (k j : ℕ) → next k j ≡ sum_table m (first_terms value ts (i + 1)) k j
+  pub sum_more : (ts : List (Term N)) (i : ℕ) (t : Term N) → i < length ts → t ≡ get_or ts i t
+      → (so_far part next : ℕ → ℕ → Fraction)
+      → ((k j : ℕ) → so_far k j ≡ sum_table m (first_terms value ts i) k j)
+      → ((k j : ℕ) → part k j ≡ table m (expression_of value t.inner) k j)
+      → ((k j : ℕ) → next k j ≡ so_far k j +ℚ signed t.minus (part k j)) → (k j : ℕ)
+      → next k j ≡ sum_table m (first_terms value ts (i + 1)) k j
   sum_more ts i t h e so_far part next a b c k j =
       c k j ∙ ap₂ (λ u v. u +ℚ signed t.minus v) (a k j) (b k j)
       ∙ sym (sum_table-with m (first_terms value ts i) t.minus (expression_of value t.inner) k j)
       ∙ ap (λ x. sum_table m x k j) (sym (first_terms-more value ts i t h e))
 
-  pub product_more : (fs : List (Expr N)) (i : ℕ) (f : Expr N) → i < length fs → f ≡ get_or fs i f → (so_far part next : ℕ → ℕ → Fraction)
-      → ((k j : ℕ) → so_far k j ≡ product_table m (first_factors value fs i) k j) → ((k j : ℕ) → part k j ≡ table m (expression_of value f) k j)
-      → ((k j : ℕ) → next k j ≡ table_times so_far part k j) → (k j : ℕ) → next k j ≡ product_table m (first_factors value fs (i + 1)) k j
+  pub product_more : (fs : List (Expr N)) (i : ℕ) (f : Expr N) → i < length fs → f ≡ get_or fs i f
+      → (so_far part next : ℕ → ℕ → Fraction)
+      → ((k j : ℕ) → so_far k j ≡ product_table m (first_factors value fs i) k j)
+      → ((k j : ℕ) → part k j ≡ table m (expression_of value f) k j)
+      → ((k j : ℕ) → next k j ≡ table_times so_far part k j) → (k j : ℕ)
+      → next k j ≡ product_table m (first_factors value fs (i + 1)) k j
   product_more fs i f h e so_far part next a b c k j =
       c k j ∙ ap₂ (λ (u v : ℕ → ℕ → Fraction). table_times u v k j) (λ n x y. a x y n) (λ n x y. b x y n)
       ∙ sym (product_table-with m (first_factors value fs i) (expression_of value f) k j)

@@ -1,46 +1,50 @@
 -- Set rows as lists of numbers.
-use Rattle.std.specs.Prelude.{◌≡◌, ℕ, zero, suc, ◌+◌, List, [], ◌∷◌, ◌++◌, map, length, refl}
+use Rattle.std.specs.Prelude.{◌≡◌, ℕ, ◌+◌, List, [], ◌∷◌, ◌++◌, map, length}
 use Rattle.std.proofs.Common.{sym, ◌∙◌, ap, ap₂, add-one, append_assoc}
 use Rattle.rob_algebra.specs.Fraction.{Fraction}
-use Rattle.std.proofs.lemmas.List.{length-map}
+use Rattle.std.proofs.lemmas.List.{length-map, map-append}
 use Rattle.rob_meaning.specs.Coefficients.{Table}
 use Rattle.rob_meaning.specs.Places.{tabulate}
 use Rattle.rob_meaning.specs.SetRows.{coefficients, lift_count}
 use Rattle.rob_model.specs.View.{parameter_of, robust}
 use Rattle.rob_model.specs.declared.model.Model.{Model}
 use Rattle.rob_sets.specs.Appending.{row_of}
-
-tabulate-suc : {A : Type 0} (n : ℕ) (f : ℕ → A) → tabulate (suc n) f ≡ tabulate n f ++ f n ∷ []
-tabulate-suc zero f = refl
-tabulate-suc (suc n) f = ap (λ xs. f zero ∷ xs) (tabulate-suc n (λ k. f (suc k)))
+use Rattle.rob_meaning.proofs.TabulateLemmas.{tabulate-more as tabulate-suc}
 
 pub tabulate-more : {A : Type 0} (n : ℕ) (f : ℕ → A) → tabulate (n + 1) f ≡ tabulate n f ++ f n ∷ []
 tabulate-more n f = ap (λ k. tabulate k f) (add-one n) ∙ tabulate-suc n f
 
-pub map-append : {A B : Type 0} (f : A → B) (xs ys : List A) → map f (xs ++ ys) ≡ map f xs ++ map f ys
-map-append f [] ys = refl
-map-append f (x ∷ xs) ys = ap (λ zs. f x ∷ zs) (map-append f xs ys)
-
 module _ {N : Type 0} (value : N → Fraction) where
-  pub pushed : (items new : List N) (x : N) (ys : List Fraction) (y : Fraction) → map value items ≡ ys → new ≡ items ++ x ∷ [] → value x ≡ y
+  pub pushed : (items new : List N) (x : N) (ys : List Fraction) (y : Fraction) → map value items ≡ ys
+      → new ≡ items ++ x ∷ [] → value x ≡ y
       → map value new ≡ ys ++ y ∷ []
-  pushed items new x ys y h e is = ap (map value) e ∙ map-append value items (x ∷ []) ∙ ap₂ (λ (zs : List Fraction) (z : Fraction). zs ++ z ∷ []) h is
+  pushed items new x ys y h e is =
+      ap (map value) e ∙ map-append value items (x ∷ [])
+      ∙ ap₂ (λ (zs : List Fraction) (z : Fraction). zs ++ z ∷ []) h is
 
-  pub parameter_more : (items new : List N) (x : N) (n : ℕ) (first : Fraction) (f : ℕ → Fraction) → map value items ≡ first ∷ tabulate n f
+  pub parameter_more : (items new : List N) (x : N) (n : ℕ) (first : Fraction) (f : ℕ → Fraction)
+      → map value items ≡ first ∷ tabulate n f
       → new ≡ items ++ x ∷ [] → value x ≡ f n → map value new ≡ first ∷ tabulate (n + 1) f
   parameter_more items new x n first f h e is =
-      pushed items new x (first ∷ tabulate n f) (f n) h e is ∙ ap (λ (zs : List Fraction). first ∷ zs) (sym (tabulate-more n f))
+      pushed items new x (first ∷ tabulate n f) (f n) h e is
+      ∙ ap (λ (zs : List Fraction). first ∷ zs) (sym (tabulate-more n f))
 
-  pub lift_more : (items new : List N) (x : N) (n : ℕ) (before : List Fraction) (first : Fraction) (f : ℕ → Fraction) → map value items ≡ first ∷ (before ++ tabulate n f)
+  pub lift_more : (items new : List N) (x : N) (n : ℕ) (before : List Fraction) (first : Fraction) (f : ℕ → Fraction)
+      → map value items ≡ first ∷ (before ++ tabulate n f)
       → new ≡ items ++ x ∷ [] → value x ≡ f n → map value new ≡ first ∷ (before ++ tabulate (n + 1) f)
   lift_more items new x n before first f h e is =
       pushed items new x (first ∷ (before ++ tabulate n f)) (f n) h e is
-      ∙ ap (λ (zs : List Fraction). first ∷ zs) (append_assoc before (tabulate n f) (f n ∷ []) ∙ ap (λ (zs : List Fraction). before ++ zs) (sym (tabulate-more n f)))
+      ∙ ap (λ (zs : List Fraction). first ∷ zs)
+      (append_assoc before (tabulate n f) (f n ∷ [])
+      ∙ ap (λ (zs : List Fraction). before ++ zs) (sym (tabulate-more n f)))
 
   -- the numbers of a row are its right side and its coefficients
-  pub row_is : (model : Model N) (f : Table) (parameters lifts : ℕ) (numbers : List N) → parameters ≡ length model.params
+  pub row_is : (model : Model N) (f : Table) (parameters lifts : ℕ) (numbers : List N)
+      → parameters ≡ length model.params
       → lifts ≡ lift_count (robust value model).set_lines
-      → map value numbers ≡ (row_of f).limit ∷ (tabulate parameters (row_of f).on_parameters ++ tabulate lifts (row_of f).on_lifts)
+      → map value numbers ≡ (row_of f).limit
+      ∷ (tabulate parameters (row_of f).on_parameters ++ tabulate lifts (row_of f).on_lifts)
       → map value numbers ≡ (row_of f).limit ∷ coefficients (robust value model) (row_of f)
   row_is model f parameters lifts numbers p l h =
-      h ∙ ap₂ (λ a b. (row_of f).limit ∷ (tabulate a (row_of f).on_parameters ++ tabulate b (row_of f).on_lifts)) (p ∙ sym (length-map model.params (parameter_of value))) l
+      h ∙ ap₂ (λ a b. (row_of f).limit ∷ (tabulate a (row_of f).on_parameters ++ tabulate b (row_of f).on_lifts))
+      (p ∙ sym (length-map model.params (parameter_of value))) l

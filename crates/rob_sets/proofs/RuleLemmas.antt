@@ -15,22 +15,27 @@ use Rattle.std.proofs.lemmas.Grind.{common_steps}
 use Rattle.rob_model.specs.View.{robust, adaptive_of}
 use Rattle.rob_model.specs.declared.model.Adaptive.{Adaptive}
 use Rattle.rob_model.specs.declared.model.Model.{Model}
-use Rattle.rob_sets.proofs.CellLemmas.{unit-other, single-same, times_zero, add_zero}
+use Rattle.rob_sets.proofs.CellLemmas.{unit-other, single-same}
+use Rattle.rob_model.proofs.ValueLemmas.{add-zero_ℚ}
+use Rattle.rob_meaning.proofs.TableLemmas.{times_zero}
 
 -- a rule has no number in an earlier column
 rule_later : (ds : List ℕ) (column k j : ℕ) → j ≤ column → rule_table ds column k j ≡ 0ℚ
 rule_later [] column k j h = refl
 rule_later (d ∷ ds) column k j h =
-    ap₂ ◌+ℚ◌ (ap (λ u. unit (suc d) k *ℚ u) (unit-other (suc column) j (λ e. absurd (omega arith))) ∙ times_zero (unit (suc d) k))
+    ap₂ ◌+ℚ◌ (ap (λ u. unit (suc d) k *ℚ u) (unit-other (suc column) j (λ e. absurd (omega arith)))
+    ∙ times_zero (unit (suc d) k))
     (rule_later ds (suc column) k j (omega arith))
-    ∙ add_zero 0ℚ
+    ∙ add-zero_ℚ 0ℚ
 
 -- the table of the parameters that are left
 left_table : (on : List ℕ) (i column k j : ℕ) → i < length on
-    → rule_table (drop i on) column k j ≡ single (get_or on i 0 + 1) (column + 1) k j +ℚ rule_table (drop (i + 1) on) (column + 1) k j
+    → rule_table (drop i on) column k j ≡ single (get_or on i 0 + 1) (column + 1) k j
+    +ℚ rule_table (drop (i + 1) on) (column + 1) k j
 left_table on i column k j h =
     ap (λ (ds : List ℕ). rule_table ds column k j) (drop-cons on i 0 h)
-    ∙ ap₂ (λ r c. single r c k j +ℚ rule_table (drop (suc i) on) c k j) (sym (add-one (get_or on i 0))) (sym (add-one column))
+    ∙ ap₂ (λ r c. single r c k j +ℚ rule_table (drop (suc i) on) c k j)
+    (sym (add-one (get_or on i 0))) (sym (add-one column))
     ∙ ap (λ n. single (get_or on i 0 + 1) (column + 1) k j +ℚ rule_table (drop n on) (column + 1) k j) (sym (add-one i))
 
 pub rule_step : (on : List ℕ) (i column k j : ℕ) (one old new total : Fraction) → i < length on → one ≡ 1ℚ
@@ -38,7 +43,8 @@ pub rule_step : (on : List ℕ) (i column k j : ℕ) (one old new total : Fracti
     → new +ℚ rule_table (drop (i + 1) on) (column + 1) k j ≡ total
 rule_step on i column k j one old new total h is so_far e =
     ap (λ u. u +ℚ rule_table (drop (i + 1) on) (column + 1) k j)
-    (e ∙ ap (λ u. old +ℚ u) (ap (λ u. u *ℚ single (get_or on i 0 + 1) (column + 1) k j) is ∙ Q.ℚ-one-mul (single (get_or on i 0 + 1) (column + 1) k j)))
+    (e ∙ ap (λ u. old +ℚ u) (ap (λ u. u *ℚ single (get_or on i 0 + 1) (column + 1) k j) is
+    ∙ Q.ℚ-one-mul (single (get_or on i 0 + 1) (column + 1) k j)))
     ∙ Q.ℚ-add_assoc old (single (get_or on i 0 + 1) (column + 1) k j) (rule_table (drop (i + 1) on) (column + 1) k j)
     ∙ ap (λ u. old +ℚ u) (sym (left_table on i column k j h))
     ∙ so_far
@@ -48,27 +54,32 @@ pub rule_at : (on : List ℕ) (i column : ℕ) (one old total : Fraction) → i 
 rule_at on i column one old total h is so_far =
     ap (λ u. old +ℚ u)
     (is ∙ sym (left_table on i column (get_or on i 0 + 1) (column + 1) h
-    ∙ ap₂ ◌+ℚ◌ (single-same (get_or on i 0 + 1) (column + 1)) (rule_later (drop (i + 1) on) (column + 1) (get_or on i 0 + 1) (column + 1) (omega arith))
-    ∙ add_zero 1ℚ))
+    ∙ ap₂ ◌+ℚ◌ (single-same (get_or on i 0 + 1) (column + 1))
+    (rule_later (drop (i + 1) on) (column + 1) (get_or on i 0 + 1) (column + 1) (omega arith))
+    ∙ add-zero_ℚ 1ℚ))
     ∙ so_far
 
-pub rule_end : (on : List ℕ) (i column k j : ℕ) (old total : Fraction) → length on ≤ i → old +ℚ rule_table (drop i on) column k j ≡ total → old ≡ total
+pub rule_end : (on : List ℕ) (i column k j : ℕ) (old total : Fraction) → length on ≤ i
+    → old +ℚ rule_table (drop i on) column k j ≡ total → old ≡ total
 rule_end on i column k j old total h so_far =
-    sym (ap (λ (ds : List ℕ). old +ℚ rule_table ds column k j) (past on i h) ∙ add_zero old) ∙ so_far
+    sym (ap (λ (ds : List ℕ). old +ℚ rule_table ds column k j) (past on i h) ∙ add-zero_ℚ old) ∙ so_far
   where
     past : (xs : List ℕ) (i : ℕ) → length xs ≤ i → drop i xs ≡ []
     past xs i h = grind (arith, common_steps)
 
 -- ---- the list of an adaptive variable
 module _ {N : Type 0} (value : N → Fraction) where
-  list_at : (ys : List (Adaptive N)) (k : ℕ) (y : Adaptive N) → k < length ys → y ≡ get_or ys k y → y.on ≡ list_in (map (adaptive_of value) ys) k
+  list_at : (ys : List (Adaptive N)) (k : ℕ) (y : Adaptive N) → k < length ys → y ≡ get_or ys k y
+      → y.on ≡ list_in (map (adaptive_of value) ys) k
   list_at [] k y h e = absurd (omega arith)
   list_at (z ∷ ys) zero y h e = ap (λ (w : Adaptive N). w.on) e
   list_at (z ∷ ys) (suc k) y h e = list_at ys k y (omega arith) e
 
-  pub list_is : (m : Model N) (k : ℕ) (y : Adaptive N) (ys : List (Adaptive N)) (on : List ℕ) → ys ≡ m.adaptives → k < length m.adaptives
+  pub list_is : (m : Model N) (k : ℕ) (y : Adaptive N) (ys : List (Adaptive N)) (on : List ℕ) → ys ≡ m.adaptives
+      → k < length m.adaptives
       → y ≡ get_or ys k y → on ≡ y.on → on ≡ list_of (robust value m) k
-  list_is m k y ys on same h is on_is = on_is ∙ list_at m.adaptives k y h (is ∙ ap (λ (zs : List (Adaptive N)). get_or zs k y) same)
+  list_is m k y ys on same h is on_is =
+      on_is ∙ list_at m.adaptives k y h (is ∙ ap (λ (zs : List (Adaptive N)). get_or zs k y) same)
 
   -- its columns are among the first 600, and so is the variable's
   pub rule_few : (m : Model N) (k : ℕ) → k < length m.adaptives → column_count (robust value m) ≤ most_columns
@@ -80,8 +91,13 @@ module _ {N : Type 0} (value : N → Fraction) where
       get_back (y ∷ ys) zero h = (y, refl)
       get_back (y ∷ ys) (suc k) h = get_back ys k (omega arith)
 
-      by : ((y : Adaptive N) × (y ≡ get_or m.adaptives k y)) → column_of (robust value m) k + 1 + length (list_of (robust value m) k) ≤ most_columns
-      by p = omega (arith, rule_fits value m k p.0 p.0.on (column_of (robust value m) k) h p.1 refl refl few, ap length (list_at m.adaptives k p.0 h p.1))
+      by : ((y : Adaptive N) × (y ≡ get_or m.adaptives k y))
+          → column_of (robust value m) k + 1 + length (list_of (robust value m) k) ≤ most_columns
+      by p = omega (
+        arith,
+        rule_fits value m k p.0 p.0.on (column_of (robust value m) k) h p.1 refl refl few,
+        ap length (list_at m.adaptives k p.0 h p.1),
+      )
 
 -- ---- the parameters of a set
 -- the row of a list's parameter
@@ -91,7 +107,8 @@ joint_row m S w on i e h =
     ap (λ n. n + 1) (get_or-map (joint_number m S) on i 0 0 h ∙ ap (λ n. S * n + get_or on i 0) (sym e))
 
 -- it is among the joint parameters
-pub joint_below : (m : RobustModel) (S k : ℕ) → S < set_count m → k < written_count m → S * written_count m + k < length m.parameters
+pub joint_below : (m : RobustModel) (S k : ℕ) → S < set_count m → k < written_count m
+    → S * written_count m + k < length m.parameters
 joint_below m S k some small =
     omega (
       arith,
@@ -107,15 +124,18 @@ map_same m S on = length-map on (joint_number m S)
 default_list : (m : RobustModel) (ks : List ℕ) → map (joint_number m 0) ks ≡ ks
 default_list m [] = refl
 default_list m (k ∷ ks) =
-    ap₂ (λ (x : ℕ) (xs : List ℕ). x ∷ xs) (let e : 0 * written_count m + k ≡ k = omega (arith, zero-mul (written_count m)) in e) (default_list m ks)
+    ap₂ (λ (x : ℕ) (xs : List ℕ). x ∷ xs) (let e : 0 * written_count m + k ≡ k =
+    omega (arith, zero-mul (written_count m)) in e) (default_list m ks)
 
 -- in the default set the parameters are the list's
 pub default_table : (m : RobustModel) (y k j : ℕ) → table m (adaptive_in y 0) k j ≡ table m (adaptive y) k j
 default_table m y k j =
-    ap (λ (ds : List ℕ). single 0 (suc (column_of m y)) k j +ℚ rule_table ds (suc (column_of m y)) k j) (default_list m (list_of m y))
+    ap (λ (ds : List ℕ). single 0 (suc (column_of m y)) k j +ℚ rule_table ds (suc (column_of m y)) k j)
+    (default_list m (list_of m y))
 
 -- what is true of the parameters of each list
-pub each_list : (P : ℕ → Type 0) (ys : List AdaptiveVariable) (k : ℕ) → Each (λ (y : AdaptiveVariable). Each P y.on) ys → Each P (list_in ys k)
+pub each_list : (P : ℕ → Type 0) (ys : List AdaptiveVariable) (k : ℕ)
+    → Each (λ (y : AdaptiveVariable). Each P y.on) ys → Each P (list_in ys k)
 each_list P [] k h = tt
 each_list P (y ∷ ys) zero h = h.0
 each_list P (y ∷ ys) (suc k) h = each_list P ys k h.1

@@ -13,30 +13,37 @@ use Rattle.rob_sets.specs.FirstWide.{Judged}
 use Rattle.rob_sets.specs.SetForm.{judged_rows, judged_sides, judged_statements}
 use Rattle.rob_sets.specs.declared.error.ElabErr.{ElabErr}
 use Rattle.rob_sets.specs.declared.set_form.SetRow.{SetRow}
-use Rattle.rob_sets.proofs.BudgetLemmas.{members_many}
 use Rattle.rob_sets.proofs.PartedLemmas.{Parted}
 use Rattle.rob_sets.proofs.ProgressLemmas.{append-nil, length-both}
+use Rattle.rob_meaning.proofs.SetRowLemmas.{length-member_rows}
 
-pub appends_along : (limit : ℕ) (m : RobustModel) (xs ys : List lifted.SetRow) (js ks : List Judged) (a b : List SetRow) (start now : ℕ) (r : Result (Unit {0}) ElabErr)
+pub appends_along : (limit : ℕ) (m : RobustModel) (xs ys : List lifted.SetRow) (js ks : List Judged) (a b : List SetRow)
+    (start now : ℕ) (r : Result (Unit {0}) ElabErr)
     → xs ≡ ys → js ≡ ks → Appends limit m ys ks a b start now r → Appends limit m xs js a b start now r
 appends_along limit m xs ys js ks a b start now r e f h =
-    subst (λ (l : List lifted.SetRow). Appends limit m l js a b start now r) (sym e) (subst (λ (l : List Judged). Appends limit m ys l a b start now r) (sym f) h)
+    subst (λ (l : List lifted.SetRow). Appends limit m l js a b start now r) (sym e)
+    (subst (λ (l : List Judged). Appends limit m ys l a b start now r) (sym f) h)
 
 module _ (m : RobustModel) where
   -- ---- one statement
-  pub line_rows : (t : ℕ) (l : Expression) (rel : Relation) (r : Expression) → statement_rows m t (line l rel r ∷ []) ≡ map (expression_row m) (sides rel l r)
+  pub line_rows : (t : ℕ) (l : Expression) (rel : Relation) (r : Expression)
+      → statement_rows m t (line l rel r ∷ []) ≡ map (expression_row m) (sides rel l r)
   line_rows t l rel r = append-nil (map (expression_row m) (sides rel l r))
 
-  pub line_judged : (i t n : ℕ) (l : Expression) (rel : Relation) (r : Expression) → judged_statements m i t n (line l rel r ∷ []) ≡ judged_sides m i n (sides rel l r)
+  pub line_judged : (i t n : ℕ) (l : Expression) (rel : Relation) (r : Expression)
+      → judged_statements m i t n (line l rel r ∷ []) ≡ judged_sides m i n (sides rel l r)
   line_judged i t n l rel r = append-nil (judged_sides m i n (sides rel l r))
 
   -- ---- a statement and those behind it
-  pub rows-cons : (t : ℕ) (x : SetLine) (xs : List SetLine) → statement_rows m t (x ∷ xs) ≡ statement_rows m t (x ∷ []) ++ statement_rows m (t + lift_count (x ∷ [])) xs
+  pub rows-cons : (t : ℕ) (x : SetLine) (xs : List SetLine)
+      → statement_rows m t (x ∷ xs) ≡ statement_rows m t (x ∷ []) ++ statement_rows m (t + lift_count (x ∷ [])) xs
   rows-cons t (line l rel r) xs =
-      ap₂ (λ (a b : List lifted.SetRow). a ++ b) (sym (line_rows t l rel r)) (ap (λ n. statement_rows m n xs) (let e : t ≡ t + 0 = omega arith in e))
+      ap₂ (λ (a b : List lifted.SetRow). a ++ b) (sym (line_rows t l rel r))
+      (ap (λ n. statement_rows m n xs) (let e : t ≡ t + 0 = omega arith in e))
   rows-cons t (budget limit hs) xs =
       sym (append_assoc (member_rows t hs) (budget_row t limit hs ∷ []) (statement_rows m (length hs + t) xs))
-      ∙ ap (λ n. (member_rows t hs ++ budget_row t limit hs ∷ []) ++ statement_rows m n xs) (let e : length hs + t ≡ t + (length hs + 0) = omega arith in e)
+      ∙ ap (λ n. (member_rows t hs ++ budget_row t limit hs ∷ []) ++ statement_rows m n xs)
+      (let e : length hs + t ≡ t + (length hs + 0) = omega arith in e)
 
   sides_many : (rel : Relation) (l r : Expression) → length (sides rel l r) ≤ 2
   sides_many at_most l r = omega arith
@@ -44,19 +51,24 @@ module _ (m : RobustModel) where
   sides_many equal l r = omega arith
 
   pub judged-cons : (i t n : ℕ) (x : SetLine) (xs : List SetLine) → judged_statements m i t n (x ∷ xs)
-      ≡ judged_statements m i t n (x ∷ []) ++ judged_statements m (i + 1) (t + lift_count (x ∷ [])) (n + length (statement_rows m t (x ∷ []))) xs
+      ≡ judged_statements m i t n (x ∷ [])
+      ++ judged_statements m (i + 1) (t + lift_count (x ∷ [])) (n + length (statement_rows m t (x ∷ []))) xs
   judged-cons i t n (line l rel r) xs =
       ap₂ (λ (a b : List Judged). a ++ b) (sym (line_judged i t n l rel r))
-      (ap₂ (λ j k. judged_statements m j k (length (sides rel l r) + n) xs) (sym (add-one i)) (let e : t ≡ t + 0 = omega arith in e)
+      (ap₂ (λ j k. judged_statements m j k (length (sides rel l r) + n) xs) (sym (add-one i))
+      (let e : t ≡ t + 0 = omega arith in e)
       ∙ ap (λ k. judged_statements m (i + 1) (t + 0) k xs)
       (let e : length (sides rel l r) + n ≡ n + length (statement_rows m t (line l rel r ∷ [])) =
       omega (arith, ap length (line_rows t l rel r), length-map (sides rel l r) (expression_row m)) in e))
   judged-cons i t n (budget limit hs) xs =
-      ap₂ (λ (a b : List Judged). a ++ b) (sym (append-nil (judged_rows m n (member_rows t hs ++ budget_row t limit hs ∷ []))))
-      (ap₂ (λ j k. judged_statements m j k (length (member_rows t hs ++ budget_row t limit hs ∷ []) + n) xs) (sym (add-one i))
+      ap₂ (λ (a b : List Judged). a ++ b)
+      (sym (append-nil (judged_rows m n (member_rows t hs ++ budget_row t limit hs ∷ []))))
+      (ap₂ (λ j k. judged_statements m j k (length (member_rows t hs ++ budget_row t limit hs ∷ []) + n) xs)
+      (sym (add-one i))
       (let e : length hs + t ≡ t + (length hs + 0) = omega arith in e)
       ∙ ap (λ k. judged_statements m (i + 1) (t + (length hs + 0)) k xs)
-      (let e : length (member_rows t hs ++ budget_row t limit hs ∷ []) + n ≡ n + length (member_rows t hs ++ budget_row t limit hs ∷ []) = omega arith in e))
+      (let e : length (member_rows t hs ++ budget_row t limit hs ∷ []) + n
+      ≡ n + length (member_rows t hs ++ budget_row t limit hs ∷ []) = omega arith in e))
 
   pub lifts-cons : (x : SetLine) (xs : List SetLine) → lift_count (x ∷ xs) ≡ lift_count (x ∷ []) + lift_count xs
   lifts-cons (line l rel r) xs = omega arith
@@ -73,21 +85,32 @@ module _ (m : RobustModel) where
         statements_many t xs,
       )
   statements_many t (budget limit hs ∷ xs) =
-      omega (arith, length-both (member_rows t hs) (budget_row t limit hs ∷ statement_rows m (length hs + t) xs), members_many t hs, statements_many (length hs + t) xs)
+      omega (
+        arith,
+        length-both (member_rows t hs) (budget_row t limit hs ∷ statement_rows m (length hs + t) xs),
+        length-member_rows t hs,
+        statements_many (length hs + t) xs,
+      )
 
 -- ---- those that are left
-module _ (m : RobustModel) {N : Type 0} (f : SetLineData N → SetLine) (xs : List (SetLineData N)) (i t k : ℕ) {x : SetLineData N}
+module _ (m : RobustModel) {N : Type 0} (f : SetLineData N → SetLine) (xs : List (SetLineData N))
+    (i t k : ℕ) {x : SetLineData N}
     (at : drop i xs ≡ x ∷ drop (i + 1) xs) (more : k ≡ t + lift_count (f x ∷ [])) where
-  pub statements_at : statement_rows m t (map f (drop i xs)) ≡ statement_rows m t (f x ∷ []) ++ statement_rows m k (map f (drop (i + 1) xs))
+  pub statements_at : statement_rows m t (map f (drop i xs))
+      ≡ statement_rows m t (f x ∷ []) ++ statement_rows m k (map f (drop (i + 1) xs))
   statements_at =
-      ap (λ (ys : List (SetLineData N)). statement_rows m t (map f ys)) at ∙ rows-cons m t (f x) (map f (drop (i + 1) xs))
+      ap (λ (ys : List (SetLineData N)). statement_rows m t (map f ys)) at
+      ∙ rows-cons m t (f x) (map f (drop (i + 1) xs))
       ∙ ap (λ n. statement_rows m t (f x ∷ []) ++ statement_rows m n (map f (drop (i + 1) xs))) (sym more)
 
-  pub judged_at : (n r s : ℕ) → s ≡ r + length (statement_rows m t (f x ∷ [])) → Parted (judged_statements m n t r (map f (drop i xs)))
+  pub judged_at : (n r s : ℕ) → s ≡ r + length (statement_rows m t (f x ∷ []))
+      → Parted (judged_statements m n t r (map f (drop i xs)))
       (judged_statements m n t r (f x ∷ [])) (judged_statements m (n + 1) k s (map f (drop (i + 1) xs)))
   judged_at n r s rows = record {
-    is = ap (λ (ys : List (SetLineData N)). judged_statements m n t r (map f ys)) at ∙ judged-cons m n t r (f x) (map f (drop (i + 1) xs))
-        ∙ ap₂ (λ a b. judged_statements m n t r (f x ∷ []) ++ judged_statements m (n + 1) a b (map f (drop (i + 1) xs))) (sym more) (sym rows);
+    is = ap (λ (ys : List (SetLineData N)). judged_statements m n t r (map f ys)) at
+        ∙ judged-cons m n t r (f x) (map f (drop (i + 1) xs))
+        ∙ ap₂ (λ a b. judged_statements m n t r (f x ∷ []) ++ judged_statements m (n + 1) a b (map f (drop (i + 1) xs)))
+        (sym more) (sym rows);
   }
 
   pub lifts_at : lift_count (map f (drop i xs)) ≡ lift_count (f x ∷ []) + lift_count (map f (drop (i + 1) xs))

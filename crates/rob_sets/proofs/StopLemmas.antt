@@ -14,28 +14,34 @@ stops (Err Wide) h = h
 stops (Err Memory) h = tt
 
 -- a cause of a cause
-pub stops_more : {T cause other : Type 0} → (r : Result T Stop) (e d : Stop) → r ≡ Err d → d ≡ e → (other → cause) → StopsFor other e → IfErr r (StopsFor cause)
-stops_more {T} {cause} {other} r e d is same f h = subst (λ (x : Result T Stop). IfErr x (StopsFor cause)) (sym is) (subst (StopsFor cause) (sym same) (by e h))
+pub stops_more : {T cause other : Type 0} → (r : Result T Stop) (e d : Stop) → r ≡ Err d → d ≡ e → (other → cause)
+    → StopsFor other e → IfErr r (StopsFor cause)
+stops_more {T} {cause} {other} r e d is same f h =
+    subst (λ (x : Result T Stop). IfErr x (StopsFor cause)) (sym is) (subst (StopsFor cause) (sym same) (by e h))
   where
     by : (e : Stop) → StopsFor other e → StopsFor cause e
     by Wide h = f h
     by Memory h = tt
 
 -- a stop for width has no cause, so it is for memory
-pub only_memory : {T cause : Type 0} → (r : Result T Stop) (e d : Stop) → r ≡ Err d → d ≡ e → (cause → ⊥) → StopsFor cause e → IfErr r (λ stop. stop ≡ Memory)
-only_memory {T} {cause} r e d is same f h = subst (λ (x : Result T Stop). IfErr x (λ stop. stop ≡ Memory)) (sym is) (same ∙ by e h)
+pub only_memory : {T cause : Type 0} → (r : Result T Stop) (e d : Stop) → r ≡ Err d → d ≡ e → (cause → ⊥)
+    → StopsFor cause e → IfErr r (λ stop. stop ≡ Memory)
+only_memory {T} {cause} r e d is same f h =
+    subst (λ (x : Result T Stop). IfErr x (λ stop. stop ≡ Memory)) (sym is) (same ∙ by e h)
   where
     by : (e : Stop) → StopsFor cause e → e ≡ Memory
     by Wide h = absurd (f h)
     by Memory h = refl
 
-pub stops_also : {T cause other : Type 0} → (r : Result T Stop) → (other → cause) → IfErr r (StopsFor other) → IfErr r (StopsFor cause)
+pub stops_also : {T cause other : Type 0} → (r : Result T Stop) → (other → cause) → IfErr r (StopsFor other)
+    → IfErr r (StopsFor cause)
 stops_also (Ok x) f h = tt
 stops_also (Err Wide) f h = f h
 stops_also (Err Memory) f h = tt
 
 -- the answer that names the spot
-pub stops_with : {cause other : Type 0} → (stop : Stop) (e : ElabErr) (spot named : Spot) → e ≡ error_of stop spot → spot ≡ named → (other → cause) → StopsFor other stop
+pub stops_with : {cause other : Type 0} → (stop : Stop) (e : ElabErr) (spot named : Spot) → e ≡ error_of stop spot
+    → spot ≡ named → (other → cause) → StopsFor other stop
     → StopsWith named cause e
 stops_with {cause} Wide e spot named is same f h = subst (λ (x : ElabErr). StopsWith named cause x) (sym is) (same, f h)
 stops_with {cause} Memory e spot named is same f h = subst (λ (x : ElabErr). StopsWith named cause x) (sym is) tt

@@ -6,10 +6,10 @@ use Rattle.rob_algebra.specs.FractionLaws as Q
 use Rattle.rob_meaning.specs.Coefficients.{Table, single, table, sum_table, product_table, table_times}
 use Rattle.rob_meaning.specs.Degrees.{decision_degree, uncertain_degree}
 use Rattle.rob_meaning.specs.Expressions.{Expression, sum, product, Terms, no_terms, term, Factors, no_factors, factor}
-use Rattle.rob_meaning.specs.Places.{0ℚ, Each}
-use Rattle.rob_meaning.specs.RobustModel.{AdaptiveVariable, RobustModel, column_count, column_from}
+use Rattle.rob_meaning.specs.Places.{0ℚ}
+use Rattle.rob_meaning.specs.RobustModel.{RobustModel, column_count}
 use Rattle.rob_meaning.specs.Values.{signed}
-use Rattle.rob_meaning.proofs.TableLemmas.{no_params, no_columns, product_no_params, product_no_columns, table_times-assoc}
+use Rattle.rob_meaning.proofs.TableLemmas.{no_params, no_columns, product_no_params, product_no_columns, table_times-assoc, times_comm}
 use Rattle.rob_model.specs.View.{Signed, expression_of, signed_of, terms_of, factors_of}
 use Rattle.rob_model.specs.declared.expr.Expr.{Expr}
 use Rattle.rob_model.specs.declared.expr.Term.{Term}
@@ -17,13 +17,10 @@ use Rattle.rob_model.proofs.PartLemmas.{terms_at, factors_at, signed_is, drop_pa
 use Rattle.rob_sets.specs.FirstWide.{Some_of}
 use Rattle.rob_sets.specs.Subexpressions.{with_term, with_factor, sums_from, products_from, subexpressions}
 use Rattle.rob_sets.specs.Tables.{AreApart, HasNoParameters, HasNoColumns}
-use Rattle.rob_sets.proofs.ProductLemmas.{times_turned}
+use Rattle.std.proofs.lemmas.List.{map-append}
+use Rattle.rob_model.proofs.ColumnLemmas.{column_first}
 
 -- ---- lists
-pub each_both : {A : Type 0} (P : A → Type 0) (xs ys : List A) → Each P xs → Each P ys → Each P (xs ++ ys)
-each_both P [] ys h k = k
-each_both P (x ∷ xs) ys h k = (h.0, each_both P xs ys h.1 k)
-
 pub some_left : {A : Type 0} (P : A → Type 0) (xs ys : List A) → Some_of P xs → Some_of P (xs ++ ys)
 some_left P [] ys h = absurd h
 some_left P (x ∷ xs) ys (inl h) = inl h
@@ -33,21 +30,19 @@ pub some_right : {A : Type 0} (P : A → Type 0) (xs ys : List A) → Some_of P 
 some_right P [] ys h = h
 some_right P (x ∷ xs) ys h = inr (some_right P xs ys h)
 
-pub take_one_more : {A : Type 0} (xs : List A) (i : ℕ) (x : A) → i < length xs → x ≡ get_or xs i x → take (i + 1) xs ≡ take i xs ++ x ∷ []
+pub take_one_more : {A : Type 0} (xs : List A) (i : ℕ) (x : A) → i < length xs → x ≡ get_or xs i x
+    → take (i + 1) xs ≡ take i xs ++ x ∷ []
 take_one_more [] i x h e = absurd (omega arith)
 take_one_more (y ∷ xs) zero x h e = ap (λ z. z ∷ []) (sym e)
 take_one_more (y ∷ xs) (suc i) x h e =
-    ap (λ n. take n (y ∷ xs)) (let next : suc i + 1 ≡ suc (i + 1) = omega arith in next) ∙ ap (λ zs. y ∷ zs) (take_one_more xs i x (omega arith) e)
+    ap (λ n. take n (y ∷ xs)) (let next : suc i + 1 ≡ suc (i + 1) = omega arith in next)
+    ∙ ap (λ zs. y ∷ zs) (take_one_more xs i x (omega arith) e)
 
 pub take_past : {A : Type 0} (xs : List A) (i : ℕ) → length xs ≤ i → take i xs ≡ xs
 take_past [] zero h = refl
 take_past [] (suc i) h = refl
 take_past (x ∷ xs) zero h = absurd (omega arith)
 take_past (x ∷ xs) (suc i) h = ap (λ zs. x ∷ zs) (take_past xs i (omega arith))
-
-map-append : {A B : Type 0} (f : A → B) (xs ys : List A) → map f (xs ++ ys) ≡ map f xs ++ map f ys
-map-append f [] ys = refl
-map-append f (x ∷ xs) ys = ap (λ zs. f x ∷ zs) (map-append f xs ys)
 
 -- ---- prefixes of a sum
 pub sum_table-with : (m : RobustModel) (before : Terms) (minus : Bool) (e : Expression) (k j : ℕ)
@@ -60,7 +55,7 @@ sum_table-with m (term first d ts) minus e k j =
 -- ---- prefixes of a product
 pub product_table-with : (m : RobustModel) (before : Factors) (e : Expression) (k j : ℕ)
     → product_table m (with_factor before e) k j ≡ table_times (product_table m before) (table m e) k j
-product_table-with m no_factors e k j = times_turned (table m e) (single 0 0) k j
+product_table-with m no_factors e k j = times_comm (table m e) (single 0 0) k j
 product_table-with m (factor d fs) e k j =
     ap (λ (f : Table). table_times (table m d) f k j) (λ i a b. product_table-with m fs e a b i)
     ∙ sym (table_times-assoc (table m d) (product_table m fs) (table m e) k j)
@@ -76,11 +71,15 @@ decision-with m no_factors e = omega arith
 decision-with m (factor d fs) e = omega (arith, decision-with m fs e)
 
 -- a prefix and the next factor have no degree over 1
-pub apart : (m : RobustModel) (before : Factors) (e : Expression) (f g : Table) → ((k j : ℕ) → f k j ≡ product_table m before k j)
+pub apart : (m : RobustModel) (before : Factors) (e : Expression) (f g : Table)
+    → ((k j : ℕ) → f k j ≡ product_table m before k j)
     → ((k j : ℕ) → g k j ≡ table m e k j) → uncertain_degree m (product before) + uncertain_degree m e ≤ 1
     → decision_degree m (product before) + decision_degree m e ≤ 1 → AreApart f g
 apart m before e f g hf hg u d =
-    record { parameters = by_rows (uncertain_degree m (product before)) refl; columns = by_columns (decision_degree m (product before)) refl }
+    record {
+      parameters = by_rows (uncertain_degree m (product before)) refl;
+      columns = by_columns (decision_degree m (product before)) refl;
+    }
   where
     by_rows : (n : ℕ) → uncertain_degree m (product before) ≡ n → HasNoParameters f ⊎ HasNoParameters g
     by_rows zero h = inl (λ k j. hf (suc k) j ∙ product_no_params m before h k j)
@@ -130,27 +129,38 @@ module _ {N : Type 0} (value : N → Fraction) where
   -- what is left of the subexpressions
   pub sums_at : (ts : List (Term N)) (i : ℕ) (t : Term N) → i < length ts → t ≡ get_or ts i t
       → sums_from (first_terms ts i) (other_terms ts i)
-      ≡ subexpressions (expression_of value t.inner) ++ (sum (first_terms ts (i + 1)) ∷ sums_from (first_terms ts (i + 1)) (other_terms ts (i + 1)))
+      ≡ subexpressions (expression_of value t.inner)
+      ++ (sum (first_terms ts (i + 1)) ∷ sums_from (first_terms ts (i + 1)) (other_terms ts (i + 1)))
   sums_at ts i t h e =
       ap (λ (xs : Terms). sums_from (first_terms ts i) xs) (terms_at value ts i t h e)
-      ∙ ap (λ (xs : Terms). subexpressions (expression_of value t.inner) ++ (sum xs ∷ sums_from xs (other_terms ts (i + 1))))
+      ∙ ap (λ (xs : Terms). subexpressions (expression_of value t.inner)
+      ++ (sum xs ∷ sums_from xs (other_terms ts (i + 1))))
       (sym (first_terms-more ts i t h e))
 
   pub products_at : (fs : List (Expr N)) (i : ℕ) (f : Expr N) → i < length fs → f ≡ get_or fs i f
       → products_from (first_factors fs i) (other_factors fs i)
-      ≡ subexpressions (expression_of value f) ++ (product (first_factors fs (i + 1)) ∷ products_from (first_factors fs (i + 1)) (other_factors fs (i + 1)))
+      ≡ subexpressions (expression_of value f)
+      ++ (product (first_factors fs (i + 1)) ∷ products_from (first_factors fs (i + 1)) (other_factors fs (i + 1)))
   products_at fs i f h e =
       ap (λ (xs : Factors). products_from (first_factors fs i) xs) (factors_at value fs i f h e)
-      ∙ ap (λ (xs : Factors). subexpressions (expression_of value f) ++ (product xs ∷ products_from xs (other_factors fs (i + 1))))
+      ∙ ap (λ (xs : Factors). subexpressions (expression_of value f)
+      ++ (product xs ∷ products_from xs (other_factors fs (i + 1))))
       (sym (first_factors-more fs i f h e))
 
   -- past the end all are the first, and none is left
-  pub terms_end : (ts : List (Term N)) (i : ℕ) → length ts ≤ i → (first_terms ts i ≡ terms_of (map (signed_of value) ts)) × (other_terms ts i ≡ no_terms)
-  terms_end ts i h = (ap (λ (xs : List (Term N)). terms_of (map (signed_of value) xs)) (take_past ts i h), ap (λ (xs : List (Term N)). terms_of (map (signed_of value) xs)) (drop_past ts i h))
+  pub terms_end : (ts : List (Term N)) (i : ℕ) → length ts ≤ i
+      → (first_terms ts i ≡ terms_of (map (signed_of value) ts)) × (other_terms ts i ≡ no_terms)
+  terms_end ts i h = (
+    ap (λ (xs : List (Term N)). terms_of (map (signed_of value) xs)) (take_past ts i h),
+    ap (λ (xs : List (Term N)). terms_of (map (signed_of value) xs)) (drop_past ts i h),
+  )
 
   pub factors_end : (fs : List (Expr N)) (i : ℕ) → length fs ≤ i
       → (first_factors fs i ≡ factors_of (map (expression_of value) fs)) × (other_factors fs i ≡ no_factors)
-  factors_end fs i h = (ap (λ (xs : List (Expr N)). factors_of (map (expression_of value) xs)) (take_past fs i h), ap (λ (xs : List (Expr N)). factors_of (map (expression_of value) xs)) (drop_past fs i h))
+  factors_end fs i h = (
+    ap (λ (xs : List (Expr N)). factors_of (map (expression_of value) xs)) (take_past fs i h),
+    ap (λ (xs : List (Expr N)). factors_of (map (expression_of value) xs)) (drop_past fs i h),
+  )
 
   -- the degrees of the first factors, the next one and those behind it
   pub degree_left : (m : RobustModel) (fs : List (Expr N)) (i : ℕ) (f : Expr N) → i < length fs → f ≡ get_or fs i f
@@ -158,26 +168,26 @@ module _ {N : Type 0} (value : N → Fraction) where
       → decision_degree m (product (first_factors fs i)) + decision_degree m (product (other_factors fs i)) ≤ 1
       → (uncertain_degree m (product (first_factors fs i)) + uncertain_degree m (expression_of value f) ≤ 1)
       × (decision_degree m (product (first_factors fs i)) + decision_degree m (expression_of value f) ≤ 1)
-      × (uncertain_degree m (product (first_factors fs (i + 1))) + uncertain_degree m (product (other_factors fs (i + 1))) ≤ 1)
-      × (decision_degree m (product (first_factors fs (i + 1))) + decision_degree m (product (other_factors fs (i + 1))) ≤ 1)
+      × (uncertain_degree m (product (first_factors fs (i + 1)))
+      + uncertain_degree m (product (other_factors fs (i + 1))) ≤ 1)
+      × (decision_degree m (product (first_factors fs (i + 1)))
+      + decision_degree m (product (other_factors fs (i + 1))) ≤ 1)
   degree_left m fs i f h e u d =
       let at = factors_at value fs i f h e in
       let more = first_factors-more fs i f h e in
-      let u_left : uncertain_degree m (product (other_factors fs i)) ≡ uncertain_degree m (expression_of value f) + uncertain_degree m (product (other_factors fs (i + 1))) =
+      let u_left : uncertain_degree m (product (other_factors fs i))
+      ≡ uncertain_degree m (expression_of value f) + uncertain_degree m (product (other_factors fs (i + 1))) =
       ap (λ x. uncertain_degree m (product x)) at in
-      let d_left : decision_degree m (product (other_factors fs i)) ≡ decision_degree m (expression_of value f) + decision_degree m (product (other_factors fs (i + 1))) =
+      let d_left : decision_degree m (product (other_factors fs i))
+      ≡ decision_degree m (expression_of value f) + decision_degree m (product (other_factors fs (i + 1))) =
       ap (λ x. decision_degree m (product x)) at in
-      let u_first : uncertain_degree m (product (first_factors fs (i + 1))) ≡ uncertain_degree m (product (first_factors fs i)) + uncertain_degree m (expression_of value f) =
+      let u_first : uncertain_degree m (product (first_factors fs (i + 1)))
+      ≡ uncertain_degree m (product (first_factors fs i)) + uncertain_degree m (expression_of value f) =
       ap (λ x. uncertain_degree m (product x)) more ∙ uncertain-with m (first_factors fs i) (expression_of value f) in
-      let d_first : decision_degree m (product (first_factors fs (i + 1))) ≡ decision_degree m (product (first_factors fs i)) + decision_degree m (expression_of value f) =
+      let d_first : decision_degree m (product (first_factors fs (i + 1)))
+      ≡ decision_degree m (product (first_factors fs i)) + decision_degree m (expression_of value f) =
       ap (λ x. decision_degree m (product x)) more ∙ decision-with m (first_factors fs i) (expression_of value f) in
       (omega arith, omega arith, omega arith, omega arith)
 
--- the variables are decision columns
-pub few_from : (column : ℕ) (ys : List AdaptiveVariable) (k : ℕ) → column ≤ column_from column ys k
-few_from column [] k = omega arith
-few_from column (y ∷ ys) zero = omega arith
-few_from column (y ∷ ys) (suc k) = omega (arith, few_from (suc column + length y.on) ys k)
-
 pub few_variables : (m : RobustModel) → length m.variables ≤ column_count m
-few_variables m = few_from (length m.variables) m.adaptives (length m.adaptives)
+few_variables m = column_first (length m.variables) m.adaptives (length m.adaptives)

@@ -1,6 +1,6 @@
--- What is judged when a set or the forms are written in whole numbers, in a stated order, and the first spot where a number
--- is wide. An expression is judged by the coefficients of its subexpressions; numbers that are cleared are judged by their
--- least common denominator and by the whole numbers that they become.
+-- What is judged when a set or the forms are written in whole numbers, in a stated order, and the first spot where a
+-- number is wide. An expression is judged by the coefficients of its subexpressions; numbers that are cleared are
+-- judged by their least common denominator and by the whole numbers that they become.
 use Rattle.std.specs.Prelude.{◌≡◌, ℕ, ◌<◌, List, [], ◌∷◌, ◌++◌, ◌⊎◌}
 use Rattle.rob_algebra.specs.Fraction.{Fraction}
 use Rattle.rob_algebra.specs.Width.{IsWideWhole}

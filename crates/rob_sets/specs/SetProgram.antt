@@ -17,6 +17,7 @@ HasWholeRows set = Each (λ (row : SetRow). length row.g ≡ set.columns) set.ro
 abbrev pub left_sides : List SetRow → List (List ℤ)
 left_sides rows = map (λ (row : SetRow). row.g) rows
 
+-- the right sides of set rows
 abbrev pub right_sides : List SetRow → List ℤ
 right_sides rows = map (λ (row : SetRow). row.h) rows
 

@@ -1,5 +1,5 @@
--- The subexpressions of an expression: what is computed on the way to its coefficients. In a sum and in a product each prefix
--- from the left is one too, so the whole is the last of them.
+-- The subexpressions of an expression: what is computed on the way to its coefficients. In a sum and in a product each
+-- prefix from the left is one too, so the whole is the last of them.
 use Rattle.std.specs.Prelude.{ℕ, List, [], ◌∷◌, ◌++◌, Bool}
 use Rattle.rob_algebra.specs.Width.{IsWide}
 use Rattle.rob_meaning.specs.Coefficients.{table}

@@ -30,7 +30,8 @@ HasNoParameters f = (k j : ℕ) → f (suc k) j ≡ 0ℚ
 abbrev pub HasNoColumns : meaning.Table → Type 0
 HasNoColumns f = (k j : ℕ) → f k (suc j) ≡ 0ℚ
 
--- at most one of the two tables has parameters, and at most one has decision columns: their product is of degree at most 1
+-- at most one of the two tables has parameters, and at most one has decision columns: their product is of degree at
+-- most 1
 pub record AreApart (f g : meaning.Table) : Type 0 where
   pub parameters : HasNoParameters f ⊎ HasNoParameters g
   pub columns : HasNoColumns f ⊎ HasNoColumns g

@@ -1,4 +1,4 @@
-// The set rows of the declared bounds of the parameters.
+//! The set rows of the declared bounds of the parameters.
 
 ghost use Rattle.std.specs.Prelude.{◌≡◌, ◌<◌, ◌+◌, [], zero, ℕ, map, length, Option, option_map, if◌then◌else◌, OnOk, IfOk, IfErr};
 ghost use Rattle.rob_number.specs.Counts.{NeverFell};

@@ -1,4 +1,4 @@
-// The set rows of budgets of uncertainty: two for each member, and one for the sum.
+//! The set rows of budgets of uncertainty: two for each member, and one for the sum.
 
 ghost use Rattle.std.specs.Prelude.{◌≡◌, ◌<◌, ◌+◌, ◌*◌, ◌++◌, ◌∷◌, [], ℕ, List, map, length, if◌then◌else◌, IfOk};
 ghost use Rattle.rob_number.specs.Counts.{NeverFell};
@@ -21,8 +21,8 @@ use rob_model::{Member, Model};
 use rob_number::{Exact, Ledger, List, Memory};
 use std::alloc::Global;
 
-/// A member of a budget, as a table that is at most 0: `d - h t - c`, or `-d - h t + c`, where its column `t` has number
-/// `lift`.
+/// A member of a budget, as a table that is at most 0: `d - h t - c`, or `-d - h t + c`, where its column `t` has
+/// number `lift`.
 fn member_table<N: Exact, L: Ledger>(
     alloc: Global,
     lift: u32,
@@ -56,8 +56,8 @@ fn member_table<N: Exact, L: Ledger>(
     Ok(table)
 }
 
-/// A budget's sum, as a table that is at most 0: the sum of the columns `t` of its members, the first of which has number
-/// `lift`, less its limit.
+/// A budget's sum, as a table that is at most 0: the sum of the columns `t` of its members, the first of which has
+/// number `lift`, less its limit.
 fn budget_table<N: Exact, L: Ledger>(
     alloc: Global,
     lift: u32,
@@ -102,7 +102,8 @@ fn append_member<N: Exact, L: Ledger>(
     ensures row { Appends N.limit (robust N.value model.now)
         ((if up then up_row lift (member_of N.value member.now) else down_row lift (member_of N.value member.now)) ∷ [])
         (judged_rows (robust N.value model.now) (length rows.old)
-        ((if up then up_row lift (member_of N.value member.now) else down_row lift (member_of N.value member.now)) ∷ []))
+        ((if up then up_row lift (member_of N.value member.now) else down_row lift (member_of N.value member.now))
+        ∷ []))
         rows.old rows.new (L.wides ledger.old) (L.wides ledger.new) result }
     ensures counted { NeverFell L.ops L.wides ledger.old ledger.new }
 {
@@ -127,7 +128,8 @@ pub fn append_budget<N: Exact, L: Ledger>(
     ensures rows { Appends N.limit (robust N.value model.now)
         (member_rows lift (map (member_of N.value) members.now)
         ++ budget_row lift (N.value limit) (map (member_of N.value) members.now) ∷ [])
-        (judged_rows (robust N.value model.now) (length rows.old) (member_rows lift (map (member_of N.value) members.now)
+        (judged_rows (robust N.value model.now) (length rows.old)
+        (member_rows lift (map (member_of N.value) members.now)
         ++ budget_row lift (N.value limit) (map (member_of N.value) members.now) ∷ []))
         rows.old rows.new (L.wides ledger.old) (L.wides ledger.new) result }
     ensures counted { NeverFell L.ops L.wides ledger.old ledger.new }

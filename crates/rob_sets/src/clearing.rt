@@ -1,4 +1,4 @@
-// Fractions times their least common denominator.
+//! Fractions times their least common denominator.
 
 ghost use Rattle.std.specs.Prelude.{◌≡◌, ◌≤◌, ◌<◌, ◌/◌, ◌^◌, ◌++◌, ℕ, ℤ, List, pos, ◌*ℤ◌, ◌<ℤ◌, nat_abs, map, OnOk, IfOk, IfErr, MatchOption};
 ghost use Rattle.rob_algebra.specs.Fraction.{Fraction};
@@ -35,8 +35,8 @@ pub fn denominator<N: Exact>(numbers: &[N]) -> Option<u64>
     denominator_with(1, numbers)
 }
 
-/// The least common denominator of numbers whose own is `common` and of further ones, or none where it is over the limit.
-/// One greatest common divisor of machine numbers for each fraction.
+/// The least common denominator of numbers whose own is `common` and of further ones, or none where it is over the
+/// limit. One greatest common divisor of machine numbers for each fraction.
 pub fn denominator_with<N: Exact>(common: u64, numbers: &[N]) -> Option<u64>
     requires positive { 0 < common }
     requires within { common ≤ N.limit }

@@ -1,4 +1,4 @@
-// Why a set or the forms are not written in whole numbers.
+//! Why a set or the forms are not written in whole numbers.
 
 ghost use Rattle.std.specs.Prelude.{◌≡◌};
 ghost use Rattle.rob_sets.specs.Stops.{error_of};

@@ -1,10 +1,10 @@
-// The coefficients of expressions.
+//! The coefficients of expressions.
 
 ghost use Rattle.std.specs.Prelude.{◌≡◌, ◌≤◌, ◌<◌, ℕ, map, length, OnOk, IfOk, IfErr};
 ghost use Rattle.rob_number.specs.Counts.{Rose, NeverFell};
 ghost use Rattle.rob_meaning.specs.Coefficients.{single, table as table_of, sum_table, product_table};
 ghost use Rattle.rob_meaning.specs.Degrees.{IsLinear, AreLinear, FactorsLinear, uncertain_degree, decision_degree};
-ghost use Rattle.rob_meaning.specs.Expressions.{adaptive_in as rule_in, sum as sum_of, product as product_of, no_terms, no_factors};
+ghost use Rattle.rob_meaning.specs.Expressions.{adaptive_in as rule_in, product as product_of, no_terms, no_factors};
 ghost use Rattle.rob_meaning.specs.Places.{Each};
 ghost use Rattle.rob_meaning.specs.RobustModel.{set_count};
 ghost use Rattle.rob_meaning.specs.WellFormed.{IsInside, TermsInside, FactorsInside};
@@ -39,7 +39,8 @@ pub fn coefficients<N: Exact, L: Ledger>(
     ensures none_wide { OnOk result (Each (λ s. HasWideCoefficient N.limit (robust N.value model.now) s → ⊥)
         (subexpressions (expression_of N.value e.now))) }
     ensures wide { IfErr result (StopsFor (Rose (L.wides ledger.old) (L.wides ledger.new)
-        × Some_of (HasWideCoefficient N.limit (robust N.value model.now)) (subexpressions (expression_of N.value e.now)))) }
+        × Some_of (HasWideCoefficient N.limit (robust N.value model.now))
+        (subexpressions (expression_of N.value e.now)))) }
     ensures counted { NeverFell L.ops L.wides ledger.old ledger.new }
 {
     match e {
@@ -142,8 +143,8 @@ pub fn unit<N: Exact, L: Ledger>(
     Table::single(alloc, cell, number, ledger)
 }
 
-/// The coefficients of an adaptive variable in a set: 1 in the column of its constant, and for each parameter of its list 1
-/// in the row of that set's parameter and in the column of its coefficient.
+/// The coefficients of an adaptive variable in a set: 1 in the column of its constant, and for each parameter of its
+/// list 1 in the row of that set's parameter and in the column of its coefficient.
 fn rule_table<N: Exact, L: Ledger>(
     alloc: Global,
     model: &Model<N>,

@@ -1,4 +1,4 @@
-// What a set form says of its model.
+//! What a set form says of its model.
 
 ghost use Rattle.std.specs.Prelude.{List, ◌↔◌};
 ghost use Rattle.rob_algebra.specs.Fraction.{Fraction};

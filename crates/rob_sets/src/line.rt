@@ -1,4 +1,4 @@
-// Differences of two sides, and the set rows of linear conditions.
+//! Differences of two sides, and the set rows of linear conditions.
 
 ghost use Rattle.std.specs.Prelude.{◌≡◌, ◌<◌, ◌+◌, ◌∷◌, [], ℕ, map, length, OnOk, IfOk, IfErr};
 ghost use Rattle.rob_number.specs.Counts.{Rose, NeverFell};

@@ -1,4 +1,4 @@
-// One set row: its numbers in order, and in whole numbers.
+//! One set row: its numbers in order, and in whole numbers.
 
 ghost use Rattle.std.specs.Prelude.{◌≡◌, ◌≤◌, ◌<◌, ◌+◌, ◌∷◌, ◌++◌, [], ℕ, map, length, OnOk, IfOk, IfErr};
 ghost use Rattle.rob_number.specs.Counts.{NeverFell};

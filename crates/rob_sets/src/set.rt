@@ -1,4 +1,4 @@
-// The lifted set, statement by statement.
+//! The lifted set, statement by statement.
 
 ghost use Rattle.std.specs.Prelude.{◌≡◌, ◌<◌, ◌+◌, ◌*◌, ◌∷◌, [], zero, ℕ, length, IfOk, IfErr, OnOk};
 ghost use Rattle.rob_number.specs.Counts.{NeverFell};
@@ -20,9 +20,9 @@ use rob_model::{Model, SetLine};
 use rob_number::{Exact, Ledger, List};
 use std::alloc::Global;
 
-/// The lifted set in whole numbers: each row times its least common denominator. Rows are computed in order, and in each
-/// the coefficients, subexpression by subexpression, come before the clearing; `Wide` names the first spot of that order
-/// where a number is wide.
+/// The lifted set in whole numbers: each row times its least common denominator. Rows are computed in order, and in
+/// each the coefficients, subexpression by subexpression, come before the clearing; `Wide` names the first spot of that
+/// order where a number is wide.
 pub fn clear_set<N: Exact, L: Ledger>(
     alloc: Global,
     model: &Model<N>,
@@ -32,7 +32,8 @@ pub fn clear_set<N: Exact, L: Ledger>(
     ensures set { IfOk result (λ set. IsSetForm (robust N.value model.now) set) }
     ensures fits { IfOk result (λ set. SetFits N.limit set) }
     // An answer comes only where nothing that is judged is wide; a refusal names the first spot where something is.
-    ensures none_wide { OnOk result (NothingWide N.limit (robust N.value model.now) (judged_set (robust N.value model.now))) }
+    ensures none_wide { OnOk result (NothingWide N.limit (robust N.value model.now)
+        (judged_set (robust N.value model.now))) }
     ensures cause { IfErr result (HasCause N.limit (robust N.value model.now) (judged_set (robust N.value model.now))) }
     ensures rose { IfErr result (RoseIfWide (L.wides ledger.old) (L.wides ledger.new)) }
     ensures counted { NeverFell L.ops L.wides ledger.old ledger.new }

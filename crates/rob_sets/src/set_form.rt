@@ -1,4 +1,4 @@
-// The uncertainty set in whole numbers.
+//! The uncertainty set in whole numbers.
 
 use rob_number::List;
 

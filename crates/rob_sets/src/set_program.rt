@@ -1,6 +1,6 @@
-// The linear program of the lifted set, which asks whether a scenario is admitted:
-//     maximise 0  subject to  g * (v - w) <= h  for each set row, and v, w >= 0
-// Set column c is the difference of the columns 2 c and 2 c + 1. (Chvatal, Linear Programming, chapter 1.)
+//! The linear program of the lifted set, which asks whether a scenario is admitted:
+//!     maximise 0  subject to  g * (v - w) <= h  for each set row, and v, w >= 0
+//! Set column c is the difference of the columns 2 c and 2 c + 1. (Chvatal, Linear Programming, chapter 1.)
 
 ghost use Rattle.std.specs.Prelude.{◌≡◌, ◌+◌, ◌-◌, ◌*◌, ◌^◌, ◌<◌, ◌≤◌, ◌↔◌, ℕ, pos, nat_abs, length, map, IfOk};
 ghost use Rattle.rob_counterpart.specs.Counterpart.{robust_of, set_program};
@@ -14,7 +14,7 @@ ghost use Rattle.rob_meaning.specs.UncertaintySet.{IsEmptySet};
 ghost use Rattle.rob_meaning.specs.WellFormed.{IsModel};
 ghost use Rattle.rob_model.specs.Limits.{IsWithinLimits};
 ghost use Rattle.rob_rows.specs.LinearPrograms.{IsShaped, HasNumbersWithin, program_of};
-ghost use Rattle.rob_sets.specs.SetForm.{IsSetForm, RowFits, SetFits};
+ghost use Rattle.rob_sets.specs.SetForm.{IsSetForm, SetFits};
 ghost use Rattle.rob_sets.specs.SetProgram.{HasWholeRows, IsOverRobust, robust_set, in_pairs, left_sides, right_sides};
 ghost use Rattle.rob_sets.specs.declared.set_form.SetForm.{SetForm};
 ghost use Rattle.rob_sets.specs.declared.set_form.SetRow.{SetRow};
@@ -24,8 +24,8 @@ use rob_number::{List, Memory};
 use rob_rows::Lp;
 use std::alloc::{AllocError, Global};
 
-/// The program over the set rows with no cost: a row for each set row, in order, and two columns for each set column, of
-/// which the first counts positively. It is infeasible exactly where no scenario is admitted.
+/// The program over the set rows with no cost: a row for each set row, in order, and two columns for each set column,
+/// of which the first counts positively. It is infeasible exactly where no scenario is admitted.
 pub fn set_lp(alloc: Global, set: &SetForm) -> Result<Lp, Memory>
     requires whole { HasWholeRows set.now }
     requires fits { SetFits (2 ^ 62 - 1) set.now }
@@ -57,7 +57,7 @@ pub fn set_program_laws()
         → IsOverRobust (robust_set set) P → IsInfeasible P ↔ IsEmptySet m }
 {}
 
-// The coefficients of each row, in pairs.
+/// The coefficients of each row, in pairs.
 fn left_in_pairs(alloc: Global, rows: &[SetRow]) -> Result<List<List<i64>>, Memory>
     requires fits { Each (λ (row : SetRow). Each (λ a. nat_abs a < 2 ^ 62) row.g) rows.now }
     ensures rows { IfOk result (λ list. list ≡ map in_pairs (left_sides rows.now)) }
@@ -69,7 +69,7 @@ fn left_in_pairs(alloc: Global, rows: &[SetRow]) -> Result<List<List<i64>>, Memo
     Ok(list)
 }
 
-// Each number, and behind it its negation.
+/// Each number, and behind it its negation.
 fn pairs(alloc: Global, numbers: &[i64]) -> Result<List<i64>, Memory>
     requires fits { Each (λ a. nat_abs a < 2 ^ 62) numbers.now }
     ensures pairs { IfOk result (λ list. list ≡ in_pairs numbers.now) }
@@ -82,7 +82,7 @@ fn pairs(alloc: Global, numbers: &[i64]) -> Result<List<i64>, Memory>
     Ok(list)
 }
 
-// So many zeros.
+/// So many zeros.
 fn zeros(alloc: Global, count: usize) -> Result<List<i64>, AllocError>
     ensures many { IfOk result (λ list. length list ≡ count) }
     ensures zeros { IfOk result (λ list. (k : ℕ) → at list k ≡ pos 0) }
@@ -90,7 +90,7 @@ fn zeros(alloc: Global, count: usize) -> Result<List<i64>, AllocError>
     Ok(List::from(vec![in alloc; 0i64; count]?))
 }
 
-// The right sides.
+/// The right sides.
 fn rights(alloc: Global, rows: &[SetRow]) -> Result<List<i64>, Memory>
     ensures rights { IfOk result (λ list. list ≡ right_sides rows.now) }
 {

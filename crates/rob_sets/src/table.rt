@@ -1,4 +1,4 @@
-// Tables of coefficients, sparse.
+//! Tables of coefficients, sparse.
 
 ghost use Rattle.std.specs.Prelude.{◌≡◌, ◌≤◌, ℕ, max, OnOk, IfOk, IfErr};
 ghost use Rattle.rob_algebra.specs.Fraction.{◌+ℚ◌, ◌*ℚ◌};
@@ -25,8 +25,8 @@ pub struct Cell {
     pub column: u32,
 }
 
-/// The coefficients of an expression, by parameter and decision column. What has no number is 0, so its size is the number
-/// of parameters and columns that the expression names.
+/// The coefficients of an expression, by parameter and decision column. What has no number is 0, so its size is the
+/// number of parameters and columns that the expression names.
 #[derive(Drop)]
 pub struct Table<N> {
     numbers: BTreeMap<Cell, N>,

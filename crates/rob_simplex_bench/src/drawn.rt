@@ -1,4 +1,4 @@
-// Programs of numbers that a linear congruence draws, and the set of a lot-sizing model.
+//! Programs of numbers that a linear congruence draws, and the set of a lot-sizing model.
 
 use rob_number::{List, Memory};
 use rob_rows::Lp;
@@ -9,8 +9,8 @@ use std::alloc::{AllocError, Global};
 pub enum Kind {
     /// Each number from 1 to 9: the rows of a basis soon have wide numbers.
     Dense,
-    /// A run of ones in each row, over its own column, and right sides up to 1,000: in each basis a row has no number but
-    /// 0, 1 and -1 in front of its right side.
+    /// A run of ones in each row, over its own column, and right sides up to 1,000: in each basis a row has no number
+    /// but 0, 1 and -1 in front of its right side.
     Runs,
     /// The same to be covered at the least cost, so that all right sides are negative.
     Covers,
@@ -18,6 +18,7 @@ pub enum Kind {
     Demands,
 }
 
+/// The kinds, by their numbers.
 pub const KINDS: [Kind; 4] = [Kind::Dense, Kind::Runs, Kind::Covers, Kind::Demands];
 
 /// A program of this kind and size: so many rows and columns, or so many demands. It is the same each time.
@@ -28,7 +29,7 @@ pub(crate) fn program(alloc: Global, kind: Kind, size: usize) -> Result<Lp, Memo
     }
 }
 
-// A program with as many rows as columns.
+/// A program with as many rows as columns.
 fn square(alloc: Global, kind: Kind, size: usize) -> Result<Lp, Memory> {
     let mut state = size as u64;
     let mut rows = List::new(alloc);
@@ -50,7 +51,7 @@ fn square(alloc: Global, kind: Kind, size: usize) -> Result<Lp, Memory> {
     })
 }
 
-// Writes row i of the kind where 0 stands, and tells the next state.
+/// Writes row i of the kind where 0 stands, and tells the next state.
 fn draw_row(row: &mut [i64], kind: Kind, i: u64, state: u64) -> u64 {
     match kind {
         Kind::Dense => draw_numbers(row, 9, 1, state),
@@ -60,8 +61,8 @@ fn draw_row(row: &mut [i64], kind: Kind, i: u64, state: u64) -> u64 {
     }
 }
 
-// What a row says of a demand with this mean: so often the demand, and so often its share of the budget, is at most the
-// mean so often and a number more.
+/// What a row says of a demand with this mean: so often the demand, and so often its share of the budget, is at most
+/// the mean so often and a number more.
 struct Side {
     demand: i64,
     share: i64,
@@ -69,7 +70,7 @@ struct Side {
     more: i64,
 }
 
-// The demand is within 2 of its mean, and its share is at least half of how far it is from it.
+/// The demand is within 2 of its mean, and its share is at least half of how far it is from it.
 const SIDES: [Side; 4] = [
     Side {
         demand: -1,
@@ -97,8 +98,8 @@ const SIDES: [Side; 4] = [
     },
 ];
 
-// So many demands with means of 10 to 13, whose shares sum to at most 1. Each number is the difference of two columns: first
-// the demands, then their shares.
+/// So many demands with means of 10 to 13, whose shares sum to at most 1. Each number is the difference of two columns:
+/// first the demands, then their shares.
 fn demands(alloc: Global, periods: usize) -> Result<Lp, Memory> {
     let columns = periods.saturating_mul(4);
     let mut rows = List::new(alloc);
@@ -128,7 +129,7 @@ fn demands(alloc: Global, periods: usize) -> Result<Lp, Memory> {
     })
 }
 
-// Writes a number to the two columns of this pair.
+/// Writes a number to the two columns of this pair.
 fn write_pair(row: &mut [i64], pair: usize, number: i64) {
     let plus = pair.saturating_mul(2);
     if let Some(entry) = row.get_mut(plus) {
@@ -139,7 +140,7 @@ fn write_pair(row: &mut [i64], pair: usize, number: i64) {
     }
 }
 
-// Writes the same number to a run of places, of which one is given.
+/// Writes the same number to a run of places, of which one is given.
 fn draw_run(row: &mut [i64], number: i64, place: u64, state: u64) -> u64 {
     let first = next(state);
     let second = next(first);
@@ -154,7 +155,7 @@ fn draw_run(row: &mut [i64], number: i64, place: u64, state: u64) -> u64 {
     second
 }
 
-// So many numbers from 1 to `most`, all with this sign.
+/// So many numbers from 1 to `most`, all with this sign.
 fn drawn(
     alloc: Global,
     count: usize,
@@ -167,7 +168,7 @@ fn drawn(
     Ok(numbers)
 }
 
-// Writes numbers from 1 to `most`, all with this sign, and tells the next state.
+/// Writes numbers from 1 to `most`, all with this sign, and tells the next state.
 fn draw_numbers(numbers: &mut [i64], most: u64, sign: i64, state: u64) -> u64 {
     let mut state = state;
     for number in numbers.iter_mut() {
@@ -178,7 +179,7 @@ fn draw_numbers(numbers: &mut [i64], most: u64, sign: i64, state: u64) -> u64 {
     state
 }
 
-// The next state of the congruence (Knuth's MMIX).
+/// The next state of the congruence (Knuth's MMIX).
 fn next(state: u64) -> u64 {
     state
         .wrapping_mul(6_364_136_223_846_793_005)

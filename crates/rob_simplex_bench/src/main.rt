@@ -1,7 +1,7 @@
 //! Solves programs that it makes, so that the simplex method can be timed from outside.
 //!
-//! Words: the size, which is the number of rows and of columns, or of demands (12 without a word, at most 1,000), and the
-//! number of the one kind of program to solve (all without a word).
+//! Words: the size, which is the number of rows and of columns, or of demands (12 without a word, at most 1,000), and
+//! the number of the one kind of program to solve (all without a word).
 #![tactic(auto)]
 
 mod drawn;
@@ -30,7 +30,7 @@ fn main(rt: HostRuntime) -> anyhow::Result<()> {
     Ok(())
 }
 
-// The number that the word at this place says, or the other one.
+/// The number that the word at this place says, or the other one.
 fn number_at(words: &[String], place: usize, other: u32) -> u32 {
     match words.get(place) {
         Some(word) => word.as_str().parse::<u32>().unwrap_or(other),
@@ -62,7 +62,7 @@ struct Told {
     combined: u64,
 }
 
-// What is printed of an end.
+/// What is printed of an end.
 fn summary(end: End, combined: u64) -> Told {
     let (word, over, under) = match end {
         End::Optimal(value) => ("optimal", value.num(), value.den()),
@@ -79,7 +79,7 @@ fn summary(end: End, combined: u64) -> Told {
     }
 }
 
-// Draws a program and solves it.
+/// Draws a program and solves it.
 fn run(alloc: Global, kind: Kind, size: usize) -> Result<Told, Memory> {
     let lp = program(alloc, kind, size)?;
     let mut ledger = Tally::new();

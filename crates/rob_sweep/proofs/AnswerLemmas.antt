@@ -23,7 +23,8 @@ module _ (m : RobustModel) (c : Certificate) where
       by unbounded p h = (λ none. none c.inside p.inside, h)
 
 -- a status names no empty set
-pub status_names : (m : RobustModel) (s : Status) (v : Fraction) (a : SweepAnswer) → a ≡ status_answer s v → NamesEmpty m a
+pub status_names : (m : RobustModel) (s : Status) (v : Fraction) (a : SweepAnswer)
+    → a ≡ status_answer s v → NamesEmpty m a
 status_names m s v a e = subst (NamesEmpty m) (sym e) (by s)
   where
     by : (s : Status) → NamesEmpty m (status_answer s v)

@@ -24,15 +24,19 @@ use Rattle.rob_sweep.specs.View.{limit_for, with_limit}
 module _ {X : Type 0} (view : X → SetLine) where
   pub budget_here : (lines : List X) (n k : ℕ) (c : X) (b : Bool) → n ≡ suc k → k < length lines → c ≡ get_or lines k c
       → Decides b (IsBudgetLine (view c)) → Decides b (IsBudgetAt (map view lines) n)
-  budget_here lines n k c b same h e d = subst (λ i. Decides b (IsBudgetAt (map view lines) i)) (sym same) (at lines k h e)
+  budget_here lines n k c b same h e d =
+      subst (λ i. Decides b (IsBudgetAt (map view lines) i)) (sym same) (at lines k h e)
     where
-      at : (lines : List X) (k : ℕ) → k < length lines → c ≡ get_or lines k c → Decides b (IsBudgetAt (map view lines) (suc k))
+      at : (lines : List X) (k : ℕ) → k < length lines → c ≡ get_or lines k c
+          → Decides b (IsBudgetAt (map view lines) (suc k))
       at [] k h e = absurd (omega arith)
       at (x ∷ xs) zero h e = subst (λ y. Decides b (IsBudgetLine (view y))) e d
       at (x ∷ xs) (suc k) h e = let i : k < length xs = omega arith in at xs k i e
 
-  pub budget_past : (lines : List X) (n k : ℕ) → n ≡ suc k → length lines ≤ k → Decides false (IsBudgetAt (map view lines) n)
-  budget_past lines n k same h = subst (λ i. Decides false (IsBudgetAt (map view lines) i)) (sym same) (λ e. cc, λ p. absurd (past lines k h p))
+  pub budget_past : (lines : List X) (n k : ℕ) → n ≡ suc k → length lines ≤ k
+      → Decides false (IsBudgetAt (map view lines) n)
+  budget_past lines n k same h =
+      subst (λ i. Decides false (IsBudgetAt (map view lines) i)) (sym same) (λ e. cc, λ p. absurd (past lines k h p))
     where
       past : (lines : List X) (k : ℕ) → length lines ≤ k → IsBudgetAt (map view lines) (suc k) → ⊥
       past [] k h p = p
@@ -41,7 +45,8 @@ module _ {X : Type 0} (view : X → SetLine) where
 
   -- no statement has number 0
   pub budget_none : (lines : List X) (n : ℕ) → n ≡ 0 → Decides false (IsBudgetAt (map view lines) n)
-  budget_none lines n same = subst (λ i. Decides false (IsBudgetAt (map view lines) i)) (sym same) (λ e. cc, λ p. absurd (none lines p))
+  budget_none lines n same =
+      subst (λ i. Decides false (IsBudgetAt (map view lines) i)) (sym same) (λ e. cc, λ p. absurd (none lines p))
     where
       none : (lines : List X) → IsBudgetAt (map view lines) 0 → ⊥
       none [] p = p
@@ -71,10 +76,12 @@ module _ {X : Type 0} (view : X → SetLine) (lines : List X) (g : Fraction) (al
       → map view next ++ limit_at l g (map view (drop (i + 1) lines)) ≡ all
   limited_more i k l c copy done next h e copied less pushed so_far =
       ap (λ (xs : List X). map view xs ++ limit_at l g (map view (drop (i + 1) lines))) pushed
-      ∙ ap (λ (xs : List SetLine). xs ++ limit_at l g (map view (drop (i + 1) lines))) (map-append view done (copy ∷ []))
+      ∙ ap (λ (xs : List SetLine). xs ++ limit_at l g (map view (drop (i + 1) lines)))
+      (map-append view done (copy ∷ []))
       ∙ append_assoc (map view done) (view copy ∷ []) (limit_at l g (map view (drop (i + 1) lines)))
       ∙ ap (λ (x : SetLine). map view done ++ x ∷ limit_at l g (map view (drop (i + 1) lines))) copied
-      ∙ ap (λ (xs : List SetLine). map view done ++ xs) (sym (limit_next k l g (view c) (map view (drop (i + 1) lines)) less))
+      ∙ ap (λ (xs : List SetLine). map view done ++ xs)
+      (sym (limit_next k l g (view c) (map view (drop (i + 1) lines)) less))
       ∙ ap (λ (xs : List X). map view done ++ limit_at k g (map view xs)) (sym (drop_at lines i c h e))
       ∙ so_far
 
@@ -92,12 +99,14 @@ lift_count-limit_at zero g (c ∷ cs) = refl
 lift_count-limit_at (suc zero) g (line left relation right ∷ cs) = refl
 lift_count-limit_at (suc zero) g (budget limit members ∷ cs) = refl
 lift_count-limit_at (suc (suc n)) g (line left relation right ∷ cs) = lift_count-limit_at (suc n) g cs
-lift_count-limit_at (suc (suc n)) g (budget limit members ∷ cs) = ap (λ k. length members + k) (lift_count-limit_at (suc n) g cs)
+lift_count-limit_at (suc (suc n)) g (budget limit members ∷ cs) =
+    ap (λ k. length members + k) (lift_count-limit_at (suc n) g cs)
 
 module _ (m : RobustModel) (n : ℕ) (g : Fraction) where
   length-set_rows : length (set_rows (with_budget m n g)) ≡ length (set_rows m)
   length-set_rows =
-      sym (length-set_row_names (with_budget m n g)) ∙ ap length (set_row_names-with_budget m n g) ∙ length-set_row_names m
+      sym (length-set_row_names (with_budget m n g)) ∙ ap length (set_row_names-with_budget m n g)
+      ∙ length-set_row_names m
 
   pub within_limits : IsWithinLimits m → IsWithinLimits (with_budget m n g)
   within_limits w = record {
@@ -112,9 +121,11 @@ module _ (m : RobustModel) (n : ℕ) (g : Fraction) where
     where
       size : model_size (with_budget m n g) ≡ model_size m
       size =
-          ap₂ (λ r t. length (forms m) * (r + 2 * (length m.parameters + t) + 1)) length-set_rows (lift_count-limit_at n g m.set_lines)
+          ap₂ (λ r t. length (forms m) * (r + 2 * (length m.parameters + t) + 1)) length-set_rows
+          (lift_count-limit_at n g m.set_lines)
 
-module _ {N : Type 0} (value : N → Fraction) (m copy : Model N) (lines : List (TheLine N)) (n : ℕ) (g : Fraction) (equal : copy ≡ m)
+module _ {N : Type 0} (value : N → Fraction) (m copy : Model N) (lines : List (TheLine N)) (n : ℕ)
+    (g : Fraction) (equal : copy ≡ m)
     (changed : map (set_line_of value) lines ≡ limit_at n g (map (set_line_of value) m.set_lines)) where
   pub same : robust value (record copy { set_lines = lines }) ≡ with_budget (robust value m) n g
   same =

@@ -1,13 +1,14 @@
 -- What is answered for one model, and for the models of a sweep.
 use Rattle.std.specs.Prelude.{◌≡◌, ◌<◌, ℕ, List, [], ◌∷◌, slice_get, Some}
 use Rattle.rob_algebra.specs.Fraction.{Fraction}
-use Rattle.rob_dualize.specs.Models.{IsWideIn, IsWritten}
+use Rattle.rob_dualize.specs.Models.{IsWideIn}
 use Rattle.rob_meaning.specs.Places.{Each}
 use Rattle.rob_meaning.specs.RobustModel.{Sense, RobustModel, set_count}
 use Rattle.rob_meaning.specs.UncertaintySet.{IsEmptyIn}
 use Rattle.rob_reach.specs.Sweeps.{SweepAnswer, is_optimal, is_infeasible, is_unbounded, is_empty, GrowsHarder, with_budget}
 use Rattle.rob_sets.specs.declared.error.ElabErr.{ElabErr}
 use Rattle.rob_sets.specs.declared.error.ElabErr.TheVariants.{Wide, Memory}
+use Rattle.rob_elab.specs.Written.{IsWritten}
 
 -- one of the model's sets admits nothing
 abbrev pub HasEmptySet : RobustModel → Type 0

@@ -38,7 +38,7 @@ IsBudgetStop lines n Memory = IsBudgetAt lines n
 
 -- the spot is wide for the model with that limit of the list, counted from 1; nothing is wide when the models with the
 -- limits before it are written in whole numbers
-pub record IsWideAt (limit : ℕ) (m : RobustModel) (n : ℕ) (limits : List Fraction) (number : ℕ) (spot : Spot)
+pub record IsWideAtLimit (limit : ℕ) (m : RobustModel) (n : ℕ) (limits : List Fraction) (number : ℕ) (spot : Spot)
     : Type 0 where
   pub before : List Fraction
   pub here : Fraction
@@ -57,19 +57,20 @@ IsLimitStop limit m number Memory = Unit {0}
 -- each stop with what stands behind it; memory is free where the rules are kept
 abbrev pub HasCause : ℕ → RobustModel → ℕ → List Fraction → SweepStop → Type 0
 HasCause limit m n limits (Rule rule) = BreaksRule m.set_lines n limits rule
-HasCause limit m n limits (Wide number spot) = KeepsRules m.set_lines n limits × IsWideAt limit m n limits number spot
+HasCause limit m n limits (Wide number spot) = KeepsRules m.set_lines n limits
+    × IsWideAtLimit limit m n limits number spot
 HasCause limit m n limits Memory = KeepsRules m.set_lines n limits
 
 -- ---- the ledger
 
 -- what a stop has counted of wide results: none for a broken rule, at least one for a wide number
-abbrev pub CountsStop : ℕ → ℕ → SweepStop → Type 0
-CountsStop before now (Rule rule) = now ≡ before
-CountsStop before now (Wide number spot) = Rose before now
-CountsStop before now Memory = Unit {0}
+abbrev pub CountsSweepStop : ℕ → ℕ → SweepStop → Type 0
+CountsSweepStop before now (Rule rule) = now ≡ before
+CountsSweepStop before now (Wide number spot) = Rose before now
+CountsSweepStop before now Memory = Unit {0}
 
 -- neither count fell, and that of wide results is as the stop tells
 pub record CountsSweep {S T : Type 0} (ops_of wides_of : S → ℕ) (before now : S) (result : Result T SweepStop)
     : Type 0 where
   pub never_fell : NeverFell ops_of wides_of before now
-  pub stopped : IfErr result (CountsStop (wides_of before) (wides_of now))
+  pub stopped : IfErr result (CountsSweepStop (wides_of before) (wides_of now))

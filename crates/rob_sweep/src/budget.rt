@@ -12,9 +12,9 @@ ghost use Rattle.rob_sweep.specs.View as view;
 ghost use Rattle.rob_sweep.specs.View.{with_limit};
 
 use crate::answer::SweepStop;
+use rob_model::copy::{copy_expr, copy_list, copy_model};
 use rob_model::{Model, SetLine};
 use rob_number::{Exact, List, Memory};
-use rob_tree::copy::{copy_expr, copy_list, copy_model};
 use std::alloc::Global;
 
 /// The model whose statement `n` on the uncertainty sets, counted from 1, has that limit. Rule 81 comes exactly where

@@ -2,7 +2,7 @@
 
 ghost use Rattle.std.specs.Prelude.{◌≡◌, IfOk, IfErr, OnOk};
 ghost use Rattle.rob_cert.specs.View.{status_of};
-ghost use Rattle.rob_dualize.specs.Models.{IsWritten};
+ghost use Rattle.rob_elab.specs.Written.{IsWritten};
 ghost use Rattle.rob_model.specs.Valid.{IsValid};
 ghost use Rattle.rob_model.specs.View.{robust};
 ghost use Rattle.rob_number.specs.Counts.{NeverFell};

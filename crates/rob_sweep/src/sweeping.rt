@@ -1,7 +1,7 @@
 //! The sweep: one model at each limit of a list.
 
 ghost use Rattle.std.specs.Prelude.{◌<◌, ◌^◌, length, map, IfOk, IfErr, MatchResult, OnOk};
-ghost use Rattle.rob_dualize.specs.Models.{IsWritten};
+ghost use Rattle.rob_elab.specs.Written.{IsWritten};
 ghost use Rattle.rob_model.specs.Valid.{IsValid};
 ghost use Rattle.rob_model.specs.View.{robust};
 ghost use Rattle.rob_reach.specs.Sweeps.{Answers, IsBudgetAt, Swept, with_budget as model_with};

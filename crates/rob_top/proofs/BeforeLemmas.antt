@@ -1,6 +1,6 @@
 -- A number that is wide for a model that admits no joint scenario is wide before that is known.
 use Rattle.std.proofs.Common.{◌≡◌, ℕ, List, inl, inr, refl}
-use Rattle.rob_dualize.specs.Models.{IsWideIn, IsWritten}
+use Rattle.rob_dualize.specs.Models.{IsWideIn}
 use Rattle.rob_dualize.specs.Solving.{IsWideOnPath}
 use Rattle.rob_meaning.specs.RobustModel.{RobustModel}
 use Rattle.rob_meaning.specs.UncertaintySet.{IsEmptySet}
@@ -8,6 +8,7 @@ use Rattle.rob_model.specs.declared.place.Program.TheVariants as programs
 use Rattle.rob_model.specs.declared.place.Spot.{Spot}
 use Rattle.rob_model.specs.declared.place.Spot.TheVariants as spots
 use Rattle.rob_top.specs.Endings.{IsWideBefore, admitting, writing as before_writing}
+use Rattle.rob_elab.specs.Written.{IsWritten}
 
 module _ (limit : ℕ) (m : RobustModel) where
   -- it is one of a row of the set's program, since all else comes behind an admitted scenario

@@ -1,7 +1,7 @@
 -- A path of branches that certificates allow: what its branches name, and what
 -- a spot of the box behind it names, is the model's.
 use Rattle.std.proofs.Common.{◌≡◌, ℕ, ◌<◌, List, [], ◌∷◌, ◌++◌, length, map, T, refl, sym, ap, subst, inl, inr, ◌⊎◌}
-use Rattle.rob_dualize.specs.Models.{IsWideIn, judged}
+use Rattle.rob_dualize.specs.Models.{IsWideIn}
 use Rattle.rob_dualize.specs.Solving.{IsWideOnPath}
 use Rattle.rob_elab.specs.Forms.{judged_forms}
 use Rattle.rob_meaning.specs.Names.{column_names}
@@ -25,6 +25,7 @@ use Rattle.rob_tree.proofs.MovedShapes.{HasCountsOf, flipped, same_behind, same_
 use Rattle.rob_tree.proofs.SpelledLemmas.{column_inside}
 use Rattle.rob_tree.specs.View.{branch_of}
 use Rattle.rob_tree.specs.declared.tree.Branch as declared
+use Rattle.rob_elab.specs.Written.{judged}
 
 module _ (names : List ℕ) where
   allowed_named : (m : RobustModel) (b : Branch) → IsAllowed m names b → IsIn b.variable names

@@ -3,7 +3,7 @@ use Rattle.std.proofs.Common.{◌≡◌, ◌≤◌, ℕ, nat_abs, List, map, Opt
 use Rattle.std.proofs.lemmas.List.{length-map}
 use Rattle.std.specs.Prelude.{MatchOption}
 use Rattle.rob_algebra.specs.Fraction.{of_int}
-use Rattle.rob_dualize.specs.Models.{IsWideIn, IsWritten}
+use Rattle.rob_dualize.specs.Models.{IsWideIn}
 use Rattle.rob_branch.specs.Growth.{AreBoxesWritten, HasCause, IsWrittenUpTo, RoseIfWide}
 use Rattle.rob_meaning.specs.Certificates.{Status, optimal, infeasible, unbounded}
 use Rattle.rob_meaning.specs.Places.{Each}
@@ -44,6 +44,7 @@ use Rattle.rob_words.specs.Values.{Word}
 use Rattle.rob_words.specs.Verbs.{own_of}
 use Rattle.rob_words.specs.declared.verb.Own.TheVariants as own
 use Rattle.rob_words.specs.declared.verb.Verb.{Verb}
+use Rattle.rob_elab.specs.Written.{IsWritten}
 
 -- a status is an answer of a tree
 means_branched : (call : Call) (status : Status) (text : List ℕ) → IsBranched call status text

@@ -20,7 +20,7 @@ use Rattle.rob_check.specs.declared.covering.Covered.{Covered}
 use Rattle.rob_check.specs.declared.covering.Covered.TheVariants.{Plan, Step}
 use Rattle.rob_check.specs.declared.verdict.Verdict.{Verdict}
 use Rattle.rob_check.specs.declared.verdict.Verdict.TheVariants as verdicts
-use Rattle.rob_meaning.proofs.EachLemmas.{each_map}
+use Rattle.rob_meaning.proofs.EachLemmas.{each_map, each_append}
 use Rattle.rob_meaning.specs.Certificates as meaning
 use Rattle.rob_meaning.specs.Certificates.{Certificate, Item, Status, optimal, infeasible, unbounded}
 use Rattle.rob_meaning.specs.Clearing.{fractions}
@@ -36,7 +36,6 @@ use Rattle.rob_model.specs.declared.place.Spot.TheVariants as spot
 use Rattle.rob_number.specs.declared.memory.Memory.{Memory as Want}
 use Rattle.rob_report.specs.Places.{IsPlaceOf}
 use Rattle.rob_report.specs.Spots.{rejected_line, too_wide_line}
-use Rattle.rob_sets.proofs.SubexpressionLemmas.{each_both}
 use Rattle.rob_top.proofs.DefaultRoutes.{told_alone}
 use Rattle.rob_top.specs.Answers.{accepted_text, certificate_fault_text}
 use Rattle.rob_top.specs.Calls.{Call, Count, count, limit_of}
@@ -91,7 +90,7 @@ module _ (limit : ℕ) (m : RobustModel) where
   items_named : (i : ℕ) (items : List Item) → Each IsNamed (items_tests limit m i items)
   items_named i [] = tt
   items_named i (item ∷ items) =
-      each_both IsNamed (item_tests limit m i item) (items_tests limit m (suc i) items)
+      each_append IsNamed (item_tests limit m i item) (items_tests limit m (suc i) items)
       (tt, (tt, set_named (At.Item i) item.base item.vector (λ c h. h) zero (set_conditions m) (omega arith)))
       (items_named (suc i) items)
 
@@ -99,7 +98,7 @@ module _ (limit : ℕ) (m : RobustModel) where
   sums_named value c =
       let n = column_count m in
       let one = sum_test limit (matrices m) m.sense n value c.items in
-      each_both IsNamed (map one (numbers_from 1 (suc n))) (one zero ∷ [])
+      each_append IsNamed (map one (numbers_from 1 (suc n))) (one zero ∷ [])
       (each_mapped IsNamed one (numbers_from 1 (suc n))
       (numbers_each (λ j. IsPlaceOf m (At.Sum j)) 1 (suc n) (λ j low high. omega arith)))
       (omega arith, tt)
@@ -124,11 +123,12 @@ module _ (limit : ℕ) (m : RobustModel) where
       let mine = covers_of i g.covers in
       let set = lifted m in
       let one = column_test limit set g i form mine in
-      each_both IsNamed (map (sign_test g i) mine) (column_tests limit set g i form mine)
+      each_append IsNamed (map (sign_test g i) mine) (column_tests limit set g i form mine)
       (each_mapped IsNamed (sign_test g i) mine
       (each_map (IsCoverOf m) (λ c. IsNamed (sign_test g i c)) (sign_named g i h) mine
       (each_filtered (IsCoverOf m) _ g.covers are.each)))
-      (each_both IsNamed (map one (numbers_from zero (set_column_count m))) (constant_test limit set g i form mine ∷ [])
+      (each_append IsNamed (map one (numbers_from zero (set_column_count m)))
+      (constant_test limit set g i form mine ∷ [])
       (each_mapped IsNamed one (numbers_from zero (set_column_count m))
       (numbers_each (λ k. IsNamed (one k)) zero (set_column_count m)
       (λ k low high. sum_named g.covered i (suc k) h (omega arith))))
@@ -139,7 +139,7 @@ module _ (limit : ℕ) (m : RobustModel) where
       → Each IsNamed (cover_tests limit (lifted m) g i all)
   covers_named g are i [] h = tt
   covers_named g are i (form ∷ all) h =
-      each_both IsNamed (form_tests limit (lifted m) g i (fractions form) (covers_of i g.covers))
+      each_append IsNamed (form_tests limit (lifted m) g i (fractions form) (covers_of i g.covers))
       (cover_tests limit (lifted m) g (suc i) all)
       (form_named g are i (fractions form) (omega arith))
       (covers_named g are (suc i) all (omega arith))
@@ -149,27 +149,27 @@ module _ (limit : ℕ) (m : RobustModel) where
 
   base_named : (c : Certificate) → Each IsNamed (base_tests limit m c)
   base_named c =
-      each_both IsNamed (inside_tests limit m c.inside) (items_tests limit m zero c.items) (inside_named c.inside)
+      each_append IsNamed (inside_tests limit m c.inside) (items_tests limit m zero c.items) (inside_named c.inside)
       (items_named zero c.items)
 
   conditions_named : (c : Certificate) → HasShape m c → (status : Status)
       → Each IsNamed (conditions_as limit m status c)
   conditions_named c shape optimal = (
     tt,
-    each_both IsNamed (base_tests limit m c)
+    each_append IsNamed (base_tests limit m c)
         (items_sum_tests limit m (Some c.value) c ++ covering_tests limit m (plan_covering c)) (base_named c)
-        (each_both IsNamed (items_sum_tests limit m (Some c.value) c) (covering_tests limit m (plan_covering c))
+        (each_append IsNamed (items_sum_tests limit m (Some c.value) c) (covering_tests limit m (plan_covering c))
         (sums_named (Some c.value) c)
         (covering_named (plan_covering c) shape.covers)),
   )
   conditions_named c shape infeasible =
-      each_both IsNamed (base_tests limit m c) (items_sum_tests limit m None c) (base_named c) (sums_named None c)
+      each_append IsNamed (base_tests limit m c) (items_sum_tests limit m None c) (base_named c) (sums_named None c)
   conditions_named c shape unbounded = (
     tt,
-    each_both IsNamed (base_tests limit m c)
+    each_append IsNamed (base_tests limit m c)
         (covering_tests limit m (plan_covering c) ++ (move_test m.sense c ∷ covering_tests limit m (step_covering c)))
         (base_named c)
-        (each_both IsNamed (covering_tests limit m (plan_covering c))
+        (each_append IsNamed (covering_tests limit m (plan_covering c))
         (move_test m.sense c ∷ covering_tests limit m (step_covering c))
         (covering_named (plan_covering c) shape.covers) (tt, covering_named (step_covering c) shape.holds)),
   )

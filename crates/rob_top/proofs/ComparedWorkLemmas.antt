@@ -8,9 +8,7 @@ use Rattle.rob_cert.specs.declared.ending.Stop.{Stop}
 use Rattle.rob_cert.specs.declared.ending.Stop.TheVariants as stop
 use Rattle.rob_cert.specs.declared.trace.Trace.{Trace}
 use Rattle.rob_cuts.specs.Solving.{StopFits}
-use Rattle.rob_dualize.specs.Models.{IsWritten, judged}
 use Rattle.rob_dualize.specs.Solving.{CountsStop, HasScenario}
-use Rattle.rob_elab.specs.Forms.{judged_forms}
 use Rattle.rob_gen.proofs.GeneratedLemmas.{admitted}
 use Rattle.rob_gen.specs.Generated.{generated}
 use Rattle.rob_meaning.specs.RobustModel.{RobustModel}
@@ -18,9 +16,7 @@ use Rattle.rob_model.specs.declared.place.Spot.{Spot}
 use Rattle.rob_number.specs.Counts.{Rose}
 use Rattle.rob_number.specs.Lowest as Lowest
 use Rattle.rob_number.specs.declared.memory.Memory.{Memory as Want}
-use Rattle.rob_sets.proofs.JudgedLemmas.{first_left, first_right}
-use Rattle.rob_sets.specs.FirstWide.{HasCause, NothingWide}
-use Rattle.rob_sets.specs.SetForm.{judged_set}
+use Rattle.rob_sets.specs.FirstWide.{HasCause}
 use Rattle.rob_sets.specs.declared.error.ElabErr.{ElabErr}
 use Rattle.rob_sets.specs.declared.error.ElabErr.TheVariants as refused
 use Rattle.rob_top.proofs.GeneratedWholes.{generated_written}
@@ -36,19 +32,9 @@ use Rattle.rob_words.specs.declared.route.Route.{Route}
 use Rattle.rob_words.specs.declared.route.Route.TheVariants.{Dual, Cuts}
 use Rattle.rob_words.specs.declared.width.Width.{Width}
 use Rattle.rob_words.specs.declared.width.Width.TheVariants.{Eight, Sixteen, ThirtyTwo, SixtyTwo}
+use Rattle.rob_elab.specs.Written.{judged, IsWritten}
 
--- ---- a model is written, or a number of it is wide
-module _ (limit : ℕ) (m : RobustModel) where
-  pub set_cause : (e : ElabErr) → HasCause limit m (judged_set m) e → HasCause limit m (judged m) e
-  set_cause (refused.Wide spot) h = first_left limit m (judged_set m) (judged_forms m) spot h
-  set_cause refused.Memory h = tt
-
-  pub forms_cause : (e : ElabErr) → NothingWide limit m (judged_set m) → HasCause limit m (judged_forms m) e
-      → HasCause limit m (judged m) e
-  forms_cause (refused.Wide spot) none h = first_right limit m (judged_set m) (judged_forms m) spot none h
-  forms_cause refused.Memory none h = tt
-
--- that of a number has none
+-- ---- the model of a number is written
 pub never_refused : (limit n : ℕ) (m : RobustModel) (e : ElabErr) (spot : Spot) → 255 ≤ limit
     → m ≡ generated n → e ≡ refused.Wide spot
     → HasCause limit m (judged m) e → ⊥

@@ -2,14 +2,13 @@
 use Rattle.std.proofs.Common.{◌≡◌, ℕ, ℤ, List, ◌++◌, Some, None, map, refl, sym, ◌∙◌, ap, subst, inl, inr, ◌⊎◌}
 use Rattle.rob_algebra.specs.Fraction.{Fraction, of_int}
 use Rattle.rob_branch.specs.Growth.{IsWrittenUpTo}
-use Rattle.rob_dualize.specs.Models.{IsWideIn, IsWritten}
+use Rattle.rob_dualize.specs.Models.{IsWideIn}
 use Rattle.rob_cert.specs.Causes.{HasCause}
 use Rattle.rob_cert.specs.Reading.{start}
 use Rattle.rob_cert.specs.Spelling.{naming_of}
 use Rattle.rob_cert.specs.declared.error.CertErr.TheVariants.{Rule}
 use Rattle.rob_check.specs.Conditions.{verdict_of}
 use Rattle.rob_dualize.specs.Solving.{IsShownEmpty}
-use Rattle.rob_elab.specs.Forms.{judged_forms}
 use Rattle.rob_meaning.specs.Certificates.{Certificate, Status, optimal, infeasible, unbounded}
 use Rattle.rob_meaning.specs.Proves.{HasStatus, Proves, ProvesAs}
 use Rattle.rob_meaning.specs.RobustModel.{RobustModel}
@@ -24,9 +23,8 @@ use Rattle.rob_reach.specs.WholeStatus.{HasWholeStatus}
 use Rattle.rob_replay.specs.Files.{IsFile}
 use Rattle.rob_replay.specs.Outcome.{outcome}
 use Rattle.rob_sets.specs.FirstWide.{IsFirstWide}
-use Rattle.rob_sets.specs.SetForm.{judged_set}
 use Rattle.rob_sweep.specs.Answering.{AreWritten}
-use Rattle.rob_sweep.specs.Stops.{IsWideAt, KeepsRules}
+use Rattle.rob_sweep.specs.Stops.{IsWideAtLimit, KeepsRules}
 use Rattle.rob_tree.specs.View.{branch_of}
 use Rattle.rob_tree.specs.declared.tree.Branch.{Branch}
 use Rattle.rob_top.proofs.RouteLemmas.{wide_on_way}
@@ -56,6 +54,7 @@ use Rattle.rob_words.specs.Values.{Word}
 use Rattle.rob_words.specs.declared.verb.Verb.TheVariants.{Rows, Narrow, SweepText, CheckTree, Worst}
 use Rattle.rob_words.specs.declared.verb.Verb.{Verb}
 use Rattle.rob_words.specs.declared.verb.Verb.TheVariants as verbs
+use Rattle.rob_elab.specs.Written.{judged, IsWritten}
 
 -- what stands behind an answer of `whole` and `tree`: a rule that the named variables break; a status over plans where
 -- they are whole; an empty set; or a number that is wide in a box
@@ -93,7 +92,7 @@ pub data SweepCourse (call : Call) (line : Line) (m : RobustModel) (ended : Ende
   prices : (n : ℕ) (limits : List Fraction) → HasSweep call line m n limits → KeepsRules m.set_lines n limits
       → AreWritten (limit_of line) m n limits → ended ≡ Printed → SweepCourse call line m ended
   wide_limit : (n : ℕ) (limits : List Fraction) (number : ℕ) (spot : Spot) → HasSweep call line m n limits
-      → KeepsRules m.set_lines n limits → IsWideAt (limit_of line) m n limits number spot
+      → KeepsRules m.set_lines n limits → IsWideAtLimit (limit_of line) m n limits number spot
       → ended ≡ WideBudget number spot
       → SweepCourse call line m ended
   writes_limit : (n : ℕ) (g : Fraction) → HasLimit call line m n g → IsBudgetAt m.set_lines n → ended ≡ Printed
@@ -114,7 +113,7 @@ pub data Course (call : Call) (line : Line) (m : RobustModel) (ended : Ended) : 
       → HasCause (naming_of m) (limit_of line) start bytes 1 (Rule rule number) → ended ≡ Cert rule number
       → Course call line m ended
   wide_number : (spot : Spot) → IsElaborating line.verb
-      → IsFirstWide (limit_of line) m (judged_set m ++ judged_forms m) spot → ended ≡ TooWide spot
+      → IsFirstWide (limit_of line) m (judged m) spot → ended ≡ TooWide spot
       → Course call line m ended
   wide_row : (spot : Spot) → HasForms call line m → IsSolving line.verb
       → IsWideOnWay line.way (limit_of line) m spot → ended ≡ TooWide spot

@@ -2,30 +2,31 @@
 -- size, and a form's coefficients are, since it is a sum of leaves. The twelve models are tested one by one.
 use Rattle.std.proofs.Common.{◌≡◌, ℕ, ◌+◌, ◌<◌, ◌≤◌, Bool, true, false, refl, sym, ◌∙◌, ap, ap₂, subst, arith, inl, inr}
 use Rattle.std.proofs.lemmas.Int.{ints}
-use Rattle.std.specs.Prelude.{zero, suc, ℤ, pos, ◌+ℤ◌, ◌*ℤ◌, ◌/◌, nat_abs, List, [], ◌∷◌, ◌++◌, length, Option, Some, None}
+use Rattle.std.specs.Prelude.{suc, ℤ, pos, ◌+ℤ◌, ◌*ℤ◌, ◌/◌, nat_abs, List, [], ◌∷◌, ◌++◌, length, Option, Some, None}
 use Rattle.std.specs.Fmt.{digits}
 use Rattle.rob_algebra.proofs.Parts.{add-wholes, neg_parts, of_int-parts}
 use Rattle.rob_algebra.specs.Fraction.{Fraction, of_int, ratio, ◌+ℚ◌, ◌*ℚ◌}
 use Rattle.rob_algebra.specs.Gcd.{gcd}
 use Rattle.rob_algebra.specs.Integer.{mul-one}
 use Rattle.rob_algebra.specs.Width.{IsWide, IsWideWhole}
-use Rattle.rob_dualize.specs.Models.{IsWritten}
 use Rattle.rob_elab.specs.Forms.{judged_forms, judged_from}
 use Rattle.rob_gen.proofs.GeneratedLemmas.{by_twelve}
 use Rattle.rob_gen.specs.Generated.{generated}
 use Rattle.rob_meaning.proofs.TabulateLemmas.{each_tabulate}
 use Rattle.rob_meaning.proofs.WorkedTests.{Found, both, found, so, test_at_most, test_count, test_each, test_numbers, test_same}
 use Rattle.rob_meaning.specs.Clearing.{denominator, entries, lcm, whole_at}
-use Rattle.rob_meaning.specs.Coefficients.{rule_table, single, sum_table, table, unit}
+use Rattle.rob_meaning.specs.Coefficients.{rule_table, single, sum_table, table}
 use Rattle.rob_meaning.specs.Expressions.{Expression, number, parameter, variable, adaptive, adaptive_in, sum, product, Terms, no_terms, term}
 use Rattle.rob_meaning.specs.Forms.{entries_of, form_columns, form_rows, forms}
 use Rattle.rob_meaning.specs.Places.{0ℚ, 1ℚ, Each, tabulate}
 use Rattle.rob_meaning.specs.RobustModel.{RobustModel, column_of, list_in_set, list_of}
 use Rattle.rob_meaning.specs.Values.{signed}
-use Rattle.rob_sets.proofs.SubexpressionLemmas.{each_both}
 use Rattle.rob_sets.specs.FirstWide.{IsWideCleared, IsWideThere, Judged, NothingWide, Some_of, clearing, coefficients}
 use Rattle.rob_sets.specs.SetForm.{judged_set}
 use Rattle.rob_sets.specs.Subexpressions.{HasWideCoefficient, subexpressions}
+use Rattle.rob_meaning.proofs.EachLemmas.{each_append}
+use Rattle.rob_top.proofs.NarrowForms.{single_bits, bit}
+use Rattle.rob_elab.specs.Written.{IsWritten}
 
 -- ---- whole numbers of a size
 record IsWhole (size : ℕ) (x : Fraction) : Type 0 where
@@ -61,16 +62,6 @@ not_wide limit size x some le h (inl wide) = let small : nat_abs x.num ≤ size 
 not_wide limit size x some le h (inr wide) = let one : x.den ≡ 1 = h.den in omega (arith, one, wide, some)
 
 -- ---- coefficients of a sum of leaves
-abbrev bit : Bool → Fraction
-bit true = 1ℚ
-bit false = 0ℚ
-
-unit_bit : (k j : ℕ) → (b : Bool) × (unit k j ≡ bit b)
-unit_bit zero zero = (true, refl)
-unit_bit zero (suc j) = (false, refl)
-unit_bit (suc k) zero = (false, refl)
-unit_bit (suc k) (suc j) = unit_bit k j
-
 abbrev test_size : (size : ℕ) (x : Fraction) → Option (IsWhole size x)
 test_size size x =
     so (λ h. record { den = h.0; num = h.1 }) (both (test_count x.den 1) (test_at_most (nat_abs x.num) size))
@@ -88,12 +79,6 @@ no_bits true true = tt
 no_bits true false = tt
 no_bits false true = tt
 no_bits false false = tt
-
-single_bits : (a b k j : ℕ) → (x : Bool) × (y : Bool) × (single a b k j ≡ bit x *ℚ bit y)
-single_bits a b k j =
-    let row = unit_bit a k in
-    let column = unit_bit b j in
-    (row.0, column.0, ap₂ (λ (x y : Fraction). x *ℚ y) row.1 column.1)
 
 single_whole : (a b k j : ℕ) → IsWhole 1 (single a b k j)
 single_whole a b k j =
@@ -181,13 +166,9 @@ IsCleared (coefficients place e) = ⊥
 IsCleared (clearing place numbers) = Each (IsWhole 255) numbers
 
 -- ---- numbers that are whole are cleared as they are
-each_append : (xs ys : List Fraction) → Each (IsWhole 255) xs → Each (IsWhole 255) ys → Each (IsWhole 255) (xs ++ ys)
-each_append [] ys h k = k
-each_append (x ∷ xs) ys h k = (h.0, each_append xs ys h.1 k)
-
 entries_whole : (rows : List (List Fraction)) → Each (Each (IsWhole 255)) rows → Each (IsWhole 255) (entries rows)
 entries_whole [] h = tt
-entries_whole (row ∷ rows) h = each_append row (entries rows) h.0 (entries_whole rows h.1)
+entries_whole (row ∷ rows) h = each_append (IsWhole 255) row (entries rows) h.0 (entries_whole rows h.1)
 
 denominator_one : (qs : List Fraction) → Each (IsWhole 255) qs → denominator qs ≡ 1
 unfolding gcd
@@ -244,7 +225,7 @@ module _ (limit : ℕ) (wide_enough : 255 ≤ limit) where
 
     written_by : Each IsCleared (judged_set m) → Each (IsSmallForm m) (forms m) → IsWritten limit m
     written_by rows small =
-        each_both (λ j. IsWideThere limit m j → ⊥) (judged_set m) (judged_forms m) (rows_narrow (judged_set m) rows)
+        each_append (λ j. IsWideThere limit m j → ⊥) (judged_set m) (judged_forms m) (rows_narrow (judged_set m) rows)
         (forms_narrow 0 (forms m) small)
 
 -- ---- tests

@@ -1,8 +1,7 @@
 -- The answer of `narrow`, and the answers of `solve` and `prove` for a narrow model.
-use Rattle.std.proofs.Common.{◌≡◌, ◌≢◌, pos, ◌&&◌, ◌↔◌, ◌⊎◌, ℕ, ◌++◌, Bool, true, false, List, Option, Some, None, Result, Ok, Err, IfOk, codes, inl, inr, refl, sym, ◌∙◌, ap₂, subst}
+use Rattle.std.proofs.Common.{◌≡◌, ◌≢◌, pos, ◌&&◌, ◌↔◌, ◌⊎◌, ℕ, ◌++◌, true, List, Option, Some, None, Result, Ok, Err, IfOk, codes, inl, inr, refl, sym, ◌∙◌, ap₂, subst}
 use Rattle.std.specs.Prelude.{is_some}
 use Rattle.rob_algebra.specs.Fraction.{Fraction, of_int}
-use Rattle.rob_cert.proofs.PartLemmas.{both_true}
 use Rattle.rob_counterpart.proofs.CompletenessLemmas.{some_status}
 use Rattle.rob_dualize.proofs.SolvingLemmas.{narrow_spot}
 use Rattle.rob_dualize.specs.RowBounds.{AreBothWithin, TellsBounds}
@@ -41,6 +40,7 @@ use Rattle.rob_words.specs.Commands.{Line}
 use Rattle.rob_words.specs.declared.route.Route.TheVariants.{Dual}
 use Rattle.rob_words.specs.declared.verb.Verb.{Verb}
 use Rattle.rob_words.specs.declared.verb.Verb.TheVariants.{Narrow}
+use Rattle.std.proofs.lemmas.Bool.{and_parts, and_from}
 
 -- ---- what is printed
 some_not_none : {A : Type 0} (o : Option A) → is_some o ≡ true → o ≢ None
@@ -51,17 +51,13 @@ not_none_some : {A : Type 0} (o : Option A) → o ≢ None → is_some o ≡ tru
 not_none_some None h = absurd (h refl)
 not_none_some (Some x) h = refl
 
-true_both : (a b : Bool) → a ≡ true → b ≡ true → (a && b) ≡ true
-true_both true b e h = h
-true_both false b e h = cc
-
 told_yes : (told : ModelBounds) (limit : ℕ) (m : RobustModel) → AreBothWithin told ↔ IsNarrowModel limit m
     → ((is_some told.set.bound && is_some told.counterpart.bound) ≡ true) ↔ IsNarrowModel limit m
 told_yes told limit m h = (
-  λ e. let both = both_true (is_some told.set.bound) (is_some told.counterpart.bound) e in
+  λ e. let both = and_parts (is_some told.set.bound) (is_some told.counterpart.bound) e in
       h.0 (some_not_none told.set.bound both.0, some_not_none told.counterpart.bound both.1),
   λ narrow. let both = h.1 narrow in
-      true_both (is_some told.set.bound) (is_some told.counterpart.bound) (not_none_some told.set.bound both.0)
+      and_from (is_some told.set.bound) (is_some told.counterpart.bound) (not_none_some told.set.bound both.0)
       (not_none_some told.counterpart.bound both.1),
 )
 

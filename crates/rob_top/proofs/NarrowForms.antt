@@ -50,7 +50,7 @@ abbrev test_clearing : (numbers : List Fraction) → Option (IsWideCleared great
 test_clearing numbers = neither (test_size (denominator numbers)) (test_wholes (denominator numbers) numbers)
 
 -- ---- coefficients of the difference of two units
-abbrev bit : Bool → Fraction
+abbrev pub bit : Bool → Fraction
 bit true = 1ℚ
 bit false = 0ℚ
 
@@ -60,7 +60,7 @@ unit_bit zero (suc j) = (false, refl)
 unit_bit (suc k) zero = (false, refl)
 unit_bit (suc k) (suc j) = unit_bit k j
 
-single_bits : (a b k j : ℕ) → (x : Bool) × (y : Bool) × (single a b k j ≡ bit x *ℚ bit y)
+pub single_bits : (a b k j : ℕ) → (x : Bool) × (y : Bool) × (single a b k j ≡ bit x *ℚ bit y)
 single_bits a b k j =
     let row = unit_bit a k in
     let column = unit_bit b j in

@@ -2,7 +2,6 @@
 use Rattle.std.proofs.Common.{◌≡◌, ◌++◌, ◌-◌, ◌^◌, ℕ, Bool, true, false, List, [], ◌∷◌, codes, append_assoc, arith, refl, sym, ◌∙◌, ap, subst}
 use Rattle.rob_counterpart.specs.Counterpart.{set_program, counterpart}
 use Rattle.rob_dualize.specs.Solving.{IsNarrowModel}
-use Rattle.rob_elab.specs.Forms.{judged_forms}
 use Rattle.rob_algebra.specs.Fraction.{Fraction}
 use Rattle.rob_meaning.specs.Certificates.{Status}
 use Rattle.rob_meaning.specs.Proves.{HasStatus}
@@ -10,7 +9,6 @@ use Rattle.rob_meaning.specs.UncertaintySet.{Admits, IsEmptySet}
 use Rattle.rob_model.specs.declared.place.Spot.{Spot}
 use Rattle.rob_report.specs.NarrowText.{narrow_line}
 use Rattle.rob_sets.specs.FirstWide.{NothingWide}
-use Rattle.rob_sets.specs.SetForm.{judged_set}
 use Rattle.rob_top.specs.Calls.{Call, IsSolving, Known, known_call, limit_of}
 use Rattle.rob_top.specs.Completeness.{MustEnd}
 use Rattle.rob_top.specs.Endings.{EndsAs, IsShownAnswer}
@@ -23,6 +21,7 @@ use Rattle.rob_words.specs.Commands.{Line}
 use Rattle.rob_words.specs.Values.{bits_of}
 use Rattle.rob_words.specs.declared.route.Route.TheVariants.{Dual}
 use Rattle.rob_words.specs.declared.width.Width.{Width}
+use Rattle.rob_elab.specs.Written.{judged}
 
 -- ---- the end of a text
 -- the last two bytes, where there are as many
@@ -77,7 +76,7 @@ module _ (narrowing : Call) (text : List ℕ) (narrowed : IsNarrowed narrowing t
     model = has;
     none_wide =
         subst (λ (w : Width). NothingWide (2 ^ bits_of w - 1) narrowed.m
-        (judged_set narrowed.m ++ judged_forms narrowed.m)) (sym width)
+        (judged narrowed.m)) (sym width)
         narrowed.forms.none_wide;
   }
 

@@ -21,10 +21,7 @@ use Rattle.rob_reach.specs.Ranges.{KeepsNames}
 use Rattle.rob_reach.specs.Trees.{IsIn}
 use Rattle.rob_top.specs.Inputs.{AreVariables}
 use Rattle.rob_words.specs.Names.{parts_behind, parts_of}
-
--- where a list is told by its first item
-pub first_is : {A : Type 0} (x y : A) (xs ys : List A) → x ∷ xs ≡ y ∷ ys → x ≡ y
-first_is x y xs ys e = cc
+use Rattle.rob_meaning.proofs.JoinedLemmas.{head_same}
 
 rest_is : {A : Type 0} (x y : A) (xs ys : List A) → x ∷ xs ≡ y ∷ ys → xs ≡ ys
 rest_is x y xs ys e = cc
@@ -142,7 +139,7 @@ module _ (m : RobustModel) where
         list,
         is,
         inside.0,
-        first_is (name_of k) name (map name_of list) rest named,
+        head_same (name_of k) name (map name_of list) rest named,
         each_map (λ j. Each (λ y. j ≢ y) (k ∷ list)) (λ j. j ≢ k) (λ j h. h.0) numbers apart,
       )
 
@@ -219,7 +216,7 @@ module _ (m : RobustModel) where
     same_numbers (i ∷ a) (j ∷ b) e h k =
         let one : i ≡ j =
         one_number (column_names m) i j (columns_distinct m model is_named) (column_in i h.0) (column_in j k.0)
-        (first_is (name_of i) (name_of j) (map name_of a) (map name_of b) e)
+        (head_same (name_of i) (name_of j) (map name_of a) (map name_of b) e)
         in
         let more : a ≡ b =
         same_numbers a b (rest_is (name_of i) (name_of j) (map name_of a) (map name_of b) e) h.1 k.1 in

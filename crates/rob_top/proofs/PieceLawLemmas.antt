@@ -9,26 +9,14 @@ use Rattle.rob_meaning.specs.Proves.{HasStatus}
 use Rattle.rob_meaning.specs.RobustModel.{RobustModel}
 use Rattle.rob_meaning.specs.Status.{IsOptimal, IsUnbounded}
 use Rattle.rob_meaning.specs.UncertaintySet.{Admits}
-use Rattle.rob_meaning.specs.WellFormed.{IsModel}
-use Rattle.rob_number.specs.Lowest.{limit_low}
-use Rattle.rob_parse.proofs.Building.PlacedLemmas.{well_formed}
 use Rattle.rob_pieces.proofs.PieceLemmas.{never_worse, plan_is_piece}
 use Rattle.rob_pieces.specs.Cuts.{Cut}
 use Rattle.rob_pieces.specs.Pieces.{IsPieceInfeasible, IsPieceUnbounded, same_in_all}
 use Rattle.rob_top.proofs.SplitAnswerLemmas.{same_piece_status}
-use Rattle.rob_top.proofs.WorkLemmas.{limit_is}
-use Rattle.rob_top.specs.Calls.{Call, limit_of}
-use Rattle.rob_top.specs.Inputs.{HasModel}
+use Rattle.rob_top.specs.Calls.{Call}
 use Rattle.rob_top.specs.Solved.{IsEmptySet, IsSolved}
 use Rattle.rob_top.specs.Split.{IsPieced}
-use Rattle.rob_words.specs.Commands.{Line}
-use Rattle.rob_words.specs.Values.{bits_of}
-
--- a model that was read is well formed
-read_model : (call : Call) (line : Line) (m : RobustModel) → HasModel call line m → IsModel m
-read_model call line m has =
-    well_formed (limit_of line) has.bytes m has.reads
-    (subst (λ (l : ℕ). 1 ≤ l) (limit_is line.width) (limit_low (bits_of line.width)))
+use Rattle.rob_top.proofs.ReplayAnswerLemmas.{model_read}
 
 module _ (m : RobustModel) (cuts : List Cut) where
   -- where no piece has a bound no plan has one
@@ -69,4 +57,4 @@ module _ (cutting solving : Call) where
       let has = x.has.has_cuts in
       y.shown.empty u.0
       (subst (λ k. Admits k u.0) same
-      ((joint_alone_law x.m (read_model cutting x.line x.m has.has_word.model) has.alone u.0).1 u.1.0))
+      ((joint_alone_law x.m (model_read cutting x.line x.m has.has_word.model) has.alone u.0).1 u.1.0))

@@ -3,7 +3,7 @@ use Rattle.std.proofs.Common.{◌≡◌, ◌⊎◌, ℕ, List, Some, inl, inr, r
 use Rattle.rob_algebra.specs.Fraction.{Fraction}
 use Rattle.rob_branch.proofs.OneSpotLemmas.{first_once, none_first}
 use Rattle.rob_cells.specs.Rules.{BreaksRule, KeepsRules}
-use Rattle.rob_dualize.specs.Models.{IsWideIn, IsWritten, judged}
+use Rattle.rob_dualize.specs.Models.{IsWideIn}
 use Rattle.rob_meaning.specs.Certificates.{Status, optimal, infeasible, unbounded}
 use Rattle.rob_meaning.specs.RobustModel.{RobustModel}
 use Rattle.rob_meaning.specs.UncertaintySet.{IsEmptySet}
@@ -35,6 +35,7 @@ use Rattle.rob_words.specs.Names.{parts_of}
 use Rattle.rob_words.specs.Values.{Word}
 use Rattle.rob_words.specs.declared.verb.Verb.{Verb}
 use Rattle.rob_words.specs.declared.verb.Verb.TheVariants.{Cells, CellText}
+use Rattle.rob_elab.specs.Written.{judged, IsWritten}
 
 -- `cells` isn't `celltext`
 two_splits : (verb : Verb) → verb ≡ Cells → verb ≡ CellText → ⊥

@@ -1,7 +1,7 @@
 -- What stands behind an answer of `cells` and `celltext`.
 use Rattle.std.proofs.Common.{◌≡◌, ℕ, ℤ, List, map, refl}
 use Rattle.rob_algebra.specs.Fraction.{Fraction, of_int}
-use Rattle.rob_dualize.specs.Models.{IsWideIn, IsWritten}
+use Rattle.rob_dualize.specs.Models.{IsWideIn}
 use Rattle.rob_dualize.specs.Solving.{IsShownEmpty}
 use Rattle.rob_meaning.specs.Certificates.{Status}
 use Rattle.rob_meaning.specs.RobustModel.{RobustModel}
@@ -16,6 +16,7 @@ use Rattle.rob_top.specs.declared.ended.Ended.{Ended}
 use Rattle.rob_top.specs.declared.ended.Ended.TheVariants.{Printed, EmptySet, TooWide, Cells as CellsRule}
 use Rattle.rob_words.specs.Commands.{Line}
 use Rattle.rob_words.specs.declared.verb.Verb.TheVariants.{Cells, CellText}
+use Rattle.rob_elab.specs.Written.{IsWritten}
 
 -- a rule that is broken; a status over pieces, where each cell holds an admitted
 -- scenario, or an empty set, and no number of the split model's set rows and

@@ -4,7 +4,6 @@ use Rattle.std.proofs.Common.{◌≡◌, ◌⊎◌, ◌∙◌, ◌-◌, ◌^◌,
 use Rattle.rob_algebra.specs.Fraction.{Fraction, of_pair}
 use Rattle.rob_algebra.specs.Width.{Fits}
 use Rattle.rob_cells.specs.Rules.{KeepsRules}
-use Rattle.rob_elab.specs.Forms.{judged_forms}
 use Rattle.rob_meaning.specs.Certificates.{Status, optimal, infeasible, unbounded}
 use Rattle.rob_meaning.specs.Proves.{HasStatus}
 use Rattle.rob_meaning.specs.RobustModel.{RobustModel}
@@ -17,7 +16,6 @@ use Rattle.rob_parse.specs.Modelled.{ReadsModel}
 use Rattle.rob_pieces.specs.Cuts.{AreCuts, Cut}
 use Rattle.rob_rules.specs.Texts.{Breaks}
 use Rattle.rob_sets.specs.FirstWide.{NothingWide}
-use Rattle.rob_sets.specs.SetForm.{judged_set}
 use Rattle.rob_split_text.proofs.ReadableSplits.{negated_fits}
 use Rattle.rob_split_text.proofs.SplitReading.{split_text_few, split_text_reads}
 use Rattle.rob_split_text.specs.SplitTexts.{HasFewTokens, HaveFittingLevels}
@@ -57,6 +55,7 @@ use Rattle.rob_words.specs.Verbs.{own_of}
 use Rattle.rob_words.specs.declared.verb.Own.TheVariants as own
 use Rattle.rob_words.specs.declared.verb.Verb.TheVariants.{Check, Prove}
 use Rattle.rob_words.specs.declared.width.Width.{Width}
+use Rattle.rob_elab.specs.Written.{judged}
 
 -- ---- the numbers of cuts
 module _ (limit : ℕ) (low : 1 ≤ limit) where
@@ -277,7 +276,7 @@ module _ (printing : Call) (text : List ℕ) (split : IsSplitText printing text)
               (taken_model checking again other takes_too);
           none_wide =
               subst (λ (w : Width). NothingWide (2 ^ bits_of w - 1) solved.m
-              (judged_set solved.m ++ judged_forms solved.m)) (sym width)
+              (judged solved.m)) (sym width)
               solved.forms.none_wide;
         } in
         subst (λ (x : RobustModel). IsProvedAnswer (limit_of other) x solved.c ended) same

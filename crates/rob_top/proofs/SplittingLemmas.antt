@@ -10,7 +10,7 @@ use Rattle.rob_cells.specs.Rules.{BreaksRule, KeepsRules}
 use Rattle.rob_cert.specs.Apart.{FitsLines}
 use Rattle.rob_cert.specs.declared.ending.Stop.{Stop}
 use Rattle.rob_cert.specs.declared.ending.Stop.TheVariants as stop
-use Rattle.rob_dualize.specs.Models.{HasModelCause, IsWideIn, IsWritten, RoseIfStopped}
+use Rattle.rob_dualize.specs.Models.{HasModelCause, IsWideIn, RoseIfStopped}
 use Rattle.rob_dualize.specs.Solving.{IsSolution}
 use Rattle.rob_meaning.proofs.ProvesLemmas.{certificate_true}
 use Rattle.rob_meaning.specs.Certificates.{Certificate, Status, optimal, infeasible, unbounded}
@@ -59,6 +59,7 @@ use Rattle.rob_words.specs.declared.verb.Own.TheVariants.{Cuts}
 use Rattle.rob_words.specs.declared.verb.Verb.{Verb}
 use Rattle.rob_words.specs.declared.verb.Verb.TheVariants.{Cells, CellText}
 use Rattle.rob_write.specs.Canonical.{model_text}
+use Rattle.rob_elab.specs.Written.{IsWritten}
 
 -- ---- the word of cuts
 

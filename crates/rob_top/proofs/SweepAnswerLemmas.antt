@@ -7,7 +7,7 @@ use Rattle.rob_meaning.specs.RobustModel.{RobustModel}
 use Rattle.rob_model.specs.declared.place.Spot.{Spot}
 use Rattle.rob_reach.specs.Sweeps.{IsBudgetAt, with_budget}
 use Rattle.rob_sweep.specs.Answering.{AreWritten}
-use Rattle.rob_sweep.specs.Stops.{BreaksRule, IsWideAt, KeepsRules}
+use Rattle.rob_sweep.specs.Stops.{BreaksRule, IsWideAtLimit, KeepsRules}
 use Rattle.rob_top.proofs.CommandLemmas.{branches_no_sweep, check_no_sweep, makes_no_sweep, narrow_no_sweep, replay_no_sweep, rows_no_sweep, solves_no_sweep, tree_no_sweep, two_verbs, worst_no_sweep, sweeps_no_split}
 use Rattle.rob_top.proofs.CourseLemmas.{Course, SweepCourse, bounds, branching, breaks_rule, checking_tree, finds, judges, lacks_plan, prices, prints, refuses, replays, searches, shows_empty, sweeping, wide_limit, wide_number, wide_row, writes_limit, splitting}
 use Rattle.rob_top.proofs.TrueAnswerLemmas.{course_of, first_of_two, lacking_verb}
@@ -128,7 +128,7 @@ module _ (call : Call) (known : Known call.source) (line : Line) (m : RobustMode
               answer_is ended Printed e (moved (λ i xs. AreWritten (limit_of line) m i xs) k hs other written)
           by (wide_limit k hs number spot other kept wide e) =
               answer_is ended (WideBudget number spot) e
-              (moved (λ i xs. IsWideAt (limit_of line) m i xs number spot) k hs other wide)
+              (moved (λ i xs. IsWideAtLimit (limit_of line) m i xs number spot) k hs other wide)
           by (writes_limit k g other budget e) = absurd (two_sweeps line.verb has.is_sweep other.is_text)
 
           all : SweepCourse call line m ended ⊎ ((ended ≡ ReadFault) ⊎ (ended ≡ Memory))
@@ -138,7 +138,7 @@ module _ (call : Call) (known : Known call.source) (line : Line) (m : RobustMode
           all (inr (inr e)) = answer_is ended Memory e (inr (inr refl))
 
       narrow_here : IsNarrowAt (limit_of line) m n gs → (number : ℕ) (spot : Spot)
-          → IsWideAt (limit_of line) m n gs number spot → ⊥
+          → IsWideAtLimit (limit_of line) m n gs number spot → ⊥
       narrow_here narrow number spot wide =
           each_at (λ g. (s : Spot) → IsWideIn (limit_of line) (with_budget m n g) s → ⊥)
           wide.before wide.after wide.here
@@ -155,7 +155,7 @@ module _ (call : Call) (known : Known call.source) (line : Line) (m : RobustMode
           by (prices k hs other kept written e) = e
           by (wide_limit k hs number spot other kept wide e) =
               absurd (narrow_here narrow number spot
-              (moved (λ i xs. IsWideAt (limit_of line) m i xs number spot) k hs other wide))
+              (moved (λ i xs. IsWideAtLimit (limit_of line) m i xs number spot) k hs other wide))
           by (writes_limit k g other budget e) = e
 
   -- ---- `sweeptext`

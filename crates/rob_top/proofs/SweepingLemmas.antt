@@ -11,7 +11,7 @@ use Rattle.rob_number.specs.declared.memory.Memory.{Memory as Want}
 use Rattle.rob_reach.specs.Sweeps.{IsBudgetAt, SweepAnswer, Swept, with_budget}
 use Rattle.rob_report.specs.Places.{IsSpotOf}
 use Rattle.rob_sweep.specs.Answering.{AreWritten, EachAnswer, EachGrowsHarder, NamesEmpty}
-use Rattle.rob_sweep.specs.Stops.{CountsStop, HasCause, IsWideAt, KeepsRules}
+use Rattle.rob_sweep.specs.Stops.{CountsSweepStop, HasCause, IsWideAtLimit, KeepsRules}
 use Rattle.rob_sweep.specs.SweepText.{sweep_text}
 use Rattle.rob_sweep.specs.View.{answer_of}
 use Rattle.rob_sweep.specs.declared.answer.SweepAnswer as answer
@@ -142,7 +142,7 @@ answers_fit value limit fits (Empty ∷ answers) = (tt, answers_fit value limit 
 -- why a sweep stopped at a wide number
 pub wide_cause : (limit : ℕ) (m : RobustModel) (n : ℕ) (gs : List Fraction) (s : SweepStop) (number : ℕ) (spot : Spot)
     → s ≡ unswept.Wide number spot → HasCause limit m n gs s → KeepsRules m.set_lines n gs
-    × IsWideAt limit m n gs number spot
+    × IsWideAtLimit limit m n gs number spot
 wide_cause limit m n gs s number spot is cause = subst (λ (x : SweepStop). HasCause limit m n gs x) is cause
 
 -- ---- `sweep`
@@ -211,17 +211,17 @@ module _ (limit : ℕ) (m : RobustModel) where
 
   -- the sweep stopped
   stop_answers : (before now n : ℕ) (gs : List Fraction) (s : SweepStop) (reply : Reply) → HasCause limit m n gs s
-      → CountsStop before now s
+      → CountsSweepStop before now s
       → RepliesUnswept limit m n gs s reply → AnswersSweep limit (count before now) m n gs reply
   stop_answers before now n gs (unswept.Rule rule) reply cause counted is = λ call line at has.
       subst (λ (ended : Ended). Means call ended reply.text) (sym is.0)
       (record { line = line; m = m; breaks = at_limits n gs has cause; printed = is.1 })
   stop_answers before now n gs (unswept.Wide number spot) reply cause counted is = λ call line at has.
-      let wide : IsWideAt (limit_of line) m n gs number spot =
-      subst (λ (l : ℕ). IsWideAt l m n gs number spot) (sym at.limit_is) cause.1
+      let wide : IsWideAtLimit (limit_of line) m n gs number spot =
+      subst (λ (l : ℕ). IsWideAtLimit l m n gs number spot) (sym at.limit_is) cause.1
       in
       let says : Replies (WideBudget number spot) (wide_budget_text m n wide.here spot) reply =
-      subst (λ (l : ℕ). (h : IsWideAt l m n gs number spot)
+      subst (λ (l : ℕ). (h : IsWideAtLimit l m n gs number spot)
       → Replies (WideBudget number spot) (wide_budget_text m n h.here spot) reply)
       (sym at.limit_is) is wide
       in
@@ -241,7 +241,7 @@ module _ (limit : ℕ) (m : RobustModel) where
 
   pub unswept_answers : (before now n : ℕ) (gs : List Fraction) (s : SweepStop) (r : Result Reply Want)
       → HasCause limit m n gs s
-      → CountsStop before now s → IfOk r (RepliesUnswept limit m n gs s)
+      → CountsSweepStop before now s → IfOk r (RepliesUnswept limit m n gs s)
       → IfOk r (AnswersSweep limit (count before now) m n gs)
   unswept_answers before now n gs s (Err want) cause counted is = tt
   unswept_answers before now n gs s (Ok reply) cause counted is = stop_answers before now n gs s reply cause counted is
@@ -297,7 +297,7 @@ module _ (limit : ℕ) (m : RobustModel) where
       ap (λ (i : ℕ). get_or ((g ∷ before) ++ here ∷ after) i d) e ∙ limit_at before after here (length before) d refl
 
   pub wide_here : (n : ℕ) (gs : List Fraction) (number : ℕ) (spot : Spot) (g d : Fraction)
-      (h : IsWideAt limit m n gs number spot)
+      (h : IsWideAtLimit limit m n gs number spot)
       → g ≡ get_or gs (number - 1) d → h.here ≡ g
   wide_here n gs number spot g d h is =
       let back : number - 1 ≡ length h.before = omega (arith, h.counted) in
@@ -305,7 +305,7 @@ module _ (limit : ℕ) (m : RobustModel) where
       ∙ limit_at h.before h.after h.here (number - 1) d back)
 
   pub wide_there : (n : ℕ) (gs : List Fraction) (number : ℕ) (spot : Spot) (g d : Fraction)
-      (h : IsWideAt limit m n gs number spot)
+      (h : IsWideAtLimit limit m n gs number spot)
       → g ≡ get_or gs (number - 1) d → IsSpotOf (with_budget m n g) spot
   wide_there n gs number spot g d h is =
       spot_in limit (with_budget m n g) spot

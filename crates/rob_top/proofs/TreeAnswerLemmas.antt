@@ -1,7 +1,7 @@
 -- Which answer has to come at `checktree`, where what is known of the files decides.
 use Rattle.std.proofs.Common.{◌≡◌, ℕ, List, inl, inr, ◌∙◌, ap, subst, ◌⊎◌}
 use Rattle.rob_branch.proofs.OneSpotLemmas.{at_place, passed_narrow}
-use Rattle.rob_branch.specs.Verdicts.{IsAccepted, IsPassed, IsWideAt, NoneWide}
+use Rattle.rob_branch.specs.Verdicts.{IsAccepted, IsPassed, IsWideInLeaf, NoneWide}
 use Rattle.rob_meaning.specs.RobustModel.{RobustModel}
 use Rattle.rob_model.specs.declared.place.Spot.{Spot}
 use Rattle.rob_reach.specs.Ranges.{KeepsBothBounds}
@@ -201,7 +201,7 @@ module _ (limit : ℕ) (m : RobustModel) (names : List ℕ) (t : Tree)
   no_width_told : NoneWide limit m t → NamesWidth limit m names t ended → ⊥
   no_width_told none h =
       let wide = h.2 in
-      at_place (λ l. (spot : Spot) → IsWideAt limit l spot → ⊥) (leaves m t.root) wide.number wide.leaf
+      at_place (λ l. (spot : Spot) → IsWideInLeaf limit l spot → ⊥) (leaves m t.root) wide.number wide.leaf
       wide.here none h.1 wide.wide
 
   pub judged_tree : NoneWide limit m t → (ProvesTree m names t → ⊥) → IsTreeAnswer limit m names t ended

@@ -2,11 +2,10 @@
 -- forms, set rows and columns, and the same set.
 use Rattle.std.proofs.Common.{◌≡◌, ◌<◌, ◌≤◌, ℕ, zero, suc, ◌+◌, List, [], ◌∷◌, ◌++◌, length, map, Some, None, Option, IfSome, refl, sym, ap, subst, ◌∙◌}
 use Rattle.rob_branch.proofs.OneSpotLemmas.{at_place}
-use Rattle.rob_branch.specs.Verdicts.{HasVerdict, IsRejectedAt, IsTooWideAt, IsVerdict, IsWideAt, Tells, checking, path_at, paths, writing}
+use Rattle.rob_branch.specs.Verdicts.{HasVerdict, IsRejectedAt, IsTooWideAt, IsVerdict, IsWideInLeaf, TellsFault, checking, path_at, paths, writing}
 use Rattle.rob_cert.specs.Shape.{HasShape}
 use Rattle.rob_check.specs.Conditions.{verdict_of}
 use Rattle.rob_check.specs.declared.verdict.Verdict.TheVariants as check
-use Rattle.rob_dualize.specs.Models.{judged}
 use Rattle.rob_meaning.proofs.EachLemmas.{each_append, each_map, each_right}
 use Rattle.rob_meaning.specs.Certificates.{Certificate, Status, optimal, infeasible, unbounded}
 use Rattle.rob_meaning.specs.Names.{column_names}
@@ -35,6 +34,7 @@ use Rattle.rob_tree.specs.declared.verdict.TreeVerdict.TheVariants as verdict
 use Rattle.rob_top.proofs.BoxPathLemmas.{first_moves, judged_spot}
 use Rattle.rob_top.proofs.CheckingLemmas.{rejected_place, too_wide_place}
 use Rattle.rob_top.specs.TreeWork.{IsFaultOf, IsVerdictOf}
+use Rattle.rob_elab.specs.Written.{judged}
 
 -- ---- the boxes of leaves
 
@@ -182,7 +182,7 @@ module _ (a m : RobustModel) (like : IsLike a m) where
 
 -- what is wide for a leaf is told by the model's names
 wide_spot : (limit : ℕ) (m : RobustModel) (l : Leaf) (spot : Spot) → IsLike l.box m → IsShaped l
-    → IsWideAt limit l spot → IsSpotOf m spot
+    → IsWideInLeaf limit l spot → IsSpotOf m spot
 wide_spot limit m l spot like shaped (writing c some first) =
     first_moves l.box m like.counts (ap length like.lines) limit l.box (judged l.box) spot first
     (judged_spot limit l.box spot first)
@@ -194,7 +194,7 @@ wide_spot limit m l spot like shaped (checking c place some h is) =
 
 -- what is told of a leaf at which a condition fails is too; of an open leaf no proof is asked
 told_named : (limit : ℕ) (m : RobustModel) (f : ReachFault) (told : LeafFault) (l : Leaf) → IsLike l.box m → IsShaped l
-    → (f ≡ proof → l.certificate ≡ None → ⊥) → Tells limit f told l → IsFaultOf m told
+    → (f ≡ proof → l.certificate ≡ None → ⊥) → TellsFault limit f told l → IsFaultOf m told
 told_named limit m proof told l like shaped there h =
     subst (λ (f : LeafFault). IsFaultOf m f) (sym h.1) (by l.certificate refl shaped h.2)
   where

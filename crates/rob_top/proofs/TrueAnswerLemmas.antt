@@ -11,7 +11,6 @@ use Rattle.rob_cert.specs.declared.error.CertErr.TheVariants.{Rule}
 use Rattle.rob_cert.proofs.OneCertificate.{read_once}
 use Rattle.rob_cert.proofs.SpellingLaws.{breaks_none}
 use Rattle.rob_check.specs.Conditions.{verdict_of}
-use Rattle.rob_elab.specs.Forms.{judged_forms}
 use Rattle.rob_meaning.specs.Certificates.{Certificate, Status, optimal, infeasible, unbounded}
 use Rattle.rob_meaning.specs.Named.{IsNamed}
 use Rattle.rob_meaning.specs.Proves.{HasStatus}
@@ -26,7 +25,6 @@ use Rattle.rob_parse.proofs.Building.OneModel.{not_both}
 use Rattle.rob_parse.proofs.Names.WellNamed.{well_named, well_spelled}
 use Rattle.rob_rules.specs.Texts.{Breaks}
 use Rattle.rob_sets.specs.FirstWide.{IsFirstWide}
-use Rattle.rob_sets.specs.SetForm.{judged_set}
 use Rattle.rob_branch.proofs.OneSpotLemmas.{first_once, none_first}
 use Rattle.rob_cert.proofs.OneBreach.{one_cause}
 use Rattle.rob_top.proofs.AbsentAnswerLemmas.{no_missing, no_too_long}
@@ -51,6 +49,7 @@ use Rattle.rob_words.specs.Values.{bits_of}
 use Rattle.rob_words.specs.declared.verb.Own.TheVariants as own
 use Rattle.rob_words.specs.declared.verb.Verb.TheVariants.{Rows, Replay}
 use Rattle.rob_words.proofs.Spellings.{one_line}
+use Rattle.rob_elab.specs.Written.{judged}
 
 -- a certificate that gives no plan stands in the words of `replay`
 pub lacking_verb : (call : Call) (line : Line) (m : RobustModel) (rule number : ℕ)
@@ -97,13 +96,13 @@ module _ (call : Call) (known : Known call.source) where
 
     -- ---- a number of the set rows and forms is wide
     pub wide_decides : HasModel call line m → IsElaborating line.verb → (spot : Spot)
-        → IsFirstWide (limit_of line) m (judged_set m ++ judged_forms m) spot
+        → IsFirstWide (limit_of line) m (judged m) spot
         → (ended : Ended) (text : List ℕ) → Means call ended text
         → (ended ≡ TooWide spot) ⊎ ((ended ≡ ReadFault) ⊎ (ended ≡ Memory))
     wide_decides has makes spot first ended text means = first_of_two by (course_of has ended text means)
       where
         no_forms : HasForms call line m → ⊥
-        no_forms forms = none_first (limit_of line) m (judged_set m ++ judged_forms m) spot forms.none_wide first
+        no_forms forms = none_first (limit_of line) m (judged m) spot forms.none_wide first
 
         by : Course call line m ended → ended ≡ TooWide spot
         by (finds status v u inside forms solves holds e) = absurd (no_forms forms)
@@ -113,7 +112,7 @@ module _ (call : Call) (known : Known call.source) where
         by (refuses bytes rule number h breach e) = absurd (no_forms h.forms)
         by (wide_number other made h e) =
             e ∙ ap (λ (s : Spot). TooWide s)
-            (first_once (limit_of line) m (judged_set m ++ judged_forms m) other spot h first)
+            (first_once (limit_of line) m (judged m) other spot h first)
         by (wide_row other forms solves wide e) = absurd (no_forms forms)
         by (replays c bytes rows h file e) = absurd (replays_alone line.verb h.certificate.file.is_replay makes)
         by (lacks_plan rule number h e) =
@@ -127,8 +126,8 @@ module _ (call : Call) (known : Known call.source) where
 
     -- ---- none is
     pub no_first : HasForms call line m → (spot : Spot)
-        → IsFirstWide (limit_of line) m (judged_set m ++ judged_forms m) spot → ⊥
-    no_first forms spot first = none_first (limit_of line) m (judged_set m ++ judged_forms m) spot forms.none_wide first
+        → IsFirstWide (limit_of line) m (judged m) spot → ⊥
+    no_first forms spot first = none_first (limit_of line) m (judged m) spot forms.none_wide first
 
     pub rows_decide : HasForms call line m → line.verb ≡ Rows → (ended : Ended) (text : List ℕ) → Means call ended text
         → (ended ≡ Printed) ⊎ ((ended ≡ ReadFault) ⊎ (ended ≡ Memory))

@@ -3,7 +3,7 @@ use Rattle.std.proofs.Common.{◌≡◌, ℕ, pos, List, [], ◌∷◌, map, Som
 use Rattle.rob_algebra.specs.Fraction.{Fraction, of_int}
 use Rattle.rob_branch.proofs.OneSpotLemmas.{first_once, none_first}
 use Rattle.rob_branch.specs.Growth.{IsWrittenUpTo}
-use Rattle.rob_dualize.specs.Models.{IsWideIn, IsWritten, judged}
+use Rattle.rob_dualize.specs.Models.{IsWideIn}
 use Rattle.rob_meaning.specs.Certificates.{Status, optimal, infeasible, unbounded}
 use Rattle.rob_meaning.specs.RobustModel.{RobustModel}
 use Rattle.rob_meaning.specs.UncertaintySet.{Admits, IsEmptySet}
@@ -34,6 +34,7 @@ use Rattle.rob_top.specs.declared.ended.Ended.TheVariants.{EmptySet, WideNode, W
 use Rattle.rob_words.specs.Commands.{Line}
 use Rattle.rob_words.specs.Names.{parts_of}
 use Rattle.rob_words.specs.Values.{Word}
+use Rattle.rob_elab.specs.Written.{judged, IsWritten}
 
 -- a model has one status over plans with whole numbers
 pub same_whole_status : (m : RobustModel) (names : List ℕ) (a b : Status) (v w : Fraction) → HasWholeStatus m names a v

@@ -1,7 +1,6 @@
 -- The answers for a model's text: of a refusal, of printed rows, and of what the work on a model answers.
 use Rattle.std.proofs.Common.{◌≡◌, ℕ, ◌≤◌, ◌^◌, ◌-◌, List, [], ◌++◌, Result, Ok, Err, IfOk, refl, subst, sym, ap, ◌∙◌, arith}
 use Rattle.rob_cert.specs.declared.trace.Round.{Round}
-use Rattle.rob_elab.specs.Forms.{judged_forms}
 use Rattle.rob_meaning.specs.RobustModel.{RobustModel}
 use Rattle.rob_model.specs.declared.place.Spot.{Spot}
 use Rattle.rob_number.specs.Counts.{Rose}
@@ -13,13 +12,9 @@ use Rattle.rob_rules.specs.Texts.{Breaks, HasModelCause}
 use Rattle.rob_rules.specs.declared.error.ModelErr.{ModelErr}
 use Rattle.rob_rules.specs.declared.error.ModelErr.TheVariants as unread
 use Rattle.rob_report.specs.Rows.{rows_of}
-use Rattle.rob_report.proofs.SpotLemmas.{set_spot, forms_spot}
-use Rattle.rob_sets.specs.FirstWide.{HasCause, IsFirstWide, IsWideThere, NothingWide, RoseIfWide}
-use Rattle.rob_sets.specs.SetForm.{judged_set}
+use Rattle.rob_sets.specs.FirstWide.{HasCause, IsFirstWide, RoseIfWide}
 use Rattle.rob_sets.specs.declared.error.ElabErr.{ElabErr}
 use Rattle.rob_sets.specs.declared.error.ElabErr.TheVariants as refused
-use Rattle.rob_sets.proofs.JudgedLemmas.{first_left, first_right}
-use Rattle.rob_sets.proofs.SubexpressionLemmas.{each_both}
 use Rattle.rob_top.specs.Answers.{model_fault_text}
 use Rattle.rob_top.specs.Calls.{Call, Count, IsElaborating, IsOnModel, count, reads_model, WasRaised}
 use Rattle.rob_top.specs.Headline.{Means}
@@ -42,6 +37,8 @@ use Rattle.rob_words.specs.declared.verb.Verb.{Verb}
 use Rattle.rob_words.specs.declared.verb.Verb.TheVariants.{Rows}
 use Rattle.rob_words.specs.declared.width.Width.{Width}
 use Rattle.rob_words.specs.declared.width.Width.TheVariants.{Eight, Sixteen, ThirtyTwo, SixtyTwo}
+use Rattle.rob_elab.specs.Written.{judged, IsWritten}
+use Rattle.rob_top.proofs.BoxPathLemmas.{judged_spot}
 
 -- ---- counts and widths
 
@@ -145,13 +142,9 @@ model_answers limit before middle now verb texts text m (Ok reply) reads same re
 
 -- ---- set rows and forms
 module _ (limit : ℕ) (m : RobustModel) where
-  pub set_refused_of : (e : ElabErr) → HasCause limit m (judged_set m) e → IsRefusedOf m e
-  set_refused_of (refused.Wide spot) h = set_spot m limit spot h
-  set_refused_of refused.Memory h = tt
-
-  pub forms_refused_of : (e : ElabErr) → HasCause limit m (judged_forms m) e → IsRefusedOf m e
-  forms_refused_of (refused.Wide spot) h = forms_spot m limit spot h
-  forms_refused_of refused.Memory h = tt
+  pub refused_of : (e : ElabErr) → HasCause limit m (judged m) e → IsRefusedOf m e
+  refused_of (refused.Wide spot) h = judged_spot limit m spot h
+  refused_of refused.Memory h = tt
 
   -- the reply to a wide number before which no rounds come
   pub refused_alone : (way : Route) (e : ElabErr) (spot : Spot) (told : List Round) (r : Result Reply Want)
@@ -166,7 +159,7 @@ module _ (limit : ℕ) (m : RobustModel) where
 
   -- a number is wide, first
   spot_answers : (wides : Count) (verb : Verb) (texts : Texts) (spot : _) (reply : Reply) → IsElaborating verb
-      → IsFirstWide limit m (judged_set m ++ judged_forms m) spot → WasRaised wides
+      → IsFirstWide limit m (judged m) spot → WasRaised wides
       → RepliesRefused m texts.route (refused.Wide spot) reply → AnswersModel limit wides m verb texts reply
   spot_answers wides verb texts spot reply makes first rose is = λ call line at came has.
       subst (λ (ended : Ended). Means call ended reply.text) (sym is.0)
@@ -174,46 +167,29 @@ module _ (limit : ℕ) (m : RobustModel) where
         line = line;
         m = m;
         wide = elaborating has (subst (λ (v : Verb). IsElaborating v) (sym at.verb_is) makes)
-            (subst (λ (l : ℕ). IsFirstWide l m (judged_set m ++ judged_forms m) spot) (sym at.limit_is) first);
+            (subst (λ (l : ℕ). IsFirstWide l m (judged m) spot) (sym at.limit_is) first);
         raised = at.raised rose;
         printed = subst (λ (way : Route). reply.text ≡ with_rounds way m [] (too_wide_line m spot)) came.way is.1;
       }))
 
-  pub set_answers : (before now : ℕ) (verb : Verb) (texts : Texts) (e : ElabErr) (r : Result Reply Want)
-      → IsElaborating verb → HasCause limit m (judged_set m) e → RoseIfWide before now e
+  pub refused_answers : (before now : ℕ) (verb : Verb) (texts : Texts) (e : ElabErr) (r : Result Reply Want)
+      → IsElaborating verb → HasCause limit m (judged m) e → RoseIfWide before now e
       → IfOk r (RepliesRefused m texts.route e) → IfOk r (AnswersModel limit (count before now) m verb texts)
-  set_answers before now verb texts e (Err want) makes cause rose is = tt
-  set_answers before now verb texts (refused.Wide spot) (Ok reply) makes cause rose is =
-      spot_answers (count before now) verb texts spot reply makes
-      (first_left limit m (judged_set m) (judged_forms m) spot cause) rose is
-  set_answers before now verb texts refused.Memory (Ok reply) makes cause rose is = absurd is
-
-  pub forms_answers : (before middle now : ℕ) (verb : Verb) (texts : Texts) (e : ElabErr) (r : Result Reply Want)
-      → IsElaborating verb → before ≤ middle → NothingWide limit m (judged_set m)
-      → HasCause limit m (judged_forms m) e → RoseIfWide middle now e → IfOk r (RepliesRefused m texts.route e)
-      → IfOk r (AnswersModel limit (count before now) m verb texts)
-  forms_answers before middle now verb texts e (Err want) makes least none cause rose is = tt
-  forms_answers before middle now verb texts (refused.Wide spot) (Ok reply) makes least none cause rose is =
-      spot_answers (count before now) verb texts spot reply makes
-      (first_right limit m (judged_set m) (judged_forms m) spot none cause)
-      (rose_earlier before middle now least rose) is
-  forms_answers before middle now verb texts refused.Memory (Ok reply) makes least none cause rose is = absurd is
+  refused_answers before now verb texts e (Err want) makes cause rose is = tt
+  refused_answers before now verb texts (refused.Wide spot) (Ok reply) makes cause rose is =
+      spot_answers (count before now) verb texts spot reply makes cause rose is
+  refused_answers before now verb texts refused.Memory (Ok reply) makes cause rose is = absurd is
 
   -- none is
   pub whole_answers : (before middle now : ℕ) (verb : Verb) (texts : Texts) (r : Result Reply Want) → before ≤ middle
-      → NothingWide limit m (judged_set m) → NothingWide limit m (judged_forms m)
-      → IfOk r (AnswersWhole limit (count middle now) m verb texts)
+      → IsWritten limit m → IfOk r (AnswersWhole limit (count middle now) m verb texts)
       → IfOk r (AnswersModel limit (count before now) m verb texts)
-  whole_answers before middle now verb texts (Err want) least a b h = tt
-  whole_answers before middle now verb texts (Ok reply) least a b h = λ call line at came has.
+  whole_answers before middle now verb texts (Err want) least written h = tt
+  whole_answers before middle now verb texts (Ok reply) least written h = λ call line at came has.
       h call line
       (call_within limit (count middle now) (count before now) verb call line
       (rose_earlier before middle now least) at) came
-      (record {
-        model = has;
-        none_wide = subst (λ (l : ℕ). NothingWide l m (judged_set m ++ judged_forms m)) (sym at.limit_is)
-            (each_both (λ j. IsWideThere limit m j → ⊥) (judged_set m) (judged_forms m) a b);
-      })
+      (record { model = has; none_wide = subst (λ (l : ℕ). IsWritten l m) (sym at.limit_is) written })
 
   -- the rows are printed
   pub rows_answer : (wides : Count) (verb : Verb) (texts : Texts) (r : Result Reply Want) → verb ≡ Rows

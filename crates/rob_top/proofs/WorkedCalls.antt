@@ -8,7 +8,6 @@ use Rattle.rob_algebra.specs.Fraction.{Fraction, ratio}
 use Rattle.rob_algebra.specs.Width.{Fits}
 use Rattle.rob_dualize.proofs.NarrowModels.{one_demand_admitted, one_demand_costs_12, one_demand_not_wide}
 use Rattle.rob_dualize.specs.SmallestModel.{one_demand}
-use Rattle.rob_elab.specs.Forms.{judged_forms}
 use Rattle.rob_meaning.proofs.EmptyLemmas.{shows_empty}
 use Rattle.rob_meaning.proofs.WorkedNotation.{int}
 use Rattle.rob_meaning.proofs.WorkedTests.{Found, found, test_differ, test_empty, test_model}
@@ -31,7 +30,6 @@ use Rattle.rob_syntax.specs.Symbols.{keyword_among, keywords}
 use Rattle.rob_syntax.specs.Names.{IsSpelled as IsSpelledName}
 use Rattle.rob_round_trip.specs.Readable.{IsReadableModel}
 use Rattle.rob_sets.specs.FirstWide.{NothingWide}
-use Rattle.rob_sets.specs.SetForm.{judged_set}
 use Rattle.rob_top.proofs.NarrowForms.{all_narrow, difference_narrow}
 use Rattle.rob_top.specs.Completeness.{MustEnd}
 use Rattle.rob_top.specs.Endings.{EndsAs, IsEmptyAnswer}
@@ -44,6 +42,7 @@ use Rattle.rob_words.specs.Commands.{Line, own, IsSpelled}
 use Rattle.rob_words.specs.declared.route.Route.TheVariants.{Dual}
 use Rattle.rob_words.specs.declared.verb.Verb.TheVariants.{Solve}
 use Rattle.rob_words.specs.declared.width.Width.TheVariants.{SixtyTwo}
+use Rattle.rob_elab.specs.Written.{judged, IsWritten}
 
 -- ---- solve one.rob, where the shelf tells a file of that name with the canonical text of a model
 abbrev pub line : Line
@@ -71,7 +70,7 @@ abbrev pub Comes : RobustModel → Type 0
 Comes m = found_at model_name 65536 (file_of model_name (model_text m) ∷ []) ≡ whole (model_text m)
 
 pub forms_on : (m : RobustModel) → Comes m → ReadsModel greatest (model_text m) m
-    → NothingWide greatest m (judged_set m ++ judged_forms m)
+    → IsWritten greatest m
     → HasForms (solve_call m) line m
 forms_on m comes reads narrow = record {
   model = record {
@@ -172,10 +171,10 @@ one_demand_reads =
       ((tt, (tt, tt)), ((tt, (tt, tt)), ((tt, (tt, (tt, (tt, (tt, (tt, tt)))))), tt))),
     ) (leb-true _ _ refl)
 
-pub one_demand_narrow : NothingWide greatest one_demand (judged_set one_demand ++ judged_forms one_demand)
+pub one_demand_narrow : IsWritten greatest one_demand
 unfolding ratio
 one_demand_narrow =
-    all_narrow one_demand (judged_set one_demand ++ judged_forms one_demand) (
+    all_narrow one_demand (judged one_demand) (
       tt,
       (
         tt,
@@ -259,10 +258,10 @@ empty_interval_reads =
     ((tt, (tt, (tt, (tt, (tt, (tt, (tt, (tt, tt)))))))), ((tt, (tt, tt)), ((tt, (tt, tt)), tt))) (leb-true _ _ refl)
 
 pub empty_interval_none_wide : NothingWide greatest empty_interval
-    (judged_set empty_interval ++ judged_forms empty_interval)
+    (judged empty_interval)
 unfolding ratio
 empty_interval_none_wide =
-    all_narrow empty_interval (judged_set empty_interval ++ judged_forms empty_interval) (
+    all_narrow empty_interval (judged empty_interval) (
       tt,
       (
         tt,

@@ -4,12 +4,9 @@ use Rattle.std.proofs.Common.{refl, inl, inr}
 use Rattle.std.specs.Prelude.{[], ◌∷◌, ◌++◌, codes}
 use Rattle.rob_dualize.proofs.NarrowModels.{one_demand_admitted, one_demand_costs_12}
 use Rattle.rob_dualize.specs.SmallestModel.{one_demand}
-use Rattle.rob_elab.specs.Forms.{judged_forms}
 use Rattle.rob_meaning.proofs.WorkedNotation.{int}
 use Rattle.rob_meaning.specs.RobustModel.{RobustModel}
 use Rattle.rob_parse.specs.Modelled.{ReadsModel}
-use Rattle.rob_sets.specs.FirstWide.{NothingWide}
-use Rattle.rob_sets.specs.SetForm.{judged_set}
 use Rattle.rob_top.proofs.SolveAnswers.{IsSolvedOrWide, optimal_or_wide}
 use Rattle.rob_top.proofs.WorkedCalls.{Comes, line, one_demand_comes, one_demand_narrow, one_demand_reads}
 use Rattle.rob_top.specs.Completeness.{MustEnd}
@@ -20,6 +17,7 @@ use Rattle.rob_top.specs.declared.ended.Ended.{Ended}
 use Rattle.rob_write.specs.Canonical.{model_text}
 use Rattle.rob_words.specs.Commands.{IsSpelled, Line, joined, own, route as route_setting}
 use Rattle.rob_words.specs.declared.route.Route.TheVariants.{Cuts}
+use Rattle.rob_elab.specs.Written.{IsWritten}
 
 -- solve one.rob --route=cuts
 abbrev pub by_cuts : Line
@@ -40,7 +38,7 @@ by_cuts_spelled = (
 )
 
 pub cut_forms : (m : RobustModel) → Comes m → ReadsModel greatest (model_text m) m
-    → NothingWide greatest m (judged_set m ++ judged_forms m) → HasForms (cuts_call m) by_cuts m
+    → IsWritten greatest m → HasForms (cuts_call m) by_cuts m
 cut_forms m comes reads narrow = record {
   model = record {
     spelled = by_cuts_spelled;

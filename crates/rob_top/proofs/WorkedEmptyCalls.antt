@@ -5,7 +5,6 @@ use Rattle.std.proofs.lemmas.Bool.{leb-true}
 use Rattle.std.specs.Fmt.{digits}
 use Rattle.std.specs.Prelude.{[], ◌∷◌, ◌++◌}
 use Rattle.rob_algebra.specs.Fraction.{ratio}
-use Rattle.rob_elab.specs.Forms.{judged_forms}
 use Rattle.rob_meaning.proofs.EmptyLemmas.{shows_empty}
 use Rattle.rob_meaning.proofs.WorkedNotation.{int}
 use Rattle.rob_meaning.proofs.WorkedTests.{found, test_empty, test_model}
@@ -18,8 +17,6 @@ use Rattle.rob_round_trip.proofs.Canonical.CanonicalReading.{canonical_reads}
 use Rattle.rob_write.specs.Canonical.{model_text, naming_of, written_model}
 use Rattle.rob_parse.specs.Modelled.{ReadsModel}
 use Rattle.rob_round_trip.specs.Readable.{IsReadableModel}
-use Rattle.rob_sets.specs.FirstWide.{NothingWide}
-use Rattle.rob_sets.specs.SetForm.{judged_set}
 use Rattle.rob_top.proofs.NarrowForms.{all_narrow, difference_narrow}
 use Rattle.rob_top.proofs.WorkedCalls.{Comes, fits_by, forms_on, line, within_by}
 use Rattle.rob_top.specs.Completeness.{MustEnd}
@@ -29,6 +26,7 @@ use Rattle.rob_top.specs.WorkedCalls.{solve_call}
 use Rattle.rob_top.specs.WorkedModels.{greatest, never_calm}
 use Rattle.rob_top.specs.declared.ended.Ended.{Ended}
 use Rattle.rob_top.proofs.WorkedSetCalls.{above_narrow, goal_narrow, its_names, its_parts, its_spelling}
+use Rattle.rob_elab.specs.Written.{judged, IsWritten}
 
 -- calm.d <= 12 and -calm.d <= -13 sum to 0 <= -1
 never_calm_admits_none : IsEmptySet never_calm
@@ -97,10 +95,10 @@ never_calm_reads =
     )
     (leb-true _ _ refl)
 
-never_calm_narrow : NothingWide greatest never_calm (judged_set never_calm ++ judged_forms never_calm)
+never_calm_narrow : IsWritten greatest never_calm
 unfolding ratio
 never_calm_narrow =
-    all_narrow never_calm (judged_set never_calm ++ judged_forms never_calm) (
+    all_narrow never_calm (judged never_calm) (
       tt,
       (
         tt,

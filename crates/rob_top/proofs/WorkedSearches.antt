@@ -1,5 +1,5 @@
--- A call of `worst` worked by hand: the objective at an order of 12, whose slack is 0 in each scenario, and no number on
--- the way is wide; and so how the call must end.
+-- A call of `worst` worked by hand: the objective at an order of 12, whose slack is 0 in each scenario, and no number
+-- on the way is wide; and so how the call must end.
 use Rattle.std.proofs.Common.{◌≡◌, ℕ, zero, suc, pos, ◌<◌, ◌≤◌, true, false, List, [], ◌∷◌, length, refl, ◌∙◌, ap, subst, inl, inr, ◌⊎◌, arith}
 use Rattle.std.specs.Int.RustNames.{unsigned_abs}
 use Rattle.std.specs.Prelude.{codes}
@@ -43,7 +43,8 @@ use Rattle.rob_worst.specs.Finding.{IsWideAt}
 
 -- ---- worst one.rob one.cert objective
 objective_sought : HasSought (worst_call order_12 (codes "objective")) (line (codes "objective")) one_demand order_12 0
-objective_sought = record { plan = order_12_plan (codes "objective") objective_spelled; is_form = omega arith; told = refl }
+objective_sought =
+    record { plan = order_12_plan (codes "objective") objective_spelled; is_form = omega arith; told = refl }
 
 -- ---- the form x - tau at x = 12, whose bound is 12
 abbrev at_plan : List Fraction

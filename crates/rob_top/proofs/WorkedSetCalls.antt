@@ -5,7 +5,6 @@ use Rattle.std.specs.Fmt.{digits}
 use Rattle.std.specs.Prelude.{◌≡◌, ℕ, zero, suc, true, List, [], ◌∷◌, ◌++◌, Option, Some, None, codes}
 use Rattle.rob_algebra.specs.Fraction.{ratio}
 use Rattle.rob_algebra.specs.Width.{IsWide}
-use Rattle.rob_elab.specs.Forms.{judged_forms}
 use Rattle.rob_meaning.proofs.WorkedNotation.{◌⊕◌, ◌⊖◌, int, cover, item, best}
 use Rattle.rob_meaning.proofs.WorkedTests.{Found, found, test_admits, test_certificate, test_model}
 use Rattle.rob_meaning.specs.Certificates.{optimal}
@@ -25,8 +24,7 @@ use Rattle.rob_parse.specs.Modelled.{ReadsModel}
 use Rattle.rob_syntax.specs.Names.{IsSpelled}
 use Rattle.rob_round_trip.specs.Readable.{IsReadableModel}
 use Rattle.rob_syntax.specs.Symbols.{keyword_among, keywords}
-use Rattle.rob_sets.specs.FirstWide.{NothingWide, Some_of}
-use Rattle.rob_sets.specs.SetForm.{judged_set}
+use Rattle.rob_sets.specs.FirstWide.{Some_of}
 use Rattle.rob_sets.specs.Subexpressions.{HasWideCoefficient, subexpressions}
 use Rattle.rob_top.proofs.NarrowForms.{all_narrow, difference_narrow, test_fraction}
 use Rattle.rob_top.proofs.SolveAnswers.{IsSolvedOrWide, optimal_or_wide}
@@ -37,6 +35,7 @@ use Rattle.rob_top.specs.WorkedCalls.{solve_call}
 use Rattle.rob_top.specs.WorkedModels.{greatest, hard_and_soft}
 use Rattle.rob_top.specs.declared.ended.Ended.{Ended}
 use Rattle.rob_words.specs.declared.route.Route.TheVariants.{Dual}
+use Rattle.rob_elab.specs.Written.{judged, IsWritten}
 
 -- ---- coefficients of an expression over 2 joint parameters and 3 decision columns
 -- both facts, where both tests find them
@@ -276,10 +275,10 @@ hard_and_soft_reads =
     )
     (leb-true _ _ refl)
 
-it_is_narrow : NothingWide greatest hard_and_soft (judged_set hard_and_soft ++ judged_forms hard_and_soft)
+it_is_narrow : IsWritten greatest hard_and_soft
 unfolding ratio
 it_is_narrow =
-    all_narrow hard_and_soft (judged_set hard_and_soft ++ judged_forms hard_and_soft) (
+    all_narrow hard_and_soft (judged hard_and_soft) (
       tt,
       (
         tt,

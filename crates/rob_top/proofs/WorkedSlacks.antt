@@ -54,7 +54,8 @@ order_least_comes : Come order_least
 unfolding ratio digits
 order_least_comes = record { model = refl; certificate = refl }
 
-objective_sought : HasSought (worst_call order_least (codes "objective")) (line (codes "objective")) one_demand order_least 0
+objective_sought : HasSought (worst_call order_least (codes "objective")) (line (codes "objective"))
+    one_demand order_least 0
 objective_sought = record {
   plan = record {
     certificate =

@@ -26,7 +26,6 @@ use Rattle.rob_round_trip.proofs.Canonical.CanonicalReading.{canonical_reads}
 use Rattle.rob_round_trip.specs.Readable.{IsReadableModel}
 use Rattle.rob_syntax.specs.Names.{IsSpelled as IsSpelledName}
 use Rattle.rob_tree.specs.declared.tree.Branch.{Branch}
-use Rattle.rob_top.proofs.NumberingLemmas.{first_is}
 use Rattle.rob_top.proofs.WorkedCalls.{Comes, differ, fits_by, free, letter, one_demand_comes, one_demand_reads, within_by}
 use Rattle.rob_top.specs.Branched.{no_ranges, no_variables}
 use Rattle.rob_top.specs.Completeness.{MustEnd}
@@ -43,6 +42,7 @@ use Rattle.rob_words.specs.declared.route.Route.TheVariants.{Dual}
 use Rattle.rob_words.specs.declared.verb.Verb.TheVariants.{Whole}
 use Rattle.rob_words.specs.declared.width.Width.TheVariants.{SixtyTwo}
 use Rattle.rob_write.specs.Canonical.{model_text, naming_of, written_model}
+use Rattle.rob_meaning.proofs.JoinedLemmas.{head_same}
 
 -- ---- whole one.rob NAME, where the shelf tells the model's file
 abbrev pub line : Word → Line
@@ -105,7 +105,7 @@ no_y : (numbers : List ℕ) → AreVariables one_demand (codes "y" ∷ []) numbe
 no_y [] h = absurd (let e : [] ≡ codes "y" ∷ [] = h.named in cc)
 no_y (zero ∷ numbers) h =
     differ (codes "x") (codes "y") tt
-    (first_is (codes "x") (codes "y") (map (name_at (column_names one_demand)) numbers) [] h.named)
+    (head_same (codes "x") (codes "y") (map (name_at (column_names one_demand)) numbers) [] h.named)
 no_y (suc k ∷ numbers) h = absurd (omega (arith, h.kept.inside.0))
 
 -- and this one rule 61

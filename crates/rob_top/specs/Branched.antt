@@ -3,7 +3,7 @@ use Rattle.std.specs.Fmt.{decimal}
 use Rattle.std.specs.Prelude.{◌≡◌, ◌≤◌, ◌++◌, ℕ, ℤ, nat_abs, List, Some, codes, map}
 use Rattle.rob_algebra.specs.Fraction.{of_int}
 use Rattle.rob_branch.specs.Growth.{AreBoxesWritten, IsWrittenUpTo}
-use Rattle.rob_dualize.specs.Models.{IsWideIn, IsWritten}
+use Rattle.rob_dualize.specs.Models.{IsWideIn}
 use Rattle.rob_dualize.specs.Solving.{IsShownEmpty}
 use Rattle.rob_meaning.specs.Certificates.{Certificate, Status, infeasible}
 use Rattle.rob_meaning.specs.Places.{Each}
@@ -30,6 +30,7 @@ use Rattle.rob_words.specs.Commands.{Line}
 use Rattle.rob_words.specs.Values.{Word}
 use Rattle.rob_words.specs.declared.verb.Verb.{Verb}
 use Rattle.rob_words.specs.declared.verb.Verb.TheVariants.{Whole, Tree as TreeVerb}
+use Rattle.rob_elab.specs.Written.{IsWritten}
 
 -- ---- what is printed
 

@@ -10,7 +10,6 @@ use Rattle.rob_cert.specs.declared.error.CertErr.TheVariants.{Rule}
 use Rattle.rob_check.specs.Conditions.{verdict_of}
 use Rattle.rob_check.specs.Narrow.{IsFirstFailing, NoneWide}
 use Rattle.rob_dualize.specs.Solving.{IsNarrowModel}
-use Rattle.rob_elab.specs.Forms.{judged_forms}
 use Rattle.rob_meaning.specs.Certificates.{Certificate, Status}
 use Rattle.rob_meaning.specs.Places.{Each}
 use Rattle.rob_meaning.specs.Proves.{HasStatus, Proves}
@@ -27,7 +26,6 @@ use Rattle.rob_replay.specs.Files.{IsFile}
 use Rattle.rob_replay.specs.Outcome.{outcome}
 use Rattle.rob_runs.specs.Spots.{IsWideSlack}
 use Rattle.rob_sets.specs.FirstWide.{IsFirstWide}
-use Rattle.rob_sets.specs.SetForm.{judged_set}
 use Rattle.rob_tree.specs.Reading.{Breaks as BreaksTree}
 use Rattle.rob_sweep.specs.Stops.{BreaksRule, KeepsRules}
 use Rattle.rob_top.specs.Branched.{BreaksWhole}
@@ -50,6 +48,7 @@ use Rattle.rob_words.specs.declared.route.Route.TheVariants.{Dual}
 use Rattle.rob_words.specs.declared.verb.Own.TheVariants as own
 use Rattle.rob_words.specs.declared.verb.Verb.TheVariants.{Rows, Text, Narrow}
 use Rattle.rob_top.specs.Endings.{IsUnput, IsOutside, EndsAs, IsSolveAnswer, IsEmptyAnswer, IsShownAnswer, IsProvedAnswer, IsWholeAnswer, IsWorstAnswer, IsEmptyWholeAnswer, IsSweepAnswer, IsNarrowAt, IsNarrowBelow, NamesFault, NamesWidth, NamesWideSought, IsTreeAnswer}
+use Rattle.rob_elab.specs.Written.{judged}
 
 -- ---- how a call must end, by its words and by what is found of its files
 
@@ -68,7 +67,7 @@ module _ (call : Call) (result : Ended) where
         → Breaks (limit_of line) bytes rule number → EndsAs (Model rule number) result
     -- set rows and forms, where the command makes them: a number of them is wide, so the first such number is named
     pub wide : (line : Line) (m : RobustModel) (spot : Spot) → HasModel call line m → IsElaborating line.verb
-        → IsFirstWide (limit_of line) m (judged_set m ++ judged_forms m) spot → EndsAs (TooWide spot) result
+        → IsFirstWide (limit_of line) m (judged m) spot → EndsAs (TooWide spot) result
     -- no number of them is wide, and the command is `rows`, so they are printed
     pub rows : (line : Line) (m : RobustModel) → HasForms call line m → line.verb ≡ Rows → EndsAs Printed result
     -- `solve` and `prove`: the answer is a status that the model has, or an empty set, or a wide number on the way of
@@ -135,7 +134,7 @@ module _ (call : Call) (result : Ended) where
     -- a number of the set rows and forms is wide, so the first such number is named, with the empty path
     pub whole_wide : (line : Line) (m : RobustModel) (names : List ℕ) (spot : Spot)
         → HasWholeVariables call line m names
-        → IsBranching line.verb → IsFirstWide (limit_of line) m (judged_set m ++ judged_forms m) spot
+        → IsBranching line.verb → IsFirstWide (limit_of line) m (judged m) spot
         → EndsAs (WideNode [] spot) result
     -- no joint scenario is admitted, so it is that, with the weights that show it, or a wide number of the set rows
     -- and forms, or of the set's program

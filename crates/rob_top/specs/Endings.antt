@@ -2,7 +2,7 @@
 use Rattle.std.specs.Prelude.{◌≡◌, ◌⊎◌, ℕ, List, [], map}
 use Rattle.rob_algebra.specs.Fraction.{Fraction, of_int}
 use Rattle.rob_branch.specs.Verdicts.{IsAccepted, IsRejectedAt, IsTooWideAt}
-use Rattle.rob_dualize.specs.Models.{IsWideIn, IsWritten, judged}
+use Rattle.rob_dualize.specs.Models.{IsWideIn}
 use Rattle.rob_check.specs.Conditions.{verdict_of}
 use Rattle.rob_check.specs.declared.verdict.Verdict.TheVariants as verdict
 use Rattle.rob_dualize.specs.Solving.{HasScenario, IsShownEmpty, IsWideOnPath}
@@ -22,7 +22,7 @@ use Rattle.rob_reach.specs.Sweeps.{with_budget}
 use Rattle.rob_reach.specs.WholeStatus.{HasWholeStatus}
 use Rattle.rob_sets.specs.FirstWide.{IsFirstWide}
 use Rattle.rob_sweep.specs.Answering.{AreWritten}
-use Rattle.rob_sweep.specs.Stops.{IsWideAt}
+use Rattle.rob_sweep.specs.Stops.{IsWideAtLimit}
 use Rattle.rob_tree.specs.View.{branch_of}
 use Rattle.rob_tree.specs.declared.tree.Branch.{Branch}
 use Rattle.rob_tree.specs.declared.verdict.LeafFault.{LeafFault}
@@ -31,6 +31,7 @@ use Rattle.rob_top.specs.Searched.{IsWideSought}
 use Rattle.rob_top.specs.declared.ended.Ended.{Ended}
 use Rattle.rob_top.specs.declared.ended.Ended.TheVariants.{Optimal, Infeasible, Unbounded, Printed, Accepted, EmptySet, TooWide, WideNode, WideBudget, TreeRejected, ReadFault, WriteFault, Memory}
 use Rattle.rob_words.specs.declared.route.Route.{Route}
+use Rattle.rob_elab.specs.Written.{judged, IsWritten}
 
 -- ---- how a call may end
 
@@ -116,7 +117,7 @@ IsEmptyWholeAnswer limit m ended = IsOutside ended
 -- numbers; or a limit of the list, whose model has a number that is wide. No other is
 abbrev pub IsSweepAnswer : ℕ → RobustModel → ℕ → List Fraction → Ended → Type 0
 IsSweepAnswer limit m n limits Printed = AreWritten limit m n limits
-IsSweepAnswer limit m n limits (WideBudget number spot) = IsWideAt limit m n limits number spot
+IsSweepAnswer limit m n limits (WideBudget number spot) = IsWideAtLimit limit m n limits number spot
 IsSweepAnswer limit m n limits ended = IsOutside ended
 
 -- no number is wide in the model with one of these limits

@@ -4,15 +4,12 @@ use Rattle.std.specs.Prelude.{◌≡◌, ◌≢◌, ◌<◌, ◌++◌, ℕ, List
 use Rattle.rob_cert.specs.Apart.{FitsLines}
 use Rattle.rob_cert.specs.Spelling.{name_at}
 use Rattle.rob_cert.specs.Whole.{IsTextOf}
-use Rattle.rob_elab.specs.Forms.{judged_forms}
 use Rattle.rob_meaning.specs.Certificates.{Certificate, infeasible}
 use Rattle.rob_meaning.specs.Names.{column_names, form_names}
 use Rattle.rob_meaning.specs.Places.{Each}
 use Rattle.rob_meaning.specs.RobustModel.{RobustModel}
 use Rattle.rob_parse.specs.Modelled.{ReadsModel}
 use Rattle.rob_reach.specs.Ranges.{KeepsNames, whole_rule}
-use Rattle.rob_sets.specs.FirstWide.{NothingWide}
-use Rattle.rob_sets.specs.SetForm.{judged_set}
 use Rattle.rob_top.specs.Calls.{Call, limit_of}
 use Rattle.rob_top.specs.Files.{Came, HasFile, requests, word_of}
 use Rattle.rob_words.specs.Commands.{Line, IsSpelled}
@@ -21,6 +18,7 @@ use Rattle.rob_words.specs.Values.{Word}
 use Rattle.rob_words.specs.Verbs.{own_of}
 use Rattle.rob_words.specs.declared.verb.Own.TheVariants as own
 use Rattle.rob_words.specs.declared.verb.Verb.TheVariants.{Check, Replay, Worst}
+use Rattle.rob_elab.specs.Written.{IsWritten}
 
 -- the command line's own word that is a list of names has these
 pub record TellsNames (line : Line) (names : List Word) : Type 0 where
@@ -56,7 +54,7 @@ module _ (call : Call) where
   -- and no number of its set rows and forms is wide
   pub record HasForms (line : Line) (m : RobustModel) : Type 0 where
     pub model : HasModel line m
-    pub none_wide : NothingWide (limit_of line) m (judged_set m ++ judged_forms m)
+    pub none_wide : IsWritten (limit_of line) m
 
   -- and the words say `check`, and the file of the certificate came, with these bytes
   pub record HasCertificateFile (line : Line) (m : RobustModel) (bytes : List ℕ) : Type 0 where

@@ -9,7 +9,6 @@ use Rattle.rob_cert.specs.declared.trace.Round.{Round}
 use Rattle.rob_check.specs.Conditions.{verdict_of}
 use Rattle.rob_check.specs.declared.verdict.Verdict.TheVariants as verdict
 use Rattle.rob_cuts.specs.Rounds.{RoundFits}
-use Rattle.rob_elab.specs.Forms.{judged_forms}
 use Rattle.rob_meaning.specs.Certificates.{Certificate}
 use Rattle.rob_meaning.specs.Places.{Each}
 use Rattle.rob_meaning.specs.RobustModel.{RobustModel}
@@ -22,7 +21,6 @@ use Rattle.rob_replay.specs.Outcome.{is_wide, outcome}
 use Rattle.rob_replay.specs.View.{Gives}
 use Rattle.rob_report.specs.Spots.{too_wide_line}
 use Rattle.rob_sets.specs.FirstWide.{IsFirstWide}
-use Rattle.rob_sets.specs.SetForm.{judged_set}
 use Rattle.rob_top.specs.Answers.{certificate_fault_text, missing_text, model_fault_text, read_text, too_long_text, words_text}
 use Rattle.rob_top.specs.Calls.{Call, IsElaborating, IsSolving, WasRaised, limit_of}
 use Rattle.rob_top.specs.Files.{Came, HasFile, IsFirstAbsent, NamesFile, requests}
@@ -32,6 +30,7 @@ use Rattle.rob_top.specs.Searched.{IsWideSought, certificate_vector}
 use Rattle.rob_words.specs.Commands.{IsCommandLine, Line, IsSpelled}
 use Rattle.rob_words.specs.Values.{Word}
 use Rattle.rob_words.specs.declared.verb.Own.TheVariants as own
+use Rattle.rob_elab.specs.Written.{judged}
 
 module _ (call : Call) where
   -- the words are no command line
@@ -55,7 +54,7 @@ module _ (call : Call) where
   -- it breaks a rule or has a wide number; or it is one on the way to the worst case of a form
   pub data IsWideSpot (line : Line) (m : RobustModel) (spot : Spot) : Type 0 where
     elaborating : HasModel call line m → IsElaborating line.verb
-        → IsFirstWide (limit_of line) m (judged_set m ++ judged_forms m) spot → IsWideSpot line m spot
+        → IsFirstWide (limit_of line) m (judged m) spot → IsWideSpot line m spot
     checking : (c : Certificate) (place : Place) → HasCertificate call line m c → spot ≡ Check place
         → verdict_of (limit_of line) m c ≡ verdict.TooWide place → IsWideSpot line m spot
     replaying : (c : Certificate) (bytes : List ℕ) (number : ℕ) → HasScenarioFile call line m c bytes

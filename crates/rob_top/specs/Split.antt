@@ -8,7 +8,7 @@ use Rattle.rob_cells.specs.Rules.{BreaksRule, KeepsRules}
 use Rattle.rob_cert.specs.Apart.{FitsLines}
 use Rattle.rob_cert.specs.Shape.{HasShape}
 use Rattle.rob_cert.specs.Spelling.{name_at}
-use Rattle.rob_dualize.specs.Models.{IsWideIn, IsWritten}
+use Rattle.rob_dualize.specs.Models.{IsWideIn}
 use Rattle.rob_dualize.specs.Solving.{IsLastScenario, IsReadAtEnd, IsShownEmpty}
 use Rattle.rob_meaning.specs.Certificates.{Certificate, Status, optimal, infeasible, unbounded}
 use Rattle.rob_meaning.specs.Named.{parameter_names}
@@ -37,6 +37,7 @@ use Rattle.rob_words.specs.declared.verb.Own.TheVariants as own
 use Rattle.rob_words.specs.declared.verb.Verb.{Verb}
 use Rattle.rob_words.specs.declared.verb.Verb.TheVariants.{Cells, CellText}
 use Rattle.rob_write.specs.Canonical.{model_text}
+use Rattle.rob_elab.specs.Written.{IsWritten}
 
 -- ---- what the words tell
 

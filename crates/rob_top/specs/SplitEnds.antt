@@ -1,7 +1,7 @@
 -- Which answer has to come at `cells` and `celltext`.
 use Rattle.std.specs.Prelude.{◌≡◌, ℕ, List, map}
 use Rattle.rob_algebra.specs.Fraction.{Fraction, of_int}
-use Rattle.rob_dualize.specs.Models.{IsWideIn, judged}
+use Rattle.rob_dualize.specs.Models.{IsWideIn}
 use Rattle.rob_dualize.specs.Solving.{IsShownEmpty}
 use Rattle.rob_meaning.specs.Certificates.{Status, optimal, infeasible, unbounded}
 use Rattle.rob_meaning.specs.RobustModel.{RobustModel}
@@ -17,6 +17,7 @@ use Rattle.rob_top.specs.declared.ended.Ended.{Ended}
 use Rattle.rob_top.specs.declared.ended.Ended.TheVariants.{Optimal, Infeasible, Unbounded, Printed, EmptySet, TooWide, Cells as CellsRule}
 use Rattle.rob_words.specs.Commands.{Line}
 use Rattle.rob_words.specs.declared.verb.Verb.TheVariants.{Cells, CellText}
+use Rattle.rob_elab.specs.Written.{judged}
 
 -- an answer of `cells`: a status that the model has over pieces; or an empty set, where not each cell holds an
 -- admitted scenario; or a number that is wide in the split model. No other is

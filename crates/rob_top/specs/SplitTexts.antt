@@ -1,7 +1,6 @@
 -- The text that `celltext` printed, as the model's file of a later call, and how `solve` and `prove` may end on it.
 use Rattle.std.specs.Prelude.{◌≡◌, ◌⊎◌, ℕ, List}
 use Rattle.rob_algebra.specs.Fraction.{Fraction}
-use Rattle.rob_dualize.specs.Models.{IsWritten, judged}
 use Rattle.rob_meaning.specs.Certificates.{optimal, infeasible, unbounded}
 use Rattle.rob_meaning.specs.RobustModel.{RobustModel}
 use Rattle.rob_model.specs.declared.place.Spot.{Spot}
@@ -18,6 +17,7 @@ use Rattle.rob_top.specs.declared.ended.Ended.{Ended}
 use Rattle.rob_top.specs.declared.ended.Ended.TheVariants.{Optimal, Infeasible, Unbounded, EmptySet, TooWide}
 use Rattle.rob_words.specs.Commands.{Line}
 use Rattle.rob_words.specs.declared.route.Route.{Route}
+use Rattle.rob_elab.specs.Written.{judged, IsWritten}
 
 -- the model whose text was printed
 abbrev pub written_split : {printing : Call} {text : List ℕ} → IsSplitText printing text → RobustModel

@@ -2,7 +2,7 @@
 use Rattle.std.specs.Prelude.{◌⊎◌, ◌++◌, ℕ, List}
 use Rattle.rob_cert.specs.Apart.{FitsLines}
 use Rattle.rob_cert.specs.declared.ending.Stop.{Stop}
-use Rattle.rob_dualize.specs.Models.{HasModelCause, IsWritten, RoseIfStopped}
+use Rattle.rob_dualize.specs.Models.{HasModelCause, RoseIfStopped}
 use Rattle.rob_dualize.specs.Solving.{IsSolution}
 use Rattle.rob_meaning.specs.Certificates.{Certificate}
 use Rattle.rob_meaning.specs.RobustModel.{RobustModel}
@@ -23,6 +23,7 @@ use Rattle.rob_words.specs.declared.route.Route.TheVariants.{Dual}
 use Rattle.rob_words.specs.declared.verb.Verb.{Verb}
 use Rattle.rob_words.specs.declared.verb.Verb.TheVariants.{Cells, CellText}
 use Rattle.rob_write.specs.Canonical.{model_text}
+use Rattle.rob_elab.specs.Written.{IsWritten}
 
 module _ (limit : ℕ) (wides : Count) (m : RobustModel) where
   -- the reply is the answer of each call of the command, at the limit, that read the model, and whose word of cuts

@@ -7,7 +7,7 @@ use Rattle.rob_meaning.specs.RobustModel.{RobustModel}
 use Rattle.rob_model.specs.declared.place.Spot.{Spot}
 use Rattle.rob_reach.specs.Sweeps.{IsBudgetAt, SweepAnswer, Swept, is_optimal, with_budget}
 use Rattle.rob_sweep.specs.Answering.{AreWritten, EachAnswer, EachGrowsHarder, NamesEmpty}
-use Rattle.rob_sweep.specs.Stops.{BreaksRule, IsWideAt, KeepsRules}
+use Rattle.rob_sweep.specs.Stops.{BreaksRule, IsWideAtLimit, KeepsRules}
 use Rattle.rob_sweep.specs.SweepText.{sweep_text}
 use Rattle.rob_top.specs.Answers.{sweep_fault_text, wide_budget_text}
 use Rattle.rob_top.specs.Calls.{Call, WasRaised, limit_of}
@@ -135,6 +135,6 @@ module _ (call : Call) where
     pub limits : List Fraction
     pub has : HasSweep line m n limits
     pub keeps : KeepsRules m.set_lines n limits
-    pub wide : IsWideAt (limit_of line) m n limits number spot
+    pub wide : IsWideAtLimit (limit_of line) m n limits number spot
     pub raised : WasRaised call.wides
     pub printed : text ≡ wide_budget_text m n wide.here spot

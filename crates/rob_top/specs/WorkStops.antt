@@ -19,7 +19,7 @@ use Rattle.rob_sets.specs.declared.error.ElabErr.TheVariants as refused
 use Rattle.rob_tree.specs.declared.error.TreeStop.{TreeStop}
 use Rattle.rob_tree.specs.declared.error.TreeStop.TheVariants as ungrown
 use Rattle.rob_tree.specs.declared.tree.Branch.{Branch}
-use Rattle.rob_sweep.specs.Stops.{IsWideAt}
+use Rattle.rob_sweep.specs.Stops.{IsWideAtLimit}
 use Rattle.rob_sweep.specs.declared.answer.SweepStop.{SweepStop}
 use Rattle.rob_sweep.specs.declared.answer.SweepStop.TheVariants as unswept
 use Rattle.rob_top.specs.Answers.{model_fault_text, sweep_fault_text, whole_fault_text, wide_budget_text, wide_node_text}
@@ -66,7 +66,7 @@ RepliesLimit m n g reply =
 abbrev pub RepliesUnswept : ℕ → RobustModel → ℕ → List Fraction → SweepStop → Reply → Type 0
 RepliesUnswept limit m n limits (unswept.Rule rule) reply = Replies (ended.Sweep rule) (sweep_fault_text rule) reply
 RepliesUnswept limit m n limits (unswept.Wide number spot) reply =
-    (h : IsWideAt limit m n limits number spot)
+    (h : IsWideAtLimit limit m n limits number spot)
     → Replies (WideBudget number spot) (wide_budget_text m n h.here spot) reply
 RepliesUnswept limit m n limits unswept.Memory reply = ⊥
 

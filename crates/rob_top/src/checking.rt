@@ -3,20 +3,19 @@
 ghost use Rattle.std.specs.Prelude.{◌≤◌, ◌^◌, length, IfOk};
 ghost use Rattle.rob_cert.specs.Shape.{HasShape};
 ghost use Rattle.rob_cert.specs.View.{certificate_of, status_of};
-ghost use Rattle.rob_elab.specs.Forms.{FormsFit, IsForms};
+ghost use Rattle.rob_elab.specs.Elaborated.{IsElaborated};
 ghost use Rattle.rob_meaning.specs.Named.{IsNamed};
 ghost use Rattle.rob_model.specs.Valid.{IsValid};
 ghost use Rattle.rob_model.specs.View.{robust};
 ghost use Rattle.rob_report.specs.Places.{IsPlaceOf};
 ghost use Rattle.rob_report.specs.Spots.{rejected_line};
-ghost use Rattle.rob_sets.specs.SetForm.{IsSetForm, SetFits};
 ghost use Rattle.rob_top.specs.Answers.{accepted_by};
 ghost use Rattle.rob_top.specs.Calls.{count};
 ghost use Rattle.rob_top.specs.Replies.{Replies};
 ghost use Rattle.rob_top.specs.Work.{AnswersCertificate, AnswersFile};
 
 use crate::ended::Ended;
-use crate::reply::{Reply, broken_rule, line};
+use crate::reply::{Reply, certificate_rule, line};
 use crate::work::too_wide;
 use rob_cert::spelling::put_number;
 use rob_cert::{Cert, CertErr, Status, read_cert};
@@ -39,10 +38,7 @@ pub fn check_text<N: Exact + Drop, L: Ledger>(
 ) -> Result<Reply, Memory>
     requires valid { IsValid N.value model.now }
     requires named { IsNamed (robust N.value model.now) }
-    requires forms { IsForms (robust N.value model.now) forms.now }
-    requires set { IsSetForm (robust N.value model.now) set.now }
-    requires forms_fit { FormsFit N.limit forms.now }
-    requires set_fits { SetFits N.limit set.now }
+    requires elaborated { IsElaborated N.limit (robust N.value model.now) forms.now set.now }
     requires short { length text.now ≤ 2 ^ 30 }
     ensures answers { IfOk result (AnswersFile N.limit (count (L.wides ledger.old) (L.wides ledger.new))
         (robust N.value model.now) text.now) }
@@ -50,15 +46,7 @@ pub fn check_text<N: Exact + Drop, L: Ledger>(
 {
     match read_cert(alloc, text, model, ledger) {
         Ok(cert) => check_cert(alloc, model, forms, set, &cert, ledger),
-        Err(CertErr::Rule(rule, number)) => {
-            broken_rule(
-                alloc,
-                Ended::Cert(rule, number),
-                b"certificate ",
-                rule,
-                number,
-            )
-        }
+        Err(CertErr::Rule(rule, number)) => certificate_rule(alloc, rule, number),
         Err(CertErr::Memory) => Err(Memory),
     }
 }
@@ -73,10 +61,7 @@ fn check_cert<N: Exact, L: Ledger>(
     ledger: &mut L,
 ) -> Result<Reply, Memory>
     requires valid { IsValid N.value model.now }
-    requires forms { IsForms (robust N.value model.now) forms.now }
-    requires set { IsSetForm (robust N.value model.now) set.now }
-    requires forms_fit { FormsFit N.limit forms.now }
-    requires set_fits { SetFits N.limit set.now }
+    requires elaborated { IsElaborated N.limit (robust N.value model.now) forms.now set.now }
     requires shape { HasShape (robust N.value model.now) (certificate_of N.value cert.now) }
     ensures answers { IfOk result (AnswersCertificate N.limit (count (L.wides ledger.old) (L.wides ledger.new))
         (robust N.value model.now) (certificate_of N.value cert.now)) }

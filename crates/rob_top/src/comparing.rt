@@ -1,16 +1,13 @@
 //! `gen`: the model of a number, solved by both routes.
 
-ghost use Rattle.std.specs.Prelude.{◌≡◌, ◌≤◌, ◌++◌, All, IfErr, IfOk, None, Some};
+ghost use Rattle.std.specs.Prelude.{◌≡◌, ◌≤◌, ◌++◌, All, IfOk, None, Some};
 ghost use Rattle.rob_cert.specs.View.{status_of};
-ghost use Rattle.rob_dualize.specs.Models.{judged};
 ghost use Rattle.rob_dualize.specs.Solving.{HasScenario};
-ghost use Rattle.rob_elab.specs.Forms.{FormsFit, IsForms};
+ghost use Rattle.rob_elab.specs.Elaborated.{IsElaborated};
 ghost use Rattle.rob_model.specs.Valid.{IsValid};
 ghost use Rattle.rob_model.specs.View.{robust};
 ghost use Rattle.rob_report.specs.Places.{IsSpotOf};
 ghost use Rattle.rob_report.specs.Rounds.{IsRoundOf};
-ghost use Rattle.rob_sets.specs.FirstWide.{HasCause};
-ghost use Rattle.rob_sets.specs.SetForm.{IsSetForm, SetFits};
 ghost use Rattle.rob_top.specs.Calls.{count};
 ghost use Rattle.rob_top.specs.Compared.{heading, status_line as line_of_status, wide_line as line_of_spot};
 ghost use Rattle.rob_top.specs.ComparedWork.{RoseAtSpot, RepliesCompared, IsLineOf, first_ended};
@@ -24,13 +21,13 @@ use crate::solving::{find, put_told_rounds};
 use itoa::Buffer;
 use rob_cert::spelling::{put_named, put_words};
 use rob_cert::{Cert, Status, Stop, Trace};
-use rob_elab::{Forms, elaborate};
+use rob_elab::{ElabErr, Forms, written};
 use rob_gen::generate;
 use rob_model::{Model, Spot};
 use rob_number::{Exact, Ledger, Memory, Text};
 use rob_quick::Quick;
 use rob_report::spot_text;
-use rob_sets::{ElabErr, SetForm, clear_set};
+use rob_sets::SetForm;
 use rob_words::{Route, Width};
 use std::alloc::Global;
 
@@ -85,28 +82,6 @@ fn compare<N: Exact + Drop, L: Ledger>(
     }
 }
 
-/// The set rows and the forms of a model in whole numbers.
-fn written<N: Exact, L: Ledger>(
-    alloc: Global,
-    model: &Model<N>,
-    ledger: &mut L,
-) -> Result<(SetForm, Forms), ElabErr>
-    requires valid { IsValid N.value model.now }
-    ensures set { IfOk result (λ both. IsSetForm (robust N.value model.now) both.0 × SetFits N.limit both.0) }
-    ensures forms { IfOk result (λ both. IsForms (robust N.value model.now) both.1 × FormsFit N.limit both.1) }
-    ensures cause { IfErr result (HasCause N.limit (robust N.value model.now) (judged (robust N.value model.now))) }
-    ensures counted { L.wides ledger.old ≤ L.wides ledger.new }
-{
-    let set = match clear_set(alloc, model, ledger) {
-        Ok(set) => set,
-        Err(error) => return Err(error),
-    };
-    match elaborate(alloc, model, &set, ledger) {
-        Ok(forms) => Ok((set, forms)),
-        Err(error) => Err(error),
-    }
-}
-
 /// What a route tells of a model that has an admitted scenario.
 fn line_by<N: Exact + Drop, L: Ledger>(
     alloc: Global,
@@ -117,10 +92,7 @@ fn line_by<N: Exact + Drop, L: Ledger>(
     ledger: &mut L,
 ) -> Result<RouteLine, Memory>
     requires valid { IsValid N.value model.now }
-    requires forms { IsForms (robust N.value model.now) forms.now }
-    requires set { IsSetForm (robust N.value model.now) set.now }
-    requires forms_fit { FormsFit N.limit forms.now }
-    requires set_fits { SetFits N.limit set.now }
+    requires elaborated { IsElaborated N.limit (robust N.value model.now) forms.now set.now }
     requires admitted { HasScenario (robust N.value model.now) }
     ensures told { IfOk result (λ told. IsLineOf N.limit (robust N.value model.now) route told.spot told.text) }
     ensures rose { IfOk result (λ told. RoseAtSpot (count (L.wides ledger.old) (L.wides ledger.new)) told.spot) }

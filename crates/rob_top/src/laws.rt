@@ -6,7 +6,7 @@
 ghost use Rattle.std.specs.Prelude.{◌≡◌, ◌≤◌, ◌<◌, ◌^◌, ◌⊎◌, ◌↔◌, ◌++◌, ℕ, ℤ, List, true, codes};
 ghost use Rattle.rob_algebra.specs.Fraction.{Fraction};
 ghost use Rattle.rob_cert.specs.Apart.{IsNamedInWords};
-ghost use Rattle.rob_dualize.specs.Models.{IsWritten};
+ghost use Rattle.rob_elab.specs.Written.{IsWritten};
 ghost use Rattle.rob_dualize.specs.Solving.{HasScenario, IsNarrowModel};
 ghost use Rattle.rob_gen.specs.Generated.{generated};
 ghost use Rattle.rob_meaning.specs.Certificates.{Status, infeasible, optimal, unbounded};

@@ -12,7 +12,7 @@ ghost use Rattle.rob_top.specs.Replies.{Replies};
 ghost use Rattle.rob_top.specs.Work.{AnswersPlan, AnswersReplay, AnswersScenarios};
 
 use crate::ended::Ended;
-use crate::reply::{Reply, broken_rule};
+use crate::reply::{Reply, broken_rule, certificate_rule};
 use crate::work::too_wide;
 use rob_cert::{Cert, CertErr, Status, read_cert};
 use rob_model::{Model, Plan, Spot};
@@ -38,15 +38,7 @@ pub fn replay_text<N: Exact + Drop, L: Ledger>(
 {
     match read_cert(alloc, certificate, model, ledger) {
         Ok(cert) => replay_cert(alloc, model, cert, text, ledger),
-        Err(CertErr::Rule(rule, number)) => {
-            broken_rule(
-                alloc,
-                Ended::Cert(rule, number),
-                b"certificate ",
-                rule,
-                number,
-            )
-        }
+        Err(CertErr::Rule(rule, number)) => certificate_rule(alloc, rule, number),
         Err(CertErr::Memory) => Err(Memory),
     }
 }
@@ -65,7 +57,7 @@ fn replay_cert<N: Exact + Drop, L: Ledger>(
     ensures counted { L.wides ledger.old ≤ L.wides ledger.new }
 {
     match cert.status {
-        Status::Infeasible => broken_rule(alloc, Ended::Cert(34, 1), b"certificate ", 34, 1),
+        Status::Infeasible => certificate_rule(alloc, 34, 1),
         Status::Optimal => replay_plan(alloc, model, cert, text, ledger),
         Status::Unbounded => replay_plan(alloc, model, cert, text, ledger),
     }

@@ -3,7 +3,7 @@
 ghost use Rattle.std.specs.Prelude.{◌++◌, IfOk};
 ghost use Rattle.std.specs.Fmt.{decimal};
 ghost use Rattle.rob_report.specs.Lines.{line as one_line};
-ghost use Rattle.rob_top.specs.Answers.{fault_text, line_fault_text, words_text};
+ghost use Rattle.rob_top.specs.Answers.{certificate_fault_text, fault_text, line_fault_text, words_text};
 ghost use Rattle.rob_top.specs.Replies.{Replies};
 
 use crate::ended::Ended;
@@ -70,4 +70,11 @@ pub fn broken_rule(
     place.push(b" line ")?;
     place.push(Buffer::new().format(line).as_bytes())?;
     fault(alloc, ended, kind, place.bytes())
+}
+
+/// The answer for a certificate that breaks a rule at a line.
+pub fn certificate_rule(alloc: Global, rule: u8, line: u32) -> Result<Reply, Memory>
+    ensures fault { IfOk result (Replies (Ended.Cert rule line) (certificate_fault_text rule line)) }
+{
+    broken_rule(alloc, Ended::Cert(rule, line), b"certificate ", rule, line)
 }

@@ -3,7 +3,7 @@
 ghost use Rattle.std.specs.Prelude.{◌≡◌, ◌≤◌, ◌<◌, ◌^◌, length, IfOk};
 ghost use Rattle.rob_cert.specs.Shape.{HasShape};
 ghost use Rattle.rob_cert.specs.View.{certificate_of};
-ghost use Rattle.rob_elab.specs.Forms.{FormsFit, IsForms};
+ghost use Rattle.rob_elab.specs.Elaborated.{IsElaborated};
 ghost use Rattle.rob_meaning.specs.Certificates.{Certificate};
 ghost use Rattle.rob_meaning.specs.Forms.{forms as model_forms};
 ghost use Rattle.rob_meaning.specs.Named.{IsNamed};
@@ -11,7 +11,6 @@ ghost use Rattle.rob_meaning.specs.RobustModel.{column_count};
 ghost use Rattle.rob_model.specs.Valid.{IsValid};
 ghost use Rattle.rob_model.specs.View.{robust};
 ghost use Rattle.rob_report.specs.Worst.{worst_of};
-ghost use Rattle.rob_sets.specs.SetForm.{IsSetForm, SetFits};
 ghost use Rattle.rob_top.specs.Calls.{count};
 ghost use Rattle.rob_top.specs.Replies.{Replies};
 ghost use Rattle.rob_top.specs.Searched.{certificate_vector};
@@ -20,7 +19,7 @@ ghost use Rattle.rob_worst.specs.Finding.{HasConstantWithin};
 ghost use Rattle.rob_worst.specs.Vectors.{plan_of};
 
 use crate::ended::Ended;
-use crate::reply::{Reply, broken_rule, fault};
+use crate::reply::{Reply, certificate_rule, fault};
 use crate::solving::stopped;
 use crate::work::too_wide;
 use rob_cert::{Cert, CertErr, Status, Worst, read_cert};
@@ -47,10 +46,7 @@ pub fn search_text<N: Exact + Drop, L: Ledger>(
 ) -> Result<Reply, Memory>
     requires valid { IsValid N.value model.now }
     requires named { IsNamed (robust N.value model.now) }
-    requires forms { IsForms (robust N.value model.now) forms.now }
-    requires set { IsSetForm (robust N.value model.now) set.now }
-    requires forms_fit { FormsFit N.limit forms.now }
-    requires set_fits { SetFits N.limit set.now }
+    requires elaborated { IsElaborated N.limit (robust N.value model.now) forms.now set.now }
     requires short { length certificate.now ≤ 2 ^ 30 }
     ensures answers { IfOk result (AnswersSearch N.limit (count (L.wides ledger.old) (L.wides ledger.new))
         (robust N.value model.now) certificate.now name.now) }
@@ -58,15 +54,7 @@ pub fn search_text<N: Exact + Drop, L: Ledger>(
 {
     match read_cert(alloc, certificate, model, ledger) {
         Ok(cert) => search_cert(alloc, model, forms, set, cert, name, ledger),
-        Err(CertErr::Rule(rule, number)) => {
-            broken_rule(
-                alloc,
-                Ended::Cert(rule, number),
-                b"certificate ",
-                rule,
-                number,
-            )
-        }
+        Err(CertErr::Rule(rule, number)) => certificate_rule(alloc, rule, number),
         Err(CertErr::Memory) => Err(Memory),
     }
 }
@@ -82,17 +70,14 @@ fn search_cert<N: Exact + Drop, L: Ledger>(
     ledger: &mut L,
 ) -> Result<Reply, Memory>
     requires valid { IsValid N.value model.now }
-    requires forms { IsForms (robust N.value model.now) forms.now }
-    requires set { IsSetForm (robust N.value model.now) set.now }
-    requires forms_fit { FormsFit N.limit forms.now }
-    requires set_fits { SetFits N.limit set.now }
+    requires elaborated { IsElaborated N.limit (robust N.value model.now) forms.now set.now }
     requires shape { HasShape (robust N.value model.now) (certificate_of N.value cert) }
     ensures answers { IfOk result (AnswersSearched N.limit (count (L.wides ledger.old) (L.wides ledger.new))
         (robust N.value model.now) (certificate_of N.value cert) name.now) }
     ensures counted { L.wides ledger.old ≤ L.wides ledger.new }
 {
     match cert.status {
-        Status::Infeasible => broken_rule(alloc, Ended::Cert(34, 1), b"certificate ", 34, 1),
+        Status::Infeasible => certificate_rule(alloc, 34, 1),
         Status::Optimal => search_plan(alloc, model, forms, set, cert, name, ledger),
         Status::Unbounded => search_plan(alloc, model, forms, set, cert, name, ledger),
     }
@@ -109,10 +94,7 @@ fn search_plan<N: Exact + Drop, L: Ledger>(
     ledger: &mut L,
 ) -> Result<Reply, Memory>
     requires valid { IsValid N.value model.now }
-    requires forms { IsForms (robust N.value model.now) forms.now }
-    requires set { IsSetForm (robust N.value model.now) set.now }
-    requires forms_fit { FormsFit N.limit forms.now }
-    requires set_fits { SetFits N.limit set.now }
+    requires elaborated { IsElaborated N.limit (robust N.value model.now) forms.now set.now }
     requires size { length cert.plan ≡ column_count (robust N.value model.now) }
     ensures answers { IfOk result (AnswersPlanned N.limit (count (L.wides ledger.old) (L.wides ledger.new))
         (robust N.value model.now) (certificate_of N.value cert) name.now) }
@@ -141,10 +123,7 @@ fn search_form<N: Exact + Drop, L: Ledger>(
     ledger: &mut L,
 ) -> Result<Reply, Memory>
     requires valid { IsValid N.value model.now }
-    requires forms { IsForms (robust N.value model.now) forms.now }
-    requires set { IsSetForm (robust N.value model.now) set.now }
-    requires forms_fit { FormsFit N.limit forms.now }
-    requires set_fits { SetFits N.limit set.now }
+    requires elaborated { IsElaborated N.limit (robust N.value model.now) forms.now set.now }
     requires form_in { form < length (model_forms (robust N.value model.now)) }
     requires size { length plan.now.columns ≡ column_count (robust N.value model.now) }
     ensures answers { IfOk result (λ reply. (c : Certificate) → plan_of N.value plan.now ≡ certificate_vector c

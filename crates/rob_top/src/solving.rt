@@ -6,7 +6,8 @@ ghost use Rattle.rob_cert.specs.Spelling.{cert_text};
 ghost use Rattle.rob_cert.specs.View.{certificate_of, status_of};
 ghost use Rattle.rob_cuts.specs.Solving.{AreOfModel};
 ghost use Rattle.rob_dualize.specs.Wholes.{IsFew, counterpart_of};
-ghost use Rattle.rob_elab.specs.Forms.{FormsFit, IsForms};
+ghost use Rattle.rob_elab.specs.Elaborated.{IsElaborated};
+ghost use Rattle.rob_elab.specs.Forms.{IsForms};
 ghost use Rattle.rob_meaning.specs.RobustModel.{RobustModel};
 ghost use Rattle.rob_meaning.specs.SetRows.{set_rows};
 ghost use Rattle.rob_meaning.specs.WellFormed.{IsModel};
@@ -16,7 +17,7 @@ ghost use Rattle.rob_report.specs.Places.{IsSpotOf};
 ghost use Rattle.rob_report.specs.Report.{report_of};
 ghost use Rattle.rob_report.specs.Rounds.{IsRoundOf};
 ghost use Rattle.rob_report.specs.Spots.{empty_set_lines, too_wide_line};
-ghost use Rattle.rob_sets.specs.SetForm.{IsSetForm, SetFits};
+ghost use Rattle.rob_sets.specs.SetForm.{IsSetForm};
 ghost use Rattle.rob_top.specs.Calls.{count};
 ghost use Rattle.rob_top.specs.Replies.{Replies};
 ghost use Rattle.rob_top.specs.Routes.{SolvesBy, with_rounds};
@@ -47,10 +48,7 @@ pub fn solve<N: Exact + Drop, L: Ledger>(
     ledger: &mut L,
 ) -> Result<Reply, Memory>
     requires valid { IsValid N.value model.now }
-    requires forms { IsForms (robust N.value model.now) forms.now }
-    requires set { IsSetForm (robust N.value model.now) set.now }
-    requires forms_fit { FormsFit N.limit forms.now }
-    requires set_fits { SetFits N.limit set.now }
+    requires elaborated { IsElaborated N.limit (robust N.value model.now) forms.now set.now }
     ensures answers { IfOk result (AnswersRoute N.limit (count (L.wides ledger.old) (L.wides ledger.new))
         (robust N.value model.now) Solve route) }
     ensures counted { L.wides ledger.old ≤ L.wides ledger.new }
@@ -71,10 +69,7 @@ pub fn prove<N: Exact + Drop, L: Ledger>(
     ledger: &mut L,
 ) -> Result<Reply, Memory>
     requires valid { IsValid N.value model.now }
-    requires forms { IsForms (robust N.value model.now) forms.now }
-    requires set { IsSetForm (robust N.value model.now) set.now }
-    requires forms_fit { FormsFit N.limit forms.now }
-    requires set_fits { SetFits N.limit set.now }
+    requires elaborated { IsElaborated N.limit (robust N.value model.now) forms.now set.now }
     ensures answers { IfOk result (AnswersRoute N.limit (count (L.wides ledger.old) (L.wides ledger.new))
         (robust N.value model.now) Prove route) }
     ensures counted { L.wides ledger.old ≤ L.wides ledger.new }

@@ -32,7 +32,7 @@ use rob_dualize::solve_model;
 use rob_model::{Model, find_param};
 use rob_number::{Exact, Ledger, List, Memory, Text};
 use rob_report::put_report;
-use rob_words::{Own, Route, Verb, cut, first_part};
+use rob_words::{MOST_CUTS, Own, Route, Verb, cut, first_part};
 use std::alloc::Global;
 
 /// The answer of `cells` or `celltext`, for a model that was read and the command's own words, of which one is a list
@@ -103,7 +103,7 @@ fn cuts_of<N: Exact, L: Ledger>(
     let mut rest = Some(word);
     while let Some(word) = rest {
         let (first, behind) = first_part(word);
-        if cuts.items().len() == 3 {
+        if cuts.items().len() == MOST_CUTS {
             return Ok(None);
         }
         let Some(next) = cut_at(model, first, ledger) else {

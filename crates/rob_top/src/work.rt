@@ -1,14 +1,13 @@
 //! The work of a command on its texts, at a width.
 
 ghost use Rattle.std.specs.Prelude.{◌≡◌, ◌≤◌, IfOk, false};
-ghost use Rattle.rob_elab.specs.Forms.{FormsFit, IsForms};
+ghost use Rattle.rob_elab.specs.Elaborated.{IsElaborated};
 ghost use Rattle.rob_meaning.specs.Named.{IsNamed};
 ghost use Rattle.rob_model.specs.Valid.{IsValid};
 ghost use Rattle.rob_model.specs.View.{robust};
 ghost use Rattle.rob_report.specs.Places.{IsSpotOf};
 ghost use Rattle.rob_report.specs.Rows.{rows_of};
 ghost use Rattle.rob_report.specs.Spots.{too_wide_line};
-ghost use Rattle.rob_sets.specs.SetForm.{IsSetForm, SetFits};
 ghost use Rattle.rob_top.specs.Calls.{Call, IsElaborating, IsOnModel, count, elaborates as is_elaborating};
 ghost use Rattle.rob_top.specs.Headline.{Means};
 ghost use Rattle.rob_top.specs.Replies.{HasTexts, Replies};
@@ -30,14 +29,14 @@ use crate::splitting::split_words;
 use crate::sweeping::{limit_words, sweep_words};
 use crate::tree_checking::check_tree_text;
 use rob_cert::Trace;
-use rob_elab::{Forms, elaborate};
+use rob_elab::{ElabErr, Forms, written};
 use rob_model::{Model, Spot};
 use rob_number::{Exact, Ledger, List, Memory};
 use rob_parse::read_model;
 use rob_quick::Quick;
 use rob_report::{rows_text, spot_text};
 use rob_rules::ModelErr;
-use rob_sets::{ElabErr, SetForm, clear_set};
+use rob_sets::SetForm;
 use rob_words::{Own, Route, Verb, Width};
 use std::alloc::Global;
 
@@ -199,12 +198,8 @@ fn elaborated<N: Exact + Drop, L: Ledger>(
         (robust N.value model.now) verb texts.now) }
     ensures counted { L.wides ledger.old ≤ L.wides ledger.new }
 {
-    let set = match clear_set(alloc, model, ledger) {
-        Ok(set) => set,
-        Err(error) => return not_elaborated(alloc, model, texts.route, error),
-    };
-    match elaborate(alloc, model, &set, ledger) {
-        Ok(forms) => on_forms(alloc, model, &forms, &set, verb, texts, ledger),
+    match written(alloc, model, ledger) {
+        Ok((set, forms)) => on_forms(alloc, model, &forms, &set, verb, texts, ledger),
         Err(error) => not_elaborated(alloc, model, texts.route, error),
     }
 }
@@ -221,10 +216,7 @@ fn on_forms<N: Exact + Drop, L: Ledger>(
 ) -> Result<Reply, Memory>
     requires valid { IsValid N.value model.now }
     requires named { IsNamed (robust N.value model.now) }
-    requires forms { IsForms (robust N.value model.now) forms.now }
-    requires set { IsSetForm (robust N.value model.now) set.now }
-    requires forms_fit { FormsFit N.limit forms.now }
-    requires set_fits { SetFits N.limit set.now }
+    requires elaborated { IsElaborated N.limit (robust N.value model.now) forms.now set.now }
     requires short { IsShort texts.now }
     requires elaborates { IsElaborating verb }
     ensures answers { IfOk result (AnswersWhole N.limit (count (L.wides ledger.old) (L.wides ledger.new))
@@ -257,8 +249,7 @@ fn rows<N: Exact>(
     set: &SetForm,
 ) -> Result<Reply, Memory>
     requires valid { IsValid N.value model.now }
-    requires forms { IsForms (robust N.value model.now) forms.now }
-    requires set { IsSetForm (robust N.value model.now) set.now }
+    requires elaborated { IsElaborated N.limit (robust N.value model.now) forms.now set.now }
     ensures rows { IfOk result (Replies Ended.Printed (rows_of (robust N.value model.now))) }
 {
     let text = rows_text(alloc, model, forms, set)?;

@@ -22,7 +22,8 @@ use Rattle.rob_reach.proofs.BoxLemmas.{length-change_at, model_behind}
 -- ---- the variables in front of the changed one, and those behind it
 pub change_at-split : (f : Variable → Variable) (j : ℕ) (xs : List Variable) (x : Variable) (front back : List Variable)
     → xs ≡ front ++ x ∷ back → length front ≡ j → change_at f j xs ≡ front ++ f x ∷ back
-change_at-split f j xs x front back e l = ap (change_at f j) e ∙ ap (λ n. change_at f n (front ++ x ∷ back)) (sym l) ∙ at_end front
+change_at-split f j xs x front back e l =
+    ap (change_at f j) e ∙ ap (λ n. change_at f n (front ++ x ∷ back)) (sym l) ∙ at_end front
   where
     at_end : (front : List Variable) → change_at f (length front) (front ++ x ∷ back) ≡ front ++ f x ∷ back
     at_end [] = refl
@@ -34,7 +35,8 @@ length-bound_forms : (e : Expression) (b : Bool) (k : ℤ) (x : Variable) → T 
 length-bound_forms e b k x h = by b x.lower x.upper h
   where
     by : (b : Bool) (l u : Option Fraction) → T (has_both l u)
-        → length (bound_forms e (tightened b k (record x { lower = l; upper = u })).lower (tightened b k (record x { lower = l; upper = u })).upper)
+        → length (bound_forms e (tightened b k (record x { lower = l; upper = u })).lower
+        (tightened b k (record x { lower = l; upper = u })).upper)
         ≡ length (bound_forms e l u)
     by b None u h = absurd h
     by b (Some l) None h = absurd h
@@ -45,11 +47,13 @@ length-variable_forms : (b : Bool) (k : ℤ) (j first : ℕ) (xs : List Variable
     → length (variable_forms first (change_at (tightened b k) j xs)) ≡ length (variable_forms first xs)
 length-variable_forms b k j first [] h = absurd h
 length-variable_forms b k zero first (x ∷ xs) h =
-    length-append (bound_forms (variable first) (tightened b k x).lower (tightened b k x).upper) (variable_forms (suc first) xs)
+    length-append (bound_forms (variable first) (tightened b k x).lower (tightened b k x).upper)
+    (variable_forms (suc first) xs)
     ∙ ap (λ n. n + length (variable_forms (suc first) xs)) (length-bound_forms (variable first) b k x h)
     ∙ sym (length-append (bound_forms (variable first) x.lower x.upper) (variable_forms (suc first) xs))
 length-variable_forms b k (suc j) first (x ∷ xs) h =
-    length-append (bound_forms (variable first) x.lower x.upper) (variable_forms (suc first) (change_at (tightened b k) j xs))
+    length-append (bound_forms (variable first) x.lower x.upper)
+    (variable_forms (suc first) (change_at (tightened b k) j xs))
     ∙ ap (λ n. length (bound_forms (variable first) x.lower x.upper) + n) (length-variable_forms b k j (suc first) xs h)
     ∙ sym (length-append (bound_forms (variable first) x.lower x.upper) (variable_forms (suc first) xs))
 
@@ -65,23 +69,28 @@ module _ (m : RobustModel) (b : Branch) where
       (length-append (row_forms m.rows) (variable_forms zero vs ++ adaptive_forms zero m.adaptives)
       ∙ ap (λ n. length (row_forms m.rows) + n)
       (length-append (variable_forms zero vs) (adaptive_forms zero m.adaptives)
-      ∙ ap (λ n. n + length (adaptive_forms zero m.adaptives)) (length-variable_forms b.is_upper b.bound b.variable zero m.variables h)
+      ∙ ap (λ n. n + length (adaptive_forms zero m.adaptives))
+      (length-variable_forms b.is_upper b.bound b.variable zero m.variables h)
       ∙ sym (length-append (variable_forms zero m.variables) (adaptive_forms zero m.adaptives)))
       ∙ sym (length-append (row_forms m.rows) (variable_forms zero m.variables ++ adaptive_forms zero m.adaptives)))
 
   -- ---- how many set rows there are
-  length-statement_rows : (t : ℕ) (cs : List SetLine) → length (statement_rows (behind m b) t cs) ≡ length (statement_rows m t cs)
+  length-statement_rows : (t : ℕ) (cs : List SetLine)
+      → length (statement_rows (behind m b) t cs) ≡ length (statement_rows m t cs)
   length-statement_rows t [] = refl
   length-statement_rows t (line left relation right ∷ rest) =
       length-append (map (expression_row (behind m b)) (sides relation left right)) (statement_rows (behind m b) t rest)
       ∙ ap₂ ◌+◌
-      (length-map (expression_row (behind m b)) (sides relation left right) ∙ sym (length-map (expression_row m) (sides relation left right)))
+      (length-map (expression_row (behind m b)) (sides relation left right)
+      ∙ sym (length-map (expression_row m) (sides relation left right)))
       (length-statement_rows t rest)
       ∙ sym (length-append (map (expression_row m) (sides relation left right)) (statement_rows m t rest))
   length-statement_rows t (budget limit members ∷ rest) =
-      length-append (member_rows t members) (budget_row t limit members ∷ statement_rows (behind m b) (length members + t) rest)
+      length-append (member_rows t members)
+      (budget_row t limit members ∷ statement_rows (behind m b) (length members + t) rest)
       ∙ ap (λ n. length (member_rows t members) + suc n) (length-statement_rows (length members + t) rest)
-      ∙ sym (length-append (member_rows t members) (budget_row t limit members ∷ statement_rows m (length members + t) rest))
+      ∙ sym (length-append (member_rows t members)
+      (budget_row t limit members ∷ statement_rows m (length members + t) rest))
 
   pub length-set_rows : length (set_rows (behind m b)) ≡ length (set_rows m)
   length-set_rows =
@@ -92,7 +101,8 @@ module _ (m : RobustModel) (b : Branch) where
   -- ---- the limits
   pub column_count-behind : column_count (behind m b) ≡ column_count m
   column_count-behind =
-      ap (λ n. column_from n m.adaptives (length m.adaptives)) (length-change_at (tightened b.is_upper b.bound) b.variable m.variables)
+      ap (λ n. column_from n m.adaptives (length m.adaptives))
+      (length-change_at (tightened b.is_upper b.bound) b.variable m.variables)
 
   pub limits_behind : T (is_bounded m.variables b.variable) → IsWithinLimits m → IsWithinLimits (behind m b)
   limits_behind h w =
@@ -107,7 +117,8 @@ module _ (m : RobustModel) (b : Branch) where
       }
     where
       size : model_size (behind m b) ≡ model_size m
-      size = ap₂ (λ f r. f * (r + 2 * (length m.parameters + lift_count m.set_lines) + 1)) (length-forms h) length-set_rows
+      size = ap₂ (λ f r. f * (r + 2 * (length m.parameters + lift_count m.set_lines) + 1))
+          (length-forms h) length-set_rows
 
 -- ---- the program's variables
 module _ {N : Type 0} where
@@ -119,11 +130,15 @@ pub rest_of : {X : Type 0} (xs : List X) (n : ℕ) → take (length xs - n) (dro
 rest_of xs n = ap (λ k. take k (drop n xs)) (sym (length-drop n xs)) ∙ take-length (drop n xs)
 
 -- the list that has the variables in front, the changed one and those behind it
-pub changed_at : {X : Type 0} (view : X → Variable) (f : Variable → Variable) (xs : List X) (j : ℕ) (x y : X) {none front middle all : List X}
-    → j < length xs → x ≡ get_or xs j x → view y ≡ f (view x) → none ≡ [] → front ≡ none ++ take j xs → middle ≡ front ++ y ∷ []
+pub changed_at : {X : Type 0} (view : X → Variable) (f : Variable → Variable) (xs : List X) (j : ℕ) (x y : X)
+    {none front middle all : List X}
+    → j < length xs → x ≡ get_or xs j x → view y ≡ f (view x) → none ≡ [] → front ≡ none ++ take j xs
+    → middle ≡ front ++ y ∷ []
     → all ≡ middle ++ drop (j + 1) xs → map view all ≡ change_at f j (map view xs)
 changed_at view f xs j x y {none} {front} {middle} {all} inside is same empty first second third =
-    ap (map view) (third ∙ ap (λ l. l ++ drop (j + 1) xs) (second ∙ ap (λ l. l ++ y ∷ []) (first ∙ ap (λ l. l ++ take j xs) empty)))
+    ap (map view)
+    (third ∙ ap (λ l. l ++ drop (j + 1) xs)
+    (second ∙ ap (λ l. l ++ y ∷ []) (first ∙ ap (λ l. l ++ take j xs) empty)))
     ∙ ap (map view) (append_assoc (take j xs) (y ∷ []) (drop (j + 1) xs))
     ∙ map-append view (take j xs) (y ∷ drop (j + 1) xs)
     ∙ ap (λ v. map view (take j xs) ++ v ∷ map view (drop (j + 1) xs)) same
@@ -140,8 +155,10 @@ module _ {N : Type 0} (value : N → Fraction) where
 
   -- a box is valid
   pub valid_behind : (m copy : Model N) (vars : List (Var N)) (b : Branch) → copy ≡ m
-      → map (variable_of value) vars ≡ change_at (tightened b.is_upper b.bound) b.variable (map (variable_of value) m.vars)
-      → T (is_bounded (map (variable_of value) m.vars) b.variable) → IsValid value m → IsValid value (record copy { vars = vars })
+      → map (variable_of value) vars
+      ≡ change_at (tightened b.is_upper b.bound) b.variable (map (variable_of value) m.vars)
+      → T (is_bounded (map (variable_of value) m.vars) b.variable) → IsValid value m
+      → IsValid value (record copy { vars = vars })
   valid_behind m copy vars b equal changed bounded valid =
       record {
         well_formed = subst IsModel (sym same) (model_behind (robust value m) b valid.well_formed);

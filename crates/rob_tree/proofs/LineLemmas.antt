@@ -102,7 +102,8 @@ third_line unbounded has = refl
 
 pub best_read : (s : Status) → HasBest s → (text front back : List ℕ) (z told : ℤ) → told ≡ z
     → text ≡ front ++ 10 ∷ back
-    → nat_abs z ≤ greatest_leaf → words_in front ≡ codes "best" ∷ (signed_decimal z ∷ []) → IsBestRead s text told back 3
+    → nat_abs z ≤ greatest_leaf → words_in front ≡ codes "best" ∷ (signed_decimal z ∷ [])
+    → IsBestRead s text told back 3
 best_read s has text front back z told same is small e =
     subst (λ y. IsBestRead s text y back 3) (sym same)
     (record {

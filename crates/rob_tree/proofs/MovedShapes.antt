@@ -56,15 +56,19 @@ module _ (a b : RobustModel) (same : HasCountsOf a b) where
   covers_move cs h = record { each = each_map (IsCoverOf a) (IsCoverOf b) cover_moves cs h.each; ordered = h.ordered }
 
   item_moves : (i : Item) → IsItemOf a i → IsItemOf b i
-  item_moves i h = record { form = subst (λ n. i.form < n) same.forms_same h.form; numbers = h.numbers ∙ same.parameters_same }
+  item_moves i h =
+      record { form = subst (λ n. i.form < n) same.forms_same h.form; numbers = h.numbers ∙ same.parameters_same }
 
   items_move : (is : List Item) → AreItemsOf a is → AreItemsOf b is
-  items_move is h = record { each = each_map (IsItemOf a) (IsItemOf b) item_moves is h.each; ordered = h.ordered; few = h.few }
+  items_move is h =
+      record { each = each_map (IsItemOf a) (IsItemOf b) item_moves is h.each; ordered = h.ordered; few = h.few }
 
   parts_move : (s : Status) (c : Certificate) → HasParts a s c → HasParts b s c
-  parts_move optimal c h = record { plan = h.plan ∙ same.columns_same; step = h.step; step_bound = h.step_bound; holds = h.holds }
+  parts_move optimal c h =
+      record { plan = h.plan ∙ same.columns_same; step = h.step; step_bound = h.step_bound; holds = h.holds }
   parts_move infeasible c h = h
-  parts_move unbounded c h = record { plan = h.plan ∙ same.columns_same; step = h.step ∙ same.columns_same; items = h.items }
+  parts_move unbounded c h =
+      record { plan = h.plan ∙ same.columns_same; step = h.step ∙ same.columns_same; items = h.items }
 
   pub shape_moves : (c : Certificate) → HasShape a c → HasShape b c
   shape_moves c h = record {

@@ -2,12 +2,11 @@
 use Rattle.std.proofs.Common.{◌≡◌, ◌≢◌, ℕ, suc, ◌+◌, ◌<◌, ◌≤◌, List, [], ◌∷◌, ◌++◌, length, arith, refl, ap, sym, ◌∙◌, subst, append_assoc, append-nil, length-append}
 use Rattle.std.specs.Prelude.{codes, ℤ, pos, nat_abs, Result, Ok, Err, IfOk, IfErr}
 use Rattle.rob_algebra.specs.Fraction.{Fraction}
-use Rattle.rob_cert.proofs.ShapeLemmas.{spaced_some}
+use Rattle.rob_cert.proofs.ShapeLemmas.{lines_long}
 use Rattle.rob_cert.specs.Causes.{HasCause as HasCertCause}
 use Rattle.rob_cert.specs.declared.error.CertErr.TheVariants as cert
-use Rattle.rob_cert.specs.Lines.{Line}
 use Rattle.rob_cert.specs.Reading.{start}
-use Rattle.rob_cert.specs.Spelling.{Naming, line_text, lines_text, naming_of, spelled, words_of}
+use Rattle.rob_cert.specs.Spelling.{Naming, lines_text, naming_of}
 use Rattle.rob_meaning.specs.Certificates.{Status}
 use Rattle.rob_meaning.specs.Names.{Name, column_names}
 use Rattle.rob_meaning.specs.RobustModel.{RobustModel}
@@ -248,16 +247,6 @@ module _ {N : Type 0} (value : N → Fraction) (limit : ℕ) (m : RobustModel) (
   joined_read (Err e) at n h read = tt
 
 -- ---- the cause of a certificate, whatever the number of its first line
-lines_some : (names : Naming) (ls : List (Line Fraction)) → length ls ≤ length (lines_text names ls)
-lines_some names [] = omega arith
-lines_some names (l ∷ ls) =
-    omega (
-      arith,
-      lines_some names ls,
-      length-append (line_text names l) (lines_text names ls),
-      spaced_some (words_of names (spelled l)),
-    )
-
 module _ (names : Naming) (limit : ℕ) (part : List ℕ) (rule line : ℕ)
     (h : HasCertCause names limit start part 1 (cert.Rule rule line)) where
   pub cause_within : (1 ≤ line) × (line ≤ 1 + length part)
@@ -266,7 +255,7 @@ module _ (names : Naming) (limit : ℕ) (part : List ℕ) (rule line : ℕ)
     omega (
       arith,
       h.2.number_is,
-      lines_some names h.2.before,
+      lines_long names h.2.before,
       ap length h.2.split,
       length-append (lines_text names h.2.before) h.2.rest,
     ),

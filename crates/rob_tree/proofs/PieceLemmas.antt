@@ -213,7 +213,10 @@ module _ (m : RobustModel) (limit : ℕ) (names : List ℕ) (model : IsModel m) 
     leaf_line text after e =
         record {
           split = e;
-          whole = (λ e. omega (arith, e), (λ e. omega (arith, e), (λ e. omega (arith, e), (λ e. omega (arith, e), tt))));
+          whole = (
+            λ e. omega (arith, e),
+            (λ e. omega (arith, e), (λ e. omega (arith, e), (λ e. omega (arith, e), tt))),
+          );
         }
 
     no_certificate_breach : (s : Stage) (p : Piece) (r text after part : List ℕ) (n rule line : ℕ) → May s p
@@ -240,7 +243,8 @@ module _ (m : RobustModel) (limit : ℕ) (names : List ℕ) (model : IsModel m) 
     no_breach_here s p r text n rule line h is (in_node o some cause e d) = no_cause s p r text o h is cause
     no_breach_here s p r text n rule line h is (in_certificate after part some e is_part cause) =
         no_certificate_breach s p r text after part (suc n) rule line h is e is_part cause
-    no_breach_here s p r text n rule line h is (in_rest none some e d) = omega (arith, none, pending_some limit m names status s p h)
+    no_breach_here s p r text n rule line h is (in_rest none some e d) =
+        omega (arith, none, pending_some limit m names status s p h)
 
     -- ---- a text breaks one rule at a stage
     one_offence : (branches : ℕ) (text : List ℕ) (a b : Offence) → IsNodeCause limit m names status branches text a

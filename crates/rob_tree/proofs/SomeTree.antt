@@ -103,7 +103,8 @@ module _ (s : Status) where
     shows_nothing : ((word : Name) → words_in front ≡ codes "best" ∷ (word ∷ []) → ⊥) → SomeBest text
     shows_nothing f = no_best has NoLine (best_cause text front back NoLine begins.split begins.whole f)
 
-    of_whole : (u : Name) → words_in front ≡ codes "best" ∷ (u ∷ []) → Decided (IsWholeWord greatest_leaf u) → SomeBest text
+    of_whole : (u : Name) → words_in front ≡ codes "best" ∷ (u ∷ [])
+        → Decided (IsWholeWord greatest_leaf u) → SomeBest text
     of_whole u e (inr n) = no_best has NoNumber (front, back, begins, (u, e, n))
     of_whole u e (inl (z, small, w)) = a_best z back record {
       shown = spaced (codes "best" ∷ (signed_decimal z ∷ []));

@@ -26,8 +26,12 @@ module _ (m : RobustModel) (b : Branch) (bounded : T (is_bounded m.variables b.v
 
   pub spelled_out : (limit : ℕ) (node : Node) → IsSpelledWith limit (behind m b) node → IsSpelledWith limit m node
   spelled_out limit (leaf c) h = shape_out c h
-  spelled_out limit (split j k below above) h =
-      (subst (λ names. j < length names) (column_names-behind m b) h.0, h.1, spelled_out limit below h.2, spelled_out limit above h.3)
+  spelled_out limit (split j k below above) h = (
+    subst (λ names. j < length names) (column_names-behind m b) h.0,
+    h.1,
+    spelled_out limit below h.2,
+    spelled_out limit above h.3,
+  )
   spelled_out limit left_open h = tt
 
 in_each : (P : ℕ → Type 0) (names : List ℕ) (j : ℕ) → IsIn j names → Each P names → P j
@@ -36,13 +40,16 @@ in_each P (i ∷ names) j (inl e) all = subst P (sym e) all.0
 in_each P (i ∷ names) j (inr h) all = in_each P names j h all.1
 
 -- a named variable is a column
-pub column_inside : (m : RobustModel) (names : List ℕ) (j : ℕ) → T (are_bounded m.variables names) → IsIn j names → j < length (column_names m)
+pub column_inside : (m : RobustModel) (names : List ℕ) (j : ℕ) → T (are_bounded m.variables names) → IsIn j names
+    → j < length (column_names m)
 column_inside m names j bounded named =
-    let inside : j < length m.variables = in_each (λ i. i < length m.variables) names j named (all_inside m.variables names bounded) in
+    let inside : j < length m.variables =
+    in_each (λ i. i < length m.variables) names j named (all_inside m.variables names bounded) in
     let grows : length m.variables ≤ column_count m = column_grows (length m.variables) m.adaptives in
     subst (λ n. j < n) (sym (length-column_names m)) (omega arith)
 
-pub spelled : (limit : ℕ) (m : RobustModel) (names : List ℕ) → T (are_bounded m.variables names) → (node : Node) → BranchesOn names node
+pub spelled : (limit : ℕ) (m : RobustModel) (names : List ℕ) → T (are_bounded m.variables names)
+    → (node : Node) → BranchesOn names node
     → Each IsShaped (leaves m node) → BranchesFit limit node → IsSpelledWith limit m node
 spelled limit m names bounded (leaf c) on shaped fits = shaped.0
 spelled limit m names bounded (split j k below above) on shaped fits = (

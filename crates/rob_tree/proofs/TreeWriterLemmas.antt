@@ -12,16 +12,19 @@ use Rattle.rob_reach.specs.Trees.{Node, leaf, split}
 use Rattle.rob_tree.specs.TreeText.{Piece, piece_text, pieces, pieces_text}
 
 -- the line of a branch
-pub branch_line : (names : List Name) (j : ℕ) (k : ℤ) (out a b c d e : List ℕ) → a ≡ out ++ codes "branch " → AppendsName names j a b
+pub branch_line : (names : List Name) (j : ℕ) (k : ℤ) (out a b c d e : List ℕ) → a ≡ out ++ codes "branch "
+    → AppendsName names j a b
     → c ≡ b ++ 32 ∷ [] → d ≡ c ++ signed_decimal k → e ≡ d ++ 10 ∷ []
     → e ≡ out ++ spaced (codes "branch" ∷ (name_at names j ∷ (signed_decimal k ∷ [])))
 branch_line names j k out a b c d e first second third fourth fifth =
     let B = codes "branch " in
     let W = name_at names j in
     let D = signed_decimal k in
-    let named : b ≡ a ++ W = second.appended ∙ ap (λ n. a ++ n) (sym (get_or_from_slice_get names j second.name [] second.number)) in
+    let named : b ≡ a ++ W =
+    second.appended ∙ ap (λ n. a ++ n) (sym (get_or_from_slice_get names j second.name [] second.number)) in
     fifth
-    ∙ ap (λ l. l ++ 10 ∷ []) (fourth ∙ ap (λ l. l ++ D) (third ∙ ap (λ l. l ++ 32 ∷ []) (named ∙ ap (λ l. l ++ W) first)))
+    ∙ ap (λ l. l ++ 10 ∷ [])
+    (fourth ∙ ap (λ l. l ++ D) (third ∙ ap (λ l. l ++ 32 ∷ []) (named ∙ ap (λ l. l ++ W) first)))
     ∙ append_assoc (((out ++ B) ++ W) ++ 32 ∷ []) D (10 ∷ [])
     ∙ append_assoc ((out ++ B) ++ W) (32 ∷ []) (D ++ 10 ∷ [])
     ∙ append_assoc (out ++ B) W (32 ∷ (D ++ 10 ∷ []))
@@ -29,10 +32,12 @@ branch_line names j k out a b c d e first second third fourth fifth =
 
 module _ (m : RobustModel) where
   -- the text of a leaf
-  pub leaf_text : (c : Certificate) → spaced (codes "leaf" ∷ []) ++ cert_text m c ≡ pieces_text (naming_of m) (pieces (leaf c))
+  pub leaf_text : (c : Certificate) → spaced (codes "leaf" ∷ []) ++ cert_text m c
+      ≡ pieces_text (naming_of m) (pieces (leaf c))
   leaf_text c = sym (append-nil (spaced (codes "leaf" ∷ []) ++ cert_text m c))
 
-  pieces_text-append : (ps qs : List Piece) → pieces_text (naming_of m) (ps ++ qs) ≡ pieces_text (naming_of m) ps ++ pieces_text (naming_of m) qs
+  pieces_text-append : (ps qs : List Piece)
+      → pieces_text (naming_of m) (ps ++ qs) ≡ pieces_text (naming_of m) ps ++ pieces_text (naming_of m) qs
   pieces_text-append [] qs = refl
   pieces_text-append (p ∷ ps) qs =
       ap (λ l. piece_text (naming_of m) p ++ l) (pieces_text-append ps qs)

@@ -10,10 +10,12 @@ use Rattle.rob_number.proofs.CastLemmas.{seen}
 pub whole_fits : (limit : ℕ) (n : ℤ) → nat_abs n ≤ limit → 1 ≤ limit → Fits limit (of_pair n 1)
 unfolding of_pair
 whole_fits limit n h k = record {
-  num_fits = let a : nat_abs n / gcd (nat_abs n) 1 ≤ nat_abs n = div-le_self (nat_abs n) (gcd (nat_abs n) 1) in omega (arith, nat_abs-over n (gcd (nat_abs n) 1));
+  num_fits = let a : nat_abs n / gcd (nat_abs n) 1 ≤ nat_abs n = div-le_self (nat_abs n) (gcd (nat_abs n) 1) in
+      omega (arith, nat_abs-over n (gcd (nat_abs n) 1));
   den_fits = let a : 1 / gcd (nat_abs n) 1 ≤ 1 = div-le_self 1 (gcd (nat_abs n) 1) in omega arith;
 }
 
 -- of the number as it was passed
-pub whole_seen : (limit : ℕ) (n : ℤ) → limit ≤ 2 ^ 62 - 1 → nat_abs n ≤ limit → of_pair (to_z w64 (of_z w64 n)) 1 ≡ of_pair n 1
+pub whole_seen : (limit : ℕ) (n : ℤ) → limit ≤ 2 ^ 62 - 1 → nat_abs n ≤ limit
+    → of_pair (to_z w64 (of_z w64 n)) 1 ≡ of_pair n 1
 whole_seen limit n high h = ap (λ a. of_pair a 1) (seen n (omega arith))

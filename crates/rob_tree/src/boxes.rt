@@ -1,16 +1,15 @@
 //! Boxes: models with a bound replaced.
 
 ghost use Rattle.std.specs.Prelude.{◌≡◌, ◌≤◌, ◌<◌, T, length, map, nat_abs, option_map, IfOk};
-ghost use Rattle.rob_algebra.specs.Fraction.{of_int};
 ghost use Rattle.rob_model.specs.Valid.{IsValid};
 ghost use Rattle.rob_model.specs.View.{robust, variable_of};
 ghost use Rattle.rob_reach.specs.Boxes as boxes;
 ghost use Rattle.rob_reach.specs.Ranges.{is_bounded};
 ghost use Rattle.rob_tree.specs.View.{branch_of};
 
-use crate::copy::{append_vars, copy_model, copy_text};
 use crate::tree::Branch;
 use crate::whole_number::whole_number;
+use rob_model::copy::{append_vars, copy_model, copy_text};
 use rob_model::numbers::at_most;
 use rob_model::{Model, Var};
 use rob_number::{Exact, List, Memory};

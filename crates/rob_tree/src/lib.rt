@@ -3,7 +3,6 @@
 #![tactic(auto)]
 
 pub mod boxes;
-pub mod copy;
 pub mod error;
 pub mod laws;
 mod lines;
@@ -17,7 +16,6 @@ pub mod whole_number;
 pub mod writer;
 
 pub use boxes::behind;
-pub use copy::copy_model;
 pub use error::{TreeErr, TreeStop};
 pub use reader::read_tree;
 pub use rules::whole_rule;

@@ -25,7 +25,8 @@ parts_other byte word other = rw other refl
 abbrev Begins : Word → ℕ → Type 0
 Begins word count = parts_of word ≡ take count word ∷ parts_of (drop (suc count) word)
 
-begins_comma : (byte : ℕ) (word : Word) (count : ℕ) → is_comma byte ≡ true → count ≡ before (byte ∷ word) → Begins (byte ∷ word) count
+begins_comma : (byte : ℕ) (word : Word) (count : ℕ) → is_comma byte ≡ true → count ≡ before (byte ∷ word)
+    → Begins (byte ∷ word) count
 begins_comma byte word zero is e = parts_comma byte word is
 begins_comma byte word (suc count) is e =
     let none : suc count ≡ 0 = e ∙ before_comma byte word is in absurd (omega (arith, none))
@@ -62,10 +63,12 @@ alone (byte ∷ word) most =
     ]
 
 -- where a comma stands in the word, what stands in front of it is the first part
-pub first_part_at : (word part behind : Word) → position_or_len is_comma word < length word → part ≡ before_first is_comma word
+pub first_part_at : (word part behind : Word) → position_or_len is_comma word < length word
+    → part ≡ before_first is_comma word
     → behind ≡ after_first is_comma word → parts_of word ≡ part ∷ parts_of behind
 first_part_at word part behind less front back =
-    let next : before word + 1 ≡ suc (before word) = omega arith in cc (begins word (before word) refl less, next, front, back)
+    let next : before word + 1 ≡ suc (before word) = omega arith in
+    cc (begins word (before word) refl less, next, front, back)
 
 -- where none does, the whole word is
 pub first_part_all : (word : Word) → position_or_len is_comma word ≡ length word → parts_of word ≡ word ∷ []

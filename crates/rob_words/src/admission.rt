@@ -15,7 +15,7 @@ pub(crate) fn are_admitted(words: &[String]) -> bool
     true
 }
 
-// It isn't empty, `-` or `--`, and where it begins with `-`, it begins with `--`.
+/// It isn't empty, `-` or `--`, and where it begins with `-`, it begins with `--`.
 fn is_admitted(word: &str) -> bool
     ensures admitted { IsTrue result ↔ IsAdmitted word.now }
 {
@@ -25,7 +25,7 @@ fn is_admitted(word: &str) -> bool
     }
 }
 
-// Bytes behind a `-` make an option of more bytes than `--`.
+/// Bytes behind a `-` make an option of more bytes than `--`.
 fn is_long(rest: &[u8]) -> bool
     ensures long { IsTrue result ↔ IsLong rest.now }
 {

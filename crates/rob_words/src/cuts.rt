@@ -7,6 +7,9 @@ ghost use Rattle.rob_words.specs.Limits.{denominator_of, numerator_of};
 use crate::limits::limit;
 use crate::names::is_name;
 
+/// The most cuts that a word may list.
+pub const MOST_CUTS: usize = 3;
+
 /// A cut as a word spells it: the parameter's name, and the number as its sign, its numerator and its denominator.
 #[derive(Debug, Clone, Copy)]
 pub struct CutWord<'a> {
@@ -39,8 +42,8 @@ pub fn cut<'a>(word: &'a str, greatest: u64) -> Option<CutWord<'a>>
     }
 }
 
-// The number that a word spells, with or without a sign: whether it has one, and the two parts of what stands behind
-// it.
+/// The number that a word spells, with or without a sign: whether it has one, and the two parts of what stands behind
+/// it.
 fn signed(word: &str, greatest: u64) -> Option<(bool, u64, u64)>
     ensures signed { MatchOption result
         (IsSigned greatest word.now → ⊥)
@@ -52,7 +55,7 @@ fn signed(word: &str, greatest: u64) -> Option<(bool, u64, u64)>
     Some((negative, numerator, denominator))
 }
 
-// Whether the word begins with a sign, and what stands behind that.
+/// Whether the word begins with a sign, and what stands behind that.
 fn behind_sign(word: &str) -> (bool, &str)
     ensures sign { result.0 ≡ has_sign word.now }
     ensures number { result.1.now ≡ unsigned word.now }

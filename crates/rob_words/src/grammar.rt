@@ -40,7 +40,7 @@ pub(crate) fn read_texts<'a>(
     }
 }
 
-// The texts in what was found.
+/// The texts in what was found.
 fn texts_of<'a>(alloc: Global, matches: &ArgMatches<'a>) -> Result<Texts<'a>, AllocError>
     ensures found { IfOk result (λ texts. Finds matches.now (holding_of texts)) }
 {
@@ -55,7 +55,7 @@ fn texts_of<'a>(alloc: Global, matches: &ArgMatches<'a>) -> Result<Texts<'a>, Al
     })
 }
 
-// Adds a word, where there is one.
+/// Adds a word, where there is one.
 fn add(alloc: Global, own: &mut Vec<String>, word: Option<&str>) -> Result<(), AllocError>
     ensures added { IfOk result (λ _. map string_bytes own.new.items
         ≡ map string_bytes own.old.items ++ listed (option_map (λ s. s.now) word.entry)) }
@@ -66,7 +66,7 @@ fn add(alloc: Global, own: &mut Vec<String>, word: Option<&str>) -> Result<(), A
     Ok(())
 }
 
-// The command as `clap` reads it.
+/// The command as `clap` reads it.
 fn command<'a>(alloc: Global, verb: Verb) -> Result<Command<'a>, AllocError>
     ensures grammar { IfOk result (λ command. app_of command ≡ grammar verb) }
 {
@@ -76,7 +76,7 @@ fn command<'a>(alloc: Global, verb: Verb) -> Result<Command<'a>, AllocError>
     with_words(alloc, command, verb.own())
 }
 
-// The command with the option `route`, or without it.
+/// The command with the option `route`, or without it.
 fn with_route<'a>(
     alloc: Global,
     command: Command<'a>,
@@ -91,7 +91,7 @@ fn with_route<'a>(
     }
 }
 
-// The command with a required word for each of its own.
+/// The command with a required word for each of its own.
 fn with_words<'a>(
     alloc: Global,
     command: Command<'a>,
@@ -111,7 +111,7 @@ fn with_words<'a>(
     }
 }
 
-// The command with one more required word.
+/// The command with one more required word.
 fn with_word<'a>(
     alloc: Global,
     command: Command<'a>,
@@ -122,7 +122,7 @@ fn with_word<'a>(
     command.arg(positional(alloc, name))
 }
 
-// An option `--name` with one value.
+/// An option `--name` with one value.
 fn option<'a>(alloc: Global, name: &'a str) -> Arg<'a>
     ensures rule { rule_of result ≡ setting name.now }
     ensures local { result.global ≡ false }
@@ -130,7 +130,7 @@ fn option<'a>(alloc: Global, name: &'a str) -> Arg<'a>
     Arg::new(alloc, name).long(name)
 }
 
-// A word of the command's own.
+/// A word of the command's own.
 fn positional<'a>(alloc: Global, name: &'a str) -> Arg<'a>
     ensures rule { rule_of result ≡ own_word name.now }
     ensures local { result.global ≡ false }

@@ -15,7 +15,7 @@ mod route;
 mod verb;
 mod width;
 
-pub use cuts::{CutWord, cut};
+pub use cuts::{CutWord, MOST_CUTS, cut};
 pub use error::WordsErr;
 pub use limits::limit;
 pub use line::CommandLine;

@@ -22,7 +22,7 @@ pub fn limit(word: &str, greatest: u64) -> Option<(u64, u64)>
     }
 }
 
-// The whole number that a word of decimal digits spells, where it is at most the greatest one.
+/// The whole number that a word of decimal digits spells, where it is at most the greatest one.
 fn whole(word: &str, greatest: u64) -> Option<u64>
     ensures whole { MatchOption result
         (IsWhole greatest word.now → ⊥)
@@ -41,7 +41,7 @@ fn whole(word: &str, greatest: u64) -> Option<u64>
     }
 }
 
-// The same where it isn't 0.
+/// The same where it isn't 0.
 fn divisor(word: &str, greatest: u64) -> Option<u64>
     ensures divisor { MatchOption result
         (IsDivisor greatest word.now → ⊥)

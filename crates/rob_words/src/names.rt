@@ -28,7 +28,7 @@ pub(crate) fn is_name(word: &[u8]) -> bool
     is_word(word) && !is_keyword(word)
 }
 
-// Whether the word is a letter or `_`, and then letters, digits and `_`.
+/// Whether the word is a letter or `_`, and then letters, digits and `_`.
 fn is_word(word: &[u8]) -> bool
     ensures word { IsTrue result ↔ IsWord word.now }
 {
@@ -38,7 +38,7 @@ fn is_word(word: &[u8]) -> bool
     }
 }
 
-// Whether each byte goes on a word.
+/// Whether each byte goes on a word.
 fn go_on(bytes: &[u8]) -> bool
     ensures all { IsTrue result ↔ GoesOn bytes.now }
 {
@@ -50,21 +50,21 @@ fn go_on(bytes: &[u8]) -> bool
     true
 }
 
-// Whether a word begins with the byte.
+/// Whether a word begins with the byte.
 fn begins_word(byte: u8) -> bool
     ensures class { result ≡ classes.begins_word byte }
 {
     matches!(byte, b'a'..=b'z' | b'A'..=b'Z' | b'_')
 }
 
-// Whether a word goes on with the byte.
+/// Whether a word goes on with the byte.
 fn goes_on_word(byte: u8) -> bool
     ensures class { result ≡ classes.goes_on_word byte }
 {
     begins_word(byte) || matches!(byte, b'0'..=b'9')
 }
 
-// Whether the word is a keyword of model texts: the names of parts first.
+/// Whether the word is a keyword of model texts: the names of parts first.
 fn is_keyword(word: &[u8]) -> bool
     ensures keyword { result ≡ is_some (keyword_among keywords word.now) }
 {
@@ -76,7 +76,7 @@ fn is_keyword(word: &[u8]) -> bool
         || is_goal_or_row(word)
 }
 
-// Whether it is one of the goals, `row`, or one behind these.
+/// Whether it is one of the goals, `row`, or one behind these.
 fn is_goal_or_row(word: &[u8]) -> bool
     ensures keyword { result ≡ is_some (keyword_among (drop 5 keywords) word.now) }
 {
@@ -88,7 +88,7 @@ fn is_goal_or_row(word: &[u8]) -> bool
         || is_inside(word)
 }
 
-// Whether it is one that stands inside a statement, or one behind these.
+/// Whether it is one that stands inside a statement, or one behind these.
 fn is_inside(word: &[u8]) -> bool
     ensures keyword { result ≡ is_some (keyword_among (drop 10 keywords) word.now) }
 {
@@ -99,7 +99,7 @@ fn is_inside(word: &[u8]) -> bool
         || is_unused(word)
 }
 
-// Whether it is one that no statement has.
+/// Whether it is one that no statement has.
 fn is_unused(word: &[u8]) -> bool
     ensures keyword { result ≡ is_some (keyword_among (drop 14 keywords) word.now) }
 {

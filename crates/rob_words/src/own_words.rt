@@ -5,7 +5,7 @@ ghost use Rattle.std.specs.Prelude.{◌≡◌, ◌↔◌, IsTrue, MatchOption, m
 ghost use Rattle.rob_words.specs.Kinds.{AreOfKinds, IsNumber, IsOfKind, IsPart, IsStatement, number_of};
 ghost use Rattle.rob_words.specs.Names.{IsListOf};
 
-use crate::cuts::cut;
+use crate::cuts::{MOST_CUTS, cut};
 use crate::limits::limit;
 use crate::names::{MOST_IN_LIST, first_part, is_name};
 use crate::verb::Own;
@@ -25,7 +25,7 @@ pub(crate) fn are_of_kinds(kinds: &[Own], words: &[String], greatest: u64) -> bo
     }
 }
 
-// Whether the word is one of the kind.
+/// Whether the word is one of the kind.
 fn is_of_kind(kind: Own, word: &str, greatest: u64) -> bool
     ensures kind { IsTrue result ↔ IsOfKind greatest kind word.now }
 {
@@ -40,11 +40,11 @@ fn is_of_kind(kind: Own, word: &str, greatest: u64) -> bool
         Own::Statement => statement(word).is_some(),
         Own::Limit => limit(word, greatest).is_some(),
         Own::Limits => is_list(Own::Limits, MOST_IN_LIST, word, greatest),
-        Own::Cuts => is_list(Own::Cuts, 3, word, greatest),
+        Own::Cuts => is_list(Own::Cuts, MOST_CUTS, word, greatest),
     }
 }
 
-// Whether the word is a list of this kind, of at most so many parts and one at least.
+/// Whether the word is a list of this kind, of at most so many parts and one at least.
 fn is_list(kind: Own, most: usize, word: &str, greatest: u64) -> bool
     ensures list { IsTrue result ↔ IsListOf (IsPart greatest kind) most word.now }
 {
@@ -58,7 +58,7 @@ fn is_list(kind: Own, most: usize, word: &str, greatest: u64) -> bool
     }
 }
 
-// Whether the word may stand in a list of this kind.
+/// Whether the word may stand in a list of this kind.
 fn is_part(kind: Own, word: &str, greatest: u64) -> bool
     ensures part { IsTrue result ↔ IsPart greatest kind word.now }
 {

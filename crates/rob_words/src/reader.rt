@@ -40,7 +40,7 @@ pub fn read_words(alloc: Global, words: &[String]) -> Result<CommandLine, WordsE
     })
 }
 
-// The command that the first word names.
+/// The command that the first word names.
 fn verb(words: &[String]) -> Result<Verb, WordsErr>
     ensures named { Names (map string_bytes words.now) result }
 {

@@ -8,7 +8,7 @@ use Rattle.rob_linear.specs.Vectors.{sum_to, at}
 use Rattle.rob_meaning.specs.Forms.{matrix_at, form_columns}
 use Rattle.rob_meaning.specs.Places.{Each, tabulate}
 use Rattle.rob_meaning.specs.RobustModel.{RobustModel}
-use Rattle.rob_meaning.proofs.EachLemmas.{each_at}
+use Rattle.rob_meaning.proofs.EachLemmas.{each_at, each_append}
 use Rattle.rob_number.proofs.CastLemmas.{seen}
 use Rattle.rob_counterpart.specs.Counterpart.{cell, robust_of}
 use Rattle.rob_counterpart.specs.RobustProgram.{number_at}
@@ -22,7 +22,6 @@ use Rattle.rob_runs.proofs.SumLemmas.{cost_is_number}
 use Rattle.rob_sets.specs.SetProgram.{in_pairs}
 use Rattle.rob_sets.proofs.RowLemmas.{tabulate-more}
 use Rattle.rob_sets.proofs.SetProgramLemmas.{in_pairs-push}
-use Rattle.rob_sets.proofs.SubexpressionLemmas.{each_both}
 use Rattle.std.specs.Prelude.{Option, Some, None, MatchOption}
 use Rattle.rob_model.specs.declared.place.Spot.TheVariants.{Sum}
 use Rattle.rob_model.specs.declared.place.Where.TheVariants.{Cost}
@@ -82,7 +81,7 @@ module _ (forms : Forms) (i : ℕ) (whole : List ℤ) where
 pub pair_within : (limit : ℕ) (list new : List ℤ) (v : ℤ) → Each (λ a. nat_abs a ≤ limit) list → nat_abs v ≤ limit → new ≡ list ++ v ∷ (neg_ℤ v ∷ []) → Each (λ a. nat_abs a ≤ limit) new
 pair_within limit list new v h l e =
     let n : nat_abs (neg_ℤ v) ≤ limit = omega (arith, ints) in
-    subst (λ (xs : List ℤ). Each (λ a. nat_abs a ≤ limit) xs) (sym e) (each_both (λ a. nat_abs a ≤ limit) list (v ∷ (neg_ℤ v ∷ [])) h (l, (n, tt)))
+    subst (λ (xs : List ℤ). Each (λ a. nat_abs a ≤ limit) xs) (sym e) (each_append (λ a. nat_abs a ≤ limit) list (v ∷ (neg_ℤ v ∷ [])) h (l, (n, tt)))
 
 -- ---- of a model
 module _ (m : RobustModel) (forms : Forms) (f : IsForms m forms) (i : ℕ) (z : List Fraction) where

@@ -22,7 +22,7 @@ use Rattle.rob_dualize.specs.Ending.{IsWideStop}
 use Rattle.rob_worst.specs.Refusals.{program_for, place_for}
 use Rattle.rob_worst.proofs.CostLemmas.{part_wide}
 
-some_at : (limit d : ℕ) (qs : List Fraction) → Some_of (λ q. IsWideWhole limit (whole_at d q)) qs → SomeWide limit (map (whole_at d) qs)
+pub some_at : (limit d : ℕ) (qs : List Fraction) → Some_of (λ q. IsWideWhole limit (whole_at d q)) qs → SomeWide limit (map (whole_at d) qs)
 some_at limit d [] h = absurd h
 some_at limit d (q ∷ qs) (inl w) = (0, omega arith, w)
 some_at limit d (q ∷ qs) (inr w) = let r : SomeWide limit (map (whole_at d) qs) = some_at limit d qs w in let l : r.0 < length (map (whole_at d) qs) = r.1 in (suc r.0, omega arith, r.2)

@@ -1,4 +1,4 @@
-// The costs of a search: the numbers of a form at a whole vector.
+//! The costs of a search: the numbers of a form at a whole vector.
 
 ghost use Rattle.std.specs.Prelude.{◌≡◌, ◌≤◌, ◌<◌, ◌-◌, ◌^◌, suc, ◌+ℤ◌, ◌*ℤ◌, nat_abs, neg_ℤ, length, [], ◌∷◌, ◌++◌, OnOk, MatchOption, MatchResult, ⊤};
 ghost use Rattle.rob_algebra.specs.Width.{IsWideWhole};
@@ -38,16 +38,13 @@ pub fn costs<N: Exact>(
             Some(number) => number,
             None => return Err(wide_at(alloc, Spot::Sum(Where::Cost(form), c + 1))),
         };
-        match push_pair(&mut list, number) {
-            Ok(()) => {}
-            Err(Memory) => return Err(Stop::Memory),
-        }
+        push_pair(&mut list, number)?;
     }
     Ok(list)
 }
 
 /// Appends a number and its negation.
-fn push_pair(list: &mut List<i64>, number: i64) -> Result<(), Memory>
+pub fn push_pair(list: &mut List<i64>, number: i64) -> Result<(), Memory>
     requires small { nat_abs number ≤ 2 ^ 62 - 1 }
     ensures pair { OnOk result (list.new ≡ list.old ++ number ∷ (neg_ℤ number ∷ [])) }
 {

@@ -2,7 +2,7 @@
 //! amounts that show it; or a ray of the set along which it has none.
 #![tactic(auto)]
 
-mod cost;
+pub mod cost;
 pub mod finder;
 mod reading;
 pub mod refusal;

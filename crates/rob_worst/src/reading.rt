@@ -1,4 +1,4 @@
-// What a search tells, read off the solver's last dictionary.
+//! What a search tells, read off the solver's last dictionary.
 
 ghost use Rattle.std.specs.Prelude.{◌≡◌, ◌<◌, ◌≤◌, ◌+◌, ◌^◌, ℕ, Bool, List, map, length, IfOk};
 ghost use Rattle.rob_algebra.specs.Fraction.{Fraction};

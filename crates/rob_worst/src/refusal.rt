@@ -1,4 +1,4 @@
-// How a stop before a search is counted, and what its places are called.
+//! How a stop before a search is counted, and what its places are called.
 
 ghost use Rattle.std.specs.Prelude.{◌≡◌};
 ghost use Rattle.rob_dualize.specs.Solving.{CountsStop};

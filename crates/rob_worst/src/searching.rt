@@ -1,4 +1,4 @@
-// A search, from the last basis of the set's program: on the rows that stand, and on deeper ones where those stop.
+//! A search, from the last basis of the set's program: on the rows that stand, and on deeper ones where those stop.
 
 ghost use Rattle.std.specs.Prelude.{◌≡◌, ◌<◌, ℕ, Bool, List, length, IfOk, IfErr, MatchResult};
 ghost use Rattle.rob_algebra.specs.Fraction.{Fraction};

@@ -1,4 +1,4 @@
-// The slack of a form at its worst scenario.
+//! The slack of a form at its worst scenario.
 
 ghost use Rattle.std.specs.Prelude.{◌≢◌, ◌≡◌, ◌≤◌, ◌⊎◌, pos, nat_abs, IfOk, OnOk, OnErr};
 ghost use Rattle.rob_algebra.specs.Fraction.{of_int, ◌+ℚ◌};

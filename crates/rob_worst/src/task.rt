@@ -1,4 +1,4 @@
-// What a search is set: a form at a vector, in whole numbers.
+//! What a search is set: a form at a vector, in whole numbers.
 
 ghost use Rattle.std.specs.Prelude.{◌≡◌, ◌<◌, suc, true, false, map, length, IfOk, MatchResult};
 ghost use Rattle.rob_meaning.specs.RobustModel.{RobustModel};

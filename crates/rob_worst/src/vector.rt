@@ -1,4 +1,4 @@
-// Plans and directions as vectors, and in whole numbers.
+//! Plans and directions as vectors, and in whole numbers.
 
 ghost use Rattle.std.specs.Prelude.{◌≡◌, ◌≤◌, ◌∷◌, map, nat_abs, IfOk, IfErr};
 ghost use Rattle.rob_algebra.specs.Width.{IsWideWhole};

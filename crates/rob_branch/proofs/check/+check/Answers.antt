@@ -44,7 +44,10 @@ check_side-returns-clause-passed g t c =
     let value = g.N.Exact.value in
     let claim = c.args.progress.claim in
     subst
-    (λ (n : RobustModel). IfOk c.check_node.result (IsPassedNode g.N.Exact.limit (status_of claim.status) (value claim.value) n (node_of value c.args.node.now) c.args.progress.number))
+    (λ (n : RobustModel).
+    IfOk c.check_node.result
+    (IsPassedNode g.N.Exact.limit (status_of claim.status) (value claim.value) n (node_of value c.args.node.now)
+    c.args.progress.number))
     c.in-Ok.ensures.tightened c.check_node.ensures.passed
 
 pub check_side-returns-clause-stopped : goal.check_side-returns-clause-stopped
@@ -60,7 +63,9 @@ check_side-returns-clause-stopped g t c =
     let box = boxes.behind (robust value c.args.area.model.now) (branch_of b) in
     subst (λ front. IfErr c.check_node.result (Stops limit status (value claim.value) box front node number))
     (ap (map branch_of) (c.items.ensures.list ∙ c.in-Ok-longer.ensures.path) ∙ map-append branch_of path (b ∷ []))
-    (subst (λ (n : RobustModel). IfErr c.check_node.result (Stops limit status (value claim.value) n (map branch_of c.items.result.now) node number))
+    (subst (λ (n : RobustModel).
+    IfErr c.check_node.result
+    (Stops limit status (value claim.value) n (map branch_of c.items.result.now) node number))
     c.in-Ok.ensures.tightened c.check_node.ensures.stopped)
 
 -- ---- a node
@@ -104,8 +109,10 @@ check_node-check_side-requires g t c κs within =
     (below_read j k b small c.branch_below-at_most.ensures.branch) in
     let r = c.requires in
     let fewer = fewer_below n x y j k is in
-    let few : c.args.progress.number + leaf_count x < 2 ^ 32 = omega (arith, r.few, leaves_both n x y j k is) in
-    (omega (arith, c.decreases, fewer), (within.0, (within.1, (r.valid, (r.bounded, (may.named, (may.within, (may.node_is, few))))))))
+    let few : c.args.progress.number + leaf_count x < 2 ^ 32 = omega (arith, r.few, leaves_both n x y j k is) in (
+      omega (arith, c.decreases, fewer),
+      (within.0, (within.1, (r.valid, (r.bounded, (may.named, (may.within, (may.node_is, few))))))),
+    )
 
 pub check_node-check_side-requires-in-Ok : goal.check_node-check_side-requires-in-Ok
 check_node-check_side-requires-in-Ok g t c κs within =
@@ -136,8 +143,10 @@ check_node-check_side-requires-in-Ok g t c κs within =
     let fewer = fewer_above n x y j k is in
     let few : c.in-Ok.number + leaf_count y < 2 ^ 32 =
     omega (arith, r.few, c.in-Ok.ensures.passed.number, leaves_both n x y j k is)
-    in
-    (omega (arith, c.decreases, fewer), (within.0, (within.1, (r.valid, (r.bounded, (may.named, (may.within, (may.node_is, few))))))))
+    in (
+      omega (arith, c.decreases, fewer),
+      (within.0, (within.1, (r.valid, (r.bounded, (may.named, (may.within, (may.node_is, few))))))),
+    )
 
 pub check_node-returns-in-Err-clause-stopped : goal.check_node-returns-in-Err-clause-stopped
 check_node-returns-in-Err-clause-stopped g t c =
@@ -161,7 +170,8 @@ check_node-returns-in-Err-clause-stopped g t c =
     let at_most = below_read j k a small c.branch_below-at_most.ensures.branch in
     let at_least = above_read j k b small c.branch_above-at_least.ensures.branch in
     split_below n x y j k is limit (status_of c.args.progress.claim.status) (value c.args.progress.claim.value) box a b
-    at_most at_least (map branch_of c.args.area.path.now) c.args.progress.number c.in-Err.verdict c.in-Err.ensures.stopped
+    at_most at_least (map branch_of c.args.area.path.now) c.args.progress.number c.in-Err.verdict
+    c.in-Err.ensures.stopped
 
 pub check_node-returns-in-Ok-clause-stopped : goal.check_node-returns-in-Ok-clause-stopped
 check_node-returns-in-Ok-clause-stopped g t c =
@@ -188,5 +198,6 @@ check_node-returns-in-Ok-clause-stopped g t c =
     let at_most = below_read j k a small c.branch_below-at_most.ensures.branch in
     let at_least = above_read j k b small c.branch_above-at_least.ensures.branch in
     split_above n x y j k is limit (status_of c.args.progress.claim.status) (value c.args.progress.claim.value) box a b
-    at_most at_least (map branch_of c.args.area.path.now) c.args.progress.number c.in-Ok.number c.check_side-in-Ok.result
+    at_most at_least (map branch_of c.args.area.path.now) c.args.progress.number c.in-Ok.number
+    c.check_side-in-Ok.result
     c.in-Ok.ensures.passed c.check_side-in-Ok.ensures.stopped

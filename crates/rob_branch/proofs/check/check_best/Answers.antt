@@ -10,7 +10,8 @@ returns-in-None g c =
     record {
       ended = λ m. let l = c.in-Here.ensures.walk m in
           ends_accepted (status_of c.args.claim.status) c.args.names.now (value c.args.claim.value) c.args.best
-          (leaves m (node_of value c.args.root.now)) c.requires.shows l.0 (certificate_of value c.in-Here.cert.now) l.1 l.2
+          (leaves m (node_of value c.args.root.now)) c.requires.shows l.0
+          (certificate_of value c.in-Here.cert.now) l.1 l.2
           c.in-None.ensures.last;
     }
 

@@ -11,7 +11,8 @@ use Rattle.rob_branch.proofs.check.check_tree.Goals as goal
 
 -- ---- what is asked of the root
 pub check_node-requires-clause-bounded : goal.check_node-requires-clause-bounded
-check_node-requires-clause-bounded g c = ((rules_kept (robust g.N.Exact.value c.args.model.now) c.args.names.now).0 c.requires.rule).0
+check_node-requires-clause-bounded g c =
+    ((rules_kept (robust g.N.Exact.value c.args.model.now) c.args.names.now).0 c.requires.rule).0
 
 pub check_node-requires-clause-node : goal.check_node-requires-clause-node
 check_node-requires-clause-node g c =
@@ -61,7 +62,8 @@ returns-in-Ok-clause-counted g c =
     let t = tree_of value c.args.tree.now in
     record {
       never_fell = c.in-Ok.ensures.counted.never_fell;
-      refused = ended_rose t.status c.args.names.now t.value t.best (leaves m t.root) (g.L.Ledger.wides c.args.ledger.now)
+      refused = ended_rose t.status c.args.names.now t.value t.best (leaves m t.root)
+          (g.L.Ledger.wides c.args.ledger.now)
           (g.L.Ledger.wides c.check_node.new.ledger) c.last_verdict.result (c.last_verdict.ensures.ended m);
     }
 
@@ -81,7 +83,8 @@ returns-in-Ok-clause-exact g c v is =
     let value = g.N.Exact.value in
     let m = robust value c.args.model.now in
     let t = tree_of value c.args.tree.now in
-    one_verdict g.N.Exact.limit m c.args.names.now t c.requires.valid.well_formed c.requires.shape c.last_verdict.result v
+    one_verdict g.N.Exact.limit m c.args.names.now t c.requires.valid.well_formed
+    c.requires.shape c.last_verdict.result v
     (ended_verdict g.N.Exact.limit m c.args.names.now t c.requires.valid.well_formed c.requires.shape
     c.in-Ok.ensures.passed.passed c.last_verdict.result (c.last_verdict.ensures.ended m))
     is

@@ -29,14 +29,23 @@ grow-counted-requires g t c =
 pub grow-grow_from-requires : goal.grow-grow_from-requires
 grow-grow_from-requires g t c κs within =
     let r = c.requires in
-    let s = c.in-Ok.ensures.solved in
-    (omega (arith, c.decreases), (within.0, (within.1, (r.valid, (r.bounded, (r.room, (search rules, (s.proves, (s.shape, c.in-Ok.ensures.written)))))))))
+    let s = c.in-Ok.ensures.solved in (
+      omega (arith, c.decreases),
+      (
+        within.0,
+        (
+          within.1,
+          (r.valid, (r.bounded, (r.room, (search rules, (s.proves, (s.shape, c.in-Ok.ensures.written)))))),
+        ),
+      ),
+    )
 
 pub grow-returns-in-Err-clause-cause : goal.grow-returns-in-Err-clause-cause
 grow-returns-in-Err-clause-cause g t c =
     let value = g.N.Exact.value in
     let going : c.args.before.endless ≡ None = search rules in
-    cause_here g.N.Exact.limit (robust value c.args.area.model.now) c.args.area.names.now (search_of value c.args.before) c.args.area.path.now
+    cause_here g.N.Exact.limit (robust value c.args.area.model.now) c.args.area.names.now
+    (search_of value c.args.before) c.args.area.path.now
     c.in-Err.stop c.stopped.result going c.requires.admitted c.in-Err.ensures.cause c.stopped.ensures.told
 
 pub grow-returns-in-Ok-clause-counted : goal.grow-returns-in-Ok-clause-counted
@@ -65,8 +74,10 @@ grow_from-grow_branch-requires g t c κs within =
     let decided : Decides m names before cert (branches column k) =
     record { going = c.requires.going; proves = c.requires.proves; decides = sym c.in-Branches.ensures.outcome }
     in
-    let asked : (c : Certificate) × Decides m names before c (branches column (to_z w64 (of_z w64 k))) = (cert, subst (λ z. Decides m names before cert (branches column z)) (sym same) decided) in
-    let fits : (nat_abs (to_z w64 (of_z w64 k)) ≤ limit) × (to_z w64 (of_z w64 k) ≢ pos limit) = subst (λ z. (nat_abs z ≤ limit) × (z ≢ pos limit)) (sym same) c.in-Branches.ensures.within in
+    let asked : (c : Certificate) × Decides m names before c (branches column (to_z w64 (of_z w64 k))) =
+    (cert, subst (λ z. Decides m names before cert (branches column z)) (sym same) decided) in
+    let fits : (nat_abs (to_z w64 (of_z w64 k)) ≤ limit) × (to_z w64 (of_z w64 k) ≢ pos limit) =
+    subst (λ z. (nat_abs z ≤ limit) × (z ≢ pos limit)) (sym same) c.in-Branches.ensures.within in
     let r = c.requires in
     (omega (arith, c.decreases), (within.0, (within.1, (r.valid, (r.bounded, (r.room, (asked, (fits, r.written))))))))
 
@@ -92,8 +103,10 @@ grow_branch-grow_side-requires g t c κs within =
     c.requires.decides.0 column k decides c.requires.within c.requires.valid.well_formed c.requires.bounded
     c.requires.room below (below_read column k below small c.branch_below-at_most.ensures.branch) in
     let r = c.requires in
-    let some = scenario_of m r.decides.0 decides.proves in
-    (omega (arith, c.decreases), (within.0, (within.1, (r.valid, (r.bounded, (some, (may.allowed, (may.within, may.room))))))))
+    let some = scenario_of m r.decides.0 decides.proves in (
+      omega (arith, c.decreases),
+      (within.0, (within.1, (r.valid, (r.bounded, (some, (may.allowed, (may.within, may.room))))))),
+    )
 
 pub grow_branch-grow_side-requires-in-Ok : goal.grow_branch-grow_side-requires-in-Ok
 grow_branch-grow_side-requires-in-Ok g t c κs within =
@@ -110,8 +123,10 @@ grow_branch-grow_side-requires-in-Ok g t c κs within =
     c.requires.room below above c.in-Ok.below (below_read column k below small c.branch_below-at_most.ensures.branch)
     (above_read column k above small c.branch_above-at_least.ensures.branch) c.in-Ok.ensures.grown in
     let r = c.requires in
-    let some = scenario_of m r.decides.0 decides.proves in
-    (omega (arith, c.decreases), (within.0, (within.1, (r.valid, (r.bounded, (some, (may.allowed, (may.within, may.room))))))))
+    let some = scenario_of m r.decides.0 decides.proves in (
+      omega (arith, c.decreases),
+      (within.0, (within.1, (r.valid, (r.bounded, (some, (may.allowed, (may.within, may.room))))))),
+    )
 
 pub grow_branch-returns-in-Ok-grow_side-clause-grown : goal.grow_branch-returns-in-Ok-grow_side-clause-grown
 grow_branch-returns-in-Ok-grow_side-clause-grown g t c =
@@ -137,8 +152,10 @@ grow_branch-returns-in-Err-clause-cause g t c =
     let k = c.args.k in
     let below = branch_of c.branch_below-at_most.result in
     let small : nat_abs k < 2 ^ 62 = omega (arith, c.requires.within.0, g.met.N.Exact.limit_high) in
-    cause_below g.N.Exact.limit m c.args.area.names.now (search_of value c.args.before) (map branch_of c.args.area.path.now) c.requires.decides.0
-    column k c.requires.decides.1 c.requires.written below c.in-Err.stop (below_read column k below small c.branch_below-at_most.ensures.branch)
+    cause_below g.N.Exact.limit m c.args.area.names.now (search_of value c.args.before)
+    (map branch_of c.args.area.path.now) c.requires.decides.0
+    column k c.requires.decides.1 c.requires.written below c.in-Err.stop
+    (below_read column k below small c.branch_below-at_most.ensures.branch)
     c.in-Err.ensures.cause
 
 pub grow_branch-returns-in-Err-grow_side-clause-cause : goal.grow_branch-returns-in-Err-grow_side-clause-cause
@@ -150,10 +167,13 @@ grow_branch-returns-in-Err-grow_side-clause-cause g t c =
     let below = branch_of c.branch_below-at_most.result in
     let above = branch_of c.branch_above-at_least.result in
     let small : nat_abs k < 2 ^ 62 = omega (arith, c.requires.within.0, g.met.N.Exact.limit_high) in
-    cause_above g.N.Exact.limit m c.args.area.names.now (search_of value c.args.before) (map branch_of c.args.area.path.now) c.requires.decides.0
-    column k c.requires.decides.1 c.requires.written below above c.in-Err-grow_side.stop (node_of value c.in-Ok.below.node) (search_of value c.in-Ok.below.after)
+    cause_above g.N.Exact.limit m c.args.area.names.now (search_of value c.args.before)
+    (map branch_of c.args.area.path.now) c.requires.decides.0
+    column k c.requires.decides.1 c.requires.written below above c.in-Err-grow_side.stop
+    (node_of value c.in-Ok.below.node) (search_of value c.in-Ok.below.after)
     (below_read column k below small c.branch_below-at_most.ensures.branch)
-    (above_read column k above small c.branch_above-at_least.ensures.branch) c.in-Ok.ensures.grown.grows c.in-Err-grow_side.ensures.cause
+    (above_read column k above small c.branch_above-at_least.ensures.branch) c.in-Ok.ensures.grown.grows
+    c.in-Err-grow_side.ensures.cause
 
 -- ---- one side of it
 pub grow_side-behind-requires-clause-bounded : goal.grow_side-behind-requires-clause-bounded
@@ -193,7 +213,9 @@ grow_side-returns-clause-cause g t c =
     let path = c.args.area.path.now in
     let b = c.args.branch in
     let m = robust value c.args.area.model.now in
-    cause_told g.N.Exact.limit (robust value c.in_ok-model.model) (behind m (branch_of b)) c.args.area.names.now (search_of value c.args.before)
-    (map branch_of c.items.result.now) (map branch_of path ++ branch_of b ∷ []) c.grow.result c.in_ok-model.ensures.tightened
+    cause_told g.N.Exact.limit (robust value c.in_ok-model.model) (behind m (branch_of b)) c.args.area.names.now
+    (search_of value c.args.before)
+    (map branch_of c.items.result.now) (map branch_of path ++ branch_of b ∷ []) c.grow.result
+    c.in_ok-model.ensures.tightened
     (ap (map branch_of) (c.items.ensures.list ∙ c.in_ok-path.ensures.path) ∙ map-append branch_of path (b ∷ []))
     c.grow.ensures.cause

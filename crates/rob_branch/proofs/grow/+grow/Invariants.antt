@@ -11,7 +11,8 @@ abbrev pub decreases-grow_from : goal.decreases-grow_from
 decreases-grow_from g l = 4 * product_of_ranges (robust g.N.Exact.value l.area.model.now).variables l.area.names.now + 2
 
 abbrev pub decreases-grow_branch : goal.decreases-grow_branch
-decreases-grow_branch g l = 4 * product_of_ranges (robust g.N.Exact.value l.area.model.now).variables l.area.names.now + 1
+decreases-grow_branch g l =
+    4 * product_of_ranges (robust g.N.Exact.value l.area.model.now).variables l.area.names.now + 1
 
 abbrev pub decreases-grow_side : goal.decreases-grow_side
 decreases-grow_side g l = 4 * product_of_ranges (robust g.N.Exact.value l.area.model.now).variables l.area.names.now

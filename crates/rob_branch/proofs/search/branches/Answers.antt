@@ -12,5 +12,6 @@ returns-clause-within g c =
     let same = seen c.floor.result small in (
       subst (λ z. nat_abs z ≤ limit) (sym same) c.floor.ensures.within,
       λ h. floor_below limit (g.N.Exact.value number) g.met.N.Exact.limit_low (g.met.N.Exact.fits number)
-          (λ w. c.requires.broken (subst IsWhole c.number_at-number.ensures.value w)) (sym c.floor.ensures.floor ∙ sym same ∙ h),
+          (λ w. c.requires.broken (subst IsWhole c.number_at-number.ensures.value w))
+          (sym c.floor.ensures.floor ∙ sym same ∙ h),
     )

@@ -12,4 +12,5 @@ returns-in-Unbounded-clause-outcome g c =
     let cert = certificate_of value c.args.cert.now in
     let beaten = is_beaten (sense_of c.args.sense) search_so_far.best cert.value in
     c.of_ray.ensures.outcome beaten
-    ∙ ap (λ s. outcome_by search_so_far cert (status_of s) beaten (first_broken c.args.names.now cert.plan)) (sym c.in-Unbounded.is)
+    ∙ ap (λ s. outcome_by search_so_far cert (status_of s) beaten (first_broken c.args.names.now cert.plan))
+    (sym c.in-Unbounded.is)

@@ -9,8 +9,10 @@ pub branches-requires : goal.branches-requires
 branches-requires g c =
     let value = g.N.Exact.value in
     let column = c.in-Some.column in
-    let first : first_broken c.args.names.now (map value c.items.result.now) ≡ Some column = sym c.first_broken.ensures.first ∙ c.in-Some.is in
+    let first : first_broken c.args.names.now (map value c.items.result.now) ≡ Some column =
+    sym c.first_broken.ensures.first ∙ c.in-Some.is in
     record {
       broken = λ w. (broken_is c.args.names.now (map value c.items.result.now) column first).1
-          (subst (λ xs. IsWhole (at (map value xs) column)) (c.items-in-Some.ensures.list ∙ sym c.items.ensures.list) w);
+          (subst (λ xs. IsWhole (at (map value xs) column))
+          (c.items-in-Some.ensures.list ∙ sym c.items.ensures.list) w);
     }

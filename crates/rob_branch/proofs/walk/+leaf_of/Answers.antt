@@ -17,7 +17,8 @@ pub returns-then-number-eq1-2 : goal.returns-then-number-eq1-2
 returns-then-number-eq1-2 g t c =
     let value = g.N.Exact.value in
     record {
-      walk = first_open (node_of value c.args.node.now) c.args.number (ap (node_of value) c.in-Open.is) c.if-number-eq1-2.true;
+      walk = first_open (node_of value c.args.node.now) c.args.number
+          (ap (node_of value) c.in-Open.is) c.if-number-eq1-2.true;
     }
 
 pub returns-in-Here : goal.returns-in-Here
@@ -33,7 +34,8 @@ returns-in-Here g t c =
     ap (node_of value) c.in-Split.is ∙ ap (λ m. split j k (node_of value m) y) (sym first)
     in
     record {
-      walk = leaf_left n x y j k is c.args.number (Some (certificate_of value c.in-Here.cert.now)) c.in-Here.ensures.walk;
+      walk = leaf_left n x y j k is c.args.number
+          (Some (certificate_of value c.in-Here.cert.now)) c.in-Here.ensures.walk;
     }
 
 pub returns-in-Open-leaf_of : goal.returns-in-Open-leaf_of

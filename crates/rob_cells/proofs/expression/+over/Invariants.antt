@@ -24,5 +24,6 @@ invariant-factors_over-loop-factor g l =
     record {
       made : map (expression_of value) l.over ++ map f (map (expression_of value) (drop l.factor-index l.factors))
           ≡ map f (map (expression_of value) l.factors);
-      inside : FactorsInside (robust value l.model) (factors_of (map (expression_of value) (drop l.factor-index l.factors)));
+      inside : FactorsInside (robust value l.model)
+          (factors_of (map (expression_of value) (drop l.factor-index l.factors)));
     }

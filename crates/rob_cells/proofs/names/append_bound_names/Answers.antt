@@ -14,5 +14,6 @@ returns g c =
           ∙ ap (λ ys. c.loop-adaptive.names ++ bound_row_names c.args.c (map (adaptive_of value) ys))
           (sym (drop_past c.args.adaptives.now c.loop-adaptive.adaptive-index c.loop-adaptive-test.false))
           ∙ c.loop-adaptive.invariant
-          ∙ ap (λ ns. c.args.names.now ++ ns) (sym (bound_names_are m c.args.c k (map (adaptive_of value) c.args.adaptives.now)));
+          ∙ ap (λ ns. c.args.names.now ++ ns)
+          (sym (bound_names_are m c.args.c k (map (adaptive_of value) c.args.adaptives.now)));
     }

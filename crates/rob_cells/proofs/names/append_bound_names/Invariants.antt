@@ -7,4 +7,5 @@ use Rattle.rob_cells.proofs.names.append_bound_names.Given as goal
 abbrev pub invariant-loop-adaptive : goal.invariant-loop-adaptive
 invariant-loop-adaptive g l =
     let of = adaptive_of g.N.Exact.value in
-    l.names ++ bound_row_names l.c (map of (drop l.adaptive-index l.adaptives)) ≡ l.fn.names ++ bound_row_names l.c (map of l.adaptives)
+    l.names ++ bound_row_names l.c (map of (drop l.adaptive-index l.adaptives))
+    ≡ l.fn.names ++ bound_row_names l.c (map of l.adaptives)

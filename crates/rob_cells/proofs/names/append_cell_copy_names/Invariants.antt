@@ -7,4 +7,5 @@ use Rattle.rob_cells.proofs.names.append_cell_copy_names.Given as goal
 abbrev pub invariant-loop-adaptive : goal.invariant-loop-adaptive
 invariant-loop-adaptive g l =
     let of = adaptive_of g.N.Exact.value in
-    l.names ++ map (copy_name l.c) (map of (drop l.adaptive-index l.adaptives)) ≡ l.fn.names ++ map (copy_name l.c) (map of l.adaptives)
+    l.names ++ map (copy_name l.c) (map of (drop l.adaptive-index l.adaptives))
+    ≡ l.fn.names ++ map (copy_name l.c) (map of l.adaptives)

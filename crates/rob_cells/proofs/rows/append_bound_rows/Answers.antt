@@ -20,10 +20,13 @@ loop-adaptive-preserved g c =
     let m = robust value c.args.model.now in
     record {
       number = ap (λ k. k + 1) c.loop-adaptive.invariant.number;
-      made = bounds_more value m c.args.c c.args.model.now.adaptives _ c.loop-adaptive.k c.loop-adaptive.adaptive-index c.adaptive-item.result
-          (map (row_of value) c.loop-adaptive.list) (map (row_of value) c.append_bound.new.list) (map (row_of value) c.append_bound-in-loop-adaptive.new.list)
+      made = bounds_more value m c.args.c c.args.model.now.adaptives _ c.loop-adaptive.k
+          c.loop-adaptive.adaptive-index c.adaptive-item.result
+          (map (row_of value) c.loop-adaptive.list) (map (row_of value) c.append_bound.new.list)
+          (map (row_of value) c.append_bound-in-loop-adaptive.new.list)
           (inside_of c.items-adaptive-items.ensures.list c.loop-adaptive.adaptive-index c.loop-adaptive-test.true)
-          (item_of c.items-adaptive-items.ensures.list c.loop-adaptive.adaptive-index c.adaptive-item.result c.adaptive-item.is)
+          (item_of c.items-adaptive-items.ensures.list c.loop-adaptive.adaptive-index
+          c.adaptive-item.result c.adaptive-item.is)
           (c.in_ok-append_bound.ensures.appended m c.loop-adaptive.k c.rule_in-rule.ensures.number)
           (c.in_ok-append_bound-2.ensures.appended m c.loop-adaptive.k c.rule_in-rule.ensures.number)
           c.loop-adaptive.invariant.made;

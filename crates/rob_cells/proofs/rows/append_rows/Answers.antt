@@ -1,28 +1,37 @@
-use Rattle.rob_cells.proofs.ListLemmas.{each_of, inside_of, item_of, mapped_more}
+use Rattle.rob_cells.proofs.ListLemmas.{inside_of, item_of, mapped_more}
 use Rattle.rob_meaning.specs.RobustModel.{Row}
 use Rattle.rob_meaning.specs.WellFormed.{IsExpression}
 use Rattle.rob_model.specs.View.{robust, row_of}
 use Rattle.rob_pieces.specs.SplitModel.{row_over}
 use Rattle.rob_cells.proofs.rows.append_rows.Goals as goal
+use Rattle.rob_meaning.proofs.EachLemmas.{each_get}
 
 pub row_over-requires-clause-left : goal.row_over-requires-clause-left
 row_over-requires-clause-left g c =
     let value = g.N.Exact.value in
-    (each_of (λ (r : Row). IsExpression (robust value c.args.model.now) r.left × IsExpression (robust value c.args.model.now) r.right) (row_of value)
-    c.args.model.now.rows c.loop-row.row-index c.row-item.result (inside_of c.items-row-items.ensures.list c.loop-row.row-index c.loop-row-test.true)
-    (item_of c.items-row-items.ensures.list c.loop-row.row-index c.row-item.result c.row-item.is) c.requires.valid.well_formed.rows).0
+    (each_get (λ (r : Row). IsExpression (robust value c.args.model.now) r.left
+    × IsExpression (robust value c.args.model.now) r.right) (row_of value)
+    c.args.model.now.rows c.loop-row.row-index c.row-item.result
+    (inside_of c.items-row-items.ensures.list c.loop-row.row-index c.loop-row-test.true)
+    (item_of c.items-row-items.ensures.list c.loop-row.row-index c.row-item.result c.row-item.is)
+    c.requires.valid.well_formed.rows).0
 
 pub row_over-requires-clause-right : goal.row_over-requires-clause-right
 row_over-requires-clause-right g c =
     let value = g.N.Exact.value in
-    (each_of (λ (r : Row). IsExpression (robust value c.args.model.now) r.left × IsExpression (robust value c.args.model.now) r.right) (row_of value)
-    c.args.model.now.rows c.loop-row.row-index c.row-item.result (inside_of c.items-row-items.ensures.list c.loop-row.row-index c.loop-row-test.true)
-    (item_of c.items-row-items.ensures.list c.loop-row.row-index c.row-item.result c.row-item.is) c.requires.valid.well_formed.rows).1
+    (each_get (λ (r : Row). IsExpression (robust value c.args.model.now) r.left
+    × IsExpression (robust value c.args.model.now) r.right) (row_of value)
+    c.args.model.now.rows c.loop-row.row-index c.row-item.result
+    (inside_of c.items-row-items.ensures.list c.loop-row.row-index c.loop-row-test.true)
+    (item_of c.items-row-items.ensures.list c.loop-row.row-index c.row-item.result c.row-item.is)
+    c.requires.valid.well_formed.rows).1
 
 pub loop-row-preserved : goal.loop-row-preserved
 loop-row-preserved g c =
     let value = g.N.Exact.value in
-    mapped_more (row_of value) (row_of value) (row_over (robust value c.args.model.now) c.args.c) c.args.model.now.rows _
+    mapped_more (row_of value) (row_of value)
+    (row_over (robust value c.args.model.now) c.args.c) c.args.model.now.rows _
     c.loop-row.row-index c.row-item.result c.in_ok-next.next c.loop-row.list c.push.new.self
     (inside_of c.items-row-items.ensures.list c.loop-row.row-index c.loop-row-test.true)
-    (item_of c.items-row-items.ensures.list c.loop-row.row-index c.row-item.result c.row-item.is) c.in_ok-next.ensures.over c.in_ok-push.ensures.appended c.loop-row.invariant
+    (item_of c.items-row-items.ensures.list c.loop-row.row-index c.row-item.result c.row-item.is)
+    c.in_ok-next.ensures.over c.in_ok-push.ensures.appended c.loop-row.invariant

@@ -18,7 +18,8 @@ returns g c =
     let m = robust value model in
     record {
       row = λ i. record {
-        name = (c.in_ok-numbered.ensures.numbered ∙ ap (λ (word : List ℕ). numbered word c.args.c) c.in_ok-word.ensures.same) i;
+        name = (c.in_ok-numbered.ensures.numbered
+            ∙ ap (λ (word : List ℕ). numbered word c.args.c) c.in_ok-word.ensures.same) i;
         left =
             (variable_is m c.args.c value (length c.items.result.now)
             ∙ ap variable (ap length c.items.ensures.list ∙ sym (length-map model.vars (variable_of value)))) i;

@@ -8,6 +8,7 @@ abbrev pub invariant-loop-adaptive : goal.invariant-loop-adaptive
 invariant-loop-adaptive g l =
     let of = adaptive_of g.N.Exact.value in
     record {
-      rest : l.count + adaptive_bounds (map of (drop l.adaptive-index l.adaptives)) ≡ adaptive_bounds (map of l.adaptives);
+      rest : l.count + adaptive_bounds (map of (drop l.adaptive-index l.adaptives))
+          ≡ adaptive_bounds (map of l.adaptives);
       few : l.count ≤ 2 * l.adaptive-index;
     }

@@ -10,6 +10,7 @@ returns g c =
     let value = g.N.Exact.value in
     let m = robust value c.args.model.now in
     record {
-      test = c.are_within.ensures.test (split_model m (map (cut_of value) c.args.cuts.now)) c.split_counts.ensures.counts
+      test = c.are_within.ensures.test (split_model m (map (cut_of value) c.args.cuts.now))
+          c.split_counts.ensures.counts
           (few_cells m (cut_of value) c.args.cuts.now c.requires.three);
     }

@@ -21,7 +21,11 @@ variable_bounds-variable_bounds-requires g c = record {
 
 pub adaptive_bounds-adaptive_bounds-requires : goal.adaptive_bounds-adaptive_bounds-requires
 adaptive_bounds-adaptive_bounds-requires g c = record {
-  few = omega (arith, few_adaptives g.N.Exact.value c.args.model.now c.requires.valid, ap length c.items-5.ensures.list);
+  few = omega (
+    arith,
+    few_adaptives g.N.Exact.value c.args.model.now c.requires.valid,
+    ap length c.items-5.ensures.list,
+  );
 }
 
 pub overflow_sub-forms : goal.overflow_sub-forms
@@ -33,7 +37,8 @@ overflow_sub-forms g c =
     let bounds : c.variable_bounds-variable_bounds.result ≡ variable_bounds m.variables
     = c.variable_bounds-variable_bounds.ensures.count
     ∙ ap (λ xs. variable_bounds (map (variable_of value) xs)) c.items-4.ensures.list in
-    less_of c.variable_bounds-variable_bounds.result c.form_count.result (cell_form_count m) (variable_bounds m.variables) bounds forms
+    less_of c.variable_bounds-variable_bounds.result c.form_count.result (cell_form_count m)
+    (variable_bounds m.variables) bounds forms
 
 pub overflow_sub-set_rows : goal.overflow_sub-set_rows
 overflow_sub-set_rows g c =
@@ -45,13 +50,18 @@ overflow_sub-set_rows g c =
     = c.bound_count-parameter_bounds.ensures.count
     ∙ ap (λ ps. length (parameter_bound_names (map (parameter_of value) ps))) c.items-3.ensures.list
     ∙ length-parameter_bound_names m.parameters in
-    less_of c.bound_count-parameter_bounds.result c.set_row_count.result (rows_of m.set_lines) (parameter_bounds m.parameters) bounds rows
+    less_of c.bound_count-parameter_bounds.result c.set_row_count.result (rows_of m.set_lines)
+    (parameter_bounds m.parameters) bounds rows
 
 pub overflow_mul-result : goal.overflow_mul-result
 overflow_mul-result g c =
     let few : length c.items.result.now ≤ 96
     = omega (arith, few_params g.N.Exact.value c.args.model.now c.requires.valid, ap length c.items.ensures.list) in
-    omega (arith, few_times (c.cell_count-cells.result + 1) (length c.items.result.now) 96 (omega (arith, c.cell_count-cells.ensures.few)) few)
+    omega (
+      arith,
+      few_times (c.cell_count-cells.result + 1) (length c.items.result.now) 96
+          (omega (arith, c.cell_count-cells.ensures.few)) few,
+    )
 
 pub overflow_mul-result-3 : goal.overflow_mul-result-3
 overflow_mul-result-3 g c =
@@ -61,7 +71,8 @@ overflow_mul-result-3 g c =
     = omega (arith, few, c.adaptive_bounds-adaptive_bounds.ensures.few) in
     omega (
       arith,
-      few_times c.cell_count-cells.result (1 + length c.items-7.result.now + c.adaptive_bounds-adaptive_bounds.result) 1501
+      few_times c.cell_count-cells.result
+          (1 + length c.items-7.result.now + c.adaptive_bounds-adaptive_bounds.result) 1501
           (omega (arith, c.cell_count-cells.ensures.few)) each,
     )
 
@@ -104,7 +115,8 @@ overflow_add-result-11 g c =
     ) in
     omega (
       arith,
-      few_times (c.cell_count-cells.result + 1) c.bound_count-parameter_bounds.result 192 (omega (arith, c.cell_count-cells.ensures.few)) bounds,
+      few_times (c.cell_count-cells.result + 1) c.bound_count-parameter_bounds.result 192
+          (omega (arith, c.cell_count-cells.ensures.few)) bounds,
       few_times c.cell_count-cells.result
           (c.set_row_count.result - c.bound_count-parameter_bounds.result + length c.args.cuts.now) 5003
           (omega (arith, c.cell_count-cells.ensures.few)) each,
@@ -117,17 +129,25 @@ returns-clause-small g c =
     let m = robust value model in
     let valid = c.requires.valid in
     counts_few c.cell_count-cells.result (length c.args.cuts.now) (length c.items.result.now)
-    (length c.items-2.result.now) c.column_count.result c.bound_count-parameter_bounds.result c.variable_bounds-variable_bounds.result
+    (length c.items-2.result.now) c.column_count.result c.bound_count-parameter_bounds.result
+    c.variable_bounds-variable_bounds.result
     c.adaptive_bounds-adaptive_bounds.result c.members-members.result c.form_count.result c.set_row_count.result
     (length c.items-7.result.now) (length c.items-8.result.now) m (map (cut_of value) c.args.cuts.now)
     c.cell_count-cells.ensures.few c.requires.three
     (omega (arith, few_params value model valid, ap length c.items.ensures.list))
     (omega (arith, few_vars value model valid, ap length c.items-2.ensures.list))
-    (let few = valid.limits.columns in let e = c.column_count.ensures.count ∙ length-column_names m in subst (λ n. n ≤ 600) (sym e) few)
-    (omega (arith, c.bound_count-parameter_bounds.ensures.small, few_params value model valid, ap length c.items-3.ensures.list))
+    (let few = valid.limits.columns in let e = c.column_count.ensures.count ∙ length-column_names m in
+    subst (λ n. n ≤ 600) (sym e) few)
+    (omega (
+      arith,
+      c.bound_count-parameter_bounds.ensures.small,
+      few_params value model valid,
+      ap length c.items-3.ensures.list,
+    ))
     c.variable_bounds-variable_bounds.ensures.few c.adaptive_bounds-adaptive_bounds.ensures.few
     (let few = valid.limits.members in
-    let e = c.members-members.ensures.count ∙ ap (λ cs. lift_count (map (set_line_of value) cs)) c.items-6.ensures.list in subst (λ n. n ≤ 64) (sym e) few)
+    let e = c.members-members.ensures.count
+    ∙ ap (λ cs. lift_count (map (set_line_of value) cs)) c.items-6.ensures.list in subst (λ n. n ≤ 64) (sym e) few)
     (let few = kind_few m valid.limits Form in subst (λ n. n ≤ 5000) (sym c.form_count.ensures.count) few)
     (let few = kind_few m valid.limits SetRow in subst (λ n. n ≤ 5000) (sym c.set_row_count.ensures.count) few)
     (omega (arith, few_rows value model valid, ap length c.items-7.ensures.list))
@@ -138,8 +158,10 @@ returns-clause-counts g c =
     let value = g.N.Exact.value in
     let model = c.args.model.now in
     let m = robust value model in
-    counts_are m (map (cut_of value) c.args.cuts.now) c.cell_count-cells.result (length c.args.cuts.now) (length c.items.result.now)
-    (length c.items-2.result.now) c.column_count.result c.bound_count-parameter_bounds.result c.variable_bounds-variable_bounds.result
+    counts_are m (map (cut_of value) c.args.cuts.now) c.cell_count-cells.result (length c.args.cuts.now)
+    (length c.items.result.now)
+    (length c.items-2.result.now) c.column_count.result c.bound_count-parameter_bounds.result
+    c.variable_bounds-variable_bounds.result
     c.adaptive_bounds-adaptive_bounds.result c.members-members.result c.form_count.result c.set_row_count.result
     (length c.items-7.result.now) (length c.items-8.result.now)
     c.cell_count-cells.ensures.count
@@ -150,8 +172,10 @@ returns-clause-counts g c =
     (c.bound_count-parameter_bounds.ensures.count
     ∙ ap (λ ps. length (parameter_bound_names (map (parameter_of value) ps))) c.items-3.ensures.list
     ∙ length-parameter_bound_names m.parameters)
-    (c.variable_bounds-variable_bounds.ensures.count ∙ ap (λ xs. variable_bounds (map (variable_of value) xs)) c.items-4.ensures.list)
-    (c.adaptive_bounds-adaptive_bounds.ensures.count ∙ ap (λ ys. adaptive_bounds (map (adaptive_of value) ys)) c.items-5.ensures.list)
+    (c.variable_bounds-variable_bounds.ensures.count
+    ∙ ap (λ xs. variable_bounds (map (variable_of value) xs)) c.items-4.ensures.list)
+    (c.adaptive_bounds-adaptive_bounds.ensures.count
+    ∙ ap (λ ys. adaptive_bounds (map (adaptive_of value) ys)) c.items-5.ensures.list)
     (c.members-members.ensures.count ∙ ap (λ cs. lift_count (map (set_line_of value) cs)) c.items-6.ensures.list)
     (c.form_count.ensures.count ∙ length-form_names m)
     (c.set_row_count.ensures.count ∙ length-set_row_names m)

@@ -13,7 +13,8 @@ overflow_sub-count g c =
       arith,
       ap length c.items-lines.ensures.list,
       ap length c.items-2.ensures.list,
-      grew (set_line_of g.N.Exact.value) c.args.split.now.set_lines c.append_cell_lines.new.list _ c.in_ok-append_cell_lines.ensures.appended,
+      grew (set_line_of g.N.Exact.value) c.args.split.now.set_lines c.append_cell_lines.new.list _
+          c.in_ok-append_cell_lines.ensures.appended,
     )
 
 pub overflow_sub-count-2 : goal.overflow_sub-count-2
@@ -22,7 +23,8 @@ overflow_sub-count-2 g c =
       arith,
       ap length c.items-rows.ensures.list,
       ap length c.items-4.ensures.list,
-      grew (row_of g.N.Exact.value) c.args.split.now.rows c.append_cell_rows.new.list _ c.in_ok-append_cell_rows.ensures.appended,
+      grew (row_of g.N.Exact.value) c.args.split.now.rows c.append_cell_rows.new.list _
+          c.in_ok-append_cell_rows.ensures.appended,
     )
 
 pub returns : goal.returns
@@ -35,7 +37,8 @@ returns g c =
           c.append_copies.new.list c.append_cell_rows.new.list c.append_number-2.new.list
           (c.in_ok-set.ensures.numbered ∙ ap (λ (word : List ℕ). numbered word c.args.c) c.in_ok-word.ensures.same)
           (c.in_ok-append_params_in.ensures.appended
-          ∙ ap (λ ps. map (parameter_of value) c.args.split.now.params ++ map (in_set c.in_ok-set.set) (map (parameter_of value) ps)) c.items.ensures.list)
+          ∙ ap (λ ps. map (parameter_of value) c.args.split.now.params
+          ++ map (in_set c.in_ok-set.set) (map (parameter_of value) ps)) c.items.ensures.list)
           c.in_ok-push.ensures.appended
           c.in_ok-append_cell_lines.ensures.appended
           (c.in_ok-append_number.ensures.appended
@@ -43,7 +46,8 @@ returns g c =
           (ap (λ xs. length xs - length c.items-lines.result.now) c.items-2.ensures.list
           ∙ ap (λ xs. length c.append_cell_lines.new.list - length xs) c.items-lines.ensures.list))
           (c.in_ok-append_copies.ensures.appended m
-          ∙ ap (λ ys. map (adaptive_of value) c.args.split.now.adaptives ++ map (copy_in m c.args.c) (map (adaptive_of value) ys)) c.items-3.ensures.list)
+          ∙ ap (λ ys. map (adaptive_of value) c.args.split.now.adaptives
+          ++ map (copy_in m c.args.c) (map (adaptive_of value) ys)) c.items-3.ensures.list)
           c.in_ok-append_cell_rows.ensures.appended
           (c.in_ok-append_number-2.ensures.appended
           ∙ ap (λ n. c.args.split.now.row_sets ++ tabulate n (λ _. c.args.c))

@@ -11,7 +11,8 @@ loop-i-preserved g c =
     let value = g.N.Exact.value in
     let m = robust value c.args.model.now in
     let cuts = map (cut_of value) c.args.cuts.now in
-    c.in_ok-add_cell.ensures.added ∙ ap (with_cell m cuts (c.loop-i.i + 1)) c.loop-i.invariant ∙ next_cell m cuts c.loop-i.i
+    c.in_ok-add_cell.ensures.added ∙ ap (with_cell m cuts (c.loop-i.i + 1)) c.loop-i.invariant
+    ∙ next_cell m cuts c.loop-i.i
 
 pub returns : goal.returns
 returns g c =

@@ -11,9 +11,12 @@ pub returns-in-Err-clause-fault : goal.returns-in-Err-clause-fault
 returns-in-Err-clause-fault g c s stage h = (
   c.in-Err.offence,
   c.rule.ensures.rule,
-  covers_fault (naming c.args.names.now) g.N.Exact.limit c.args.which c.args.at.rest.now c.args.at.line (map (cover_of g.N.Exact.value) c.loop-split.list) c.loop-split.form c.loop-split.place
-      c.loop-split.rest.now c.loop-split.line c.in-Some.split.front.now c.in-Some.split.back.now c.in-Some.ensures.found.1.0 c.in-Err.offence c.loop-split.invariant.so c.in-Some.ensures.found.0
-      (c.in-Some.ensures.found.1.1 ∙ ap (λ w. w ∷ c.in-Some.ensures.found.1.0) c.word.ensures.word) c.in-Err.ensures.cover s stage h,
+  covers_fault (naming c.args.names.now) g.N.Exact.limit c.args.which c.args.at.rest.now c.args.at.line
+      (map (cover_of g.N.Exact.value) c.loop-split.list) c.loop-split.form c.loop-split.place
+      c.loop-split.rest.now c.loop-split.line c.in-Some.split.front.now c.in-Some.split.back.now
+      c.in-Some.ensures.found.1.0 c.in-Err.offence c.loop-split.invariant.so c.in-Some.ensures.found.0
+      (c.in-Some.ensures.found.1.1 ∙ ap (λ w. w ∷ c.in-Some.ensures.found.1.0) c.word.ensures.word)
+      c.in-Err.ensures.cover s stage h,
 )
 
 pub loop-split-preserved : goal.loop-split-preserved
@@ -22,11 +25,20 @@ loop-split-preserved g c =
     let begins = c.in-Some.ensures.found.0 in
     let new = cover_of value c.in-Ok.cover in
     record {
-      so = subst (λ cs. CoversSoFar (naming c.args.names.now) g.N.Exact.limit c.args.which c.args.at.rest.now c.args.at.line cs c.in-Ok.cover.form (c.in-Ok.cover.set_row + 1) c.in-Some.split.back.now (c.loop-split.line + 1))
-          (sym (ap (map (cover_of value)) c.in_ok-push-in-Ok.ensures.appended ∙ map-append (cover_of value) c.loop-split.list (c.in-Ok.cover ∷ [])))
-          (covers_more (naming c.args.names.now) g.N.Exact.limit c.args.which c.args.at.rest.now c.args.at.line (map (cover_of value) c.loop-split.list) c.loop-split.form c.loop-split.place
-          c.loop-split.rest.now c.loop-split.line c.in-Some.split.front.now c.in-Some.split.back.now new c.loop-split.invariant.so begins c.in-Ok.ensures.cover (g.met.N.Exact.fits c.in-Ok.cover.amount));
-      small = omega (arith, c.loop-split.invariant.small, shorter c.loop-split.rest.now c.in-Some.split.front.now c.in-Some.split.back.now begins);
+      so = subst (λ cs. CoversSoFar (naming c.args.names.now) g.N.Exact.limit c.args.which c.args.at.rest.now
+          c.args.at.line cs c.in-Ok.cover.form (c.in-Ok.cover.set_row + 1) c.in-Some.split.back.now
+          (c.loop-split.line + 1))
+          (sym (ap (map (cover_of value)) c.in_ok-push-in-Ok.ensures.appended
+          ∙ map-append (cover_of value) c.loop-split.list (c.in-Ok.cover ∷ [])))
+          (covers_more (naming c.args.names.now) g.N.Exact.limit c.args.which c.args.at.rest.now c.args.at.line
+          (map (cover_of value) c.loop-split.list) c.loop-split.form c.loop-split.place
+          c.loop-split.rest.now c.loop-split.line c.in-Some.split.front.now c.in-Some.split.back.now new
+          c.loop-split.invariant.so begins c.in-Ok.ensures.cover (g.met.N.Exact.fits c.in-Ok.cover.amount));
+      small = omega (
+        arith,
+        c.loop-split.invariant.small,
+        shorter c.loop-split.rest.now c.in-Some.split.front.now c.in-Some.split.back.now begins,
+      );
       ops = omega (arith, c.loop-split.invariant.ops, c.in-Ok.ensures.ops);
       wides = omega (arith, c.loop-split.invariant.wides, c.in-Ok.ensures.wides);
     }

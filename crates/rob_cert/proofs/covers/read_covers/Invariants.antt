@@ -6,7 +6,8 @@ use Rattle.rob_cert.proofs.covers.read_covers.Given as goal
 
 abbrev pub invariant-loop-split : goal.invariant-loop-split
 invariant-loop-split g l = record {
-  so : CoversSoFar (naming l.names) g.N.Exact.limit l.which l.at.rest.now l.at.line (map (cover_of g.N.Exact.value) l.list) l.form l.place l.rest l.line;
+  so : CoversSoFar (naming l.names) g.N.Exact.limit l.which l.at.rest.now l.at.line
+      (map (cover_of g.N.Exact.value) l.list) l.form l.place l.rest l.line;
   small : l.line + length l.rest ≤ l.at.line + length l.at.rest.now;
   ops : g.L.Ledger.ops l.fn.ledger ≤ g.L.Ledger.ops l.ledger;
   wides : g.L.Ledger.wides l.fn.ledger ≤ g.L.Ledger.wides l.ledger;

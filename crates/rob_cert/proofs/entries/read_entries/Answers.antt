@@ -8,7 +8,8 @@ pub loop-split-init : goal.loop-split-init
 loop-split-init g c =
     let z = c.in_ok-numbers.ensures.zeros in
     record {
-      so = entries_start (naming c.args.names.now) g.N.Exact.limit c.args.vector c.args.at.rest.now c.args.at.line c.args.count (map g.N.Exact.value c.in_ok-numbers.numbers.items) z.size z.zero_at;
+      so = entries_start (naming c.args.names.now) g.N.Exact.limit c.args.vector c.args.at.rest.now c.args.at.line
+          c.args.count (map g.N.Exact.value c.in_ok-numbers.numbers.items) z.size z.zero_at;
       small = omega arith;
       ops = omega (arith, c.in_ok-numbers.ensures.ops);
       wides = omega (arith, c.in_ok-numbers.ensures.wides);
@@ -18,9 +19,12 @@ pub returns-in-Err-clause-fault : goal.returns-in-Err-clause-fault
 returns-in-Err-clause-fault g c s form stage h = (
   c.in-Err.offence,
   c.rule.ensures.rule,
-  entries_fault (naming c.args.names.now) g.N.Exact.limit c.args.vector c.args.at.rest.now c.args.at.line c.args.count (map g.N.Exact.value c.loop-split.numbers.items) c.loop-split.least
-      c.loop-split.rest.now c.loop-split.line c.in-Some.split.front.now c.in-Some.split.back.now c.in-Some.ensures.found.1.0 c.in-Err.offence c.loop-split.invariant.so c.in-Some.ensures.found.0
-      (c.in-Some.ensures.found.1.1 ∙ ap (λ w. w ∷ c.in-Some.ensures.found.1.0) c.word.ensures.word) c.in-Err.ensures.entry s form stage h,
+  entries_fault (naming c.args.names.now) g.N.Exact.limit c.args.vector c.args.at.rest.now c.args.at.line c.args.count
+      (map g.N.Exact.value c.loop-split.numbers.items) c.loop-split.least
+      c.loop-split.rest.now c.loop-split.line c.in-Some.split.front.now c.in-Some.split.back.now
+      c.in-Some.ensures.found.1.0 c.in-Err.offence c.loop-split.invariant.so c.in-Some.ensures.found.0
+      (c.in-Some.ensures.found.1.1 ∙ ap (λ w. w ∷ c.in-Some.ensures.found.1.0) c.word.ensures.word)
+      c.in-Err.ensures.entry s form stage h,
 )
 
 pub loop-split-preserved : goal.loop-split-preserved
@@ -28,12 +32,20 @@ loop-split-preserved g c =
     let value = g.N.Exact.value in
     let begins = c.in-Some.ensures.found.0 in
     record {
-      so = subst (λ qs. EntriesSoFar (naming c.args.names.now) g.N.Exact.limit c.args.vector c.args.at.rest.now c.args.at.line c.args.count qs (c.in-Ok.entry.place + 1) c.in-Some.split.back.now (c.loop-split.line + 1))
+      so = subst (λ qs. EntriesSoFar (naming c.args.names.now) g.N.Exact.limit c.args.vector c.args.at.rest.now
+          c.args.at.line c.args.count qs (c.in-Ok.entry.place + 1) c.in-Some.split.back.now (c.loop-split.line + 1))
           (sym (map-set value c.loop-split.numbers.items c.in-Ok.entry.place c.in-Ok.entry.number))
-          (entries_more (naming c.args.names.now) g.N.Exact.limit c.args.vector c.args.at.rest.now c.args.at.line c.args.count (map value c.loop-split.numbers.items) c.loop-split.least
-          c.loop-split.rest.now c.loop-split.line c.in-Some.split.front.now c.in-Some.split.back.now c.in-Ok.entry.place (value c.in-Ok.entry.number)
-          c.loop-split.invariant.so c.requires.count begins c.in-Ok.ensures.entry (g.met.N.Exact.fits c.in-Ok.entry.number));
-      small = omega (arith, c.loop-split.invariant.small, shorter c.loop-split.rest.now c.in-Some.split.front.now c.in-Some.split.back.now begins);
+          (entries_more (naming c.args.names.now) g.N.Exact.limit c.args.vector c.args.at.rest.now c.args.at.line
+          c.args.count (map value c.loop-split.numbers.items) c.loop-split.least
+          c.loop-split.rest.now c.loop-split.line c.in-Some.split.front.now c.in-Some.split.back.now c.in-Ok.entry.place
+          (value c.in-Ok.entry.number)
+          c.loop-split.invariant.so c.requires.count begins c.in-Ok.ensures.entry
+          (g.met.N.Exact.fits c.in-Ok.entry.number));
+      small = omega (
+        arith,
+        c.loop-split.invariant.small,
+        shorter c.loop-split.rest.now c.in-Some.split.front.now c.in-Some.split.back.now begins,
+      );
       ops = omega (arith, c.loop-split.invariant.ops, c.in-Ok.ensures.ops);
       wides = omega (arith, c.loop-split.invariant.wides, c.in-Ok.ensures.wides);
     }

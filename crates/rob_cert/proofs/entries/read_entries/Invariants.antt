@@ -5,7 +5,8 @@ use Rattle.rob_cert.proofs.entries.read_entries.Given as goal
 
 abbrev pub invariant-loop-split : goal.invariant-loop-split
 invariant-loop-split g l = record {
-  so : EntriesSoFar (naming l.names) g.N.Exact.limit l.vector l.at.rest.now l.at.line l.count (map g.N.Exact.value l.numbers.items) l.least l.rest l.line;
+  so : EntriesSoFar (naming l.names) g.N.Exact.limit l.vector l.at.rest.now l.at.line l.count
+      (map g.N.Exact.value l.numbers.items) l.least l.rest l.line;
   small : l.line + length l.rest ≤ l.at.line + length l.at.rest.now;
   ops : g.L.Ledger.ops l.fn.ledger ≤ g.L.Ledger.ops l.ledger;
   wides : g.L.Ledger.wides l.fn.ledger ≤ g.L.Ledger.wides l.ledger;

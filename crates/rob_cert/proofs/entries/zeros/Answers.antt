@@ -8,4 +8,5 @@ loop-k-init g c = subst (λ xs. IsZeroVector 0 (map g.N.Exact.value xs)) (sym c.
 
 pub loop-k-preserved : goal.loop-k-preserved
 loop-k-preserved g c =
-    zero_more g.N.Exact.value c.loop-k._k c.loop-k.numbers.items c.push.new.self.items c.zero-nothing.result c.in_ok-push.ensures.items c.zero-nothing.ensures.value c.loop-k.invariant
+    zero_more g.N.Exact.value c.loop-k._k c.loop-k.numbers.items c.push.new.self.items c.zero-nothing.result
+    c.in_ok-push.ensures.items c.zero-nothing.ensures.value c.loop-k.invariant

@@ -6,7 +6,8 @@ use Rattle.rob_cert.proofs.items.read_items.Given as goal
 
 abbrev pub invariant-loop-split : goal.invariant-loop-split
 invariant-loop-split g l = record {
-  so : ItemsSoFar (naming l.names) g.N.Exact.limit l.at.rest.now l.at.line (map (item_of g.N.Exact.value) l.list) l.form l.rest l.line;
+  so : ItemsSoFar (naming l.names) g.N.Exact.limit l.at.rest.now l.at.line
+      (map (item_of g.N.Exact.value) l.list) l.form l.rest l.line;
   small : l.line + length l.rest ≤ l.at.line + length l.at.rest.now;
   ops : g.L.Ledger.ops l.fn.ledger ≤ g.L.Ledger.ops l.ledger;
   wides : g.L.Ledger.wides l.fn.ledger ≤ g.L.Ledger.wides l.ledger;

@@ -7,5 +7,6 @@ use Rattle.rob_cert.proofs.names.form_list.Goals as goal
 pub loop-index-preserved : goal.loop-index-preserved
 loop-index-preserved g c =
     c.in_ok-push.ensures.appended
-    ∙ named_more (form_names (robust g.N.Exact.value c.args.model.now)) c.loop-index.list c.loop-index.index c.new-name.result c.put_form_name.new.out
+    ∙ named_more (form_names (robust g.N.Exact.value c.args.model.now)) c.loop-index.list c.loop-index.index
+    c.new-name.result c.put_form_name.new.out
     c.loop-index.invariant c.new-name.ensures.empty c.in_ok-put_form_name.ensures.appended

@@ -23,5 +23,6 @@ returns-in-Some-read_whole-clause-parts c q hn hd is =
 
 pub returns-in-Some-clause-parts : goal.returns-in-Some-clause-parts
 returns-in-Some-clause-parts c q hn hd is =
-    let w = with_slash q c.args.word.now hn hd is c.in-Some.split.front.now c.in-Some.split.back.now c.in-Some.ensures.cut.0 c.in-Some.ensures.cut.1 in
+    let w = with_slash q c.args.word.now hn hd is c.in-Some.split.front.now c.in-Some.split.back.now
+    c.in-Some.ensures.cut.0 c.in-Some.ensures.cut.1 in
     c.read_quotient.ensures.parts q.num q.den hn (den_pos q) hd w.0 w.1

@@ -9,13 +9,15 @@ returns-in-Err c = record { whole = λ z h e. absurd (c.in-Err.ensures.cases.0 (
 
 pub returns-in-Err-parse : goal.returns-in-Err-parse
 returns-in-Err-parse c = record {
-  whole = λ z h e. let p : c.parse.result ≡ Ok z = whole_parsed z c.in-Ok.text.now c.parse.result h (c.in-Ok.ensures.cases.0 ∙ e) c.parse.ensures.value.0 in cc;
+  whole = λ z h e. let p : c.parse.result ≡ Ok z =
+      whole_parsed z c.in-Ok.text.now c.parse.result h (c.in-Ok.ensures.cases.0 ∙ e) c.parse.ensures.value.0 in cc;
 }
 
 pub returns-in-Ok-parse : goal.returns-in-Ok-parse
 returns-in-Ok-parse c = record {
   whole = λ z h e.
-      let p : c.parse.result ≡ Ok z = whole_parsed z c.in-Ok.text.now c.parse.result h (c.in-Ok.ensures.cases.0 ∙ e) c.parse.ensures.value.0 in
+      let p : c.parse.result ≡ Ok z =
+      whole_parsed z c.in-Ok.text.now c.parse.result h (c.in-Ok.ensures.cases.0 ∙ e) c.parse.ensures.value.0 in
       let q : c.in-Ok-parse.whole ≡ z = cc in
       ap Some (ap (λ x. to_z w64 (of_z w64 x)) q ∙ seen z h);
 }

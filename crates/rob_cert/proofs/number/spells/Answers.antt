@@ -8,7 +8,12 @@ pub returns-in-None : goal.returns-in-None
 returns-in-None g c =
     let small : nat_abs c.num.result < 2 ^ 62 = omega (arith, c.num.ensures.within, g.met.N.Exact.limit_high) in
     record {
-      spells = (λ t. cc t, λ e. absurd (spells_none (g.N.Exact.value c.args.number) c.args.word.now _ (seen c.num.result small ∙ c.num.ensures.numerator) c.in-None.ensures.found e));
+      spells = (
+        λ t. cc t,
+        λ e. absurd
+            (spells_none (g.N.Exact.value c.args.number) c.args.word.now _
+            (seen c.num.result small ∙ c.num.ensures.numerator) c.in-None.ensures.found e),
+      );
     }
 
 pub returns-in-Some : goal.returns-in-Some
@@ -16,7 +21,9 @@ returns-in-Some g c =
     let small : nat_abs c.num.result < 2 ^ 62 = omega (arith, c.num.ensures.within, g.met.N.Exact.limit_high) in
     let small_den : nat_abs c.den.result < 2 ^ 62 = omega (arith, c.den.ensures.within, g.met.N.Exact.limit_high) in
     record {
-      spells = spells_some (g.N.Exact.value c.args.number) c.args.word.now c.in-Some.rest.now _ _ c.spells_denominator.result
-          (seen c.num.result small ∙ c.num.ensures.numerator) (ap nat_abs (seen c.den.result small_den ∙ c.den.ensures.denominator))
+      spells = spells_some (g.N.Exact.value c.args.number) c.args.word.now c.in-Some.rest.now _ _
+          c.spells_denominator.result
+          (seen c.num.result small ∙ c.num.ensures.numerator)
+          (ap nat_abs (seen c.den.result small_den ∙ c.den.ensures.denominator))
           c.in-Some.ensures.found c.spells_denominator.ensures.spells;
     }

@@ -11,18 +11,25 @@ use Rattle.rob_cert.proofs.part.covers_part.Goals as goal
 pub returns-then-is_used-clause-read : goal.returns-then-is_used-clause-read
 returns-then-is_used-clause-read g c =
     part.if_ok c.read_covers.result
-    (λ r h. part.covers_part (naming c.args.names.now) g.N.Exact.limit (status_of c.args.status) c.args.which c.args.at.rest.now c.args.at.line (map (cover_of g.N.Exact.value) r.list) r.at.rest.now r.at.line
-    (part.low_multipliers c.args.which) (part.apart_multipliers c.args.which) (sym c.is_used.ensures.used ∙ c.if-is_used.true) h)
+    (λ r h. part.covers_part (naming c.args.names.now) g.N.Exact.limit (status_of c.args.status) c.args.which
+    c.args.at.rest.now c.args.at.line (map (cover_of g.N.Exact.value) r.list) r.at.rest.now r.at.line
+    (part.low_multipliers c.args.which) (part.apart_multipliers c.args.which)
+    (sym c.is_used.ensures.used ∙ c.if-is_used.true) h)
     c.read_covers.ensures.read
 
 pub returns-then-is_used-clause-fault : goal.returns-then-is_used-clause-fault
 returns-then-is_used-clause-fault g c =
     part.if_err c.read_covers.result
-    (λ e h. part.covers_fails (naming c.args.names.now) g.N.Exact.limit (status_of c.args.status) c.args.which c.args.at.rest.now c.args.at.line e (sym c.is_used.ensures.used ∙ c.if-is_used.true) h)
+    (λ e h. part.covers_fails (naming c.args.names.now) g.N.Exact.limit (status_of c.args.status) c.args.which
+    c.args.at.rest.now c.args.at.line e (sym c.is_used.ensures.used ∙ c.if-is_used.true) h)
     c.read_covers.ensures.fault
 
 pub returns-else-is_used-clause-read : goal.returns-else-is_used-clause-read
 returns-else-is_used-clause-read g c =
-    subst (λ xs. Extends (naming c.args.names.now) g.N.Exact.limit (status_of c.args.status) (rank (multipliers c.args.which)) (suc (rank (multipliers c.args.which))) c.args.at.rest.now c.args.at.line
-    (cover_lines c.args.which (map (cover_of g.N.Exact.value) xs)) c.args.at.rest.now c.args.at.line) (sym c.new.ensures.empty)
-    (part.unused_part (naming c.args.names.now) g.N.Exact.limit (status_of c.args.status) (multipliers c.args.which) c.args.at.rest.now c.args.at.line (part.low_multipliers c.args.which) (part.apart_multipliers c.args.which) (sym c.is_used.ensures.used ∙ c.if-is_used.false))
+    subst (λ xs. Extends (naming c.args.names.now) g.N.Exact.limit (status_of c.args.status)
+    (rank (multipliers c.args.which)) (suc (rank (multipliers c.args.which))) c.args.at.rest.now c.args.at.line
+    (cover_lines c.args.which (map (cover_of g.N.Exact.value) xs)) c.args.at.rest.now c.args.at.line)
+    (sym c.new.ensures.empty)
+    (part.unused_part (naming c.args.names.now) g.N.Exact.limit (status_of c.args.status) (multipliers c.args.which)
+    c.args.at.rest.now c.args.at.line (part.low_multipliers c.args.which) (part.apart_multipliers c.args.which)
+    (sym c.is_used.ensures.used ∙ c.if-is_used.false))

@@ -11,18 +11,24 @@ use Rattle.rob_cert.proofs.part.entries_part.Goals as goal
 pub returns-then-is_used-clause-read : goal.returns-then-is_used-clause-read
 returns-then-is_used-clause-read g c =
     part.if_ok c.read_entries.result
-    (λ r h. part.entries_part (naming c.args.names.now) g.N.Exact.limit (status_of c.args.status) c.args.vector c.entry_count-count.result c.args.at.rest.now c.args.at.line (map g.N.Exact.value r.numbers.items) r.at.rest.now r.at.line
+    (λ r h. part.entries_part (naming c.args.names.now) g.N.Exact.limit (status_of c.args.status) c.args.vector
+    c.entry_count-count.result c.args.at.rest.now c.args.at.line
+    (map g.N.Exact.value r.numbers.items) r.at.rest.now r.at.line
     (part.low_entries c.args.vector) c.requires.apart (sym c.is_used.ensures.used ∙ c.if-is_used.true) h)
     c.read_entries.ensures.read
 
 pub returns-then-is_used-clause-fault : goal.returns-then-is_used-clause-fault
 returns-then-is_used-clause-fault g c =
     part.if_err c.read_entries.result
-    (λ e h. part.entries_fails (naming c.args.names.now) g.N.Exact.limit (status_of c.args.status) c.args.vector c.args.at.rest.now c.args.at.line e c.requires.apart (sym c.is_used.ensures.used ∙ c.if-is_used.true) h)
+    (λ e h. part.entries_fails (naming c.args.names.now) g.N.Exact.limit (status_of c.args.status) c.args.vector
+    c.args.at.rest.now c.args.at.line e c.requires.apart (sym c.is_used.ensures.used ∙ c.if-is_used.true) h)
     c.read_entries.ensures.fault
 
 pub returns-else-is_used-clause-read : goal.returns-else-is_used-clause-read
 returns-else-is_used-clause-read g c =
-    subst (λ xs. Extends (naming c.args.names.now) g.N.Exact.limit (status_of c.args.status) (rank (entries c.args.vector)) (suc (rank (entries c.args.vector))) c.args.at.rest.now c.args.at.line
+    subst (λ xs. Extends (naming c.args.names.now) g.N.Exact.limit (status_of c.args.status)
+    (rank (entries c.args.vector)) (suc (rank (entries c.args.vector))) c.args.at.rest.now c.args.at.line
     (entry_lines c.args.vector 0 (map g.N.Exact.value xs)) c.args.at.rest.now c.args.at.line) (sym c.new.ensures.items)
-    (part.unused_part (naming c.args.names.now) g.N.Exact.limit (status_of c.args.status) (entries c.args.vector) c.args.at.rest.now c.args.at.line (part.low_entries c.args.vector) c.requires.apart (sym c.is_used.ensures.used ∙ c.if-is_used.false))
+    (part.unused_part (naming c.args.names.now) g.N.Exact.limit (status_of c.args.status) (entries c.args.vector)
+    c.args.at.rest.now c.args.at.line (part.low_entries c.args.vector) c.requires.apart
+    (sym c.is_used.ensures.used ∙ c.if-is_used.false))

@@ -16,7 +16,8 @@ returns-in-Err-read_vectors-clause-fault g c =
 
 pub returns-in-Err-read_lists-clause-fault : goal.returns-in-Err-read_lists-clause-fault
 returns-in-Err-read_lists-clause-fault g c =
-    c.in-Err-read_lists.ensures.fault c.args.text.now _ (c.in-Ok-read_vectors.ensures.read c.args.text.now _ (c.in-Ok.ensures.read (naming c.args.names.now)))
+    c.in-Err-read_lists.ensures.fault c.args.text.now _
+    (c.in-Ok-read_vectors.ensures.read c.args.text.now _ (c.in-Ok.ensures.read (naming c.args.names.now)))
 
 pub returns-in-Ok-read_lists-clause-read : goal.returns-in-Ok-read_lists-clause-read
 returns-in-Ok-read_lists-clause-read g c =
@@ -35,5 +36,8 @@ returns-in-Ok-read_lists-clause-read g c =
       items = map (item_of value) c.in-Ok-read_lists.lists.items;
     } in
     subst (λ (e : Certificate). c.args.text.now ≡ lines_text names (lines_of e)) (sym c.assemble.ensures.parts)
-    (whole_text names g.N.Exact.limit c.args.text.now c.in-Ok.front.at.rest.now c.in-Ok.front.at.line d (map value c.in-Ok-read_vectors.vectors.moved.items) c.in-Ok-read_vectors.vectors.at.rest.now c.in-Ok-read_vectors.vectors.at.line
-    (c.in-Ok.ensures.read names) c.in-Ok-read_vectors.ensures.read c.in-Ok-read_lists.ensures.read c.split_bound-direction.ensures.moved)
+    (whole_text names g.N.Exact.limit c.args.text.now c.in-Ok.front.at.rest.now c.in-Ok.front.at.line d
+    (map value c.in-Ok-read_vectors.vectors.moved.items) c.in-Ok-read_vectors.vectors.at.rest.now
+    c.in-Ok-read_vectors.vectors.at.line
+    (c.in-Ok.ensures.read names) c.in-Ok-read_vectors.ensures.read c.in-Ok-read_lists.ensures.read
+    c.split_bound-direction.ensures.moved)

@@ -23,15 +23,26 @@ returns g c =
     let value = g.N.Exact.value in
     record {
       appended = on_ok c.put_end.result
-          (λ last. nine c.args.out.now _ _ _ _ _ _ _ _ _ (line_text names (status_line d.status)) (text a) (text b) (text p) (text m) (text e) (text f) (text i) (text (end_line ∷ []))
+          (λ last. nine c.args.out.now _ _ _ _ _ _ _ _ _ (line_text names (status_line d.status)) (text a) (text b)
+          (text p) (text m) (text e) (text f) (text i) (text (end_line ∷ []))
           (c.in_ok-put_status.ensures.appended names) (c.in_ok-put_bounds.ensures.appended names)
-          (c.in_ok-put_entries.ensures.appended ∙ ap (λ xs. c.put_bounds.new.out ++ text (entry_lines Inside 0 (map value xs))) c.items.ensures.list)
-          (c.in_ok-put_entries-2.ensures.appended ∙ ap (λ xs. c.put_entries.new.out ++ text (entry_lines Plan 0 (map value xs))) c.items-2.ensures.list)
-          (c.in_ok-put_move.ensures.appended ∙ ap (λ xs. c.put_entries-2.new.out ++ text (entry_lines Move 0 (map value xs ++ d.step_bound ∷ []))) c.items-3.ensures.list)
-          (c.in_ok-put_covers.ensures.appended ∙ ap (λ xs. c.put_move.new.out ++ text (cover_lines Covers (map (cover_of value) xs))) c.items-4.ensures.list)
-          (c.in_ok-put_covers-2.ensures.appended ∙ ap (λ xs. c.put_covers.new.out ++ text (cover_lines Holds (map (cover_of value) xs))) c.items-5.ensures.list)
-          (c.in_ok-put_items.ensures.appended ∙ ap (λ xs. c.put_covers-2.new.out ++ text (item_lines (map (item_of value) xs))) c.items-6.ensures.list)
+          (c.in_ok-put_entries.ensures.appended
+          ∙ ap (λ xs. c.put_bounds.new.out ++ text (entry_lines Inside 0 (map value xs))) c.items.ensures.list)
+          (c.in_ok-put_entries-2.ensures.appended
+          ∙ ap (λ xs. c.put_entries.new.out ++ text (entry_lines Plan 0 (map value xs))) c.items-2.ensures.list)
+          (c.in_ok-put_move.ensures.appended
+          ∙ ap (λ xs. c.put_entries-2.new.out ++ text (entry_lines Move 0 (map value xs ++ d.step_bound ∷ [])))
+          c.items-3.ensures.list)
+          (c.in_ok-put_covers.ensures.appended
+          ∙ ap (λ xs. c.put_move.new.out ++ text (cover_lines Covers (map (cover_of value) xs)))
+          c.items-4.ensures.list)
+          (c.in_ok-put_covers-2.ensures.appended
+          ∙ ap (λ xs. c.put_covers.new.out ++ text (cover_lines Holds (map (cover_of value) xs)))
+          c.items-5.ensures.list)
+          (c.in_ok-put_items.ensures.appended
+          ∙ ap (λ xs. c.put_covers-2.new.out ++ text (item_lines (map (item_of value) xs))) c.items-6.ensures.list)
           last
-          ∙ ap (λ t. c.args.out.now ++ t) (sym (pieces_text names (status_line d.status) a b p m e f i (end_line ∷ []))))
+          ∙ ap (λ t. c.args.out.now ++ t)
+          (sym (pieces_text names (status_line d.status) a b p m e f i (end_line ∷ []))))
           (c.put_end.ensures.appended names);
     }

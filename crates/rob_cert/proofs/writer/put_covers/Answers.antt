@@ -6,5 +6,6 @@ use Rattle.rob_cert.proofs.writer.put_covers.Goals as goal
 
 pub put_cover-requires : goal.put_cover-requires
 put_cover-requires g c = record {
-  named = each_read (IsCoverNamed (naming c.args.names.now)) (cover_of g.N.Exact.value) c.args.list.now c.loop-cover.cover-index c.cover-item.result c.requires.named c.loop-cover-test.true c.cover-item.is;
+  named = each_read (IsCoverNamed (naming c.args.names.now)) (cover_of g.N.Exact.value) c.args.list.now
+      c.loop-cover.cover-index c.cover-item.result c.requires.named c.loop-cover-test.true c.cover-item.is;
 }

@@ -6,9 +6,12 @@ use Rattle.rob_cert.proofs.writer.put_items.Goals as goal
 
 pub put_item-requires-clause-named : goal.put_item-requires-clause-named
 put_item-requires-clause-named g c =
-    each_read (IsItemNamed (naming c.args.names.now)) (item_of g.N.Exact.value) c.args.list.now c.loop-item.item-index c.item-item.result c.requires.named c.loop-item-test.true c.item-item.is
+    each_read (IsItemNamed (naming c.args.names.now)) (item_of g.N.Exact.value) c.args.list.now c.loop-item.item-index
+    c.item-item.result c.requires.named c.loop-item-test.true c.item-item.is
 
 pub loop-item-preserved : goal.loop-item-preserved
 loop-item-preserved g c =
-    text_more (items_text (naming c.args.names.now) (item_of g.N.Exact.value)) (items_text-cons (naming c.args.names.now) (item_of g.N.Exact.value))
-    c.loop-item.item-index c.args.list.now c.loop-item.item-index c.item-item.result _ _ _ c.loop-item-test.true c.item-item.is c.in_ok-put_item.ensures.appended c.loop-item.invariant
+    text_more (items_text (naming c.args.names.now) (item_of g.N.Exact.value))
+    (items_text-cons (naming c.args.names.now) (item_of g.N.Exact.value))
+    c.loop-item.item-index c.args.list.now c.loop-item.item-index c.item-item.result _ _ _ c.loop-item-test.true
+    c.item-item.is c.in_ok-put_item.ensures.appended c.loop-item.invariant

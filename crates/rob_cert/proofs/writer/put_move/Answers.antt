@@ -8,6 +8,7 @@ pub returns : goal.returns
 returns g c = record {
   appended = on_ok c.put_entry.result
       (λ e. behind c.args.out.now _ _ _ _ c.in_ok-put_entries.ensures.appended e
-      ∙ ap (λ t. c.args.out.now ++ t) (sym (entries_text-push (naming c.args.names.now) g.N.Exact.value Move c.args.step.now c.args.bound)))
+      ∙ ap (λ t. c.args.out.now ++ t)
+      (sym (entries_text-push (naming c.args.names.now) g.N.Exact.value Move c.args.step.now c.args.bound)))
       c.put_entry.ensures.appended;
 }

@@ -12,9 +12,11 @@ use Rattle.rob_check.proofs.columns.check_sums.Given as goal
 abbrev pub invariant-loop-column : goal.invariant-loop-column
 invariant-loop-column g l =
     let value = g.N.Exact.value in
-    let test = sum_test g.N.Exact.limit l.forms.matrices (sense_of l.forms.sense) l.forms.columns (option_map value l.value) (map (item_of value) l.items) in
+    let test = sum_test g.N.Exact.limit l.forms.matrices (sense_of l.forms.sense) l.forms.columns
+    (option_map value l.value) (map (item_of value) l.items) in
     record {
       rest : verdict (map test (numbers_from l.column ((l.forms.columns + 2) - l.column)) ++ test 0 ∷ [])
-          ≡ verdict (sum_tests g.N.Exact.limit l.forms.matrices (sense_of l.forms.sense) l.forms.columns (option_map value l.value) (map (item_of value) l.items));
+          ≡ verdict (sum_tests g.N.Exact.limit l.forms.matrices (sense_of l.forms.sense) l.forms.columns
+          (option_map value l.value) (map (item_of value) l.items));
       counted : NeverFell g.L.Ledger.ops g.L.Ledger.wides l.fn.ledger l.ledger;
     }

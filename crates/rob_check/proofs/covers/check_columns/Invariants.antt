@@ -18,7 +18,9 @@ invariant-loop-column g l =
     let form = fractions l.form in
     let mine = map (cover_of value) l.mine in
     record {
-      rest : verdict (map (column_test limit set (covering_of value l.covering) l.index form mine) (numbers_from l.column (l.set.columns - l.column))
+      rest : verdict
+          (map (column_test limit set (covering_of value l.covering) l.index form mine)
+          (numbers_from l.column (l.set.columns - l.column))
           ++ constant_test limit set (covering_of value l.covering) l.index form mine ∷ [])
           ≡ verdict (column_tests limit set (covering_of value l.covering) l.index form mine);
       counted : NeverFell g.L.Ledger.ops g.L.Ledger.wides l.fn.ledger l.ledger;

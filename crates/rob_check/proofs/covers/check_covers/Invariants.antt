@@ -15,9 +15,12 @@ abbrev pub invariant-loop-index : goal.invariant-loop-index
 invariant-loop-index g l =
     let value = g.N.Exact.value in
     record {
-      rest : verdict (cover_tests g.N.Exact.limit (lifted_of l.set) (covering_of value l.covering) l.index (drop l.index l.forms.matrices))
+      rest : verdict
+          (cover_tests g.N.Exact.limit (lifted_of l.set) (covering_of value l.covering) l.index
+          (drop l.index l.forms.matrices))
           ≡ verdict (cover_tests g.N.Exact.limit (lifted_of l.set) (covering_of value l.covering) 0 l.forms.matrices);
-      left : IsRest (length l.set.rows) l.index (map (cover_of value) l.covering.covers.now) (map (cover_of value) l.rest);
+      left : IsRest (length l.set.rows) l.index (map (cover_of value) l.covering.covers.now)
+          (map (cover_of value) l.rest);
       fits : Each (MatrixFits g.N.Exact.limit) (drop l.index l.forms.matrices);
       columns : Each (HasColumns (length l.covering.columns.now)) (drop l.index l.forms.matrices);
       counted : NeverFell g.L.Ledger.ops g.L.Ledger.wides l.fn.ledger l.ledger;

@@ -13,16 +13,23 @@ returns-in-Accepted-clause-exact g c =
     let cover = covering_of value c.args.covering.now in
     let mine = map (cover_of value) c.args.mine.now in
     c.check_columns.ensures.exact
-    ∙ goes (map (sign_test cover c.args.index) mine) (column_tests g.N.Exact.limit (lifted_of c.args.set.now) cover c.args.index (fractions c.args.form.now) mine) c.in-Accepted.ensures.exact
+    ∙ goes (map (sign_test cover c.args.index) mine)
+    (column_tests g.N.Exact.limit (lifted_of c.args.set.now) cover c.args.index (fractions c.args.form.now) mine)
+    c.in-Accepted.ensures.exact
 
 pub returns-in_default-clause-exact : goal.returns-in_default-clause-exact
 returns-in_default-clause-exact g c =
     let value = g.N.Exact.value in
     let cover = covering_of value c.args.covering.now in
     let mine = map (cover_of value) c.args.mine.now in
-    stops (map (sign_test cover c.args.index) mine) (column_tests g.N.Exact.limit (lifted_of c.args.set.now) cover c.args.index (fractions c.args.form.now) mine)
+    stops (map (sign_test cover c.args.index) mine)
+    (column_tests g.N.Exact.limit (lifted_of c.args.set.now) cover c.args.index (fractions c.args.form.now) mine)
     c.check_signs.result c.in_default.not-Accepted c.check_signs.ensures.exact
 
 pub returns-in_default-clause-counted : goal.returns-in_default-clause-counted
 returns-in_default-clause-counted g c =
-    record { ops = omega arith; wides = omega arith; rose = c.check_signs.ensures.rose (g.L.Ledger.wides c.args.ledger.now) }
+    record {
+      ops = omega arith;
+      wides = omega arith;
+      rose = c.check_signs.ensures.rose (g.L.Ledger.wides c.args.ledger.now);
+    }

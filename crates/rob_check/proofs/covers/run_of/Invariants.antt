@@ -8,6 +8,7 @@ abbrev pub invariant-loop-cover : goal.invariant-loop-cover
 invariant-loop-cover g l =
     let value = g.N.Exact.value in
     record {
-      rest : l.count + run l.form (map (cover_of value) (drop l.cover-index l.covers)) ≡ run l.form (map (cover_of value) l.covers);
+      rest : l.count + run l.form (map (cover_of value) (drop l.cover-index l.covers))
+          ≡ run l.form (map (cover_of value) l.covers);
       number : l.count ≡ l.cover-index;
     }

@@ -13,6 +13,10 @@ returns-clause-exact g c =
     let value = g.N.Exact.value in
     let m = robust value c.args.model.now in
     c.check_vector.ensures.exact
-    ∙ ap (λ (xs : List g.row.N.Denot). verdict (set_tests g.N.Exact.limit m (At.Item c.args.index) (value c.args.item.now.base) (map value xs) 0 (set_conditions m))) c.items.ensures.list
-    ∙ sign_holds (At.Base c.args.index) (is_nonnegative (value c.args.item.now.base)) _ c.if-not-is_nonnegative.ensures.test
-    ∙ sign_holds (At.Weight c.args.index) (is_positive (value c.args.item.now.weight)) _ c.if-not-is_positive.ensures.test
+    ∙ ap (λ (xs : List g.row.N.Denot).
+    verdict (set_tests g.N.Exact.limit m (At.Item c.args.index) (value c.args.item.now.base) (map value xs) 0
+    (set_conditions m))) c.items.ensures.list
+    ∙ sign_holds (At.Base c.args.index) (is_nonnegative (value c.args.item.now.base)) _
+    c.if-not-is_nonnegative.ensures.test
+    ∙ sign_holds (At.Weight c.args.index) (is_positive (value c.args.item.now.weight)) _
+    c.if-not-is_positive.ensures.test

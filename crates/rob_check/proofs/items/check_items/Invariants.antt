@@ -11,7 +11,8 @@ abbrev pub invariant-loop-index : goal.invariant-loop-index
 invariant-loop-index g l =
     let value = g.N.Exact.value in
     record {
-      rest : verdict (items_tests g.N.Exact.limit (robust value l.model) l.index (map (item_of value) (drop l.index l.items)))
+      rest : verdict
+          (items_tests g.N.Exact.limit (robust value l.model) l.index (map (item_of value) (drop l.index l.items)))
           ≡ verdict (items_tests g.N.Exact.limit (robust value l.model) 0 (map (item_of value) l.items));
       counted : NeverFell g.L.Ledger.ops g.L.Ledger.wides l.fn.ledger l.ledger;
     }

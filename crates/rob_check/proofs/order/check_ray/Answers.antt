@@ -10,11 +10,14 @@ returns-in-Accepted-clause-exact g c =
     let value = g.N.Exact.value in
     let m = robust value c.args.model.now in
     let cert = certificate_of value c.args.cert.now in
-    c.check_move.ensures.exact ∙ goes (covering_tests g.N.Exact.limit m (plan_covering cert)) (move_tests g.N.Exact.limit m cert) c.in-Accepted.ensures.exact
+    c.check_move.ensures.exact
+    ∙ goes (covering_tests g.N.Exact.limit m (plan_covering cert)) (move_tests g.N.Exact.limit m cert)
+    c.in-Accepted.ensures.exact
 
 pub returns-in_default-clause-exact : goal.returns-in_default-clause-exact
 returns-in_default-clause-exact g c =
     let value = g.N.Exact.value in
     let m = robust value c.args.model.now in
     let cert = certificate_of value c.args.cert.now in
-    stops (covering_tests g.N.Exact.limit m (plan_covering cert)) (move_tests g.N.Exact.limit m cert) c.check_plan.result c.in_default.not-Accepted c.check_plan.ensures.exact
+    stops (covering_tests g.N.Exact.limit m (plan_covering cert)) (move_tests g.N.Exact.limit m cert)
+    c.check_plan.result c.in_default.not-Accepted c.check_plan.ensures.exact

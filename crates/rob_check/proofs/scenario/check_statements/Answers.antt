@@ -27,15 +27,23 @@ loop-line-preserved g c =
     let m = robust value c.args.model.now in
     let some = c.loop-line-test.true in
     let same = ap length c.items-line-items.ensures.list in
-    let here = c.line-item.is ∙ ap (λ xs. get_or xs c.loop-line.line-index c.line-item.result) c.items-line-items.ensures.list in
+    let here = c.line-item.is
+    ∙ ap (λ xs. get_or xs c.loop-line.line-index c.line-item.result) c.items-line-items.ensures.list in
     record {
       rest =
-          statement_goes g.N.Exact.limit m (taken_place c.args.taken) (value c.args.base) (map value c.args.vector.now) value
-          c.args.model.now.set_lines c.loop-line.line-index c.loop-line.index c.line-item.result (omega (arith, some, same)) here
-          c.place_of.result (result_ok c.holds-test.result) Accepted c.in-Accepted.ensures.exact c.place_of.ensures.place c.holds-test.ensures.exact refl
+          statement_goes g.N.Exact.limit m (taken_place c.args.taken) (value c.args.base)
+          (map value c.args.vector.now) value
+          c.args.model.now.set_lines c.loop-line.line-index c.loop-line.index c.line-item.result
+          (omega (arith, some, same)) here
+          c.place_of.result (result_ok c.holds-test.result) Accepted c.in-Accepted.ensures.exact
+          c.place_of.ensures.place c.holds-test.ensures.exact refl
           ∙ c.loop-line.invariant.rest;
-      lines = (each_at_map (IsSetLine m) (set_line_of value) c.args.model.now.set_lines c.loop-line.line-index c.line-item.result
+      lines = (each_at_map (IsSetLine m) (set_line_of value) c.args.model.now.set_lines
+          c.loop-line.line-index c.line-item.result
           (omega (arith, some, same)) here c.loop-line.invariant.lines).1;
       number = omega (arith, c.loop-line.invariant.number);
-      counted = record { ops = omega (arith, c.loop-line.invariant.counted.ops, c.holds-test.ensures.ops); wides = omega (arith, c.loop-line.invariant.counted.wides, c.holds-test.ensures.told.never_fell) };
+      counted = record {
+        ops = omega (arith, c.loop-line.invariant.counted.ops, c.holds-test.ensures.ops);
+        wides = omega (arith, c.loop-line.invariant.counted.wides, c.holds-test.ensures.told.never_fell);
+      };
     }

@@ -14,7 +14,10 @@ invariant-loop-k g l =
     let m = robust value l.model in
     let tests = set_tests g.N.Exact.limit m (taken_place l.taken) (value l.base) (map value l.vector) in
     record {
-      rest : verdict (tests l.index (bounds_from l.k (map (parameter_of value) (drop l.k l.model.params)) ++ all_stated (map (set_line_of value) l.model.set_lines)))
+      rest : verdict
+          (tests l.index
+          (bounds_from l.k (map (parameter_of value) (drop l.k l.model.params))
+          ++ all_stated (map (set_line_of value) l.model.set_lines)))
           ≡ verdict (tests 0 (set_conditions m));
       small : l.index ≤ 2 * l.k;
       counted : NeverFell g.L.Ledger.ops g.L.Ledger.wides l.fn.ledger l.ledger;

@@ -9,7 +9,8 @@ use Rattle.rob_check.proofs.sums.add_product.Goals as goal
 pub returns-then-entry-eq0-clause-exact : goal.returns-then-entry-eq0-clause-exact
 returns-then-entry-eq0-clause-exact g c =
     let value = g.N.Exact.value in
-    nothing_added g.N.Exact.limit (value c.args.so_far) (value c.args.number) c.args.entry (zero_bits c.args.entry c.ranges.entry c.if-entry-eq0.true)
+    nothing_added g.N.Exact.limit (value c.args.so_far) (value c.args.number) c.args.entry
+    (zero_bits c.args.entry c.ranges.entry c.if-entry-eq0.true)
     g.met.N.Exact.limit_low (g.met.N.Exact.fits c.args.so_far)
 
 pub returns-in_err-whole-clause-exact : goal.returns-in_err-whole-clause-exact
@@ -21,7 +22,8 @@ pub returns-in_err-product-clause-exact : goal.returns-in_err-product-clause-exa
 returns-in_err-product-clause-exact g c =
     let value = g.N.Exact.value in
     let p = err_from_is_err_and c.from_residual-in_err-product.result c.from_residual-in_err-product.ensures.1 in
-    rw p.1 (product_wide g.N.Exact.limit (value c.args.so_far) (value c.args.number) (value c.in_ok-whole.whole) c.args.entry
+    rw p.1 (product_wide g.N.Exact.limit (value c.args.so_far) (value c.args.number)
+    (value c.in_ok-whole.whole) c.args.entry
     (whole_answered g.N.Exact.limit c.args.entry g.met.N.Exact.limit_low c.requires.fits (value c.in_ok-whole.whole)
     (c.in_ok-whole.ensures.exact ∙ ap (λ z. kept g.N.Exact.limit (of_pair z 1)) (to_z-of_z c.ranges.entry)))
     c.in_err-product.ensures.exact)

@@ -2,8 +2,8 @@ use Rattle.std.proofs.Common.{ℕ, List, length, ap, ap₂, ◌∙◌, None, fal
 use lib.IntN.{ℤ}
 use Rattle.rob_number.specs.declared.lp_kind.LpKind.TheVariants.{Optimal}
 use Rattle.rob_cuts.specs.declared.round.Outcome.TheVariants as outcome
-use Rattle.rob_cuts.proofs.NumberLemmas.{seen_within}
 use Rattle.rob_cuts.proofs.round.best_round.Goals as goal
+use Rattle.rob_number.proofs.CastLemmas.{seen_within}
 
 pub basis-requires : goal.basis-requires
 basis-requires g c = record { positions = ap length c.items.ensures.list ∙ c.requires.rows }

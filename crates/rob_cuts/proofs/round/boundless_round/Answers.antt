@@ -4,8 +4,8 @@ use Rattle.rob_number.specs.declared.lp_kind.LpKind.TheVariants.{Unbounded}
 use Rattle.rob_cert.specs.declared.trace.Round.{Round as Told}
 use Rattle.rob_simplex.specs.Solvers.{column_of}
 use Rattle.rob_cuts.specs.declared.round.Outcome.TheVariants as outcome
-use Rattle.rob_cuts.proofs.NumberLemmas.{seen_within}
 use Rattle.rob_cuts.proofs.round.boundless_round.Goals as goal
+use Rattle.rob_number.proofs.CastLemmas.{seen_within}
 
 pub basis-requires : goal.basis-requires
 basis-requires g c = record { positions = ap length c.items.ensures.list ∙ c.requires.rows }

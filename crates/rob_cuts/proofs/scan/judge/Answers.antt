@@ -4,9 +4,9 @@ use Rattle.rob_meaning.specs.Places.{0ℚ}
 use lib.IntN.{ℤ}
 use Rattle.rob_worst.specs.Finding.{Tells, HasConstantWithin}
 use Rattle.rob_cuts.specs.Scans.{TellsFew}
-use Rattle.rob_cuts.proofs.NumberLemmas.{seen_within}
 use Rattle.rob_cuts.proofs.JudgeLemmas.{broken_judged, kept_judged, ray_judged, verdict_told}
 use Rattle.rob_cuts.proofs.scan.judge.Goals as goal
+use Rattle.rob_number.proofs.CastLemmas.{seen_within}
 
 pub is_kept-requires : goal.is_kept-requires
 is_kept-requires g c =

@@ -11,7 +11,7 @@ pub loop-j-preserved : goal.loop-j-preserved
 loop-j-preserved g c =
     let value = g.N.Exact.value in
     row_more value c.loop-j.columns c.push.new.self c.in-Some.number c.loop-j.j (λ j. value c.args.scale *ℚ at (map value c.args.step.now) j)
-    c.loop-j.invariant c.in_default-push.ensures.appended
+    c.loop-j.invariant c.in_ok-push.ensures.appended
     (c.in-Some.ensures.product
     ∙ ap (λ v. value c.args.scale *ℚ v) (sym (told_is value c.args.step.now c.loop-j.j c.index-step-j.result (omega (arith, c.loop-j-test.true, c.requires.size)) c.index-step-j.is)))
 

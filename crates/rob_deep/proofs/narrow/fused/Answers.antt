@@ -14,4 +14,7 @@ pub returns : goal.returns
 returns c =
     let fp : SFits w128 c.args.factors.p = search rules in
     let fq : SFits w128 c.args.factors.q = search rules in
-    record { value = narrow_read c.args.factors.p c.args.a c.args.factors.q c.args.b fp c.ranges.a fq c.ranges.b c.requires.narrow }
+    record {
+      value = narrow_read c.args.factors.p c.args.a c.args.factors.q c.args.b fp c.ranges.a fq
+          c.ranges.b c.requires.narrow;
+    }

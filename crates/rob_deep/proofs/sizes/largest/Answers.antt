@@ -11,19 +11,24 @@ loop-entry-preserved c =
     let row = c.args.row.now in
     let i = c.loop-entry.entry-index in
     let fits : SFits w128 (get_or row i (pos 0)) = search rules in
-    let entry : c.unsigned_abs.result ≡ nat_abs (get_or row i (pos 0)) = c.unsigned_abs.ensures.value ∙ ap nat_abs (seen (get_or row i (pos 0)) fits) in
+    let entry : c.unsigned_abs.result ≡ nat_abs (get_or row i (pos 0)) =
+    c.unsigned_abs.ensures.value ∙ ap nat_abs (seen (get_or row i (pos 0)) fits) in
     let greater : c.max-largest.result ≡ max c.unsigned_abs.result c.loop-entry.largest = c.max-largest.ensures in
     record {
       bound =
           below_more _ _
-          (λ k l. let before : nat_abs (get_or row k (pos 0)) ≤ c.loop-entry.largest = c.loop-entry.invariant.bound k l in omega arith)
+          (λ k l. let before : nat_abs (get_or row k (pos 0)) ≤ c.loop-entry.largest =
+          c.loop-entry.invariant.bound k l in omega arith)
           (omega arith);
-      reached = subst (IsReached row (i + 1)) (sym greater) (reached_more row i c.loop-entry.largest c.unsigned_abs.result c.loop-entry.invariant.reached entry);
+      reached = subst (IsReached row (i + 1)) (sym greater)
+          (reached_more row i c.loop-entry.largest c.unsigned_abs.result c.loop-entry.invariant.reached entry);
       size = omega arith;
     }
 
 pub returns-clause-bound : goal.returns-clause-bound
-returns-clause-bound c = within_all c.loop-entry.largest c.args.row.now c.loop-entry.entry-index (omega arith) c.loop-entry.invariant.bound
+returns-clause-bound c =
+    within_all c.loop-entry.largest c.args.row.now c.loop-entry.entry-index (omega arith) c.loop-entry.invariant.bound
 
 pub returns-clause-reached : goal.returns-clause-reached
-returns-clause-reached c = reached_by c.args.row.now c.loop-entry.entry-index c.loop-entry.largest (omega arith) c.loop-entry.invariant.reached
+returns-clause-reached c =
+    reached_by c.args.row.now c.loop-entry.entry-index c.loop-entry.largest (omega arith) c.loop-entry.invariant.reached

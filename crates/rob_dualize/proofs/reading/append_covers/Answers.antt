@@ -7,9 +7,10 @@ use Rattle.rob_counterpart.proofs.Blocks.{block_in}
 use Rattle.rob_dualize.specs.Numbers.{told}
 use Rattle.rob_counterpart.specs.ReadNumbers.{cover_at, covers_kept}
 use Rattle.rob_dualize.specs.Wholes.{wholes}
-use Rattle.rob_dualize.proofs.ReadingLemmas.{told_place, cover_pushed, cover_skipped, refuted}
+use Rattle.rob_dualize.proofs.ReadingLemmas.{told_place, cover_pushed, cover_skipped}
 use Rattle.rob_dualize.proofs.reading.append_covers.Goals as goal
 use Rattle.rob_dualize.proofs.reading.append_covers.Goals.{then-not-is_zero+in_ok-push, else-not-is_zero}
+use Rattle.rob_model.proofs.KeptLemmas.{refuted}
 
 pub loop-r-preserved : goal.loop-r-preserved
 loop-r-preserved g c =

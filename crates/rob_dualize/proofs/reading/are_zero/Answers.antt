@@ -1,6 +1,7 @@
 use Rattle.std.proofs.Common.{sym, ◌∙◌}
-use Rattle.rob_dualize.proofs.ReadingLemmas.{zero_dropped, not_dropped, all_dropped, refuted}
+use Rattle.rob_dualize.proofs.ReadingLemmas.{zero_dropped, not_dropped, all_dropped}
 use Rattle.rob_dualize.proofs.reading.are_zero.Goals as goal
+use Rattle.rob_model.proofs.KeptLemmas.{refuted}
 
 pub loop-number-preserved : goal.loop-number-preserved
 loop-number-preserved g c =

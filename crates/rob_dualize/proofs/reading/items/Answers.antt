@@ -7,9 +7,10 @@ use Rattle.rob_counterpart.proofs.Blocks.{block_in}
 use Rattle.rob_dualize.specs.Numbers.{told}
 use Rattle.rob_counterpart.specs.ReadNumbers.{items_to, vector_at, all_zero}
 use Rattle.rob_dualize.specs.Wholes.{wholes}
-use Rattle.rob_dualize.proofs.ReadingLemmas.{told_place, item_is, item_pushed, item_skipped, base_not_zero, vector_not_zero, both_zero, refuted}
+use Rattle.rob_dualize.proofs.ReadingLemmas.{told_place, item_is, item_pushed, item_skipped, base_not_zero, vector_not_zero, both_zero}
 use Rattle.rob_dualize.proofs.reading.items.Goals as goal
 use Rattle.rob_dualize.proofs.reading.items.Goals.{then-not-is_zero+in_ok-push, then-not-is_zero-via-then-not-is_zero, then-not-is_zero-via-else-not-is_zero+then-not-are_zero, else-not-is_zero+else-not-are_zero}
+use Rattle.rob_model.proofs.KeptLemmas.{refuted}
 
 pub loop-i-preserved : goal.loop-i-preserved
 loop-i-preserved g c =

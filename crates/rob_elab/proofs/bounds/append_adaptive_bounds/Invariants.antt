@@ -13,6 +13,7 @@ invariant-loop-rule g l =
     let m = robust value l.model in
     record {
       number : l.number ≡ l.rule-index;
-      progress : FormProgress g.N.Exact.limit m (adaptive_forms zero m.adaptives) (other_rules value l.model.adaptives l.rule-index) l.fn.matrices l.matrices;
+      progress : FormProgress g.N.Exact.limit m (adaptive_forms zero m.adaptives)
+          (other_rules value l.model.adaptives l.rule-index) l.fn.matrices l.matrices;
       counted : NeverFell g.L.Ledger.ops g.L.Ledger.wides l.fn.ledger l.ledger;
     }

@@ -15,9 +15,11 @@ returns-in_err-append_bound-clause-forms g c =
     let e = expression_of value c.args.bounded.now in
     let lower = if_declared (λ b. difference (number b) e) (option_map value c.args.lower.now) in
     let upper = if_declared (λ b. difference e (number b)) (option_map value c.args.upper.now) in
-    let start : FormProgress g.N.Exact.limit (robust value c.args.model.now) (lower ++ upper) (lower ++ upper) c.args.matrices.now c.args.matrices.now =
+    let start : FormProgress g.N.Exact.limit (robust value c.args.model.now) (lower ++ upper) (lower ++ upper)
+    c.args.matrices.now c.args.matrices.now =
     begins c.args.matrices.now in
-    forms_stop start c.append_bound.new.matrices (g.L.Ledger.wides c.args.ledger.now) c.from_residual.result (parted lower upper) (omega arith)
+    forms_stop start c.append_bound.new.matrices (g.L.Ledger.wides c.args.ledger.now) c.from_residual.result
+    (parted lower upper) (omega arith)
     c.in_err-append_bound.ensures.form c.from_residual.ensures.1
 
 pub returns-clause-forms : goal.returns-clause-forms
@@ -26,8 +28,10 @@ returns-clause-forms g c =
     let e = expression_of value c.args.bounded.now in
     let lower = if_declared (λ b. difference (number b) e) (option_map value c.args.lower.now) in
     let upper = if_declared (λ b. difference e (number b)) (option_map value c.args.upper.now) in
-    let start : FormProgress g.N.Exact.limit (robust value c.args.model.now) (lower ++ upper) (lower ++ upper) c.args.matrices.now c.args.matrices.now =
+    let start : FormProgress g.N.Exact.limit (robust value c.args.model.now) (lower ++ upper) (lower ++ upper)
+    c.args.matrices.now c.args.matrices.now =
     begins c.args.matrices.now in
-    forms_end_with (forms_go_on start (parted lower upper) c.in_ok-append_bound.ensures.form) c.append_bound-2.new.matrices (g.L.Ledger.wides c.args.ledger.now)
+    forms_end_with (forms_go_on start (parted lower upper) c.in_ok-append_bound.ensures.form)
+    c.append_bound-2.new.matrices (g.L.Ledger.wides c.args.ledger.now)
     (g.L.Ledger.wides c.append_bound.new.ledger) (g.L.Ledger.wides c.append_bound-2.new.ledger) c.append_bound-2.result
     c.append_bound.ensures.counted.wides c.append_bound-2.ensures.form

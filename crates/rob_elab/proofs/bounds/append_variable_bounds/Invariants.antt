@@ -13,6 +13,7 @@ invariant-loop-variable g l =
     let m = robust value l.model in
     record {
       number : l.number ≡ l.variable-index;
-      progress : FormProgress g.N.Exact.limit m (variable_forms zero m.variables) (other_variables value l.model.vars l.variable-index) l.fn.matrices l.matrices;
+      progress : FormProgress g.N.Exact.limit m (variable_forms zero m.variables)
+          (other_variables value l.model.vars l.variable-index) l.fn.matrices l.matrices;
       counted : NeverFell g.L.Ledger.ops g.L.Ledger.wides l.fn.ledger l.ledger;
     }

@@ -20,21 +20,28 @@ returns-in-Ok-clause-matrix g c =
     let value = g.N.Exact.value in
     let m = robust value c.args.model.now in
     let f = numbers_of value c.args.table.now in
-    let rows : length c.items-2.result.now + 1 ≡ form_rows m = omega (arith, ap length c.items-2.ensures.list, length-map c.args.model.now.params (parameter_of value)) in
-    let columns : c.column_count-columns.result + 2 ≡ form_columns m = omega (arith, c.column_count-columns.ensures.count) in
+    let rows : length c.items-2.result.now + 1 ≡ form_rows m =
+    omega (arith, ap length c.items-2.ensures.list, length-map c.args.model.now.params (parameter_of value)) in
+    let columns : c.column_count-columns.result + 2 ≡ form_columns m =
+    omega (arith, c.column_count-columns.ensures.count) in
     let e = ap (map (map value)) c.items-3.ensures.list
-    ∙ entries_is value m f (length c.items-2.result.now + 1) (c.column_count-columns.result + 2) c.in_ok-rows.rows rows columns c.in_ok-rows.ensures.numbers in
-    c.in_ok-push-in-Ok.ensures.appended ∙ ap (λ (x : List (List ℤ)). c.args.matrices.now ++ x ∷ []) (c.in-Ok.ensures.cleared ∙ ap cleared e)
+    ∙ entries_is value m f (length c.items-2.result.now + 1) (c.column_count-columns.result + 2) c.in_ok-rows.rows rows
+    columns c.in_ok-rows.ensures.numbers in
+    c.in_ok-push-in-Ok.ensures.appended
+    ∙ ap (λ (x : List (List ℤ)). c.args.matrices.now ++ x ∷ []) (c.in-Ok.ensures.cleared ∙ ap cleared e)
 
 pub returns-in-Ok-clause-fits : goal.returns-in-Ok-clause-fits
 returns-in-Ok-clause-fits g c =
     let value = g.N.Exact.value in
     let m = robust value c.args.model.now in
     let f = numbers_of value c.args.table.now in
-    let rows : length c.items-2.result.now + 1 ≡ form_rows m = omega (arith, ap length c.items-2.ensures.list, length-map c.args.model.now.params (parameter_of value)) in
-    let columns : c.column_count-columns.result + 2 ≡ form_columns m = omega (arith, c.column_count-columns.ensures.count) in
+    let rows : length c.items-2.result.now + 1 ≡ form_rows m =
+    omega (arith, ap length c.items-2.ensures.list, length-map c.args.model.now.params (parameter_of value)) in
+    let columns : c.column_count-columns.result + 2 ≡ form_columns m =
+    omega (arith, c.column_count-columns.ensures.count) in
     let e = ap (map (map value)) c.items-3.ensures.list
-    ∙ entries_is value m f (length c.items-2.result.now + 1) (c.column_count-columns.result + 2) c.in_ok-rows.rows rows columns c.in_ok-rows.ensures.numbers in
+    ∙ entries_is value m f (length c.items-2.result.now + 1) (c.column_count-columns.result + 2) c.in_ok-rows.rows rows
+    columns c.in_ok-rows.ensures.numbers in
     subst (MatrixFits g.N.Exact.limit) (c.in-Ok.ensures.cleared ∙ ap cleared e) c.in-Ok.ensures.fits
 
 pub returns-in-Ok-clause-not_wide : goal.returns-in-Ok-clause-not_wide
@@ -42,10 +49,13 @@ returns-in-Ok-clause-not_wide g c w =
     let value = g.N.Exact.value in
     let m = robust value c.args.model.now in
     let f = numbers_of value c.args.table.now in
-    let rows : length c.items-2.result.now + 1 ≡ form_rows m = omega (arith, ap length c.items-2.ensures.list, length-map c.args.model.now.params (parameter_of value)) in
-    let columns : c.column_count-columns.result + 2 ≡ form_columns m = omega (arith, c.column_count-columns.ensures.count) in
+    let rows : length c.items-2.result.now + 1 ≡ form_rows m =
+    omega (arith, ap length c.items-2.ensures.list, length-map c.args.model.now.params (parameter_of value)) in
+    let columns : c.column_count-columns.result + 2 ≡ form_columns m =
+    omega (arith, c.column_count-columns.ensures.count) in
     let e = ap (map (map value)) c.items-3.ensures.list
-    ∙ entries_is value m f (length c.items-2.result.now + 1) (c.column_count-columns.result + 2) c.in_ok-rows.rows rows columns c.in_ok-rows.ensures.numbers in
+    ∙ entries_is value m f (length c.items-2.result.now + 1) (c.column_count-columns.result + 2) c.in_ok-rows.rows rows
+    columns c.in_ok-rows.ensures.numbers in
     c.in-Ok.ensures.not_wide (subst (λ (x : List (List Fraction)). IsWideCleared g.N.Exact.limit (entries x)) (sym e) w)
 
 pub returns-clause-cause : goal.returns-clause-cause
@@ -53,13 +63,19 @@ returns-clause-cause g c =
     let value = g.N.Exact.value in
     let m = robust value c.args.model.now in
     let f = numbers_of value c.args.table.now in
-    let rows : length c.items-2.result.now + 1 ≡ form_rows m = omega (arith, ap length c.items-2.ensures.list, length-map c.args.model.now.params (parameter_of value)) in
-    let columns : c.column_count-columns.result + 2 ≡ form_columns m = omega (arith, c.column_count-columns.ensures.count) in
+    let rows : length c.items-2.result.now + 1 ≡ form_rows m =
+    omega (arith, ap length c.items-2.ensures.list, length-map c.args.model.now.params (parameter_of value)) in
+    let columns : c.column_count-columns.result + 2 ≡ form_columns m =
+    omega (arith, c.column_count-columns.ensures.count) in
     let e = ap (map (map value)) c.items-3.ensures.list
-    ∙ entries_is value m f (length c.items-2.result.now + 1) (c.column_count-columns.result + 2) c.in_ok-rows.rows rows columns c.in_ok-rows.ensures.numbers in
-    stops_with c.in-Err.stop c.stopped.result (Clearing (Form (length c.items.result.now))) (Clearing (Form (length c.args.matrices.now))) c.stopped.ensures.error
+    ∙ entries_is value m f (length c.items-2.result.now + 1) (c.column_count-columns.result + 2) c.in_ok-rows.rows rows
+    columns c.in_ok-rows.ensures.numbers in
+    stops_with c.in-Err.stop c.stopped.result (Clearing (Form (length c.items.result.now)))
+    (Clearing (Form (length c.args.matrices.now))) c.stopped.ensures.error
     (ap (λ (xs : List (List (List ℤ))). Clearing (Form (length xs))) c.items.ensures.list)
     (λ (h : Rose (g.L.Ledger.wides c.table_rows.new.ledger) (g.L.Ledger.wides c.clear_rows.new.ledger)
-    × IsWideCleared g.N.Exact.limit (entries (map (map value) c.items-3.result.now))).
-    (omega (arith, h.0, c.table_rows.ensures.counted.wides), subst (λ (x : List (List Fraction)). IsWideCleared g.N.Exact.limit (entries x)) e h.1))
+    × IsWideCleared g.N.Exact.limit (entries (map (map value) c.items-3.result.now))). (
+      omega (arith, h.0, c.table_rows.ensures.counted.wides),
+      subst (λ (x : List (List Fraction)). IsWideCleared g.N.Exact.limit (entries x)) e h.1,
+    ))
     c.in-Err.ensures.wide

@@ -10,7 +10,8 @@ use Rattle.rob_elab.proofs.matrix.clear_rows.Goals as goal
 
 pub returns-in-Some-clause-not_wide : goal.returns-in-Some-clause-not_wide
 returns-in-Some-clause-not_wide g c =
-    rows_fit g.N.Exact.limit (map (map g.N.Exact.value) c.args.rows.now) c.in-Some.common c.cleared_rows.result c.in-Some.ensures.least.0 c.in-Some.ensures.least.1
+    rows_fit g.N.Exact.limit (map (map g.N.Exact.value) c.args.rows.now) c.in-Some.common c.cleared_rows.result
+    c.in-Some.ensures.least.0 c.in-Some.ensures.least.1
     c.cleared_rows.ensures.cleared c.cleared_rows.ensures.fits
 
 pub returns-in-Some-clause-wide : goal.returns-in-Some-clause-wide

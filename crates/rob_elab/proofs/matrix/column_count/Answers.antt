@@ -25,10 +25,12 @@ overflow_cast-count-in-loop-rule g c =
     let i = c.loop-rule.rule-index in
     let y = c.rule-item.result in
     let inside : i < length ys = omega (arith, c.loop-rule-test.true, ap length c.items-rule-items.ensures.list) in
-    let is : y ≡ get_or ys i y = c.rule-item.is ∙ ap (λ (xs : List (Adaptive g.row.N.Denot)). get_or xs i y) c.items-rule-items.ensures.list in
+    let is : y ≡ get_or ys i y =
+    c.rule-item.is ∙ ap (λ (xs : List (Adaptive g.row.N.Denot)). get_or xs i y) c.items-rule-items.ensures.list in
     omega (
       arith,
-      columns_fit value ys i c.loop-rule.count (column_count (robust value c.args.model.now)) y c.items-in-loop-rule.result.now inside is
+      columns_fit value ys i c.loop-rule.count (column_count (robust value c.args.model.now)) y
+          c.items-in-loop-rule.result.now inside is
           c.items-in-loop-rule.ensures.list c.loop-rule.invariant,
       c.requires.valid.limits.columns,
     )
@@ -40,10 +42,12 @@ overflow_add-count g c =
     let i = c.loop-rule.rule-index in
     let y = c.rule-item.result in
     let inside : i < length ys = omega (arith, c.loop-rule-test.true, ap length c.items-rule-items.ensures.list) in
-    let is : y ≡ get_or ys i y = c.rule-item.is ∙ ap (λ (xs : List (Adaptive g.row.N.Denot)). get_or xs i y) c.items-rule-items.ensures.list in
+    let is : y ≡ get_or ys i y =
+    c.rule-item.is ∙ ap (λ (xs : List (Adaptive g.row.N.Denot)). get_or xs i y) c.items-rule-items.ensures.list in
     omega (
       arith,
-      columns_fit value ys i c.loop-rule.count (column_count (robust value c.args.model.now)) y c.items-in-loop-rule.result.now inside is
+      columns_fit value ys i c.loop-rule.count (column_count (robust value c.args.model.now)) y
+          c.items-in-loop-rule.result.now inside is
           c.items-in-loop-rule.ensures.list c.loop-rule.invariant,
       c.requires.valid.limits.columns,
     )
@@ -55,10 +59,12 @@ overflow_add-count-in-loop-rule g c =
     let i = c.loop-rule.rule-index in
     let y = c.rule-item.result in
     let inside : i < length ys = omega (arith, c.loop-rule-test.true, ap length c.items-rule-items.ensures.list) in
-    let is : y ≡ get_or ys i y = c.rule-item.is ∙ ap (λ (xs : List (Adaptive g.row.N.Denot)). get_or xs i y) c.items-rule-items.ensures.list in
+    let is : y ≡ get_or ys i y =
+    c.rule-item.is ∙ ap (λ (xs : List (Adaptive g.row.N.Denot)). get_or xs i y) c.items-rule-items.ensures.list in
     omega (
       arith,
-      columns_fit value ys i c.loop-rule.count (column_count (robust value c.args.model.now)) y c.items-in-loop-rule.result.now inside is
+      columns_fit value ys i c.loop-rule.count (column_count (robust value c.args.model.now)) y
+          c.items-in-loop-rule.result.now inside is
           c.items-in-loop-rule.ensures.list c.loop-rule.invariant,
       c.requires.valid.limits.columns,
     )
@@ -70,6 +76,8 @@ loop-rule-preserved g c =
     let i = c.loop-rule.rule-index in
     let y = c.rule-item.result in
     let inside : i < length ys = omega (arith, c.loop-rule-test.true, ap length c.items-rule-items.ensures.list) in
-    let is : y ≡ get_or ys i y = c.rule-item.is ∙ ap (λ (xs : List (Adaptive g.row.N.Denot)). get_or xs i y) c.items-rule-items.ensures.list in
-    columns_step value ys i c.loop-rule.count (column_count (robust value c.args.model.now)) y c.items-in-loop-rule.result.now inside is
+    let is : y ≡ get_or ys i y =
+    c.rule-item.is ∙ ap (λ (xs : List (Adaptive g.row.N.Denot)). get_or xs i y) c.items-rule-items.ensures.list in
+    columns_step value ys i c.loop-rule.count (column_count (robust value c.args.model.now)) y
+    c.items-in-loop-rule.result.now inside is
     c.items-in-loop-rule.ensures.list c.loop-rule.invariant

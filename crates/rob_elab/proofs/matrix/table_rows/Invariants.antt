@@ -7,6 +7,7 @@ use Rattle.rob_elab.proofs.matrix.table_rows.Given as goal
 -- the rows so far
 abbrev pub invariant-loop-row : goal.invariant-loop-row
 invariant-loop-row g l = record {
-  numbers : map (map g.N.Exact.value) l.all ≡ tabulate l.row (λ k. tabulate l.columns (numbers_of g.N.Exact.value l.table k));
+  numbers : map (map g.N.Exact.value) l.all
+      ≡ tabulate l.row (λ k. tabulate l.columns (numbers_of g.N.Exact.value l.table k));
   counted : NeverFell g.L.Ledger.ops g.L.Ledger.wides l.fn.ledger l.ledger;
 }

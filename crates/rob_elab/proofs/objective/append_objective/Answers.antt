@@ -17,8 +17,10 @@ returns-in-Ok-clause-form g c =
     let value = g.N.Exact.value in
     let m = robust value c.args.model.now in
     let e = objective_form m.sense m.objective (tau_column m) in
-    form_appends g.N.Exact.limit m (length c.args.matrices.now) e (numbers_of value c.in-Ok.table) c.args.matrices.now c.append_form.new.matrices
-    (g.L.Ledger.wides c.args.ledger.now) (g.L.Ledger.wides c.objective_table.new.ledger) (g.L.Ledger.wides c.append_form.new.ledger) c.append_form.result
+    form_appends g.N.Exact.limit m (length c.args.matrices.now) e (numbers_of value c.in-Ok.table) c.args.matrices.now
+    c.append_form.new.matrices
+    (g.L.Ledger.wides c.args.ledger.now) (g.L.Ledger.wides c.objective_table.new.ledger)
+    (g.L.Ledger.wides c.append_form.new.ledger) c.append_form.result
     (λ i k j. c.in-Ok.ensures.table k j i) c.in-Ok.ensures.none_wide c.objective_table.ensures.counted.wides
     c.append_form.ensures.matrix c.append_form.ensures.fits c.append_form.ensures.not_wide c.append_form.ensures.cause
 
@@ -28,7 +30,10 @@ returns-in-Err-clause-form g c =
     let m = robust value c.args.model.now in
     let i = length c.args.matrices.now in
     let e = objective_form m.sense m.objective (tau_column m) in
-    stops_here g.N.Exact.limit m (judge.coefficients (Form i) e) (judge.clearing (Form i) (entries (entries_of m (table m e))) ∷ [])
-    c.in-Err.stop c.stopped.result (Coefficient (Form (length c.items.result.now))) (g.L.Ledger.wides c.args.ledger.now) (g.L.Ledger.wides c.args.ledger.now)
-    (g.L.Ledger.wides c.objective_table.new.ledger) c.stopped.ensures.error (ap (λ (xs : List (List (List ℤ))). Coefficient (Form (length xs))) (sym c.items.ensures.list))
+    stops_here g.N.Exact.limit m (judge.coefficients (Form i) e)
+    (judge.clearing (Form i) (entries (entries_of m (table m e))) ∷ [])
+    c.in-Err.stop c.stopped.result (Coefficient (Form (length c.items.result.now))) (g.L.Ledger.wides c.args.ledger.now)
+    (g.L.Ledger.wides c.args.ledger.now)
+    (g.L.Ledger.wides c.objective_table.new.ledger) c.stopped.ensures.error
+    (ap (λ (xs : List (List (List ℤ))). Coefficient (Form (length xs))) (sym c.items.ensures.list))
     (omega arith) c.in-Err.ensures.wide

@@ -16,7 +16,8 @@ returns-in_err-goal-clause-wide g c =
     let Q = HasWideCoefficient g.N.Exact.limit m in
     let p = err_from_is_err_and c.from_residual.result c.from_residual.ensures.1 in
     stops_more c.from_residual.result c.in_err-goal.field-0.0 p.0 p.1 p.2
-    (λ (h : Rose (g.L.Ledger.wides c.args.ledger.now) (g.L.Ledger.wides c.coefficients.new.ledger) × Some_of Q (subexpressions m.objective)).
+    (λ (h : Rose (g.L.Ledger.wides c.args.ledger.now) (g.L.Ledger.wides c.coefficients.new.ledger)
+    × Some_of Q (subexpressions m.objective)).
     (h.0, in_objective Q m.sense m.objective (tau_column m) h.1))
     c.in_err-goal.ensures.wide
 
@@ -30,8 +31,10 @@ returns-in-Minimise-clause-table g c =
     let tau = tau_column m in
     let form = objective_form m.sense m.objective tau in
     let is = ap (λ x. objective_form (sense_of x) m.objective tau) c.in-Minimise.is in
-    let here = tau_holds value limit fits one m c.in_ok-tau.tau c.column_count-column.result (column_count m) c.column_count-column.ensures.count c.in_ok-tau.ensures.number in
-    less_table value limit fits one m m.objective tau form is c.in_ok-goal.goal c.in_ok-tau.tau c.in_ok-goal.ensures.table here c.less.result c.less.ensures.table
+    let here = tau_holds value limit fits one m c.in_ok-tau.tau c.column_count-column.result (column_count m)
+    c.column_count-column.ensures.count c.in_ok-tau.ensures.number in
+    less_table value limit fits one m m.objective tau form is c.in_ok-goal.goal c.in_ok-tau.tau
+    c.in_ok-goal.ensures.table here c.less.result c.less.ensures.table
 
 pub returns-in-Minimise-clause-none_wide : goal.returns-in-Minimise-clause-none_wide
 returns-in-Minimise-clause-none_wide g c =
@@ -43,8 +46,11 @@ returns-in-Minimise-clause-none_wide g c =
     let tau = tau_column m in
     let form = objective_form m.sense m.objective tau in
     let is = ap (λ x. objective_form (sense_of x) m.objective tau) c.in-Minimise.is in
-    let here = tau_holds value limit fits one m c.in_ok-tau.tau c.column_count-column.result (column_count m) c.column_count-column.ensures.count c.in_ok-tau.ensures.number in
-    less_none value limit fits one m m.objective tau form is c.in_ok-goal.goal c.in_ok-tau.tau c.in_ok-goal.ensures.table here c.less.result c.less.ensures.table c.in_ok-goal.ensures.none_wide (tau_none value limit fits one m c.in_ok-tau.tau (column_count m) here)
+    let here = tau_holds value limit fits one m c.in_ok-tau.tau c.column_count-column.result (column_count m)
+    c.column_count-column.ensures.count c.in_ok-tau.ensures.number in
+    less_none value limit fits one m m.objective tau form is c.in_ok-goal.goal c.in_ok-tau.tau
+    c.in_ok-goal.ensures.table here c.less.result c.less.ensures.table c.in_ok-goal.ensures.none_wide
+    (tau_none value limit fits one m c.in_ok-tau.tau (column_count m) here)
 
 pub returns-in-Minimise-clause-wide : goal.returns-in-Minimise-clause-wide
 returns-in-Minimise-clause-wide g c =
@@ -56,8 +62,11 @@ returns-in-Minimise-clause-wide g c =
     let tau = tau_column m in
     let form = objective_form m.sense m.objective tau in
     let is = ap (λ x. objective_form (sense_of x) m.objective tau) c.in-Minimise.is in
-    let here = tau_holds value limit fits one m c.in_ok-tau.tau c.column_count-column.result (column_count m) c.column_count-column.ensures.count c.in_ok-tau.ensures.number in
-    less_wide value limit fits one m m.objective tau form is c.in_ok-goal.goal c.in_ok-tau.tau c.in_ok-goal.ensures.table here c.less.result (g.L.Ledger.wides c.args.ledger.now) (g.L.Ledger.wides c.unit.new.ledger) (g.L.Ledger.wides c.less.new.ledger)
+    let here = tau_holds value limit fits one m c.in_ok-tau.tau c.column_count-column.result (column_count m)
+    c.column_count-column.ensures.count c.in_ok-tau.ensures.number in
+    less_wide value limit fits one m m.objective tau form is c.in_ok-goal.goal c.in_ok-tau.tau
+    c.in_ok-goal.ensures.table here c.less.result (g.L.Ledger.wides c.args.ledger.now)
+    (g.L.Ledger.wides c.unit.new.ledger) (g.L.Ledger.wides c.less.new.ledger)
     (omega (arith, c.coefficients.ensures.counted.wides, c.unit.ensures.counted.wides)) c.less.ensures.wide
 
 pub returns-in-Maximise-clause-table : goal.returns-in-Maximise-clause-table
@@ -70,8 +79,10 @@ returns-in-Maximise-clause-table g c =
     let tau = tau_column m in
     let form = objective_form m.sense m.objective tau in
     let is = ap (λ x. objective_form (sense_of x) m.objective tau) c.in-Maximise.is in
-    let here = tau_holds value limit fits one m c.in_ok-tau.tau c.column_count-column.result (column_count m) c.column_count-column.ensures.count c.in_ok-tau.ensures.number in
-    less_table value limit fits one m tau m.objective form is c.in_ok-tau.tau c.in_ok-goal.goal here c.in_ok-goal.ensures.table c.less-in-Maximise.result c.less-in-Maximise.ensures.table
+    let here = tau_holds value limit fits one m c.in_ok-tau.tau c.column_count-column.result (column_count m)
+    c.column_count-column.ensures.count c.in_ok-tau.ensures.number in
+    less_table value limit fits one m tau m.objective form is c.in_ok-tau.tau c.in_ok-goal.goal here
+    c.in_ok-goal.ensures.table c.less-in-Maximise.result c.less-in-Maximise.ensures.table
 
 pub returns-in-Maximise-clause-none_wide : goal.returns-in-Maximise-clause-none_wide
 returns-in-Maximise-clause-none_wide g c =
@@ -83,8 +94,11 @@ returns-in-Maximise-clause-none_wide g c =
     let tau = tau_column m in
     let form = objective_form m.sense m.objective tau in
     let is = ap (λ x. objective_form (sense_of x) m.objective tau) c.in-Maximise.is in
-    let here = tau_holds value limit fits one m c.in_ok-tau.tau c.column_count-column.result (column_count m) c.column_count-column.ensures.count c.in_ok-tau.ensures.number in
-    less_none value limit fits one m tau m.objective form is c.in_ok-tau.tau c.in_ok-goal.goal here c.in_ok-goal.ensures.table c.less-in-Maximise.result c.less-in-Maximise.ensures.table (tau_none value limit fits one m c.in_ok-tau.tau (column_count m) here) c.in_ok-goal.ensures.none_wide
+    let here = tau_holds value limit fits one m c.in_ok-tau.tau c.column_count-column.result (column_count m)
+    c.column_count-column.ensures.count c.in_ok-tau.ensures.number in
+    less_none value limit fits one m tau m.objective form is c.in_ok-tau.tau c.in_ok-goal.goal here
+    c.in_ok-goal.ensures.table c.less-in-Maximise.result c.less-in-Maximise.ensures.table
+    (tau_none value limit fits one m c.in_ok-tau.tau (column_count m) here) c.in_ok-goal.ensures.none_wide
 
 pub returns-in-Maximise-clause-wide : goal.returns-in-Maximise-clause-wide
 returns-in-Maximise-clause-wide g c =
@@ -96,6 +110,9 @@ returns-in-Maximise-clause-wide g c =
     let tau = tau_column m in
     let form = objective_form m.sense m.objective tau in
     let is = ap (λ x. objective_form (sense_of x) m.objective tau) c.in-Maximise.is in
-    let here = tau_holds value limit fits one m c.in_ok-tau.tau c.column_count-column.result (column_count m) c.column_count-column.ensures.count c.in_ok-tau.ensures.number in
-    less_wide value limit fits one m tau m.objective form is c.in_ok-tau.tau c.in_ok-goal.goal here c.in_ok-goal.ensures.table c.less-in-Maximise.result (g.L.Ledger.wides c.args.ledger.now) (g.L.Ledger.wides c.unit.new.ledger) (g.L.Ledger.wides c.less-in-Maximise.new.ledger)
+    let here = tau_holds value limit fits one m c.in_ok-tau.tau c.column_count-column.result (column_count m)
+    c.column_count-column.ensures.count c.in_ok-tau.ensures.number in
+    less_wide value limit fits one m tau m.objective form is c.in_ok-tau.tau c.in_ok-goal.goal here
+    c.in_ok-goal.ensures.table c.less-in-Maximise.result (g.L.Ledger.wides c.args.ledger.now)
+    (g.L.Ledger.wides c.unit.new.ledger) (g.L.Ledger.wides c.less-in-Maximise.new.ledger)
     (omega (arith, c.coefficients.ensures.counted.wides, c.unit.ensures.counted.wides)) c.less-in-Maximise.ensures.wide

@@ -11,6 +11,7 @@ invariant-loop-row g l =
     let value = g.N.Exact.value in
     let m = robust value l.model in
     record {
-      progress : FormProgress g.N.Exact.limit m (row_forms m.rows) (other_rows value l.model.rows l.row-index) l.fn.matrices l.matrices;
+      progress : FormProgress g.N.Exact.limit m (row_forms m.rows) (other_rows value l.model.rows l.row-index)
+          l.fn.matrices l.matrices;
       counted : NeverFell g.L.Ledger.ops g.L.Ledger.wides l.fn.ledger l.ledger;
     }

@@ -8,5 +8,10 @@ pub returns-clause-first : goal.returns-clause-first
 returns-clause-first g c =
     let value = g.N.Exact.value in
     answer_broken g.N.Exact.limit (robust value c.args.model.now) (value c.args.base) (map value c.args.vector.now)
-    (omega (arith, c.requires.fits, length-map c.args.vector.now value, length-map c.args.model.now.params (parameter_of value)))
+    (omega (
+      arith,
+      c.requires.fits,
+      length-map c.args.vector.now value,
+      length-map c.args.model.now.params (parameter_of value),
+    ))
     c.search.result c.search.ensures.exact

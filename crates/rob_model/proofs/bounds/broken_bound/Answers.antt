@@ -8,23 +8,29 @@ pub returns-in_err-keeps_lower-clause-exact : goal.returns-in_err-keeps_lower-cl
 returns-in_err-keeps_lower-clause-exact g c m =
     let value = g.N.Exact.value in
     let p = err_from_is_err_and c.from_residual.result c.from_residual.ensures.1 in
-    rw p.1 (lower_stops g.N.Exact.limit m (value c.args.base) (map value c.args.vector.now) value c.args.params.now c.loop-k.k c.loop-k.index
+    rw p.1 (lower_stops g.N.Exact.limit m (value c.args.base) (map value c.args.vector.now) value c.args.params.now
+    c.loop-k.k c.loop-k.index
     c.index-params-k.result c.loop-k-test.true c.index-params-k.is (c.in_err-keeps_lower.ensures.exact m)
     ∙ c.loop-k.invariant.rest m)
 
 pub returns-then-not-branch-clause-exact : goal.returns-then-not-branch-clause-exact
 returns-then-not-branch-clause-exact g c m =
     let value = g.N.Exact.value in
-    lower_fails g.N.Exact.limit m (value c.args.base) (map value c.args.vector.now) value c.args.params.now c.loop-k.k c.loop-k.index
-    c.index-params-k.result c.loop-k-test.true c.index-params-k.is (ap Some (sym c.if-not-branch.true) ∙ c.in_ok-keeps_lower.ensures.exact m)
+    lower_fails g.N.Exact.limit m (value c.args.base) (map value c.args.vector.now) value c.args.params.now
+    c.loop-k.k c.loop-k.index
+    c.index-params-k.result c.loop-k-test.true c.index-params-k.is
+    (ap Some (sym c.if-not-branch.true) ∙ c.in_ok-keeps_lower.ensures.exact m)
     ∙ c.loop-k.invariant.rest m
 
 pub returns-in_err-keeps_upper-clause-exact : goal.returns-in_err-keeps_upper-clause-exact
 returns-in_err-keeps_upper-clause-exact g c m =
     let value = g.N.Exact.value in
-    let p = err_from_is_err_and c.from_residual-in_err-keeps_upper.result c.from_residual-in_err-keeps_upper.ensures.1 in
-    rw p.1 (upper_stops g.N.Exact.limit m (value c.args.base) (map value c.args.vector.now) value c.args.params.now c.loop-k.k c.loop-k.index
-    c.index-params-k.result c.loop-k-test.true c.index-params-k.is (ap Some (sym c.if-not-branch.false) ∙ c.in_ok-keeps_lower.ensures.exact m)
+    let p = err_from_is_err_and c.from_residual-in_err-keeps_upper.result
+    c.from_residual-in_err-keeps_upper.ensures.1 in
+    rw p.1 (upper_stops g.N.Exact.limit m (value c.args.base) (map value c.args.vector.now) value c.args.params.now
+    c.loop-k.k c.loop-k.index
+    c.index-params-k.result c.loop-k-test.true c.index-params-k.is
+    (ap Some (sym c.if-not-branch.false) ∙ c.in_ok-keeps_lower.ensures.exact m)
     (c.in_err-keeps_upper.ensures.exact m)
     ∙ c.loop-k.invariant.rest m)
 
@@ -32,8 +38,10 @@ pub returns-then-not-branch-2-clause-exact : goal.returns-then-not-branch-2-clau
 returns-then-not-branch-2-clause-exact g c m =
     let value = g.N.Exact.value in
     ap (λ n. Some (Some (c.loop-k.index + n))) c.declared.ensures.count
-    ∙ upper_fails g.N.Exact.limit m (value c.args.base) (map value c.args.vector.now) value c.args.params.now c.loop-k.k c.loop-k.index
-    c.index-params-k.result c.loop-k-test.true c.index-params-k.is (ap Some (sym c.if-not-branch.false) ∙ c.in_ok-keeps_lower.ensures.exact m)
+    ∙ upper_fails g.N.Exact.limit m (value c.args.base) (map value c.args.vector.now) value c.args.params.now
+    c.loop-k.k c.loop-k.index
+    c.index-params-k.result c.loop-k-test.true c.index-params-k.is
+    (ap Some (sym c.if-not-branch.false) ∙ c.in_ok-keeps_lower.ensures.exact m)
     (ap Some (sym c.if-not-branch-2.true) ∙ c.in_ok-keeps_upper.ensures.exact m)
     ∙ c.loop-k.invariant.rest m
 
@@ -42,13 +50,29 @@ loop-k-preserved g c =
     let value = g.N.Exact.value in
     let d = c.index-params-k.result in
     record {
-      rest = λ m. ap₂ (λ a b. bounds_left g.N.Exact.limit m (value c.args.base) (map value c.args.vector.now) value c.args.params.now (c.loop-k.k + 1) (c.loop-k.index + a + b))
+      rest = λ m.
+          ap₂ (λ a b. bounds_left g.N.Exact.limit m (value c.args.base) (map value c.args.vector.now) value
+          c.args.params.now (c.loop-k.k + 1) (c.loop-k.index + a + b))
           c.declared.ensures.count c.declared-in-loop-k.ensures.count
-          ∙ bounds_hold g.N.Exact.limit m (value c.args.base) (map value c.args.vector.now) value c.args.params.now c.loop-k.k c.loop-k.index
-          d c.loop-k-test.true c.index-params-k.is (ap Some (sym c.if-not-branch.false) ∙ c.in_ok-keeps_lower.ensures.exact m)
+          ∙ bounds_hold g.N.Exact.limit m (value c.args.base) (map value c.args.vector.now) value c.args.params.now
+          c.loop-k.k c.loop-k.index
+          d c.loop-k-test.true c.index-params-k.is
+          (ap Some (sym c.if-not-branch.false) ∙ c.in_ok-keeps_lower.ensures.exact m)
           (ap Some (sym c.if-not-branch-2.false) ∙ c.in_ok-keeps_upper.ensures.exact m)
           ∙ c.loop-k.invariant.rest m;
-      small = omega (arith, c.loop-k.invariant.small, c.declared.ensures.count, c.declared-in-loop-k.ensures.count, few_declared d.lower, few_declared d.upper);
+      small = omega (
+        arith,
+        c.loop-k.invariant.small,
+        c.declared.ensures.count,
+        c.declared-in-loop-k.ensures.count,
+        few_declared d.lower,
+        few_declared d.upper,
+      );
       ops = omega (arith, c.loop-k.invariant.ops, c.in_ok-keeps_lower.ensures.ops, c.in_ok-keeps_upper.ensures.ops);
-      wides = omega (arith, c.loop-k.invariant.wides, c.in_ok-keeps_lower.ensures.told.never_fell, c.in_ok-keeps_upper.ensures.told.never_fell);
+      wides = omega (
+        arith,
+        c.loop-k.invariant.wides,
+        c.in_ok-keeps_lower.ensures.told.never_fell,
+        c.in_ok-keeps_upper.ensures.told.never_fell,
+      );
     }

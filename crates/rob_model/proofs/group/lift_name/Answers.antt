@@ -8,8 +8,15 @@ returns g c =
     let value = g.N.Exact.value in
     let ps = map (parameter_of value) c.args.params.now in
     let inside : c.args.index < length c.items.result.now =
-    omega (arith, c.requires.inside, length-lift_names value ps c.args.number c.args.line.now c.in-Budget.limit c.in-Budget.members c.items.result.now c.in-Budget.is c.items.ensures.list) in
+    omega (
+      arith,
+      c.requires.inside,
+      length-lift_names value ps c.args.number c.args.line.now c.in-Budget.limit c.in-Budget.members
+          c.items.result.now c.in-Budget.is c.items.ensures.list,
+    ) in
     record {
-      name = lift_of_budget value ps c.args.number c.args.line.now c.in-Budget.limit c.in-Budget.members c.items.result.now c.in-Budget.is c.items.ensures.list
-          c.args.index c.index-items-index.result c.parameter_name.result.now inside c.index-items-index.is c.parameter_name.ensures.name;
+      name = lift_of_budget value ps c.args.number c.args.line.now c.in-Budget.limit c.in-Budget.members
+          c.items.result.now c.in-Budget.is c.items.ensures.list
+          c.args.index c.index-items-index.result c.parameter_name.result.now inside c.index-items-index.is
+          c.parameter_name.ensures.name;
     }

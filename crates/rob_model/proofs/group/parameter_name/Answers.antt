@@ -12,4 +12,5 @@ returns-then-k-params g c =
     }
 
 pub returns-else-k-params : goal.returns-else-k-params
-returns-else-k-params g c = record { name = sym (parameter_past g.N.Exact.value c.args.params.now c.args.k c.if-k-params.false) }
+returns-else-k-params g c =
+    record { name = sym (parameter_past g.N.Exact.value c.args.params.now c.args.k c.if-k-params.false) }

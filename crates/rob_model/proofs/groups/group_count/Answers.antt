@@ -14,8 +14,10 @@ returns-in-SetRow g c =
       count = omega (
         arith,
         length-append (parameter_bound_groups m) (groups_by_number (statement_row_names m.parameters) 1 m.set_lines),
-        mapped_length (parameter_of value) (λ (d : Parameter). bound_names d.name d.lower d.upper) c.args.model.now.params c.items-params.result.now c.items-params.ensures.list,
-        statement_length value (statement_row_names m.parameters) c.args.model.now.set_lines c.items-lines.result.now c.items-lines.ensures.list,
+        mapped_length (parameter_of value) (λ (d : Parameter). bound_names d.name d.lower d.upper)
+            c.args.model.now.params c.items-params.result.now c.items-params.ensures.list,
+        statement_length value (statement_row_names m.parameters) c.args.model.now.set_lines c.items-lines.result.now
+            c.items-lines.ensures.list,
       );
     }
 
@@ -29,9 +31,13 @@ returns-in-SetPlace g c =
         length-append (parameter_bound_groups m) (condition_groups m ++ (parameter_groups m ++ lift_groups m)),
         length-append (condition_groups m) (parameter_groups m ++ lift_groups m),
         length-append (parameter_groups m) (lift_groups m),
-        mapped_length (parameter_of value) (λ (d : Parameter). bound_names d.name d.lower d.upper) c.args.model.now.params c.items-params.result.now c.items-params.ensures.list,
-        mapped_length (parameter_of value) (λ (d : Parameter). d.name ∷ []) c.args.model.now.params c.items-params.result.now c.items-params.ensures.list,
-        statement_length value condition_names c.args.model.now.set_lines c.items-lines.result.now c.items-lines.ensures.list,
-        statement_length value (lift_names m.parameters) c.args.model.now.set_lines c.items-lines.result.now c.items-lines.ensures.list,
+        mapped_length (parameter_of value) (λ (d : Parameter). bound_names d.name d.lower d.upper)
+            c.args.model.now.params c.items-params.result.now c.items-params.ensures.list,
+        mapped_length (parameter_of value) (λ (d : Parameter). d.name ∷ []) c.args.model.now.params
+            c.items-params.result.now c.items-params.ensures.list,
+        statement_length value condition_names c.args.model.now.set_lines c.items-lines.result.now
+            c.items-lines.ensures.list,
+        statement_length value (lift_names m.parameters) c.args.model.now.set_lines c.items-lines.result.now
+            c.items-lines.ensures.list,
       );
     }

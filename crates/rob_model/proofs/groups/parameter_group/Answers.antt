@@ -10,9 +10,13 @@ use Rattle.rob_model.proofs.groups.parameter_group.Goals as goal
 pub returns : goal.returns
 returns g c =
     let value = g.N.Exact.value in
-    let count = mapped_length (parameter_of value) (λ (d : Parameter). d.name ∷ []) c.args.model.now.params c.items.result.now c.items.ensures.list in
+    let count =
+    mapped_length (parameter_of value) (λ (d : Parameter). d.name ∷ []) c.args.model.now.params
+    c.items.result.now c.items.ensures.list in
     record {
-      group = mapped (parameter_of value) (λ (d : Parameter). d.name ∷ []) c.args.model.now.params c.items.result.now c.items.ensures.list c.args.i (omega (arith, c.requires.inside, count))
+      group = mapped (parameter_of value) (λ (d : Parameter). d.name ∷ []) c.args.model.now.params c.items.result.now
+          c.items.ensures.list c.args.i (omega (arith, c.requires.inside, count))
           c.index-items-i.result c.index-items-i.is
-          ∙ ap (λ (name : Name). Some (name ∷ [])) (ap (λ (x : Param g.row.N.Denot). x.name) c.index-items-i.is ∙ sym c.bytes.ensures.list);
+          ∙ ap (λ (name : Name). Some (name ∷ []))
+          (ap (λ (x : Param g.row.N.Denot). x.name) c.index-items-i.is ∙ sym c.bytes.ensures.list);
     }

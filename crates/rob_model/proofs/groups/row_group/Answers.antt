@@ -13,7 +13,8 @@ returns-then-i-rows g c =
     let m = robust value c.args.model.now in
     let r = c.index-rows-i.result in
     record {
-      group = mapped_first (row_of value) (λ (r : Row). side_names r.relation r.name) c.args.model.now.rows c.items-rows.result.now c.items-rows.ensures.list
+      group = mapped_first (row_of value) (λ (r : Row). side_names r.relation r.name) c.args.model.now.rows
+          c.items-rows.result.now c.items-rows.ensures.list
           c.args.i c.if-i-rows.true r c.index-rows-i.is (variable_bound_groups m ++ adaptive_bound_groups m)
           ∙ ap (λ name. Some (side_names (relation_of r.rel) name)) (sym c.bytes.ensures.list);
     }
@@ -23,6 +24,8 @@ returns-else-i-rows g c =
     let value = g.N.Exact.value in
     let m = robust value c.args.model.now in
     record {
-      group = second_list (row_groups m) (variable_bound_groups m ++ adaptive_bound_groups m) (length c.items-rows.result.now) c.args.i _
-          (mapped_length (row_of value) (λ (r : Row). side_names r.relation r.name) c.args.model.now.rows c.items-rows.result.now c.items-rows.ensures.list) c.if-i-rows.false c.bound_group.ensures.group;
+      group = second_list (row_groups m) (variable_bound_groups m ++ adaptive_bound_groups m)
+          (length c.items-rows.result.now) c.args.i _
+          (mapped_length (row_of value) (λ (r : Row). side_names r.relation r.name) c.args.model.now.rows
+          c.items-rows.result.now c.items-rows.ensures.list) c.if-i-rows.false c.bound_group.ensures.group;
     }

@@ -13,9 +13,12 @@ returns-then-i-params g c =
     let m = robust value c.args.model.now in
     let x = c.index-params-i.result in
     record {
-      group = mapped_first (parameter_of value) (λ (d : Parameter). bound_names d.name d.lower d.upper) c.args.model.now.params c.items-params.result.now c.items-params.ensures.list
-          c.args.i c.if-i-params.true x c.index-params-i.is (condition_groups m ++ (parameter_groups m ++ lift_groups m))
-          ∙ ap (λ name. Some (bound_names name (option_map value x.lower) (option_map value x.upper))) (sym c.bytes.ensures.list);
+      group = mapped_first (parameter_of value) (λ (d : Parameter). bound_names d.name d.lower d.upper)
+          c.args.model.now.params c.items-params.result.now c.items-params.ensures.list
+          c.args.i c.if-i-params.true x c.index-params-i.is
+          (condition_groups m ++ (parameter_groups m ++ lift_groups m))
+          ∙ ap (λ name. Some (bound_names name (option_map value x.lower) (option_map value x.upper)))
+          (sym c.bytes.ensures.list);
     }
 
 pub returns-else-i-params : goal.returns-else-i-params
@@ -23,6 +26,9 @@ returns-else-i-params g c =
     let value = g.N.Exact.value in
     let m = robust value c.args.model.now in
     record {
-      group = second_list (parameter_bound_groups m) (condition_groups m ++ (parameter_groups m ++ lift_groups m)) (length c.items-params.result.now) c.args.i _
-          (mapped_length (parameter_of value) (λ (d : Parameter). bound_names d.name d.lower d.upper) c.args.model.now.params c.items-params.result.now c.items-params.ensures.list) c.if-i-params.false c.condition_group.ensures.group;
+      group = second_list (parameter_bound_groups m) (condition_groups m ++ (parameter_groups m ++ lift_groups m))
+          (length c.items-params.result.now) c.args.i _
+          (mapped_length (parameter_of value) (λ (d : Parameter). bound_names d.name d.lower d.upper)
+          c.args.model.now.params c.items-params.result.now c.items-params.ensures.list) c.if-i-params.false
+          c.condition_group.ensures.group;
     }

@@ -13,36 +13,63 @@ pub offset_bounds-items-line : goal.offset_bounds-items-line
 offset_bounds-items-line g c =
     let value = g.N.Exact.value in
     let m = robust value c.args.model.now in
-    let inside = inside_second (parameter_bound_groups m) (groups_by_number (statement_row_names m.parameters) 1 m.set_lines) c.args.i (length c.items-params.result.now) (length c.items.result.now) c.requires.inside
-    (mapped_length (parameter_of value) (λ (d : Parameter). bound_names d.name d.lower d.upper) c.args.model.now.params c.items-params.result.now c.items-params.ensures.list) c.if-i-params.false
-    (statement_length value (statement_row_names m.parameters) c.args.model.now.set_lines c.items.result.now c.items.ensures.list) in
+    let inside =
+    inside_second (parameter_bound_groups m) (groups_by_number (statement_row_names m.parameters) 1 m.set_lines)
+    c.args.i (length c.items-params.result.now) (length c.items.result.now) c.requires.inside
+    (mapped_length (parameter_of value) (λ (d : Parameter). bound_names d.name d.lower d.upper) c.args.model.now.params
+    c.items-params.result.now c.items-params.ensures.list) c.if-i-params.false
+    (statement_length value (statement_row_names m.parameters) c.args.model.now.set_lines c.items.result.now
+    c.items.ensures.list) in
     omega (arith, inside)
 
 pub bounds-items-line : goal.bounds-items-line
 bounds-items-line g c =
     let value = g.N.Exact.value in
     let m = robust value c.args.model.now in
-    inside_second (parameter_bound_groups m) (groups_by_number (statement_row_names m.parameters) 1 m.set_lines) c.args.i (length c.items-params.result.now) (length c.items.result.now) c.requires.inside
-    (mapped_length (parameter_of value) (λ (d : Parameter). bound_names d.name d.lower d.upper) c.args.model.now.params c.items-params.result.now c.items-params.ensures.list) c.if-i-params.false
-    (statement_length value (statement_row_names m.parameters) c.args.model.now.set_lines c.items.result.now c.items.ensures.list)
+    inside_second (parameter_bound_groups m) (groups_by_number (statement_row_names m.parameters) 1 m.set_lines)
+    c.args.i (length c.items-params.result.now) (length c.items.result.now) c.requires.inside
+    (mapped_length (parameter_of value) (λ (d : Parameter). bound_names d.name d.lower d.upper) c.args.model.now.params
+    c.items-params.result.now c.items-params.ensures.list) c.if-i-params.false
+    (statement_length value (statement_row_names m.parameters) c.args.model.now.set_lines
+    c.items.result.now c.items.ensures.list)
 
 pub overflow_cast-result : goal.overflow_cast-result
 overflow_cast-result g c =
     let value = g.N.Exact.value in
     let m = robust value c.args.model.now in
-    let inside = inside_second (parameter_bound_groups m) (groups_by_number (statement_row_names m.parameters) 1 m.set_lines) c.args.i (length c.items-params.result.now) (length c.items.result.now) c.requires.inside
-    (mapped_length (parameter_of value) (λ (d : Parameter). bound_names d.name d.lower d.upper) c.args.model.now.params c.items-params.result.now c.items-params.ensures.list) c.if-i-params.false
-    (statement_length value (statement_row_names m.parameters) c.args.model.now.set_lines c.items.result.now c.items.ensures.list) in
-    omega (arith, inside, c.requires.valid.limits.set_lines, ap length c.items.ensures.list, length-map c.args.model.now.set_lines (set_line_of value))
+    let inside =
+    inside_second (parameter_bound_groups m) (groups_by_number (statement_row_names m.parameters) 1 m.set_lines)
+    c.args.i (length c.items-params.result.now) (length c.items.result.now) c.requires.inside
+    (mapped_length (parameter_of value) (λ (d : Parameter). bound_names d.name d.lower d.upper) c.args.model.now.params
+    c.items-params.result.now c.items-params.ensures.list) c.if-i-params.false
+    (statement_length value (statement_row_names m.parameters) c.args.model.now.set_lines c.items.result.now
+    c.items.ensures.list) in
+    omega (
+      arith,
+      inside,
+      c.requires.valid.limits.set_lines,
+      ap length c.items.ensures.list,
+      length-map c.args.model.now.set_lines (set_line_of value),
+    )
 
 pub overflow_add-result : goal.overflow_add-result
 overflow_add-result g c =
     let value = g.N.Exact.value in
     let m = robust value c.args.model.now in
-    let inside = inside_second (parameter_bound_groups m) (groups_by_number (statement_row_names m.parameters) 1 m.set_lines) c.args.i (length c.items-params.result.now) (length c.items.result.now) c.requires.inside
-    (mapped_length (parameter_of value) (λ (d : Parameter). bound_names d.name d.lower d.upper) c.args.model.now.params c.items-params.result.now c.items-params.ensures.list) c.if-i-params.false
-    (statement_length value (statement_row_names m.parameters) c.args.model.now.set_lines c.items.result.now c.items.ensures.list) in
-    omega (arith, inside, c.requires.valid.limits.set_lines, ap length c.items.ensures.list, length-map c.args.model.now.set_lines (set_line_of value))
+    let inside =
+    inside_second (parameter_bound_groups m) (groups_by_number (statement_row_names m.parameters) 1 m.set_lines)
+    c.args.i (length c.items-params.result.now) (length c.items.result.now) c.requires.inside
+    (mapped_length (parameter_of value) (λ (d : Parameter). bound_names d.name d.lower d.upper) c.args.model.now.params
+    c.items-params.result.now c.items-params.ensures.list) c.if-i-params.false
+    (statement_length value (statement_row_names m.parameters) c.args.model.now.set_lines c.items.result.now
+    c.items.ensures.list) in
+    omega (
+      arith,
+      inside,
+      c.requires.valid.limits.set_lines,
+      ap length c.items.ensures.list,
+      length-map c.args.model.now.set_lines (set_line_of value),
+    )
 
 pub returns-then-i-params : goal.returns-then-i-params
 returns-then-i-params g c =
@@ -50,9 +77,12 @@ returns-then-i-params g c =
     let m = robust value c.args.model.now in
     let x = c.index-params-i.result in
     record {
-      group = mapped_first (parameter_of value) (λ (d : Parameter). bound_names d.name d.lower d.upper) c.args.model.now.params c.items-params.result.now c.items-params.ensures.list
-          c.args.i c.if-i-params.true x c.index-params-i.is (groups_by_number (statement_row_names m.parameters) 1 m.set_lines)
-          ∙ ap (λ name. Some (bound_names name (option_map value x.lower) (option_map value x.upper))) (sym c.bytes.ensures.list);
+      group = mapped_first (parameter_of value) (λ (d : Parameter). bound_names d.name d.lower d.upper)
+          c.args.model.now.params c.items-params.result.now c.items-params.ensures.list
+          c.args.i c.if-i-params.true x c.index-params-i.is
+          (groups_by_number (statement_row_names m.parameters) 1 m.set_lines)
+          ∙ ap (λ name. Some (bound_names name (option_map value x.lower) (option_map value x.upper)))
+          (sym c.bytes.ensures.list);
     }
 
 pub returns-else-i-params : goal.returns-else-i-params
@@ -61,11 +91,22 @@ returns-else-i-params g c =
     let m = robust value c.args.model.now in
     let l = c.index-items-line.result in
     let number = c.args.i - length c.items-params.result.now + 1 in
-    let count = mapped_length (parameter_of value) (λ (d : Parameter). bound_names d.name d.lower d.upper) c.args.model.now.params c.items-params.result.now c.items-params.ensures.list in
-    let inside = inside_second (parameter_bound_groups m) (groups_by_number (statement_row_names m.parameters) 1 m.set_lines) c.args.i (length c.items-params.result.now) (length c.items.result.now) c.requires.inside count c.if-i-params.false
-    (statement_length value (statement_row_names m.parameters) c.args.model.now.set_lines c.items.result.now c.items.ensures.list) in
+    let count =
+    mapped_length (parameter_of value) (λ (d : Parameter). bound_names d.name d.lower d.upper)
+    c.args.model.now.params c.items-params.result.now c.items-params.ensures.list in
+    let inside =
+    inside_second (parameter_bound_groups m) (groups_by_number (statement_row_names m.parameters) 1 m.set_lines)
+    c.args.i (length c.items-params.result.now) (length c.items.result.now) c.requires.inside
+    count c.if-i-params.false
+    (statement_length value (statement_row_names m.parameters) c.args.model.now.set_lines c.items.result.now
+    c.items.ensures.list) in
     record {
-      group = second_list (parameter_bound_groups m) (groups_by_number (statement_row_names m.parameters) 1 m.set_lines) (length c.items-params.result.now) c.args.i _ count c.if-i-params.false
-          (statement value (statement_row_names m.parameters) c.args.model.now.set_lines c.items.result.now c.items.ensures.list (c.args.i - length c.items-params.result.now) number inside refl l c.index-items-line.is
-          ∙ ap (λ (ps : List (Param g.row.N.Denot)). Some (statement_row_names (map (parameter_of value) ps) number (set_line_of value l))) (sym c.items-params.ensures.list));
+      group = second_list (parameter_bound_groups m) (groups_by_number (statement_row_names m.parameters) 1 m.set_lines)
+          (length c.items-params.result.now) c.args.i _ count c.if-i-params.false
+          (statement value (statement_row_names m.parameters) c.args.model.now.set_lines c.items.result.now
+          c.items.ensures.list (c.args.i - length c.items-params.result.now) number inside
+          refl l c.index-items-line.is
+          ∙ ap (λ (ps : List (Param g.row.N.Denot)).
+          Some (statement_row_names (map (parameter_of value) ps) number (set_line_of value l)))
+          (sym c.items-params.ensures.list));
     }

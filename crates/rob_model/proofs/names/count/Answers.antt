@@ -13,7 +13,10 @@ loop-i-init g c =
 pub count-total-requires : goal.count-total-requires
 count-total-requires g c =
     let value = g.N.Exact.value in
-    record { few = group_few (robust value c.args.model.now) c.requires.valid.limits c.args.kind c.loop-i.i (names_in value c.group_at.result) c.group_at.ensures.group }
+    record {
+      few = group_few (robust value c.args.model.now) c.requires.valid.limits c.args.kind c.loop-i.i
+          (names_in value c.group_at.result) c.group_at.ensures.group;
+    }
 
 pub overflow_add-total : goal.overflow_add-total
 overflow_add-total g c =
@@ -23,7 +26,8 @@ overflow_add-total g c =
       arith,
       c.count-total.ensures.count,
       kind_few m c.requires.valid.limits c.args.kind,
-      count_of_more c.args.kind m c.loop-i.i c.loop-i.total (names_in value c.group_at.result) c.group_at.ensures.group c.loop-i.invariant.rest,
+      count_of_more c.args.kind m c.loop-i.i c.loop-i.total (names_in value c.group_at.result) c.group_at.ensures.group
+          c.loop-i.invariant.rest,
     )
 
 pub loop-i-preserved : goal.loop-i-preserved
@@ -34,7 +38,8 @@ loop-i-preserved g c =
       rest = omega (
         arith,
         c.count-total.ensures.count,
-        count_of_more c.args.kind m c.loop-i.i c.loop-i.total (names_in value c.group_at.result) c.group_at.ensures.group c.loop-i.invariant.rest,
+        count_of_more c.args.kind m c.loop-i.i c.loop-i.total (names_in value c.group_at.result)
+            c.group_at.ensures.group c.loop-i.invariant.rest,
       );
       end = c.loop-i.invariant.end;
     }

@@ -17,12 +17,18 @@ loop-i-init g c =
 pub find-requires : goal.find-requires
 find-requires g c =
     let value = g.N.Exact.value in
-    record { few = group_few (robust value c.args.model.now) c.requires.valid.limits c.args.kind c.loop-i.i (names_in value c.group_at-group.result) c.group_at-group.ensures.group }
+    record {
+      few = group_few (robust value c.args.model.now) c.requires.valid.limits c.args.kind c.loop-i.i
+          (names_in value c.group_at-group.result) c.group_at-group.ensures.group;
+    }
 
 pub count-first-requires : goal.count-first-requires
 count-first-requires g c =
     let value = g.N.Exact.value in
-    record { few = group_few (robust value c.args.model.now) c.requires.valid.limits c.args.kind c.loop-i.i (names_in value c.group_at-group.result) c.group_at-group.ensures.group }
+    record {
+      few = group_few (robust value c.args.model.now) c.requires.valid.limits c.args.kind c.loop-i.i
+          (names_in value c.group_at-group.result) c.group_at-group.ensures.group;
+    }
 
 pub overflow_add-result : goal.overflow_add-result
 overflow_add-result g c =
@@ -33,7 +39,8 @@ overflow_add-result g c =
       arith,
       found_within names c.args.name.now c.in-Some.k c.in-Some.ensures.found,
       kind_few m c.requires.valid.limits c.args.kind,
-      count_of_more c.args.kind m c.loop-i.i c.loop-i.first names c.group_at-group.ensures.group c.loop-i.invariant.rest,
+      count_of_more c.args.kind m c.loop-i.i c.loop-i.first names c.group_at-group.ensures.group
+          c.loop-i.invariant.rest,
     )
 
 pub returns-in-Some : goal.returns-in-Some
@@ -42,8 +49,10 @@ returns-in-Some g c =
     let m = robust value c.args.model.now in
     let group = names_in value c.group_at-group.result in
     record {
-      found = later_found c.loop-i.first group (names_left c.args.kind m (c.loop-i.i + 1)) (names_left c.args.kind m c.loop-i.i) (names c.args.kind m) c.args.name.now c.in-Some.k
-          (left_more c.args.kind m c.loop-i.i group c.group_at-group.ensures.group) c.loop-i.invariant.later c.in-Some.ensures.found;
+      found = later_found c.loop-i.first group (names_left c.args.kind m (c.loop-i.i + 1))
+          (names_left c.args.kind m c.loop-i.i) (names c.args.kind m) c.args.name.now c.in-Some.k
+          (left_more c.args.kind m c.loop-i.i group c.group_at-group.ensures.group) c.loop-i.invariant.later
+          c.in-Some.ensures.found;
     }
 
 pub overflow_add-first : goal.overflow_add-first
@@ -54,7 +63,8 @@ overflow_add-first g c =
       arith,
       c.count-first.ensures.count,
       kind_few m c.requires.valid.limits c.args.kind,
-      count_of_more c.args.kind m c.loop-i.i c.loop-i.first (names_in value c.group_at-group.result) c.group_at-group.ensures.group c.loop-i.invariant.rest,
+      count_of_more c.args.kind m c.loop-i.i c.loop-i.first (names_in value c.group_at-group.result)
+          c.group_at-group.ensures.group c.loop-i.invariant.rest,
     )
 
 pub loop-i-preserved : goal.loop-i-preserved
@@ -64,10 +74,18 @@ loop-i-preserved g c =
     let group = names_in value c.group_at-group.result in
     let count : length group ≡ c.count-first.result = sym c.count-first.ensures.count in
     record {
-      later = subst (λ n. LaterOf (c.loop-i.first + n) (names_left c.args.kind m (c.loop-i.i + 1)) (names c.args.kind m) c.args.name.now) count
-          (later_missing c.loop-i.first group (names_left c.args.kind m (c.loop-i.i + 1)) (names_left c.args.kind m c.loop-i.i) (names c.args.kind m) c.args.name.now
-          (left_more c.args.kind m c.loop-i.i group c.group_at-group.ensures.group) c.loop-i.invariant.later c.in-None.ensures.found);
-      rest = omega (arith, count, count_of_more c.args.kind m c.loop-i.i c.loop-i.first group c.group_at-group.ensures.group c.loop-i.invariant.rest);
+      later = subst (λ n. LaterOf (c.loop-i.first + n) (names_left c.args.kind m (c.loop-i.i + 1))
+          (names c.args.kind m) c.args.name.now) count
+          (later_missing c.loop-i.first group (names_left c.args.kind m (c.loop-i.i + 1))
+          (names_left c.args.kind m c.loop-i.i) (names c.args.kind m) c.args.name.now
+          (left_more c.args.kind m c.loop-i.i group c.group_at-group.ensures.group) c.loop-i.invariant.later
+          c.in-None.ensures.found);
+      rest = omega (
+        arith,
+        count,
+        count_of_more c.args.kind m c.loop-i.i c.loop-i.first group c.group_at-group.ensures.group
+            c.loop-i.invariant.rest,
+      );
       end = c.loop-i.invariant.end;
     }
 
@@ -77,5 +95,6 @@ returns g c =
     let m = robust value c.args.model.now in
     record {
       found = later_none c.loop-i.first (names_left c.args.kind m c.loop-i.i) (names c.args.kind m) c.args.name.now
-          (left_none c.args.kind m c.loop-i.i (omega (arith, c.loop-i.invariant.end, c.loop-i-test.false))) c.loop-i.invariant.later;
+          (left_none c.args.kind m c.loop-i.i (omega (arith, c.loop-i.invariant.end, c.loop-i-test.false)))
+          c.loop-i.invariant.later;
     }

@@ -20,20 +20,28 @@ loop-i-init g c =
 pub count-count-requires : goal.count-count-requires
 count-count-requires g c =
     let value = g.N.Exact.value in
-    record { few = group_few (robust value c.args.model.now) c.requires.valid.limits c.args.kind c.loop-i.i (names_in value c.group_at-group.result) c.group_at-group.ensures.group }
+    record {
+      few = group_few (robust value c.args.model.now) c.requires.valid.limits c.args.kind c.loop-i.i
+          (names_in value c.group_at-group.result) c.group_at-group.ensures.group;
+    }
 
 pub name-requires-clause-few : goal.name-requires-clause-few
 name-requires-clause-few g c =
     let value = g.N.Exact.value in
-    group_few (robust value c.args.model.now) c.requires.valid.limits c.args.kind c.loop-i.i (names_in value c.group_at-group.result) c.group_at-group.ensures.group
+    group_few (robust value c.args.model.now) c.requires.valid.limits c.args.kind c.loop-i.i
+    (names_in value c.group_at-group.result) c.group_at-group.ensures.group
 
 pub returns-then-left-count-clause-appended : goal.returns-then-left-count-clause-appended
 returns-then-left-count-clause-appended g c =
     let value = g.N.Exact.value in
     let m = robust value c.args.model.now in
     let group = names_in value c.group_at-group.result in
-    rw (← c.loop-i.invariant.unchanged) (told c.put.result group (names_left c.args.kind m (c.loop-i.i + 1)) (names_left c.args.kind m c.loop-i.i) (names c.args.kind m) c.loop-i.left c.args.index
-    (name_of c.name.result) c.loop-i.out c.put.new.out (left_more c.args.kind m c.loop-i.i group c.group_at-group.ensures.group) c.name.ensures.name c.loop-i.invariant.here c.put.ensures.appended)
+    rw (← c.loop-i.invariant.unchanged)
+    (told c.put.result group (names_left c.args.kind m (c.loop-i.i + 1)) (names_left c.args.kind m c.loop-i.i)
+    (names c.args.kind m) c.loop-i.left c.args.index
+    (name_of c.name.result) c.loop-i.out c.put.new.out
+    (left_more c.args.kind m c.loop-i.i group c.group_at-group.ensures.group) c.name.ensures.name
+    c.loop-i.invariant.here c.put.ensures.appended)
 
 pub loop-i-preserved : goal.loop-i-preserved
 loop-i-preserved g c =
@@ -41,10 +49,13 @@ loop-i-preserved g c =
     let m = robust value c.args.model.now in
     let group = names_in value c.group_at-group.result in
     let count : length group ≡ c.count-count.result = sym c.count-count.ensures.count in
-    let h = behind_group group (names_left c.args.kind m (c.loop-i.i + 1)) (names_left c.args.kind m c.loop-i.i) c.loop-i.left
-    (left_more c.args.kind m c.loop-i.i group c.group_at-group.ensures.group) (omega (arith, count, c.if-left-count.false)) c.loop-i.invariant.inside in
+    let h = behind_group group (names_left c.args.kind m (c.loop-i.i + 1))
+    (names_left c.args.kind m c.loop-i.i) c.loop-i.left
+    (left_more c.args.kind m c.loop-i.i group c.group_at-group.ensures.group)
+    (omega (arith, count, c.if-left-count.false)) c.loop-i.invariant.inside in
     record {
-      here = ap (λ n. slice_get (names_left c.args.kind m (c.loop-i.i + 1)) (c.loop-i.left - n)) c.count-count.ensures.count ∙ sym h.0 ∙ c.loop-i.invariant.here;
+      here = ap (λ n. slice_get (names_left c.args.kind m (c.loop-i.i + 1)) (c.loop-i.left - n))
+          c.count-count.ensures.count ∙ sym h.0 ∙ c.loop-i.invariant.here;
       inside = omega (arith, h.1, count);
       end = c.loop-i.invariant.end;
       unchanged = c.loop-i.invariant.unchanged;

@@ -6,5 +6,6 @@ use Rattle.rob_model.proofs.policy.policy_at.Goals as goal
 pub returns-clause-value : goal.returns-clause-value
 returns-clause-value g c =
     let value = g.N.Exact.value in
-    answer_policy g.N.Exact.limit (robust value c.args.model.now) (plan_of value c.args.plan.now) (scenario_of value c.args.scenario.now) value c.args.adaptive
+    answer_policy g.N.Exact.limit (robust value c.args.model.now) (plan_of value c.args.plan.now)
+    (scenario_of value c.args.scenario.now) value c.args.adaptive
     c.rule_value.result (search rules)

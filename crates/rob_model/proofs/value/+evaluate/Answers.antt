@@ -9,16 +9,20 @@ pub sum-returns-in_err-part-clause-exact : goal.sum-returns-in_err-part-clause-e
 sum-returns-in_err-part-clause-exact g t c =
     let value = g.N.Exact.value in
     let p = err_from_is_err_and c.from_residual.result c.from_residual.ensures.1 in
-    rw p.1 (sum_stops value g.N.Exact.limit (robust value c.args.model.now) (map value c.args.columns.now) (map value c.args.values.now)
-    c.args.terms.now c.loop-term.term-index c.term-item.result (value c.loop-term.so_far) c.loop-term-test.true c.term-item.is c.in_err-part.ensures.exact
+    rw p.1 (sum_stops value g.N.Exact.limit (robust value c.args.model.now) (map value c.args.columns.now)
+    (map value c.args.values.now)
+    c.args.terms.now c.loop-term.term-index c.term-item.result (value c.loop-term.so_far) c.loop-term-test.true
+    c.term-item.is c.in_err-part.ensures.exact
     ∙ c.loop-term.invariant.rest)
 
 pub sum-returns-in_err-so_far-clause-exact : goal.sum-returns-in_err-so_far-clause-exact
 sum-returns-in_err-so_far-clause-exact g t c =
     let value = g.N.Exact.value in
     let p = err_from_is_err_and c.from_residual-in_err-so_far.result c.from_residual-in_err-so_far.ensures.1 in
-    rw p.1 (sum_goes value g.N.Exact.limit (robust value c.args.model.now) (map value c.args.columns.now) (map value c.args.values.now)
-    c.args.terms.now c.loop-term.term-index c.term-item.result (value c.loop-term.so_far) (value c.in_ok-part.part) None c.loop-term-test.true c.term-item.is
+    rw p.1 (sum_goes value g.N.Exact.limit (robust value c.args.model.now) (map value c.args.columns.now)
+    (map value c.args.values.now)
+    c.args.terms.now c.loop-term.term-index c.term-item.result (value c.loop-term.so_far) (value c.in_ok-part.part) None
+    c.loop-term-test.true c.term-item.is
     c.in_ok-part.ensures.exact c.in_err-so_far.ensures.exact
     ∙ c.loop-term.invariant.rest)
 
@@ -28,20 +32,29 @@ sum-loop-term-preserved g t c =
     let m = robust value c.args.model.now in
     record {
       rest = sum_goes value g.N.Exact.limit m (map value c.args.columns.now) (map value c.args.values.now)
-          c.args.terms.now c.loop-term.term-index c.term-item.result (value c.loop-term.so_far) (value c.in_ok-part.part) (Some (value c.in_ok-so_far.so_far))
+          c.args.terms.now c.loop-term.term-index c.term-item.result (value c.loop-term.so_far)
+          (value c.in_ok-part.part) (Some (value c.in_ok-so_far.so_far))
           c.loop-term-test.true c.term-item.is c.in_ok-part.ensures.exact c.in_ok-so_far.ensures.exact
           ∙ c.loop-term.invariant.rest;
-      inside = (terms_inside value m c.args.terms.now c.loop-term.term-index c.term-item.result c.loop-term-test.true c.term-item.is c.loop-term.invariant.inside).1;
+      inside = (terms_inside value m c.args.terms.now c.loop-term.term-index c.term-item.result c.loop-term-test.true
+          c.term-item.is c.loop-term.invariant.inside).1;
       ops = omega (arith, c.loop-term.invariant.ops, c.in_ok-part.ensures.ops, c.in_ok-so_far.ensures.ops);
-      wides = omega (arith, c.loop-term.invariant.wides, c.in_ok-part.ensures.told.never_fell, c.in_ok-so_far.ensures.told.never_fell);
+      wides = omega (
+        arith,
+        c.loop-term.invariant.wides,
+        c.in_ok-part.ensures.told.never_fell,
+        c.in_ok-so_far.ensures.told.never_fell,
+      );
     }
 
 pub product-returns-in_err-so_far-clause-exact : goal.product-returns-in_err-so_far-clause-exact
 product-returns-in_err-so_far-clause-exact g t c =
     let value = g.N.Exact.value in
     let p = err_from_is_err_and c.from_residual-in_err-so_far.result c.from_residual-in_err-so_far.ensures.1 in
-    rw p.1 (product_goes value g.N.Exact.limit (robust value c.args.model.now) (map value c.args.columns.now) (map value c.args.values.now)
-    c.args.factors.now c.loop-factor.factor-index c.factor-item.result (value c.loop-factor.so_far) (value c.in_ok-part.part) None c.loop-factor-test.true c.factor-item.is
+    rw p.1 (product_goes value g.N.Exact.limit (robust value c.args.model.now) (map value c.args.columns.now)
+    (map value c.args.values.now)
+    c.args.factors.now c.loop-factor.factor-index c.factor-item.result (value c.loop-factor.so_far)
+    (value c.in_ok-part.part) None c.loop-factor-test.true c.factor-item.is
     c.in_ok-part.ensures.exact c.in_err-so_far.ensures.exact
     ∙ c.loop-factor.invariant.rest)
 
@@ -51,10 +64,17 @@ product-loop-factor-preserved g t c =
     let m = robust value c.args.model.now in
     record {
       rest = product_goes value g.N.Exact.limit m (map value c.args.columns.now) (map value c.args.values.now)
-          c.args.factors.now c.loop-factor.factor-index c.factor-item.result (value c.loop-factor.so_far) (value c.in_ok-part.part) (Some (value c.in_ok-so_far.so_far))
+          c.args.factors.now c.loop-factor.factor-index c.factor-item.result (value c.loop-factor.so_far)
+          (value c.in_ok-part.part) (Some (value c.in_ok-so_far.so_far))
           c.loop-factor-test.true c.factor-item.is c.in_ok-part.ensures.exact c.in_ok-so_far.ensures.exact
           ∙ c.loop-factor.invariant.rest;
-      inside = (factors_inside value m c.args.factors.now c.loop-factor.factor-index c.factor-item.result c.loop-factor-test.true c.factor-item.is c.loop-factor.invariant.inside).1;
+      inside = (factors_inside value m c.args.factors.now c.loop-factor.factor-index c.factor-item.result
+          c.loop-factor-test.true c.factor-item.is c.loop-factor.invariant.inside).1;
       ops = omega (arith, c.loop-factor.invariant.ops, c.in_ok-part.ensures.ops, c.in_ok-so_far.ensures.counted.ops);
-      wides = omega (arith, c.loop-factor.invariant.wides, c.in_ok-part.ensures.told.never_fell, c.in_ok-so_far.ensures.counted.wides);
+      wides = omega (
+        arith,
+        c.loop-factor.invariant.wides,
+        c.in_ok-part.ensures.told.never_fell,
+        c.in_ok-so_far.ensures.counted.wides,
+      );
     }

@@ -15,7 +15,9 @@ returns-in-None g c =
     let k = c.loop-param.param-index in
     let item = c.param-item.result in
     record {
-      places = sym (left_stops place params k item (drop_at params k item c.loop-param-test.true c.param-item.is) c.loop-param.places
+      places = sym
+          (left_stops place params k item
+          (drop_at params k item c.loop-param-test.true c.param-item.is) c.loop-param.places
           (sym (c.in-None.ensures.place ∙ ap (place_from 0 header) c.bytes.ensures.list)))
           ∙ c.loop-param.invariant ∙ named_places g.N.Exact.value header params;
     }
@@ -26,6 +28,8 @@ returns g c =
     let place = named_place g.N.Exact.value header in
     let params = c.args.params.now in
     record {
-      places = sym (left_past place params c.loop-param.param-index c.loop-param.places (gathered [] (map place params)) (omega (arith, c.loop-param-test.false)) c.loop-param.invariant)
+      places = sym
+          (left_past place params c.loop-param.param-index c.loop-param.places (gathered [] (map place params))
+          (omega (arith, c.loop-param-test.false)) c.loop-param.invariant)
           ∙ named_places g.N.Exact.value header params;
     }

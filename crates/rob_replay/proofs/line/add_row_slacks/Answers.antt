@@ -20,7 +20,9 @@ returns-in-Err-clause-exact g c =
     let row = c.row-item.result in
     let so_far = map value c.loop-row.slacks in
     let same = slacks_in value g.N.Exact.limit m plan u rows in
-    stops_by (gathered so_far (slack row ∷ [])) (gathered (map value c.args.slacks.now) (map (row_slack g.N.Exact.limit m plan u) (map (row_of value) rows))) c.in-Err.stopped
+    stops_by (gathered so_far (slack row ∷ []))
+    (gathered (map value c.args.slacks.now) (map (row_slack g.N.Exact.limit m plan u) (map (row_of value) rows)))
+    c.in-Err.stopped
     (λ none. sym (ap (gathered (map value c.args.slacks.now)) same) ∙ sym c.loop-row.invariant.rest
     ∙ left_ends slack rows k row (drop_at rows k row c.loop-row-test.true c.row-item.is) so_far none)
     (c.in-Err.ensures.gathers (slack row) c.slack_in_row-slack.ensures.exact)
@@ -29,7 +31,8 @@ pub loop-row-preserved : goal.loop-row-preserved
 loop-row-preserved g c =
     let value = g.N.Exact.value in
     let m = robust value c.args.model.now in
-    let slack = slack_in value g.N.Exact.limit m (plan_of value c.args.plan.now) (scenario_of value c.args.scenario.now) in
+    let slack =
+    slack_in value g.N.Exact.limit m (plan_of value c.args.plan.now) (scenario_of value c.args.scenario.now) in
     let rows = c.args.rows.now in
     let k = c.loop-row.row-index in
     let row = c.row-item.result in
@@ -38,7 +41,8 @@ loop-row-preserved g c =
       rest = sym (left_next slack rows k row split (map value c.loop-row.slacks) (map value c.add.new.list)
           (c.in-Ok.ensures.gathers (slack row) c.slack_in_row-slack.ensures.exact))
           ∙ c.loop-row.invariant.rest;
-      inside = (each_at_map (HasInside m) (row_of value) rows k row c.loop-row-test.true c.row-item.is c.loop-row.invariant.inside).1;
+      inside = (each_at_map (HasInside m) (row_of value) rows k row c.loop-row-test.true c.row-item.is
+          c.loop-row.invariant.inside).1;
       ops = omega (arith, c.loop-row.invariant.ops, c.slack_in_row-slack.ensures.counted.ops);
       wides = omega (arith, c.loop-row.invariant.wides, c.slack_in_row-slack.ensures.told.never_fell);
     }
@@ -52,4 +56,6 @@ returns-clause-exact g c =
     let slack = slack_in value g.N.Exact.limit m plan u in
     let rows = c.args.rows.now in
     sym (ap (gathered (map value c.args.slacks.now)) (slacks_in value g.N.Exact.limit m plan u rows))
-    ∙ left_past slack rows c.loop-row.row-index (map value c.loop-row.slacks) (gathered (map value c.args.slacks.now) (map slack rows)) (omega (arith, c.loop-row-test.false)) c.loop-row.invariant.rest
+    ∙ left_past slack rows c.loop-row.row-index (map value c.loop-row.slacks)
+    (gathered (map value c.args.slacks.now) (map slack rows)) (omega (arith, c.loop-row-test.false))
+    c.loop-row.invariant.rest

@@ -12,7 +12,8 @@ pub slacks_at-requires-clause-lengths : goal.slacks_at-requires-clause-lengths
 slacks_at-requires-clause-lengths g c =
     let value = g.N.Exact.value in
     sym (length-map c.args.model.now.adaptives (adaptive_of value))
-    ∙ policies_count g.N.Exact.limit (robust value c.args.model.now) (plan_of value c.args.plan.now) (scenario_of value c.args.scenario.now) 0
+    ∙ policies_count g.N.Exact.limit (robust value c.args.model.now) (plan_of value c.args.plan.now)
+    (scenario_of value c.args.scenario.now) 0
     (map (adaptive_of value) c.args.model.now.adaptives) (map value c.in-Ok.adaptives) c.in-Ok.ensures.exact
     ∙ length-map c.in-Ok.adaptives value
     ∙ ap length (sym c.items.ensures.list)
@@ -25,6 +26,10 @@ returns-in-Err-slacks_at-clause-exact g c =
     let plan = plan_of value c.args.plan.now in
     let u = scenario_of value c.args.scenario.now in
     let xs = map value c.in-Ok.adaptives in
-    stops_by (all_of (slacks_within limit m plan u xs)) (inside_within limit m plan c.args.number u) c.in-Err-slacks_at.stopped
-    (inside_stops limit m plan u c.args.number xs (value c.in-Ok-value_at.objective) c.in-Ok.ensures.exact c.in-Ok-value_at.ensures.exact)
-    (subst (λ (ns : List g.row.N.Denot). StopsAt (all_of (slacks_within limit m plan u (map value ns))) c.in-Err-slacks_at.stopped) c.items.ensures.list c.in-Err-slacks_at.ensures.exact)
+    stops_by (all_of (slacks_within limit m plan u xs)) (inside_within limit m plan c.args.number u)
+    c.in-Err-slacks_at.stopped
+    (inside_stops limit m plan u c.args.number xs (value c.in-Ok-value_at.objective) c.in-Ok.ensures.exact
+    c.in-Ok-value_at.ensures.exact)
+    (subst (λ (ns : List g.row.N.Denot).
+    StopsAt (all_of (slacks_within limit m plan u (map value ns))) c.in-Err-slacks_at.stopped) c.items.ensures.list
+    c.in-Err-slacks_at.ensures.exact)

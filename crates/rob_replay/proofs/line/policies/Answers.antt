@@ -11,7 +11,11 @@ pub overflow_cast-k : goal.overflow_cast-k
 overflow_cast-k g c =
     let ys = c.args.model.now.adaptives in
     let inside : c.loop-k.k < length ys = omega (arith, c.loop-k-test.true, c.loop-k.invariant.count) in
-    omega (arith, few_policies g.N.Exact.value (length (robust g.N.Exact.value c.args.model.now).variables) ys c.requires.valid.limits.columns c.loop-k.k inside)
+    omega (
+      arith,
+      few_policies g.N.Exact.value (length (robust g.N.Exact.value c.args.model.now).variables) ys
+          c.requires.valid.limits.columns c.loop-k.k inside,
+    )
 
 pub returns-in-Err-clause-exact : goal.returns-in-Err-clause-exact
 returns-in-Err-clause-exact g c =
@@ -24,7 +28,8 @@ returns-in-Err-clause-exact g c =
     let k = c.loop-k.k in
     let so_far = map value c.loop-k.values in
     let inside : k < length ys = omega (arith, c.loop-k-test.true, c.loop-k.invariant.count) in
-    stops_by (gathered so_far (policy_within limit m plan u k ∷ [])) (all_of (policies_within limit m plan u 0 (map (adaptive_of value) ys))) c.in-Err.stopped
+    stops_by (gathered so_far (policy_within limit m plan u k ∷ []))
+    (all_of (policies_within limit m plan u 0 (map (adaptive_of value) ys))) c.in-Err.stopped
     (λ none. sym c.loop-k.invariant.rest ∙ policies_stop value limit m plan u ys k so_far inside none)
     (c.in-Err.ensures.gathers (policy_within limit m plan u k) c.policy_at-value.ensures.exact)
 

@@ -8,7 +8,8 @@ use Rattle.rob_replay.proofs.line.policies.Given as goal
 abbrev pub invariant-loop-k : goal.invariant-loop-k
 invariant-loop-k g l =
     let value = g.N.Exact.value in
-    let left = policies_within g.N.Exact.limit (robust value l.model) (plan_of value l.plan) (scenario_of value l.scenario) in
+    let left = policies_within g.N.Exact.limit (robust value l.model) (plan_of value l.plan)
+    (scenario_of value l.scenario) in
     record {
       rest : gathered (map value l.values) (left l.k (map (adaptive_of value) (drop l.k l.model.adaptives)))
           ≡ all_of (left 0 (map (adaptive_of value) l.model.adaptives));

@@ -9,14 +9,20 @@ use Rattle.rob_replay.proofs.record.read_numbers.Goals as goal
 
 pub returns-in-None-clause-numbers : goal.returns-in-None-clause-numbers
 returns-in-None-clause-numbers g c =
-    absurd (omega (arith, field_missing (fields_of c.args.row.now) c.loop-i.i c.in-None.ensures.value, c.loop-i-test.true, c.loop-i.invariant.len))
+    absurd (omega (
+      arith,
+      field_missing (fields_of c.args.row.now) c.loop-i.i c.in-None.ensures.value,
+      c.loop-i-test.true,
+      c.loop-i.invariant.len,
+    ))
 
 pub returns-in-None-read_number-clause-numbers : goal.returns-in-None-read_number-clause-numbers
 returns-in-None-read_number-clause-numbers g c =
     let fields = fields_of c.args.row.now in
     let f = c.in-Some.field.now in
     let split = field_there fields c.loop-i.i f c.in-Some.ensures.value in
-    sym (left_stops (number_in g.N.Exact.limit) fields c.loop-i.i f split (map g.N.Exact.value c.loop-i.numbers) (sym c.in-None-read_number.ensures.number))
+    sym (left_stops (number_in g.N.Exact.limit) fields c.loop-i.i f split (map g.N.Exact.value c.loop-i.numbers)
+    (sym c.in-None-read_number.ensures.number))
     ∙ c.loop-i.invariant.rest
 
 pub loop-i-preserved : goal.loop-i-preserved
@@ -28,8 +34,10 @@ loop-i-preserved g c =
     let x = c.in-Some-read_number.number in
     let left = map (number_in g.N.Exact.limit) (drop (c.loop-i.i + 1) fields) in
     record {
-      rest = ap (λ l. gathered l left) (ap (map value) c.in-Ok.ensures.appended ∙ map-append value c.loop-i.numbers (x ∷ []))
-          ∙ sym (left_more (number_in g.N.Exact.limit) fields c.loop-i.i f split (map value c.loop-i.numbers) (value x) (sym c.in-Some-read_number.ensures.number))
+      rest = ap (λ l. gathered l left) (ap (map value) c.in-Ok.ensures.appended
+          ∙ map-append value c.loop-i.numbers (x ∷ []))
+          ∙ sym (left_more (number_in g.N.Exact.limit) fields c.loop-i.i f split (map value c.loop-i.numbers) (value x)
+          (sym c.in-Some-read_number.ensures.number))
           ∙ c.loop-i.invariant.rest;
       len = c.loop-i.invariant.len;
       ops = omega (arith, c.loop-i.invariant.ops, c.read_number.ensures.counted.ops);

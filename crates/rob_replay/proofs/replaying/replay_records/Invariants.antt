@@ -12,7 +12,8 @@ invariant-loop-i g l =
     let value = g.N.Exact.value in
     let left = records_outcome g.N.Exact.limit (robust value l.model) (plan_of value l.plan) l.places in
     record {
-      rest : behind (map (line_of value) l.lines) (left (l.i + 2) (map fields_of (drop l.i l.rows))) ≡ left 2 (map fields_of l.rows);
+      rest : behind (map (line_of value) l.lines) (left (l.i + 2) (map fields_of (drop l.i l.rows)))
+          ≡ left 2 (map fields_of l.rows);
       ops : g.L.Ledger.ops l.fn.ledger ≤ g.L.Ledger.ops l.ledger;
       wides : g.L.Ledger.wides l.fn.ledger ≤ g.L.Ledger.wides l.ledger;
     }

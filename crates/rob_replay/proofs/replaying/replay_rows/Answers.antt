@@ -23,7 +23,8 @@ returns-then-rows-gt10001-clause-lines g c =
     let some : 0 < length rows = omega (arith, c.if-rows-gt10001.true) in
     let found : header_places header (parameter_names m) ≡ Some c.in-Ok-Some.places =
     sym (c.in-Ok-Some.ensures.places
-    ∙ ap (λ (ds : List (Param g.row.N.Denot)). header_places header (map (λ (d : Parameter). d.name) (map (parameter_of value) ds))) c.items.ensures.list)
+    ∙ ap (λ (ds : List (Param g.row.N.Denot)).
+    header_places header (map (λ (d : Parameter). d.name) (map (parameter_of value) ds))) c.items.ensures.list)
     ∙ ap (option_map (λ (ks : List ℕ). ks)) c.in-Ok-Some.field-0-is in
     ap (outcome g.N.Exact.limit m plan) (rows_split fields_of rows c.index-rows-0.result some c.index-rows-0.is)
     ∙ outcome_many g.N.Exact.limit m plan header (map fields_of (drop 1 rows)) c.in-Ok-Some.places found
@@ -37,7 +38,8 @@ replay_records-requires-clause-places g c =
     let header = fields_of c.index-rows-0.result in
     let found : header_places header (parameter_names m) ≡ Some c.in-Ok-Some.places =
     sym (c.in-Ok-Some.ensures.places
-    ∙ ap (λ (ds : List (Param g.row.N.Denot)). header_places header (map (λ (d : Parameter). d.name) (map (parameter_of value) ds))) c.items.ensures.list)
+    ∙ ap (λ (ds : List (Param g.row.N.Denot)).
+    header_places header (map (λ (d : Parameter). d.name) (map (parameter_of value) ds))) c.items.ensures.list)
     ∙ ap (option_map (λ (ks : List ℕ). ks)) c.in-Ok-Some.field-0-is in
     ap length c.items-in-Ok-Some.ensures.list
     ∙ places_count header (parameter_names m) c.in-Ok-Some.places found
@@ -54,7 +56,8 @@ returns-in-Ok-None-clause-lines g c =
     let some : 0 < length rows = grind (arith, nat_tests) in
     let found : header_places header (parameter_names m) ≡ None =
     sym (c.in-Ok-None.ensures.places
-    ∙ ap (λ (ds : List (Param g.row.N.Denot)). header_places header (map (λ (d : Parameter). d.name) (map (parameter_of value) ds))) c.items.ensures.list)
+    ∙ ap (λ (ds : List (Param g.row.N.Denot)).
+    header_places header (map (λ (d : Parameter). d.name) (map (parameter_of value) ds))) c.items.ensures.list)
     ∙ ap (option_map (λ (ks : List ℕ). ks)) c.in-Ok-None.field-0-is in
     ap (outcome g.N.Exact.limit m plan) (rows_split fields_of rows c.index-rows-0.result some c.index-rows-0.is)
     ∙ outcome_headless g.N.Exact.limit m plan header (map fields_of (drop 1 rows)) found
@@ -70,11 +73,19 @@ returns-else-rows-gt10001-clause-lines g c =
     let some : 0 < length rows = grind (arith, nat_tests) in
     let found : header_places header (parameter_names m) ≡ Some c.in-Ok-Some.places =
     sym (c.in-Ok-Some.ensures.places
-    ∙ ap (λ (ds : List (Param g.row.N.Denot)). header_places header (map (λ (d : Parameter). d.name) (map (parameter_of value) ds))) c.items.ensures.list)
+    ∙ ap (λ (ds : List (Param g.row.N.Denot)).
+    header_places header (map (λ (d : Parameter). d.name) (map (parameter_of value) ds))) c.items.ensures.list)
     ∙ ap (option_map (λ (ks : List ℕ). ks)) c.in-Ok-Some.field-0-is in
-    let is : outcome limit m plan (map fields_of rows) ≡ records_outcome limit m plan c.items-in-Ok-Some.result.now 2 (map fields_of (take (length rows - 1) (drop 1 rows))) =
+    let is : outcome limit m plan (map fields_of rows)
+    ≡ records_outcome limit m plan c.items-in-Ok-Some.result.now 2
+    (map fields_of (take (length rows - 1) (drop 1 rows))) =
     ap (outcome limit m plan) (rows_split fields_of rows c.index-rows-0.result some c.index-rows-0.is)
-    ∙ outcome_table limit m plan header (map fields_of (drop 1 rows)) c.in-Ok-Some.places found (omega (arith, c.if-rows-gt10001.false, rest_count fields_of rows))
-    ∙ ap (λ (ks : List ℕ). records_outcome limit m plan ks 2 (map fields_of (drop 1 rows))) (sym c.items-in-Ok-Some.ensures.list)
-    ∙ ap (λ (rs : List Row). records_outcome limit m plan c.items-in-Ok-Some.result.now 2 (map fields_of rs)) (sym (rest_whole rows)) in
-    subst (λ (o : Result (List Line) Refusal). MatchResult c.replay_records.result (λ lines. o ≡ Ok (map (line_of value) lines)) (Refuses o)) (sym is) c.replay_records.ensures.lines
+    ∙ outcome_table limit m plan header (map fields_of (drop 1 rows)) c.in-Ok-Some.places found
+    (omega (arith, c.if-rows-gt10001.false, rest_count fields_of rows))
+    ∙ ap (λ (ks : List ℕ). records_outcome limit m plan ks 2 (map fields_of (drop 1 rows)))
+    (sym c.items-in-Ok-Some.ensures.list)
+    ∙ ap (λ (rs : List Row). records_outcome limit m plan c.items-in-Ok-Some.result.now 2 (map fields_of rs))
+    (sym (rest_whole rows)) in
+    subst (λ (o : Result (List Line) Refusal).
+    MatchResult c.replay_records.result (λ lines. o ≡ Ok (map (line_of value) lines)) (Refuses o)) (sym is)
+    c.replay_records.ensures.lines

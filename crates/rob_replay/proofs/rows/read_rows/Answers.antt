@@ -32,8 +32,18 @@ loop-row-preserved c =
     let inv = c.loop-row.invariant in
     let s = rw (c.in-Some.is, c.in-Ok.is) at ((c.next.ensures.steps inv.2 inv.0).0 inv.1) in
     let row = c.in-Ok.row in
-    let m = rows-more (λ (s : Bor (List ℕ)). Some s.now) c.loop-row.row-iterator.rdr c.next.new.self.rdr (fields_of row) default_config st.StartRecord (strip_bom c.args.text.now) inv.4 inv.6 inv.3 inv.5 inv.7 s.0 in
-    (s.0.3 ∙ inv.0, inl s.1, s.2, s.0.2 ∙ inv.3, m.0, m.1, inv.6 ++ fields_of row ∷ [], m.2, c.in-Ok-keep.ensures.kept inv.6 inv.8)
+    let m = rows-more (λ (s : Bor (List ℕ)). Some s.now) c.loop-row.row-iterator.rdr c.next.new.self.rdr (fields_of row)
+    default_config st.StartRecord (strip_bom c.args.text.now) inv.4 inv.6 inv.3 inv.5 inv.7 s.0 in (
+      s.0.3 ∙ inv.0,
+      inl s.1,
+      s.2,
+      s.0.2 ∙ inv.3,
+      m.0,
+      m.1,
+      inv.6 ++ fields_of row ∷ [],
+      m.2,
+      c.in-Ok-keep.ensures.kept inv.6 inv.8,
+    )
 
 pub returns : goal.returns
 returns c =
@@ -43,7 +53,8 @@ returns c =
       rows = (
         inv.6,
         is_file c.args.text.now inv.6 c.loop-row.row-iterator.rdr.state inv.4 inv.7
-            (rows-end (λ (s : Bor (List ℕ)). Some s.now) c.loop-row.row-iterator.rdr c.next.new.self.rdr [] default_config inv.4 inv.3 inv.5 s),
+            (rows-end (λ (s : Bor (List ℕ)). Some s.now) c.loop-row.row-iterator.rdr c.next.new.self.rdr []
+            default_config inv.4 inv.3 inv.5 s),
         inv.8,
       );
     }

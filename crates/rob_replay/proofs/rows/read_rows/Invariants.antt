@@ -7,7 +7,10 @@ use Rattle.rob_replay.proofs.rows.read_rows.Given as goal
 
 -- the reader stands behind the records so far, of which the first are kept
 abbrev pub invariant-loop-row : goal.invariant-loop-row
-invariant-loop-row l = (l.row-iterator.rdr.trim ≡ trim.None) × Ready l.row-iterator.rdr × (0 < l.row-iterator.left) × (l.row-iterator.rdr.config ≡ default_config)
+invariant-loop-row l =
+    (l.row-iterator.rdr.trim ≡ trim.None) × Ready l.row-iterator.rdr × (0 < l.row-iterator.left)
+    × (l.row-iterator.rdr.config ≡ default_config)
     × (y : List ℕ) × (source_of (λ s. Some s.now) l.row-iterator.rdr ≡ Some y)
-    × (seen : List (List (List ℕ))) × Reached default_config st.StartRecord (strip_bom l.fn.text) seen l.row-iterator.rdr.state y
+    × (seen : List (List (List ℕ)))
+    × Reached default_config st.StartRecord (strip_bom l.fn.text) seen l.row-iterator.rdr.state y
     × (map fields_of l.rows.items ≡ take 10002 seen)

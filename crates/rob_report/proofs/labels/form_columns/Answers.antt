@@ -10,5 +10,6 @@ loop-index-preserved g c =
     let names = column_names (robust g.N.Exact.value c.args.model.now) in
     c.in_ok-push-2.ensures.appended
     ∙ ap (λ xs. xs ++ c.put_column_name.new.out ∷ []) c.loop-index.invariant
-    ∙ ap (λ xs. codes "1" ∷ xs) (named_more names (take c.loop-index.index names) c.loop-index.index c.new-name.result c.put_column_name.new.out
+    ∙ ap (λ xs. codes "1" ∷ xs)
+    (named_more names (take c.loop-index.index names) c.loop-index.index c.new-name.result c.put_column_name.new.out
     refl c.new-name.ensures.empty c.in_ok-put_column_name.ensures.appended)

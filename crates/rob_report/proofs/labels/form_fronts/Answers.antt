@@ -5,5 +5,6 @@ use Rattle.rob_report.proofs.labels.form_fronts.Goals as goal
 
 pub loop-param-init : goal.loop-param-init
 loop-param-init g c =
-    ap (λ xs. xs ++ map (front_of g.N.Exact.value) c.args.params.now) (one_item c.new-list.ensures.empty c.in_ok-push.ensures.appended)
+    ap (λ xs. xs ++ map (front_of g.N.Exact.value) c.args.params.now)
+    (one_item c.new-list.ensures.empty c.in_ok-push.ensures.appended)
     ∙ ap₂ ◌∷◌ c.in_ok-starred.ensures.text (map-front_of g.N.Exact.value c.args.params.now)

@@ -6,4 +6,5 @@ use Rattle.rob_report.proofs.labels.form_fronts.Given as goal
 
 abbrev pub invariant-loop-param : goal.invariant-loop-param
 invariant-loop-param g l =
-    l.list ++ map (front_of g.N.Exact.value) (drop l.param-index l.params) ≡ fronts_of (map (parameter_of g.N.Exact.value) l.params)
+    l.list ++ map (front_of g.N.Exact.value) (drop l.param-index l.params)
+    ≡ fronts_of (map (parameter_of g.N.Exact.value) l.params)

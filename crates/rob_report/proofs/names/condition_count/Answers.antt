@@ -12,7 +12,9 @@ returns-clause-count g c =
     let value = g.N.Exact.value in
     let m = robust value c.args.model.now in
     let bounds : c.bound_count.result ≡ length (bounds_from 0 m.parameters)
-    = c.bound_count.ensures.count ∙ ap (λ ps. length (parameter_bound_names (map (parameter_of value) ps))) c.items.ensures.list ∙ length-parameter_bound_names 0 m.parameters in
+    = c.bound_count.ensures.count
+    ∙ ap (λ ps. length (parameter_bound_names (map (parameter_of value) ps))) c.items.ensures.list
+    ∙ length-parameter_bound_names 0 m.parameters in
     let lines : length c.items-2.result.now ≡ length m.set_lines
     = ap length c.items-2.ensures.list ∙ sym (length-map c.args.model.now.set_lines (set_line_of value)) in
     omega (arith, bounds, lines, length-set_conditions m, length-set_condition_names m)

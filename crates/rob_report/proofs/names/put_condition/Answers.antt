@@ -18,6 +18,8 @@ returns g c =
     record {
       appended = on_ok c.put_set_place_name.result
           (λ h. named_at (set_place_names m) c.args.index _ _ h
-          ∙ ap (λ n. c.args.out.now ++ n) (at_front (set_condition_names m) (set_column_names m) c.args.index (omega (arith, c.requires.inside, length-set_condition_names m))))
+          ∙ ap (λ n. c.args.out.now ++ n)
+          (at_front (set_condition_names m) (set_column_names m) c.args.index
+          (omega (arith, c.requires.inside, length-set_condition_names m))))
           c.put_set_place_name.ensures.appended;
     }

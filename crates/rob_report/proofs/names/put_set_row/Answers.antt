@@ -7,9 +7,12 @@ use Rattle.rob_report.proofs.NameLemmas.{named_at}
 use Rattle.rob_report.proofs.names.put_set_row.Goals as goal
 
 pub put_set_row_name-requires-clause-inside : goal.put_set_row_name-requires-clause-inside
-put_set_row_name-requires-clause-inside g c = omega (arith, c.requires.inside, length-set_row_names (robust g.N.Exact.value c.args.model.now))
+put_set_row_name-requires-clause-inside g c =
+    omega (arith, c.requires.inside, length-set_row_names (robust g.N.Exact.value c.args.model.now))
 
 pub returns : goal.returns
 returns g c = record {
-  appended = on_ok c.put_set_row_name.result (named_at (set_row_names (robust g.N.Exact.value c.args.model.now)) c.args.index _ _) c.put_set_row_name.ensures.appended;
+  appended = on_ok c.put_set_row_name.result
+      (named_at (set_row_names (robust g.N.Exact.value c.args.model.now)) c.args.index _ _)
+      c.put_set_row_name.ensures.appended;
 }

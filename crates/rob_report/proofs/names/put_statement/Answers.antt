@@ -14,15 +14,25 @@ put_condition-requires-clause-inside g c =
     let value = g.N.Exact.value in
     let m = robust value c.args.model.now in
     let bounds : c.bound_count.result ≡ length (bounds_from 0 m.parameters)
-    = c.bound_count.ensures.count ∙ ap (λ ps. length (parameter_bound_names (map (parameter_of value) ps))) c.items.ensures.list ∙ length-parameter_bound_names 0 m.parameters in
-    omega (arith, bounds, c.requires.inside, length-map c.args.model.now.set_lines (set_line_of value), length-set_conditions m)
+    = c.bound_count.ensures.count
+    ∙ ap (λ ps. length (parameter_bound_names (map (parameter_of value) ps))) c.items.ensures.list
+    ∙ length-parameter_bound_names 0 m.parameters in
+    omega (
+      arith,
+      bounds,
+      c.requires.inside,
+      length-map c.args.model.now.set_lines (set_line_of value),
+      length-set_conditions m,
+    )
 
 pub returns : goal.returns
 returns g c =
     let value = g.N.Exact.value in
     let m = robust value c.args.model.now in
     let bounds : c.bound_count.result ≡ length (bounds_from 0 m.parameters)
-    = c.bound_count.ensures.count ∙ ap (λ ps. length (parameter_bound_names (map (parameter_of value) ps))) c.items.ensures.list ∙ length-parameter_bound_names 0 m.parameters in
+    = c.bound_count.ensures.count
+    ∙ ap (λ ps. length (parameter_bound_names (map (parameter_of value) ps))) c.items.ensures.list
+    ∙ length-parameter_bound_names 0 m.parameters in
     record {
       appended = on_ok c.put_condition.result
           (λ e. e ∙ ap (λ n. c.args.out.now ++ name_at (set_condition_names m) (n + c.args.index)) bounds)

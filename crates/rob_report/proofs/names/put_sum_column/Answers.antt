@@ -12,7 +12,14 @@ returns-else-index-column_count g c =
     let m = robust g.N.Exact.value c.args.model.now in
     record {
       appended = on_ok c.push-else-index-column_count.result
-          (λ e. e ∙ ap (λ n. c.args.out.now ++ n) (sym (at_back (codes "constant" ∷ column_names m) (codes "tau" ∷ []) c.args.index 0
-          (omega (arith, c.if-index-column_count.false, c.requires.inside, c.column_count.ensures.count, length-column_names m)))))
+          (λ e. e ∙ ap (λ n. c.args.out.now ++ n)
+          (sym (at_back (codes "constant" ∷ column_names m) (codes "tau" ∷ []) c.args.index 0
+          (omega (
+            arith,
+            c.if-index-column_count.false,
+            c.requires.inside,
+            c.column_count.ensures.count,
+            length-column_names m,
+          )))))
           c.push-else-index-column_count.ensures.appended;
     }

@@ -14,11 +14,16 @@ loop-k-preserved g c =
     let ps = map (parameter_of value) c.args.params.now in
     record {
       place = omega (arith, c.loop-k.invariant.place);
-      rest = text_more (coefficients_text plan ps) (coefficients_text-cons value plan ps) c.loop-k.place c.args.on.now c.loop-k.k-index _
-          c.loop-k.out c.put_coefficient.new.out _ c.loop-k-test.true (sym (get_or_from_slice_get c.args.on.now c.loop-k.k-index _ _ (slice_get-get_or c.args.on.now c.loop-k.k-index 0 c.loop-k-test.true)))
-          (coefficient_here value plan ps c.loop-k.place _ c.parameter_name.result.now (value c.index-plan-place.result) c.loop-k.out c.put_coefficient.new.out
+      rest = text_more (coefficients_text plan ps) (coefficients_text-cons value plan ps) c.loop-k.place
+          c.args.on.now c.loop-k.k-index _
+          c.loop-k.out c.put_coefficient.new.out _ c.loop-k-test.true
+          (sym (get_or_from_slice_get c.args.on.now c.loop-k.k-index _ _
+          (slice_get-get_or c.args.on.now c.loop-k.k-index 0 c.loop-k-test.true)))
+          (coefficient_here value plan ps c.loop-k.place _ c.parameter_name.result.now (value c.index-plan-place.result)
+          c.loop-k.out c.put_coefficient.new.out
           c.parameter_name.ensures.name
-          (at_map value c.args.plan.now c.loop-k.place c.index-plan-place.result (omega (arith, c.loop-k.invariant.place, c.loop-k-test.true, c.requires.columns)) c.index-plan-place.is)
+          (at_map value c.args.plan.now c.loop-k.place c.index-plan-place.result
+          (omega (arith, c.loop-k.invariant.place, c.loop-k-test.true, c.requires.columns)) c.index-plan-place.is)
           c.in_ok-put_coefficient.ensures.appended)
           c.loop-k.invariant.rest;
     }

@@ -8,5 +8,6 @@ use Rattle.rob_report.proofs.rows.put_forms.Given as goal
 abbrev pub invariant-loop-index : goal.invariant-loop-index
 invariant-loop-index g l =
     let m = robust g.N.Exact.value l.model in
-    l.out ++ for_pairs (form_line (fronts_of m.parameters) (form_column_names m)) (drop l.index (form_names m)) (drop l.index l.matrices)
+    l.out ++ for_pairs (form_line (fronts_of m.parameters) (form_column_names m)) (drop l.index (form_names m))
+    (drop l.index l.matrices)
     ≡ l.fn.out ++ forms_text m l.matrices

@@ -18,10 +18,13 @@ returns g c =
     let fits : SFits w64 row.h = search rules in
     record {
       appended = on_ok c.put_limit.result
-          (λ e. row_written (codes "set ") (name_at (set_row_names (robust g.N.Exact.value c.args.model.now)) c.args.index) (or_zero (terms_text [] row.g columns)) (limit_text row.h)
+          (λ e. row_written (codes "set ")
+          (name_at (set_row_names (robust g.N.Exact.value c.args.model.now)) c.args.index)
+          (or_zero (terms_text [] row.g columns)) (limit_text row.h)
           c.args.out.now _ _ _ _ _
           c.in_ok-push.ensures.appended c.in_ok-put_set_row.ensures.appended c.in_ok-push-2.ensures.appended
-          (c.in_ok-put_zero.ensures.appended before (terms_text [] row.g columns) (sym (ap length c.bytes-before.ensures.list))
+          (c.in_ok-put_zero.ensures.appended before (terms_text [] row.g columns)
+          (sym (ap length c.bytes-before.ensures.list))
           (c.in_ok-put_terms.ensures.appended ∙ ap (λ ns. before ++ terms_text [] ns columns) c.items.ensures.list))
           (e ∙ ap (λ z. c.put_zero.new.out ++ line (limit_text z)) (to_z-of_z w64 row.h fits)))
           c.put_limit.ensures.appended;

@@ -10,7 +10,8 @@ returns-in_ok-push-in-Coefficient g c =
     let m = robust g.N.Exact.value c.args.model.now in
     record {
       appended = on_ok c.put_where.result
-          (λ e. behind c.args.out.now c.push.new.self c.put_where.new.out (codes "coefficient ") (where_words m c.in-Coefficient.place) c.in_ok-push-in-Coefficient.ensures.appended e
+          (λ e. behind c.args.out.now c.push.new.self c.put_where.new.out (codes "coefficient ")
+          (where_words m c.in-Coefficient.place) c.in_ok-push-in-Coefficient.ensures.appended e
           ∙ ap (λ s. c.args.out.now ++ spot_words m s) (sym c.in-Coefficient.is))
           c.put_where.ensures.appended;
     }

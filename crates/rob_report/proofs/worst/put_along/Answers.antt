@@ -13,8 +13,11 @@ returns g c =
     let m = robust value c.args.model.now in
     record {
       appended = on_ok c.put_entries.result
-          (λ e. along_written c.args.out.now _ _ _ _ (form_name m c.args.form) (at_lines (map value c.args.ray.now) m.parameters)
+          (λ e. along_written c.args.out.now _ _ _ _ (form_name m c.args.form)
+          (at_lines (map value c.args.ray.now) m.parameters)
           c.in_ok-push.ensures.appended c.in_ok-put_form.ensures.appended c.in_ok-push-2.ensures.appended
-          (e ∙ ap (λ (ps : List (Param g.row.N.Denot)). c.push-2.new.self ++ at_lines (map value c.args.ray.now) (map (parameter_of value) ps)) c.items.ensures.list))
+          (e ∙ ap (λ (ps : List (Param g.row.N.Denot)).
+          c.push-2.new.self ++ at_lines (map value c.args.ray.now) (map (parameter_of value) ps))
+          c.items.ensures.list))
           c.put_entries.ensures.appended;
     }

@@ -14,8 +14,12 @@ returns g c =
     let m = robust value c.args.model.now in
     record {
       appended = on_ok c.put_entries.result
-          (λ e. greatest_written c.args.out.now _ _ _ _ _ _ (form_name m c.args.form) (number_text (value c.args.slack)) (at_lines (map value c.args.scenario.now) m.parameters)
-          c.in_ok-push.ensures.appended c.in_ok-put_form.ensures.appended c.in_ok-push-2.ensures.appended c.in_ok-put_number.ensures.appended c.in_ok-push-3.ensures.appended
-          (e ∙ ap (λ (ps : List (Param g.row.N.Denot)). c.push-3.new.self ++ at_lines (map value c.args.scenario.now) (map (parameter_of value) ps)) c.items.ensures.list))
+          (λ e. greatest_written c.args.out.now _ _ _ _ _ _ (form_name m c.args.form) (number_text (value c.args.slack))
+          (at_lines (map value c.args.scenario.now) m.parameters)
+          c.in_ok-push.ensures.appended c.in_ok-put_form.ensures.appended c.in_ok-push-2.ensures.appended
+          c.in_ok-put_number.ensures.appended c.in_ok-push-3.ensures.appended
+          (e ∙ ap (λ (ps : List (Param g.row.N.Denot)).
+          c.push-3.new.self ++ at_lines (map value c.args.scenario.now) (map (parameter_of value) ps))
+          c.items.ensures.list))
           c.put_entries.ensures.appended;
     }

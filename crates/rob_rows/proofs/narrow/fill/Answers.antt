@@ -11,7 +11,8 @@ overflow_sub-out c =
     let fq : SFits w64 c.args.factors.q = search rules in
     let fa : SFits w64 (get_or c.args.top.now k (pos 0)) = search rules in
     let fb : SFits w64 (get_or c.args.low.now k (pos 0)) = search rules in
-    narrow_fits c.args.factors.p (get_or c.args.top.now k (pos 0)) c.args.factors.q (get_or c.args.low.now k (pos 0)) fp fa fq fb
+    narrow_fits c.args.factors.p (get_or c.args.top.now k (pos 0)) c.args.factors.q
+    (get_or c.args.low.now k (pos 0)) fp fa fq fb
     (c.requires.narrow k (omega arith) (omega arith))
 
 pub loop-k-preserved : goal.loop-k-preserved
@@ -21,14 +22,17 @@ loop-k-preserved c =
     let fq : SFits w64 c.args.factors.q = search rules in
     let fa : SFits w64 (get_or c.args.top.now k (pos 0)) = search rules in
     let fb : SFits w64 (get_or c.args.low.now k (pos 0)) = search rules in
-    entry_more c.args.factors.p c.args.top.now c.args.factors.q c.args.low.now c.loop-k.out k _ (omega arith) c.loop-k.invariant
-    (narrow_read c.args.factors.p (get_or c.args.top.now k (pos 0)) c.args.factors.q (get_or c.args.low.now k (pos 0)) fp fa fq fb
+    entry_more c.args.factors.p c.args.top.now c.args.factors.q c.args.low.now c.loop-k.out k _
+    (omega arith) c.loop-k.invariant
+    (narrow_read c.args.factors.p (get_or c.args.top.now k (pos 0)) c.args.factors.q
+    (get_or c.args.low.now k (pos 0)) fp fa fq fb
     (c.requires.narrow k (omega arith) (omega arith)))
 
 pub returns : goal.returns
 returns c =
     record {
       row =
-          combination_written c.args.factors.p c.args.top.now c.args.factors.q c.args.low.now c.loop-k.out (omega arith) (omega arith)
+          combination_written c.args.factors.p c.args.top.now c.args.factors.q c.args.low.now c.loop-k.out
+          (omega arith) (omega arith)
           (λ j l. c.loop-k.invariant j (omega arith));
     }

@@ -15,7 +15,8 @@ returns c =
       narrow =
           OnTrue_from _ (IsNarrow c.args.factors c.args.top.now c.args.low.now)
           (λ t k l m.
-          narrow_from_bounds (nat_abs c.args.factors.p) (nat_abs (get_or c.args.top.now k (pos 0))) (nat_abs c.args.factors.q) (nat_abs (get_or c.args.low.now k (pos 0)))
+          narrow_from_bounds (nat_abs c.args.factors.p) (nat_abs (get_or c.args.top.now k (pos 0)))
+          (nat_abs c.args.factors.q) (nat_abs (get_or c.args.low.now k (pos 0)))
           c.unsigned_abs.result c.unsigned_abs-2.result c.largest.result c.largest-2.result
           (sym (c.unsigned_abs.ensures.value ∙ ap nat_abs (to_z-of_z w64 c.args.factors.p fp)))
           (sym (c.unsigned_abs-2.ensures.value ∙ ap nat_abs (to_z-of_z w64 c.args.factors.q fq)))

@@ -12,8 +12,15 @@ returns-then-value-eq1 c =
     let fits : SFits w64 (get_or c.args.row.now c.loop-entry.entry-index (pos 0)) = search rules in
     let size : c.unsigned_abs.result ≡ nat_abs (get_or c.args.row.now c.loop-entry.entry-index (pos 0)) =
     c.unsigned_abs.ensures.value ∙ ap nat_abs (seen (get_or c.args.row.now c.loop-entry.entry-index (pos 0)) fits) in
-    let so_far : c.loop-entry.common.value ≡ content (take c.loop-entry.entry-index c.args.row.now) = c.loop-entry.invariant in
-    let next : c.common-common.result.value ≡ gcd (content (take c.loop-entry.entry-index c.args.row.now)) (nat_abs (get_or c.args.row.now c.loop-entry.entry-index (pos 0))) =
-    c.common-common.ensures.common ∙ ap (λ t. gcd t c.unsigned_abs.result) so_far ∙ ap (gcd (content (take c.loop-entry.entry-index c.args.row.now))) size in
+    let so_far : c.loop-entry.common.value ≡ content (take c.loop-entry.entry-index c.args.row.now) =
+    c.loop-entry.invariant in
+    let next : c.common-common.result.value
+    ≡ gcd (content (take c.loop-entry.entry-index c.args.row.now))
+    (nat_abs (get_or c.args.row.now c.loop-entry.entry-index (pos 0))) =
+    c.common-common.ensures.common ∙ ap (λ t. gcd t c.unsigned_abs.result) so_far
+    ∙ ap (gcd (content (take c.loop-entry.entry-index c.args.row.now))) size in
     let one : c.common-common.result.value ≡ 1 = omega arith in
-    record { content = one ∙ content_stays_one c.args.row.now c.loop-entry.entry-index c.loop-entry-test.true (sym next ∙ one) }
+    record {
+      content = one
+          ∙ content_stays_one c.args.row.now c.loop-entry.entry-index c.loop-entry-test.true (sym next ∙ one);
+    }

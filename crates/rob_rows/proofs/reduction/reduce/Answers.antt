@@ -6,4 +6,5 @@ pub returns-then-is_within-clause-part : goal.returns-then-is_within-clause-part
 returns-then-is_within-clause-part c = part_itself c.args.row.now (omega arith)
 
 pub returns-else-is_within-clause-wide : goal.returns-else-is_within-clause-wide
-returns-else-is_within-clause-wide c = (c.args.row.now, part_itself c.args.row.now (omega arith), c.if-is_within.ensures.wide)
+returns-else-is_within-clause-wide c =
+    (c.args.row.now, part_itself c.args.row.now (omega arith), c.if-is_within.ensures.wide)

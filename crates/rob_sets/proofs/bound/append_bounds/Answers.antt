@@ -16,14 +16,20 @@ loop-parameter-init g c =
     let all = bound_rows zero m.parameters in
     record {
       number = refl;
-      progress = subst (λ (rows : List SetRow). RowProgress g.N.Exact.limit m all all [] rows) (sym c.requires.empty) (begins []);
+      progress = subst (λ (rows : List SetRow). RowProgress g.N.Exact.limit m all all [] rows)
+          (sym c.requires.empty) (begins []);
       counted = record { ops = omega arith; wides = omega arith };
     }
 
 pub append_bound-requires-clause-few : goal.append_bound-requires-clause-few
 append_bound-requires-clause-few g c =
     let m = robust g.N.Exact.value c.args.model.now in
-    omega (arith, so_many c.loop-parameter.invariant.progress, bounds_many zero m.parameters, c.requires.valid.limits.parameters)
+    omega (
+      arith,
+      so_many c.loop-parameter.invariant.progress,
+      bounds_many zero m.parameters,
+      c.requires.valid.limits.parameters,
+    )
 
 pub append_bound-requires-in-loop-parameter-clause-few : goal.append_bound-requires-in-loop-parameter-clause-few
 append_bound-requires-in-loop-parameter-clause-few g c =
@@ -39,38 +45,50 @@ append_bound-requires-in-loop-parameter-clause-few g c =
 
 pub returns-in_err-append_bound-clause-rows : goal.returns-in_err-append_bound-clause-rows
 returns-in_err-append_bound-clause-rows g c =
-    let at = bounds_at g.N.Exact.value c.args.model.now.params c.loop-parameter.parameter-index c.loop-parameter.number c.parameter-item.result
-    (drop_item c.loop-parameter.parameter-index c.items-parameter-items.ensures.list c.loop-parameter-test.true c.parameter-item.is)
+    let at = bounds_at g.N.Exact.value c.args.model.now.params c.loop-parameter.parameter-index
+    c.loop-parameter.number c.parameter-item.result
+    (drop_item c.loop-parameter.parameter-index c.items-parameter-items.ensures.list
+    c.loop-parameter-test.true c.parameter-item.is)
     c.loop-parameter.invariant.number in
-    rows_stop c.loop-parameter.invariant.progress at c.append_bound.new.rows (g.L.Ledger.wides c.args.ledger.now) c.from_residual.result
+    rows_stop c.loop-parameter.invariant.progress at c.append_bound.new.rows
+    (g.L.Ledger.wides c.args.ledger.now) c.from_residual.result
     c.loop-parameter.invariant.counted.wides c.in_err-append_bound.ensures.row c.from_residual.ensures.1
 
 pub returns-in_err-append_bound-2-clause-rows : goal.returns-in_err-append_bound-2-clause-rows
 returns-in_err-append_bound-2-clause-rows g c =
-    let at = bounds_at g.N.Exact.value c.args.model.now.params c.loop-parameter.parameter-index c.loop-parameter.number c.parameter-item.result
-    (drop_item c.loop-parameter.parameter-index c.items-parameter-items.ensures.list c.loop-parameter-test.true c.parameter-item.is)
+    let at = bounds_at g.N.Exact.value c.args.model.now.params c.loop-parameter.parameter-index
+    c.loop-parameter.number c.parameter-item.result
+    (drop_item c.loop-parameter.parameter-index c.items-parameter-items.ensures.list
+    c.loop-parameter-test.true c.parameter-item.is)
     c.loop-parameter.invariant.number in
     rows_stop (rows_go_on c.loop-parameter.invariant.progress at c.in_ok-append_bound.ensures.row)
-    (upper_at g.N.Exact.value c.args.model.now.params c.loop-parameter.parameter-index c.loop-parameter.number c.parameter-item.result) c.append_bound-in-loop-parameter.new.rows
+    (upper_at g.N.Exact.value c.args.model.now.params c.loop-parameter.parameter-index c.loop-parameter.number
+    c.parameter-item.result) c.append_bound-in-loop-parameter.new.rows
     (g.L.Ledger.wides c.args.ledger.now) c.from_residual-in_err-append_bound-2.result
-    (omega (arith, c.loop-parameter.invariant.counted.wides, c.append_bound.ensures.counted.wides)) c.in_err-append_bound-2.ensures.row
+    (omega (arith, c.loop-parameter.invariant.counted.wides, c.append_bound.ensures.counted.wides))
+    c.in_err-append_bound-2.ensures.row
     c.from_residual-in_err-append_bound-2.ensures.1
 
 pub loop-parameter-preserved : goal.loop-parameter-preserved
 loop-parameter-preserved g c =
-    let at = bounds_at g.N.Exact.value c.args.model.now.params c.loop-parameter.parameter-index c.loop-parameter.number c.parameter-item.result
-    (drop_item c.loop-parameter.parameter-index c.items-parameter-items.ensures.list c.loop-parameter-test.true c.parameter-item.is)
+    let at = bounds_at g.N.Exact.value c.args.model.now.params c.loop-parameter.parameter-index
+    c.loop-parameter.number c.parameter-item.result
+    (drop_item c.loop-parameter.parameter-index c.items-parameter-items.ensures.list
+    c.loop-parameter-test.true c.parameter-item.is)
     c.loop-parameter.invariant.number in
     record {
       number = omega (arith, c.loop-parameter.invariant.number);
       progress = rows_go_on (rows_go_on c.loop-parameter.invariant.progress at c.in_ok-append_bound.ensures.row)
-          (upper_at g.N.Exact.value c.args.model.now.params c.loop-parameter.parameter-index c.loop-parameter.number c.parameter-item.result) c.in_ok-append_bound-2.ensures.row;
-      counted = later (later c.loop-parameter.invariant.counted c.append_bound.ensures.counted) c.append_bound-in-loop-parameter.ensures.counted;
+          (upper_at g.N.Exact.value c.args.model.now.params c.loop-parameter.parameter-index c.loop-parameter.number
+          c.parameter-item.result) c.in_ok-append_bound-2.ensures.row;
+      counted = later (later c.loop-parameter.invariant.counted c.append_bound.ensures.counted)
+          c.append_bound-in-loop-parameter.ensures.counted;
     }
 
 pub returns-clause-rows : goal.returns-clause-rows
 returns-clause-rows g c =
     let m = robust g.N.Exact.value c.args.model.now in
     let i = c.loop-parameter.parameter-index in
-    let over = bounds_end g.N.Exact.value c.args.model.now.params i (drop_over i c.items-parameter-items.ensures.list c.loop-parameter-test.false) in
+    let over = bounds_end g.N.Exact.value c.args.model.now.params i
+    (drop_over i c.items-parameter-items.ensures.list c.loop-parameter-test.false) in
     ends c.loop-parameter.invariant.progress over (ap (judged_rows m (length c.loop-parameter.rows)) over)

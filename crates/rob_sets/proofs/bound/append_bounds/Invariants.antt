@@ -13,6 +13,7 @@ invariant-loop-parameter g l =
     let m = robust value l.model in
     record {
       number : l.number ≡ l.parameter-index;
-      progress : RowProgress g.N.Exact.limit m (bound_rows zero m.parameters) (other_bounds value l.model.params l.parameter-index) [] l.rows;
+      progress : RowProgress g.N.Exact.limit m (bound_rows zero m.parameters)
+          (other_bounds value l.model.params l.parameter-index) [] l.rows;
       counted : NeverFell g.L.Ledger.ops g.L.Ledger.wides l.fn.ledger l.ledger;
     }

@@ -5,5 +5,6 @@ use Rattle.rob_sets.proofs.clearing.cleared.Goals as goal
 pub returns-in-None-clause-wide : goal.returns-in-None-clause-wide
 returns-in-None-clause-wide g c = (
   omega (arith, c.loop-q.invariant.counted.wides, c.wide.ensures.counted),
-  whole_wide g.N.Exact.value c.args.numbers.now c.loop-q.q-index c.q-item.result g.N.Exact.limit c.args.common c.loop-q-test.true c.q-item.is c.in-None.ensures.whole,
+  whole_wide g.N.Exact.value c.args.numbers.now c.loop-q.q-index c.q-item.result g.N.Exact.limit c.args.common
+      c.loop-q-test.true c.q-item.is c.in-None.ensures.whole,
 )

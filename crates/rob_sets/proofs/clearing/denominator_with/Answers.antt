@@ -20,10 +20,14 @@ returns-in-None g c =
     let value = g.N.Exact.value in
     let den = cast_back c.den.result (value c.q-item.result).den c.den.ensures.denominator
     (omega (arith, (g.met.N.Exact.fits c.q-item.result).den_fits, g.met.N.Exact.limit_high)) in
-    let limit = cast_back c.LIMIT.result g.N.Exact.limit (c.LIMIT.ensures ∙ g.met.N.Exact.limit_told) (omega (arith, g.met.N.Exact.limit_high)) in
+    let limit =
+    cast_back c.LIMIT.result g.N.Exact.limit (c.LIMIT.ensures ∙ g.met.N.Exact.limit_told)
+    (omega (arith, g.met.N.Exact.limit_high)) in
     record {
-      least = λ before h. common_wide value before c.args.numbers.now c.loop-q.q-index c.q-item.result c.loop-q.least g.N.Exact.limit c.loop-q-test.true c.q-item.is
-          (c.loop-q.invariant.least before h) (omega (arith, limit, ap (λ n. lcm n c.loop-q.least) den, c.in-None.ensures.multiple));
+      least = λ before h. common_wide value before c.args.numbers.now c.loop-q.q-index c.q-item.result c.loop-q.least
+          g.N.Exact.limit c.loop-q-test.true c.q-item.is
+          (c.loop-q.invariant.least before h)
+          (omega (arith, limit, ap (λ n. lcm n c.loop-q.least) den, c.in-None.ensures.multiple));
     }
 
 pub loop-q-preserved : goal.loop-q-preserved
@@ -31,14 +35,29 @@ loop-q-preserved g c =
     let value = g.N.Exact.value in
     let den = cast_back c.den.result (value c.q-item.result).den c.den.ensures.denominator
     (omega (arith, (g.met.N.Exact.fits c.q-item.result).den_fits, g.met.N.Exact.limit_high)) in
-    let limit = cast_back c.LIMIT.result g.N.Exact.limit (c.LIMIT.ensures ∙ g.met.N.Exact.limit_told) (omega (arith, g.met.N.Exact.limit_high)) in
+    let limit =
+    cast_back c.LIMIT.result g.N.Exact.limit (c.LIMIT.ensures ∙ g.met.N.Exact.limit_told)
+    (omega (arith, g.met.N.Exact.limit_high)) in
     let is = c.in-Some.ensures.multiple.0 ∙ ap (λ n. lcm n c.loop-q.least) den in
     record {
-      least = λ before h. common_more value before c.args.numbers.now c.loop-q.q-index c.q-item.result c.loop-q.least c.in-Some.multiple c.loop-q-test.true c.q-item.is
+      least = λ before h. common_more value before c.args.numbers.now c.loop-q.q-index c.q-item.result c.loop-q.least
+          c.in-Some.multiple c.loop-q-test.true c.q-item.is
           (c.loop-q.invariant.least before h) is;
-      positive = omega (arith, is, lcm_pos (value c.q-item.result).den c.loop-q.least (den_pos (value c.q-item.result)) c.loop-q.invariant.positive);
+      positive = omega (
+        arith,
+        is,
+        lcm_pos (value c.q-item.result).den c.loop-q.least (den_pos (value c.q-item.result))
+            c.loop-q.invariant.positive,
+      );
       within = omega (arith, limit, c.in-Some.ensures.multiple.1);
     }
 
 pub returns : goal.returns
-returns g c = record { least = λ before h. (common_all g.N.Exact.value before c.args.numbers.now c.loop-q.q-index c.loop-q.least c.loop-q-test.false (c.loop-q.invariant.least before h), c.loop-q.invariant.within) }
+returns g c =
+    record {
+      least = λ before h. (
+        common_all g.N.Exact.value before c.args.numbers.now c.loop-q.q-index c.loop-q.least c.loop-q-test.false
+            (c.loop-q.invariant.least before h),
+        c.loop-q.invariant.within,
+      );
+    }

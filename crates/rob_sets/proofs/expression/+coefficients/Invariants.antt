@@ -26,7 +26,8 @@ invariant-sum-loop-term g l =
       linear : AreLinear m left;
       none_wide : Each (λ s. HasWideCoefficient g.N.Exact.limit m s → ⊥) (sums_from first left)
           → Each (λ s. HasWideCoefficient g.N.Exact.limit m s → ⊥) (sums_from no_terms all);
-      wide : Some_of (HasWideCoefficient g.N.Exact.limit m) (sums_from first left) → Some_of (HasWideCoefficient g.N.Exact.limit m) (sums_from no_terms all);
+      wide : Some_of (HasWideCoefficient g.N.Exact.limit m) (sums_from first left)
+          → Some_of (HasWideCoefficient g.N.Exact.limit m) (sums_from no_terms all);
       counted : NeverFell g.L.Ledger.ops g.L.Ledger.wides l.fn.ledger l.ledger;
     }
 

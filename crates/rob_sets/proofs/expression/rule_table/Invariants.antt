@@ -16,7 +16,8 @@ invariant-loop-parameter g l =
     record {
       list : l.parameter-items ≡ list_of m l.adaptive;
       column : l.column ≡ column_of m l.adaptive + 1 + l.parameter-index;
-      rest : (k j : ℕ) → numbers_of value l.table k j +ℚ rule_table (drop l.parameter-index (map (joint_number m l.set) l.parameter-items)) l.column k j
+      rest : (k j : ℕ) → numbers_of value l.table k j
+          +ℚ rule_table (drop l.parameter-index (map (joint_number m l.set) l.parameter-items)) l.column k j
           ≡ table m (adaptive_in l.adaptive l.set) k j;
       counted : NeverFell g.L.Ledger.ops g.L.Ledger.wides l.fn.ledger l.ledger;
     }

@@ -23,12 +23,16 @@ returns-in-Ok-clause-row g c =
     let l = expression_of value c.args.left.now in
     let r = expression_of value c.args.right.now in
     let f = numbers_of value c.in-Ok.table in
-    appends_then (expression_row m (difference l r) ∷ []) (judged_row m (length c.args.rows.now) (expression_row m (difference l r)) ∷ []) c.append_row.new.rows
-    (g.L.Ledger.wides c.args.ledger.now) (g.L.Ledger.wides c.difference_table.new.ledger) (g.L.Ledger.wides c.append_row.new.ledger) c.append_row.result
+    appends_then (expression_row m (difference l r) ∷ [])
+    (judged_row m (length c.args.rows.now) (expression_row m (difference l r)) ∷ []) c.append_row.new.rows
+    (g.L.Ledger.wides c.args.ledger.now) (g.L.Ledger.wides c.difference_table.new.ledger)
+    (g.L.Ledger.wides c.append_row.new.ledger) c.append_row.result
     (appends_nothing {judged = judge.coefficients (SetLine c.args.number) (difference l r) ∷ []} c.args.rows.now
     (each_none (HasWideCoefficient g.N.Exact.limit m) (subexpressions (difference l r)) c.in-Ok.ensures.none_wide, tt))
     c.difference_table.ensures.counted.wides
-    (subst (λ (row : lifted.SetRow). Appends g.N.Exact.limit m (row ∷ []) (judged_row m (length c.args.rows.now) row ∷ []) c.args.rows.now c.append_row.new.rows
+    (subst (λ (row : lifted.SetRow).
+    Appends g.N.Exact.limit m (row ∷ []) (judged_row m (length c.args.rows.now) row ∷ [])
+    c.args.rows.now c.append_row.new.rows
     (g.L.Ledger.wides c.difference_table.new.ledger) (g.L.Ledger.wides c.append_row.new.ledger) c.append_row.result)
     (side_row m l r f c.in-Ok.ensures.table c.requires.left.1 c.requires.right.1) c.append_row.ensures.row)
 
@@ -37,6 +41,8 @@ returns-in-Err-clause-row g c =
     let value = g.N.Exact.value in
     let m = robust value c.args.model.now in
     let e = difference (expression_of value c.args.left.now) (expression_of value c.args.right.now) in
-    stops_here g.N.Exact.limit m (judge.coefficients (SetLine c.args.number) e) (judged_row m (length c.args.rows.now) (expression_row m e) ∷ [])
-    c.in-Err.stop c.stopped.result (Coefficient (SetLine c.args.number)) (g.L.Ledger.wides c.args.ledger.now) (g.L.Ledger.wides c.args.ledger.now)
+    stops_here g.N.Exact.limit m (judge.coefficients (SetLine c.args.number) e)
+    (judged_row m (length c.args.rows.now) (expression_row m e) ∷ [])
+    c.in-Err.stop c.stopped.result (Coefficient (SetLine c.args.number)) (g.L.Ledger.wides c.args.ledger.now)
+    (g.L.Ledger.wides c.args.ledger.now)
     (g.L.Ledger.wides c.difference_table.new.ledger) c.stopped.ensures.error refl (omega arith) c.in-Err.ensures.wide

@@ -24,7 +24,8 @@ returns-in_err-table-clause-wide g c =
     let l = expression_of value c.args.left.now in
     let p = err_from_is_err_and c.from_residual.result c.from_residual.ensures.1 in
     stops_more c.from_residual.result c.in_err-table.field-0.0 p.0 p.1 p.2
-    (λ (h : Rose (g.L.Ledger.wides c.args.ledger.now) (g.L.Ledger.wides c.coefficients.new.ledger) × Some_of Q (subexpressions l)).
+    (λ (h : Rose (g.L.Ledger.wides c.args.ledger.now) (g.L.Ledger.wides c.coefficients.new.ledger)
+    × Some_of Q (subexpressions l)).
     (h.0, some_of_left Q l (expression_of value c.args.right.now) h.1))
     c.in_err-table.ensures.wide
 
@@ -36,8 +37,11 @@ returns-in_err-subtracted-clause-wide g c =
     let r = expression_of value c.args.right.now in
     let p = err_from_is_err_and c.from_residual-in_err-subtracted.result c.from_residual-in_err-subtracted.ensures.1 in
     stops_more c.from_residual-in_err-subtracted.result c.in_err-subtracted.field-0.0 p.0 p.1 p.2
-    (λ (h : Rose (g.L.Ledger.wides c.coefficients.new.ledger) (g.L.Ledger.wides c.coefficients-2.new.ledger) × Some_of Q (subexpressions r)).
-    (omega (arith, h.0, c.coefficients.ensures.counted.wides), some_of_right Q (expression_of value c.args.left.now) r h.1))
+    (λ (h : Rose (g.L.Ledger.wides c.coefficients.new.ledger) (g.L.Ledger.wides c.coefficients-2.new.ledger)
+    × Some_of Q (subexpressions r)). (
+      omega (arith, h.0, c.coefficients.ensures.counted.wides),
+      some_of_right Q (expression_of value c.args.left.now) r h.1,
+    ))
     c.in_err-subtracted.ensures.wide
 
 pub returns-in_err-join-clause-wide : goal.returns-in_err-join-clause-wide
@@ -50,14 +54,19 @@ returns-in_err-join-clause-wide g c =
     let p = err_from_is_err_and c.from_residual-in_err-join.result c.from_residual-in_err-join.ensures.1 in
     stops_more c.from_residual-in_err-join.result c.in_err-join.field-0.0 p.0 p.1 p.2
     (λ (h : Rose (g.L.Ledger.wides c.coefficients-2.new.ledger) (g.L.Ledger.wides c.join.new.ledger)
-    × ((k : ℕ) × (j : ℕ) × IsWide g.N.Exact.limit (numbers_of value c.in_ok-table.table k j +ℚ signed true (numbers_of value c.in_ok-subtracted.subtracted k j)))). (
+    × ((k : ℕ) × (j : ℕ)
+    × IsWide g.N.Exact.limit
+    (numbers_of value c.in_ok-table.table k j
+    +ℚ signed true (numbers_of value c.in_ok-subtracted.subtracted k j)))). (
       omega (arith, h.0, c.coefficients.ensures.counted.wides, c.coefficients-2.ensures.counted.wides),
       some_of_whole Q l r (
         h.1.0,
         h.1.1,
         subst (IsWide g.N.Exact.limit)
-            (difference-table m l r (numbers_of value c.in_ok-table.table) (numbers_of value c.in_ok-subtracted.subtracted)
-            (λ k j. numbers_of value c.in_ok-table.table k j +ℚ signed true (numbers_of value c.in_ok-subtracted.subtracted k j))
+            (difference-table m l r (numbers_of value c.in_ok-table.table)
+            (numbers_of value c.in_ok-subtracted.subtracted)
+            (λ k j. numbers_of value c.in_ok-table.table k j
+            +ℚ signed true (numbers_of value c.in_ok-subtracted.subtracted k j))
             c.in_ok-table.ensures.table c.in_ok-subtracted.ensures.table (λ k j. refl) h.1.0 h.1.1) h.1.2,
       ),
     ))
@@ -66,8 +75,10 @@ returns-in_err-join-clause-wide g c =
 pub returns-clause-table : goal.returns-clause-table
 returns-clause-table g c =
     let value = g.N.Exact.value in
-    difference-table (robust value c.args.model.now) (expression_of value c.args.left.now) (expression_of value c.args.right.now)
-    (numbers_of value c.in_ok-table.table) (numbers_of value c.in_ok-subtracted.subtracted) (numbers_of value c.join.new.self)
+    difference-table (robust value c.args.model.now) (expression_of value c.args.left.now)
+    (expression_of value c.args.right.now)
+    (numbers_of value c.in_ok-table.table) (numbers_of value c.in_ok-subtracted.subtracted)
+    (numbers_of value c.join.new.self)
     c.in_ok-table.ensures.table c.in_ok-subtracted.ensures.table c.in_ok-join.ensures.joined
 
 pub returns-clause-none_wide : goal.returns-clause-none_wide
@@ -76,10 +87,12 @@ returns-clause-none_wide g c =
     let m = robust value c.args.model.now in
     let l = expression_of value c.args.left.now in
     let r = expression_of value c.args.right.now in
-    each_of_difference (λ (s : Expression). HasWideCoefficient g.N.Exact.limit m s → ⊥) l r c.in_ok-table.ensures.none_wide
+    each_of_difference (λ (s : Expression). HasWideCoefficient g.N.Exact.limit m s → ⊥) l r
+    c.in_ok-table.ensures.none_wide
     (none_wide value g.N.Exact.limit g.met.N.Exact.fits g.met.N.Exact.limit_low m c.in_ok-table.table (alone l)
     (alone_table m l (numbers_of value c.in_ok-table.table) c.in_ok-table.ensures.table))
     c.in_ok-subtracted.ensures.none_wide
     (none_wide value g.N.Exact.limit g.met.N.Exact.fits g.met.N.Exact.limit_low m c.join.new.self (difference l r)
-    (difference-table m l r (numbers_of value c.in_ok-table.table) (numbers_of value c.in_ok-subtracted.subtracted) (numbers_of value c.join.new.self)
+    (difference-table m l r (numbers_of value c.in_ok-table.table) (numbers_of value c.in_ok-subtracted.subtracted)
+    (numbers_of value c.join.new.self)
     c.in_ok-table.ensures.table c.in_ok-subtracted.ensures.table c.in_ok-join.ensures.joined))

@@ -20,10 +20,17 @@ returns-clause-row g c =
     let value = g.N.Exact.value in
     let m = robust value c.args.model.now in
     let row = row_of (numbers_of value c.args.table.now) in
-    stops_here g.N.Exact.limit m (judged_row m (length c.args.rows.now) row) [] c.in-Err.stop c.stopped.result (Clearing (SetRow (length c.items.result.now)))
-    (g.L.Ledger.wides c.args.ledger.now) (g.L.Ledger.wides c.row_numbers.new.ledger) (g.L.Ledger.wides c.clear.new.ledger)
-    c.stopped.ensures.error (ap (λ (xs : List SetRowData). Clearing (SetRow (length xs))) (sym c.items.ensures.list)) c.row_numbers.ensures.counted.wides
-    (subst (λ (qs : List Fraction). StopsFor (Rose (g.L.Ledger.wides c.row_numbers.new.ledger) (g.L.Ledger.wides c.clear.new.ledger) × IsWideCleared g.N.Exact.limit qs) c.in-Err.stop)
-    (ap (map value) c.deref.ensures.value ∙ row_is value c.args.model.now (numbers_of value c.args.table.now) (length c.items-2.result.now) c.lift_count-lifts.result c.in_ok-numbers.numbers.items
+    stops_here g.N.Exact.limit m (judged_row m (length c.args.rows.now) row) [] c.in-Err.stop c.stopped.result
+    (Clearing (SetRow (length c.items.result.now)))
+    (g.L.Ledger.wides c.args.ledger.now) (g.L.Ledger.wides c.row_numbers.new.ledger)
+    (g.L.Ledger.wides c.clear.new.ledger)
+    c.stopped.ensures.error (ap (λ (xs : List SetRowData). Clearing (SetRow (length xs))) (sym c.items.ensures.list))
+    c.row_numbers.ensures.counted.wides
+    (subst (λ (qs : List Fraction).
+    StopsFor (Rose (g.L.Ledger.wides c.row_numbers.new.ledger) (g.L.Ledger.wides c.clear.new.ledger)
+    × IsWideCleared g.N.Exact.limit qs) c.in-Err.stop)
+    (ap (map value) c.deref.ensures.value
+    ∙ row_is value c.args.model.now (numbers_of value c.args.table.now) (length c.items-2.result.now)
+    c.lift_count-lifts.result c.in_ok-numbers.numbers.items
     (ap length c.items-2.ensures.list) c.lift_count-lifts.ensures.count c.in_ok-numbers.ensures.numbers)
     c.in-Err.ensures.wide)

@@ -19,6 +19,7 @@ abbrev pub invariant-loop-t : goal.invariant-loop-t
 invariant-loop-t g l =
     let row = row_of (numbers_of g.N.Exact.value l.table) in
     record {
-      numbers : map g.N.Exact.value l.numbers.items ≡ row.limit ∷ (tabulate l.parameters row.on_parameters ++ tabulate l.t row.on_lifts);
+      numbers : map g.N.Exact.value l.numbers.items
+          ≡ row.limit ∷ (tabulate l.parameters row.on_parameters ++ tabulate l.t row.on_lifts);
       counted : NeverFell g.L.Ledger.ops g.L.Ledger.wides l.fn.ledger l.ledger;
     }

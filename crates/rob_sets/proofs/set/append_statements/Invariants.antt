@@ -15,7 +15,9 @@ invariant-loop-line g l =
     record {
       number : l.number ≡ l.line-index;
       lifts : l.lift + lift_count left ≡ lift_count m.set_lines;
-      progress : Progress (cleared_row m) (RowFits g.N.Exact.limit) g.N.Exact.limit m (statement_rows m zero m.set_lines) (statement_rows m l.lift left)
-          (judged_statements m zero zero (length l.fn.rows) m.set_lines) (judged_statements m l.number l.lift (length l.rows) left) l.fn.rows l.rows;
+      progress : Progress (cleared_row m) (RowFits g.N.Exact.limit) g.N.Exact.limit m
+          (statement_rows m zero m.set_lines) (statement_rows m l.lift left)
+          (judged_statements m zero zero (length l.fn.rows) m.set_lines)
+          (judged_statements m l.number l.lift (length l.rows) left) l.fn.rows l.rows;
       counted : NeverFell g.L.Ledger.ops g.L.Ledger.wides l.fn.ledger l.ledger;
     }

@@ -27,10 +27,16 @@ returns-in_err-append_statements-clause-cause g c =
     let bounds = bound_rows zero m.parameters in
     let many : length c.append_bounds.new.rows ≡ length bounds =
     omega (arith, appended_length c.in_ok-append_bounds.ensures.rows) in
-    let q = err_from_is_err_and c.from_residual-in_err-append_statements.result c.from_residual-in_err-append_statements.ensures.1 in
-    cause_err g.N.Exact.limit m (judged_set m) c.from_residual-in_err-append_statements.result c.in_err-append_statements.field-0.0 q.0 q.1 q.2
-    (stops_right g.N.Exact.limit m (judged_rows m zero bounds) (judged_statements m zero zero (length bounds) m.set_lines) c.in_err-append_statements.field-0.0
-    (g.L.Ledger.wides c.append_bounds.new.ledger) (g.L.Ledger.wides c.append_bounds.new.ledger) (g.L.Ledger.wides c.append_statements.new.ledger) (omega arith)
+    let q = err_from_is_err_and c.from_residual-in_err-append_statements.result
+    c.from_residual-in_err-append_statements.ensures.1 in
+    cause_err g.N.Exact.limit m (judged_set m) c.from_residual-in_err-append_statements.result
+    c.in_err-append_statements.field-0.0 q.0 q.1 q.2
+    (stops_right g.N.Exact.limit m (judged_rows m zero bounds)
+    (judged_statements m zero zero (length bounds) m.set_lines) c.in_err-append_statements.field-0.0
+    (g.L.Ledger.wides c.append_bounds.new.ledger) (g.L.Ledger.wides c.append_bounds.new.ledger)
+    (g.L.Ledger.wides c.append_statements.new.ledger) (omega arith)
     c.in_ok-append_bounds.ensures.rows.none_wide
-    (subst (λ k. StopsAt g.N.Exact.limit m (judged_statements m zero zero k m.set_lines) (g.L.Ledger.wides c.append_bounds.new.ledger)
-    (g.L.Ledger.wides c.append_statements.new.ledger) c.in_err-append_statements.field-0.0) many c.in_err-append_statements.ensures.rows)).cause
+    (subst (λ k. StopsAt g.N.Exact.limit m (judged_statements m zero zero k m.set_lines)
+    (g.L.Ledger.wides c.append_bounds.new.ledger)
+    (g.L.Ledger.wides c.append_statements.new.ledger) c.in_err-append_statements.field-0.0) many
+    c.in_err-append_statements.ensures.rows)).cause

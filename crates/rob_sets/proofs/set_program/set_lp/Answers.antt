@@ -6,18 +6,36 @@ use Rattle.rob_sets.proofs.set_program.set_lp.Goals as goal
 
 pub returns-clause-program : goal.returns-clause-program
 returns-clause-program c =
-    is_over c.args.set.now (record { a = c.in_ok-left_in_pairs.field-0; b = c.in_ok-rights.field-0; c = c.in_ok-zeros.field-0 })
-    (c.in_ok-left_in_pairs.ensures.rows ∙ ap (λ (rows : List SetRow). map in_pairs (left_sides rows)) c.items-rows.ensures.list)
-    (c.in_ok-rights.ensures.rights ∙ ap right_sides c.items-rows.ensures.list) c.in_ok-zeros.ensures.zeros c.in_ok-zeros.ensures.many
+    is_over c.args.set.now (record {
+      a = c.in_ok-left_in_pairs.field-0;
+      b = c.in_ok-rights.field-0;
+      c = c.in_ok-zeros.field-0;
+    })
+    (c.in_ok-left_in_pairs.ensures.rows
+    ∙ ap (λ (rows : List SetRow). map in_pairs (left_sides rows)) c.items-rows.ensures.list)
+    (c.in_ok-rights.ensures.rights ∙ ap right_sides c.items-rows.ensures.list) c.in_ok-zeros.ensures.zeros
+    c.in_ok-zeros.ensures.many
 
 pub returns-clause-shaped : goal.returns-clause-shaped
 returns-clause-shaped c =
-    is_shaped c.args.set.now (record { a = c.in_ok-left_in_pairs.field-0; b = c.in_ok-rights.field-0; c = c.in_ok-zeros.field-0 })
-    (c.in_ok-left_in_pairs.ensures.rows ∙ ap (λ (rows : List SetRow). map in_pairs (left_sides rows)) c.items-rows.ensures.list)
-    (c.in_ok-rights.ensures.rights ∙ ap right_sides c.items-rows.ensures.list) c.in_ok-zeros.ensures.zeros c.in_ok-zeros.ensures.many c.requires.whole
+    is_shaped c.args.set.now (record {
+      a = c.in_ok-left_in_pairs.field-0;
+      b = c.in_ok-rights.field-0;
+      c = c.in_ok-zeros.field-0;
+    })
+    (c.in_ok-left_in_pairs.ensures.rows
+    ∙ ap (λ (rows : List SetRow). map in_pairs (left_sides rows)) c.items-rows.ensures.list)
+    (c.in_ok-rights.ensures.rights ∙ ap right_sides c.items-rows.ensures.list) c.in_ok-zeros.ensures.zeros
+    c.in_ok-zeros.ensures.many c.requires.whole
 
 pub returns-clause-within : goal.returns-clause-within
 returns-clause-within c =
-    is_within c.args.set.now (record { a = c.in_ok-left_in_pairs.field-0; b = c.in_ok-rights.field-0; c = c.in_ok-zeros.field-0 })
-    (c.in_ok-left_in_pairs.ensures.rows ∙ ap (λ (rows : List SetRow). map in_pairs (left_sides rows)) c.items-rows.ensures.list)
-    (c.in_ok-rights.ensures.rights ∙ ap right_sides c.items-rows.ensures.list) c.in_ok-zeros.ensures.zeros c.in_ok-zeros.ensures.many
+    is_within c.args.set.now (record {
+      a = c.in_ok-left_in_pairs.field-0;
+      b = c.in_ok-rights.field-0;
+      c = c.in_ok-zeros.field-0;
+    })
+    (c.in_ok-left_in_pairs.ensures.rows
+    ∙ ap (λ (rows : List SetRow). map in_pairs (left_sides rows)) c.items-rows.ensures.list)
+    (c.in_ok-rights.ensures.rights ∙ ap right_sides c.items-rows.ensures.list) c.in_ok-zeros.ensures.zeros
+    c.in_ok-zeros.ensures.many

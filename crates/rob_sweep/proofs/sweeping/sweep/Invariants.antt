@@ -10,7 +10,8 @@ abbrev pub invariant-loop-limit : goal.invariant-loop-limit
 invariant-loop-limit g l =
     let value = g.N.Exact.value in
     record {
-      answered : HasSwept g.N.Exact.limit (robust value l.model) l.n (map value l.limits) (map value (drop l.limit-index l.limits)) l.number
+      answered : HasSwept g.N.Exact.limit (robust value l.model) l.n (map value l.limits)
+          (map value (drop l.limit-index l.limits)) l.number
           (map (answer_of value) l.answers);
       counted : NeverFell g.L.Ledger.ops g.L.Ledger.wides l.fn.ledger l.ledger;
       number : l.number ≡ l.limit-index;

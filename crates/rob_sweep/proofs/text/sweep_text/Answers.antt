@@ -8,8 +8,10 @@ pub loop-i-preserved : goal.loop-i-preserved
 loop-i-preserved g c =
     let value = g.N.Exact.value in
     text_more value (answer_of value) c.args.limits.now c.args.answers.now c.loop-i.i
-    (sweep_text (map value c.args.limits.now) (map (answer_of value) c.args.answers.now)) c.index-limits-i.result c.index-answers-i.result
-    c.loop-i.text c.put_answer.new.out c.loop-i-test.true (omega (arith, c.requires.count, c.loop-i-test.true)) c.index-limits-i.is
+    (sweep_text (map value c.args.limits.now) (map (answer_of value) c.args.answers.now)) c.index-limits-i.result
+    c.index-answers-i.result
+    c.loop-i.text c.put_answer.new.out c.loop-i-test.true
+    (omega (arith, c.requires.count, c.loop-i-test.true)) c.index-limits-i.is
     c.index-answers-i.is c.in_ok-put_answer.ensures.appended c.loop-i.invariant
 
 pub returns : goal.returns
@@ -17,6 +19,7 @@ returns g c =
     let value = g.N.Exact.value in
     record {
       text = text_all value (answer_of value) c.args.limits.now c.args.answers.now c.loop-i.i
-          (sweep_text (map value c.args.limits.now) (map (answer_of value) c.args.answers.now)) c.loop-i.text c.loop-i-test.false
+          (sweep_text (map value c.args.limits.now) (map (answer_of value) c.args.answers.now))
+          c.loop-i.text c.loop-i-test.false
           c.loop-i.invariant;
     }

@@ -4,12 +4,7 @@ use Rattle.rob_top.proofs.CheckingLemmas.{accepted_answers, rejected_answers, re
 use Rattle.rob_top.proofs.checking.check_cert.Goals as goal
 
 pub check-requires-clause-elaborated : goal.check-requires-clause-elaborated
-check-requires-clause-elaborated g c = record {
-  are_forms = c.requires.forms;
-  is_set = c.requires.set;
-  forms_fit = c.requires.forms_fit;
-  set_fits = c.requires.set_fits;
-}
+check-requires-clause-elaborated g c = c.requires.elaborated
 
 pub rejected-requires-clause-named : goal.rejected-requires-clause-named
 rejected-requires-clause-named g c =

@@ -18,5 +18,5 @@ returns-in-Ok-clause-answers g c =
 pub returns-in-Err-Rule-clause-answers : goal.returns-in-Err-Rule-clause-answers
 returns-in-Err-Rule-clause-answers g c =
     rule_answers g.N.Exact.limit (robust g.N.Exact.value c.args.model.now) _ c.args.text.now c.in-Err-Rule.rule
-    c.in-Err-Rule.number c.broken_rule.result (rw c.in-Err-Rule.field-0-is at c.in-Err-Rule.ensures.fault)
-    c.broken_rule.ensures.fault
+    c.in-Err-Rule.number c.certificate_rule.result (rw c.in-Err-Rule.field-0-is at c.in-Err-Rule.ensures.fault)
+    c.certificate_rule.ensures.fault

@@ -12,12 +12,7 @@ pub find-requires-clause-model : goal.find-requires-clause-model
 find-requires-clause-model g c = record {
   elaborated = record {
     model = robust g.N.Exact.value c.args.model.now;
-    elaborated = record {
-      are_forms = c.requires.forms;
-      is_set = c.requires.set;
-      forms_fit = c.requires.forms_fit;
-      set_fits = c.requires.set_fits;
-    };
+    elaborated = c.requires.elaborated;
   };
   is_model = c.requires.valid.well_formed;
 }
@@ -29,7 +24,7 @@ returns-in-Ok-clause-told g c =
     (λ (told : RouteLine). told.spot) (λ (told : RouteLine). told.text) c.status_line.result
     c.requires.valid.well_formed
     (c.in-Ok.ensures.solves (robust g.N.Exact.value c.args.model.now) c.requires.valid.well_formed
-    c.requires.forms c.requires.set).found
+    c.requires.elaborated.are_forms c.requires.elaborated.is_set).found
     (solution_fits g.N.Exact.value g.N.Exact.limit g.met.N.Exact.fits
     (robust g.N.Exact.value c.args.model.now) c.in-Ok.cert)
     c.status_line.ensures.line c.status_line.ensures.no_spot
@@ -38,7 +33,7 @@ pub returns-in-Ok-clause-counted : goal.returns-in-Ok-clause-counted
 returns-in-Ok-clause-counted g c =
     solve_counted c.args.route g.N.Exact.value g.N.Exact.limit (robust g.N.Exact.value c.args.model.now) _ _ _
     (c.find.ensures.solves (robust g.N.Exact.value c.args.model.now) c.requires.valid.well_formed
-    c.requires.forms c.requires.set)
+    c.requires.elaborated.are_forms c.requires.elaborated.is_set)
 
 pub wide_line-requires-clause-named : goal.wide_line-requires-clause-named
 wide_line-requires-clause-named g c =
@@ -48,7 +43,7 @@ wide_line-requires-clause-named g c =
     c.find.result c.in-Err-Wide.field-0 _
     c.in-Err-Wide.is c.in-Err-Wide.field-0-is
     (c.find.ensures.solves (robust g.N.Exact.value c.args.model.now) c.requires.valid.well_formed
-    c.requires.forms c.requires.set))).0
+    c.requires.elaborated.are_forms c.requires.elaborated.is_set))).0
 
 pub wide_line-requires-clause-rounds : goal.wide_line-requires-clause-rounds
 wide_line-requires-clause-rounds g c =
@@ -58,7 +53,7 @@ wide_line-requires-clause-rounds g c =
     c.find.result c.in-Err-Wide.field-0 _
     c.in-Err-Wide.is c.in-Err-Wide.field-0-is
     (c.find.ensures.solves (robust g.N.Exact.value c.args.model.now) c.requires.valid.well_formed
-    c.requires.forms c.requires.set))).1
+    c.requires.elaborated.are_forms c.requires.elaborated.is_set))).1
 
 pub returns-in-Err-Wide-clause-told : goal.returns-in-Err-Wide-clause-told
 returns-in-Err-Wide-clause-told g c =
@@ -69,12 +64,12 @@ returns-in-Err-Wide-clause-told g c =
     c.find.result c.in-Err-Wide.field-0 _
     c.in-Err-Wide.is c.in-Err-Wide.field-0-is
     (c.find.ensures.solves (robust g.N.Exact.value c.args.model.now) c.requires.valid.well_formed
-    c.requires.forms c.requires.set))
+    c.requires.elaborated.are_forms c.requires.elaborated.is_set))
     (stop_fits g.N.Exact.value g.N.Exact.limit (robust g.N.Exact.value c.args.model.now) c.args.route _ _
     c.find.result c.in-Err-Wide.field-0 _
     c.in-Err-Wide.is c.in-Err-Wide.field-0-is
     (c.find.ensures.solves (robust g.N.Exact.value c.args.model.now) c.requires.valid.well_formed
-    c.requires.forms c.requires.set))
+    c.requires.elaborated.are_forms c.requires.elaborated.is_set))
     c.wide_line.ensures.line c.wide_line.ensures.spot
 
 pub returns-in-Err-Wide-clause-rose : goal.returns-in-Err-Wide-clause-rose
@@ -86,14 +81,14 @@ returns-in-Err-Wide-clause-rose g c =
     c.find.result c.in-Err-Wide.field-0 _
     c.in-Err-Wide.is c.in-Err-Wide.field-0-is
     (c.find.ensures.solves (robust g.N.Exact.value c.args.model.now) c.requires.valid.well_formed
-    c.requires.forms c.requires.set))
+    c.requires.elaborated.are_forms c.requires.elaborated.is_set))
     c.wide_line.ensures.spot
 
 pub returns-in-Err-Wide-clause-counted : goal.returns-in-Err-Wide-clause-counted
 returns-in-Err-Wide-clause-counted g c =
     solve_counted c.args.route g.N.Exact.value g.N.Exact.limit (robust g.N.Exact.value c.args.model.now) _ _ _
     (c.find.ensures.solves (robust g.N.Exact.value c.args.model.now) c.requires.valid.well_formed
-    c.requires.forms c.requires.set)
+    c.requires.elaborated.are_forms c.requires.elaborated.is_set)
 
 pub unreachable-requires : goal.unreachable-requires
 unreachable-requires g c =
@@ -102,10 +97,10 @@ unreachable-requires g c =
     c.in-Err-EmptySet.field-0 _
     c.in-Err-EmptySet.is c.in-Err-EmptySet.field-0-is
     (c.find.ensures.solves (robust g.N.Exact.value c.args.model.now) c.requires.valid.well_formed
-    c.requires.forms c.requires.set))
+    c.requires.elaborated.are_forms c.requires.elaborated.is_set))
 
 pub returns-clause-counted : goal.returns-clause-counted
 returns-clause-counted g c =
     solve_counted c.args.route g.N.Exact.value g.N.Exact.limit (robust g.N.Exact.value c.args.model.now) _ _ _
     (c.find.ensures.solves (robust g.N.Exact.value c.args.model.now) c.requires.valid.well_formed
-    c.requires.forms c.requires.set)
+    c.requires.elaborated.are_forms c.requires.elaborated.is_set)

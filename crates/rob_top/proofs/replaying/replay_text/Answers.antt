@@ -14,5 +14,5 @@ returns-in-Ok-clause-answers g c =
 pub returns-in-Err-Rule-clause-answers : goal.returns-in-Err-Rule-clause-answers
 returns-in-Err-Rule-clause-answers g c =
     unread_answers g.N.Exact.limit (robust g.N.Exact.value c.args.model.now) _ c.args.certificate.now c.args.text.now
-    c.in-Err-Rule.rule c.in-Err-Rule.number c.broken_rule.result
-    (rw c.in-Err-Rule.field-0-is at c.in-Err-Rule.ensures.fault) c.broken_rule.ensures.fault
+    c.in-Err-Rule.rule c.in-Err-Rule.number c.certificate_rule.result
+    (rw c.in-Err-Rule.field-0-is at c.in-Err-Rule.ensures.fault) c.certificate_rule.ensures.fault

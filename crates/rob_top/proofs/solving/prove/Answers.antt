@@ -10,12 +10,7 @@ pub find-requires-clause-model : goal.find-requires-clause-model
 find-requires-clause-model g c = record {
   elaborated = record {
     model = robust g.N.Exact.value c.args.model.now;
-    elaborated = record {
-      are_forms = c.requires.forms;
-      is_set = c.requires.set;
-      forms_fit = c.requires.forms_fit;
-      set_fits = c.requires.set_fits;
-    };
+    elaborated = c.requires.elaborated;
   };
   is_model = c.requires.valid.well_formed;
 }
@@ -23,18 +18,19 @@ find-requires-clause-model g c = record {
 pub find-requires-clause-few : goal.find-requires-clause-few
 find-requires-clause-few g c =
     counterpart_few (robust g.N.Exact.value c.args.model.now) c.requires.valid.limits c.args.forms.now c.args.set.now
-    c.requires.forms c.requires.set
+    c.requires.elaborated.are_forms c.requires.elaborated.is_set
 
 pub proved-requires-clause-shape : goal.proved-requires-clause-shape
 proved-requires-clause-shape g c =
-    (c.in-Ok.ensures.solves (robust g.N.Exact.value c.args.model.now) c.requires.valid.well_formed c.requires.forms
-    c.requires.set).found.shape
+    (c.in-Ok.ensures.solves (robust g.N.Exact.value c.args.model.now) c.requires.valid.well_formed
+    c.requires.elaborated.are_forms
+    c.requires.elaborated.is_set).found.shape
 
 pub stopped-requires-clause-named : goal.stopped-requires-clause-named
 stopped-requires-clause-named g c =
     stop_of (robust g.N.Exact.value c.args.model.now) c.args.route g.N.Exact.limit c.in-Err.stop
     (c.in-Err.ensures.solves (robust g.N.Exact.value c.args.model.now) c.requires.valid.well_formed
-    c.requires.forms c.requires.set).stopped
+    c.requires.elaborated.are_forms c.requires.elaborated.is_set).stopped
 
 pub returns-in-Ok-clause-answers : goal.returns-in-Ok-clause-answers
 returns-in-Ok-clause-answers g c =
@@ -42,24 +38,25 @@ returns-in-Ok-clause-answers g c =
     c.requires.valid.well_formed c.args.route
     (certificate_of g.N.Exact.value c.in-Ok.cert) _
     (c.in-Ok.ensures.solves (robust g.N.Exact.value c.args.model.now) c.requires.valid.well_formed
-    c.requires.forms c.requires.set).found
+    c.requires.elaborated.are_forms c.requires.elaborated.is_set).found
     (solution_fits g.N.Exact.value g.N.Exact.limit g.met.N.Exact.fits
     (robust g.N.Exact.value c.args.model.now) c.in-Ok.cert)
-    (c.in-Ok.ensures.solves (robust g.N.Exact.value c.args.model.now) c.requires.valid.well_formed c.requires.forms
-    c.requires.set).fits _ c.proved.result
+    (c.in-Ok.ensures.solves (robust g.N.Exact.value c.args.model.now) c.requires.valid.well_formed
+    c.requires.elaborated.are_forms
+    c.requires.elaborated.is_set).fits _ c.proved.result
     c.proved.ensures.certificate
 
 pub returns-in-Ok-clause-counted : goal.returns-in-Ok-clause-counted
 returns-in-Ok-clause-counted g c =
     solve_counted c.args.route g.N.Exact.value g.N.Exact.limit (robust g.N.Exact.value c.args.model.now) _ _ _
     (c.find.ensures.solves (robust g.N.Exact.value c.args.model.now) c.requires.valid.well_formed
-    c.requires.forms c.requires.set)
+    c.requires.elaborated.are_forms c.requires.elaborated.is_set)
 
 pub returns-clause-answers : goal.returns-clause-answers
 returns-clause-answers g c =
     let solved =
     c.in-Err.ensures.solves (robust g.N.Exact.value c.args.model.now) c.requires.valid.well_formed
-    c.requires.forms c.requires.set in
+    c.requires.elaborated.are_forms c.requires.elaborated.is_set in
     stopped_answers g.N.Exact.limit (robust g.N.Exact.value c.args.model.now) (g.L.Ledger.wides c.args.ledger.now)
     (g.L.Ledger.wides c.find.new.ledger) Prove
     c.args.route c.in-Err.stop c.stopped.result refl solved.stopped solved.fits solved.counted c.stopped.ensures.stop
@@ -68,4 +65,4 @@ pub returns-clause-counted : goal.returns-clause-counted
 returns-clause-counted g c =
     solve_counted c.args.route g.N.Exact.value g.N.Exact.limit (robust g.N.Exact.value c.args.model.now) _ _ _
     (c.find.ensures.solves (robust g.N.Exact.value c.args.model.now) c.requires.valid.well_formed
-    c.requires.forms c.requires.set)
+    c.requires.elaborated.are_forms c.requires.elaborated.is_set)

@@ -32,7 +32,7 @@ loop-rest-preserved g c =
           c.first_part.result.0.now behind c.loop-rest.invariant.0 (ap (option_map (λ word. word.now)) c.in-Some.is)
           c.first_part.ensures.parts)
           (f c.in-Some-cut_at.next) c.in-Some-cut_at.ensures.cut
-          (not_three_told f c.items.result.now c.loop-rest.cuts c.items.ensures.list c.if-items-eq3.false)),
+          (not_three_told f c.items.result.now c.loop-rest.cuts c.items.ensures.list c.if-items-eq-MOST_CUTS.false)),
       omega (arith, c.loop-rest.invariant.1, c.cut_at.ensures.counted),
     )
 

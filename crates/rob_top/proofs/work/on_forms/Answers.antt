@@ -45,19 +45,16 @@ narrow-requires g c =
     record {
       model = record {
         model = m;
-        elaborated = record {
-          are_forms = c.requires.forms;
-          is_set = c.requires.set;
-          forms_fit = c.requires.forms_fit;
-          set_fits = c.requires.set_fits;
-        };
+        elaborated = c.requires.elaborated;
       };
-      few = counterpart_few m c.requires.valid.limits c.args.forms.now c.args.set.now c.requires.forms c.requires.set;
+      few = counterpart_few m c.requires.valid.limits c.args.forms.now c.args.set.now c.requires.elaborated.are_forms
+          c.requires.elaborated.is_set;
     }
 
 pub returns-in-Narrow-clause-answers : goal.returns-in-Narrow-clause-answers
 returns-in-Narrow-clause-answers g c =
     let m = robust g.N.Exact.value c.args.model.now in
     narrow_answers g.N.Exact.limit m _ c.args.verb c.args.texts.now c.narrow.result c.in-Narrow.is
-    (of_model m c.narrow.result c.args.forms.now c.args.set.now g.N.Exact.limit c.requires.forms c.requires.set
+    (of_model m c.narrow.result c.args.forms.now c.args.set.now g.N.Exact.limit c.requires.elaborated.are_forms
+    c.requires.elaborated.is_set
     c.narrow.ensures.narrow)

@@ -9,7 +9,8 @@ returns-in-None g c =
     let xs = (robust g.N.Exact.value c.args.model.now).variables in
     record {
       test = product_over xs c.args.names.now c.loop-column.column-index _ _ c.loop-column.so_far c.range_at.result
-          (product_of_ranges xs c.args.names.now) c.loop-column-test.true refl c.range_at.ensures.range c.loop-column.invariant.product
+          (product_of_ranges xs c.args.names.now) c.loop-column-test.true refl c.range_at.ensures.range
+          c.loop-column.invariant.product
           c.in-None.ensures.product;
     }
 
@@ -18,7 +19,8 @@ loop-column-preserved g c =
     let xs = (robust g.N.Exact.value c.args.model.now).variables in
     record {
       product = product_more xs c.args.names.now c.loop-column.column-index _ _ c.loop-column.so_far c.range_at.result
-          (product_of_ranges xs c.args.names.now) c.loop-column-test.true refl c.range_at.ensures.range c.loop-column.invariant.product
+          (product_of_ranges xs c.args.names.now) c.loop-column-test.true refl c.range_at.ensures.range
+          c.loop-column.invariant.product
           c.in-Some.product c.in-Some.ensures.product.0;
       few = c.in-Some.ensures.product.1;
     }

@@ -11,7 +11,8 @@ pub unwrap-requires : goal.unwrap-requires
 unwrap-requires g c =
     let limit = g.N.Exact.limit in
     let seen = whole_seen limit c.args.number g.met.N.Exact.limit_high c.requires.within in
-    ok_where_fits limit (of_pair c.args.number 1) g.N.Exact.value c.from_parts.result (c.from_parts.ensures.exact ∙ ap (kept limit) seen)
+    ok_where_fits limit (of_pair c.args.number 1) g.N.Exact.value c.from_parts.result
+    (c.from_parts.ensures.exact ∙ ap (kept limit) seen)
     (whole_fits limit c.args.number c.requires.within g.met.N.Exact.limit_low)
 
 pub returns : goal.returns
@@ -20,4 +21,7 @@ returns g c =
     let seen = whole_seen limit c.args.number g.met.N.Exact.limit_high c.requires.within in
     let e = c.from_parts.ensures.exact ∙ ap (kept limit) seen in
     let o = subst (λ r. answer g.N.Exact.value r ≡ kept limit (of_pair c.args.number 1)) c.unwrap.ensures e in
-    record { value = (ok_tells limit (of_pair c.args.number 1) (g.N.Exact.value c.unwrap.result) o).0 ∙ of_int-one c.args.number 1 refl }
+    record {
+      value = (ok_tells limit (of_pair c.args.number 1) (g.N.Exact.value c.unwrap.result) o).0
+          ∙ of_int-one c.args.number 1 refl;
+    }

@@ -35,9 +35,13 @@ returns-in_ok-put_node-in-Split g t c =
     let second : c.deref-in-Split.result.now ≡ c.in-Split.above.value = search rules in
     record {
       appended = on_ok c.put_node-in-Split.result
-          (λ last. split_text m c.in-Split.column c.in-Split.k (node_of value c.in-Split.below.value) (node_of value c.in-Split.above.value)
+          (λ last. split_text m c.in-Split.column c.in-Split.k (node_of value c.in-Split.below.value)
+          (node_of value c.in-Split.above.value)
           c.args.out.now _ _ _
-          (c.in_ok-put_branch-in-Split.ensures.appended ∙ ap (λ z. c.args.out.now ++ spaced (codes "branch" ∷ (name_at (column_names m) c.in-Split.column ∷ (signed_decimal z ∷ [])))) (seen c.in-Split.k small))
+          (c.in_ok-put_branch-in-Split.ensures.appended
+          ∙ ap (λ z. c.args.out.now
+          ++ spaced (codes "branch" ∷ (name_at (column_names m) c.in-Split.column ∷ (signed_decimal z ∷ []))))
+          (seen c.in-Split.k small))
           (c.in_ok-put_node-in-Split.ensures.appended ∙ ap (λ n. c.put_branch.new.out ++ text (node_of value n)) first)
           (last ∙ ap (λ n. c.put_node.new.out ++ text (node_of value n)) second)
           ∙ ap (λ n. c.args.out.now ++ pieces_text (naming_of m) (pieces (node_of value n))) (sym c.in-Split.is))

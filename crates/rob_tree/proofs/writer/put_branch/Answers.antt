@@ -9,7 +9,10 @@ use Rattle.rob_tree.proofs.writer.put_branch.Goals as goal
 pub returns : goal.returns
 returns g c = record {
   appended = on_ok c.push-3.result
-      (λ last. branch_line (column_names (robust g.N.Exact.value c.args.model.now)) c.args.column c.args.k c.args.out.now _ _ _ _ _
-      c.in_ok-push.ensures.appended c.in_ok-put_column_name.ensures.appended c.in_ok-push-2.ensures.appended (c.in_ok-put_whole.ensures.appended ∙ ap (λ z. c.push-2.new.self ++ signed_decimal z) (to_z-of_z c.ranges.k)) last)
+      (λ last. branch_line (column_names (robust g.N.Exact.value c.args.model.now)) c.args.column c.args.k
+      c.args.out.now _ _ _ _ _
+      c.in_ok-push.ensures.appended c.in_ok-put_column_name.ensures.appended c.in_ok-push-2.ensures.appended
+      (c.in_ok-put_whole.ensures.appended ∙ ap (λ z. c.push-2.new.self ++ signed_decimal z) (to_z-of_z c.ranges.k))
+      last)
       c.push-3.ensures.appended;
 }

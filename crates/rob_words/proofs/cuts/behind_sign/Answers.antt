@@ -9,4 +9,5 @@ returns-in-None-clause-sign c =
 
 pub returns-in-None-clause-number : goal.returns-in-None-clause-number
 returns-in-None-clause-number c =
-    sym (nothing_stripped c.args.word.now (strip_prefix_char 45 c.args.word.now None c.in-None.ensures.cases (omega arith)))
+    sym (nothing_stripped c.args.word.now
+    (strip_prefix_char 45 c.args.word.now None c.in-None.ensures.cases (omega arith)))

@@ -19,8 +19,10 @@ pub returns-then-not-are_of_kinds-clause-cause : goal.returns-then-not-are_of_ki
 returns-then-not-are_of_kinds-clause-cause c = λ line.
     let told =
     c.are_of_kinds.ensures.kinds.1
-    (of_kinds_again string_bytes c.greatest.result (greatest_of c.in_ok-width.width) c.own.result.now (own_of c.in_ok-verb.verb)
-    c.as_slice.result.now c.in_ok-texts.texts.own.items c.greatest.ensures.greatest c.own.ensures.own c.as_slice.ensures.value
+    (of_kinds_again string_bytes c.greatest.result (greatest_of c.in_ok-width.width) c.own.result.now
+    (own_of c.in_ok-verb.verb)
+    c.as_slice.result.now c.in_ok-texts.texts.own.items c.greatest.ensures.greatest c.own.ensures.own
+    c.as_slice.ensures.value
     (line-kinds c.in_ok-verb.verb (map string_bytes c.args.words.now) c.in_ok-verb.ensures.named.0
     c.in_ok-verb.ensures.named.1 line _ c.in_ok-texts.ensures.texts c.in_ok-width.width c.in_ok-width.ensures.judged))
     in
@@ -46,7 +48,8 @@ returns-clause-line c =
     spelled-line c.in_ok-verb.verb (map string_bytes c.args.words.now) c.in_ok-verb.ensures.named.0 _
     c.in_ok-width.width c.in_ok-route.route
     c.in_ok-verb.ensures.named.1 c.in_ok-texts.ensures.texts
-    (of_kinds_again string_bytes (greatest_of c.in_ok-width.width) c.greatest.result (own_of c.in_ok-verb.verb) c.own.result.now
+    (of_kinds_again string_bytes (greatest_of c.in_ok-width.width) c.greatest.result
+    (own_of c.in_ok-verb.verb) c.own.result.now
     c.in_ok-texts.texts.own.items c.as_slice.result.now (sym c.greatest.ensures.greatest) (sym c.own.ensures.own)
     (sym c.as_slice.ensures.value) (c.if-not-are_of_kinds.ensures.kinds.0 refl))
     c.in_ok-width.ensures.judged c.in_ok-route.ensures.judged

@@ -12,4 +12,7 @@ returns c =
       model = c.self.inside.model.items;
       plan = c.self.inside.plan.items;
     } in
-    record { given = with_more case _ c.self.view_is (line_bytes c.args.rest.now) c.append_line.new.bytes.items c.append_line.result c.append_line.ensures.appended }
+    record {
+      given = with_more case _ c.self.view_is (line_bytes c.args.rest.now) c.append_line.new.bytes.items
+          c.append_line.result c.append_line.ensures.appended;
+    }

@@ -12,4 +12,7 @@ returns c =
       model = c.self.inside.model.items;
       plan = c.self.inside.plan.items;
     } in
-    record { given = with_more case _ c.self.view_is (lines_bytes c.args.rest.now) c.append_lines.new.bytes.items c.append_lines.result c.append_lines.ensures.appended }
+    record {
+      given = with_more case _ c.self.view_is (lines_bytes c.args.rest.now) c.append_lines.new.bytes.items
+          c.append_lines.result c.append_lines.ensures.appended;
+    }

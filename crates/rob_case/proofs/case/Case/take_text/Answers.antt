@@ -16,6 +16,7 @@ returns c =
     } in
     record {
       given = with_more case _ c.self.view_is (spelled c.args.rest.now) c.unescape.new.bytes.items c.unescape.result
-          (subst (λ (text : List ℕ). Appends c.self.inside.bytes.items (spelled text) c.unescape.new.bytes.items c.unescape.result)
+          (subst (λ (text : List ℕ).
+          Appends c.self.inside.bytes.items (spelled text) c.unescape.new.bytes.items c.unescape.result)
           c.as_bytes.ensures.value c.unescape.ensures.appended);
     }

@@ -12,4 +12,7 @@ returns c =
       model = c.self.inside.model.items;
       plan = c.self.inside.plan.items;
     } in
-    record { given = with_more case _ c.self.view_is (times_bytes c.args.rest.now) c.append_times.new.bytes.items c.append_times.result c.append_times.ensures.appended }
+    record {
+      given = with_more case _ c.self.view_is (times_bytes c.args.rest.now) c.append_times.new.bytes.items
+          c.append_times.result c.append_times.ensures.appended;
+    }

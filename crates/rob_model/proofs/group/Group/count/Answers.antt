@@ -7,4 +7,11 @@ pub row_count-requires : goal.row_count-requires
 row_count-requires g c =
     let few = rw c.in-StatementRows.is at c.requires.few in
     let value = g.N.Exact.value in
-    record { few = omega (arith, few, members_few value (map (parameter_of value) c.in-StatementRows.field-2.now) c.in-StatementRows.field-1 (set_line_of value c.in-StatementRows.line.now)) }
+    record {
+      few = omega (
+        arith,
+        few,
+        members_few value (map (parameter_of value) c.in-StatementRows.field-2.now) c.in-StatementRows.field-1
+            (set_line_of value c.in-StatementRows.line.now),
+      );
+    }

@@ -9,7 +9,8 @@ use Rattle.rob_model.proofs.group.Group.find.Goals as goal
 pub loop-k-preserved : goal.loop-k-preserved
 loop-k-preserved g c =
     record {
-      before = each_take_more (λ (other : Name). other ≢ c.args.name.now) (names_in g.N.Exact.value c.args.self.now) c.loop-k.k (name_of c.name.result) c.name.ensures.name
+      before = each_take_more (λ (other : Name). other ≢ c.args.name.now) (names_in g.N.Exact.value c.args.self.now)
+          c.loop-k.k (name_of c.name.result) c.name.ensures.name
           (λ e. let found = c.is.ensures.same.1 (sym e) in cc) c.loop-k.invariant.before;
       end = c.loop-k.invariant.end;
     }

@@ -11,5 +11,6 @@ returns g c = record {
   exact = c.reduced.ensures.exact
       ∙ ap (kept (limit_of g.row.B))
       (add-cross (value_of c.args.self) (value_of c.args.other) _ _
-      (seen_wide c.cross_sum.result (omega (arith, c.cross_sum.ensures.size)) ∙ c.cross_sum.ensures.value) c.denominators.ensures.value);
+      (seen_wide c.cross_sum.result (omega (arith, c.cross_sum.ensures.size)) ∙ c.cross_sum.ensures.value)
+      c.denominators.ensures.value);
 }

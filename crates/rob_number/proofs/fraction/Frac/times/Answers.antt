@@ -11,5 +11,6 @@ returns g c = record {
   exact = c.reduced.ensures.exact
       ∙ ap (kept (limit_of g.row.B))
       (mul-cross (value_of c.args.self) (value_of c.args.other) _ _
-      (seen_wide c.numerators.result (omega (arith, c.numerators.ensures.size)) ∙ c.numerators.ensures.value) c.denominators.ensures.value);
+      (seen_wide c.numerators.result (omega (arith, c.numerators.ensures.size)) ∙ c.numerators.ensures.value)
+      c.denominators.ensures.value);
 }

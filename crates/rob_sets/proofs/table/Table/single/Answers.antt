@@ -23,8 +23,10 @@ returns-in_err-add-clause-memory g c =
     let p = err_from_is_err_and c.from_residual.result c.from_residual.ensures.1 in
     only_memory c.from_residual.result c.in_err-add.field-0.0 p.0 p.1 p.2
     (λ (h : Rose (g.L.Ledger.wides c.args.ledger.now) (g.L.Ledger.wides c.add.new.ledger)
-    × IsWide g.N.Exact.limit (numbers_of value c.new-table.result c.args.cell.row c.args.cell.column +ℚ value c.args.x)).
+    × IsWide g.N.Exact.limit
+    (numbers_of value c.new-table.result c.args.cell.row c.args.cell.column +ℚ value c.args.x)).
     fits_not_wide g.N.Exact.limit (value c.args.x) (g.met.N.Exact.fits c.args.x)
     (subst (IsWide g.N.Exact.limit)
-    (ap (λ u. u +ℚ value c.args.x) (c.new-table.ensures.zero c.args.cell.row c.args.cell.column) ∙ ℚ-zero-add (value c.args.x)) h.1))
+    (ap (λ u. u +ℚ value c.args.x) (c.new-table.ensures.zero c.args.cell.row c.args.cell.column)
+    ∙ ℚ-zero-add (value c.args.x)) h.1))
     c.in_err-add.ensures.wide
