@@ -1,4 +1,4 @@
-// The calls of the cases.
+//! The calls of the cases.
 
 use crate::{deep, narrow, number, outside, rows, simplex, solver, words};
 use rob_case::Trouble;

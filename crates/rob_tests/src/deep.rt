@@ -1,4 +1,4 @@
-// Rows of numbers of up to 126 bits.
+//! Rows of numbers of up to 126 bits.
 
 use rob_case::Trouble;
 use rob_deep::{combine_deep, is_primitive, is_within, lex_cmp, lowest, to_lowest_terms};

@@ -1,7 +1,6 @@
-// Bounds on the numbers of programs' rows.
+//! Bounds on the numbers of programs' rows.
 
 ghost use Rattle.std.specs.Prelude.{◌^◌, ◌-◌};
-ghost use Rattle.rob_rows.specs.LinearPrograms.{HasNumbersWithin};
 
 use crate::program::program;
 use rob_case::Trouble;

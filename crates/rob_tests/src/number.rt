@@ -1,4 +1,4 @@
-// Exact numbers, lists and texts.
+//! Exact numbers, lists and texts.
 
 use rob_case::Trouble;
 use rob_case::numbers::{shown as shown_number, small, whole, wholes};
@@ -146,7 +146,7 @@ pub(crate) fn pushed(alloc: Global, line: &str) -> Result<String, Trouble> {
     Ok(format!(in alloc; "{items:?}")?)
 }
 
-// A sum of sums: a type that leads back to itself through `List`.
+/// A sum of sums: a type that leads back to itself through `List`.
 #[cycle(sum)]
 #[derive(Drop)]
 enum Sum<N> {

@@ -1,5 +1,5 @@
-// What no clause says of shelves and sinks: that the calls succeed where memory is there, and what the machine's files
-// and output do.
+//! What no clause says of shelves and sinks: that the calls succeed where memory is there, and what the machine's files
+//! and output do.
 
 use rob_case::Trouble;
 use rob_case::numbers::small;

@@ -1,4 +1,4 @@
-// Linear programs of the cases.
+//! Linear programs of the cases.
 
 use rob_case::Trouble;
 use rob_case::numbers::wholes;

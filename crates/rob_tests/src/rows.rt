@@ -1,4 +1,4 @@
-// The order of rows over their divisors.
+//! The order of rows over their divisors.
 
 use rob_case::Trouble;
 use rob_case::numbers::wholes;

@@ -1,4 +1,4 @@
-// Linear programs solved.
+//! Linear programs solved.
 
 ghost use Rattle.std.specs.Prelude.{◌≡◌, IfOk, length};
 ghost use Rattle.rob_linear.specs.Programs.{Program};

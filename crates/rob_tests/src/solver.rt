@@ -1,4 +1,4 @@
-// Linear programs solved over narrow rows, and over deep ones where those stop.
+//! Linear programs solved over narrow rows, and over deep ones where those stop.
 
 ghost use Rattle.std.specs.Prelude.{◌≡◌};
 ghost use Rattle.rob_simplex.specs.Solvers.{positions, HasPoint, HasOptimum};

@@ -1,4 +1,4 @@
-// Command lines and other words.
+//! Command lines and other words.
 
 use rob_case::Trouble;
 use rob_case::text::said;

@@ -9,9 +9,9 @@ use crate::given;
 use rob_case::Trouble;
 use rob_case::numbers::{small, whole};
 use rob_case::text::{keyword, said, shown};
-use rob_model::Model;
+use rob_model::{Model, copy_model};
 use rob_number::Exact;
-use rob_tree::{Branch, behind, copy_model, whole_rule};
+use rob_tree::{Branch, behind, whole_rule};
 use rob_write::write_model;
 use std::alloc::Global;
 

@@ -1,4 +1,4 @@
-// The calls of the cases.
+//! The calls of the cases.
 
 use crate::{cert, lex, model, parse, replay};
 use rob_case::numbers::small;
@@ -37,6 +37,7 @@ fn of_text(alloc: Global, case: &Case, word: &str, rest: &str) -> Result<Option<
         "statements-of-bytes" => Ok(Some(parse::every_byte(alloc)?)),
         "sizes-8" => Ok(Some(parse::sizes(alloc, case.bytes())?)),
         "canonical" => Ok(Some(parse::canonical(alloc, case.bytes())?)),
+        "same-model" => Ok(Some(parse::same(alloc, case)?)),
         "certificate" => Ok(Some(cert::certificate(alloc, case)?)),
         "certificate-prefixes" => Ok(Some(cert::prefixes(alloc, case)?)),
         "certificate-parts" => Ok(Some(cert::parts(alloc, case)?)),

@@ -1,4 +1,4 @@
-// Certificates of a model, read and written, and texts that are none.
+//! Certificates of a model, read and written, and texts that are none.
 
 ghost use Rattle.std.specs.Prelude.{◌^◌, ◌≤◌, length};
 ghost use Rattle.rob_meaning.specs.Named.{IsNamed};

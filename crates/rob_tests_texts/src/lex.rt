@@ -1,4 +1,4 @@
-// Tokens of texts.
+//! Tokens of texts.
 
 use rob_case::Trouble;
 use rob_case::text::broken;

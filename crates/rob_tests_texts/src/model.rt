@@ -1,4 +1,4 @@
-// Values, policies, admission and names of a model.
+//! Values, policies, admission and names of a model.
 
 ghost use Rattle.rob_model.specs.Valid.{IsValid};
 

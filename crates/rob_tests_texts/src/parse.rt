@@ -1,12 +1,12 @@
-// Model texts, each as statements, as a model or as its canonical text, or the rule that it breaks and the line.
+//! Model texts, each as statements, as a model or as its canonical text, or the rule that it breaks and the line.
 
 ghost use Rattle.std.specs.Prelude.{IfOk};
 ghost use Rattle.rob_meaning.specs.Named.{IsNamed};
 ghost use Rattle.rob_model.specs.Valid.{IsValid};
 ghost use Rattle.rob_model.specs.View.{robust};
 
-use rob_case::Trouble;
-use rob_case::text::{broken, shown};
+use rob_case::text::{broken, said, shown};
+use rob_case::{Case, Trouble};
 use rob_model::Model;
 use rob_number::{Exact, Frac, Tally, Text};
 use rob_parse::read_model;
@@ -136,4 +136,18 @@ pub(crate) fn canonical(alloc: Global, text: &[u8]) -> Result<String, Trouble> {
         answer.push_str(" and another")?;
     }
     Ok(answer)
+}
+
+/// Whether the text reads as the same model as the text of the model: one whose canonical text is the same.
+pub(crate) fn same(alloc: Global, case: &Case) -> Result<String, Trouble> {
+    let one = written(alloc, case.model())?;
+    let other = written(alloc, case.bytes())?;
+    said(
+        alloc,
+        if one.bytes() == other.bytes() {
+            "the same"
+        } else {
+            "another"
+        },
+    )
 }

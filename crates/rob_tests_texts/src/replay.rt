@@ -1,4 +1,4 @@
-// Scenario files under plans, and files that are refused.
+//! Scenario files under plans, and files that are refused.
 
 ghost use Rattle.rob_model.specs.Valid.{IsValid};
 
