@@ -1,9 +1,8 @@
 """A model's text as forms and set rows in whole numbers, as docs/formats.md has them. The text breaks no rule."""
-import re
 from fractions import Fraction
 from math import lcm
 
-TOKEN = re.compile(r"\s*(<=|>=|[A-Za-z_]\w*|\d+|[-+*/()\[\],:=])")
+from expand import plain_lines
 
 
 class Model:
@@ -13,10 +12,8 @@ class Model:
         self.parameters, self.sets, self.statements = [], [], []
         self.variables, self.adaptives, self.rows = [], [], []
         self.goal = None
-        for line in text.splitlines():
-            tokens = TOKEN.findall(line.partition("#")[0])
-            if tokens:
-                self.take(tokens)
+        for tokens in plain_lines(text):
+            self.take(tokens)
         self.number_columns()
 
     def take(self, tokens):

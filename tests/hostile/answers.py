@@ -55,7 +55,7 @@ BOUNDS = (r"set rows \d+ greatest \d+ bound (?:\d+|wide)\nreform rows \d+ greate
 # what any command may answer
 WORDS = {20: r"fault: words\n"}
 FILES = {21: r"fault: missing .*\n", 22: r"fault: too long .*\n", 30: r"fault: read\n"}
-MODEL = {**WORDS, **FILES, 23: r"fault: model (?:[1-4]|1[1-9]|2[0-3]) line [1-9]\d*\n"}
+MODEL = {**WORDS, **FILES, 23: r"fault: model (?:[1-4]|1[1-9]|2[0-35-8]) line [1-9]\d*\n"}
 CERTIFICATE = {26: r"fault: certificate 3[123] line [1-9]\d*\n"}
 PLANLESS = {26: r"fault: certificate (?:3[123] line [1-9]\d*|34 line 1)\n"}
 NAMED = {33: r"fault: whole 6[123]\n"}

@@ -2,10 +2,11 @@
 import random
 import re
 
-from seeds import BRANCHED, BY_NAME, CERTIFIED, OPEN, OWN_WORDS, TABLES, TOKENS
+from seeds import BRANCHED, BY_NAME, CERTIFIED, INDEXED, KINDS, OPEN, OWN_WORDS, TABLES, TOKENS
 
 TOKEN = re.compile(rb"#[^\n]*|[A-Za-z_][A-Za-z_0-9]*|\d+|[<>]=|.", re.DOTALL)
-KEYWORDS = b"uncertain set budget var adaptive minimise minimize maximise maximize row in at by over".split()
+KEYWORDS = (b"uncertain set budget var adaptive minimise minimize maximise maximize row in at by over "
+            b"model sum for to").split()
 
 
 def model_kinds(text):
@@ -66,10 +67,21 @@ def model_words(number):
 
 def of_models(tries, follower):
     seen, number = set(), 0
-    for text in (*TOKENS, BY_NAME["one"].text, BY_NAME["storm"].text):
+    for text in (*TOKENS, BY_NAME["one"].text, BY_NAME["storm"].text, BY_NAME["weeks"].text, BY_NAME["rounds"].text):
         for one in (*prefixes(text), *wrong_bytes(text, model_kinds(text), seen)):
             number += 1
             follower.after(tries.run("byte of a model", model_words(number), {"m.rob": one}))
+
+
+def of_indices(tries, follower):
+    """Each kind of token in the place of each token, and in front of it."""
+    for text in INDEXED:
+        tokens = [token for token in TOKEN.finditer(text) if token[0] != b" "]
+        for token in tokens:
+            for kind in KINDS:
+                for behind in (token.start(), token.end()):
+                    one = text[:token.start()] + b" " + kind + b" " + text[behind:]
+                    follower.after(tries.run("token of an index", ["rows", "m.rob"], {"m.rob": one}))
 
 
 def of_certificates(tries, follower):
@@ -118,4 +130,4 @@ def of_words(tries, follower):
                 tries.run("byte of a word", [*words[:at], wrong, *words[at + 1:]], files)
 
 
-EVERY = (of_models, of_certificates, of_tables, of_trees, of_words)
+EVERY = (of_models, of_indices, of_certificates, of_tables, of_trees, of_words)

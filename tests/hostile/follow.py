@@ -2,6 +2,9 @@
 agree, and a printed text is read again."""
 import re
 
+from runner import bits_of
+from texts import UNKNOWN, joint_parameters, plain_of, plain_text
+
 STATUSES = (0, 10, 11)
 TOO_LONG = 22
 BROKEN = 23
@@ -17,10 +20,10 @@ class Follower:
     def __init__(self, runner):
         self.runner = runner
         self.by_command = {
-            "solve": self.solved, "prove": self.proved, "whole": self.branched, "tree": self.grown,
-            "check": self.checked, "checktree": self.tree_checked, "sweep": self.swept, "cells": self.split,
-            "narrow": self.narrowed, "replay": self.replayed, "worst": self.searched, "text": self.generated,
-            "gen": self.compared,
+            "rows": self.cleared, "solve": self.solved, "prove": self.proved, "whole": self.branched,
+            "tree": self.grown, "check": self.checked, "checktree": self.tree_checked, "sweep": self.swept,
+            "cells": self.split, "narrow": self.narrowed, "replay": self.replayed, "worst": self.searched,
+            "text": self.generated, "gen": self.compared,
         }
 
     def after(self, run):
@@ -45,6 +48,16 @@ class Follower:
             self.wrong(kind, run, f"{run.out[:200]!r}, but {what} says {other.out[:200]!r}")
 
     # ---- models
+
+    def cleared(self, run):
+        """The rows of a text are those of its plain lines, where these are no larger than a text may be."""
+        text, bits = run.files[run.words[1]], bits_of(run.words)
+        if plain_of(text, bits) == UNKNOWN or b"model" not in text:
+            return
+        plain = plain_text(text, bits)
+        rows = self.again("rows of plain lines", run, ["rows", "l.rob", *width(run)], l_rob=plain)
+        if (rows.code, rows.out) != (run.code, run.out) and rows.code not in (TOO_LONG, BROKEN):
+            self.wrong("rows of plain lines", run, f"{run.out[:200]!r}, and {rows.out[:200]!r} of the plain lines")
 
     def solved(self, run):
         """`prove` answers alike, its certificate is accepted, and the other route tells the same status."""
@@ -99,11 +112,12 @@ class Follower:
         """The worst scenario is inside; where the certificate is accepted there is one, and its slack isn't below 0."""
         if run.code != 0:
             return
-        names = joint_parameters(run.files["m.rob"])
+        names = joint_parameters(run.files["m.rob"], bits_of(run.words))
         if run.out.startswith(b"worst ") and names:
             numbers = dict(line.split()[1:] for line in run.out.splitlines()[1:])
             table = b",".join(names) + b"\n" + b",".join(numbers.get(name, b"0") for name in names) + b"\n"
-            replayed = self.again("worst scenario", run, ["replay", *run.words[1:3], "s.csv", *width(run)], s_csv=table)
+            words = ["replay", *run.words[1:3], "s.csv", *width(run)]
+            replayed = self.again("worst scenario", run, words, s_csv=table)
             if replayed.code != WIDE and not replayed.out.startswith(b"2 inside "):
                 self.wrong("worst scenario", replayed, f"not inside: {replayed.out!r}")
         if not re.match(rb"worst \S+ \d", run.out) and self.is_accepted(run):
@@ -159,7 +173,7 @@ class Follower:
             self.wrong("model of cells", solved, f"{report!r} of the cells, here {solved.out!r}")
 
     def read_again(self, kind, run, text, options):
-        """What `solve` answers of a printed model; None where that is too large for a model's file, as it has to say."""
+        """What `solve` answers of a printed model; None where it is too large for a model's file, as it has to say."""
         solved = self.again(kind, run, ["solve", "l.rob", *options], l_rob=text)
         if len(text) > 65_536 or len(TOKEN.findall(text)) > 20_000:
             if solved.code not in (TOO_LONG, BROKEN):
@@ -190,13 +204,6 @@ class Follower:
 
 def first_line(run):
     return run.out.split(b"\n", 1)[0]
-
-
-def joint_parameters(text):
-    """The names of the joint parameters of a model that is written plainly."""
-    names = re.findall(rb"^uncertain (\w+)", text, re.MULTILINE)
-    sets = re.findall(rb"^over (\w+)$", text, re.MULTILINE)
-    return names + [name + b"." + parameter for name in sets for parameter in names]
 
 
 def width(run):

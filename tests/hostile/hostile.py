@@ -17,6 +17,7 @@ from every import EVERY
 from follow import Follower
 from runner import Runner
 from seeds import BY_NAME, MODELS, OPEN, WORDS
+from written import written
 
 SIZE = 500      # the runs of a batch, which has a seed of its own
 MEMORY = "/dev/shm"     # where there is such a folder the files of runs stand there: no disk is waited for
@@ -44,6 +45,11 @@ def try_model(rng, runner):
     model = rng.choice(MODELS)
     text = changed(rng, model.text)
     return runner.run("changed model", model_words(rng, model), {"m.rob": text})
+
+
+def try_written(rng, runner):
+    command = rng.choice(("rows", "rows", "solve", "narrow"))
+    return runner.run("written model", [command, "m.rob", *width(rng)], {"m.rob": written(rng)})
 
 
 def try_words(rng, runner):
@@ -106,8 +112,8 @@ def try_tree(rng, runner):
 
 
 # how often each is made, among these
-TRIES = ((try_model,) * 8 + (try_words,) * 3 + (try_line,) * 2 + (try_certificate,) * 3 + (try_tree,) * 3
-         + (try_table, try_table, try_worst))
+TRIES = ((try_model,) * 8 + (try_written,) * 3 + (try_words,) * 3 + (try_line,) * 2 + (try_certificate,) * 3
+         + (try_tree,) * 3 + (try_table, try_table, try_worst))
 
 
 def in_folder(work, program, limit):

@@ -8,6 +8,7 @@ processor. A stack that overflows shows as an exit code below 0.
 """
 import os
 import pathlib
+import re
 import sys
 import tempfile
 
@@ -20,6 +21,9 @@ PLAN = b"certificate optimal\nvalue 12\nscale 1\ninside d 8\nplan x 12\ncover ne
 PROOF = PLAN + b"item objective 1 1\nat d 12\nitem need 1 1\nat d 12\nend\n"
 TEXT, FILE, TREE, WORD = 65_536, 4_194_304, 8_388_608, 131_000
 GOAL = b"var x\nminimise x"
+INDEXED = b"model 2\nuncertain d\nvar x\nminimise x\n"
+LETTERS = b"abcefghijklmnopqrstuvwyz"
+TOKEN, MOST_TOKENS = re.compile(rb"[A-Za-z_][A-Za-z_0-9]*|[0-9]+|[<>]=|[-+*/()\[\],:=\n]"), 20_000
 LEAF = b"tree infeasible\nleaf\ncertificate infeasible\n"
 
 
@@ -35,6 +39,42 @@ def models():
     yield "digits", b"var x >= " + b"9" * 65_500, (23, b"fault: model 14 line 1\n")
     yield "a name", b"var " + b"x" * 65_500, (23, b"fault: model 11 line 1\n")
     yield "parentheses", b"(" * TEXT, (23, b"fault: model 4 line 1\n")
+
+
+def filled(front, unit, sign, behind):
+    """The unit as often as a text may have tokens and bytes, with the sign between."""
+    tokens = [len(TOKEN.findall(part)) for part in (front + behind, unit + sign)]
+    bytes_left = (TEXT - len(front) - len(behind)) // (len(unit) + len(sign))
+    return front + sign.join([unit] * min((MOST_TOKENS - 10 - tokens[0]) // tokens[1], bytes_left)) + behind
+
+
+def sums(ends):
+    """Sums inside each other over a to z without d and x; each range ends as its letter and those around it say."""
+    return b"".join(b"sum(%c = " % letter + ends(b"-".join(b"%c" % one for one in LETTERS[:at]) or b"0") + b": "
+                    for at, letter in enumerate(LETTERS))
+
+
+def indexed():
+    """Texts of version 2 of up to 65,536 bytes."""
+    row, end = INDEXED + b"row r: ", b" >= 0\n"
+    closed, every = b")" * 24 + end, b"x[" + b"-".join(b"%c" % letter for letter in LETTERS) + b"]"
+    many, one = sums(lambda _: b"1 to 100"), sums(lambda around: around + b" to " + around)
+    too_much = (23, b"fault: model 28 line 5\n")
+    unknown = (23, b"fault: model 13 line 5\n")
+    yield "24 sums of 100 values", row + many + b"x" + closed, too_much
+    yield "names in 24 sums of 100 values", filled(row + many, b"x[a+b+c-c]", b" + ", closed), too_much
+    yield "24 sums of one value", filled(row + one, b"x[z]", b" + ", closed), (23, b"fault: model ")
+    yield "24 sums, each name with all indices", filled(row + one, every, b" + ", closed), (23, b"fault: model ")
+    yield "names of 6 indices", filled(row, b"x[1,2,3,4,5,6]", b" + ", end), unknown
+    yield "sums of no value", filled(row, b"sum(i=2 to 1:x)", b" + ", end), (0, b"form")
+    yield "sums of two values", filled(row, b"sum(i=1 to 2:x)", b" + ", end), (0, b"form")
+    yield "a row for each of 2,800 settings", INDEXED + b"row r[i, j]: x >= 1 for i = 1 to 28, j = 1 to 100\n", (
+        23, b"fault: model 22 line 5\n")
+    yield "lines for no setting", filled(INDEXED, b"var y[i,j] for i=1 to 100,j=i to 0", b"\n", b"\n"), (0, b"form")
+    yield "an index of digits", row + b"x[" + b"9" * 65_400 + b"]" + end, (23, b"fault: model 27 line 5\n")
+    yield "an index of many atoms", filled(row + b"x[", b"0", b"+", b"]" + end), unknown
+    long = b"i" * 32_000
+    yield "a long name of a range", row + b"x[" + long + b"] >= 0 for " + long + b" = 1 to 2\n", (23, b"fault: model ")
 
 
 def certificates():
@@ -91,6 +131,8 @@ def words():
 def calls():
     for what, text, wanted in models():
         yield f"model, {what}", ["rows", "f"], text, wanted
+    for what, text, wanted in indexed():
+        yield f"text of version 2, {what}", ["rows", "f"], text, wanted
     for what, text, wanted in certificates():
         yield f"certificate, {what}", ["check", "m.rob", "f"], text, wanted
     for what, text, wanted in tables():

@@ -50,6 +50,14 @@ CALLS = ["solve stock.rob", "solve stock.rob --route cuts", "check one.rob one.c
          "sweep stock.rob 1 0,1", "cells one.rob d=10", "rows stock.rob", "text 3", "solve deep.rob",
          "solve deep.rob --route cuts"]
 
+# texts of version 2: one that reads, and one with a name that is too long
+INDEXED = ("model 2\nuncertain d[i] in [8, 12] for i = 1 to 2\nbudget 1: d[i] at 10 by 2 for i = 1 to 2\nvar x\n"
+           "adaptive y[t](d[i] for i = 1 to t - 1, j = i to 1) >= 0 for t = 2 to 2\n")
+FILES["weeks.rob"] = INDEXED + ("minimise 2*x + 2*y[2] - d[1]\nrow now: x >= d[1]\n"
+                                "row all: x + y[2] >= sum(i = 1 to 2: d[i])\n")
+FILES["long.rob"] = INDEXED + "var " + "x" * 30 + "[i, 10 - i] for i = 8 to 10\n"
+CALLS += ["rows weeks.rob", "rows long.rob"]
+
 
 class Trial:
     def __init__(self, program, library):

@@ -4,11 +4,13 @@ import os
 import signal
 import time
 
-from answers import PATTERNS, is_command_line
+from answers import OWN, PATTERNS, is_command_line
+from texts import UNKNOWN, fault_of
 
 Run = collections.namedtuple("Run", "words files code out")
 WAIT = 600          # seconds of the clock after which a run is ended, however busy the machine is
 NO_TEXT = 41        # the exit code for words that are no text
+UNREAD = (20, 21, 22, 30, 31, 40, NO_TEXT)      # those where no model is read
 
 
 class Runner:
@@ -71,7 +73,31 @@ class Runner:
         pattern = PATTERNS.get(words[0], {}).get(run.code) if words else None
         if run.code == 20 and run.out == b"fault: words\n":
             return
+        yield from self.misread(run, words)
         if pattern is None:
             yield f"exit code {run.code}"
         elif not pattern.fullmatch(run.out.decode("latin-1")):
             yield f"exit code {run.code} with {run.out[:300]!r}"
+
+    def misread(self, run, words):
+        """The model's text is refused exactly where the definitions say so, by that rule and line."""
+        if run.code in UNREAD or not OWN[words[0]].startswith("m"):
+            return
+        name = without_options(words)[0]
+        wanted = fault_of(run.files[name], bits_of(words)) if name in run.files else UNKNOWN
+        if wanted != UNKNOWN and wanted != (run.out if run.code == 23 else None):
+            yield f"exit code {run.code} with {run.out[:80]!r} in place of {wanted!r}"
+
+
+def without_options(words):
+    """The words behind the command that are no option and no value of one."""
+    behind = zip(words[1:], words)
+    return [word for word, before in behind if not word.startswith("-") and before not in ("--bits", "--route")]
+
+
+def bits_of(words):
+    """The width that the words of a command line ask for."""
+    for word, before in zip(words[1:], words):
+        if before == "--bits" or word.startswith("--bits="):
+            return int(word.removeprefix("--bits="))
+    return 62

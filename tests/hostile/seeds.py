@@ -45,6 +45,21 @@ MODELS = [
     Model("limits", b"uncertain d1 in [8, 12]\nuncertain d2 in [8, 12]\nset d1 >= 17/2\n"
           b"budget 1: d1 at 13 by 2, d2 at 10 by 2\nvar x\nminimise x\nrow need: x >= d1 + d2\n",
           statement="2", limits="0,1/2,3", cuts="d2=9", scenarios=b"d1,d2\n12,10\n"),
+    Model("weeks", b"model 2\nuncertain d[i] in [8, 12] for i = 1 to 2\nbudget 1: d[i] at 10 by 2 for i = 1 to 2\n"
+          b"var x\nadaptive y[t](d[i] for i = 1 to t - 1) >= 0 for t = 2 to 2\nminimise 2*x + 2*y[2] - d[1]\n"
+          b"row now: x >= d[1]\nrow all: x + y[2] >= sum(i = 1 to 2: d[i])\n",
+          limits="0,1/2,1,3/2,2", cuts="d_1=10,d_2=19/2", forms=("now", "all", "objective", "y_2.lower"),
+          scenarios=b"d_2,d_1\r\n8,12\r\n10,10\r\n"),
+    Model("rounds", b"# rounds\n model 2\nuncertain d[k, p] in [0, 6] for k = 0 to 1, p = 1 to 2\n"
+          b"over calm[k] for k = 1 to 2\nset sum(k = 0 to 1: sum(p = 1 to 2: d[k, p])) <= 14\n"
+          b"set d[k - 1, p] <= 3 over calm[k] for k = 1 to 2, p = k to 2\n"
+          b"budget 3/2: d[k, p] at 3 by 1/2 for k = 0 to 1, p = k + 1 to 2, d[1, 1] at 2 by 4 over calm[1 + 1]\n"
+          b"var x[t] in [0, 40] for t = 2 - 2 to 1\n"
+          b"adaptive y[t](d[k, p] for k = 0 to t, p = 1 to 2 - k) >= 0 for t = 0 to 1\n"
+          b"minimise sum(t = 0 to 1: 3*x[t] + y[t]) + sum(t = 1 to 0: x[t])\n"
+          b"row need[t]: sum(i = 0 to t: x[i] + y[i]) >= sum(i = 0 to t: d[i, 1] + d[i, 2]) for t = 0 to 1\n"
+          b"row least: x[0] + y[0] >= d[0, 1] over calm[1]\n",
+          names="x_0,x_1", statement="5", cuts="d_0_1=3", forms=("need_0", "need_1", "least", "x_1.upper")),
     Model("falls", b"uncertain z1 in [0, 1]\nuncertain z2 in [0, 1]\nuncertain z3 in [0, 1]\nset z1 + z2 + z3 <= 2\n"
           b"var x1 in [0, 30]\nvar x2 in [0, 30]\nvar x3 in [0, 30]\nmaximise (3127191 - 1937381*z1)*x1"
           b" + (4241571 - 2869883*z2)*x2 + (5318643 - 3853257*z3)*x3\nrow all: x1 + x2 + x3 <= 100\n",
@@ -68,7 +83,22 @@ TOKENS = [
     b"set d - e >= -1\nbudget 1: d at 10 by 2, e at 0 by 1\nvar x in [-1, 40]\nvar z_1 >= 0\nadaptive y(d, e) >= 0\n"
     b"minimise x + y # the cost\nrow a: x + y = d + z_1\n",
     b"var x <= 7\nmaximise x\n", b"var x\nminimize x\n", b"var x\nmaximize 2*x\n",
+    b"model 2 # again\nuncertain d[i, j] in [8, 12] for i = 1 to 2, j = i to 2\nover s[1 + 1]\n"
+    b"set d[1, 2] <= 4 + sum(k = 1 to 2 - 1: d[k, k]) over s[2]\n"
+    b"budget 1: d[i, 2] at 10 by 2 for i = 1 to 2, d[1, 1] at 9 by 1 over s[2]\nvar x[t] >= 0 for t = 0 to 1\n"
+    b"adaptive y[t](d[1, j] for j = 1 to t, d[2, 2]) >= 0 for t = 1 to 2\n"
+    b"minimise x[0] - sum(t = 0 to 1: 2*x[t]*1) for z = 1 to 1\nrow r[t]: x[t - 1] = y[t] over s[2] for t = 1 to 2\n",
 ]
+# Each token of these is replaced by each of KINDS, and each of KINDS stands in front of it.
+INDEXED = [
+    b"model 2\nuncertain d[i, j - 1] in [8, 12] for i = 1 to 2, j = i + 1 to 3\nvar x\nminimise x\n"
+    b"row r: x >= sum(k = 1 to 2: d[1, k])\n",
+    b"model 2\nuncertain d[t] for t = 1 to 2\nbudget 1: d[t] at 1 by 1 for t = 1 to 1, d[2] at 1 by 1\n"
+    b"adaptive y(d[t] for t = 1 to 2)\nminimise 1\n",
+]
+KINDS = [kind.encode() for kind in (
+    "uncertain set budget var adaptive minimise maximise row in at by over objective model sum for to "
+    "d x i j k t q 0 1 2 999 1000 4611686018427387904 + - * / ( ) [ ] , : = <= >=").split()] + [b"\n"]
 # Models whose certificates, and with their names whose trees, together hold every kind of line.
 CERTIFIED = ("stock", "constant", "endless", "runaway", "price", "storm")
 BRANCHED = ("trucks", "halves", "runaway", "bins")
@@ -83,7 +113,8 @@ OWN_WORDS = [line.split() for line in (
 
 PIECES = [piece.encode() for piece in (
     "uncertain set budget var adaptive minimise minimize maximise maximize row in at by over objective tau model sum "
-    "for to d x y z need _ a1 0 1 2 7 1/2 0/1 1/0 00 4611686018427387903 4611686018427387904 "
+    "for to [i] [t-1] [1,2] i t d_1 999 1000 100 101 d x y z need _ a1 0 1 2 7 1/2 0/1 1/0 00 4611686018427387903 "
+    "4611686018427387904 "
     "99999999999999999999999999 + - * / ( ) [ ] , : = <= >= < > # -1 -0 - -- , \" \"\" . ; "
     "certificate optimal infeasible unbounded value scale inside plan move cover hold item end tree best leaf branch "
     "open d.upper"
