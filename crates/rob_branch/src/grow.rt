@@ -255,9 +255,9 @@ fn tree_by<N: Exact>(grown: Grown<N>) -> Tree<N>
 /// box where it is at most K before that where it is at least K + 1; a box whose optimum is no better than the best
 /// whole plan so far is a leaf, and once a whole plan with an improving direction is found the boxes that are left stay
 /// open. `names` has the numbers of variables; one that stands there twice is no other variable, but its range counts
-/// twice in the product that rule 63 bounds. `Rule` comes exactly where `whole_rule` gives that number; `EmptySet`
-/// where the model admits no scenario; `Wide` where a number is wide in the box behind that path, to which the search
-/// comes; `Memory` comes only where no rule is broken.
+/// twice in the product that rule 63 bounds. `Rule` comes exactly where `whole_rule` gives that number; `EmptySet` only
+/// where the model admits no scenario, as its weights show; `Wide` only where that number is wide in the box behind
+/// that path, to which the search comes; `Memory` only where no rule is broken.
 pub fn grow_tree<N: Exact, L: Ledger>(
     alloc: Global,
     model: &Model<N>,

@@ -32,9 +32,10 @@ use std::alloc::Global;
 /// broken gives the next cut: the form at its worst basic scenario, or at a ray along which it has no greatest value. A
 /// round without a broken form, or whose master is infeasible, ends the run. The certificate's plan, bound and
 /// direction are those of the last master's basis, its items are the cuts with the master's dual values or Farkas
-/// weights, and its covers are the dual values of the last searches. `EmptySet` comes where no scenario is admitted,
-/// with the weights of the set rows that show it; `Wide` only where a number of the next round is over the limit, with
-/// the rounds before it. A master whose rows and columns together reach 2^31 is want of memory.
+/// weights, and its covers are the dual values of the last searches. `EmptySet` comes only where no scenario is
+/// admitted, with the weights of the set rows that show it; `Wide` only where a row on the path of the set's program,
+/// or a number of the next round, is over the limit, with the rounds before it. A master whose rows and columns
+/// together reach 2^31 is want of memory.
 pub fn solve_cuts<N: Exact, L: Ledger>(
     alloc: Global,
     forms: &Forms,

@@ -28,9 +28,9 @@ use std::alloc::Global;
 /// Solves the model of the forms and the set rows by its robust counterpart. The certificate's numbers are those of the
 /// counterpart's last basis: its plan, bound and covers are the basic solution, its direction and holds the basic
 /// direction, its items the dual values or the Farkas weights; the scale and the items' weights are 1. `EmptySet` comes
-/// where no scenario is admitted, with the weights of the set rows that show it; `Wide` comes only where a row of a
-/// basis on the path of the set's program or of the counterpart has a number over the limit, and names it; that some
-/// row has is no refusal.
+/// only where no scenario is admitted, with the weights of the set rows that show it; `Wide` only where a row of a
+/// basis on the path of the set's program or of the counterpart has a number over the limit, and names that row; that
+/// some row has one is no refusal.
 pub fn solve_dual<N: Exact, L: Ledger>(
     alloc: Global,
     forms: &Forms,

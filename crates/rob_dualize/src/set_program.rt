@@ -24,8 +24,8 @@ use rob_sets::{SetForm, set_lp};
 use rob_solver::{Solved, Solver, Stopped, solve};
 use std::alloc::Global;
 
-/// A solver of the set's program that stands at its last basis, which has a scenario. Where no scenario is admitted,
-/// the Farkas weights of that basis.
+/// A solver of the set's program that stands at its last basis, which has a scenario. Else the Farkas weights of that
+/// basis, which show that no scenario is admitted, or a wide row on the program's path.
 pub fn solved_set<N: Exact, L: Ledger>(
     alloc: Global,
     set: &SetForm,

@@ -1,8 +1,9 @@
--- A dictionary: the rows of a basis, condensed. A row keeps the entries of the columns that are not basic, and its own entry.
--- Columns are those of the auxiliary form: n structural ones, m slack ones, the auxiliary one, the objective's and the right
--- side; one spare column more, 0 in each row, gives a place that is free while a pivot is under way.
--- Positions 0 to m - 1 are those of the program's rows, position m is the objective's; row m + 1 keeps the row of the cost while
--- the auxiliary column is basic.
+-- A dictionary: the rows of a basis, condensed. A row keeps the entries of the columns that are not basic, and its own
+-- entry.
+-- Columns are those of the auxiliary form: n structural ones, m slack ones, the auxiliary one, the objective's and the
+-- right side; one spare column more, 0 in each row, gives a place that is free while a pivot is under way.
+-- Positions 0 to m - 1 are those of the program's rows, position m is the objective's; row m + 1 keeps the row of the
+-- cost while the auxiliary column is basic.
 -- Rows are kept up to positive factors. Chvatal, Linear Programming (1983), chapter 2.
 use Rattle.std.specs.Prelude.{◌≡◌, ◌≢◌, ◌⊎◌, ◌<ℤ◌, ◌≤ℤ◌, ℕ, suc, ◌<◌, ◌≤◌, ◌+◌, ◌^◌, nat_lt, nat_eq, cond, ℤ, pos, neg_ℤ, List, length, set, slice_index_or, Bool, true, false, Option, IfSome}
 use Rattle.rob_linear.specs.Vectors.{Columns, Matrix, Vector}
@@ -15,8 +16,8 @@ use Rattle.rob_linear.specs.Multiples.{IsParallel, IsClearedBy}
 use Rattle.rob_entries.specs.Updates.{IsWideCleared}
 use Rattle.rob_simplex.specs.Tables.{row_at, HasBounds}
 
--- what contracts see: the limit, the number of structural columns, the basic column of each position, the place of each column, and
--- the rows one behind another. Public clauses speak of the rows as functions of the column
+-- what contracts see: the limit, the number of structural columns, the basic column of each position, the place of each
+-- column, and the rows one behind another. Public clauses speak of the rows as functions of the column
 pub record Table : Type 0 where
   pub limit : ℕ
   pub columns : ℕ
@@ -40,10 +41,11 @@ columns_of basis i = slice_index_or basis i 0
 abbrev pub basic_columns : ℕ → List ℕ → Columns
 basic_columns n basis i = cond (nat_lt i (length basis)) (columns_of basis i) (suc (n + length basis))
 
--- the column of the right side, and the spare one
+-- the column of the right side
 abbrev pub right_column : ℕ → ℕ → ℕ
 right_column n m = suc (suc (n + m))
 
+-- the spare one
 abbrev pub spare_column : ℕ → ℕ → ℕ
 spare_column n m = suc (suc (suc (n + m)))
 
@@ -128,6 +130,7 @@ pub record FirstNegative (count : ℕ) (row : Vector) (column : ℕ) : Type 0 wh
 abbrev pub sized : ℕ → ℕ → Matrix → Vector → Vector → Program
 sized n m a b c = record { m = m; n = n; a = a; b = b; c = c }
 
+-- the auxiliary form, with the program's cost kept, of such a program whose numbers are all 0
 abbrev pub shape : ℕ → ℕ → System
 shape n m = kept_of (sized n m (λ i j. pos 0) (λ i. pos 0) (λ j. pos 0))
 

@@ -32,7 +32,8 @@ pub record IsPointAt (IsEnd : Columns → Type 0) (P : Program) (s : Solver) : T
 abbrev pub IsLastPoint : Program → Solver → Type 0
 IsLastPoint P s = IsPointAt (Last P) P s
 
--- the slack entries of an infeasible ending of the auxiliary form, at the last basis of the first phase, are the weights
+-- the slack entries of an infeasible ending of the auxiliary form, at the last basis of the first phase, are the
+-- weights
 pub record IsFirstPhaseEnd (P : Program) (s : Solver) : Type 0 where
   pub rows : Matrix
   pub basis : IsBasis (auxiliary_of P) (own_of (auxiliary_of P) (columns_of s.basis)) rows
@@ -96,8 +97,8 @@ HasSolved P kind.Unbounded s = IsRayOf P s
 abbrev pub HasStopped : ℕ → Program → LpStop → Solver → Type 0
 HasStopped limit P (Wide position) s = (s.state ≡ Stopped) × HasWideRow limit P (columns_of s.basis) position
 
--- no point is feasible, as weights without a common divisor show at the end of the path's first phase, and one of them is
--- over the limit
+-- no point is feasible, as weights without a common divisor show at the end of the path's first phase, and one of them
+-- is over the limit
 pub record HasWideWeight (limit : ℕ) (P : Program) (s : Solver) (i : ℕ) : Type 0 where
   pub position : i ≡ P.m
   pub last : Last P (columns_of s.basis)

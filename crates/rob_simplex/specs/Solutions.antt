@@ -1,4 +1,5 @@
--- The numbers that a solver's rows show. A basic column has the right side of its position's row over the row's own entry.
+-- The numbers that a solver's rows show. A basic column has the right side of its position's row over the row's own
+-- entry.
 -- Chvatal, Linear Programming (1983), chapters 2 and 5.
 use Rattle.std.specs.Prelude.{ℕ, suc, ◌+◌, nat_eq, cond, pos, neg_ℤ, nat_abs, List, [], ◌∷◌, Option, Some, None}
 use Rattle.rob_algebra.specs.Fraction.{Fraction, of_int, of_pair}

@@ -38,6 +38,7 @@ has_point New = ⊥
 has_point Infeasible = ⊥
 has_point Stopped = ⊥
 
+-- the solver's state says so
 abbrev pub HasPoint : Solver → Type 0
 HasPoint s = has_point s.state
 
@@ -69,8 +70,8 @@ growing_of Optimal = None
 growing_of Infeasible = None
 growing_of Stopped = None
 
--- what always holds, of rows within `top` and of what they tell within `limit`: of the program's size and the weights; where
--- there is a point, entries that are divided by are positive, and what is told of it fits
+-- what always holds, of rows within `top` and of what they tell within `limit`: of the program's size and the weights;
+-- where there is a point, entries that are divided by are positive, and what is told of it fits
 pub record IsSound (top limit : ℕ) (s : Solver) : Type 0 where
   pub limit_is : s.limit ≡ top
   pub few : s.columns + positions s < 2 ^ 31
@@ -91,7 +92,8 @@ pub record IsMadeFor (P : Program) (s : Solver) : Type 0 where
   pub columns : P.n ≡ s.columns
   pub starting : IsStartingTable P s.dictionary
 
--- the solver s' stands as s does: in the same state, at the same basis, with the same rows, of another limit
+-- the solver s' stands as s does: in the same state, at the same basis, with the same rows, of another limit; its
+-- weights are open
 pub record StandsAs (limit : ℕ) (s s' : Solver) : Type 0 where
   pub state : s'.state ≡ s.state
   pub dictionary : s'.dictionary ≡ with_limit limit s.dictionary

@@ -4,7 +4,8 @@ use Rattle.rob_linear.specs.Vectors.{Vector}
 use Rattle.rob_linear.specs.Programs.{Program, kept_row}
 use Rattle.rob_simplex.specs.Dictionaries.{Table, positions, columns_of, rows_of, IsClosed}
 
--- the place of each column: the structural columns, the auxiliary one, the spare one, the right side, and then the basic ones
+-- the place of each column: the structural columns, the auxiliary one, the spare one, the right side, and then the
+-- basic ones
 abbrev pub start_place : ℕ → ℕ → ℕ → ℕ
 start_place n m c =
     cond (nat_lt c n) c (cond (nat_lt c (n + m)) (c + 3)
@@ -14,7 +15,8 @@ start_place n m c =
 abbrev pub start_column : ℕ → ℕ → ℕ → ℕ
 start_column n m k = cond (nat_lt k n) k (cond (nat_eq k n) (n + m) (cond (nat_eq k (n + 1)) (n + m + 3) (n + m + 2)))
 
--- a condensed row: its structural entries, that of the auxiliary column, 0 in the spare one, the right side, and 1 as its own entry
+-- a condensed row: its structural entries, that of the auxiliary column, 0 in the spare one, the right side, and 1 as
+-- its own entry
 abbrev pub start_entry : ℕ → Vector → ℤ → ℤ → Vector
 start_entry n low auxiliary right k =
     cond (nat_lt k n) (low k) (cond (nat_eq k n) auxiliary (cond (nat_eq k (n + 1)) (pos 0) (cond (nat_eq k (n + 2)) right (pos 1))))

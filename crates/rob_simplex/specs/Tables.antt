@@ -1,4 +1,5 @@
--- Rows that stand one after another in one list, each with a number that bounds its entries, and what a pivot makes of them.
+-- Rows that stand one after another in one list, each with a number that bounds its entries, and what a pivot makes of
+-- them.
 use Rattle.std.specs.Prelude.{◌≡◌, ◌≢◌, ℕ, ◌<◌, ◌≤◌, ◌+◌, ◌*◌, ℤ, List, length, nat_abs, slice_index_or}
 use Rattle.rob_linear.specs.Vectors.{Matrix, Vector, at}
 use Rattle.rob_linear.specs.Multiples.{IsClearedBy}

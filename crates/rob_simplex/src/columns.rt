@@ -1,4 +1,4 @@
-// The columns of a dictionary: how many there are, which one stands at a position, and at which position one stands.
+//! The columns of a dictionary: how many there are, which one stands at a position, and at which position one stands.
 
 ghost use Rattle.std.specs.Prelude.{◌≡◌, ◌<◌, ◌+◌, ◌^◌, IfSome};
 ghost use Rattle.rob_simplex.specs.Dictionaries.{positions, columns_of};

@@ -1,4 +1,4 @@
-// A dictionary made like another one.
+//! A dictionary made like another one.
 
 ghost use Rattle.std.specs.Prelude.{◌≡◌, ◌<◌, ◌^◌, IfOk};
 ghost use Rattle.rob_simplex.specs.Dictionaries.{positions, with_limit};

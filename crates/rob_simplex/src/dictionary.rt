@@ -1,8 +1,8 @@
-// A dictionary: the rows of a basis, condensed, each with a number that bounds its entries.
-//
-// A row has n + 4 numbers: n + 2 entries of the columns that are not basic, one of which is a spare column of zeros, then the
-// right side, and last its own entry. `places` tells where a column stands, or n + 3 and its position where it is basic;
-// `near` tells the column at each place. The limit of the rows is the greatest that their entries allow.
+//! A dictionary: the rows of a basis, condensed, each with a number that bounds its entries.
+//!
+//! A row has n + 4 numbers: n + 2 entries of the columns that are not basic, one of which is a spare column of zeros,
+//! then the right side, and last its own entry. `places` tells where a column stands, or n + 3 and its position where
+//! it is basic; `near` tells the column at each place. The limit of the rows is the greatest that their entries allow.
 
 use rob_entries::{Cells, Entry, PivotRow};
 use std::marker::Model;

@@ -1,4 +1,4 @@
-// Edits of a dictionary between its pivots and its phases.
+//! Edits of a dictionary between its pivots and its phases.
 
 ghost use Rattle.std.specs.Prelude.{◌≡◌, ◌≢◌, ◌<◌, ◌≤◌, ◌+◌, ℕ, suc, pos, length};
 ghost use Rattle.rob_linear.specs.Beside.{exchanged};

@@ -1,4 +1,4 @@
-// The entries of a dictionary's rows.
+//! The entries of a dictionary's rows.
 
 ghost use Rattle.std.specs.Prelude.{◌≡◌, ◌<◌, ◌≤◌, nat_abs};
 ghost use Rattle.rob_simplex.specs.Dictionaries.{positions, width_of, rows_of};

@@ -1,4 +1,4 @@
-// The numbers that the last rows tell, judged at the width of the answer.
+//! The numbers that the last rows tell, judged at the width of the answer.
 
 ghost use Rattle.std.specs.Prelude.{◌≡◌, ◌<◌, ◌≤◌, ◌+◌, ◌<ℤ◌, ℕ, pos, IfSome, MatchOption};
 ghost use Rattle.std.specs.Bool.{OnTrue, OnFalse};
@@ -12,7 +12,7 @@ use rob_entries::Entry;
 use rob_number::Exact;
 
 impl<E: Entry> Dictionary<E> {
-    // Whether an entry of a row over another one, a positive one, is wide.
+    /// Whether an entry of a row over another one, a positive one, is wide.
     fn is_wide_over<N: Exact>(&self, i: usize, column: usize, own: usize) -> bool
         requires row_in { i ≤ positions self.now }
         requires column_in { column < width_of self.now }
@@ -24,7 +24,7 @@ impl<E: Entry> Dictionary<E> {
         !fits::<N, E>(self.entry(i, column), self.entry(i, own))
     }
 
-    // Whether the row of a position tells a number that is wide.
+    /// Whether the row of a position tells a number that is wide.
     fn tells_wide<N: Exact>(&self, growing: Option<usize>, i: usize) -> bool
         requires own { HasOwn self.now }
         requires i_in { i < positions self.now }
@@ -45,7 +45,7 @@ impl<E: Entry> Dictionary<E> {
         }
     }
 
-    // The first position before the objective's whose row tells a number that is wide, if there is one.
+    /// The first position before the objective's whose row tells a number that is wide, if there is one.
     fn first_wide<N: Exact>(&self, growing: Option<usize>) -> Option<usize>
         requires own { HasOwn self.now }
         requires growing_in { IfSome growing (λ column. column < self.now.columns + positions self.now) }
@@ -62,7 +62,7 @@ impl<E: Entry> Dictionary<E> {
         None
     }
 
-    // Whether the objective's row tells a dual value that is wide, or a wide value.
+    /// Whether the objective's row tells a dual value that is wide, or a wide value.
     fn objective_is_wide<N: Exact>(&self) -> bool
         requires own { HasOwn self.now }
         ensures wide { OnTrue result (TellsWideObjective N.limit self.now) }

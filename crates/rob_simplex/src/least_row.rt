@@ -1,5 +1,5 @@
-// The least row over minus its entry in the auxiliary column: of the rows that are negative there and lexicographically
-// negative, the one that comes first.
+//! The least row over minus its entry in the auxiliary column: of the rows that are negative there and
+//! lexicographically negative, the one that comes first.
 
 ghost use Rattle.std.specs.Prelude.{◌≡◌, ◌≢◌, ◌<◌, ◌≤◌, ◌+◌, ◌<ℤ◌, ◌↔◌, ℕ, suc, pos, neg_ℤ, IsTrue, IfSome, MatchOption};
 ghost use Rattle.std.specs.Bool.{OnTrue};
@@ -12,7 +12,7 @@ use crate::ratio_test::is_positive;
 use rob_entries::Entry;
 use std::cmp::Ordering;
 
-// Whether a number is below 0; none for 0.
+/// Whether a number is below 0; none for 0.
 fn is_below<E: Entry>(a: E) -> Option<bool>
     ensures sign { MatchOption result (E.value a ≡ pos 0) (λ below. Decided below (neg_ℤ (E.value a))) }
 {
@@ -24,7 +24,7 @@ fn is_below<E: Entry>(a: E) -> Option<bool>
 }
 
 impl<E: Entry> Dictionary<E> {
-    // Whether the first number of a row's right side and slack entries that is not 0 is negative.
+    /// Whether the first number of a row's right side and slack entries that is not 0 is negative.
     fn is_negative(&self, i: usize) -> bool
         requires row_in { i < positions self.now }
         ensures decides { IsTrue result ↔ IsLexNegative (suc (positions self.now))
@@ -44,7 +44,7 @@ impl<E: Entry> Dictionary<E> {
         false
     }
 
-    // Minus the entry of a row in a column.
+    /// Minus the entry of a row in a column.
     fn minus_entry(&self, i: usize, column: usize) -> E
         requires row_in { i ≤ positions self.now }
         requires column_in { column < width_of self.now }
@@ -53,7 +53,7 @@ impl<E: Entry> Dictionary<E> {
         self.entry(i, column).minus()
     }
 
-    // Whether row i may be the least, and comes before the best row so far. Its sign is looked at last.
+    /// Whether row i may be the least, and comes before the best row so far. Its sign is looked at last.
     fn is_lower(&self, column: usize, i: usize, best: Option<usize>) -> bool
         requires column_in { column < width_of self.now }
         requires i_in { i < positions self.now }
@@ -73,7 +73,7 @@ impl<E: Entry> Dictionary<E> {
         }
     }
 
-    // Whether a row is negative in a column and on its right side.
+    /// Whether a row is negative in a column and on its right side.
     fn is_below_zero(&self, column: usize, i: usize) -> bool
         requires column_in { column < width_of self.now }
         requires i_in { i < positions self.now }
@@ -89,8 +89,8 @@ impl<E: Entry> Dictionary<E> {
         true
     }
 
-    // The first such row, if there is one. No row that is 0 on its right side comes before it, so where the least row is
-    // sought from this one on, the slack entries of those are not looked at.
+    /// The first such row, if there is one. No row that is 0 on its right side comes before it, so where the least row
+    /// is sought from this one on, the slack entries of those are not looked at.
     fn first_below_zero(&self, column: usize) -> Option<usize>
         requires column_in { column < width_of self.now }
         ensures below { IfSome result (λ e. (e < positions self.now)

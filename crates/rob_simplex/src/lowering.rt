@@ -1,7 +1,7 @@
-// A row less an amount at one place: how the cost of a column is put into the objective's row.
-//     row[place]  becomes  row[place] - factor * row[own]
-// At a way, which is another place where the row is 0, the factor is written; a row with 1 at the way and the row's own
-// entry at the place then clears the way.
+//! A row less an amount at one place: how the cost of a column is put into the objective's row.
+//!     row[place]  becomes  row[place] - factor * row[own]
+//! At a way, which is another place where the row is 0, the factor is written; a row with 1 at the way and the row's
+//! own entry at the place then clears the way.
 
 ghost use Rattle.std.specs.Prelude.{◌≡◌, ◌≢◌, ◌⊎◌, ◌<◌, ◌≤◌, ◌+◌, ◌*◌, ◌^◌, ◌*ℤ◌, ℕ, suc, pos, nat_abs, length, OnOk, OnErr};
 ghost use Rattle.rob_linear.specs.Vectors.{at};
@@ -31,7 +31,7 @@ pub struct Lowering {
     pub n: usize,
 }
 
-// An entry of such a row.
+/// An entry of such a row.
 fn step_entry<E: Entry>(step: Step<E>, k: usize) -> E
     ensures value { E.value result ≡ step_row step.one step.place (E.value step.number) k }
 {
@@ -44,7 +44,7 @@ fn step_entry<E: Entry>(step: Step<E>, k: usize) -> E
     E::of(0)
 }
 
-// Writes the entries of such a row.
+/// Writes the entries of such a row.
 fn write_steps<E: Entry>(rows: &mut Cells<E>, i: usize, step: Step<E>, width: usize)
     requires inside { i * width + width ≤ length rows.old }
     ensures row { (k : ℕ) → k < width
@@ -79,7 +79,7 @@ pub fn write_step<E: Entry>(
     bounds[i] = step.number.size().max(1);
 }
 
-// Writes one entry of row i, and raises the row's bound to it.
+/// Writes one entry of row i, and raises the row's bound to it.
 fn write_factor<E: Entry>(
     rows: &mut Cells<E>,
     bounds: &mut [u128],
@@ -104,7 +104,7 @@ fn write_factor<E: Entry>(
     bounds[i] = bound.max(entry.size());
 }
 
-// Takes row i as the one that clears others.
+/// Takes row i as the one that clears others.
 fn load_row<E: Entry>(
     rows: &Cells<E>,
     bounds: &[u128],

@@ -1,5 +1,5 @@
-// Which row leaves: of the rows that are positive in the entering column, the one whose right side and then slack
-// entries, all over its entry in that column, come first. (Dantzig, Orden, Wolfe 1955.)
+//! Which row leaves: of the rows that are positive in the entering column, the one whose right side and then slack
+//! entries, all over its entry in that column, come first. (Dantzig, Orden, Wolfe 1955.)
 
 ghost use Rattle.std.specs.Prelude.{◌≡◌, ◌<◌, ◌≤◌, ◌^◌, ◌-◌, ◌+◌, ◌<ℤ◌, ◌≤ℤ◌, ◌*ℤ◌, ◌-ℤ◌, ◌↔◌, ℕ, pos, nat_abs, IsTrue, IfSome, MatchOption};
 ghost use Rattle.rob_linear.specs.Turns.{ComesBefore, Leaves};
@@ -16,8 +16,8 @@ pub fn is_positive<E: Entry>(a: E) -> bool
     a.sign().is_gt()
 }
 
-// Whether a over p is less than b over q, for positive divisors; none where they are the same. Most entries are 0, so
-// that is looked at first.
+/// Whether a over p is less than b over q, for positive divisors; none where they are the same. Most entries are 0, so
+/// that is looked at first.
 fn is_less<E: Entry>(a: E, p: E, b: E, q: E) -> Option<bool>
     ensures order { MatchOption result
         ((E.value p *ℤ E.value b) -ℤ (E.value q *ℤ E.value a) ≡ pos 0)
@@ -36,7 +36,7 @@ fn is_less<E: Entry>(a: E, p: E, b: E, q: E) -> Option<bool>
 }
 
 impl<E: Entry> Dictionary<E> {
-    // Whether entries in a column, over the rows' divisors, decide which of two rows comes first.
+    /// Whether entries in a column, over the rows' divisors, decide which of two rows comes first.
     fn is_less_at(&self, column: usize, i: usize, p: E, e: usize, q: E) -> Option<bool>
         requires column_in { column < width_of self.now }
         requires i_in { i < positions self.now }
@@ -48,8 +48,8 @@ impl<E: Entry> Dictionary<E> {
         is_less(self.entry(i, column), p, self.entry(e, column), q)
     }
 
-    // Whether row i comes before row e, each over its divisor. Slack entries count only where the right sides are in the
-    // same ratio.
+    /// Whether row i comes before row e, each over its divisor. Slack entries count only where the right sides are in
+    /// the same ratio.
     pub fn comes_before(&self, i: usize, p: E, e: usize, q: E) -> bool
         requires i_in { i < positions self.now }
         requires e_in { e < positions self.now }
@@ -70,7 +70,7 @@ impl<E: Entry> Dictionary<E> {
         false
     }
 
-    // Whether row i is positive in the column and comes before the best row so far.
+    /// Whether row i is positive in the column and comes before the best row so far.
     fn goes_first(&self, column: usize, i: usize, best: Option<usize>) -> bool
         requires column_in { column < width_of self.now }
         requires i_in { i < positions self.now }

@@ -1,4 +1,4 @@
-// A row of a table that is divided by what is common to its entries, or turned round.
+//! A row of a table that is divided by what is common to its entries, or turned round.
 
 ghost use Rattle.std.specs.Prelude.{◌≡◌, ◌≢◌, ◌<◌, ◌≤◌, ◌<ℤ◌, ◌*ℤ◌, ℕ, ℤ, pos, neg_ℤ, length};
 ghost use Rattle.rob_simplex.specs.Tables.{row_at, HasBounds};
@@ -7,7 +7,7 @@ ghost use Rattle.rob_simplex.specs.Dictionaries.{positions, rows_of, kept_row_of
 use crate::dictionary::Dictionary;
 use rob_entries::{Cells, Entry};
 
-// Divides row i by what divides all its entries, and takes the greatest of their sizes as its bound.
+/// Divides row i by what divides all its entries, and takes the greatest of their sizes as its bound.
 fn reduce_row<E: Entry>(rows: &mut Cells<E>, bounds: &mut [u128], i: usize, width: usize)
     requires bounded { HasBounds E.top width rows.old bounds.old }
     requires inside { i < length bounds.old }
@@ -19,8 +19,8 @@ fn reduce_row<E: Entry>(rows: &mut Cells<E>, bounds: &mut [u128], i: usize, widt
     bounds[i] = rows.reduce(i * width, width, E::TOP);
 }
 
-// Divides row i by what divides all its entries, unless its own entry, the last one, is 1, which nothing but 1
-// divides.
+/// Divides row i by what divides all its entries, unless its own entry, the last one, is 1, which nothing but 1
+/// divides.
 fn reduce_unless_one<E: Entry>(rows: &mut Cells<E>, bounds: &mut [u128], i: usize, width: usize)
     requires bounded { HasBounds E.top width rows.old bounds.old }
     requires inside { i < length bounds.old }
@@ -36,7 +36,7 @@ fn reduce_unless_one<E: Entry>(rows: &mut Cells<E>, bounds: &mut [u128], i: usiz
     reduce_row(rows, bounds, i, width);
 }
 
-// Turns row i round.
+/// Turns row i round.
 fn negate_row<E: Entry>(rows: &mut Cells<E>, bounds: &[u128], i: usize, width: usize)
     requires bounded { HasBounds E.top width rows.old bounds.now }
     requires inside { i < length bounds.now }

@@ -1,4 +1,4 @@
-// Rows of a table that change places, are copied, or are emptied.
+//! Rows of a table that change places, are copied, or are emptied.
 
 ghost use Rattle.std.specs.Prelude.{◌≡◌, ◌≢◌, ◌<◌, ◌≤◌, ◌+◌, ◌*◌, ◌⊎◌, ◌^◌, ℕ, pos, nat_abs, set, slice_index_or, length};
 ghost use Rattle.rob_linear.specs.Beside.{exchanged};
@@ -6,7 +6,7 @@ ghost use Rattle.rob_simplex.specs.Tables.{row_at, HasBounds};
 
 use rob_entries::{Cells, Entry};
 
-// Two rows exchange their entries.
+/// Two rows exchange their entries.
 fn exchange_entries<E: Entry>(rows: &mut Cells<E>, a: usize, b: usize, width: usize)
     requires a_in { a * width + width ≤ length rows.old }
     requires b_in { b * width + width ≤ length rows.old }
@@ -19,7 +19,7 @@ fn exchange_entries<E: Entry>(rows: &mut Cells<E>, a: usize, b: usize, width: us
     }
 }
 
-// Two bounds exchanged.
+/// Two bounds exchanged.
 fn exchange_bounds(bounds: &mut [u128], a: usize, b: usize)
     requires a_in { a < length bounds.old }
     requires b_in { b < length bounds.old }
@@ -70,7 +70,7 @@ pub fn copy_row<E: Entry>(
     bounds[to] = bounds[from];
 }
 
-// Copies the entries of a row over another one.
+/// Copies the entries of a row over another one.
 fn copy_entries<E: Entry>(rows: &mut Cells<E>, from: usize, to: usize, width: usize)
     requires from_in { from * width + width ≤ length rows.old }
     requires to_in { to * width + width ≤ length rows.old }
@@ -84,7 +84,7 @@ fn copy_entries<E: Entry>(rows: &mut Cells<E>, from: usize, to: usize, width: us
     }
 }
 
-// Copies one entry over another one.
+/// Copies one entry over another one.
 fn copy_entry<E: Entry>(rows: &mut Cells<E>, from: usize, to: usize)
     requires from_in { from < length rows.old }
     requires to_in { to < length rows.old }
@@ -133,7 +133,7 @@ pub fn write_unit<E: Entry>(
     bounds[i] = 1;
 }
 
-// Writes 0 to all entries of a row.
+/// Writes 0 to all entries of a row.
 fn empty_row<E: Entry>(rows: &mut Cells<E>, i: usize, width: usize)
     requires inside { i * width + width ≤ length rows.old }
     ensures zero { (k : ℕ) → k < width → row_at rows.new width i k ≡ pos 0 }

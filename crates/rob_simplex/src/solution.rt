@@ -1,4 +1,4 @@
-// The numbers that the last rows show.
+//! The numbers that the last rows show.
 
 ghost use Rattle.std.specs.Prelude.{◌≡◌, ◌≤◌, ◌-◌, ◌^◌, ◌<ℤ◌, pos, nat_abs, MatchOption};
 ghost use Rattle.std.specs.Bool.{OnTrue, OnFalse};
@@ -9,7 +9,7 @@ ghost use Rattle.rob_simplex.specs.Judging.{AreShortParts};
 use rob_entries::Entry;
 use rob_number::{Exact, Tally};
 
-// Two numbers of 62 bits with the quotient of two others, if there are such.
+/// Two numbers of 62 bits with the quotient of two others, if there are such.
 fn short_parts<E: Entry>(numerator: E, denominator: E) -> Option<(i64, i64)>
     requires numerator { nat_abs (E.value numerator) ≤ E.top }
     requires denominator { nat_abs (E.value denominator) ≤ E.top }
@@ -29,7 +29,7 @@ fn short_parts<E: Entry>(numerator: E, denominator: E) -> Option<(i64, i64)>
     }
 }
 
-// One number over another, if it fits.
+/// One number over another, if it fits.
 fn divided<N: Exact, E: Entry>(numerator: E, denominator: E) -> Option<N>
     requires numerator { nat_abs (E.value numerator) ≤ E.top }
     requires denominator { nat_abs (E.value denominator) ≤ E.top }

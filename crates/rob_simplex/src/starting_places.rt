@@ -1,9 +1,9 @@
-// Where each column of a dictionary stands at the start.
+//! Where each column of a dictionary stands at the start.
 
 ghost use Rattle.std.specs.Prelude.{◌≡◌, ◌<◌, ◌≤◌, ◌+◌, ◌^◌, ℕ, slice_index_or, length};
 ghost use Rattle.rob_simplex.specs.Starts.{start_place, start_column};
 
-// The place of a column.
+/// The place of a column.
 fn place_of(n: usize, m: usize, c: usize) -> usize
     requires few { n + m < 2 ^ 31 }
     ensures value { result ≡ start_place n m c }
@@ -26,7 +26,7 @@ fn place_of(n: usize, m: usize, c: usize) -> usize
     n + 1
 }
 
-// The column at a place.
+/// The column at a place.
 fn column_at(n: usize, m: usize, k: usize) -> usize
     requires few { n + m < 2 ^ 31 }
     ensures value { result ≡ start_column n m k }

@@ -1,5 +1,5 @@
-// The dictionary that a program starts from: a row for each constraint, with 1 in its own slack column, and the objective's
-// row with minus the cost. -1 stands in the auxiliary column of each constraint's row.
+//! The dictionary that a program starts from: a row for each constraint, with 1 in its own slack column, and the
+//! objective's row with minus the cost. -1 stands in the auxiliary column of each constraint's row.
 
 ghost use Rattle.std.specs.Prelude.{◌≡◌, ◌≢◌, ◌⊎◌, ◌<◌, ◌≤◌, ◌+◌, ◌-◌, ◌*◌, ◌^◌, ℕ, [], pos, neg_ℤ, nat_abs, slice_index_or, length, IfOk};
 ghost use Rattle.rob_linear.specs.Vectors.{at};
@@ -57,7 +57,7 @@ impl<E: Entry> Dictionary<E> {
     }
 }
 
-// One entry of a constraint's condensed row.
+/// One entry of a constraint's condensed row.
 fn constraint_entry(numbers: &[i64], right: i64, k: usize) -> i64
     requires few { length numbers.now < 2 ^ 31 }
     ensures value { result ≡ start_entry (length numbers.now) (at numbers.now) (neg_ℤ (pos 1)) right k }
@@ -78,7 +78,7 @@ fn constraint_entry(numbers: &[i64], right: i64, k: usize) -> i64
     1
 }
 
-// One entry of the objective's condensed row.
+/// One entry of the objective's condensed row.
 fn cost_entry(cost: &[i64], k: usize) -> i64
     requires few { length cost.now < 2 ^ 31 }
     requires within { (k : ℕ) → k < length cost.now → nat_abs (at cost.now k) < 2 ^ 62 }
@@ -94,7 +94,7 @@ fn cost_entry(cost: &[i64], k: usize) -> i64
     1
 }
 
-// Writes the structural entries of row i.
+/// Writes the structural entries of row i.
 fn write_structural<E: Entry>(rows: &mut Cells<E>, i: usize, width: usize, numbers: &[i64])
     requires inside { i * width + width ≤ length rows.old }
     requires room { length numbers.now ≤ width }
@@ -109,7 +109,7 @@ fn write_structural<E: Entry>(rows: &mut Cells<E>, i: usize, width: usize, numbe
     }
 }
 
-// Writes what stands behind them in a constraint's row.
+/// Writes what stands behind them in a constraint's row.
 fn write_behind<E: Entry>(rows: &mut Cells<E>, i: usize, numbers: &[i64], right: i64)
     requires few { length numbers.now < 2 ^ 31 }
     requires inside { i * (length numbers.now + 4) + (length numbers.now + 4) ≤ length rows.old }
@@ -129,7 +129,7 @@ fn write_behind<E: Entry>(rows: &mut Cells<E>, i: usize, numbers: &[i64], right:
     }
 }
 
-// Writes the objective's condensed row as row i.
+/// Writes the objective's condensed row as row i.
 fn write_objective<E: Entry>(rows: &mut Cells<E>, i: usize, cost: &[i64])
     requires few { length cost.now < 2 ^ 31 }
     requires inside { i * (length cost.now + 4) + (length cost.now + 4) ≤ length rows.old }
@@ -173,7 +173,7 @@ fn write_row<E: Entry>(
     bounds[i] = rows.largest(i * width, width);
 }
 
-// Writes the objective's row, with its bound.
+/// Writes the objective's row, with its bound.
 fn write_cost<E: Entry>(rows: &mut Cells<E>, bounds: &mut [u128], i: usize, cost: &[i64])
     requires few { length cost.now < 2 ^ 31 }
     requires bounded { HasBounds E.top (length cost.now + 4) rows.old bounds.old }
@@ -191,7 +191,8 @@ fn write_cost<E: Entry>(rows: &mut Cells<E>, bounds: &mut [u128], i: usize, cost
     bounds[i] = rows.largest(i * width, width);
 }
 
-// Writes the rows of the constraints and, behind them, the objective's, with their bounds. Each is told into `numbers`.
+/// Writes the rows of the constraints and, behind them, the objective's, with their bounds. Each is told into
+/// `numbers`.
 fn write_program<E: Entry, R: Rows>(
     rows: &mut Cells<E>,
     bounds: &mut [u128],
@@ -218,7 +219,7 @@ fn write_program<E: Entry, R: Rows>(
     write_cost(rows, bounds, m, numbers);
 }
 
-// Writes the rows of the constraints, with their bounds. Each is told into `numbers`.
+/// Writes the rows of the constraints, with their bounds. Each is told into `numbers`.
 fn write_rows<E: Entry, R: Rows>(
     rows: &mut Cells<E>,
     bounds: &mut [u128],
@@ -243,7 +244,7 @@ fn write_rows<E: Entry, R: Rows>(
     }
 }
 
-// Writes the row of constraint i, with its bound. It is told into `numbers`.
+/// Writes the row of constraint i, with its bound. It is told into `numbers`.
 fn write_told_row<E: Entry, R: Rows>(
     rows: &mut Cells<E>,
     bounds: &mut [u128],

@@ -1,4 +1,4 @@
-// A table of rows with their bounds, in which one row clears the others of an entry.
+//! A table of rows with their bounds, in which one row clears the others of an entry.
 
 ghost use Rattle.std.specs.Prelude.{◌≡◌, ◌≢◌, ◌<◌, ◌≤◌, ◌+◌, ◌-◌, ◌<ℤ◌, ℕ, pos, length, OnOk, OnErr, IfErr};
 ghost use Rattle.rob_linear.specs.Vectors.{at, Matrix};
@@ -49,7 +49,7 @@ pub fn clear_row<E: Entry>(
     Ok(())
 }
 
-// Row i is cleared, unless it is the row that clears, or is 0 at the place.
+/// Row i is cleared, unless it is the row that clears, or is 0 at the place.
 fn clear_other<E: Entry, L: Ledger>(
     rows: &mut Cells<E>,
     bounds: &mut [u128],
@@ -89,8 +89,8 @@ fn clear_other<E: Entry, L: Ledger>(
     Ok(())
 }
 
-/// Clears all rows before `count` but its own of their entries at the place. After an `Err`, which names the first row that
-/// would be wide, the rows before it are cleared, and the others are as they were.
+/// Clears all rows before `count` but its own of their entries at the place. After an `Err`, which names the first row
+/// that would be wide, the rows before it are cleared, and the others are as they were.
 pub fn clear_rows<E: Entry, L: Ledger>(
     rows: &mut Cells<E>,
     bounds: &mut [u128],

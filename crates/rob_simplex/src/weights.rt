@@ -1,4 +1,4 @@
-// The weights that show that no point is feasible, read off the last row of the first phase.
+//! The weights that show that no point is feasible, read off the last row of the first phase.
 
 ghost use Rattle.std.specs.Prelude.{◌≡◌, ◌≤◌, ◌<◌, ◌+◌, ◌*ℤ◌, ◌<ℤ◌, ℕ, ℤ, pos, set, length};
 ghost use Rattle.rob_linear.specs.Vectors.{at};
@@ -13,8 +13,8 @@ use crate::dictionary::Dictionary;
 use rob_entries::{Cells, Entry};
 
 impl<E: Entry> Dictionary<E> {
-    /// Writes the weights, the slack entries of the row that ended the first phase over what divides them all, and tells
-    /// the path's basis: where the auxiliary column was kept out of it, it comes to this row's position.
+    /// Writes the weights, the slack entries of the row that ended the first phase over what divides them all, and
+    /// tells the path's basis: where the auxiliary column was kept out of it, it comes to this row's position.
     pub fn show_weights(&mut self, row: usize, weights: &mut Cells<E>)
         requires ends { (P : Program) × FirstEnds P (Infeasible row) self.old }
         requires size { length weights.old ≡ positions self.old }
@@ -30,7 +30,7 @@ impl<E: Entry> Dictionary<E> {
         self.tell_auxiliary(row);
     }
 
-    // The slack entries of a row, over what divides them all.
+    /// The slack entries of a row, over what divides them all.
     fn lowest_slacks(&self, row: usize, weights: &mut Cells<E>)
         requires row_in { row ≤ positions self.now }
         requires size { length weights.old ≡ positions self.now }
@@ -44,7 +44,7 @@ impl<E: Entry> Dictionary<E> {
         let _ = weights.reduce(0, self.basis.len(), E::TOP);
     }
 
-    // The slack entries of a row.
+    /// The slack entries of a row.
     fn slacks(&self, row: usize, weights: &mut Cells<E>)
         requires row_in { row ≤ positions self.now }
         requires size { length weights.old ≡ positions self.now }
@@ -58,7 +58,7 @@ impl<E: Entry> Dictionary<E> {
         }
     }
 
-    // The auxiliary column comes to a row's position, unless the row is the objective's.
+    /// The auxiliary column comes to a row's position, unless the row is the objective's.
     fn tell_auxiliary(&mut self, row: usize)
         requires row_in { row ≤ positions self.old }
         requires free { row < positions self.old

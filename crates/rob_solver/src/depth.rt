@@ -1,4 +1,4 @@
-// Solvers by the width of their rows.
+//! Solvers by the width of their rows.
 
 use rob_number::Exact;
 use rob_simplex::Work;

@@ -81,7 +81,7 @@ pub fn prove<N: Exact + Drop, L: Ledger>(
 }
 
 /// The certificate that the route finds, with its rounds; by the robust counterpart there are none. `EmptySet` comes
-/// where no joint scenario is admitted, `Wide` names a number on the route's way that is wide.
+/// only where no joint scenario is admitted; `Wide` names a number on the route's way that is wide.
 pub fn find<N: Exact + Drop, L: Ledger>(
     alloc: Global,
     forms: &Forms,

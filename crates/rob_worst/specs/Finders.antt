@@ -61,7 +61,7 @@ pub record HasStoppedSearch (limit : ℕ) (Q : Program) (cost : List ℤ) (stop 
   pub stopped : HasStoppedFrom limit (with_cost program (at cost)) start stop s
   pub caused : IsCausedFrom limit (with_cost program (at cost)) start stop s
 
--- a search is refused only by a solver over deep rows: the refusal tells where it stands
+-- of rows only those of a solver over deep ones refuse a search: the refusal tells where it stands; memory is free
 abbrev pub IsRefusedDeep : ℕ → Program → Task → Stop → Type 0
 IsRefusedDeep limit Q task (EmptySet weights) = ⊥
 IsRefusedDeep limit Q task (Wide place trace) =

@@ -44,9 +44,9 @@ pub struct Finder<N: Exact> {
 }
 
 impl<N: Exact> Finder<N> {
-    /// Solves the set's program. `EmptySet` comes where no scenario is admitted, with the weights of the set rows that
-    /// show it; `Wide` only where a row of a basis on the program's path has a number over the limit; `Memory` where
-    /// memory is refused.
+    /// Solves the set's program. `EmptySet` comes only where no scenario is admitted, with the weights of the set rows
+    /// that show it; `Wide` only where a row of a basis on the program's path has a number over the limit; `Memory`
+    /// where memory is refused.
     pub fn new<L: Ledger>(alloc: Global, set: &SetForm, ledger: &mut L) -> Result<Finder<N>, Stop>
         requires model { IsSetOfModel N.limit set.now }
         requires few { IsFewSet set.now }
@@ -124,7 +124,7 @@ impl<N: Exact> Finder<N> {
         self.search(alloc, set, task, ledger)
     }
 
-    /// The search: from the set's last basis, with the task's cost. Only deep rows refuse it.
+    /// The search: from the set's last basis, with the task's cost. Of rows only deep ones refuse it.
     fn search<L: Ledger>(
         &mut self,
         alloc: Global,

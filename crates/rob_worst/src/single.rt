@@ -21,9 +21,9 @@ use std::alloc::Global;
 
 /// The worst scenario of a form at a plan with its bound: the greatest value of the form's parameter part over the set,
 /// times the plan's least common denominator, with a scenario that has it, and amounts of the set rows that show it; or
-/// a ray of the set along which the form grows. `form` counts from 0. `EmptySet` comes where no scenario is admitted,
-/// `Wide` only where a number of the set's program or of the search is over the limit, `Memory` where memory is
-/// refused.
+/// a ray of the set along which the form grows. `form` counts from 0. `EmptySet` comes only where no scenario is
+/// admitted, `Wide` only where a number of the set's program or of the search is over the limit, `Memory` where memory
+/// is refused.
 pub fn worst<N: Exact, L: Ledger>(
     alloc: Global,
     forms: &Forms,
