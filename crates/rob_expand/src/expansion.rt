@@ -40,7 +40,8 @@ use std::alloc::Global;
 /// Appends the plain statements that a statement stands for, in order. `own` are the words of the text, which the
 /// statement's names are numbers of; names that are none of `words` come behind these, in the order in which they
 /// stand. First all names are added, then the statements are made: so each number is one among all words.
-/// Behind a refusal it is open what `words` and `list` have.
+/// Behind a refusal it is open what `words` and `list` have. `limit` is what digits have to be within where tokens are
+/// counted; nothing that is answered depends on it.
 pub fn expand(
     alloc: Global,
     limit: u64,

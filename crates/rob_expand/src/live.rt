@@ -9,8 +9,9 @@ use rob_number::Memory;
 use rob_ranges::{Ends, Whole};
 use std::alloc::Global;
 
-/// The first value from `from` on at which the outermost of the ranges inside has a value, if there is one. It is
-/// found by division: how far that range's start is behind its end changes by the same amount from value to value.
+/// A value from `from` on, before which the outermost of the ranges inside has none; or nothing, where it has none from
+/// there on. It is the first at which that range has one, as no clause says, and is found by division: how far the
+/// range's start is behind its end changes by the same amount from value to value.
 pub fn first_live(
     alloc: Global,
     from: &Whole,

@@ -33,7 +33,7 @@ pub fn settings_of(
     Ok(settings)
 }
 
-/// All settings of ranges. More than 2^32 are refused for want of memory.
+/// All settings of ranges. 2^32 or more are refused for want of memory.
 pub fn all_settings(
     alloc: Global,
     ranges: &[Ends],

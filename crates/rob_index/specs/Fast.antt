@@ -55,7 +55,7 @@ abbrev pub names_in : List ℕ → List Range → List ℕ
 names_in names [] = names
 names_in names (r ∷ rs) = names_in (r.name ∷ names) rs
 
--- the index is over 999, or below 0, somewhere
+-- the index is over 999 somewhere
 abbrev pub goes_over : List Range → Index → Bool
 goes_over around x = reaches (nest_of [] around) [] (index_form (names_in [] around) x) (pos 1000)
 

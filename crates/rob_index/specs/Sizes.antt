@@ -1,5 +1,5 @@
--- How much the plain statements of a text have, and the limits that are the same for both versions. They are wider than
--- those of `rob_model`, by which texts are read.
+-- How much the plain statements of a text have, and the limits, which are the same for both versions: those of
+-- `rob_model`, by which texts are read.
 use Rattle.std.specs.Prelude.{ℕ, ◌+◌, ◌*◌, nat_le, ◌&&◌, Bool, length, Option}
 use Rattle.rob_index.specs.Statements.{Bounds, Rel, Statement, uncertain, over, set, budget, variable, adaptive, goal, row}
 use Rattle.rob_index.specs.Statements as stated

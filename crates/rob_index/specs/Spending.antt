@@ -116,7 +116,8 @@ module _ (limit : ℕ) (words : List Name) where
   abbrev pub expand_within : Indexed Tree → ℕ → Option (Paid (List Statement))
   expand_within s room = lines_within s (settings (ranges_of s) []) room
 
--- ---- no sum and no product is empty, as in the tree of an expression
+-- ---- a tree whose text has a token: its sums and products have a first part or factor, and that is such a tree, as in
+-- the tree of an expression
 abbrev mutual
   pub IsReal : Tree → Type 0
   IsReal (stated.number n) = Unit {0}

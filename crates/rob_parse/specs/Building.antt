@@ -45,12 +45,15 @@ module _ (limit : ℕ) where
     FitsOperands no_operands = Unit {0}
     FitsOperands (operand f fs) = FitsTree f × FitsOperands fs
 
+  -- of a member of a budget
   abbrev pub FitsMember : Member → Type 0
   FitsMember m = FitsNumber m.spread.centre.number × FitsNumber m.spread.deviation
 
+  -- of both sides of a relation
   abbrev pub FitsRelation : Relation → Type 0
   FitsRelation r = FitsTree (tree_of r.left) × FitsTree (tree_of r.right)
 
+  -- of a statement
   abbrev pub FitsStatement : Statement → Type 0
   FitsStatement (Uncertain d) = FitsBounds d.bounds
   FitsStatement (Over k) = Unit {0}

@@ -1,5 +1,6 @@
--- The model that a text's statements say: the parts of each kind in order, each name as its number, and numbers as fractions.
--- A statement is first what it writes, over the written parameters; then it is taken in the set that it answers to.
+-- The model that a text's statements say: the parts of each kind in order, each name as its number, and numbers as
+-- fractions. A statement is first what it writes, over the written parameters; then it is taken in the set that it
+-- answers to.
 use Rattle.std.specs.Prelude.{ℕ, zero, suc, ◌+◌, ◌*◌, pos, List, [], ◌∷◌, length, map, get_or, Option, Some, None, unwrap_or}
 use Rattle.std.specs.List.{flat_map}
 use Rattle.rob_algebra.specs.Fraction.{Fraction, of_pair}
@@ -47,11 +48,13 @@ upper_bound (Some (Between both)) = Some (signed_fraction both.upper)
 upper_bound (Some (AtLeast a)) = None
 upper_bound (Some (AtMost b)) = Some (signed_fraction b)
 
+-- a relation
 abbrev pub relation_of : Rel → model.Relation
 relation_of rel.AtMost = model.at_most
 relation_of rel.AtLeast = model.at_least
 relation_of rel.Equal = model.equal
 
+-- the sense of a goal
 abbrev pub sense_of : Sense → model.Sense
 sense_of sense.Minimise = model.minimise
 sense_of sense.Maximise = model.maximise
@@ -118,11 +121,12 @@ sense_in None = model.minimise
 sense_in (Some g) = sense_of g.sense
 
 -- ---- sets
--- the number of the set of this name; a line without `over` answers to the default set
+-- the number of a set; nothing else stands where one is asked for
 abbrev pub set_number : Option Sort → ℕ
 set_number (Some (sort.Set S)) = S
 set_number _ = 0
 
+-- the set of the name behind `over`; a line without one answers to the default set
 abbrev pub set_at : List (Option Sort) → Option ℕ → ℕ
 set_at sorts None = 0
 set_at sorts (Some k) = set_number (sort_at sorts k)
@@ -133,12 +137,13 @@ adaptive_taken zero y = meaning.adaptive y
 adaptive_taken (suc S) y = meaning.adaptive_in y (suc S)
 
 module _ (sorts : List (Option Sort)) where
-  -- the set of a statement on a set, or of a row, if it is one
+  -- the set of a statement on a set, if it is one
   abbrev pub line_sets : Statement → List ℕ
   line_sets (parsed.Set r) = set_at sorts r.over ∷ []
   line_sets (parsed.Budget b) = set_at sorts b.over ∷ []
   line_sets _ = []
 
+  -- the set of a row, if it is one
   abbrev pub row_sets : Statement → List ℕ
   row_sets (parsed.Row r) = set_at sorts r.relation.over ∷ []
   row_sets _ = []
@@ -151,7 +156,8 @@ module _ (sorts : List (Option Sort)) where
 -- where there are so many written parameters
 module _ (count : ℕ) where
   abbrev mutual
-    -- an expression as set `S` takes it: its parameters are those of the set, and its adaptive variables are taken in it
+    -- an expression as set `S` takes it: its parameters are those of the set, and its adaptive variables are taken in
+    -- it
     pub taken : ℕ → meaning.Expression → meaning.Expression
     taken S (meaning.number q) = meaning.number q
     taken S (meaning.parameter k) = meaning.parameter (S * count + k)
@@ -169,14 +175,16 @@ module _ (count : ℕ) where
     factors_taken S meaning.no_factors = meaning.no_factors
     factors_taken S (meaning.factor e fs) = meaning.factor (taken S e) (factors_taken S fs)
 
-  -- a member of a budget, a statement on the set, and a row, as set `S` takes them
+  -- a member of a budget, as set `S` takes it
   abbrev pub member_taken : ℕ → model.Member → model.Member
   member_taken S h = record h { parameter = S * count + h.parameter }
 
+  -- a statement on the set, as set `S` takes it
   abbrev pub line_taken : ℕ → model.SetLine → model.SetLine
   line_taken S (model.line left relation right) = model.line (taken S left) relation (taken S right)
   line_taken S (model.budget limit members) = model.budget limit (map (member_taken S) members)
 
+  -- a row, as set `S` takes it
   abbrev pub row_taken : ℕ → model.Row → model.Row
   row_taken S r = record r { left = taken S r.left; right = taken S r.right }
 
@@ -240,7 +248,8 @@ each_taken take [] Ss = []
 each_taken take (x ∷ xs) [] = x ∷ xs
 each_taken take (x ∷ xs) (S ∷ Ss) = take S x ∷ each_taken take xs Ss
 
--- a model over written parameters, with these named sets, where its statements, its objective and its rows answer to these
+-- a model over written parameters, with these named sets, where its statements, its objective and its rows answer to
+-- these
 abbrev pub in_sets : model.RobustModel → List (List ℕ) → (of_lines : List ℕ) (of_objective : ℕ) (of_rows : List ℕ) → model.RobustModel
 in_sets w names of_lines of_objective of_rows = record {
   parameters = joint_parameters w.parameters names;

@@ -34,8 +34,8 @@ pub fn one_model()
         → ReadsModel limit text m → Breaks limit text rule line → ⊥ }
 {}
 
-/// A model that a text reads as is within the limits, and the sizes that are counted statement by statement, which rule 22
-/// judges, are those of the model of the statements up to there.
+/// A model that a text reads as is within the limits, and the sizes that are counted statement by statement, which rule
+/// 22 judges, are those of the model of the statements up to there.
 pub fn within_limits()
     ensures limits { (limit : ℕ) (text : List ℕ) (m : RobustModel) → ReadsModel limit text m → IsWithinLimits m }
     ensures counted { (limit : ℕ)
@@ -55,8 +55,8 @@ pub fn well_named()
     ensures spelled { (limit : ℕ) (text : List ℕ) (m : RobustModel) → ReadsModel limit text m → Each IsSpelled (declared_names m) }
 {}
 
-/// The name that a ref with indices stands for may be declared, where its word is a word and no keyword, its indices are
-/// within bounds, and it isn't too long.
+/// The name that a ref with indices stands for may be declared, where its word is a word and no keyword, its indices
+/// are within bounds, and it isn't too long.
 pub fn expanded_names()
     ensures spelled { (words : List (List ℕ)) (setting : Setting) (r : Ref)
         → IsWord (word_at words r.name) → keyword_among keywords (word_at words r.name) ≡ None
@@ -64,8 +64,8 @@ pub fn expanded_names()
         → length (ref_name words setting r) ≤ longest_name → IsSpelled (ref_name words setting r) }
 {}
 
-/// What a text of either version reads as are statements one behind another, each as a reader makes it and without a fault;
-/// and its words, with the names that came, are different words, without a dot.
+/// What a text of either version reads as are statements one behind another, each as a reader makes it and without a
+/// fault; and its words, with the names that came, are different words, without a dot.
 pub fn text_chain()
     ensures chain { (limit : ℕ) (text : List ℕ) (words : List (List ℕ)) (list : List Statement) (known : Earlier)
         → Reads limit text words list known → Chain limit words (start (length words)) list known }

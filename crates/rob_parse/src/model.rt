@@ -26,8 +26,9 @@ use rob_syntax::Words;
 use rob_syntax::syntax::{Budget, Declared, Goal, Policy, Relation, Row, Statement};
 use std::alloc::Global;
 
-/// The model that a text says, its numbers being of the type `N`, whose limit bounds digits; or the rule that the text breaks
-/// and the line, counted from 1: first the rules of tokens, then the first bad line, and on it the rule judged first.
+/// The model that a text says, its numbers being of the type `N`, whose limit bounds digits; or the rule that the text
+/// breaks and the line, counted from 1: first the rules of tokens, then the first bad line, and on it the rule that is
+/// judged first.
 pub fn read_model<N: Exact, L: Ledger>(
     alloc: Global,
     text: &[u8],

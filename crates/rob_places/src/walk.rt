@@ -1,5 +1,5 @@
-//! The walk through the places of a statement, in their order, until what is looked for is found. Where it is, the
-//! ranges around stay as they are there.
+//! The walk through the places of a statement, in their order, until what is looked for is found. A function that
+//! answers leaves the ranges around as they were, but for `inside`, which enters those of the statement.
 
 ghost use Rattle.std.specs.Prelude.{◌≡◌, map, IfOk, OnOk};
 ghost use Rattle.rob_syntax.specs.Seen.{seen_index, seen_over, seen_part, parts_of, factors_of, seen_range, seen_ranged, seen_ranges, seen_ref, seen_share, seen_sides, seen_statement, seen_tree};

@@ -1,6 +1,6 @@
--- What names stand for, and the degrees of expressions in the decisions and in the parameters, judged on the tree as it is
--- written. Fixed recourse (an adaptive variable is multiplied by no parameter): Ben-Tal, El Ghaoui, Nemirovski, Robust
--- Optimization (2009), chapter 14.
+-- What names stand for, and the degrees of expressions in the decisions and in the parameters, judged on the tree as it
+-- is written. Fixed recourse (an adaptive variable is multiplied by no parameter): Ben-Tal, El Ghaoui, Nemirovski,
+-- Robust Optimization (2009), chapter 14.
 use Rattle.std.specs.Prelude.{ℕ, ◌+◌, max, Bool, true, false, ◌||◌, List, [], ◌∷◌, ◌++◌, Option, Some, None, get_or}
 use Rattle.rob_rules.specs.declared.sort.Sort.{Sort}
 use Rattle.rob_rules.specs.declared.sort.Sort.TheVariants.{Parameter, Decision, Policy, RowName, Set}
@@ -16,6 +16,7 @@ pub record Degree : Type 0 where
   pub uncertain : ℕ
   pub recourse : Bool
 
+-- the degrees of a number
 abbrev pub constant : Degree
 constant = record { decision = 0; uncertain = 0; recourse = false }
 

@@ -1,4 +1,5 @@
--- What may be wrong with a plain statement, judged on its names, numbers and trees, and on what the lines in front of it say.
+-- What may be wrong with a plain statement, judged on its names, numbers and trees, and on what is known in front of
+-- its line and in front of itself.
 use Rattle.std.specs.Prelude.{ℕ, nat_lt, ◌==◌, not, Bool, true, false, ◌&&◌, ◌||◌, List, [], ◌∷◌, is_some, Option, Some, None}
 use Rattle.std.specs.List.{list_any, find, flat_map}
 use Rattle.rob_syntax.specs.declared.syntax.Member.{Member}
@@ -138,7 +139,8 @@ in_order =
     NameTwice ∷ NameUnknown ∷ NumberTooLong ∷ DeviationNotPositive ∷ TwoDecisions ∷ TwoUncertain ∷ RandomRecourse
     ∷ DecisionInSet ∷ ObjectiveTwice ∷ Limit ∷ ZeroDivisor ∷ []
 
--- given what is known in front of the line, and what is known in front of the statement, since a line may stand for several
+-- given what is known in front of the line, and what is known in front of the statement, since a line may stand for
+-- several
 module _ (limit : ℕ) (before now : Earlier) (s : Statement) where
   -- some product of the statement is so
   abbrev pub some_product : (Degree → Bool) → Bool

@@ -11,8 +11,8 @@ use Rattle.rob_rules.specs.Scopes.{Earlier, start, behind}
 use Rattle.rob_rules.specs.Faults.{first_fault}
 
 module _ (limit : ℕ) where
-  -- each line is empty or the next statement, none has a fault, and so one comes from what is known in front of them to what
-  -- is known behind
+  -- each line is empty or the next statement, none has a fault, and so one comes from what is known in front of them to
+  -- what is known behind
   abbrev pub Follows : Earlier → List (List Symbol) → List Statement → Earlier → Type 0
   Follows e [] [] f = e ≡ f
   Follows e [] (s ∷ list) f = ⊥

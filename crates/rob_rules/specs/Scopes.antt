@@ -1,4 +1,5 @@
--- What the lines in front of a line say: what each name stands for, what is counted, and whether a goal stands there.
+-- What the statements in front of a line, or of a statement, say: what each name stands for, what is counted, and
+-- whether a goal stands there.
 use Rattle.std.specs.Prelude.{ℕ, ◌+◌, Bool, true, false, List, [], ◌∷◌, set, replicate, Option, Some, None, if◌then◌else◌}
 use Rattle.rob_rules.specs.declared.sort.Sort.{Sort}
 use Rattle.rob_rules.specs.declared.sort.Sort.TheVariants as sort
@@ -9,7 +10,7 @@ use Rattle.rob_syntax.specs.declared.syntax.Statement.{Statement}
 use Rattle.rob_syntax.specs.declared.syntax.Statement.TheVariants.{Uncertain, Over, Set, Budget, Var, Adaptive, Goal, Row}
 use Rattle.rob_rules.specs.Sizes.{start_sizes, counted}
 
--- what is known in front of a line
+-- what is known in front of a line, or of a statement
 pub record Earlier : Type 0 where
   pub sorts : List (Option Sort)
   pub sizes : Sizes
@@ -28,8 +29,8 @@ abbrev pub has_some : List ℕ → Bool
 has_some [] = false
 has_some (k ∷ ks) = true
 
--- the name that a statement declares, if it does, and what it stands for: names of a kind are numbered in order, from 0, and
--- sets from 1, since the default set is number 0
+-- the name that a statement declares, if it does, and what it stands for: names of a kind are numbered in order, from
+-- 0, and sets from 1, since the default set is number 0
 abbrev pub declared_by : Sizes → Statement → Option (ℕ × Sort)
 declared_by sizes (Uncertain d) = Some (d.name, Parameter sizes.parameters)
 declared_by sizes (Over k) = Some (k, sort.Set (sizes.sets + 1))

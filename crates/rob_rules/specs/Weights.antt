@@ -20,6 +20,7 @@ weight d ds = record {
   random_recourse = list_any has_random_recourse ds;
 }
 
+-- the weight of an expression
 abbrev pub weight_of : List (Option Sort) → Tree → Weight
 weight_of sorts t = weight (degree sorts t) (products sorts t)
 

@@ -23,11 +23,11 @@ use std::alloc::Global;
 /// What may be wrong with a plain statement, in the order of the rules' numbers; and that a text has no goal.
 #[derive(Clone, Copy, PartialEq, Eq)]
 pub enum Fault {
-    /// The declared name is declared already, or an adaptive variable's list, or the members of a budget, hold a name twice;
-    /// the name behind `over` is no member.
+    /// The declared name is declared already, or an adaptive variable's list, or the members of a budget, hold a name
+    /// twice; the name behind `over` is no member.
     NameTwice,
-    /// A used name isn't declared on an earlier line, or is a row's; a set's name stands elsewhere than behind `over`, or
-    /// the name behind `over` isn't a set's, as that of a budget's member.
+    /// A used name isn't declared on an earlier line, or is a row's; a set's name stands elsewhere than behind `over`,
+    /// or the name behind `over` isn't a set's, as that of a budget's member.
     NameUnknown,
     /// A run of digits has a value over the limit.
     NumberTooLong,
@@ -73,8 +73,8 @@ impl Fault {
     }
 }
 
-/// The fault that decides, if the statement has one. `before` is what is known in front of its line, `now` in front of the
-/// statement itself: a line may stand for several.
+/// The fault that decides, if the statement has one. `before` is what is known in front of its line, `now` in front of
+/// the statement itself: a line may stand for several.
 pub fn first_fault(
     alloc: Global,
     limit: u64,
@@ -150,7 +150,8 @@ fn has_fault(
     Ok(has)
 }
 
-/// Whether the declared name is declared already, or an adaptive variable's list, or the members of a budget, hold a name twice.
+/// Whether the declared name is declared already, or an adaptive variable's list, or the members of a budget, hold a
+/// name twice.
 fn name_twice(
     alloc: Global,
     scope: &Scope,
@@ -206,7 +207,7 @@ fn is_over_none(sorts: &[Option<Sort>], over: Option<usize>) -> bool
     }
 }
 
-/// Whether an adaptive variable or a budget is declared.
+/// Whether the statement is an adaptive variable or a budget, whose names are a list.
 fn is_listing(statement: &Statement) -> bool
     ensures holds { result ≡ spec.is_listing statement.now }
 {

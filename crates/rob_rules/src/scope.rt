@@ -1,4 +1,4 @@
-//! What the lines in front of a line say.
+//! What the statements in front of a line, or of a statement, say.
 
 ghost use Rattle.std.specs.Prelude.{◌≡◌, IfOk};
 ghost use Rattle.rob_rules.specs.Scopes.{earlier_of};
@@ -11,7 +11,7 @@ use rob_number::Memory;
 use rob_syntax::syntax::Statement;
 use std::alloc::Global;
 
-/// What is known in front of a line.
+/// What is known in front of a line, or of a statement.
 #[derive(Drop)]
 pub struct Scope {
     /// What each word stands for, by its number; nothing where it isn't declared yet.
