@@ -5,9 +5,7 @@ pub mod DecisionLemmas
 pub mod FastLemmas
 pub mod ExpansionLemmas
 pub mod PlainLemmas
-pub mod SpendingLemmas
 pub mod WorkLemmas
-pub mod JudgeLemmas
 pub mod SearchLemmas
 pub mod ReadingLemmas
 mod Worked

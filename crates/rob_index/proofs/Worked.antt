@@ -1,5 +1,5 @@
 -- Worked examples, which compute.
-use Rattle.std.proofs.Common.{◌≡◌, ℕ, zero, suc, ◌+◌, Bool, true, false, List, [], ◌∷◌, map, Option, Some, None, refl, arith}
+use Rattle.std.proofs.Common.{◌≡◌, ℕ, zero, suc, ◌+◌, Bool, true, false, List, [], ◌∷◌, map, Some, None, refl, arith}
 use Rattle.std.specs.Prelude.{codes}
 use Rattle.std.specs.List.{list_any}
 use Rattle.std.specs.Fmt.{decimal}
@@ -14,10 +14,9 @@ use Rattle.rob_index.specs.Grammar as spelled
 use Rattle.rob_index.specs.Expansion.{expand}
 use Rattle.rob_index.specs.Counting.{line_tokens}
 use Rattle.rob_index.specs.Rules.{index_unknown, range_too_long, index_out, of_ref, of_range, places}
-use Rattle.rob_index.specs.Fast.{judge, is_out_fast, is_long_fast}
-use Rattle.rob_index.specs.Later as later
-use Rattle.rob_index.specs.Names as named
-use Rattle.rob_index.specs.Reading.{LineFault, index, later, IsOf, first_fault, one, two, version_of, body_of}
+use Rattle.rob_index.specs.Fast.{is_out_fast, is_long_fast}
+use Rattle.rob_index.specs.Search.{named}
+use Rattle.rob_index.specs.Reading.{one, two, version_of, body_of}
 
 -- the words of the stock example: d 0, i 1, x 2, y 3, t 4, now 5, all 6, k 7, d_1 8
 words : List Name
@@ -36,6 +35,9 @@ var k = at (stated.bound k)
 
 less : Index → ℕ → Index
 less x n = record x { more = record { minus = true; atom = stated.digits n } ∷ [] }
+
+plus : Index → ℕ → Index
+plus x n = record x { more = record { minus = false; atom = stated.digits n } ∷ [] }
 
 plain : ℕ → Ref
 plain k = record { name = k; indices = [] }
@@ -166,33 +168,39 @@ row_of : Index → Indexed Tree
 row_of x = stated.row (plain 6)
     (record { left = stated.ref (plain 2); rel = stated.at_least; right = stated.ref (indexed 0 x); over = None }) []
 
--- row all: x + y[3] >= 0 uses a name that no line declares
-three_digit : decimal 3 ≡ 51 ∷ []
-three_digit = decimal_digit 3 (omega arith)
-
-four_digit : decimal 4 ≡ 52 ∷ []
-four_digit = decimal_digit 4 (omega arith)
-
-three_named : expand words (stated.goal stated.minimise (stated.ref (indexed 3 (the 3))) None [])
-    ≡ stated.goal stated.minimise (stated.name (codes "y_3")) None ∷ []
-unfolding words indexed the at
-three_named = rw three_digit
-
 -- row all: x >= d[k]
-unknown_is : judge 100 words none 0 (row_of (var 7)) ≡ Some index_unknown
+unknown_is : named 100 words none 0 (row_of (var 7)) ≡ Some index_unknown
 unfolding words row_of plain indexed var at none
 unknown_is = refl
 
 -- row all: x >= d[1 - 2]
-out_is : judge 100 words none 0 (row_of (less (the 1) 2)) ≡ Some index_out
+out_is : named 100 words none 0 (row_of (less (the 1) 2)) ≡ Some index_out
 unfolding words row_of plain indexed var at none less the
 out_is = refl
 
+-- row all: x + y[2] >= sum(i = 1 to 2: d[i]), in which i is no declared name
+eight_good : named 100 words none 0 line_eight ≡ None
+unfolding words line_eight range the indexed var at plain none
+eight_good = rw (one_digit, two_digit)
+
 -- uncertain d[i] for i = 1 to 101
-long_is : judge 100 words none 0 (stated.uncertain (indexed 0 (var 1)) None (range 1 (the 1) (the 101) ∷ []))
+long_is : named 100 words none 0 (stated.uncertain (indexed 0 (var 1)) None (range 1 (the 1) (the 101) ∷ []))
     ≡ Some range_too_long
 unfolding words indexed var at none the range
 long_is = refl
+
+-- uncertain d[i + 900] for i = 1 to 101 has an index of 1001 too
+long_and_out_is : named 100 words none 0
+    (stated.uncertain (indexed 0 (plus (var 1) 900)) None (range 1 (the 1) (the 101) ∷ []))
+    ≡ Some range_too_long
+unfolding words indexed var at none the range plus
+long_and_out_is = refl
+
+-- uncertain d[i] for i = 1 to 101, where there is no room for it either
+crowded_is : named 100 words none 20000 (stated.uncertain (indexed 0 (var 1)) None (range 1 (the 1) (the 101) ∷ []))
+    ≡ Some range_too_long
+unfolding words indexed var at none the range
+crowded_is = refl
 
 -- of 100 values it isn't
 short_is : list_any is_long_fast
@@ -204,66 +212,6 @@ short_is = refl
 same_name : expand words (stated.variable (plain 8) None []) ≡ stated.variable (codes "d_1") None ∷ []
 unfolding words plain
 same_name = refl
-
--- ---- the whole judgement of these lines: what is known behind the first lines of the example
-entry : Name → named.Sort → named.Entry
-entry n s = record { name = n; sort = s }
-
-known : later.Known
-known = record later.nothing_known {
-  entries = entry (codes "d_1") named.a_parameter ∷ entry (codes "d_2") named.a_parameter
-      ∷ entry (codes "x") named.a_decision ∷ entry (codes "y_2") (named.a_policy true) ∷ [];
-}
-
-fault_of : Indexed Tree → Option (LineFault later.Later)
-fault_of s = first_fault 100 words later.Known later.Later later.order (later.has_later 100) later.step
-    (later.is_declared words) (IsOf two) (record { known = known; total = 0 }) s
-
--- row all: x + y[2] >= sum(i = 1 to 2: d[i])
-eight_good : fault_of line_eight ≡ None
-unfolding fault_of known entry words line_eight range the indexed var at plain
-eight_good = rw (one_digit, two_digit)
-
--- row all: x + y[3] >= 0
-thirteen : fault_of (stated.row (plain 6)
-    (record {
-      left = stated.sum
-          (stated.part false (stated.ref (plain 2))
-          (stated.part false (stated.ref (indexed 3 (the 3))) stated.no_parts));
-      rel = stated.at_least;
-      right = stated.number (num 0);
-      over = None;
-    }) []) ≡ Some (later later.name_unknown)
-unfolding fault_of known entry words the indexed at plain num
-thirteen = rw three_digit
-
--- row all: x >= d[k], and x >= d[1 - 2]
-twenty_five : fault_of (row_of (var 7)) ≡ Some (index index_unknown)
-unfolding fault_of known entry words row_of plain indexed var at
-twenty_five = refl
-
-twenty_seven : fault_of (row_of (less (the 1) 2)) ≡ Some (index index_out)
-unfolding fault_of known entry words row_of plain indexed at less the
-twenty_seven = refl
-
--- uncertain d[i] for i = 1 to 101
-twenty_six : fault_of (stated.uncertain (indexed 0 (var 1)) None (range 1 (the 1) (the 101) ∷ []))
-    ≡ Some (index range_too_long)
-unfolding fault_of known entry words indexed var at the range
-twenty_six = refl
-
--- var d_1
-twelve : fault_of (stated.variable (plain 8) None []) ≡ Some (later later.name_twice)
-unfolding fault_of known entry words plain
-twelve = refl
-
--- adaptive y[t](y[t - 1]) for t = 3 to 4 uses y_3, which no earlier line declares, though an earlier statement of the
--- line does
-own_name : fault_of (stated.adaptive (indexed 3 (var 4))
-    (record { item = indexed 3 (less (var 4) 1); ranges = [] } ∷ []) None (range 4 (the 3) (the 4) ∷ []))
-    ≡ Some (later later.name_unknown)
-unfolding fault_of known entry words indexed var at the range less
-own_name = rw (two_digit, three_digit, four_digit)
 
 -- ---- the version
 first_is : version_of ([] ∷ (codes "model" ∷ codes "2" ∷ []) ∷ (codes "var" ∷ codes "x" ∷ []) ∷ []) ≡ two

@@ -1,6 +1,6 @@
--- How many tokens the canonical line of a plain statement has, its line end among them.
+-- How many tokens the canonical line of a plain statement has, its line end among them; and which trees have a token.
 use Rattle.std.specs.Prelude.{ℕ, ◌+◌, ◌%◌, ◌==◌, ◌||◌, ◌&&◌, not, nat_lt, Bool, true, false, List, [], ◌∷◌, if◌then◌else◌, Option, Some, None}
-use Rattle.rob_index.specs.Statements.{Numeral, Signed, Bounds, between, Plain, Parts, Factors, Member, Statement, uncertain, over, set, budget, variable, adaptive, goal, row}
+use Rattle.rob_index.specs.Statements.{Numeral, Signed, Bounds, between, Plain, Parts, Factors, Member, Statement, Tree, TreeParts, TreeFactors, uncertain, over, set, budget, variable, adaptive, goal, row}
 use Rattle.rob_index.specs.Statements as stated
 
 module _ (limit : ℕ) where
@@ -114,3 +114,21 @@ module _ (limit : ℕ) where
   abbrev pub lines_tokens : List Statement → ℕ
   lines_tokens [] = 0
   lines_tokens (s ∷ ss) = line_tokens s + lines_tokens ss
+
+-- ---- a tree whose text has a token: its sums and products have a first part or factor, and that is such a tree, as in
+-- the tree of an expression
+abbrev mutual
+  pub IsReal : Tree → Type 0
+  IsReal (stated.number n) = Unit {0}
+  IsReal (stated.ref r) = Unit {0}
+  IsReal (stated.sum ts) = AreRealParts ts
+  IsReal (stated.product ts) = AreRealFactors ts
+  IsReal (stated.ranged r t) = IsReal t
+
+  pub AreRealParts : TreeParts → Type 0
+  AreRealParts stated.no_parts = ⊥
+  AreRealParts (stated.part minus t ts) = IsReal t
+
+  pub AreRealFactors : TreeFactors → Type 0
+  AreRealFactors stated.no_factors = ⊥
+  AreRealFactors (stated.factor t ts) = IsReal t

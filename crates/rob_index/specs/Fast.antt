@@ -1,11 +1,9 @@
 -- Rules 26 and 27 judged without running through settings where the ends of the ranges tell.
-use Rattle.std.specs.Prelude.{ℕ, ◌-◌, ◌==◌, ◌||◌, Bool, true, false, ℤ, pos, negsuc, List, [], ◌∷◌, if◌then◌else◌, Option, Some, None}
-use Rattle.std.specs.List.{list_any}
-use Rattle.rob_index.specs.Statements.{Name, Statement, Atom, digits, bound, Step, Index, Range, Tree, Indexed}
+use Rattle.std.specs.Prelude.{ℕ, ◌==◌, ◌||◌, Bool, true, false, ℤ, pos, negsuc, List, [], ◌∷◌, if◌then◌else◌}
+use Rattle.rob_index.specs.Statements.{Atom, digits, bound, Step, Index, Range}
 use Rattle.rob_index.specs.Expansion.{Setting}
 use Rattle.rob_index.specs.Forms.{Form, plus_times, minus, Ends, length_form, reaches}
-use Rattle.rob_index.specs.Rules.{of_ref, of_range, Inside, places, is_unknown, has_great_digits, is_no_statement, IndexFault, index_unknown, range_too_long, index_out, too_much, no_statement, most_tokens}
-use Rattle.rob_index.specs.Spending.{Paid, expand_within}
+use Rattle.rob_index.specs.Rules.{of_ref, of_range, Inside}
 
 -- the setting in which these names have these values; both begin with the innermost
 abbrev pub setting_of : List ℕ → List ℤ → Setting
@@ -74,19 +72,3 @@ is_long_fast i = elim i.place [ of_ref x ↦ false | of_range r ↦ grows_long i
 -- whether an index is out of bounds somewhere, from the ends where they tell
 abbrev pub is_out_fast : Inside → Bool
 is_out_fast i = elim i.place [ of_ref x ↦ goes_below i.around x || goes_over i.around x | of_range r ↦ false ]
-
--- the first fault of a line, judged without running through settings where that can be helped, and without making more
--- than there is room for
-module _ (limit : ℕ) (words : List Name) (is_declared : ℕ → Bool) (total : ℕ) (s : Indexed Tree) where
-  -- what is left to judge behind an expansion: there was no room for it, or a statement of it is none
-  abbrev pub judge_made : Option (Paid (List Statement)) → Option IndexFault
-  judge_made None = Some too_much
-  judge_made (Some p) = if list_any is_no_statement p.item then Some no_statement else None
-
-  -- the first fault of the line
-  abbrev pub judge : Option IndexFault
-  judge =
-      if list_any (is_unknown is_declared) (places s) then Some index_unknown
-      else (if list_any is_long_fast (places s) then Some range_too_long
-      else (if list_any has_great_digits (places s) || list_any is_out_fast (places s) then Some index_out
-      else judge_made (expand_within limit words s (most_tokens - total))))

@@ -8,7 +8,6 @@ pub mod PlainLines
 pub mod Counting
 pub mod Rules
 pub mod Forms
-pub mod Spending
 pub mod Fast
 pub mod Search
 pub mod Reading
@@ -16,8 +15,3 @@ pub mod Depths
 pub mod Refs
 pub mod Renaming
 pub mod Kept
-pub mod Names
-pub mod Numbers
-pub mod Degrees
-pub mod Sizes
-pub mod Later

@@ -91,7 +91,3 @@ pub record IsStatement (symbols : List Symbol) (s : Indexed Tree) : Type 0 where
   pub is_line : IsLine line
   pub spelled : symbols ≡ spell_line line
   pub statement_is : statement_of line ≡ s
-
--- the line that names the version
-abbrev pub version_line : List Symbol
-version_line = is.word is.model ∷ is.digits 2 ∷ []

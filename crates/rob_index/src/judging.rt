@@ -8,7 +8,7 @@ ghost use Rattle.rob_index.specs.PlainLines.{IsPlainLine, itself_line};
 ghost use Rattle.rob_index.specs.Refs.{EachNameOf, HasMember};
 ghost use Rattle.rob_index.specs.Rules.{IndexFault, Inside, is_long, is_no_statement, is_out, has_fault, in_order, longest_name, most_tokens};
 ghost use Rattle.rob_index.specs.Forms.{Form, Ends, AreWithin, AreConstant, value_of, greatest, all_run, is_dead, from_ends, reaches, reaches_plainly};
-ghost use Rattle.rob_index.specs.Fast.{is_long_fast, is_out_fast, judge};
+ghost use Rattle.rob_index.specs.Fast.{is_long_fast, is_out_fast};
 ghost use Rattle.rob_index.specs.Search.{has_room, named};
 
 /// The greatest value of a form over nested ranges, by back substitution: it is never passed, and it
@@ -32,13 +32,11 @@ pub fn decided_from_the_ends()
         → all_run rs ≡ true → is_dead rs ≡ false → (b : Bool) × (from_ends rs f bound ≡ Some b) }
 {}
 
-/// The fast judgement of a line names its first fault.
-pub fn first_of_a_line()
+/// Whether a range is too long somewhere, and whether an index is out of bounds somewhere, is decided as by running
+/// through all settings around it.
+pub fn places_from_the_ends()
     ensures long { (i : Inside) → is_long i ≡ is_long_fast i }
     ensures out { (i : Inside) → is_out i ≡ is_out_fast i }
-    ensures judged { (limit : ℕ) (words : List Name) (is_declared : ℕ → Bool) (total : ℕ) (s : Indexed Tree)
-        → total ≤ 20000
-        → judge limit words is_declared total s ≡ find (has_fault limit words is_declared total s) in_order }
 {}
 
 /// The fault that is named of a line is one that the line has. Where its expansion fits behind the lines before, it is
