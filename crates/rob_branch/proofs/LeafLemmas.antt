@@ -1,5 +1,5 @@
 -- The leaves of a branch's two nodes behind one another, as the check of a tree passes them.
-use Rattle.std.proofs.Common.{◌≡◌, ℕ, zero, suc, ◌+◌, List, [], ◌∷◌, ◌++◌, map, length, arith, refl, ap, sym, ◌∙◌, subst, append_assoc, length-append, inl, inr}
+use Rattle.std.proofs.Common.{◌≡◌, ℕ, suc, ◌+◌, List, [], ◌∷◌, ◌++◌, map, length, arith, refl, ap, sym, ◌∙◌, subst, append_assoc, length-append, inl, inr}
 use Rattle.std.specs.Prelude.{ℤ, Some}
 use Rattle.rob_algebra.specs.Fraction.{Fraction}
 use Rattle.rob_meaning.proofs.EachLemmas.{each_append}
@@ -28,25 +28,6 @@ pub path_at_front : (xs : List (List Branch)) (p : List Branch) (ys : List (List
     → path_at (xs ++ p ∷ ys) (suc (length xs)) ≡ p
 path_at_front [] p ys = refl
 path_at_front (x ∷ xs) p ys = path_at_front xs p ys
-
--- a leaf of the first list is at its place in both; one of the second stands behind the first
-pub leaf_at_left : (xs ys : List Leaf) (i : ℕ) (l : Leaf) → leaf_at xs i ≡ Some l → leaf_at (xs ++ ys) i ≡ Some l
-leaf_at_left [] ys i l e = cc
-leaf_at_left (x ∷ xs) ys zero l e = cc
-leaf_at_left (x ∷ xs) ys (suc zero) l e = e
-leaf_at_left (x ∷ xs) ys (suc (suc i)) l e = leaf_at_left xs ys (suc i) l e
-
-pub leaf_at_right : (xs ys : List Leaf) (i : ℕ) → leaf_at (xs ++ ys) (length xs + suc i) ≡ leaf_at ys (suc i)
-leaf_at_right [] ys i =
-    let e : 0 + suc i ≡ suc i = omega arith in
-    ap (leaf_at ys) e
-leaf_at_right (x ∷ []) ys i =
-    let e : 1 + suc i ≡ suc (suc i) = omega arith in
-    ap (leaf_at (x ∷ ys)) e
-leaf_at_right (x ∷ (y ∷ xs)) ys i =
-    let e : length (x ∷ (y ∷ xs)) + suc i ≡ suc (suc (length xs + suc i)) = omega arith in
-    let f : suc (length xs + suc i) ≡ length (y ∷ xs) + suc i = omega arith in
-    ap (leaf_at ((x ∷ (y ∷ xs)) ++ ys)) e ∙ (ap (leaf_at ((y ∷ xs) ++ ys)) f ∙ leaf_at_right (y ∷ xs) ys i)
 
 -- ---- the paths of a node
 pub length-paths : (front : List Branch) (n : Node) → length (paths front n) ≡ leaf_count n

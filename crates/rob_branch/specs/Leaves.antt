@@ -1,7 +1,6 @@
 -- What is said of the leaves of a node, one behind another: those that are passed, and the first that isn't.
-use Rattle.std.specs.Prelude.{◌≡◌, ◌≢◌, ℕ, ◌+◌, ◌<◌, ◌⊎◌, List, ◌∷◌, ◌++◌, length, map, Option, Some, None, IfSome, Result, IfErr}
+use Rattle.std.specs.Prelude.{◌≡◌, ◌≢◌, ℕ, ◌+◌, ◌⊎◌, List, ◌∷◌, ◌++◌, length, map, Option, Some, None, IfSome, Result, IfErr}
 use Rattle.rob_algebra.specs.Fraction.{Fraction}
-use Rattle.rob_cert.specs.View.{certificate_of}
 use Rattle.rob_check.specs.declared.verdict.Verdict.TheVariants as check
 use Rattle.rob_meaning.specs.Certificates.{Certificate, Status, infeasible}
 use Rattle.rob_meaning.specs.Places.{Each}
@@ -24,8 +23,6 @@ use Rattle.rob_tree.specs.declared.verdict.TreeVerdict.TheVariants.{Accepted, Re
 use Rattle.rob_branch.specs.Verdicts.{HasVerdict, IsWideInLeaf, RoseIfTooWide, paths}
 use Rattle.rob_branch.specs.declared.leaf.LeafCheck.{LeafCheck}
 use Rattle.rob_branch.specs.declared.leaf.LeafCheck.TheVariants as leaf
-use Rattle.rob_branch.specs.declared.walk.Walk.{Walk}
-use Rattle.rob_branch.specs.declared.walk.Walk.TheVariants as walk
 
 -- ---- one leaf
 -- what of an accepted certificate's claim fails, for a tree that claims a status and a value
@@ -122,17 +119,6 @@ module _ (limit : ℕ) (claimed : Status) (value : Fraction) where
   pub record IsPassedNode (box : RobustModel) (node : Node) (first next : ℕ) : Type 0 where
     pub number : next ≡ first + leaf_count node
     pub passed : Each IsPassedLeaf (leaves box node)
-
--- ---- the leaf of a number
--- for any box, the node's leaf of the number is there and has that certificate, or is open
-abbrev pub LeafHas : Node → ℕ → Option Certificate → Type 0
-LeafHas n i o = (box : RobustModel) → (l : Leaf) × (leaf_at (leaves box n) i ≡ Some l) × (l.certificate ≡ o)
-
--- it has the certificate; or it is open; or there are fewer leaves, and so many are left
-abbrev pub IsWalk : {N : Type 0} → (N → Fraction) → Node → ℕ → Walk N → Type 0
-IsWalk of n i (walk.Here cert) = LeafHas n i (Some (certificate_of of cert.now))
-IsWalk of n i walk.Open = LeafHas n i None
-IsWalk of n i (walk.Behind left) = (i ≡ leaf_count n + left) × (0 < left)
 
 -- ---- the last verdict
 -- all leaves being passed, the leaf of that number decides: accepted, it shows the status and its plan is whole

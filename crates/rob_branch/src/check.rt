@@ -21,12 +21,11 @@ ghost use Rattle.rob_tree.specs.declared.verdict.TreeVerdict.TheVariants as Is;
 use crate::grow::Area;
 use crate::leaf::{Claim, LeafCheck, judge_leaf, last_fault};
 use crate::path::{branch_above, branch_below, longer};
-use crate::walk::{Walk, leaf_of};
 use rob_cert::{Cert, Status};
 use rob_model::copy::copy_list;
 use rob_model::{Model, Spot};
 use rob_number::{Exact, Ledger};
-use rob_tree::{Branch, LeafFault, Node, Tree, TreeVerdict, behind};
+use rob_tree::{Branch, LeafFault, Node, Tree, TreeVerdict, Walk, behind, leaf_of};
 use std::alloc::Global;
 
 /// How far a check is: what the tree claims, and the number of the next leaf, from 1.

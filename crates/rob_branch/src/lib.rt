@@ -8,7 +8,6 @@ pub mod laws;
 mod leaf;
 mod path;
 mod search;
-mod walk;
 
 pub use check::check_tree;
 pub use grow::grow_tree;

@@ -1,5 +1,5 @@
 -- The counterpart as lists of rows.
-use Rattle.std.proofs.Common.{◌≡◌, ◌≢◌, ◌⊎◌, inl, inr, Bool, true, false, ℕ, suc, ◌+◌, ◌-◌, ◌*◌, ◌/◌, ◌%◌, ◌<◌, ◌≤◌, List, [], ◌∷◌, ◌++◌, length, sym, ap, ap₂, ◌∙◌, subst, arith, cond, ltb, eqb}
+use Rattle.std.proofs.Common.{◌≡◌, ◌≢◌, ◌⊎◌, inl, inr, Bool, true, false, ℕ, suc, ◌+◌, ◌-◌, ◌*◌, ◌/◌, ◌%◌, ◌<◌, ◌≤◌, List, [], length, sym, ap, ◌∙◌, subst, arith, cond, ltb, eqb}
 use Rattle.std.proofs.lemmas.Nat.{div-mul-add, mod-mul-add}
 use Rattle.std.specs.Prelude.{slice_index_or}
 use lib.IntN.{ℤ, pos, nat_abs, neg_ℤ}
@@ -7,7 +7,7 @@ use Rattle.rob_linear.specs.Vectors.{at}
 use Rattle.rob_linear.specs.Programs.{Program}
 use Rattle.rob_meaning.specs.Places.{tabulate}
 use Rattle.rob_rows.specs.declared.program.Lp.{Lp}
-use Rattle.rob_rows.specs.LinearPrograms.{program_of, IsShaped, HasNumbersWithin}
+use Rattle.rob_rows.specs.LinearPrograms.{program_of, HasNumbersWithin}
 use Rattle.rob_counterpart.specs.RobustProgram.{RobustProgram, entry}
 use Rattle.rob_counterpart.specs.Splitting.{turned}
 use Rattle.rob_counterpart.specs.Reform.{pairs, block, plan_entry, multiplier_entry, right_entry, row_entry, tau_cost, reform}
@@ -15,7 +15,6 @@ use Rattle.rob_counterpart.specs.SamePrograms.{AreSame}
 use Rattle.rob_counterpart.proofs.Blocks.{at_block}
 use Rattle.rob_counterpart.proofs.ReformPlaces.{where_not_less, where_same, where_other}
 use Rattle.rob_counterpart.proofs.TabulateLemmas.{length-tabulate}
-use Rattle.rob_sets.proofs.RowLemmas.{tabulate-more}
 use Rattle.rob_dualize.proofs.TabulateLemmas.{item-tabulate}
 use Rattle.rob_sets.proofs.SetProgramLemmas.{negated_within}
 
@@ -47,12 +46,6 @@ module _ (P : Program) (lp : Lp) (h : IsListed P lp) where
     costs = λ k l. ap (λ xs. at xs k) h.c ∙ item-tabulate P.n P.c k (pos 0) (let e : length lp.c ≡ P.n = costs in omega arith);
   }
 
-  pub listed_shaped : IsShaped lp
-  listed_shaped = record {
-    rows = rows ∙ sym rights;
-    columns = λ t d l. ap length (row_at t d (let e : length lp.a ≡ P.m = rows in omega arith)) ∙ length-tabulate P.n (P.a t) ∙ sym costs;
-  }
-
   pub listed_within : (limit : ℕ) → ((t k : ℕ) → nat_abs (P.a t k) ≤ limit) → ((t : ℕ) → nat_abs (P.b t) ≤ limit) → ((k : ℕ) → nat_abs (P.c k) ≤ limit)
       → HasNumbersWithin limit lp
   listed_within limit ha hb hc = record {
@@ -63,24 +56,6 @@ module _ (P : Program) (lp : Lp) (h : IsListed P lp) where
     b = λ t d l. subst (λ (v : ℤ). nat_abs v ≤ limit) (sym (ap (λ xs. slice_index_or xs t d) h.b ∙ item-tabulate P.m P.b t d (let q : length lp.b ≡ P.m = rights in omega arith))) (hb t);
     c = λ k d l. subst (λ (v : ℤ). nat_abs v ≤ limit) (sym (ap (λ xs. slice_index_or xs k d) h.c ∙ item-tabulate P.n P.c k d (let q : length lp.c ≡ P.n = costs in omega arith))) (hc k);
   }
-
--- ---- rows one after another
--- the first `count` rows of the counterpart, with their right sides
-pub record AreWritten (d : RobustProgram) (count : ℕ) (a : List (List ℤ)) (b : List ℤ) : Type 0 where
-  pub rows : a ≡ tabulate count (λ t. tabulate (reform d).n ((reform d).a t))
-  pub rights : b ≡ tabulate count (reform d).b
-
--- one more
-pub write_next : (d : RobustProgram) (i p count : ℕ) (a a' : List (List ℤ)) (b b' : List ℤ) (row : List ℤ) (right : ℤ) → p < block d → count ≡ (i * block d) + p
-    → AreWritten d count a b → a' ≡ a ++ row ∷ [] → b' ≡ b ++ right ∷ [] → row ≡ tabulate (reform d).n (row_entry d i p) → right ≡ right_entry d i p
-    → AreWritten d (count + 1) a' b'
-write_next d i p count a a' b b' row right l ce w ae be re ge =
-    let di : count / block d ≡ i = ap (λ v. v / block d) ce ∙ div-mul-add i (block d) p l in
-    let mo : count % block d ≡ p = ap (λ v. v % block d) ce ∙ mod-mul-add i (block d) p l in
-    record {
-      rows = ae ∙ ap₂ (λ (xs : List (List ℤ)) (x : List ℤ). xs ++ x ∷ []) w.rows (re ∙ ap₂ (λ u v. tabulate (reform d).n (row_entry d u v)) (sym di) (sym mo)) ∙ sym (tabulate-more count (λ t. tabulate (reform d).n ((reform d).a t)));
-      rights = be ∙ ap₂ (λ (xs : List ℤ) (x : ℤ). xs ++ x ∷ []) w.rights (ge ∙ ap₂ (λ u v. right_entry d u v) (sym di) (sym mo)) ∙ sym (tabulate-more count (reform d).b);
-    }
 
 -- ---- sizes of the numbers
 cond_small : (limit : ℕ) (t : Bool) (v w : ℤ) → nat_abs v ≤ limit → nat_abs w ≤ limit → nat_abs (cond t v w) ≤ limit
@@ -151,10 +126,3 @@ outside_multipliers d i p k low high out =
     ]) in
     behind_plan d i p k low
     ∙ where_other ((k - pairs d) / d.set_rows) i (multiplier_entry d p ((k - pairs d) % d.set_rows)) (pos 0) other
-
--- all rows are written
-pub all_written : (d : RobustProgram) (n : ℕ) (a : List (List ℤ)) (b c : List ℤ) → n ≡ d.forms → AreWritten d (n * block d) a b → c ≡ tabulate (reform d).n (tau_cost d)
-    → IsListed (reform d) (record { a = a; b = b; c = c })
-all_written d n a b c e w ce =
-    let h : AreWritten d (d.forms * block d) a b = subst (λ k. AreWritten d (k * block d) a b) e w in
-    record { a = h.rows; b = h.rights; c = ce }

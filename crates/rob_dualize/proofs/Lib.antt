@@ -1,6 +1,5 @@
 pub mod Soundness
 pub mod TabulateLemmas
-pub mod PaddedLists
 pub mod CounterpartLists
 pub mod ShapeLemmas
 pub mod ReadingLemmas

@@ -7,8 +7,6 @@ use Rattle.rob_algebra.specs.Fraction.{Fraction}
 use Rattle.rob_linear.specs.Programs.{Program, system_of}
 use Rattle.rob_linear.specs.Turns.{own_of}
 use Rattle.rob_meaning.specs.RobustModel.{RobustModel}
-use Rattle.rob_rows.specs.declared.program.Lp.{Lp}
-use Rattle.rob_rows.specs.LinearPrograms.{program_of}
 use Rattle.rob_simplex.specs.Dictionaries.{columns_of}
 use Rattle.rob_linear.specs.WideRows.{HasWideRow}
 use Rattle.rob_number.specs.declared.lp_kind.LpKind.{LpKind}
@@ -66,10 +64,6 @@ module _ {limit : ℕ} (forms : Forms) (set : SetForm) (one : AreElaborated limi
       let u : block (wholes forms set) ≤ length forms.matrices * block (wholes forms set) = one_block (length forms.matrices) (block (wholes forms set)) some_form in
       let v : length set.rows ≤ length forms.matrices * length set.rows = one_block (length forms.matrices) (length set.rows) some_form in
       omega (arith, few)
-
-  pub counterpart_same : (lp : Lp) → AreSame (program_of lp) (counterpart one.model) → AreSame (program_of lp) (counterpart_of forms set)
-  counterpart_same lp h =
-      subst (λ (q : RobustProgram). AreSame (program_of lp) (reform q)) (sym (wholes_are one.model forms set one.are_forms one.is_set)) h
 
 -- of each pair of the set's point one number is 0
 pub set_pairs : (d : RobustProgram) (s : Solver) → HasLastPoint (set_of d) s → (c : ℕ) → c < d.set_columns → OneIsZero (point_of s (plus c)) (point_of s (minus c))

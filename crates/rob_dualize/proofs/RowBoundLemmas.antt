@@ -1,10 +1,8 @@
--- The bound of a program that is given as data is that of the program, and it is within the limit exactly where that is narrow.
-use Rattle.std.proofs.Common.{◌≡◌, ◌≢◌, ℕ, suc, ◌<◌, ◌≤◌, sym, ap, ◌∙◌, subst, arith, inl, inr, List, [], length, get_or, nat_abs, if◌then◌else◌, to_z, of_z, w64, Bool, Option, Some, None, MatchOption, ◌↔◌, ◌≤ℤ◌, ◌<ℤ◌}
+-- The bound of a program's rows is what is told of it, and it is within the limit exactly where the program is narrow.
+use Rattle.std.proofs.Common.{◌≡◌, ◌≢◌, ℕ, suc, ◌<◌, ◌≤◌, sym, ap, ◌∙◌, subst, arith, inl, inr, List, [], length, get_or, nat_abs, if◌then◌else◌, Bool, Option, Some, None, MatchOption, ◌↔◌}
 use Rattle.std.proofs.Math.Nat.{mul-le-mul_left, pow-le-pow_left}
-use Rattle.std.proofs.lemmas.Int.{ints}
 use Rattle.std.proofs.lemmas.Bool.{cases_lt, le-leb, lt-leb}
 use Rattle.std.proofs.lemmas.List.{get_or_default}
-use Rattle.std.specs.Option.{option_map}
 use Rattle.std.specs.Int.RustNames.{unsigned_abs}
 use lib.IntN.{ℤ, pos}
 use Rattle.rob_linear.specs.Programs.{Program}
@@ -15,8 +13,7 @@ use Rattle.rob_counterpart.specs.RobustProgram.{RobustProgram}
 use Rattle.rob_counterpart.specs.SamePrograms.{AreSame}
 use Rattle.rob_counterpart.proofs.SamePaths.{same_back}
 use Rattle.rob_narrow.specs.NarrowPrograms.{IsGreatest}
-use Rattle.rob_narrow.proofs.Numbers.{program_sized, within_up}
-use Rattle.rob_number.proofs.CastLemmas.{seen}
+use Rattle.rob_narrow.proofs.Numbers.{program_sized}
 use Rattle.rob_rows.specs.declared.program.Lp.{Lp}
 use Rattle.rob_rows.specs.LinearPrograms.{HasNumbersWithin, IsShaped, program_of}
 use Rattle.rob_rows.specs.PrimitiveParts.{IsWithin}
@@ -36,13 +33,6 @@ use Rattle.rob_dualize.specs.declared.bounds.ModelBounds.{ModelBounds}
 use Rattle.rob_dualize.specs.declared.bounds.RowBound.{RowBound}
 
 -- ---- numbers of a program as data
-pub numbers_up : (a b : ℕ) (lp : Lp) → a ≤ b → HasNumbersWithin a lp → HasNumbersWithin b lp
-numbers_up a b lp l h = record {
-  a = λ k d kl. within_up a b (get_or lp.a k d) l (h.a k d kl);
-  b = within_up a b lp.b l h.b;
-  c = within_up a b lp.c l h.c;
-}
-
 -- an entry of a list that isn't past its end
 entry_within : (a : ℕ) (row : List ℤ) → ((k : ℕ) → k < length row → unsigned_abs (at row k) ≤ a) → IsWithin a row
 entry_within a row h k d kl = subst (λ v. nat_abs v ≤ a) (get_or_default row k (pos 0) d kl) (h k kl)
@@ -100,26 +90,22 @@ up_to_low limit n l = ap (λ (b : Bool). if b then Some n else None) (le-leb n l
 up_to_high : (limit n : ℕ) → limit < n → up_to limit n ≡ None
 up_to_high limit n l = ap (λ (b : Bool). if b then Some n else None) (lt-leb n limit l)
 
-pub bound_told : (limit n : ℕ) (answer : Option ℤ) (told : Option ℕ)
-    → MatchOption answer (pos limit <ℤ pos n) (λ bound. (bound ≡ pos n) × (bound ≤ℤ pos limit)) → told ≡ option_map nat_abs answer → told ≡ up_to limit n
-bound_told limit n None told h u = u ∙ sym (up_to_high limit n (omega (arith, ints)))
-bound_told limit n (Some bound) told h u =
-    let l : pos n ≤ℤ pos limit = subst (λ v. v ≤ℤ pos limit) h.0 h.1 in
-    u ∙ ap (λ (v : ℤ). Some (nat_abs v)) h.0 ∙ sym (up_to_low limit n (omega (arith, ints)))
+bound_told : (limit n : ℕ) (answer : Option ℕ) → MatchOption answer (limit < n) (λ bound. (bound ≡ n) × (bound ≤ limit))
+    → answer ≡ up_to limit n
+bound_told limit n None h = sym (up_to_high limit n h)
+bound_told limit n (Some bound) h =
+    ap (λ (v : ℕ). Some v) h.0 ∙ sym (up_to_low limit n (subst (λ v. v ≤ limit) h.0 h.1))
 
--- the limit, as code reads it
-pub limit_seen : (z : ℤ) (limit : ℕ) → z ≡ pos limit → limit ≤ 4611686018427387903 → to_z w64 (of_z w64 z) ≡ pos limit
-limit_seen z limit e l = ap (λ x. to_z w64 (of_z w64 x)) e ∙ seen (pos limit) (omega arith)
-
--- what is told of a program that is given as data
-pub told_of : (limit a : ℕ) (most : ℤ) (lp : Lp) (answer : Option ℤ) (told : RowBound) → most ≡ pos limit → IsShaped lp → IsGreatest a lp
-    → MatchOption answer (most <ℤ pos (row_bound (length lp.b) a)) (λ bound. (bound ≡ pos (row_bound (length lp.b) a)) × (bound ≤ℤ most))
-    → told.rows ≡ length lp.b → told.greatest ≡ a → told.bound ≡ option_map nat_abs answer → TellsBound limit (program_of lp) told
-told_of limit a most lp answer told e s g h rows size bound = record {
-  rows = rows;
-  greatest = subst (λ b. IsGreatestSize b (program_of lp)) (sym size) (greatest_size a lp s g);
-  bound = bound_told limit (row_bound (length lp.b) a) answer told.bound
-      (subst (λ v. MatchOption answer (v <ℤ pos (row_bound (length lp.b) a)) (λ bound. (bound ≡ pos (row_bound (length lp.b) a)) × (bound ≤ℤ v))) e h) bound ∙ ap (λ b. up_to limit (row_bound (length lp.b) b)) (sym size);
+-- what is told of a program
+pub told_of : (limit most a rows : ℕ) (lp : Lp) (answer : Option ℕ) → most ≡ limit → IsShaped lp → IsGreatest a lp
+    → rows ≡ length lp.b
+    → MatchOption answer (most < row_bound rows a) (λ bound. (bound ≡ row_bound rows a) × (bound ≤ most))
+    → TellsBound limit (program_of lp) (record { rows = rows; greatest = a; bound = answer })
+told_of limit most a rows lp answer e s g r h = record {
+  rows = r;
+  greatest = greatest_size a lp s g;
+  bound = bound_told most (row_bound rows a) answer h
+      ∙ ap (λ v. up_to v (row_bound rows a)) e ∙ ap (λ v. up_to limit (row_bound v a)) r;
 }
 
 -- ---- narrow programs

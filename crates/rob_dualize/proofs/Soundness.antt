@@ -25,7 +25,8 @@ use Rattle.rob_elab.specs.declared.forms.Forms.{Forms}
 use Rattle.rob_counterpart.specs.RobustProgram.{RobustProgram}
 use Rattle.rob_counterpart.specs.Counterpart.{cell, sign_of, robust_of}
 use Rattle.rob_counterpart.proofs.ModelLemmas.{set_shape}
-use Rattle.rob_dualize.specs.Wholes.{wholes, AreSound, IsSound}
+use Rattle.rob_dualize.specs.Told.{CanBeTold}
+use Rattle.rob_dualize.specs.Wholes.{wholes, counterpart_of, AreSound, IsFew, IsSound}
 use Rattle.rob_sets.proofs.SetProgramLemmas.{left_sides-cleared, right_sides-cleared, rights_within}
 
 -- ---- the model's numbers
@@ -161,3 +162,10 @@ elaborated_weaker {limit} bigger forms set l h = record {
     rows_weaker : (xs : List SetRow) → Each (RowFits limit) xs → Each (RowFits bigger) xs
     rows_weaker [] h = tt
     rows_weaker (x ∷ xs) h = (record { coefficients = numbers_weaker x.g h.0.coefficients; right_side = let p : nat_abs x.h ≤ limit = h.0.right_side in omega arith }, rows_weaker xs h.1)
+
+-- the counterpart of a model in whole numbers can be told, where it is as few as a solver takes
+pub can_be_told : (limit : ℕ) (forms : Forms) (set : SetForm) → limit ≤ 4611686018427387903
+    → AreElaborated limit forms set → IsFew (counterpart_of forms set) → CanBeTold forms set
+can_be_told limit forms set l h few =
+    let model = elaborated_weaker 4611686018427387903 forms set l h in
+    record { sound_forms = forms_sound forms set model; sound_set = set_sound forms set model; few = few }

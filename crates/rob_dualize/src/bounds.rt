@@ -1,9 +1,8 @@
 //! How large the numbers can become in the rows of the two programs that a model is solved by.
 
-ghost use Rattle.std.specs.Option.{option_map};
-ghost use Rattle.std.specs.Prelude.{◌≡◌, ◌↔◌, nat_abs, IfOk};
+ghost use Rattle.std.specs.Prelude.{◌↔◌, IfOk};
 ghost use Rattle.rob_meaning.specs.RobustModel.{RobustModel};
-ghost use Rattle.rob_rows.specs.LinearPrograms.{HasNumbersWithin, IsShaped, program_of};
+ghost use Rattle.rob_rows.specs.LinearPrograms.{program_of};
 ghost use Rattle.rob_sets.specs.SetForm.{IsSetForm};
 ghost use Rattle.rob_elab.specs.Elaborated.{AreElaborated};
 ghost use Rattle.rob_elab.specs.Forms.{IsForms};
@@ -12,11 +11,11 @@ ghost use Rattle.rob_dualize.specs.SetSolving.{IsSetOfModel, program_of_set};
 ghost use Rattle.rob_dualize.specs.Solving.{IsNarrowModel};
 ghost use Rattle.rob_dualize.specs.Wholes.{counterpart_of, IsFew};
 
-use crate::counterpart::reform;
+use crate::counterpart::Counterpart;
 use rob_elab::Forms;
 use rob_narrow::{bound_of, greatest};
 use rob_number::{Exact, Memory};
-use rob_rows::Lp;
+use rob_rows::{Lp, Rows};
 use rob_sets::{SetForm, set_lp};
 use std::alloc::Global;
 
@@ -69,10 +68,10 @@ fn set_bound<N: Exact>(alloc: Global, set: &SetForm) -> Result<RowBound, Memory>
     ensures bound { IfOk result (TellsBound N.limit (program_of_set set.now)) }
 {
     let lp = set_lp(alloc, set)?;
-    Ok(row_bound::<N>(&lp))
+    row_bound::<N, Lp>(alloc, &lp)
 }
 
-/// The bound of the counterpart. The program itself is let go of.
+/// The bound of the counterpart, which is told row by row.
 fn counterpart_bound<N: Exact>(
     alloc: Global,
     forms: &Forms,
@@ -82,29 +81,21 @@ fn counterpart_bound<N: Exact>(
     requires few { IsFew (counterpart_of forms.now set.now) }
     ensures bound { IfOk result (TellsBound N.limit (counterpart_of forms.now set.now)) }
 {
-    let lp = reform(alloc, forms, set)?;
-    Ok(row_bound::<N>(&lp))
+    let source = Counterpart { forms, set };
+    row_bound::<N, Counterpart>(alloc, &source)
 }
 
-/// The bound of a program.
-fn row_bound<N: Exact>(lp: &Lp) -> RowBound
-    requires shaped { IsShaped lp.now }
-    requires numbers { HasNumbersWithin N.limit lp.now }
-    ensures bound { TellsBound N.limit (program_of lp.now) result }
+/// The bound of a program. Each row is told into one list.
+fn row_bound<N: Exact, R: Rows>(alloc: Global, source: &R) -> Result<RowBound, Memory>
+    requires ready { R.ready source.now }
+    ensures bound { IfOk result (TellsBound N.limit (program_of (R.lp source.now))) }
 {
-    RowBound {
-        rows: lp.b.items().len() as u64,
-        greatest: greatest(lp).unsigned_abs(),
-        bound: size_of(bound_of(lp, N::LIMIT)),
-    }
-}
-
-/// The size of the number, where there is one.
-fn size_of(number: Option<i64>) -> Option<u64>
-    ensures size { result ≡ option_map nat_abs number }
-{
-    match number {
-        Some(number) => Some(number.unsigned_abs()),
-        None => None,
-    }
+    let mut numbers = vec![in alloc; 0i64; source.columns()]?;
+    let rows = source.rows();
+    let size = greatest(source, numbers.as_mut_slice());
+    Ok(RowBound {
+        rows: rows as u64,
+        greatest: size,
+        bound: bound_of(rows, size, N::LIMIT as u64),
+    })
 }

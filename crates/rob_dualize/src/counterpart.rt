@@ -1,122 +1,113 @@
-//! The robust counterpart as a linear program, row by row.
+//! The robust counterpart as a linear program, told row by row.
 
-ghost use Rattle.std.specs.Prelude.{◌≡◌, ◌<◌, ◌≤◌, ◌-◌, ◌^◌, ℕ, ℤ, pos, length, IfOk, OnOk};
+ghost use Rattle.std.specs.Prelude.{◌≡◌, ◌<◌, ◌≤◌, ◌⊎◌, ℕ, length};
+ghost use Rattle.rob_linear.specs.Vectors.{at};
 ghost use Rattle.rob_meaning.specs.Places.{tabulate};
-ghost use Rattle.rob_meaning.specs.RobustModel.{RobustModel};
-ghost use Rattle.rob_sets.specs.SetForm.{IsSetForm, SetFits};
-ghost use Rattle.rob_elab.specs.Elaborated.{AreElaborated};
-ghost use Rattle.rob_elab.specs.Forms.{FormsFit, IsForms};
-ghost use Rattle.rob_rows.specs.LinearPrograms.{IsShaped, HasNumbersWithin, program_of};
-ghost use Rattle.rob_counterpart.specs.Counterpart.{counterpart};
-ghost use Rattle.rob_counterpart.specs.Reform.{row_entry, tau_cost};
-ghost use Rattle.rob_counterpart.specs.SamePrograms.{AreSame};
-ghost use Rattle.rob_dualize.specs.Wholes.{wholes, counterpart_of, IsFew, AreSound, IsSound};
+ghost use Rattle.rob_counterpart.specs.Reform.{pairs, multiplier, row_entry, tau_cost};
+ghost use Rattle.rob_dualize.specs.Told.{listed, CanBeTold, listed_is_shaped};
+ghost use Rattle.rob_dualize.specs.Wholes.{wholes, counterpart_of, IsFew};
 
 use crate::entries::{cost_number, right_number, row_number};
 use rob_elab::Forms;
-use rob_number::{List, Memory};
-use rob_rows::Lp;
+use rob_rows::Rows;
 use rob_sets::SetForm;
-use std::alloc::Global;
 
-/// The robust counterpart: maximise `tau` or its negation, as the sense says. Its columns are the decision columns and
-/// `tau`, each as a pair whose first column counts positively; then a multiplier for each form and set row. Its rows,
-/// for each form: for each set column two rows that equate the multipliers' sum of the set rows with the form's number
-/// at the plan, the one with the positive multipliers first; then one row that bounds the multipliers' sum of the right
-/// sides. (Ben-Tal, El Ghaoui, Nemirovski, Robust Optimization, chapter 1.)
-pub fn reform(alloc: Global, forms: &Forms, set: &SetForm) -> Result<Lp, Memory>
-    requires model { AreElaborated (2 ^ 62 - 1) forms.now set.now }
-    requires few { IsFew (counterpart_of forms.now set.now) }
-    // The numbers of the model's counterpart.
-    ensures program { IfOk result (λ lp. (m : RobustModel) → IsForms m forms.now → IsSetForm m set.now
-        → AreSame (program_of lp) (counterpart m)) }
-    ensures shaped { IfOk result (λ lp. IsShaped lp) }
-    // None is wider than those of the forms and the set rows.
-    ensures within { IfOk result (λ lp. (limit : ℕ) → 1 ≤ limit → FormsFit limit forms.now → SetFits limit set.now
-        → HasNumbersWithin limit lp) }
-{
-    let rows = 2 * set.columns as usize + 1;
-    let mut a = List::new(alloc);
-    let mut b = List::new(alloc);
-    for i in 0..forms.matrices.items().len() {
-        for p in 0..rows {
-            a.push(row(alloc, forms, set, i, p)?)?;
-            b.push(right_number(forms, set, i, p))?;
-        }
-    }
-    let c = costs(alloc, forms, set)?;
-    Ok(Lp { a, b, c })
+/// The robust counterpart of the forms and the set rows, told row by row straight from these: nobody holds the program.
+/// It maximises `tau` or its negation, as the sense says. Its columns are the decision columns and `tau`, each as a
+/// pair whose first column counts positively; then a multiplier for each form and set row. Its rows, for each form: for
+/// each set column two rows that equate the multipliers' sum of the set rows with the form's number at the plan, the
+/// one with the positive multipliers first; then one row that bounds the multipliers' sum of the right sides. (Ben-Tal,
+/// El Ghaoui, Nemirovski, Robust Optimization, chapter 1.)
+#[derive(Clone, Copy)]
+pub struct Counterpart<'a> {
+    pub forms: &'a Forms,
+    pub set: &'a SetForm,
 }
 
-/// Appends form i's numbers of row p, up to the column before `to`.
-fn push_numbers(
-    numbers: &mut Vec<i64>,
-    forms: &Forms,
-    set: &SetForm,
-    i: usize,
-    p: usize,
-    to: usize,
-) -> Result<(), Memory>
-    requires forms { AreSound forms.now }
-    requires set { IsSound set.now }
-    requires few { IsFew (counterpart_of forms.now set.now) }
+impl<'a> Rows for Counterpart<'a> {
+    ghost lp = { λ source. listed (counterpart_of source.forms.now source.set.now) };
+
+    ghost ready = { λ source. CanBeTold source.forms.now source.set.now };
+
+    fn columns(&self) -> usize {
+        program_columns(self.forms, self.set)
+    }
+
+    fn rows(&self) -> usize {
+        program_rows(self.forms, self.set)
+    }
+
+    fn write_row(&self, i: usize, numbers: &mut [i64]) -> i64 {
+        let block = 2 * self.set.columns as usize + 1;
+        let form = i / block;
+        let row = i % block;
+        write_form_row(self.forms, self.set, form, row, numbers);
+        right_number(self.forms, self.set, form, row)
+    }
+
+    fn write_cost(&self, numbers: &mut [i64]) {
+        write_costs(self.forms, self.set, numbers);
+    }
+
+    ghost shaped = { λ source _. listed_is_shaped (counterpart_of source.forms.now source.set.now) };
+}
+
+/// Writes form i's row p: the numbers at the plan's columns and at the form's own multipliers, and 0 at those of other
+/// forms.
+fn write_form_row(forms: &Forms, set: &SetForm, i: usize, p: usize, numbers: &mut [i64])
+    requires told { CanBeTold forms.now set.now }
     requires form_in { i < length forms.now.matrices }
-    requires to_in { (length numbers.old.items ≤ to) × (to ≤ (counterpart_of forms.now set.now).n) }
-    requires so_far { numbers.old.items ≡ tabulate (length numbers.old.items)
-        (row_entry (wholes forms.now set.now) i p) }
-    ensures more { OnOk result (numbers.new.items ≡ tabulate to (row_entry (wholes forms.now set.now) i p)) }
+    requires size { length numbers.old ≡ (counterpart_of forms.now set.now).n }
+    ensures row { numbers.new
+        ≡ tabulate (counterpart_of forms.now set.now).n (row_entry (wholes forms.now set.now) i p) }
 {
-    for k in numbers.len()..to {
-        numbers.push(row_number(forms, set, i, p, k))?;
-    }
-    Ok(())
+    numbers.fill(0);
+    write_plan(forms, set, i, p, numbers);
+    write_multipliers(forms, set, i, p, numbers);
 }
 
-/// Appends zeros, up to the place before `to`.
-fn push_zeros(numbers: &mut Vec<i64>, to: usize) -> Result<(), Memory>
-    requires to_in { length numbers.old.items ≤ to }
-    ensures more { (f : ℕ → ℤ) → numbers.old.items ≡ tabulate (length numbers.old.items) f
-        → ((k : ℕ) → length numbers.old.items ≤ k → k < to → f k ≡ pos 0)
-        → OnOk result (numbers.new.items ≡ tabulate to f) }
-{
-    for k in numbers.len()..to {
-        numbers.push(0)?;
-    }
-    Ok(())
-}
-
-/// Form i's row p: the numbers at the plan's columns and at the form's own multipliers, and 0 at those of other forms.
-fn row(alloc: Global, forms: &Forms, set: &SetForm, i: usize, p: usize) -> Result<List<i64>, Memory>
-    requires forms { AreSound forms.now }
-    requires set { IsSound set.now }
-    requires few { IsFew (counterpart_of forms.now set.now) }
+/// Writes its numbers at the plan's columns.
+fn write_plan(forms: &Forms, set: &SetForm, i: usize, p: usize, numbers: &mut [i64])
+    requires told { CanBeTold forms.now set.now }
     requires form_in { i < length forms.now.matrices }
-    ensures row { IfOk result (λ row. row
-        ≡ tabulate (counterpart_of forms.now set.now).n (row_entry (wholes forms.now set.now) i p)) }
+    requires size { length numbers.old ≡ (counterpart_of forms.now set.now).n }
+    ensures plan { (k : ℕ) → k < pairs (wholes forms.now set.now)
+        → at numbers.new k ≡ row_entry (wholes forms.now set.now) i p k }
+    ensures others { (k : ℕ) → pairs (wholes forms.now set.now) ≤ k → at numbers.new k ≡ at numbers.old k }
 {
-    let plan = 2 * (forms.columns as usize + 1);
+    for k in 0..2 * (forms.columns as usize + 1) {
+        numbers[k] = row_number(forms, set, i, p, k);
+    }
+}
+
+/// Writes its numbers at the form's own multipliers.
+fn write_multipliers(forms: &Forms, set: &SetForm, i: usize, p: usize, numbers: &mut [i64])
+    requires told { CanBeTold forms.now set.now }
+    requires form_in { i < length forms.now.matrices }
+    requires size { length numbers.old ≡ (counterpart_of forms.now set.now).n }
+    ensures own { (k : ℕ) → multiplier (wholes forms.now set.now) i 0 ≤ k
+        → k < multiplier (wholes forms.now set.now) i (length set.now.rows)
+        → at numbers.new k ≡ row_entry (wholes forms.now set.now) i p k }
+    ensures others { (k : ℕ) → (k < multiplier (wholes forms.now set.now) i 0)
+        ⊎ (multiplier (wholes forms.now set.now) i (length set.now.rows) ≤ k)
+        → at numbers.new k ≡ at numbers.old k }
+{
     let rows = set.rows.items().len();
-    let first = plan + i * rows;
-    let columns = program_columns(forms, set);
-    let mut numbers = Vec::with_capacity(alloc, columns)?;
-    push_numbers(&mut numbers, forms, set, i, p, plan)?;
-    push_zeros(&mut numbers, first)?;
-    push_numbers(&mut numbers, forms, set, i, p, first + rows)?;
-    push_zeros(&mut numbers, columns)?;
-    Ok(List::from(numbers))
+    let first = 2 * (forms.columns as usize + 1) + i * rows;
+    for k in first..first + rows {
+        numbers[k] = row_number(forms, set, i, p, k);
+    }
 }
 
-/// The costs of all columns.
-fn costs(alloc: Global, forms: &Forms, set: &SetForm) -> Result<List<i64>, Memory>
-    requires few { IsFew (counterpart_of forms.now set.now) }
-    ensures costs { IfOk result (λ costs. costs
-        ≡ tabulate (counterpart_of forms.now set.now).n (tau_cost (wholes forms.now set.now))) }
+/// Writes the costs of all columns.
+fn write_costs(forms: &Forms, set: &SetForm, numbers: &mut [i64])
+    requires size { length numbers.old ≡ (counterpart_of forms.now set.now).n }
+    ensures costs { numbers.new
+        ≡ tabulate (counterpart_of forms.now set.now).n (tau_cost (wholes forms.now set.now)) }
 {
-    let mut numbers = List::new(alloc);
-    for k in 0..program_columns(forms, set) {
-        numbers.push(cost_number(forms, set, k))?;
+    for k in 0..numbers.len() {
+        numbers[k] = cost_number(forms, set, k);
     }
-    Ok(numbers)
 }
 
 /// The number of columns.

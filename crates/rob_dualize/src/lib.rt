@@ -12,12 +12,10 @@ pub mod reading;
 mod route;
 mod scenario;
 pub mod set_program;
-mod source;
 pub mod stop;
 pub mod told;
 
 pub use bounds::model_bounds;
-pub use counterpart::reform;
+pub use counterpart::Counterpart;
 pub use model::solve_model;
 pub use route::solve_dual;
-pub use source::Counterpart;

@@ -13,9 +13,8 @@ ghost use Rattle.rob_dualize.specs.Solving.{Solves};
 ghost use Rattle.rob_dualize.specs.Wholes.{counterpart_of, IsFew};
 
 use crate::certificate::certificate;
-use crate::counterpart::program_rows;
+use crate::counterpart::{Counterpart, program_rows};
 use crate::scenario::scenario;
-use crate::source::Counterpart;
 use crate::stop::{or_stop, position, wide};
 use rob_cert::{Cert, Stop};
 use rob_elab::Forms;

@@ -1,5 +1,5 @@
 -- The numbers of a program as data, and as mathematics.
-use Rattle.std.proofs.Common.{◌≡◌, ℕ, ◌+◌, ◌*◌, ◌^◌, ◌<◌, ◌≤◌, suc, sym, ap, ◌∙◌, subst, arith, inl, inr, refl, zero, List, [], ◌∷◌, All, length, get_or, nat_abs, slice_index_or}
+use Rattle.std.proofs.Common.{◌≡◌, ℕ, ◌+◌, ◌<◌, ◌≤◌, suc, sym, subst, arith, inl, inr, refl, zero, List, [], ◌∷◌, All, length, get_or, nat_abs, slice_index_or}
 use Rattle.std.proofs.lemmas.Int.{ints}
 use Rattle.std.proofs.lemmas.Bool.{cases_eq, cases_lt}
 use Rattle.std.proofs.lemmas.List.{get_or_default}
@@ -11,7 +11,7 @@ use Rattle.rob_linear.proofs.Vectors.{at-past}
 use Rattle.rob_bounds.specs.Bounds.{IsOfSize, IsNarrow, row_bound}
 use Rattle.rob_bounds.proofs.NarrowPaths.{narrow_path}
 use Rattle.rob_rows.specs.declared.program.Lp.{Lp}
-use Rattle.rob_rows.specs.LinearPrograms.{HasNumbersWithin, program_of}
+use Rattle.rob_rows.specs.LinearPrograms.{HasNumbersWithin, IsShaped, program_of}
 use Rattle.rob_rows.specs.PrimitiveParts.{IsWithin}
 use Rattle.rob_narrow.specs.NarrowPrograms.{IsGreatest}
 
@@ -40,11 +40,6 @@ row_within a rows i j h =
 pub within_up : (a b : ℕ) (row : List ℤ) → a ≤ b → IsWithin a row → IsWithin b row
 within_up a b row l h k d kl = let x : nat_abs (get_or row k d) ≤ a = h k d kl in omega arith
 
--- there is one greatest size
-pub greatest_one : (a b : ℕ) (lp : Lp) → IsGreatest a lp → IsGreatest b lp → a ≡ b
-greatest_one a b lp g h = let x : a ≤ b = g.least b h.positive h.within in
-    let y : b ≤ a = h.least a g.positive g.within in omega arith
-
 -- the program's numbers are those of the data
 pub program_sized : (a : ℕ) (lp : Lp) → HasNumbersWithin a lp → IsOfSize a (program_of lp)
 program_sized a lp h = record {
@@ -61,40 +56,42 @@ pub narrow_path_of : (lp : Lp) (a limit : ℕ) → IsGreatest a lp → row_bound
     → (basis : ℕ → ℕ) (i : ℕ) → ¬ (HasWideRow limit (program_of lp) basis i)
 narrow_path_of lp a limit g l basis i = narrow_path limit (program_of lp) (narrow_of lp a limit g l) basis i
 
--- ---- the loop over the rows
+-- ---- a program that is told row by row
+-- no number of row i is over a
+pub row_told : (a : ℕ) (lp : Lp) (i : ℕ) → IsShaped lp → i < length lp.b → HasNumbersWithin a lp
+    → IsWithin a (slice_index_or lp.a i [])
+row_told a lp i s l h = let rows : length lp.a ≡ length lp.b = s.rows in h.a i [] (omega arith)
 
--- row i, where it was taken
-taken : (rows : List (List ℤ)) (i : ℕ) (row item d : List ℤ) → i < length rows → item ≡ get_or rows i item
-    → row ≡ item → get_or rows i d ≡ row
-taken rows i row item d l e f = get_or_default rows i d item l ∙ sym e ∙ sym f
+-- the rows before `count` and their right sides are at most a in size
+pub record AreWithin (a count : ℕ) (lp : Lp) : Type 0 where
+  pub rows : (k : ℕ) → k < count → IsWithin a (slice_index_or lp.a k [])
+  pub rights : (k : ℕ) → k < count → nat_abs (at lp.b k) ≤ a
 
-pub rows_more : (rows : List (List ℤ)) (i a b : ℕ) (row item : List ℤ) → i < length rows
-    → item ≡ get_or rows i item → row ≡ item → a ≤ b
-    → ((k : ℕ) (d : List ℤ) → k < i → IsWithin a (get_or rows k d)) → IsWithin b row → (k : ℕ) (d : List ℤ) → k < i + 1
-    → IsWithin b (get_or rows k d)
-rows_more rows i a b row item l e f ab h w k d kl =
-    elim (cases_eq k i) [
-      | inl c ↦ subst (λ v. IsWithin b v) (sym (ap (λ v. get_or rows v d) c ∙ taken rows i row item d l e f)) w
-      | inr n ↦ within_up a b (get_or rows k d) ab (h k d (omega arith))
-    ]
+-- one more
+pub within_next : (a b count : ℕ) (lp : Lp) → a ≤ b → AreWithin a count lp
+    → IsWithin b (slice_index_or lp.a count []) → nat_abs (at lp.b count) ≤ b → AreWithin b (count + 1) lp
+within_next a b count lp ab h row right = record {
+  rows = λ k l. elim (cases_eq k count) [
+    | inl e ↦ subst (λ v. IsWithin b (slice_index_or lp.a v [])) (sym e) row
+    | inr d ↦ within_up a b (slice_index_or lp.a k []) ab (h.rows k (omega arith))
+  ];
+  rights = λ k l. elim (cases_eq k count) [
+    | inl e ↦ subst (λ v. nat_abs (at lp.b v) ≤ b) (sym e) right
+    | inr d ↦ (let before : nat_abs (at lp.b k) ≤ a = h.rights k (omega arith) in omega arith)
+  ];
+}
 
-pub row_of_all : (rows list : List (List ℤ)) (i h : ℕ) (row item : List ℤ) → list ≡ rows → i < length list
-    → item ≡ get_or list i item → row ≡ item → All (λ row. IsWithin h row) rows → IsWithin h row
-row_of_all rows list i h row item r l e f all =
-    subst (λ v. IsWithin h v) (taken list i row item item l e f)
-    (subst (λ v. IsWithin h (get_or v i item)) (sym r) (all i item (subst (λ v. i < length v) r l)))
-
-pub all_rows : (rows list : List (List ℤ)) (i a b : ℕ) → list ≡ rows → length list ≤ i → a ≤ b
-    → ((k : ℕ) (d : List ℤ) → k < i → IsWithin a (get_or list k d)) → All (λ row. IsWithin b row) rows
-all_rows rows list i a b r l ab h k d kl =
-    let m : k < length list = subst (λ v. k < length v) (sym r) kl in
-    subst (λ v. IsWithin b (get_or v k d)) r (within_up a b (get_or list k d) ab (h k d (omega arith)))
-
--- ---- the bound
-pub bound_same : (lp : Lp) (a size : ℕ) (rows : List ℤ) → IsGreatest a lp → IsGreatest size lp → rows ≡ lp.b
-    → ((length rows + 1) * size) ^ suc (length rows) ≡ row_bound (length lp.b) a
-bound_same lp a size rows g h r =
-    let e : a ≡ size = greatest_one a size lp g h in
-    let f : length rows + 1 ≡ suc (length rows) = omega arith in
-    ap (λ v. (v * size) ^ suc (length rows)) f ∙ ap (λ v. (suc (length rows) * v) ^ suc (length rows)) (sym e)
-    ∙ ap (λ v. (suc (length v) * a) ^ suc (length v)) r
+-- all of them, and the objective
+pub all_within : (a b count : ℕ) (lp : Lp) → IsShaped lp → length lp.b ≤ count → a ≤ b → AreWithin a count lp
+    → IsWithin b lp.c → HasNumbersWithin b lp
+all_within a b count lp s l ab h cost =
+    let height : length lp.a ≡ length lp.b = s.rows in
+    record {
+      a = λ k d kl.
+          subst (λ row. IsWithin b row) (get_or_default lp.a k [] d kl)
+          (within_up a b (slice_index_or lp.a k []) ab (h.rows k (omega arith)));
+      b = λ k d kl.
+          let before : nat_abs (at lp.b k) ≤ a = h.rights k (omega arith) in
+          subst (λ v. nat_abs v ≤ b) (get_or_default lp.b k (pos 0) d kl) (omega arith);
+      c = cost;
+    }

@@ -195,7 +195,7 @@ pub grown_has : (words : List Name) (s : stated.Statement)
 grown_has words s = folded (names_of s) words
 
 -- ---- what names stand for
-nothing_at : (n k : ℕ) → sort_at (replicate n None) k ≡ None
+pub nothing_at : (n k : ℕ) → sort_at (replicate n None) k ≡ None
 nothing_at zero k = refl
 nothing_at (suc n) zero = refl
 nothing_at (suc n) (suc k) = nothing_at n k

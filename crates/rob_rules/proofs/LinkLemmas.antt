@@ -49,7 +49,7 @@ pub neither : (a b : Bool) → (a || b) ≡ false → (a ≡ false) × (b ≡ fa
 neither true b h = cc
 neither false b h = (refl, h)
 
-set_kept : (sorts : List (Option Sort)) (i k : ℕ) (v x : Sort) → is_some (sort_at sorts i) ≡ false
+pub set_kept : (sorts : List (Option Sort)) (i k : ℕ) (v x : Sort) → is_some (sort_at sorts i) ≡ false
     → sort_at sorts k ≡ Some x → sort_at (set sorts i (Some v)) k ≡ Some x
 set_kept [] i k v x new is = is
 set_kept (o ∷ sorts) zero zero v x new is = let p : is_some o ≡ true = ap is_some is in cc

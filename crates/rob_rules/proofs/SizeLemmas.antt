@@ -13,7 +13,7 @@ both true true h = (refl, refl)
 both true false h = cc
 both false b h = cc
 
-at_most : (a b : ℕ) → nat_le a b ≡ true → a ≤ b
+pub at_most : (a b : ℕ) → nat_le a b ≡ true → a ≤ b
 at_most a b h = grind (arith, nat_tests)
 
 -- the limits, one by one

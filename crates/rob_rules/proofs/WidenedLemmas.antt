@@ -20,7 +20,7 @@ abbrev Inside : ℕ → Option (ℕ × Sort) → Type 0
 Inside n None = Unit {0}
 Inside n (Some d) = d.0 < n
 
-declare_length : (sorts : List (Option Sort)) (d : Option (ℕ × Sort)) → length (declare sorts d) ≡ length sorts
+pub declare_length : (sorts : List (Option Sort)) (d : Option (ℕ × Sort)) → length (declare sorts d) ≡ length sorts
 declare_length sorts None = refl
 declare_length sorts (Some d) = length-set sorts d.0 (Some d.1)
 

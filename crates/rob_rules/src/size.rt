@@ -4,29 +4,11 @@ ghost use Rattle.std.specs.Prelude.{◌≡◌};
 ghost use Rattle.rob_rules.specs.Sizes.{start_sizes, IsSmall};
 ghost use Rattle.rob_rules.specs.Sizes as spec;
 
+use rob_model::limits::{
+    GREATEST_SIZE, MOST_COLUMNS, MOST_MEMBERS, MOST_PARAMETERS, MOST_ROWS, MOST_SET_LINES,
+    MOST_SETS,
+};
 use rob_syntax::syntax::{Bounds, Rel, Statement};
-
-/// The joint parameters that a model may have.
-const MOST_PARAMETERS: u64 = 96;
-
-/// The named sets that a model may have.
-const MOST_SETS: u64 = 8;
-
-/// The decision columns that a model may have.
-const MOST_COLUMNS: u64 = 600;
-
-/// The row statements that a model may have.
-const MOST_ROWS: u64 = 300;
-
-/// The set statements and budgets that a model may have together.
-const MOST_SET_LINES: u64 = 64;
-
-/// The members that all budgets may have together.
-const MOST_MEMBERS: u64 = 64;
-
-/// The size that a model may have: its forms times one more than its set rows, joint parameters and members, the last
-/// two counted twice. Each set has the set rows of the parameters' bounds.
-const GREATEST_SIZE: u64 = 12_000;
 
 /// What is counted of a model.
 #[derive(Clone, Copy)]

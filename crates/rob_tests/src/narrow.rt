@@ -1,7 +1,5 @@
 //! Bounds on the numbers of programs' rows.
 
-ghost use Rattle.std.specs.Prelude.{◌^◌, ◌-◌};
-
 use crate::program::program;
 use rob_case::Trouble;
 use rob_case::numbers::whole;
@@ -14,11 +12,12 @@ pub(crate) fn bound(alloc: Global, line: &str) -> Result<String, Trouble> {
     let (limit, rest) = keyword(line);
     let limit = whole(limit)?;
     let lp = program(alloc, rest)?;
-    if !lp.is_within(i64::MAX as u64) {
+    if !lp.is_shaped() {
         return Err(Trouble::Line);
     }
-    let most = greatest(&lp);
-    match bound_of(&lp, limit) {
+    let mut numbers = vec![in alloc; 0i64; lp.c.items().len()]?;
+    let most = greatest(&lp, numbers.as_mut_slice());
+    match bound_of(lp.b.items().len(), most, limit.unsigned_abs()) {
         Some(bound) => Ok(format!(in alloc; "{most} {bound}")?),
         None => Ok(format!(in alloc; "{most} none")?),
     }

@@ -9,6 +9,7 @@ use Rattle.rob_meaning.specs.UncertaintySet.{Admits, IsEmptySet}
 use Rattle.rob_model.specs.declared.place.Spot.{Spot}
 use Rattle.rob_report.specs.NarrowText.{narrow_line}
 use Rattle.rob_sets.specs.FirstWide.{NothingWide}
+use Rattle.rob_syntax.specs.Symbols.{first_of}
 use Rattle.rob_top.specs.Calls.{Call, IsSolving, Known, known_call, limit_of}
 use Rattle.rob_top.specs.Completeness.{MustEnd}
 use Rattle.rob_top.specs.Endings.{EndsAs, IsShownAnswer}
@@ -30,11 +31,6 @@ last_two [] = []
 last_two (a ∷ []) = []
 last_two (a ∷ b ∷ []) = a ∷ b ∷ []
 last_two (a ∷ b ∷ c ∷ rest) = last_two (b ∷ c ∷ rest)
-
--- the first of them
-abbrev first_of : List ℕ → ℕ
-first_of [] = 0
-first_of (a ∷ rest) = a
 
 ends_alike : (front : List ℕ) (a b : ℕ) → last_two (front ++ a ∷ b ∷ []) ≡ a ∷ b ∷ []
 ends_alike [] a b = refl

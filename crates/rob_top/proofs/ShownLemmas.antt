@@ -1,5 +1,5 @@
 -- The leaf that shows the status of a tree that proves: its certificate, its plan, and what is printed of it.
-use Rattle.std.proofs.Common.{◌≡◌, ◌≢◌, ℕ, zero, suc, ◌+◌, ◌<◌, ◌^◌, List, [], ◌∷◌, ◌++◌, length, Option, Some, None, IfSome, Result, Ok, Err, IfOk, codes, refl, sym, ◌∙◌, ap, subst, arith}
+use Rattle.std.proofs.Common.{◌≡◌, ◌≢◌, ℕ, zero, suc, ◌+◌, ◌<◌, ◌^◌, List, [], ◌∷◌, ◌++◌, Option, Some, None, IfSome, Result, Ok, Err, IfOk, codes, refl, sym, ◌∙◌, ap, subst, arith}
 use Rattle.rob_cert.specs.Shape.{HasShape}
 use Rattle.rob_meaning.proofs.EachLemmas.{each_append}
 use Rattle.rob_meaning.specs.Certificates.{Certificate, Status, optimal, infeasible, unbounded}
@@ -7,9 +7,10 @@ use Rattle.rob_meaning.specs.Places.{Each}
 use Rattle.rob_meaning.specs.Proves.{Proves}
 use Rattle.rob_meaning.specs.RobustModel.{RobustModel}
 use Rattle.rob_meaning.specs.WellFormed.{IsModel}
+use Rattle.rob_reach.proofs.GrowingLemmas.{length-leaves}
 use Rattle.rob_reach.proofs.TreeLemmas.{IsBoxOf, leaves_boxed}
 use Rattle.rob_reach.specs.Boxes.{box_above, box_below}
-use Rattle.rob_reach.specs.Trees.{HasLeaf, IsBestLeaf, IsEndlessLeaf, IsProved, Leaf, Node, ProvesTree, ShowsStatus, Tree, branch_count, leaf, node_count, leaves, left_open, split}
+use Rattle.rob_reach.specs.Trees.{HasLeaf, IsBestLeaf, IsEndlessLeaf, IsProved, Leaf, Node, ProvesTree, ShowsStatus, Tree, branch_count, leaf, leaf_count, node_count, leaves, left_open, split}
 use Rattle.rob_reach.specs.Verdicts.{Shows, leaf_at}
 use Rattle.rob_reach.specs.WholeStatus.{IsWholeOn}
 use Rattle.rob_tree.proofs.SpelledLemmas.{tree_spelled}
@@ -78,8 +79,10 @@ module _ (m : RobustModel) (names : List ℕ) (t : Tree) (proves : ProvesTree m 
   pub best_some : 0 < t.best
   best_some = leaf_some (leaves m t.root) t.best there.0 there.1
 
-  pub best_not_behind : (left : ℕ) → t.best ≡ length (leaves m t.root) + left → 0 < left → ⊥
-  best_not_behind left e more = leaf_within (leaves m t.root) t.best there.0 there.1 left e more
+  pub best_not_behind : (left : ℕ) → t.best ≡ leaf_count t.root + left → 0 < left → ⊥
+  best_not_behind left e more =
+      leaf_within (leaves m t.root) t.best there.0 there.1 left
+      (e ∙ ap (λ count. count + left) (sym (length-leaves m t.root))) more
 
   same_leaf : (l : Leaf) → leaf_at (leaves m t.root) t.best ≡ Some l → there.0 ≡ l
   same_leaf l here = let both : Some there.0 ≡ Some l = sym there.1 ∙ here in cc

@@ -27,7 +27,6 @@ pub mod SplitWork
 pub mod Swept
 pub mod TreeChecked
 pub mod TreeWork
-pub mod Walks
 pub mod Ways
 pub mod Work
 pub mod WorkStops

@@ -19,7 +19,7 @@ ghost use Rattle.rob_top.specs.WorkStops.{IsUngrownOf, RepliesUngrown};
 
 use crate::ended::Ended;
 use crate::names::variables_of;
-use crate::nodes::{Walk, count_nodes, leaf_of};
+use crate::nodes::count_nodes;
 use crate::paths::wide_node;
 use crate::reply::{Reply, broken_words};
 use crate::solving::{empty_set, ended_by};
@@ -29,7 +29,7 @@ use rob_cert::Status;
 use rob_model::Model;
 use rob_number::{Exact, Ledger, Memory, Text};
 use rob_report::report_text;
-use rob_tree::{Tree, TreeStop, write_tree};
+use rob_tree::{Tree, TreeStop, Walk, leaf_of, write_tree};
 use rob_words::Verb;
 use std::alloc::Global;
 

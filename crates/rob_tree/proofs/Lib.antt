@@ -19,3 +19,4 @@ pub mod CutLemmas
 pub mod SomeNode
 pub mod SomeTree
 pub mod NamedLemmas
+pub mod WalkLemmas

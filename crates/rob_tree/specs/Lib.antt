@@ -3,3 +3,4 @@ pub mod Shape
 pub mod TreeText
 pub mod Reading
 pub mod Parts
+pub mod Walks

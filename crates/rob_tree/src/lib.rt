@@ -12,6 +12,7 @@ pub mod reader;
 pub mod rules;
 pub mod tree;
 pub mod verdict;
+mod walk;
 pub mod whole_number;
 pub mod writer;
 
@@ -21,4 +22,5 @@ pub use reader::read_tree;
 pub use rules::whole_rule;
 pub use tree::{Branch, Node, Tree, split_node};
 pub use verdict::{LeafFault, TreeVerdict};
+pub use walk::{Walk, leaf_of};
 pub use writer::write_tree;

@@ -7,6 +7,7 @@ use Rattle.rob_meaning.specs.Places.{0ℚ, Each}
 use Rattle.rob_meaning.specs.RobustModel as model
 use Rattle.rob_meaning.specs.RobustModel.{RobustModel, AdaptiveVariable}
 use Rattle.rob_meaning.proofs.AloneLemmas.{model_alone}
+use Rattle.rob_meaning.proofs.EachLemmas.{each_append}
 use Rattle.rob_meaning.specs.WellFormed.{IsModel, IsExpression, IsSetSide, IsSetLine, IsMember}
 use Rattle.rob_rules.specs.declared.sort.Sort.{Sort}
 use Rattle.rob_rules.specs.declared.sort.Sort.TheVariants as sort
@@ -50,10 +51,6 @@ module _ {P Q : ℕ → Type 0} (to : (k : ℕ) → P k → Q k) where
     each_operand : (fs : Operands) → EachOperand P fs → EachOperand Q fs
     each_operand no_operands h = tt
     each_operand (operand f fs) h = (each_name f h.0, each_operand fs h.1)
-
-each_append : {A : Type 0} (P : A → Type 0) (xs ys : List A) → Each P xs → Each P ys → Each P (xs ++ ys)
-each_append P [] ys a b = b
-each_append P (x ∷ xs) ys a b = (a.0, each_append P xs ys a.1 b)
 
 -- what is true of the parts of each item is true of all parts
 pub each_flat : {A B : Type 0} (P : B → Type 0) (f : A → List B) (Q : A → Type 0) (to : (x : A) → Q x → Each P (f x)) (xs : List A) → Each Q xs → Each P (flat_map f xs)

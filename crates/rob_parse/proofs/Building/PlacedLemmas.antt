@@ -14,16 +14,16 @@ use Rattle.rob_parse.proofs.Building.ModelLemmas.{well_formed_written, written_b
 use Rattle.rob_parse.proofs.Sets.SetNumbers.{AreCounted, counted_all, counted_start, lines_beside, lines_there, objective_there, rows_beside, rows_there}
 
 module _ (limit : ℕ) (text : List ℕ) (m : RobustModel) (read : ReadsModel limit text m) where
-  abbrev names : List (List ℕ)
+  abbrev pub names : List (List ℕ)
   names = flat_map (sets read.words) read.list
 
-  abbrev of_lines : List ℕ
+  abbrev pub of_lines : List ℕ
   of_lines = flat_map (line_sets read.known.sorts) read.list
 
-  abbrev of_objective : ℕ
+  abbrev pub of_objective : ℕ
   of_objective = objective_set read.known.sorts (goal_in read.list)
 
-  abbrev of_rows : List ℕ
+  abbrev pub of_rows : List ℕ
   of_rows = flat_map (row_sets read.known.sorts) read.list
 
   -- the sets that are declared

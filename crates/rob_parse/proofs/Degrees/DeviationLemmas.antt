@@ -1,9 +1,8 @@
 -- Where no member has a deviation of 0, deviations are positive.
 use Rattle.std.proofs.Common.{◌≡◌, ℕ, zero, suc, ◌<◌, false, List, [], ◌∷◌, arith}
-use Rattle.std.specs.Prelude.{◌==◌, pos, unwrap_or, ◌<ℤ◌}
+use Rattle.std.specs.Prelude.{◌==◌, pos, unwrap_or}
 use Rattle.std.specs.List.{list_any}
-use Rattle.std.proofs.lemmas.Int.{ints}
-use Rattle.rob_algebra.specs.Fraction.{is_of_pair, ◌<ℚ◌}
+use Rattle.rob_algebra.specs.Fraction.{is_of_pair, pos_lt, ◌<ℚ◌}
 use Rattle.rob_algebra.specs.FractionLaws.{is_pos_in}
 use Rattle.rob_meaning.specs.Places.{0ℚ, Each}
 use Rattle.rob_syntax.specs.declared.syntax.Member.{Member}
@@ -16,14 +15,11 @@ some : (n : ℕ) → (n == 0) ≡ false → 0 < n
 some zero h = cc
 some (suc n) h = omega arith
 
-whole_positive : (n : ℕ) → 0 < n → pos 0 <ℤ pos n
-whole_positive n h = omega (arith, ints)
-
 -- a member's deviation is positive
 deviation_positive : (limit : ℕ) (h : Member) → is_certain h ≡ false → FitsMember limit h → 0ℚ <ℚ fraction h.spread.deviation
 deviation_positive limit h deviates fits =
     let n = h.spread.deviation.numerator in
-    is_pos_in (is_of_pair (pos n) (unwrap_or h.spread.deviation.divisor 1) fits.1.positive) (whole_positive n (some n deviates))
+    is_pos_in (is_of_pair (pos n) (unwrap_or h.spread.deviation.divisor 1) fits.1.positive) (pos_lt n (some n deviates))
 
 pub deviations_positive : (limit : ℕ) (ms : List Member) → list_any is_certain ms ≡ false → Each (FitsMember limit) ms → Each (λ (h : Member). 0ℚ <ℚ fraction h.spread.deviation) ms
 deviations_positive limit [] deviate fits = tt

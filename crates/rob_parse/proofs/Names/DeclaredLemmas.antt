@@ -1,5 +1,5 @@
 -- Each name is declared once: the numbers of the declared names of all kinds.
-use Rattle.std.proofs.Common.{◌≡◌, ◌≢◌, ℕ, zero, suc, ◌<◌, true, false, List, [], ◌∷◌, ◌++◌, length, length-set, map, set, refl, sym, ap, ◌∙◌, subst, arith, append_assoc}
+use Rattle.std.proofs.Common.{◌≡◌, ◌≢◌, ℕ, zero, suc, ◌<◌, true, false, List, [], ◌∷◌, ◌++◌, length, map, set, refl, sym, ap, ◌∙◌, subst, arith, append_assoc}
 use Rattle.std.specs.Prelude.{Option, Some, None, is_some}
 use Rattle.std.specs.List.{flat_map}
 use Rattle.std.proofs.lemmas.List.{map-append, length-replicate}
@@ -14,6 +14,7 @@ use Rattle.rob_rules.specs.Faults.{is_declared}
 use Rattle.rob_parse.specs.Models.{goal_in, line_sets, objective_set, row_sets, sets, written_of, word_of, parameters, variables, adaptives, rows, model_of}
 use Rattle.rob_rules.specs.Chains.{Chain, IsNumber}
 use Rattle.rob_rules.specs.Scopes.{Earlier, behind, start, declared_by, declare}
+use Rattle.rob_rules.proofs.WidenedLemmas.{declare_length}
 use Rattle.rob_parse.proofs.Sets.InSets.{names_taken, parameters_are}
 use Rattle.rob_parse.proofs.Names.SortLemmas.{is_new}
 use Rattle.rob_parse.proofs.Names.WordSetLemmas.{distinct_between}
@@ -185,10 +186,6 @@ set_new (o ∷ sorts) zero zero v h = cc
 set_new (o ∷ sorts) zero (suc k) v h = h
 set_new (o ∷ sorts) (suc i) zero v h = h
 set_new (o ∷ sorts) (suc i) (suc k) v h = set_new sorts i k v h
-
-pub declare_length : (sorts : List (Option Sort)) (d : Option (ℕ × Sort)) → length (declare sorts d) ≡ length sorts
-declare_length sorts None = refl
-declare_length sorts (Some d) = length-set sorts d.0 (Some d.1)
 
 -- the name is not declared
 abbrev pub IsNew : List (Option Sort) → ℕ → Type 0

@@ -1,8 +1,7 @@
 -- The names that a text declares.
-use Rattle.std.proofs.Common.{◌≡◌, ◌≢◌, ℕ, zero, suc, ◌<◌, ◌≤◌, Bool, true, false, List, [], ◌∷◌, ◌++◌, length, map, refl, sym, ap, ◌∙◌, arith, codes}
+use Rattle.std.proofs.Common.{◌≡◌, ◌≢◌, ℕ, zero, suc, ◌<◌, Bool, true, false, List, [], ◌∷◌, ◌++◌, length, map, refl, sym, ap, ◌∙◌, arith, codes}
 use Rattle.std.specs.Prelude.{nat_le, Option, Some, None, if◌then◌else◌}
 use Rattle.std.specs.List.{flat_map}
-use Rattle.std.proofs.lemmas.Bool.Decides.{nat_tests}
 use Rattle.rob_lex.specs.declared.token.Token.{Token}
 use Rattle.rob_lex.specs.declared.token.Kind.{Kind}
 use Rattle.rob_lex.specs.declared.token.Kind.TheVariants as kind
@@ -20,12 +19,10 @@ use Rattle.rob_parse.specs.Models.{word_of}
 use Rattle.rob_syntax.specs.Names.{IsWord, IsSpelled}
 use Rattle.rob_rules.specs.Chains.{IsFormed, IsNumber}
 use Rattle.rob_rules.specs.Scopes.{declared_by}
+use Rattle.rob_rules.proofs.SizeLemmas.{at_most}
 use Rattle.rob_index.specs.Reading.{one}
 use Rattle.rob_syntax.specs.Symbols.{keywords, keyword_among, longest_name, number_of, word_symbol, symbol_at, symbols_of, bytes_of, word_at, word_in, add_token, token_lines, lines_of}
 use Rattle.rob_parse.proofs.Names.WordSetLemmas.{In, number_found, one_number}
-
-short_enough : (a b : ℕ) → nat_le a b ≡ true → a ≤ b
-short_enough a b h = grind (arith, nat_tests)
 
 module _ (words : List (List ℕ)) where
   -- a symbol's name is such a number
@@ -38,7 +35,7 @@ module _ (words : List (List ℕ)) where
   word_sound bytes None is inside = go (nat_le (length bytes) longest_name) refl
     where
       go : (b : Bool) → nat_le (length bytes) longest_name ≡ b → IsSound (if b then Name (number_of words bytes) else Reserved word.Unused)
-      go true short = let f = number_found words bytes inside in (f.0, (ap (keyword_among keywords) f.1 ∙ is, omega (arith, short_enough (length bytes) longest_name short, ap length f.1)))
+      go true short = let f = number_found words bytes inside in (f.0, (ap (keyword_among keywords) f.1 ∙ is, omega (arith, at_most (length bytes) longest_name short, ap length f.1)))
       go false short = tt
 
   module _ (text : List ℕ) where

@@ -24,7 +24,8 @@ use Rattle.rob_rules.specs.Links.{Keeps}
 use Rattle.rob_rules.specs.Scopes.{Earlier, behind, start, declared_by, declare}
 use Rattle.rob_parse.proofs.Degrees.DegreeLemmas.{any_apart}
 use Rattle.rob_rules.proofs.ReadingLemmas.{none_found, true_of_not}
-use Rattle.rob_parse.proofs.Names.SortLemmas.{Names, neither, set_cases, is_new, kept_behind, AllNamed, named_behind, nothing_there}
+use Rattle.rob_rules.proofs.GrowingLemmas.{nothing_at}
+use Rattle.rob_parse.proofs.Names.SortLemmas.{Names, neither, set_cases, is_new, kept_behind, AllNamed, named_behind}
 use Rattle.rob_parse.proofs.Degrees.UsedLemmas.{Free, IsFreeName, left, tail, free_list, free_members}
 
 -- ---- names that stand once
@@ -109,7 +110,7 @@ module _ (limit : ℕ) (words : List (List ℕ)) (sorts : List (Option Sort)) wh
       (injective_behind e s ys all (is_new limit chain.0.before e s chain.0.faultless) inj)
 
 pub injective_start : (n : ℕ) → IsInjective (start n).sorts
-injective_start n j k m a b = let p = nothing_there n j in cc
+injective_start n j k m a b = let p = nothing_at n j in cc
 
 -- ---- the numbers of different parameters are different
 abbrev IsParameter : List (Option Sort) → ℕ → Type 0

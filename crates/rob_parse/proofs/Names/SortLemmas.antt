@@ -1,6 +1,6 @@
 -- What names stand for, from line to line.
-use Rattle.std.proofs.Common.{◌≡◌, ℕ, zero, suc, ◌+◌, ◌<◌, ◌≤◌, ◌⊎◌, inl, inr, Bool, true, false, cond, List, [], ◌∷◌, ◌++◌, length, map, set, replicate, refl, sym, ap, ◌∙◌, subst, arith, append_assoc, append-nil, length-append}
-use Rattle.std.specs.Prelude.{◌||◌, Option, Some, None, is_some}
+use Rattle.std.proofs.Common.{◌≡◌, ℕ, zero, suc, ◌+◌, ◌<◌, ◌≤◌, ◌⊎◌, inl, inr, Bool, true, false, cond, List, [], ◌∷◌, ◌++◌, length, map, set, refl, sym, ap, ◌∙◌, subst, arith, append_assoc, append-nil, length-append}
+use Rattle.std.specs.Prelude.{◌||◌, Option, Some, None}
 use Rattle.std.specs.List.{flat_map}
 use Rattle.rob_meaning.specs.Degrees.{one_if_some}
 use Rattle.rob_meaning.specs.RobustModel.{AdaptiveVariable, list_in}
@@ -18,6 +18,8 @@ use Rattle.rob_rules.specs.Chains.{Chain}
 use Rattle.rob_rules.specs.Links.{Keeps}
 use Rattle.rob_rules.specs.Scopes.{Earlier, behind, start, has_some, declare, declared_by}
 use Rattle.rob_rules.specs.Sizes.{counted}
+use Rattle.rob_rules.proofs.GrowingLemmas.{nothing_at}
+use Rattle.rob_rules.proofs.LinkLemmas.{set_kept}
 use Rattle.rob_rules.proofs.ReadingLemmas.{none_found}
 
 pub neither : (a b : Bool) → a || b ≡ false → (a ≡ false) × (b ≡ false)
@@ -33,13 +35,6 @@ set_cases (o ∷ sorts) (suc i) zero v = inr refl
 set_cases (o ∷ sorts) (suc i) (suc k) v = set_cases sorts i k v
 
 -- a name that is declared keeps what it stands for, where the name that is written isn't
-pub set_kept : (sorts : List (Option Sort)) (i k : ℕ) (v x : Sort) → is_some (sort_at sorts i) ≡ false → sort_at sorts k ≡ Some x → sort_at (set sorts i (Some v)) k ≡ Some x
-set_kept [] i k v x new is = is
-set_kept (o ∷ sorts) zero zero v x new is = let p : is_some o ≡ true = ap is_some is in cc
-set_kept (o ∷ sorts) zero (suc k) v x new is = is
-set_kept (o ∷ sorts) (suc i) zero v x new is = is
-set_kept (o ∷ sorts) (suc i) (suc k) v x new is = set_kept sorts i k v x new is
-
 pub declare_kept : (sorts : List (Option Sort)) (d : Option (ℕ × Sort)) (k : ℕ) (x : Sort) → is_declared sorts d ≡ false → sort_at sorts k ≡ Some x → sort_at (declare sorts d) k ≡ Some x
 declare_kept sorts None k x new is = is
 declare_kept sorts (Some d) k x new is = set_kept sorts d.0 k d.1 x new is
@@ -135,10 +130,5 @@ module _ (words : List (List ℕ)) (sorts : List (Option Sort)) where
       (all_named limit (behind e s) list f (ys ++ adaptives words sorts s) chain.1 (named_behind e s ys all))
 
 -- in front of the first line
-pub nothing_there : (n k : ℕ) → sort_at (replicate n None) k ≡ None
-nothing_there zero k = refl
-nothing_there (suc n) zero = refl
-nothing_there (suc n) (suc k) = nothing_there n k
-
 pub none_named : (n : ℕ) → AllNamed (start n) []
-none_named n = (refl, λ k. subst (Names 0 0 []) (sym (nothing_there n k)) tt)
+none_named n = (refl, λ k. subst (Names 0 0 []) (sym (nothing_at n k)) tt)

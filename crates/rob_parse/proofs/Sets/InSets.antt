@@ -1,10 +1,11 @@
 -- A model over written parameters and the model that it is in named sets: each written parameter stands once for each set, and
 -- each statement, row and objective is taken in its set.
-use Rattle.std.proofs.Common.{◌≡◌, ◌≢◌, ℕ, zero, suc, ◌+◌, ◌*◌, ◌/◌, ◌<◌, ◌≤◌, List, [], ◌∷◌, length, map, take, get_or, max, refl, sym, ap, ◌∙◌, subst, arith, length-append, suc-mul, zero-mul, div-one}
+use Rattle.std.proofs.Common.{◌≡◌, ◌≢◌, ℕ, zero, suc, ◌+◌, ◌*◌, ◌/◌, ◌<◌, ◌≤◌, List, [], ◌∷◌, length, map, take, get_or, max, refl, sym, ap, ◌∙◌, subst, arith, length-append, suc-mul, div-one}
 use Rattle.std.specs.List.{flat_map}
 use Rattle.std.proofs.Math.Nat.{mul-div_cancel_left, mul-le-mul_right}
 use Rattle.std.proofs.Math.Seq.{take-append_seam}
 use Rattle.std.proofs.lemmas.List.{length-map}
+use Rattle.rob_meaning.proofs.AdmittedLemmas.{length-later}
 use Rattle.rob_meaning.specs.Degrees as degrees
 use Rattle.rob_meaning.specs.Degrees.{IsLinear, AreLinear, FactorsLinear}
 use Rattle.rob_meaning.specs.Expressions.{Expression, Terms, Factors, number, parameter, variable, adaptive, adaptive_in, sum, product, no_terms, term, no_factors, factor}
@@ -16,18 +17,11 @@ use Rattle.rob_meaning.specs.WellFormed.{FactorsInside, FactorsOf, IsExpression,
 use Rattle.rob_parse.specs.Models.{adaptive_taken, each_taken, factors_taken, in_sets, line_taken, member_taken, row_taken, taken, terms_taken}
 
 -- ---- the joint parameters
-length_copies : (ps : List Parameter) (sets : List (List ℕ)) → length (flat_map (λ set. map (in_set set) ps) sets) ≡ length sets * length ps
-length_copies ps [] = sym (zero-mul (length ps))
-length_copies ps (s ∷ sets) =
-    length-append (map (in_set s) ps) (flat_map (λ set. map (in_set set) ps) sets)
-    ∙ (let e : length (map (in_set s) ps) + length (flat_map (λ set. map (in_set set) ps) sets) ≡ suc (length sets) * length ps
-    = omega (arith, length-map ps (in_set s), length_copies ps sets, suc-mul (length sets) (length ps)) in e)
-
 pub length_joint : (ps : List Parameter) (sets : List (List ℕ)) → length (joint_parameters ps sets) ≡ suc (length sets) * length ps
 length_joint ps sets =
     length-append ps (flat_map (λ set. map (in_set set) ps) sets)
     ∙ (let e : length ps + length (flat_map (λ set. map (in_set set) ps) sets) ≡ suc (length sets) * length ps
-    = omega (arith, length_copies ps sets, suc-mul (length sets) (length ps)) in e)
+    = omega (arith, length-later ps sets, suc-mul (length sets) (length ps)) in e)
 
 -- a written parameter in a set is a joint one
 pub joint_inside : (p n S k : ℕ) → k < p → S < n → S * p + k < n * p

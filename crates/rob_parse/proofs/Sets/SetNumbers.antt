@@ -12,7 +12,8 @@ use Rattle.rob_parse.specs.Models.{line_sets, objective_set, row_sets, rows, set
 use Rattle.rob_rules.specs.Chains.{Chain}
 use Rattle.rob_rules.specs.Scopes.{Earlier, behind, start}
 use Rattle.rob_parse.proofs.Building.ModelLemmas.{each_flat}
-use Rattle.rob_parse.proofs.Names.SortLemmas.{nothing_there, set_cases}
+use Rattle.rob_rules.proofs.GrowingLemmas.{nothing_at}
+use Rattle.rob_parse.proofs.Names.SortLemmas.{set_cases}
 
 -- the number of each set is at most the number of sets
 abbrev pub AreCounted : Earlier → Type 0
@@ -43,7 +44,7 @@ counted_all limit words e (s ∷ list) f chain all =
     counted_all limit words (behind e s) list f chain.1 (counted_behind e s all)
 
 pub counted_start : (words : ℕ) → AreCounted (start words)
-counted_start words k = subst (λ (o : Option Sort). set_number o ≤ 0) (sym (nothing_there words k)) (omega arith)
+counted_start words k = subst (λ (o : Option Sort). set_number o ≤ 0) (sym (nothing_at words k)) (omega arith)
 
 module _ (sorts : List (Option Sort)) (n : ℕ) (all : (k : ℕ) → set_number (sort_at sorts k) ≤ n) where
   pub set_there : (over : Option ℕ) → set_at sorts over < suc n

@@ -33,7 +33,8 @@ use Rattle.rob_round_trip.proofs.Faultless.CanonicalScopes.{Kept, canonical_sort
 use Rattle.rob_round_trip.proofs.Faultless.CanonicalWalk.{Walk, walk_both, walk_pair, walk_statements, each_walk, IsNewThere, IsFirstGoal, kept_to_end}
 use Rattle.rob_parse.proofs.Sizes.StatementSizes.{added, sizes_are}
 use Rattle.rob_round_trip.proofs.Faultless.CanonicalSizes.{counts_within, written_counts, written_sizes}
-use Rattle.rob_round_trip.proofs.Faultless.Clear.{behind_all, AreClear}
+use Rattle.rob_rules.specs.Stages.{behind_all}
+use Rattle.rob_round_trip.proofs.Faultless.Clear.{AreClear}
 use Rattle.rob_round_trip.proofs.Faultless.ClearProducts.{statement_products}
 use Rattle.rob_parse.proofs.Degrees.DegreeLemmas.{EachName, Clean, Stands}
 use Rattle.rob_round_trip.proofs.Faultless.FaultlessLines.{free_expressions, each_flat_apart, IsLinearStatement, linear_statement, names_behind, counts_behind, IsRight, right_follow, StaysWithin, within_walk}

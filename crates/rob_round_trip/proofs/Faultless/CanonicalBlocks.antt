@@ -24,7 +24,8 @@ use Rattle.rob_syntax.specs.Symbols.{number_of}
 use Rattle.rob_round_trip.proofs.Faultless.CanonicalScopes.{AreFresh, Kept, behind_sets, kept_more, noted, numbered, sets_declared, sets_stand, kept_noted, AllFresh, all_fresh, behind_parameters, behind_variables, behind_adaptives, canonical_sorts, no_sorts, variables_declared, parameters_known, all_known}
 use Rattle.rob_round_trip.proofs.Faultless.SaidLines.{parameter_said, declared_set_said, variable_said, set_said, adaptive_said, row_said}
 use Rattle.rob_round_trip.proofs.Faultless.CanonicalWalk.{Walk, walk_append, walk_kind, IsNewThere, IsFirstGoal, Block, block, plain_block}
-use Rattle.rob_round_trip.proofs.Faultless.Clear.{behind_all, AreClear}
+use Rattle.rob_rules.specs.Stages.{behind_all}
+use Rattle.rob_round_trip.proofs.Faultless.Clear.{AreClear}
 use Rattle.rob_round_trip.proofs.Faultless.ClearStatements.{answer_of, declared_set_clear, parameter_clear, variable_clear, set_clear, adaptive_clear, goal_clear, row_clear}
 use Rattle.rob_round_trip.proofs.ReadBack.LinesText.{rows_declarable}
 use Rattle.rob_round_trip.proofs.Faultless.CanonicalParts.{behind_append, goal_later, GoalIs, no_goal_is, any_each, each_place, set_lines_of, goal_line_of, row_lines_of, Parted, joined}

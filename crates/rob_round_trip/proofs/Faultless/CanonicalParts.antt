@@ -13,7 +13,7 @@ use Rattle.rob_rules.specs.Scopes.{Earlier, behind, is_goal}
 use Rattle.rob_syntax.specs.Statements.{IsStatement}
 use Rattle.rob_round_trip.proofs.Faultless.SaidLines.{goal_said}
 use Rattle.rob_round_trip.proofs.Faultless.CanonicalWalk.{statements_apart}
-use Rattle.rob_round_trip.proofs.Faultless.Clear.{behind_all}
+use Rattle.rob_rules.specs.Stages.{behind_all}
 use Rattle.rob_round_trip.proofs.ReadBack.LinesText.{goal_behind}
 
 -- ---- statements behind statements

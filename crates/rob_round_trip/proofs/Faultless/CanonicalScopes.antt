@@ -20,7 +20,8 @@ use Rattle.rob_rules.specs.Scopes.{has_some}
 use Rattle.rob_syntax.specs.Symbols.{number_of}
 use Rattle.rob_round_trip.proofs.Faultless.Clear.{parameters_only}
 use Rattle.rob_parse.proofs.Names.DeclaredLemmas.{IsNew}
-use Rattle.rob_parse.proofs.Names.SortLemmas.{nothing_there, set_kept}
+use Rattle.rob_rules.proofs.GrowingLemmas.{nothing_at}
+use Rattle.rob_rules.proofs.LinkLemmas.{set_kept}
 
 -- ---- declarations: the number of a name, and what it stands for then
 abbrev pub note : List (Option Sort) → ℕ × Sort → List (Option Sort)
@@ -254,7 +255,7 @@ module _ (words : List (List ℕ)) (m : RobustModel) where
         fresh_from no_sorts _
         (subst (Each P) (sym numbers_of_names) (each_mapped P (number_of words) names
         (each_map IsSound (λ n. P (number_of words n)) (λ n s. (
-          ap is_some (nothing_there (length words) (number_of words n)),
+          ap is_some (nothing_at (length words) (number_of words n)),
           omega (
             arith,
             inside_words words (number_of words n) (subst IsWord (sym s.0.word_is) s.1.is_word),

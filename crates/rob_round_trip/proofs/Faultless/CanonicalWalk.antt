@@ -15,7 +15,7 @@ use Rattle.rob_rules.specs.Sizes.{counted}
 use Rattle.rob_syntax.specs.Statements.{IsStatement}
 use Rattle.rob_syntax.specs.Symbols.{number_of}
 use Rattle.rob_round_trip.proofs.Faultless.CanonicalScopes.{note, noted, AreFresh, Kept, kept_more, numbered}
-use Rattle.rob_round_trip.proofs.Faultless.Clear.{behind_all}
+use Rattle.rob_rules.specs.Stages.{behind_all}
 use Rattle.rob_parse.proofs.Names.SortLemmas.{declare_kept}
 
 -- ---- lines, statements, and what is known in front of each

@@ -1,5 +1,5 @@
 -- What a statement must keep to have no fault, part by part.
-use Rattle.std.proofs.Common.{◌≡◌, ℕ, false, List, [], fold}
+use Rattle.std.proofs.Common.{◌≡◌, ℕ, false, List, []}
 use Rattle.std.specs.Prelude.{◌&&◌, Option}
 use Rattle.std.specs.List.{list_any}
 use Rattle.rob_rules.specs.declared.sort.Sort.{Sort}
@@ -7,11 +7,6 @@ use Rattle.rob_syntax.specs.declared.syntax.Statement.{Statement}
 use Rattle.rob_write.specs.Canonical.{Naming}
 use Rattle.rob_rules.specs.Faults.{has_twice, has_zero_divisor, is_certain, is_listing, is_of_set, is_over, is_over_none, is_unknown, names_decision, over_of}
 use Rattle.rob_rules.specs.Leaves.{members_of, statement_leaves}
-use Rattle.rob_rules.specs.Scopes.{Earlier, behind}
-
--- what is known behind some statements
-abbrev pub behind_all : Earlier → List Statement → Earlier
-behind_all e list = fold behind e list
 
 -- the parameters' names alone
 abbrev pub parameters_only : Naming → Naming

@@ -31,7 +31,7 @@ use Rattle.rob_syntax.specs.Trees.{tree_of}
 use Rattle.rob_round_trip.proofs.Faultless.CanonicalParts.{GoalIs}
 use Rattle.rob_round_trip.proofs.Faultless.CanonicalWalk.{Walk}
 use Rattle.rob_round_trip.proofs.Faultless.CanonicalSizes.{within_front}
-use Rattle.rob_round_trip.proofs.Faultless.Clear.{behind_all}
+use Rattle.rob_rules.specs.Stages.{behind_all}
 use Rattle.rob_parse.proofs.Sizes.CountLemmas.{Counts, counts_none, counts_more}
 use Rattle.rob_parse.proofs.Degrees.DegreeLemmas.{EachName}
 use Rattle.rob_syntax.proofs.OneReading.KindDecisions.{some_symbols}

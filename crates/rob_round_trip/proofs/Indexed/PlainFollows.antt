@@ -18,7 +18,7 @@ use Rattle.rob_index.specs.Statements.{Indexed, Tree}
 use Rattle.rob_index.specs.Symbols as is
 use Rattle.rob_meaning.specs.Named.{AreDistinct}
 use Rattle.rob_meaning.specs.Places.{Each}
-use Rattle.rob_parse.proofs.Names.DeclaredLemmas.{declare_length}
+use Rattle.rob_rules.proofs.WidenedLemmas.{declare_length}
 use Rattle.rob_parse.proofs.Names.NamedLemmas.{IsSound}
 use Rattle.rob_parse.proofs.Names.WordSetLemmas.{In, in_place, number_found, one_number}
 use Rattle.rob_parse.specs.Models.{word_of}

@@ -27,13 +27,15 @@ use Rattle.rob_rules.specs.Texts.{Reads}
 use Rattle.rob_rules.specs.Scopes.{Earlier, behind, declare, declared_by, has_some, start}
 use Rattle.rob_rules.specs.Sizes.{counted, start_sizes}
 use Rattle.rob_syntax.specs.Symbols.{number_of}
-use Rattle.rob_parse.proofs.Names.DeclaredLemmas.{adaptive_names_are, adaptive_numbers, declare_length, flat_names, flat_sets, parameter_names_are, parameter_numbers, row_names_are, row_numbers, set_numbers, variable_names_are, variable_numbers}
+use Rattle.rob_parse.proofs.Names.DeclaredLemmas.{adaptive_names_are, adaptive_numbers, flat_names, flat_sets, parameter_names_are, parameter_numbers, row_names_are, row_numbers, set_numbers, variable_names_are, variable_numbers}
 use Rattle.rob_parse.proofs.Sets.InSets.{names_taken, parameters_are}
 use Rattle.rob_parse.proofs.Names.NamedLemmas.{IsDeclared, declared_so, names_spelled}
 use Rattle.rob_rules.proofs.ReadingLemmas.{none_found}
 use Rattle.rob_parse.proofs.Chains.TextChains.{text_words}
 use Rattle.rob_parse.proofs.Names.ChainLemmas.{reads_chain}
-use Rattle.rob_parse.proofs.Names.SortLemmas.{Names, all_named, kept_behind, neither, none_named, nothing_there, stays}
+use Rattle.rob_parse.proofs.Names.SortLemmas.{Names, all_named, kept_behind, neither, none_named, stays}
+use Rattle.rob_rules.proofs.GrowingLemmas.{nothing_at}
+use Rattle.rob_rules.proofs.WidenedLemmas.{declare_length}
 use Rattle.rob_parse.proofs.Names.WordSetLemmas.{in_place, number_found, one_number}
 use Rattle.rob_round_trip.proofs.Written.DeclarableLines.{name_read}
 use Rattle.rob_round_trip.proofs.Known.NamedThings.{IsDeclaredIn, IsThing, things, declared_in, found_at, depends_same}
@@ -315,4 +317,4 @@ module _ (limit : ℕ) (text : List ℕ) (words : List (List ℕ)) (list : List 
       go : IsDeclaredIn start_sizes list k x ⊎ (sort_at (start (length words)).sorts k ≡ Some x)
           → HasByName m (word_of words k) x
       go (inl h) = of_kind k x is (things start_sizes list k x h)
-      go (inr h) = let p = nothing_there (length words) k in cc
+      go (inr h) = let p = nothing_at (length words) k in cc

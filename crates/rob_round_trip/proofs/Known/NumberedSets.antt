@@ -1,7 +1,8 @@
 -- The sets that a text names are numbered from 1.
 use Rattle.std.proofs.Common.{◌≡◌, ℕ, ◌+◌, ◌<◌, ◌⊎◌, inl, inr, List, [], ◌∷◌, length, set, sym, ◌∙◌, subst, arith}
 use Rattle.std.specs.Prelude.{Option, Some}
-use Rattle.rob_parse.proofs.Names.SortLemmas.{nothing_there, set_cases}
+use Rattle.rob_parse.proofs.Names.SortLemmas.{set_cases}
+use Rattle.rob_rules.proofs.GrowingLemmas.{nothing_at}
 use Rattle.rob_round_trip.specs.Lines.{CountsSetsFromOne}
 use Rattle.rob_rules.specs.Chains.{Chain}
 use Rattle.rob_rules.specs.Degrees.{sort_at}
@@ -46,4 +47,4 @@ pub sets_from_one : (limit : ℕ) (words : List (List ℕ)) (list : List Stateme
     → Chain limit words (start (length words)) list f → CountsSetsFromOne f.sorts
 sets_from_one limit words list f chain =
     all_behind limit words (start (length words)) list f chain
-    (λ k S is. let none = nothing_there (length words) k in cc)
+    (λ k S is. let none = nothing_at (length words) k in cc)

@@ -1,36 +1,24 @@
 -- A model that a text reads as: what it has written is what its statements
 -- write, and each part of it is taken in its set.
 use Rattle.std.proofs.Common.{◌≡◌, ℕ, suc, ◌<◌, ◌≤◌, List, length, refl, sym, ap, ◌∙◌, subst}
-use Rattle.std.specs.List.{flat_map}
 use Rattle.rob_meaning.specs.Places.{Each}
 use Rattle.rob_meaning.specs.RobustModel.{RobustModel}
 use Rattle.rob_parse.specs.Modelled.{ReadsModel}
-use Rattle.rob_parse.specs.Models.{goal_in, in_sets, line_sets, line_taken, objective_set, row_sets, row_taken, sets}
+use Rattle.rob_parse.specs.Models.{in_sets, line_taken, row_taken}
 use Rattle.rob_parse.proofs.Sets.InSets.{length-each_taken}
 use Rattle.rob_parse.proofs.Building.ModelLemmas.{well_formed_written, written_by}
-use Rattle.rob_parse.proofs.Building.PlacedLemmas.{of_lines_there, of_objective_there, of_rows_there}
+use Rattle.rob_parse.proofs.Building.PlacedLemmas.{names, of_lines, of_objective, of_rows, of_lines_there, of_objective_there, of_rows_there}
 use Rattle.rob_parse.proofs.Sets.SetNumbers.{lines_beside, rows_beside}
 use Rattle.rob_write.specs.Canonical.{written_model}
 use Rattle.rob_round_trip.specs.Readable.{IsPlaced}
 use Rattle.rob_round_trip.proofs.Written.WrittenBack.{written_is}
 
 module _ (limit : ℕ) (text : List ℕ) (m : RobustModel) (read : ReadsModel limit text m) where
-  abbrev names : List (List ℕ)
-  names = flat_map (sets read.words) read.list
-
-  abbrev of_lines : List ℕ
-  of_lines = flat_map (line_sets read.known.sorts) read.list
-
-  abbrev of_objective : ℕ
-  of_objective = objective_set read.known.sorts (goal_in read.list)
-
-  abbrev of_rows : List ℕ
-  of_rows = flat_map (row_sets read.known.sorts) read.list
-
   pub is_written : 1 ≤ limit → written_model m ≡ written_by limit text m read
   is_written low =
       ap written_model read.model_is
-      ∙ written_is (written_by limit text m read) refl names of_lines of_objective of_rows
+      ∙ written_is (written_by limit text m read) refl (names limit text m read) (of_lines limit text m read)
+      (of_objective limit text m read) (of_rows limit text m read)
       (well_formed_written limit text m low read)
       (lines_beside read.words read.known.sorts read.list)
       (rows_beside read.words read.known.sorts read.list) refl refl refl
@@ -44,12 +32,12 @@ module _ (limit : ℕ) (text : List ℕ) (m : RobustModel) (read : ReadsModel li
     line_sets =
         ap (λ (x : RobustModel). length x.line_sets) read.model_is ∙ lines_beside read.words read.known.sorts read.list
         ∙ sym (length-each_taken (line_taken (length (written_by limit text m read).parameters))
-        (written_by limit text m read).set_lines of_lines)
+        (written_by limit text m read).set_lines (of_lines limit text m read))
         ∙ ap (λ (x : RobustModel). length x.set_lines) (sym read.model_is);
     row_sets =
         ap (λ (x : RobustModel). length x.row_sets) read.model_is ∙ rows_beside read.words read.known.sorts read.list
         ∙ sym (length-each_taken (row_taken (length (written_by limit text m read).parameters))
-        (written_by limit text m read).rows of_rows)
+        (written_by limit text m read).rows (of_rows limit text m read))
         ∙ ap (λ (x : RobustModel). length x.rows) (sym read.model_is);
     of_lines = subst (λ (x : RobustModel). Each (λ S. S < suc (length x.sets)) x.line_sets) (sym read.model_is)
         (of_lines_there limit text m read);

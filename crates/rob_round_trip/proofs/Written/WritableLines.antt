@@ -3,6 +3,7 @@ use Rattle.std.proofs.Common.{◌≡◌, ℕ, zero, suc, ◌^◌, ◌<◌, Bool,
 use Rattle.std.specs.Prelude.{◌==◌, nat_abs, int_lt, pos, if◌then◌else◌, Option, Some, None}
 use Rattle.rob_algebra.specs.Fraction.{Fraction}
 use Rattle.rob_algebra.specs.Width.{Fits}
+use Rattle.rob_meaning.proofs.EachLemmas.{each_append}
 use Rattle.rob_meaning.specs.Expressions as meaning
 use Rattle.rob_meaning.specs.Named.{written_names, variable_names, adaptive_names, row_names, declared_names}
 use Rattle.rob_meaning.specs.Places.{Each}
@@ -18,10 +19,6 @@ use Rattle.rob_syntax.specs.Names.{IsSpelled}
 use Rattle.rob_round_trip.specs.Readable.{IsBound, IsReadable, TermsReadable, FactorsReadable, IsReadableMember, IsReadableSetLine, IsReadableModel}
 
 -- ---- items of lists behind each other
-join : {A : Type 0} (P : A → Type 0) (xs ys : List A) → Each P xs → Each P ys → Each P (xs ++ ys)
-join P [] ys a b = b
-join P (x ∷ xs) ys a b = (a.0, join P xs ys a.1 b)
-
 apart : {A : Type 0} (P : A → Type 0) (xs ys : List A) → Each P (xs ++ ys) → Each P xs × Each P ys
 apart P [] ys h = (tt, h)
 apart P (x ∷ xs) ys h = let r = apart P xs ys h.1 in ((h.0, r.0), r.1)
@@ -40,7 +37,7 @@ abbrev AreFine : List Written → Type 0
 AreFine ws = Each IsWritable ws
 
 both : (xs ys : List Written) → AreFine xs → AreFine ys → AreFine (xs ++ ys)
-both xs ys a b = join IsWritable xs ys a b
+both xs ys a b = each_append IsWritable xs ys a b
 
 -- a name that may be declared may be written
 fine_name : {n : List ℕ} → IsSpelled n → IsWritable (name n)
@@ -248,25 +245,25 @@ module _ (limit : ℕ) (small : limit < 2 ^ 62) (m : RobustModel) (spelled : Eac
       let xs = of_variables m spelled in
       let ys = of_adaptives m spelled in
       let compares = comparison_fine limit small names ps xs ys in
-      join AreFine (map parameter_words w.parameters) _
+      each_append AreFine (map parameter_words w.parameters) _
       (lines_each parameter_words (λ (p : model.Parameter). IsSpelled p.name
       × (IsBound limit p.lower × IsBound limit p.upper))
       (λ p h. (tt, (fine_name h.0, bounds_fine limit small p.lower p.upper h.1.0 h.1.1))) w.parameters
       (pair_each (λ (p : model.Parameter). IsSpelled p.name) _ w.parameters
       (named_each IsSpelled (λ (p : model.Parameter). p.name) w.parameters ps) parts.parameters))
-      (join AreFine (map declared_set_words m.sets) _
+      (each_append AreFine (map declared_set_words m.sets) _
       (lines_each declared_set_words IsSpelled (λ n h. (tt, (fine_name h, tt))) m.sets (of_sets m spelled))
-      (join AreFine (lines_over (set_words names) m.sets w.set_lines m.line_sets) _
+      (each_append AreFine (lines_over (set_words names) m.sets w.set_lines m.line_sets) _
       (placed_each (set_words names) m.sets (IsReadableSetLine limit names) (of_sets m spelled)
       (set_fine limit small names ps xs ys) w.set_lines m.line_sets parts.set_lines
       (placed.line_sets ∙ sym (length-map m.set_lines (line_written (written_count m)))) placed.of_lines)
-      (join AreFine (map variable_words m.variables) _
+      (each_append AreFine (map variable_words m.variables) _
       (lines_each variable_words (λ (x : model.Variable). IsSpelled x.name
       × (IsBound limit x.lower × IsBound limit x.upper))
       (λ x h. (tt, (fine_name h.0, bounds_fine limit small x.lower x.upper h.1.0 h.1.1))) m.variables
       (pair_each (λ (x : model.Variable). IsSpelled x.name) _ m.variables
       (named_each IsSpelled (λ (x : model.Variable). x.name) m.variables xs) parts.variables))
-      (join AreFine (map (adaptive_words names) m.adaptives) _
+      (each_append AreFine (map (adaptive_words names) m.adaptives) _
       (lines_each (adaptive_words names)
       (λ (y : model.AdaptiveVariable). IsSpelled y.name
       × (Each (λ k. k < length names.parameters) y.on × (IsBound limit y.lower × IsBound limit y.upper)))

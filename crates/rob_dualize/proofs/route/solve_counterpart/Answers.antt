@@ -9,18 +9,13 @@ use Rattle.rob_dualize.specs.Told.{listed}
 use Rattle.rob_dualize.specs.Wholes.{wholes, counterpart_of}
 use Rattle.rob_dualize.proofs.CounterpartLists.{listed_same, reform_within}
 use Rattle.rob_dualize.proofs.MakingLemmas.{ok_weaker, has_stopped}
-use Rattle.rob_dualize.proofs.Soundness.{elaborated_weaker, forms_sound, set_sound, form_fits, left_fits, right_fits, sense_small}
+use Rattle.rob_dualize.proofs.Soundness.{can_be_told, form_fits, left_fits, right_fits, sense_small}
 use Rattle.rob_dualize.proofs.ToldLemmas.{listed_is}
 use Rattle.rob_dualize.proofs.route.solve_counterpart.Goals as goal
 
 pub solve-requires-clause-ready : goal.solve-requires-clause-ready
 solve-requires-clause-ready g c =
-    let model = elaborated_weaker 4611686018427387903 c.args.forms.now c.args.set.now g.met.N.Exact.limit_high c.requires.model in
-    record {
-      sound_forms = forms_sound c.args.forms.now c.args.set.now model;
-      sound_set = set_sound c.args.forms.now c.args.set.now model;
-      few = c.requires.few;
-    }
+    can_be_told g.N.Exact.limit c.args.forms.now c.args.set.now g.met.N.Exact.limit_high c.requires.model c.requires.few
 
 pub solve-requires-clause-few : goal.solve-requires-clause-few
 solve-requires-clause-few g c =

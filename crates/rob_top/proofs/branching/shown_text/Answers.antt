@@ -37,7 +37,6 @@ unreachable-requires g c =
 
 pub unreachable-requires-in-Behind : goal.unreachable-requires-in-Behind
 unreachable-requires-in-Behind g c =
-    let here = c.in-Behind.ensures.walk (robust g.N.Exact.value c.args.model.now) in
     best_not_behind (robust g.N.Exact.value c.args.model.now) c.args.numbers.now
     (tree_of g.N.Exact.value c.args.tree.now) c.requires.proves
-    c.requires.planned _ here c.in-Behind.ensures.left
+    c.requires.planned _ c.in-Behind.ensures.walk.0 c.in-Behind.ensures.walk.1
