@@ -22,6 +22,7 @@ use Rattle.rob_runs.proofs.ProgressLemmas.{run_cuts}
 use Rattle.rob_runs.proofs.RunCertificates.{read_off_proves}
 use Rattle.rob_dualize.specs.SetSolving.{HasSetCause, IsWideInSet}
 use Rattle.rob_dualize.specs.Solving.{HasScenario}
+use Rattle.rob_cuts.specs.Places.{IsRefusedAfter}
 use Rattle.rob_cuts.specs.Rounds.{cuts_told, RoundFits, TellsRun}
 use Rattle.rob_cuts.specs.Solving.{IsSolution, ComesAfterSet, IsWideAt, HasCause, StopFits}
 use Rattle.rob_cuts.specs.Stops.{StopsWith, stop_after}
@@ -52,6 +53,7 @@ set_cause limit m (Wide place trace) h = by place h.0
       spot = set_row basis p;
       place_is = refl;
       wide = record { run = tt; wide = record { whole = w.whole; row = w.row } };
+      refused = tt;
       after = refl;
     }
     by other w = absurd w
@@ -82,6 +84,7 @@ module _ (m : RobustModel) (rounds : List Told) (t : TellsRun m rounds) where
     spot = h.0;
     place_is = h.2;
     wide = record { run = t.run; wide = subst (λ (cs : List Cut). IsWideAfter limit m cs h.0) (trace_is m rounds t) h.3 };
+    refused = subst (λ (cs : List Cut). IsRefusedAfter limit m cs h.0) (trace_is m rounds t) h.4;
     after = after_set m t.trace h.0 h.1 n;
   }
   cause_is limit Memory n h = tt

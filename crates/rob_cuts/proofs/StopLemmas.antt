@@ -18,10 +18,10 @@ use Rattle.rob_counterpart.specs.Counterpart.{cell}
 use Rattle.rob_runs.specs.Cuts.{Cut}
 use Rattle.rob_runs.specs.Runs.{Round, boundless, best, IsRound, CutsOff}
 use Rattle.rob_runs.specs.Searches.{search_at}
-use Rattle.rob_runs.specs.Spots.{RunSpot, master_row, search_row, clearing, cost, cut_clearing, cut_sum, LooksAt, ComesTo, SomeWide, IsWideCleared, IsWideCost, HasWidePrefix, TellsWideRow, IsWideAfter, cut_term}
-use Rattle.rob_worst.specs.Finding.{IsWideAt}
+use Rattle.rob_runs.specs.Spots.{RunSpot, master_row, search_row, clearing, cost, cut_clearing, cut_sum, LooksAt, ComesTo, SomeWide, IsWideCleared, IsWideCost, HasWidePrefix, TellsWideRow, IsWideAfter, IsWideSearch, cut_term}
+use Rattle.rob_worst.specs.Finding.{IsRefusedRow, IsWideAt}
 use Rattle.rob_cuts.specs.Master.{cut_product}
-use Rattle.rob_cuts.specs.Places.{spot_told}
+use Rattle.rob_cuts.specs.Places.{spot_told, IsRefusedAfter}
 use Rattle.rob_cuts.specs.Rounds.{cut_of, cuts_told}
 use Rattle.rob_cuts.specs.Scans.{IsWideCut, IsScanStopped}
 use Rattle.rob_cuts.specs.Stops.{StopsWith, IsInSum}
@@ -55,42 +55,47 @@ looks_round m cuts false z (inr l) c o = (
 module _ (limit : ℕ) (m : RobustModel) (cuts : List Cut) where
   -- the place is one of the next round, where a number is wide
   abbrev pub IsWideThere : Spot → Type 0
-  IsWideThere place = (spot : RunSpot) × IsOfRound spot × (place ≡ spot_told spot) × IsWideAfter limit m cuts spot
+  IsWideThere place =
+      (spot : RunSpot) × IsOfRound spot × (place ≡ spot_told spot) × IsWideAfter limit m cuts spot
+      × IsRefusedAfter limit m cuts spot
 
   module _ (by_step : Bool) (z : List Fraction) (looks : LooksAt m cuts by_step z) where
     -- of a search
+    row_wide : (step : Bool) (f g : ℕ) (basis : List ℕ) (p : ℕ) → ComesTo m z f
+        → IsWideSearch limit m by_step f z (search_row step g basis p)
+        → IsWideAfter limit m cuts (search_row step g basis p)
+    row_wide step f g basis p comes w = (
+      z,
+      subst (λ (b : Bool). LooksAt m cuts b z) (sym w.0) looks,
+      subst (ComesTo m z) (sym w.1) comes,
+      subst (λ (i : ℕ). TellsWideRow limit (search_at m i z) basis p) (sym w.1) w.2,
+    )
+
+    row_refused : (step : Bool) (f g : ℕ) (basis : List ℕ) (p : ℕ) → ComesTo m z f
+        → IsWideSearch limit m by_step f z (search_row step g basis p) × IsRefusedRow limit (search_at m f z) basis p
+        → IsRefusedAfter limit m cuts (search_row step g basis p)
+    row_refused step f g basis p comes w = (
+      z,
+      subst (λ (b : Bool). LooksAt m cuts b z) (sym w.0.0) looks,
+      subst (ComesTo m z) (sym w.0.1) comes,
+      subst (λ (i : ℕ). IsRefusedRow limit (search_at m i z) basis p) (sym w.0.1) w.1,
+    )
+
     search_place : (f : ℕ) → ComesTo m z f → (place : Spot) → IsWideAt limit m by_step f z place → IsWideThere place
-    search_place f comes (spot.Dictionary (program.SearchPlan g) basis p) w = (
-      search_row false g basis p,
-      tt,
-      refl,
-      (
-        z,
-        subst (λ (b : Bool). LooksAt m cuts b z) (sym w.0) looks,
-        subst (ComesTo m z) (sym w.1) comes,
-        subst (λ (i : ℕ). TellsWideRow limit (search_at m i z) basis p) (sym w.1) w.2,
-      ),
-    )
-    search_place f comes (spot.Dictionary (program.SearchMove g) basis p) w = (
-      search_row true g basis p,
-      tt,
-      refl,
-      (
-        z,
-        subst (λ (b : Bool). LooksAt m cuts b z) (sym w.0) looks,
-        subst (ComesTo m z) (sym w.1) comes,
-        subst (λ (i : ℕ). TellsWideRow limit (search_at m i z) basis p) (sym w.1) w.2,
-      ),
-    )
+    search_place f comes (spot.Dictionary (program.SearchPlan g) basis p) w =
+        (search_row false g basis p, tt, refl, row_wide false f g basis p comes w.0, row_refused false f g basis p comes w)
+    search_place f comes (spot.Dictionary (program.SearchMove g) basis p) w =
+        (search_row true g basis p, tt, refl, row_wide true f g basis p comes w.0, row_refused true f g basis p comes w)
     search_place f comes (spot.Clearing of.Plan) w =
-        (clearing false, tt, refl, (z, subst (λ (b : Bool). LooksAt m cuts b z) (sym w.0) looks, w.1))
+        (clearing false, tt, refl, (z, subst (λ (b : Bool). LooksAt m cuts b z) (sym w.0) looks, w.1), tt)
     search_place f comes (spot.Clearing of.Move) w =
-        (clearing true, tt, refl, (z, subst (λ (b : Bool). LooksAt m cuts b z) (sym w.0) looks, w.1))
+        (clearing true, tt, refl, (z, subst (λ (b : Bool). LooksAt m cuts b z) (sym w.0) looks, w.1), tt)
     search_place f comes (spot.Sum (of.Cost g) k) w = (
       cost g k,
       tt,
       refl,
       (by_step, z, looks, subst (ComesTo m z) (sym w.0) comes, subst (λ (i : ℕ). IsWideCost limit m i k z) (sym w.0) w.1),
+      tt,
     )
     search_place f comes other w = absurd w
 
@@ -107,6 +112,7 @@ module _ (limit : ℕ) (m : RobustModel) (cuts : List Cut) where
             ap (λ (d : Cut). d.form) round.2 ∙ w.1,
             subst (λ (d : Cut). SomeWide limit (d.base ∷ d.vector)) (sym round.2) w.4,
           ),
+          tt,
         )
 
     scan_place : (place : Spot) → (f : ℕ) × ComesTo m z f × (IsWideAt limit m by_step f z place ⊎ IsWideCut limit m f z place) → IsWideThere place
@@ -120,12 +126,12 @@ module _ (limit : ℕ) (m : RobustModel) (cuts : List Cut) where
 
   -- of the direction that is cleared
   pub step_place : (place : Spot) (z : List Fraction) → LooksAt m cuts true z → IsWideCleared limit z → place ≡ spot.Clearing of.Move → IsWideThere place
-  step_place place z looks w e = (clearing true, tt, e, (z, looks, w))
+  step_place place z looks w e = (clearing true, tt, e, (z, looks, w), tt)
 
   -- of the master
   pub master_place : (place : Spot) (basis : List ℕ) (i : ℕ) → IsWideAfter limit m cuts (master_row basis i)
       → place ≡ spot.Dictionary program.Master basis i → IsWideThere place
-  master_place place basis i w e = (master_row basis i, tt, e, w)
+  master_place place basis i w e = (master_row basis i, tt, e, w, tt)
 
 -- ---- of a cut's sums
 product_same : (m : RobustModel) (forms : Forms) → IsForms m forms → (c : Cut) (j : ℕ) → cut_product forms c j ≡ cut_term m c j
@@ -152,4 +158,5 @@ sum_place limit m forms f rounds round next place w =
               (subst (λ (n : ℕ). HasWidePrefix limit n (cut_product forms (cut_of round) w.0)) rows w.3)),
         ),
       ),
+      tt,
     )

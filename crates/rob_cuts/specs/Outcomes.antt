@@ -22,7 +22,7 @@ use Rattle.rob_worst.specs.Finders.{IsFinder}
 use Rattle.rob_worst.specs.declared.finder.Finder.{Finder}
 use Rattle.rob_cuts.specs.declared.round.Outcome.{Outcome}
 use Rattle.rob_cuts.specs.declared.round.Outcome.TheVariants as outcome
-use Rattle.rob_cuts.specs.Places.{spot_told}
+use Rattle.rob_cuts.specs.Places.{spot_told, IsRefusedAfter}
 use Rattle.rob_cuts.specs.Rounds.{round_told, cut_of, cuts_told, CutFits}
 use Rattle.rob_cuts.specs.Stops.{StopsWith}
 
@@ -46,12 +46,12 @@ abbrev pub IsOfRound : RunSpot → Type 0
 IsOfRound (set_row basis i) = ⊥
 IsOfRound other = ⊤
 
--- the number at the place is wide in the round that comes next
+-- the number at the place is wide in the round that comes next; a search's row is one for which it is refused
 abbrev pub IsWideNext : ℕ → RobustModel → List Told → Stop → Type 0
 IsWideNext limit m rounds stop =
     StopsWith
     (λ place. (spot : RunSpot) × IsOfRound spot × (place ≡ spot_told spot)
-    × IsWideAfter limit m (cuts_told rounds) spot)
+    × IsWideAfter limit m (cuts_told rounds) spot × IsRefusedAfter limit m (cuts_told rounds) spot)
     stop
 
 -- a further round, or the end

@@ -19,7 +19,7 @@ use Rattle.rob_dualize.specs.Solving.{HasScenario, IsLastScenario, TellsEmpty}
 use Rattle.rob_runs.specs.Readings.{IsReadOff}
 use Rattle.rob_runs.specs.Runs.{Round, IsRun, trace_cuts, IsFinished}
 use Rattle.rob_runs.specs.Spots.{RunSpot, set_row, IsWideInRun}
-use Rattle.rob_cuts.specs.Places.{spot_told}
+use Rattle.rob_cuts.specs.Places.{spot_told, IsRefusedAfter}
 use Rattle.rob_cuts.specs.Rounds.{round_told, RoundFits}
 
 -- the forms and the set rows are those of one well formed model, which is not told
@@ -44,13 +44,15 @@ abbrev pub ComesAfterSet : RobustModel → List Round → RunSpot → Type 0
 ComesAfterSet m trace (set_row basis i) = trace ≡ []
 ComesAfterSet m trace other = HasScenario m
 
--- the rounds are a run, and the number at the place is wide in its next round
+-- the rounds are a run, and the number at the place is wide in its next round; a search's row is one for which it is
+-- refused
 pub record IsWideAt (limit : ℕ) (m : RobustModel) (place : Spot) (told : List Told) : Type 0 where
   pub trace : List Round
   pub rounds : told ≡ map round_told trace
   pub spot : RunSpot
   pub place_is : place ≡ spot_told spot
   pub wide : IsWideInRun limit m trace spot
+  pub refused : IsRefusedAfter limit m (trace_cuts trace) spot
   pub after : ComesAfterSet m trace spot
 
 -- each refusal with what stands behind it; memory is free

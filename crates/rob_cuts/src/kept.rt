@@ -5,9 +5,9 @@ ghost use Rattle.std.specs.Bool.{Decides};
 ghost use Rattle.rob_algebra.specs.Fraction.{of_int, ◌+ℚ◌, ◌≤ℚ◌};
 ghost use Rattle.rob_meaning.specs.Places.{0ℚ};
 
-use crate::numbers::{long_product, long_sum};
 use rob_cert::Cover;
 use rob_number::{Exact, List};
+use rob_worst::sums::{long_product, long_sum};
 
 /// What shows that all forms are kept: covers, as often as the scale says.
 #[derive(Debug, Drop)]

@@ -4,48 +4,35 @@ ghost use Rattle.std.specs.Prelude.{◌≡◌, ◌≤◌, ◌<◌, ◌++◌, ◌
 ghost use Rattle.rob_rows.specs.LinearPrograms.{HasNumbersWithin};
 ghost use Rattle.rob_rows.specs.PrimitiveParts.{IsWithin};
 ghost use Rattle.rob_dualize.specs.Wholes.{AreSound};
-ghost use Rattle.rob_cuts.specs.Master.{cut_row, plan_cost, IsMasterList, AddsCut};
+ghost use Rattle.rob_cuts.specs.Master.{cut_row, IsMasterList, AddsCut};
 ghost use Rattle.rob_cuts.specs.Rounds.{cut_of, CutFits};
 ghost use Rattle.rob_cuts.specs.Stops.{StopsWith, IsInSum};
 
 use crate::numbers::number;
 use crate::stop::wide;
 use rob_cert::{Round, Stop};
-use rob_dualize::entries::turned;
+use rob_dualize::entries::cost_number;
 use rob_dualize::stop::or_stop;
 use rob_elab::Forms;
-use rob_model::{Sense, Spot, Where};
+use rob_model::{Spot, Where};
 use rob_number::{Exact, List, Memory};
 use rob_rows::Lp;
-use rob_worst::cost::push_pair;
+use rob_sets::SetForm;
+use rob_worst::sums::push_pair;
 use std::alloc::Global;
 
 /// The master over no cuts: it has a pair of columns for each decision column and for `tau`, and no row.
-pub fn without_cuts(alloc: Global, forms: &Forms) -> Result<Lp, Memory>
+pub fn without_cuts(alloc: Global, forms: &Forms, set: &SetForm) -> Result<Lp, Memory>
     ensures master { IfOk result (λ lp. IsMasterList forms.now [] lp) }
     ensures within { IfOk result (λ lp. (limit : ℕ) → 1 ≤ limit → HasNumbersWithin limit lp) }
 {
     let mut c = List::new(alloc);
     for k in 0..2 * (forms.columns as usize + 1) {
-        c.push(cost(forms, k))?;
+        c.push(cost_number(forms, set, k))?;
     }
     let a = List::new(alloc);
     let b = List::new(alloc);
     Ok(Lp { a, b, c })
-}
-
-/// What column k counts in what is maximised: `tau` as the sense says, and no other column.
-fn cost(forms: &Forms, k: usize) -> i64
-    ensures number { result ≡ plan_cost forms.now k }
-    ensures small { nat_abs result ≤ 2 ^ 62 - 1 }
-{
-    if k / 2 != forms.columns as usize {
-        return 0;
-    }
-    match forms.sense {
-        Sense::Minimise => turned(k, -1),
-        Sense::Maximise => turned(k, 1),
-    }
 }
 
 /// Appends the row of a cut to the master. It stops where a prefix of the sum of a number of the cut is over the limit;

@@ -81,8 +81,8 @@ module _ (limit : ℕ) (m : RobustModel) (form : ℕ) (z : List Fraction) (some 
   is_form f e = subst (λ i. i < length (forms m)) (sym e) some
 
   search_spot : (place : Spot) → IsWideAt limit m false form z place → IsSpotOf m place
-  search_spot (spot.Dictionary (program.SearchPlan f) basis i) h = is_form f h.1
-  search_spot (spot.Dictionary (program.SearchMove f) basis i) h = is_form f h.1
+  search_spot (spot.Dictionary (program.SearchPlan f) basis i) h = is_form f h.0.1
+  search_spot (spot.Dictionary (program.SearchMove f) basis i) h = is_form f h.0.1
   search_spot (spot.Dictionary program.Set basis i) h = absurd h
   search_spot (spot.Dictionary program.Reform basis i) h = absurd h
   search_spot (spot.Dictionary program.Master basis i) h = absurd h

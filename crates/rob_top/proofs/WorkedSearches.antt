@@ -119,8 +119,8 @@ none_in_cost (suc (suc k)) (l, h) = omega (arith, l)
 
 none_in_search : (place : Spot) → IsWideAt greatest one_demand false 0 at_plan place → ⊥
 none_in_search (spot.Dictionary (program.SearchPlan f) basis p) h =
-    narrow_path greatest (search_at one_demand 0 at_plan) search_narrow (basic_columns basis) p h.2.row
-none_in_search (spot.Dictionary (program.SearchMove f) basis p) h = (let e : true ≡ false = h.0 in cc)
+    narrow_path greatest (search_at one_demand 0 at_plan) search_narrow (basic_columns basis) p h.0.2.row
+none_in_search (spot.Dictionary (program.SearchMove f) basis p) h = (let e : true ≡ false = h.0.0 in cc)
 none_in_search (spot.Clearing where_at.Plan) h = none_cleared h.1
 none_in_search (spot.Clearing where_at.Move) h = (let e : true ≡ false = h.0 in cc)
 none_in_search (spot.Sum (where_at.Cost f) k) h = none_in_cost k h.1

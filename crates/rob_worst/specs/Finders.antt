@@ -1,5 +1,5 @@
 -- What a finder holds, and how a search on it ends.
-use Rattle.std.specs.Prelude.{◌≡◌, ◌<◌, ℕ, ℤ, Bool, List, length, ⊤}
+use Rattle.std.specs.Prelude.{◌≡◌, ◌<◌, ℕ, ℤ, Bool, List, length}
 use Rattle.rob_algebra.specs.Fraction.{Fraction}
 use Rattle.rob_linear.specs.Vectors.{Columns, at}
 use Rattle.rob_linear.specs.Programs.{Program, with_cost}
@@ -8,8 +8,6 @@ use Rattle.rob_meaning.specs.Forms.{matrices, form_columns}
 use Rattle.rob_meaning.specs.RobustModel.{RobustModel}
 use Rattle.rob_counterpart.specs.SamePrograms.{AreSame}
 use Rattle.rob_number.specs.declared.lp_kind.LpKind.{LpKind}
-use Rattle.rob_cert.specs.declared.ending.Stop.{Stop}
-use Rattle.rob_cert.specs.declared.ending.Stop.TheVariants.{EmptySet, Wide, Memory}
 use Rattle.rob_cert.specs.declared.ending.Worst.{Worst}
 use Rattle.rob_sets.specs.SetForm.{IsSetForm}
 use Rattle.rob_sets.specs.declared.set_form.SetForm.{SetForm}
@@ -17,11 +15,8 @@ use Rattle.rob_simplex.specs.Endings.{HasAnswered}
 use Rattle.rob_simplex.specs.Resuming.{HasResumed, HasStoppedFrom, IsCausedFrom}
 use Rattle.rob_simplex.specs.Solvers.{Solver, positions}
 use Rattle.rob_simplex.specs.declared.state.LpStop.{LpStop}
-use Rattle.rob_solver.specs.Depths.{deep_limit}
-use Rattle.rob_dualize.specs.Ending.{StopsAt, position_of}
 use Rattle.rob_dualize.specs.SetSolving.{program_of_set, IsSolved}
 use Rattle.rob_worst.specs.Finding.{Tells}
-use Rattle.rob_worst.specs.Refusals.{program_for}
 use Rattle.rob_worst.specs.Tasks.{IsTaskOf}
 use Rattle.rob_worst.specs.declared.finder.Finder.{Finder}
 use Rattle.rob_worst.specs.declared.task.Task.{Task}
@@ -60,14 +55,6 @@ pub record HasStoppedSearch (limit : ℕ) (Q : Program) (cost : List ℤ) (stop 
   pub rows : program.m ≡ positions s
   pub stopped : HasStoppedFrom limit (with_cost program (at cost)) start stop s
   pub caused : IsCausedFrom limit (with_cost program (at cost)) start stop s
-
--- of rows only those of a solver over deep ones refuse a search: the refusal tells where it stands; memory is free
-abbrev pub IsRefusedDeep : ℕ → Program → Task → Stop → Type 0
-IsRefusedDeep limit Q task (EmptySet weights) = ⊥
-IsRefusedDeep limit Q task (Wide place trace) =
-    (s : Solver) × (stop : LpStop) × (s.limit ≡ deep_limit) × HasStoppedSearch limit Q task.cost stop s
-    × StopsAt s.basis (program_for task.by_step task.form) (position_of stop) (Wide place trace)
-IsRefusedDeep limit Q task Memory = ⊤
 
 -- what is told is what the task asks for, of each model with this set
 abbrev pub TellsTask : {N : Type 0} → (N → Fraction) → SetForm → Task → Worst N → Type 0

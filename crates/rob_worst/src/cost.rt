@@ -1,18 +1,18 @@
 //! The costs of a search: the numbers of a form at a whole vector.
 
-ghost use Rattle.std.specs.Prelude.{◌≡◌, ◌≤◌, ◌<◌, ◌-◌, ◌^◌, suc, ◌+ℤ◌, ◌*ℤ◌, nat_abs, neg_ℤ, length, [], ◌∷◌, ◌++◌, OnOk, MatchOption, MatchResult, ⊤};
-ghost use Rattle.rob_algebra.specs.Width.{IsWideWhole};
+ghost use Rattle.std.specs.Prelude.{◌≡◌, ◌≤◌, ◌<◌, suc, nat_abs, length, MatchOption, MatchResult, ⊤};
 ghost use Rattle.rob_meaning.specs.Places.{Each, tabulate};
 ghost use Rattle.rob_sets.specs.SetProgram.{in_pairs};
 ghost use Rattle.rob_dualize.specs.Wholes.{AreSound};
 ghost use Rattle.rob_worst.specs.Costs.{part_at, column_part, IsWidePart, StopsAtPart};
 
+use crate::sums::{added, push_pair};
 use rob_cert::Stop;
 use rob_dualize::entries::form_number;
 use rob_dualize::stop::wide_at;
 use rob_elab::Forms;
 use rob_model::{Spot, Where};
-use rob_number::{Exact, List, Memory};
+use rob_number::{Exact, List};
 use std::alloc::Global;
 
 /// The costs of all columns: for each set column the form's number at the whole vector, and behind it its negation.
@@ -41,16 +41,6 @@ pub fn costs<N: Exact>(
         push_pair(&mut list, number)?;
     }
     Ok(list)
-}
-
-/// Appends a number and its negation.
-pub fn push_pair(list: &mut List<i64>, number: i64) -> Result<(), Memory>
-    requires small { nat_abs number ≤ 2 ^ 62 - 1 }
-    ensures pair { OnOk result (list.new ≡ list.old ++ number ∷ (neg_ℤ number ∷ [])) }
-{
-    list.push(number)?;
-    list.push(-number)?;
-    Ok(())
 }
 
 /// The form's number for set column c, which is 0 where that is no parameter; none where a prefix of its sum is over
@@ -89,40 +79,4 @@ pub fn part<N: Exact>(forms: &Forms, i: usize, k: usize, whole: &[i64]) -> Optio
         }
     }
     Some(sum)
-}
-
-/// A sum and one product more, or none where that is over the limit.
-fn added<N: Exact>(sum: i64, a: i64, b: i64) -> Option<i64>
-    requires sum { nat_abs sum ≤ 2 ^ 62 - 1 }
-    requires left { nat_abs a ≤ 2 ^ 62 - 1 }
-    requires right { nat_abs b ≤ 2 ^ 62 - 1 }
-    ensures sum { MatchOption result (IsWideWhole N.limit (sum +ℤ (a *ℤ b)))
-        (λ z. (z ≡ sum +ℤ (a *ℤ b)) × (nat_abs z ≤ N.limit)) }
-{
-    let next = long_sum(sum, long_product(a, b));
-    if next.unsigned_abs() <= N::LIMIT as u128 {
-        Some(next as i64)
-    } else {
-        None
-    }
-}
-
-/// The product of two numbers of at most 62 bits.
-fn long_product(a: i64, b: i64) -> i128
-    requires left { nat_abs a < 2 ^ 62 }
-    requires right { nat_abs b < 2 ^ 62 }
-    ensures value { result ≡ a *ℤ b }
-    ensures size { nat_abs result < 2 ^ 124 }
-{
-    a as i128 * b as i128
-}
-
-/// The sum of a number of at most 62 bits and one of at most 124.
-fn long_sum(a: i64, b: i128) -> i128
-    requires left { nat_abs a < 2 ^ 62 }
-    requires right { nat_abs b < 2 ^ 124 }
-    ensures value { result ≡ a +ℤ b }
-    ensures size { nat_abs result < 2 ^ 125 }
-{
-    a as i128 + b
 }

@@ -1,6 +1,6 @@
 //! Searches on one solved program of the set.
 
-ghost use Rattle.std.specs.Prelude.{◌≡◌, ◌<◌, suc, ℕ, Bool, true, false, List, length, IfOk, IfErr, MatchResult};
+ghost use Rattle.std.specs.Prelude.{◌≡◌, ◌<◌, suc, ℕ, Bool, true, false, List, length, IfOk, MatchResult};
 ghost use Rattle.rob_algebra.specs.Fraction.{Fraction};
 ghost use Rattle.rob_meaning.specs.Forms.{matrices, form_columns};
 ghost use Rattle.rob_meaning.specs.RobustModel.{RobustModel};
@@ -13,8 +13,8 @@ ghost use Rattle.rob_sets.specs.declared.set_form.SetForm.{SetForm as SetRows};
 ghost use Rattle.rob_elab.specs.Elaborated.{AreElaborated};
 ghost use Rattle.rob_elab.specs.Forms.{IsForms};
 ghost use Rattle.rob_dualize.specs.Solving.{CountsStop, HasScenario, IsLastScenario};
-ghost use Rattle.rob_dualize.specs.SetSolving.{program_of_set, IsSetOfModel, IsFewSet};
-ghost use Rattle.rob_worst.specs.Finders.{IsFinder, IsRefusedDeep};
+ghost use Rattle.rob_dualize.specs.SetSolving.{IsSetOfModel, IsFewSet};
+ghost use Rattle.rob_worst.specs.Finders.{IsFinder};
 ghost use Rattle.rob_dualize.specs.SetSolving.{HasSetCause};
 ghost use Rattle.rob_worst.specs.Finding.{HasConstantWithin, HasSearchCause, Searches};
 ghost use Rattle.rob_worst.specs.Tasks.{FitsSet, IsTaskOf};
@@ -140,7 +140,6 @@ impl<N: Exact> Finder<N> {
             → (step : Bool) (i : ℕ) → i < length (matrices m) → (z : List Fraction) → length z ≡ form_columns m
             → MatchResult task (IsTaskOf m step i z) (HasSearchCause N.limit m step i z)
             → Searches N.value N.limit m step i z (L.wides ledger.old) (L.wides ledger.new) result }
-        ensures deep { IfOk task (λ task. IfErr result (IsRefusedDeep N.limit (program_of_set set.now) task)) }
         ensures within { IfOk result (HasConstantWithin N.limit) }
         ensures finder { IsFinder set.now self.new }
         ensures counted { NeverFell L.ops L.wides ledger.old ledger.new }

@@ -2,13 +2,14 @@
 //! amounts that show it; or a ray of the set along which it has none.
 #![tactic(auto)]
 
-pub mod cost;
+mod cost;
 pub mod finder;
 mod reading;
 pub mod refusal;
 mod searching;
 mod single;
 pub mod slack;
+pub mod sums;
 mod task;
 pub mod vector;
 

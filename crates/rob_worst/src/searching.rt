@@ -1,6 +1,6 @@
 //! A search, from the last basis of the set's program: on the rows that stand, and on deeper ones where those stop.
 
-ghost use Rattle.std.specs.Prelude.{◌≡◌, ◌<◌, ℕ, Bool, List, length, IfOk, IfErr, MatchResult};
+ghost use Rattle.std.specs.Prelude.{◌≡◌, ◌<◌, ℕ, Bool, List, length, IfOk, MatchResult};
 ghost use Rattle.rob_algebra.specs.Fraction.{Fraction};
 ghost use Rattle.rob_meaning.specs.Forms.{matrices, form_columns};
 ghost use Rattle.rob_meaning.specs.RobustModel.{RobustModel};
@@ -11,7 +11,7 @@ ghost use Rattle.rob_simplex.specs.Solvers.{positions};
 ghost use Rattle.rob_dualize.specs.SetSolving.{program_of_set, IsFewSet, IsSetOfModel, IsSolved};
 ghost use Rattle.rob_dualize.specs.Solving.{CountsStop};
 ghost use Rattle.rob_solver.specs.Depths.{deep_limit};
-ghost use Rattle.rob_worst.specs.Finders.{HasStoppedSearch, IsRefusedDeep, TellsTask};
+ghost use Rattle.rob_worst.specs.Finders.{HasStoppedSearch, TellsTask};
 ghost use Rattle.rob_worst.specs.Finding.{HasConstantWithin, HasSearchCause, Searches};
 ghost use Rattle.rob_worst.specs.Tasks.{FitsSet, IsTaskOf};
 
@@ -77,7 +77,6 @@ pub fn go_deeper<N: Exact, L: Ledger>(
         → (step : Bool) (i : ℕ) → i < length (matrices m) → (z : List Fraction) → length z ≡ form_columns m
         → IsTaskOf m step i z task.now
         → Searches N.value N.limit m step i z (L.wides ledger.old) (L.wides ledger.new) result }
-    ensures deep { IfErr result (IsRefusedDeep N.limit (program_of_set set.now) task.now) }
     ensures within { IfOk result (HasConstantWithin N.limit) }
     ensures counted { NeverFell L.ops L.wides ledger.old ledger.new }
 {
@@ -108,7 +107,6 @@ fn refused<N: Exact, L: Ledger>(
     requires rows { length set.now.rows ≡ positions solver.now }
     requires depth { solver.now.limit ≡ deep_limit }
     requires stopped { HasStoppedSearch N.limit (program_of_set set.now) task.now.cost stop solver.now }
-    ensures deep { IsRefusedDeep N.limit (program_of_set set.now) task.now result }
     ensures cause { (m : RobustModel) → IsSetForm m set.now → (step : Bool) (i : ℕ) → (z : List Fraction)
         → IsTaskOf m step i z task.now → HasSearchCause N.limit m step i z result }
     ensures wides { CountsStop (L.wides ledger.old) (L.wides ledger.new) result }
