@@ -1,98 +1,34 @@
 -- The auxiliary column comes in where a pivot beside it was begun: the rows are then those of the explicit form.
-use Rattle.std.proofs.Common.{◌≡◌, ◌≢◌, ℕ, suc, ◌+◌, ◌<◌, ◌≤◌, sym, refl, ap, ◌∙◌, subst, arith, inl, inr, List, length, set, min}
+use Rattle.std.proofs.Common.{◌≡◌, ◌≢◌, ℕ, zero, suc, ◌+◌, ◌<◌, ◌≤◌, sym, refl, ap, ◌∙◌, subst, arith, inl, inr, List, length, set, min}
 use Rattle.std.proofs.lemmas.Bool.{cases_eq, cases_lt}
 use Rattle.std.proofs.lemmas.Int.{ints}
-use Rattle.std.proofs.lemmas.List.{length-set}
+use Rattle.std.proofs.lemmas.List.{get_or-set_same, get_or-set_other, length-set}
 use Rattle.std.specs.Int.RustNames.{unsigned_abs}
-use lib.IntN.{pos, ◌-ℤ◌, ◌*ℤ◌, neg_ℤ}
+use lib.IntN.{pos, ◌*ℤ◌, neg_ℤ}
 use lib.Signed.{◌<ℤ◌}
 use Rattle.rob_linear.specs.Vectors.{Vector, Columns}
-use Rattle.rob_linear.specs.Systems.{System, IsPrimitive}
+use Rattle.rob_linear.specs.Systems.{IsPrimitive}
 use Rattle.rob_linear.specs.Programs.{Program, auxiliary_row, auxiliary_of, kept_of}
-use Rattle.rob_linear.specs.Turns.{own_of, IsSameBasis}
+use Rattle.rob_linear.specs.Turns.{own_of}
 use Rattle.rob_linear.specs.Paths.{HasAuxiliary, Reached}
-use Rattle.rob_linear.specs.WideRows.{IsWideIn, HasWideRow, NeedsAuxiliary}
+use Rattle.rob_linear.specs.WideRows.{HasWideRow, NeedsAuxiliary}
 use Rattle.rob_linear.specs.Multiples.{IsMultipleRow, IsClearedBy, StandsMultiple}
 use Rattle.rob_linear.specs.Beside.{StandsBeside, IsBackPivot, path_basis}
 use Rattle.rob_linear.proofs.Programs.{auxiliary_cost_zero, auxiliary_cost_entry, auxiliary_cost_objective}
-use Rattle.rob_linear.proofs.Turns.{own_same}
 use Rattle.rob_linear.proofs.OtherCosts.{turned_same}
 use Rattle.rob_linear.proofs.Multiples.{parallel_sym, parallel_positive}
-use Rattle.rob_linear.proofs.Beside.{put_same, put_other}
+use Rattle.rob_linear.proofs.Beside.{put_same}
 use Rattle.rob_linear.proofs.BesideColumns.{holds_stands, stands_multiple_same}
 use Rattle.rob_linear.proofs.BesideLoops.{beside_needs}
 use Rattle.rob_linear.proofs.BesideBack.{begun_stands, begun_wide, begun_cost_wide}
 use Rattle.rob_entries.specs.Updates.{IsWideCleared}
-use Rattle.rob_simplex.specs.Dictionaries.{Table, positions, width_of, columns_of, spare_column, rows_of, kept_row_of, IsFree, IsAlone, IsOpen, ClearsTable, StopsTable}
+use Rattle.rob_simplex.specs.Dictionaries.{Table, positions, width_of, columns_of, spare_column, rows_of, kept_row_of, IsFree, IsAlone, IsOpen, IsClosed, IsPivoted, IsBegunPivot, ClearsTable, StopsTable}
 use Rattle.rob_simplex.specs.Phases.{IsOpenBeside}
-use Rattle.rob_simplex.specs.Explicit.{InExplicit}
+use Rattle.rob_simplex.specs.Explicit.{InExplicit, IsPrepared}
+use Rattle.rob_simplex.proofs.Prepared.{cleared_same, row_of_same, wide_same, set_same_twice}
 use Rattle.rob_simplex.proofs.PivotLemmas.{set_twice, zero_stays, free_opened}
 use Rattle.rob_simplex.proofs.FirstPhase.{set_is, auxiliary_free}
 use Rattle.rob_simplex.proofs.ExplicitTurns.{wide_cleared, wide_primitive, wide_entry}
-
--- the same entries
-cleared_same : (n n' col : ℕ) (low low' top top' new new' : Vector) → n' ≤ n → col < n' → ((k : ℕ) → k < n' → low k ≡ low' k) → ((k : ℕ) → k < n' → top k ≡ top' k) → ((k : ℕ) → k < n' → new' k ≡ new k)
-    → IsClearedBy n col low top new → IsClearedBy n' col low' top' new'
-cleared_same n n' col low low' top top' new new' l cl el et en c = record {
-  divisor = c.divisor;
-  p = c.p;
-  q = c.q;
-  divides = c.divides;
-  positive = c.positive;
-  entries = λ k kl.
-      ap (λ z. c.divisor *ℤ z) (en k kl) ∙ c.entries k (omega arith) ∙ ap (λ z. (c.p *ℤ z) -ℤ (c.q *ℤ top k)) (el k kl)
-      ∙ ap (λ z. (c.p *ℤ low' k) -ℤ (c.q *ℤ z)) (et k kl);
-  cleared = en col cl ∙ c.cleared;
-}
-
--- the same columns
-row_of_same : (S : System) (basis basis' : Columns) (i : ℕ) (r : Vector) → IsSameBasis S.m basis basis' → IsMultipleRow S (own_of S basis) i r → IsMultipleRow S (own_of S basis') i r
-row_of_same S basis basis' i r e h = record {
-  along = record { zeros = λ j jl d. subst (λ v. r v ≡ pos 0) (own_same S basis basis' e j) (h.along.zeros j jl d); spanned = h.along.spanned };
-  positive = subst (λ v. pos 0 <ℤ r v) (own_same S basis basis' e i) h.positive;
-}
-
-wide_same : (limit : ℕ) (S : System) (basis basis' : Columns) (i : ℕ) → IsSameBasis S.m basis basis' → IsWideIn limit S basis i → IsWideIn limit S basis' i
-wide_same limit S basis basis' i e w = (
-  w.0,
-  (λ j jl. subst (λ v. v < S.columns) (e j jl) (w.1 j jl)),
-  record {
-    along = record { zeros = λ j jl d. subst (λ v. w.0 v ≡ pos 0) (own_same S basis basis' e j) (w.2.along.zeros j jl d); spanned = w.2.along.spanned };
-    positive = subst (λ v. pos 0 <ℤ w.0 v) (own_same S basis basis' e i) w.2.positive;
-    primitive = w.2.primitive;
-  },
-  w.3,
-)
-
--- the objective's row is kept, and the auxiliary one stands in its place
-pub record IsPrepared (n m : ℕ) (t t2 : Table) : Type 0 where
-  pub basis : t2.basis ≡ t.basis
-  pub columns : t2.columns ≡ t.columns
-  pub rows : (i c : ℕ) → i < m → rows_of t2 i c ≡ rows_of t i c
-  pub kept : (c : ℕ) → kept_row_of t2 c ≡ rows_of t m c
-  pub auxiliary : rows_of t2 m (n + m) ≡ pos 1
-  pub own : rows_of t2 m (suc (n + m)) ≡ pos 1
-  pub zero_else : (c : ℕ) → c < n + m + 4 → c ≢ n + m → c ≢ suc (n + m) → rows_of t2 m c ≡ pos 0
-
-module _ (t t1 t2 : Table) (k1 : (c : ℕ) → kept_row_of t1 c ≡ rows_of t (positions t) c) (r1 : (i c : ℕ) → i ≤ positions t → rows_of t1 i c ≡ rows_of t i c) (b1 : t1.basis ≡ t.basis) (n1 : t1.columns ≡ t.columns)
-    (a2 : rows_of t2 (positions t1) (t1.columns + positions t1) ≡ pos 1) (o2 : rows_of t2 (positions t1) (suc (t1.columns + positions t1)) ≡ pos 1)
-    (z2 : (c : ℕ) → c < width_of t1 → c ≢ t1.columns + positions t1 → c ≢ suc (t1.columns + positions t1) → rows_of t2 (positions t1) c ≡ pos 0)
-    (r2 : (i c : ℕ) → i < positions t1 → rows_of t2 i c ≡ rows_of t1 i c) (k2 : (c : ℕ) → kept_row_of t2 c ≡ kept_row_of t1 c) (b2 : t2.basis ≡ t1.basis) (n2 : t2.columns ≡ t1.columns) where
-  m1 : positions t1 ≡ positions t
-  m1 = ap length b1
-
-  pub prepared : IsPrepared t.columns (positions t) t t2
-  prepared = record {
-    basis = b2 ∙ b1;
-    columns = n2 ∙ n1;
-    rows = λ i c l. r2 i c (omega (arith, m1)) ∙ r1 i c (omega arith);
-    kept = λ c. k2 c ∙ k1 c;
-    auxiliary = subst (λ n. rows_of t2 (positions t) (n + positions t) ≡ pos 1) n1 (subst (λ m. rows_of t2 m (t1.columns + m) ≡ pos 1) m1 a2);
-    own = subst (λ n. rows_of t2 (positions t) (suc (n + positions t)) ≡ pos 1) n1 (subst (λ m. rows_of t2 m (suc (t1.columns + m)) ≡ pos 1) m1 o2);
-    zero_else =
-        subst (λ n. (c : ℕ) → c < n + positions t + 4 → c ≢ n + positions t → c ≢ suc (n + positions t) → rows_of t2 (positions t) c ≡ pos 0) n1
-        (subst (λ m. (c : ℕ) → c < t1.columns + m + 4 → c ≢ t1.columns + m → c ≢ suc (t1.columns + m) → rows_of t2 m c ≡ pos 0) m1 z2);
-  }
 
 module _ (P : Program) (q : ℕ) (t : Table) (h : IsOpenBeside P q t) where
   q_low : q < P.m
@@ -170,6 +106,13 @@ module _ (P : Program) (q : ℕ) (t : Table) (h : IsOpenBeside P q t) where
     pub ready_positive : pos 0 <ℤ rows_of t2 q x
     ready_positive = subst (λ v. pos 0 <ℤ rows_of t2 q v) (sym x_is) (subst (λ z. pos 0 <ℤ z) (sym (p.rows q (P.n + P.m) q_low)) positive)
 
+    -- the spare column stands at no other position
+    pub ready_apart : (i : ℕ) → i < P.m → i ≢ q → columns_of t2.basis i ≢ spare_column P.n P.m
+    ready_apart i il d y =
+        let e : spare_column P.n P.m ≡ spare_column h.before.columns (positions h.before) = omega (arith, h.stood.rows_are, h.stood.columns_are) in
+        h.stood.closed.free i (omega (arith, h.stood.rows_are))
+        (sym (get_or-set_other h.before.basis q i (spare_column P.n P.m) 0 d) ∙ sym (ap (λ (b : List ℕ). columns_of b i) (p.basis ∙ h.basis)) ∙ y ∙ e)
+
     -- the objective's row is the auxiliary one
     cost_is : (k : ℕ) → k < suc (suc (suc (P.n + P.m))) → rows_of t2 P.m k ≡ auxiliary_row P P.m k
     cost_is k l = elim (cases_eq k (P.n + P.m)) [
@@ -191,109 +134,75 @@ module _ (P : Program) (q : ℕ) (t : Table) (h : IsOpenBeside P q t) where
     kept2 : kept_row_of t2 (spare_column P.n P.m) ≡ pos 0
     kept2 = p.kept (spare_column P.n P.m) ∙ h.zero P.m (omega arith)
 
-    module _ (t3 t4 : Table) (b3 : t3.basis ≡ t2.basis) (n3 : t3.columns ≡ t2.columns) (b4 : t4.basis ≡ set t3.basis q x) (n4 : t4.columns ≡ t3.columns) where
-      m3 : positions t3 ≡ P.m
-      m3 = ap length b3 ∙ m2
+    zero_t : spare_column t2.columns (positions t2) ≡ spare_column P.n P.m
+    zero_t = omega (arith, m2, n2)
+
+    -- ---- the auxiliary column has come in
+    module _ (t4 : Table) (b4 : t4.basis ≡ set t2.basis q x) (n4 : t4.columns ≡ t2.columns) where
+      m4 : positions t4 ≡ P.m
+      m4 = ap length b4 ∙ length-set t2.basis q x ∙ m2
 
       basis_is : (i : ℕ) → path_basis P (columns_of h.before.basis) q i ≡ columns_of t4.basis i
       basis_is i =
           let e : t4.basis ≡ set h.before.basis q (P.n + P.m) =
-          b4 ∙ ap (λ v. set t3.basis q v) x_is ∙ ap (λ (b : List ℕ). set b q (P.n + P.m)) (b3 ∙ p.basis ∙ h.basis) ∙ set_twice h.before.basis q (spare_column P.n P.m) (P.n + P.m) in
+          b4 ∙ ap (λ v. set t2.basis q v) x_is ∙ ap (λ (b : List ℕ). set b q (P.n + P.m)) (p.basis ∙ h.basis) ∙ set_twice h.before.basis q (spare_column P.n P.m) (P.n + P.m) in
           sym (ap (λ (b : List ℕ). columns_of b i) e ∙ set_is h.before.basis q (P.n + P.m) i (omega (arith, h.stood.rows_are, q_low)))
 
       pub path_reached : Reached P (columns_of t4.basis)
       path_reached = (h.stood.reached.0, turned_same P h.stood.reached.0 (path_basis P (columns_of h.before.basis) q) (columns_of t4.basis) (λ i l. basis_is i) h.stood.reached.1)
 
+      -- a cleared row, told by the rows before
+      told : (low low' new : Vector) → ((k : ℕ) → k < suc (suc (suc (P.n + P.m))) → low k ≡ low' k)
+          → IsClearedBy (width_of t2) x low (rows_of t2 q) new → IsClearedBy (suc (suc (suc (P.n + P.m)))) (P.n + P.m) low' (rows_of t q) new
+      told low low' new el c =
+          cleared_same (width_of t2) (suc (suc (suc (P.n + P.m)))) (P.n + P.m) low low' (rows_of t2 q) (rows_of t q) new new (omega (arith, w2)) (omega arith) el (λ k l. p.rows q k q_low) (λ k l. refl)
+          (subst (λ v. IsClearedBy (width_of t2) v low (rows_of t2 q) new) x_is c)
+
       -- ---- all rows are cleared
-      module _ (r4 : IsAlone t3 q x → (i c : ℕ) → i ≤ positions t3 → c < t3.columns + positions t3 + 4 → rows_of t4 i c ≡ rows_of t3 i c)
-          (k4 : kept_row_of t3 x ≡ pos 0 → (c : ℕ) → kept_row_of t4 c ≡ kept_row_of t3 c) (count : ℕ) (count_is : count ≡ positions t + 2) (cl : ClearsTable count t2 t3 q x) where
-        cleared : (i : ℕ) → i ≤ P.m → i ≢ q → IsClearedBy (width_of t2) x (rows_of t2 i) (rows_of t2 q) (rows_of t3 i)
-        cleared i il d = cl.cleared i (omega (arith, open_size, count_is)) (omega (arith, m2)) d
-
-        kept_cleared : IsClearedBy (width_of t2) x (kept_row_of t2) (rows_of t2 q) (kept_row_of t3)
-        kept_cleared = cl.kept (omega (arith, open_size, count_is, m2))
-
-        alone : IsAlone t3 q x
-        alone i il d = (cleared i (omega (arith, m3)) d).cleared
-
-        same4 : (i c : ℕ) → i ≤ P.m → c < suc (suc (suc (suc (P.n + P.m)))) → rows_of t4 i c ≡ rows_of t3 i c
-        same4 i c il l = r4 alone i c (omega (arith, m3)) (omega (arith, m3, n3, n2))
-
-        kept4 : (c : ℕ) → kept_row_of t4 c ≡ kept_row_of t3 c
-        kept4 c = k4 kept_cleared.cleared c
-
-        row_q : (c : ℕ) → c < suc (suc (suc (suc (P.n + P.m)))) → rows_of t4 q c ≡ rows_of t q c
-        row_q c l = same4 q c (omega (arith, q_low)) l ∙ cl.row_stays c ∙ p.rows q c q_low
-
-        -- a cleared row, told by the rows before
-        told : (low low' new new' : Vector) → ((k : ℕ) → k < suc (suc (suc (P.n + P.m))) → low k ≡ low' k) → ((k : ℕ) → k < suc (suc (suc (P.n + P.m))) → new' k ≡ new k)
-            → IsClearedBy (width_of t2) x low (rows_of t2 q) new → IsClearedBy (suc (suc (suc (P.n + P.m)))) (P.n + P.m) low' (rows_of t q) new'
-        told low low' new new' el en c =
-            cleared_same (width_of t2) (suc (suc (suc (P.n + P.m)))) (P.n + P.m) low low' (rows_of t2 q) (rows_of t q) new new' (omega (arith, w2)) (omega arith) el (λ k l. p.rows q k q_low) en
-            (subst (λ v. IsClearedBy (width_of t2) v low (rows_of t2 q) new) x_is c)
+      module _ (pv : IsPivoted t2 t4 q x) (kc : IsClearedBy (width_of t2) x (kept_row_of t2) (rows_of t2 q) (kept_row_of t4)) (cz : IsClosed t4) where
+        cleared : (i : ℕ) → i ≤ P.m → i ≢ q → IsClearedBy (width_of t2) x (rows_of t2 i) (rows_of t2 q) (rows_of t4 i)
+        cleared i il d = pv.row_other i (omega (arith, m2)) d
 
         back_pivot : IsBackPivot P q (rows_of t) (rows_of t4) (kept_row_of t4)
         back_pivot = record {
-          row_at = record { p = pos 1; q = pos 1; p_positive = omega (arith, ints); q_positive = omega (arith, ints); same = λ k l. ap (λ z. pos 1 *ℤ z) (row_q k (omega arith)) };
-          row_other = λ i il d. told (rows_of t2 i) (rows_of t i) (rows_of t3 i) (rows_of t4 i) (λ k l. p.rows i k il) (λ k l. same4 i k (omega arith) (omega arith)) (cleared i (omega arith) d);
-          cost = told (rows_of t2 P.m) (auxiliary_row P P.m) (rows_of t3 P.m) (rows_of t4 P.m) cost_is (λ k l. same4 P.m k (omega arith) (omega arith)) (cleared P.m (omega arith) (λ e. absurd (omega (arith, q_low))));
-          kept_row = told (kept_row_of t2) (rows_of t P.m) (kept_row_of t3) (kept_row_of t4) (λ k l. p.kept k) (λ k l. kept4 k) kept_cleared;
+          row_at = record {
+            p = pv.row_at.p;
+            q = pv.row_at.q;
+            p_positive = pv.row_at.p_positive;
+            q_positive = pv.row_at.q_positive;
+            same = λ k l. pv.row_at.same k (omega (arith, w2)) ∙ ap (λ z. pv.row_at.q *ℤ z) (p.rows q k q_low);
+          };
+          row_other = λ i il d. told (rows_of t2 i) (rows_of t i) (rows_of t4 i) (λ k l. p.rows i k il) (cleared i (omega arith) d);
+          cost = told (rows_of t2 P.m) (auxiliary_row P P.m) (rows_of t4 P.m) cost_is (cleared P.m (omega arith) (λ e. absurd (omega (arith, q_low))));
+          kept_row = told (kept_row_of t2) (rows_of t P.m) (kept_row_of t4) (λ k l. p.kept k) kc;
         }
 
         stands4 : StandsMultiple (auxiliary_of P) (path_basis P (columns_of h.before.basis) q) (rows_of t4) × IsMultipleRow (kept_of P) (own_of (kept_of P) (path_basis P (columns_of h.before.basis) q)) P.m (kept_row_of t4)
         stands4 =
             begun_stands P (path_basis P (columns_of h.before.basis) q) q (columns_of h.before.basis q) h.column (rows_of h.before) (rows_of t) stands_there h.begun (rows_of t4) (kept_row_of t4) h.stood.reached back_pivot
 
-        spare_in : spare_column P.n P.m < width_of t2
-        spare_in = omega (arith, w2)
-
-        zero4 : (i : ℕ) → i ≤ P.m → rows_of t4 i (spare_column P.n P.m) ≡ pos 0
-        zero4 i il = elim (cases_eq i q) [
-          | inl e ↦ ap (λ v. rows_of t4 v (spare_column P.n P.m)) e ∙ row_q (spare_column P.n P.m) (omega arith) ∙ h.zero q (omega (arith, q_low))
-          | inr d ↦
-              let c = cleared i il d in
-              same4 i (spare_column P.n P.m) il (omega arith)
-              ∙ zero_stays c.divisor c.p c.q (rows_of t3 i (spare_column P.n P.m)) (rows_of t2 i (spare_column P.n P.m)) (rows_of t2 q (spare_column P.n P.m)) c.divides (c.entries (spare_column P.n P.m) spare_in) (zero2 i il) (zero2 q (omega (arith, q_low)))
-        ]
-
         kept_zero4 : kept_row_of t4 (spare_column P.n P.m) ≡ pos 0
         kept_zero4 =
-            let c = kept_cleared in
-            kept4 (spare_column P.n P.m)
-            ∙ zero_stays c.divisor c.p c.q (kept_row_of t3 (spare_column P.n P.m)) (kept_row_of t2 (spare_column P.n P.m)) (rows_of t2 q (spare_column P.n P.m)) c.divides (c.entries (spare_column P.n P.m) spare_in) kept2 (zero2 q (omega (arith, q_low)))
-
-        m4 : positions t4 ≡ P.m
-        m4 = ap length b4 ∙ length-set t3.basis q x ∙ m3
-
-        no_spare : (i : ℕ) → i < P.m → columns_of t4.basis i ≢ spare_column P.n P.m
-        no_spare i il y = elim (cases_eq i q) [
-          | inl e ↦ let z : P.n + P.m ≡ spare_column P.n P.m = sym (put_same (columns_of h.before.basis) q (P.n + P.m)) ∙ sym (ap (path_basis P (columns_of h.before.basis) q) e) ∙ basis_is i ∙ y in absurd (omega arith)
-          | inr d ↦
-              let e : spare_column P.n P.m ≡ spare_column h.before.columns (positions h.before) = omega (arith, h.stood.rows_are, h.stood.columns_are) in
-              h.stood.closed.free i (omega (arith, h.stood.rows_are)) (sym (put_other (columns_of h.before.basis) q (P.n + P.m) i d) ∙ basis_is i ∙ y ∙ e)
-        ]
+            zero_stays kc.divisor kc.p kc.q (kept_row_of t4 (spare_column P.n P.m)) (kept_row_of t2 (spare_column P.n P.m)) (rows_of t2 q (spare_column P.n P.m)) kc.divides
+            (kc.entries (spare_column P.n P.m) (omega (arith, w2))) kept2 (zero2 q (omega (arith, q_low)))
 
         pub explicit_begins : InExplicit P t4
-        explicit_begins =
-            let e : spare_column t4.columns (positions t4) ≡ spare_column P.n P.m = omega (arith, m4, n4, n3, n2) in
-            record {
-              holds = record {
-                rows_are = m4;
-                columns_are = n4 ∙ n3 ∙ n2;
-                reached = path_reached;
-                stands = stands_multiple_same (auxiliary_of P) (path_basis P (columns_of h.before.basis) q) (columns_of t4.basis) (rows_of t4) (λ i l. basis_is i) stands4.0;
-                kept = row_of_same (kept_of P) (path_basis P (columns_of h.before.basis) q) (columns_of t4.basis) P.m (kept_row_of t4) (λ i l. basis_is i) stands4.1;
-                closed = record {
-                  free = λ i il y. no_spare i (omega (arith, m4)) (y ∙ e);
-                  zero = λ i il. ap (rows_of t4 i) e ∙ zero4 i (omega (arith, m4));
-                };
-                kept_zero = kept_zero4;
-              };
-              auxiliary = (q, q_low, sym (put_same (columns_of h.before.basis) q (P.n + P.m)) ∙ basis_is q);
-            }
+        explicit_begins = record {
+          holds = record {
+            rows_are = m4;
+            columns_are = n4 ∙ n2;
+            reached = path_reached;
+            stands = stands_multiple_same (auxiliary_of P) (path_basis P (columns_of h.before.basis) q) (columns_of t4.basis) (rows_of t4) (λ i l. basis_is i) stands4.0;
+            kept = row_of_same (kept_of P) (path_basis P (columns_of h.before.basis) q) (columns_of t4.basis) P.m (kept_row_of t4) (λ i l. basis_is i) stands4.1;
+            closed = cz;
+            kept_zero = kept_zero4;
+          };
+          auxiliary = (q, q_low, sym (put_same (columns_of h.before.basis) q (P.n + P.m)) ∙ basis_is q);
+        }
 
       -- ---- a row would be wide
-      module _ (limit count i : ℕ) (count_is : count ≡ positions t + 2) (st : StopsTable limit count t2 t3 q x i) where
+      module _ (limit i : ℕ) (inside : i < positions t + 2) (other : i ≢ q) (w : i ≤ positions t2 → IsWideCleared limit (width_of t2) x (rows_of t2 i) (rows_of t2 q))
+          (wk : i ≡ suc (positions t2) → IsWideCleared limit (width_of t2) x (kept_row_of t2) (rows_of t2 q)) where
         short : (low low' : Vector) → ((k : ℕ) → k < suc (suc (suc (P.n + P.m))) → low k ≡ low' k) → low (spare_column P.n P.m) ≡ pos 0
             → IsWideCleared limit (width_of t2) x low (rows_of t2 q)
             → (new : Vector) × IsClearedBy (suc (suc (suc (P.n + P.m)))) (P.n + P.m) low' (rows_of t q) new × IsPrimitive (suc (suc (suc (P.n + P.m)))) new
@@ -320,13 +229,13 @@ module _ (P : Program) (q : ℕ) (t : Table) (h : IsOpenBeside P q t) where
 
         low_wide : i < P.m → HasWideRow limit P (columns_of t4.basis) i
         low_wide l =
-            let s = short (rows_of t2 i) (rows_of t i) (λ k kl. p.rows i k l) (zero2 i (omega arith)) (st.wide (omega (arith, m2))) in
-            row_wide i s.0 (omega arith) st.other s.1 s.2 s.3
+            let s = short (rows_of t2 i) (rows_of t i) (λ k kl. p.rows i k l) (zero2 i (omega arith)) (w (omega (arith, m2))) in
+            row_wide i s.0 (omega arith) other s.1 s.2 s.3
 
         cost_wide : i ≡ P.m → HasWideRow limit P (columns_of t4.basis) P.m
         cost_wide e =
             let s = short (rows_of t2 P.m) (auxiliary_row P P.m) cost_is (zero2 P.m (omega arith))
-            (subst (λ v. IsWideCleared limit (width_of t2) x (rows_of t2 v) (rows_of t2 q)) e (st.wide (omega (arith, m2, e)))) in
+            (subst (λ v. IsWideCleared limit (width_of t2) x (rows_of t2 v) (rows_of t2 q)) e (w (omega (arith, m2, e)))) in
             record {
               reached = path_reached;
               wide = inr (inr (
@@ -338,7 +247,7 @@ module _ (P : Program) (q : ℕ) (t : Table) (h : IsOpenBeside P q t) where
 
         kept_wide : i ≡ suc P.m → HasWideRow limit P (columns_of t4.basis) P.m
         kept_wide e =
-            let s = short (kept_row_of t2) (rows_of t P.m) (λ k kl. p.kept k) kept2 (st.wide_kept (omega (arith, m2, e))) in
+            let s = short (kept_row_of t2) (rows_of t P.m) (λ k kl. p.kept k) kept2 (wk (omega (arith, m2, e))) in
             row_wide P.m s.0 (omega arith) (λ y. absurd (omega (arith, q_low))) s.1 s.2 s.3
 
         pub begins_refused : HasWideRow limit P (columns_of t4.basis) (min i (positions t))
@@ -349,6 +258,123 @@ module _ (P : Program) (q : ℕ) (t : Table) (h : IsOpenBeside P q t) where
               subst (λ v. HasWideRow limit P (columns_of t4.basis) v) y
               (elim (cases_eq i P.m) [
                 | inl e ↦ cost_wide e
-                | inr d ↦ kept_wide (let il : i < count = st.inside in omega (arith, count_is, open_size))
+                | inr d ↦ kept_wide (omega (arith, inside, open_size))
               ])
         ]
+
+    -- ---- what clearing has made of the rows, and the column's coming to the position
+    module _ (t3 t4 : Table) (b3 : t3.basis ≡ t2.basis) (n3 : t3.columns ≡ t2.columns) (b4 : t4.basis ≡ set t3.basis q x) (n4 : t4.columns ≡ t3.columns) where
+      m3 : positions t3 ≡ P.m
+      m3 = ap length b3 ∙ m2
+
+      pub back_basis : t4.basis ≡ set t2.basis q x
+      back_basis = b4 ∙ ap (λ (b : List ℕ). set b q x) b3
+
+      pub back_columns : t4.columns ≡ t2.columns
+      back_columns = n4 ∙ n3
+
+      module _ (r4 : IsAlone t3 q x → (i c : ℕ) → i ≤ positions t3 → c < t3.columns + positions t3 + 4 → rows_of t4 i c ≡ rows_of t3 i c)
+          (k4 : kept_row_of t3 x ≡ pos 0 → (c : ℕ) → kept_row_of t4 c ≡ kept_row_of t3 c) (count : ℕ) (count_is : count ≡ positions t + 2) (cl : ClearsTable count t2 t3 q x) where
+        cleared3 : (i : ℕ) → i ≤ P.m → i ≢ q → IsClearedBy (width_of t2) x (rows_of t2 i) (rows_of t2 q) (rows_of t3 i)
+        cleared3 i il d = cl.cleared i (omega (arith, open_size, count_is)) (omega (arith, m2)) d
+
+        kept_cleared3 : IsClearedBy (width_of t2) x (kept_row_of t2) (rows_of t2 q) (kept_row_of t3)
+        kept_cleared3 = cl.kept (omega (arith, open_size, count_is, m2))
+
+        alone3 : IsAlone t3 q x
+        alone3 i il d = (cleared3 i (omega (arith, m3)) d).cleared
+
+        same4 : (i c : ℕ) → i ≤ P.m → c < width_of t2 → rows_of t4 i c ≡ rows_of t3 i c
+        same4 i c il l = r4 alone3 i c (omega (arith, m3)) (omega (arith, m3, m2, n3))
+
+        read4 : (low new new' : Vector) → ((k : ℕ) → k < width_of t2 → new' k ≡ new k) → IsClearedBy (width_of t2) x low (rows_of t2 q) new → IsClearedBy (width_of t2) x low (rows_of t2 q) new'
+        read4 low new new' en c =
+            cleared_same (width_of t2) (width_of t2) x low low (rows_of t2 q) (rows_of t2 q) new new' (omega arith) (omega (arith, x_is, w2)) (λ k l. refl) (λ k l. refl) en c
+
+        pub back_pivoted : IsPivoted t2 t4 q x
+        back_pivoted = record {
+          row_at = record {
+            p = pos 1;
+            q = pos 1;
+            p_positive = omega (arith, ints);
+            q_positive = omega (arith, ints);
+            same = λ k l. ap (λ z. pos 1 *ℤ z) (same4 q k (omega (arith, q_low)) l ∙ cl.row_stays k);
+          };
+          row_other = λ i il d. read4 (rows_of t2 i) (rows_of t3 i) (rows_of t4 i) (λ k l. same4 i k (omega (arith, m2)) l) (cleared3 i (omega (arith, m2)) d);
+        }
+
+        pub back_kept : IsClearedBy (width_of t2) x (kept_row_of t2) (rows_of t2 q) (kept_row_of t4)
+        back_kept = read4 (kept_row_of t2) (kept_row_of t3) (kept_row_of t4) (λ k l. k4 kept_cleared3.cleared k) kept_cleared3
+
+        zero4 : (i : ℕ) → i ≤ P.m → rows_of t4 i (spare_column P.n P.m) ≡ pos 0
+        zero4 i il = elim (cases_eq i q) [
+          | inl e ↦
+              ap (λ v. rows_of t4 v (spare_column P.n P.m)) e ∙ same4 q (spare_column P.n P.m) (omega (arith, q_low)) (omega (arith, w2)) ∙ cl.row_stays (spare_column P.n P.m)
+              ∙ zero2 q (omega (arith, q_low))
+          | inr d ↦
+              let c = cleared3 i il d in
+              same4 i (spare_column P.n P.m) il (omega (arith, w2))
+              ∙ zero_stays c.divisor c.p c.q (rows_of t3 i (spare_column P.n P.m)) (rows_of t2 i (spare_column P.n P.m)) (rows_of t2 q (spare_column P.n P.m)) c.divides
+              (c.entries (spare_column P.n P.m) (omega (arith, w2))) (zero2 i il) (zero2 q (omega (arith, q_low)))
+        ]
+
+        size4 : positions t4 ≡ P.m
+        size4 = ap length back_basis ∙ length-set t2.basis q x ∙ m2
+
+        pub back_closed : IsClosed t4
+        back_closed =
+            let e : spare_column t4.columns (positions t4) ≡ spare_column P.n P.m = omega (arith, size4, n4, n3, n2) in
+            record {
+              free = λ i il y. elim (cases_eq i q) [
+                | inl c ↦
+                    let z : columns_of (set t2.basis q x) q ≡ x = get_or-set_same t2.basis q x 0 (omega (arith, m2, q_low)) in
+                    let v : x ≡ spare_column P.n P.m = sym z ∙ sym (ap (λ (b : List ℕ). columns_of b q) back_basis) ∙ sym (ap (columns_of t4.basis) c) ∙ y ∙ e in
+                    absurd (omega (arith, x_is))
+                | inr d ↦
+                    ready_apart i (omega (arith, size4)) d
+                    (sym (get_or-set_other t2.basis q i x 0 d) ∙ sym (ap (λ (b : List ℕ). columns_of b i) back_basis) ∙ y ∙ e)
+              ];
+              zero = λ i il. ap (rows_of t4 i) e ∙ zero4 i (omega (arith, size4));
+            }
+
+    -- ---- the auxiliary column's coming in was begun
+    module _ (t3 : Table) (b3 : t3.basis ≡ t2.basis) (n3 : t3.columns ≡ t2.columns) (limit count i : ℕ) (count_is : count ≡ positions t + 2) (st : StopsTable limit count t2 t3 q x i) where
+      pub back_begun : IsBegunPivot t2 t3 q x
+      back_begun =
+          let size3 : positions t3 ≡ positions t2 = ap length b3 in
+          let es : spare_column t3.columns (positions t3) ≡ spare_column P.n P.m = omega (arith, size3, m2, n3, n2) in
+          let ql : q < positions t2 = omega (arith, m2, q_low) in
+          record {
+            opened = record {
+              spare = ap (λ (b : List ℕ). columns_of b q) b3 ∙ ready_open.spare ∙ zero_t ∙ sym es;
+              zero = ap (rows_of t3 q) es ∙ st.before.row_stays (spare_column P.n P.m) ∙ zero2 q (omega (arith, q_low));
+            };
+            basis = b3 ∙ sym (set_same_twice t2.basis q (spare_column t2.columns (positions t2)) ql ready_open.spare);
+            zero = λ j jl. ap (rows_of t3 j) zero_t ∙ zero3 j (omega (arith, m2));
+            row_at = record {
+              p = pos 1;
+              q = pos 1;
+              p_positive = omega (arith, ints);
+              q_positive = omega (arith, ints);
+              same = λ k l. ap (λ z. pos 1 *ℤ z) (st.before.row_stays k);
+            };
+            row_other = λ j jl d. elim (cases_lt j i) [
+              | inl l ↦ inr (st.before.cleared j l jl d)
+              | inr l ↦ inl (λ c cl. st.before.others j c l jl)
+            ];
+          }
+        where
+          zero3 : (j : ℕ) → j ≤ P.m → rows_of t3 j (spare_column P.n P.m) ≡ pos 0
+          zero3 j jl = elim (cases_eq j q) [
+            | inl e ↦ ap (λ v. rows_of t3 v (spare_column P.n P.m)) e ∙ st.before.row_stays (spare_column P.n P.m) ∙ zero2 q (omega (arith, q_low))
+            | inr d ↦ elim (cases_lt j i) [
+              | inl l ↦
+                  let c = st.before.cleared j l (omega (arith, m2)) d in
+                  zero_stays c.divisor c.p c.q (rows_of t3 j (spare_column P.n P.m)) (rows_of t2 j (spare_column P.n P.m)) (rows_of t2 q (spare_column P.n P.m)) c.divides
+                  (c.entries (spare_column P.n P.m) (omega (arith, w2))) (zero2 j jl) (zero2 q (omega (arith, q_low)))
+              | inr l ↦ st.before.others j (spare_column P.n P.m) l (omega (arith, m2)) ∙ zero2 j jl
+            ]
+          ]
+
+      pub back_kept_stays : (c : ℕ) → kept_row_of t3 c ≡ kept_row_of t2 c
+      back_kept_stays c = let il : i < count = st.inside in st.before.kept_stays (omega (arith, count_is, open_size, m2)) c

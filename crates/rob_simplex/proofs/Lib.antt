@@ -29,6 +29,7 @@ pub mod Told
 pub mod Solving
 pub mod FirstTurns
 pub mod ExplicitTurns
+pub mod Prepared
 pub mod ExplicitStart
 pub mod PathsFrom
 pub mod Causes
@@ -43,3 +44,8 @@ pub mod CopiedTables
 pub mod FreeColumns
 pub mod OwnEntries
 pub mod Deepened
+pub mod BrokenPivots
+pub mod BegunTurns
+pub mod BegunWork
+pub mod BegunFirst
+pub mod TellLemmas

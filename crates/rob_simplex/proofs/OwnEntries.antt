@@ -17,11 +17,11 @@ use Rattle.rob_simplex.specs.Dictionaries.{Table, positions, width_of, columns_o
 use Rattle.rob_simplex.specs.Judging.{HasOwn}
 use Rattle.rob_simplex.specs.Lowering.{IsLowered}
 use Rattle.rob_simplex.specs.Phases.{InBeside, IsOpenBeside}
-use Rattle.rob_simplex.specs.Explicit.{HoldsExplicit}
-use Rattle.rob_simplex.proofs.ExplicitStart.{IsPrepared, open_size}
+use Rattle.rob_simplex.specs.Explicit.{HoldsExplicit, IsPrepared}
+use Rattle.rob_simplex.proofs.ExplicitStart.{open_size}
 use Rattle.rob_simplex.proofs.Replacing.{basic_low, basic_high}
 
-some_of : (z : ℤ) → pos 0 <ℤ z → z ≢ pos 0
+pub some_of : (z : ℤ) → pos 0 <ℤ z → z ≢ pos 0
 some_of z p e = absurd (omega (arith, ints))
 
 -- each row is positive in its own column
@@ -84,7 +84,7 @@ keeps_explicit P count row t h =
     }
 
 -- ---- another column comes to position `row`
-basic_set : (n : ℕ) (b : List ℕ) (row s i : ℕ) → i ≢ row → basic_columns n (set b row s) i ≡ basic_columns n b i
+pub basic_set : (n : ℕ) (b : List ℕ) (row s i : ℕ) → i ≢ row → basic_columns n (set b row s) i ≡ basic_columns n b i
 basic_set n b row s i d =
     let len : length (set b row s) ≡ length b = length-set b row s in
     elim (cases_lt i (length b)) [

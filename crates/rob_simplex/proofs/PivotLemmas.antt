@@ -18,7 +18,7 @@ set_twice (z ∷ xs) zero x y = refl
 set_twice (z ∷ xs) (suc k) x y = ap (λ t. z ∷ t) (set_twice xs k x y)
 
 -- a row that clears may be taken times d
-times_ring : (D d p q x a b b' : ℤ) → D *ℤ x ≡ (p *ℤ a) -ℤ (q *ℤ b) → d *ℤ b ≡ b' → (D *ℤ d) *ℤ x ≡ ((p *ℤ d) *ℤ a) -ℤ (q *ℤ b')
+pub times_ring : (D d p q x a b b' : ℤ) → D *ℤ x ≡ (p *ℤ a) -ℤ (q *ℤ b) → d *ℤ b ≡ b' → (D *ℤ d) *ℤ x ≡ ((p *ℤ d) *ℤ a) -ℤ (q *ℤ b')
 times_ring D d p q x a b b' e f =
     ap (λ t. t *ℤ x) (*ℤ_comm D d) ∙ mul_assoc d D x ∙ ap (λ t. d *ℤ t) e ∙ mul-sub d (p *ℤ a) (q *ℤ b)
     ∙ ap (λ t. t -ℤ (d *ℤ (q *ℤ b))) (mul_left_comm d p a ∙ sym (mul_assoc p d a))

@@ -1,5 +1,5 @@
 -- A column that comes to a position: the maps stay inverse to one another, and the rows stay the same functions.
-use Rattle.std.proofs.Common.{◌≡◌, ◌≢◌, ℕ, suc, ◌+◌, ◌*◌, ◌^◌, ◌<◌, ◌≤◌, sym, ap, ◌∙◌, subst, arith, inl, inr, List, length, get_or, set, nat_abs}
+use Rattle.std.proofs.Common.{◌≡◌, ◌≢◌, ℕ, suc, ◌+◌, ◌*◌, ◌^◌, ◌<◌, ◌≤◌, sym, refl, ap, ◌∙◌, subst, arith, inl, inr, List, length, get_or, set, nat_abs}
 use Rattle.std.proofs.lemmas.Bool.{cases_eq, cases_lt}
 use Rattle.std.proofs.lemmas.Bool.Decides.{nat_tests}
 use Rattle.std.proofs.lemmas.List.{get_or-set_same, get_or-set_other, length-set}
@@ -7,7 +7,7 @@ use lib.IntN.{ℤ, pos}
 use Rattle.rob_linear.specs.CondensedRows.{IsPlaced, IsReplaced, IsTurnedRow}
 use Rattle.rob_linear.proofs.CondensedRows.{placed_again, turned_entry}
 use Rattle.rob_simplex.specs.Tables.{row_at, bound_at, HasBounds}
-use Rattle.rob_simplex.specs.Dictionaries.{Table, columns_of, basic_columns, right_column, read_row, rows_of, kept_row_of, IsSound, IsFree, IsAlone}
+use Rattle.rob_simplex.specs.Dictionaries.{Table, columns_of, basic_columns, right_column, read_row, rows_of, kept_row_of, IsSound, IsFree, IsAlone, IsExchanged}
 use Rattle.rob_simplex.proofs.Places.{row_within, set_here, set_elsewhere}
 
 -- two entries of a row exchanged
@@ -21,6 +21,29 @@ basic_low n basis i l = grind (arith, nat_tests)
 pub basic_high : (n : ℕ) (basis : List ℕ) (i : ℕ) → length basis ≤ i → basic_columns n basis i ≡ suc (n + length basis)
 basic_high n basis i l = grind (arith, nat_tests)
 
+-- ---- a row that is read by places
+read_near : (w : ℕ) (places : ℕ → ℕ) (i : ℕ) (r : ℕ → ℤ) (c : ℕ) → places c < w → read_row w places i r c ≡ r (places c)
+read_near w places i r c l = grind (arith, nat_tests)
+
+read_zero : (w : ℕ) (places : ℕ → ℕ) (j i : ℕ) (r : ℕ → ℤ) (c : ℕ) → places c ≡ w + j → j ≢ i → read_row w places i r c ≡ pos 0
+read_zero w places j i r c e d = grind (arith, nat_tests)
+
+read_own : (w : ℕ) (places : ℕ → ℕ) (i : ℕ) (r : ℕ → ℤ) (c : ℕ) → places c ≡ w + i → read_row w places i r c ≡ r w
+read_own w places i r c e = grind (arith, nat_tests)
+
+read_none : (w : ℕ) (places : ℕ → ℕ) (i : ℕ) (r : ℕ → ℤ) (c : ℕ) → w ≤ places c → places c ≢ w + i → read_row w places i r c ≡ pos 0
+read_none w places i r c l d = grind (arith, nat_tests)
+
+read_ext : (w i : ℕ) (places' places : ℕ → ℕ) (r' r : ℕ → ℤ) (c : ℕ) → places' c ≡ places c → ((k : ℕ) → k < suc w → r' k ≡ r k) → read_row w places' i r' c ≡ read_row w places i r c
+read_ext w i places' places r' r c e same = elim (cases_lt (places c) w) [
+  | inl l ↦ read_near w places' i r' c (omega arith) ∙ ap r' e ∙ same (places c) (omega arith) ∙ sym (read_near w places i r c l)
+  | inr l ↦ elim (cases_eq (places c) (w + i)) [
+    | inl s ↦ read_own w places' i r' c (e ∙ s) ∙ same w (omega arith) ∙ sym (read_own w places i r c s)
+    | inr d ↦ read_none w places' i r' c (omega arith) (λ x. d (sym e ∙ x)) ∙ sym (read_none w places i r c l d)
+  ]
+]
+
+-- ---- a column that comes to a position
 module _ (limit n : ℕ) (basis places near : List ℕ) (table : List ℤ) (bounds : List ℕ) (room : ℕ) (sound : IsSound limit n basis places near table bounds room) (row column : ℕ) (rl : row < length basis) (free : IsFree n basis column) where
   abbrev w : ℕ
   w = n + 3
@@ -161,27 +184,22 @@ module _ (limit n : ℕ) (basis places near : List ℕ) (table : List ℤ) (boun
               read_ext (n + 3) j (columns_of places') (columns_of places) r' r c here (λ k l. same k (omega arith))
         ]
       ]
-    where
-      read_near : (w : ℕ) (places : ℕ → ℕ) (i : ℕ) (r : ℕ → ℤ) (c : ℕ) → places c < w → read_row w places i r c ≡ r (places c)
-      read_near w places i r c l = grind (arith, nat_tests)
 
-      read_zero : (w : ℕ) (places : ℕ → ℕ) (j i : ℕ) (r : ℕ → ℤ) (c : ℕ) → places c ≡ w + j → j ≢ i → read_row w places i r c ≡ pos 0
-      read_zero w places j i r c e d = grind (arith, nat_tests)
+  -- any other row, at position j: its number in the column comes to the one that has left
+  other_moved : (j : ℕ) (r r' : ℕ → ℤ) → ((k : ℕ) → k < n + 4 → r' k ≡ r k)
+      → read_row (n + 3) (columns_of places') j r' (columns_of basis row) ≡ read_row (n + 3) (columns_of places) j r column
+  other_moved j r r' same =
+      let there : columns_of places' (columns_of basis row) ≡ columns_of places column = ap (columns_of places') (sym left_is) ∙ replaced.at_out in
+      read_near (n + 3) (columns_of places') j r' (columns_of basis row) (subst (λ t. t < n + 3) (sym there) free_low) ∙ ap r' there
+      ∙ same (columns_of places column) (let l : columns_of places column < n + 3 = free_low in omega arith)
+      ∙ sym (read_near (n + 3) (columns_of places) j r column free_low)
 
-      read_ext : (w i : ℕ) (places' places : ℕ → ℕ) (r' r : ℕ → ℤ) (c : ℕ) → places' c ≡ places c → ((k : ℕ) → k < suc w → r' k ≡ r k) → read_row w places' i r' c ≡ read_row w places i r c
-      read_ext w i places' places r' r c e same = elim (cases_lt (places c) w) [
-        | inl l ↦ read_near w places' i r' c (omega arith) ∙ ap r' e ∙ same (places c) (omega arith) ∙ sym (read_near w places i r c l)
-        | inr l ↦ elim (cases_eq (places c) (w + i)) [
-          | inl s ↦ read_own w places' i r' c (e ∙ s) ∙ same w (omega arith) ∙ sym (read_own w places i r c s)
-          | inr d ↦ read_none w places' i r' c (omega arith) (λ x. d (sym e ∙ x)) ∙ sym (read_none w places i r c l d)
-        ]
-      ]
-        where
-          read_own : (w : ℕ) (places : ℕ → ℕ) (i : ℕ) (r : ℕ → ℤ) (c : ℕ) → places c ≡ w + i → read_row w places i r c ≡ r w
-          read_own w places i r c e = grind (arith, nat_tests)
+  other_zero : (j : ℕ) (r' : ℕ → ℤ) → j ≢ row → read_row (n + 3) (columns_of places') j r' column ≡ pos 0
+  other_zero j r' d = read_zero (n + 3) (columns_of places') row j r' column replaced.at_in (λ s. d (sym s))
 
-          read_none : (w : ℕ) (places : ℕ → ℕ) (i : ℕ) (r : ℕ → ℤ) (c : ℕ) → w ≤ places c → places c ≢ w + i → read_row w places i r c ≡ pos 0
-          read_none w places i r c l d = grind (arith, nat_tests)
+  other_else : (j : ℕ) (r r' : ℕ → ℤ) → ((k : ℕ) → k < n + 4 → r' k ≡ r k) → (c : ℕ) → c ≢ columns_of basis row → c ≢ column
+      → read_row (n + 3) (columns_of places') j r' c ≡ read_row (n + 3) (columns_of places) j r c
+  other_else j r r' same c q o = read_ext (n + 3) j (columns_of places') (columns_of places) r' r c (replaced.at_other c o (λ e. q (e ∙ left_is))) (λ k l. same k (omega arith))
 
   pub others_same : (j i : ℕ) → j ≢ row → i ≢ row → read_row (n + 3) (columns_of places) j (row_at table (n + 4) i) column ≡ pos 0
       → (c : ℕ) → read_row (n + 3) (columns_of places') j (row_at table' (n + 4) i) c ≡ read_row (n + 3) (columns_of places) j (row_at table (n + 4) i) c
@@ -247,6 +265,26 @@ module _ (limit n : ℕ) (basis places near : List ℕ) (table : List ℤ) (boun
       subst (λ (k : ℕ). read_row (n + 3) (columns_of places') k (row_at table' (n + 4) (suc k)) c ≡ kept_row_of old c) (sym same_length)
       (others_same (length basis) (suc (length basis)) (λ e. absurd (omega arith)) (λ e. absurd (omega arith)) zero c)
 
+  -- the kept row, which is read at the objective's position
+  kept_is : (c : ℕ) → kept_row_of (made (columns_of places column) (columns_of basis row) table') c ≡ read_row (n + 3) (columns_of places') (length basis) (row_at table' (n + 4) (suc (length basis))) c
+  kept_is c = ap (λ k. read_row (n + 3) (columns_of places') k (row_at table' (n + 4) (suc k)) c) same_length
+
+  kept_stays : (k : ℕ) → k < n + 4 → row_at table' (n + 4) (suc (length basis)) k ≡ row_at table (n + 4) (suc (length basis)) k
+  kept_stays k l = entry_other (suc (length basis)) k (λ e. absurd (omega arith)) l
+
+  exchanged_columns : IsExchanged old (made (columns_of places column) (columns_of basis row) table') row (columns_of basis row) column
+  exchanged_columns = record {
+    basis = refl;
+    columns = refl;
+    row_stays = λ c l. row_same c l;
+    moved = λ i il d. other_moved i (row_at table (n + 4) i) (row_at table' (n + 4) i) (λ k l. entry_other i k d l);
+    emptied = λ i il d. other_zero i (row_at table' (n + 4) i) d;
+    others = λ i c il d q o. other_else i (row_at table (n + 4) i) (row_at table' (n + 4) i) (λ k l. entry_other i k d l) c q o;
+    kept_moved = kept_is (columns_of basis row) ∙ other_moved (length basis) (row_at table (n + 4) (suc (length basis))) (row_at table' (n + 4) (suc (length basis))) kept_stays;
+    kept_emptied = kept_is column ∙ other_zero (length basis) (row_at table' (n + 4) (suc (length basis))) (λ e. absurd (omega arith));
+    kept_others = λ c q o. kept_is c ∙ other_else (length basis) (row_at table (n + 4) (suc (length basis))) (row_at table' (n + 4) (suc (length basis))) kept_stays c q o;
+  }
+
   module _ (x l : ℕ) (t : List ℤ) (ex : x ≡ columns_of places column) (el : l ≡ columns_of basis row) (et : t ≡ exchanged_entries table (row * (n + 4) + x) (row * (n + 4) + (n + 3))) where
     all_same : (Q : ℕ → ℕ → List ℤ → Type 0) → Q (columns_of places column) (columns_of basis row) table' → Q x l t
     all_same Q q =
@@ -261,3 +299,6 @@ module _ (limit n : ℕ) (basis places near : List ℕ) (table : List ℤ) (boun
 
     pub made_kept : kept_row_of old column ≡ pos 0 → (c : ℕ) → kept_row_of (made x l t) c ≡ kept_row_of old c
     made_kept zero c = all_same (λ x l t. kept_row_of (made x l t) c ≡ kept_row_of old c) (kept_same zero c)
+
+    pub made_exchanged : IsExchanged old (made x l t) row (columns_of basis row) column
+    made_exchanged = all_same (λ x l t. IsExchanged old (made x l t) row (columns_of basis row) column) exchanged_columns

@@ -1,9 +1,12 @@
 -- What a solver is after its dictionary has followed the path.
 use Rattle.std.proofs.Common.{◌≡◌, ℕ, ◌+◌, ◌-◌, ◌^◌, ◌<◌, ◌≤◌, ◌∙◌, sym, refl, ap, subst, arith, List, length, to_z, of_z, w64, Some, None}
+use Rattle.std.specs.Prelude.{⊤}
 use lib.IntN.{ℤ, pos, nat_abs}
 use Rattle.rob_linear.specs.Programs.{Program}
 use Rattle.rob_rows.specs.PrimitiveParts.{IsWithin}
+use Rattle.rob_simplex.specs.declared.state.State.{State}
 use Rattle.rob_simplex.specs.declared.state.State.TheVariants.{New, Optimal, Infeasible, Unbounded, Stopped}
+use Rattle.rob_simplex.specs.declared.state.Cause.{Cause}
 use Rattle.rob_simplex.specs.Dictionaries.{Table}
 use Rattle.rob_simplex.specs.Judging.{Tells}
 use Rattle.rob_simplex.specs.Phases.{StandsFor}
@@ -43,6 +46,14 @@ sound_new top limit P t w h el few size =
       told = λ x. absurd x;
     }
 
+-- it has not told anything: it is new, or has stopped
+abbrev pub untold : State → Type 0
+untold New = ⊤
+untold (Stopped cause) = ⊤
+untold Optimal = ⊥
+untold Infeasible = ⊥
+untold (Unbounded column) = ⊥
+
 -- ---- it stays sound, with another dictionary of its size and other weights
 module _ (top limit : ℕ) (v : Solver) (sound : IsSound top limit v) (t : Table) (w : List ℤ) (el : t.limit ≡ v.limit) (en : t.columns ≡ v.columns) (em : length t.basis ≡ positions v) (size : length w ≡ positions v) where
   few_columns : t.columns + length t.basis < 2 ^ 31
@@ -62,18 +73,35 @@ module _ (top limit : ℕ) (v : Solver) (sound : IsSound top limit v) (t : Table
     told = λ x. absurd x;
   }
 
-  pub sound_stopped : IsSound top limit (record { state = Stopped; dictionary = t; weights = w })
-  sound_stopped = record {
+  pub sound_stopped : (cause : Cause) → IsSound top limit (record { state = Stopped cause; dictionary = t; weights = w })
+  sound_stopped cause = record {
     limit_is = el ∙ sound.limit_is;
     few = few_columns;
     weights_size = size ∙ sym em;
-    weights_within = λ e. absurd (let f : Stopped ≡ Infeasible = e in cc);
+    weights_within = λ e. absurd (let f : Stopped cause ≡ Infeasible = e in cc);
     own = λ x. absurd x;
     column = omega arith;
-    growing = λ e. absurd (let f : Stopped ≡ Unbounded 0 = e in cc);
+    growing = λ e. absurd (let f : Stopped cause ≡ Unbounded 0 = e in cc);
     objective = λ x. absurd x;
     told = λ x. absurd x;
   }
+
+  pub sound_untold : (x : State) → untold x → IsSound top limit (record { state = x; dictionary = t; weights = w })
+  sound_untold (Stopped cause) u = sound_stopped cause
+  sound_untold New u = record {
+    limit_is = el ∙ sound.limit_is;
+    few = few_columns;
+    weights_size = size ∙ sym em;
+    weights_within = λ e. absurd (let f : New ≡ Infeasible = e in cc);
+    own = λ x. absurd x;
+    column = omega arith;
+    growing = λ e. absurd (let f : New ≡ Unbounded 0 = e in cc);
+    objective = λ x. absurd x;
+    told = λ x. absurd x;
+  }
+  sound_untold Optimal u = absurd u
+  sound_untold Infeasible u = absurd u
+  sound_untold (Unbounded column) u = absurd u
 
   -- with one
   module _ (P : Program) (h : StandsFor P t) where

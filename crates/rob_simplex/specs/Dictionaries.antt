@@ -88,6 +88,19 @@ IsAlone t row column = (i : ℕ) → i ≤ positions t → i ≢ row → rows_of
 abbrev pub width_of : Table → ℕ
 width_of t = t.columns + positions t + 4
 
+-- a column has come to a position, and the one that stood there to its place: the position's row stays, and each other
+-- row has its entry of the first column in the second one
+pub record IsExchanged (t t' : Table) (row left column : ℕ) : Type 0 where
+  pub basis : t'.basis ≡ set t.basis row column
+  pub columns : t'.columns ≡ t.columns
+  pub row_stays : (c : ℕ) → c < width_of t → rows_of t' row c ≡ rows_of t row c
+  pub moved : (i : ℕ) → i ≤ positions t → i ≢ row → rows_of t' i left ≡ rows_of t i column
+  pub emptied : (i : ℕ) → i ≤ positions t → i ≢ row → rows_of t' i column ≡ pos 0
+  pub others : (i c : ℕ) → i ≤ positions t → i ≢ row → c ≢ left → c ≢ column → rows_of t' i c ≡ rows_of t i c
+  pub kept_moved : kept_row_of t' left ≡ kept_row_of t column
+  pub kept_emptied : kept_row_of t' column ≡ pos 0
+  pub kept_others : (c : ℕ) → c ≢ left → c ≢ column → kept_row_of t' c ≡ kept_row_of t c
+
 -- a row's position is open: the spare column stands there, and the row is 0 in it
 pub record IsOpen (t : Table) (row : ℕ) : Type 0 where
   pub spare : columns_of t.basis row ≡ spare_column t.columns (positions t)

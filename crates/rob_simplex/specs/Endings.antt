@@ -1,6 +1,6 @@
 -- What a solver has shown of its program.
 -- Chvatal, Linear Programming (1983), chapters 3, 5 and 9.
-use Rattle.std.specs.Prelude.{◌≡◌, ◌⊎◌, ℕ, ◌<◌, ◌+◌, nat_abs}
+use Rattle.std.specs.Prelude.{◌≡◌, ◌⊎◌, ℕ, ◌<◌, ◌≤◌, ◌+◌, nat_abs, Result, IfErr, MatchResult}
 use Rattle.rob_number.specs.declared.lp_kind.LpKind.{LpKind}
 use Rattle.rob_number.specs.declared.lp_kind.LpKind.TheVariants as kind
 use Rattle.rob_linear.specs.Vectors.{Matrix, Columns}
@@ -10,12 +10,19 @@ use Rattle.rob_linear.specs.Turns.{own_of, Enters}
 use Rattle.rob_linear.specs.Paths.{Last}
 use Rattle.rob_linear.specs.Optimality.{IsFeasible, objective_at, IsOptimal, IsInfeasible, IsUnbounded, IsDualFeasible, dual_objective_at, IsImprovingRay, IsScaled, IsBasicPoint, IsBasicMove}
 use Rattle.rob_linear.specs.WideRows.{HasWideRow}
-use Rattle.rob_simplex.specs.declared.state.State.TheVariants.{Stopped}
+use Rattle.rob_simplex.specs.declared.state.State.{State}
+use Rattle.rob_simplex.specs.declared.state.State.TheVariants.{New, Optimal, Infeasible, Unbounded, Stopped}
+use Rattle.rob_simplex.specs.declared.state.Cause.{Cause}
+use Rattle.rob_simplex.specs.declared.state.Cause.TheVariants.{Told, Turn, First, Elsewhere}
 use Rattle.rob_simplex.specs.declared.state.LpStop.{LpStop}
 use Rattle.rob_simplex.specs.declared.state.LpStop.TheVariants.{Wide}
 use Rattle.rob_simplex.specs.Dictionaries.{columns_of}
-use Rattle.rob_simplex.specs.Solvers.{Solver, entries, column_of, HasPoint, HasOptimum, HasRay, HasWeights, IsMadeFor}
-use Rattle.rob_simplex.specs.PathEnds.{PathStops}
+use Rattle.rob_simplex.specs.Solvers.{Solver, positions, entries, column_of, HasPoint, HasOptimum, HasRay, HasWeights, IsMadeFor, has_stopped}
+use Rattle.rob_simplex.specs.Begun.{HasBegunFirst, HasBegunFor, HasBegunTurn}
+use Rattle.rob_simplex.specs.PathEnds.{EndsWide, PathEnds, PathTells, PathStops}
+use Rattle.rob_simplex.specs.declared.path.Ending.{Ending}
+use Rattle.rob_simplex.specs.declared.state.Halt.{Halt}
+use Rattle.rob_simplex.specs.Phases.{InSecond}
 use Rattle.rob_simplex.specs.Solutions.{point_of, ray_of, dual_of, value_of, weights_of}
 
 -- the solver was made for a program, and has not solved yet
@@ -95,7 +102,7 @@ HasSolved P kind.Unbounded s = IsRayOf P s
 
 -- the solver stands at a basis on the path, where the row of that position is wide
 abbrev pub HasStopped : ℕ → Program → LpStop → Solver → Type 0
-HasStopped limit P (Wide position) s = (s.state ≡ Stopped) × HasWideRow limit P (columns_of s.basis) position
+HasStopped limit P (Wide position) s = has_stopped s.state × HasWideRow limit P (columns_of s.basis) position
 
 -- no point is feasible, as weights without a common divisor show at the end of the path's first phase, and one of them
 -- is over the limit
@@ -112,3 +119,36 @@ pub record HasWideWeight (limit : ℕ) (P : Program) (s : Solver) (i : ℕ) : Ty
 -- the path a number is told there that is over the limit of what is told: of an optimum, of a ray, or of weights
 abbrev pub IsCaused : ℕ → Program → LpStop → Solver → Type 0
 IsCaused limit P (Wide position) s = PathStops limit P s.dictionary position ⊎ HasWideWeight limit P s position
+
+-- what is known of a solver that stopped at position i, by what it stopped at: the last basis tells a number there that
+-- is over the limit of what is told; or a turn of either phase was begun, from a basis on the path
+abbrev pub halted_by : ℕ → Program → ℕ → Solver → Cause → Type 0
+halted_by limit P i s Told = EndsWide (Last P) limit P s.dictionary i ⊎ HasWideWeight limit P s i
+halted_by limit P i s (Turn row) = HasBegunTurn (InSecond P) s.dictionary row
+halted_by limit P i s (First row) = HasBegunFirst P s.dictionary row
+halted_by limit P i s Elsewhere = ⊥
+
+-- so of the stop that is told
+abbrev pub HasHalted : ℕ → Program → LpStop → Solver → Type 0
+HasHalted limit P (Wide position) s = (cause : Cause) × (s.state ≡ Stopped cause) × halted_by limit P position s cause
+
+-- in this state: a turn was begun, from a basis on the program's path
+abbrev pub begun_in : Program → Solver → State → Type 0
+begun_in P s (Stopped cause) = HasBegunFor P cause s.dictionary
+begun_in P s New = ⊥
+begun_in P s Optimal = ⊥
+begun_in P s Infeasible = ⊥
+begun_in P s (Unbounded column) = ⊥
+
+-- the solver stands where a turn was begun
+abbrev pub HasBegun : Program → Solver → Type 0
+HasBegun P s = begun_in P s s.state
+
+-- how the path of a program has ended in the solver's dictionary, or why it was not followed to its end
+pub record IsTold (limit : ℕ) (P : Program) (ended : Result Ending Halt) (s : Solver) : Type 0 where
+  pub rows : P.m ≡ positions s
+  pub told :
+      MatchResult ended (λ ending. PathEnds P ending s.dictionary × PathTells limit ending s.dictionary)
+      (λ halt. HasWideRow limit P (columns_of s.basis) halt.position)
+  pub caused : IfErr ended (λ halt. PathStops limit P s.dictionary halt.position)
+  pub position : IfErr ended (λ halt. halt.position ≤ positions s)

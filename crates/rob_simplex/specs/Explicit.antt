@@ -1,5 +1,5 @@
 -- The first phase in the explicit form, in which the auxiliary column is basic, and how the first phase ends.
-use Rattle.std.specs.Prelude.{◌≡◌, ℕ, ◌<◌, ◌+◌, ◌-◌, ◌⊎◌, Bool, true, false, pos, ◌≤ℤ◌}
+use Rattle.std.specs.Prelude.{◌≡◌, ◌≢◌, ℕ, suc, ◌<◌, ◌+◌, ◌-◌, ◌⊎◌, Bool, true, false, pos, ◌≤ℤ◌}
 use Rattle.rob_linear.specs.Programs.{Program, auxiliary_of, kept_of}
 use Rattle.rob_linear.specs.Turns.{own_of}
 use Rattle.rob_linear.specs.Paths.{HasAuxiliary, Reached}
@@ -71,3 +71,13 @@ FirstTurns P (Infeasible row) t = EndsAtRow P row t ⊎ ((row ≡ P.m) × EndsEx
 abbrev pub FirstEnds : Program → FirstEnding → Table → Type 0
 FirstEnds P Feasible t = InSecond P t
 FirstEnds P (Infeasible row) t = EndsAtRow P row t ⊎ ((row ≡ P.m) × EndsExplicit P t)
+
+-- the objective's row is kept, and the auxiliary one stands in its place
+pub record IsPrepared (n m : ℕ) (t t2 : Table) : Type 0 where
+  pub basis : t2.basis ≡ t.basis
+  pub columns : t2.columns ≡ t.columns
+  pub rows : (i c : ℕ) → i < m → rows_of t2 i c ≡ rows_of t i c
+  pub kept : (c : ℕ) → kept_row_of t2 c ≡ rows_of t m c
+  pub auxiliary : rows_of t2 m (n + m) ≡ pos 1
+  pub own : rows_of t2 m (suc (n + m)) ≡ pos 1
+  pub zero_else : (c : ℕ) → c < n + m + 4 → c ≢ n + m → c ≢ suc (n + m) → rows_of t2 m c ≡ pos 0

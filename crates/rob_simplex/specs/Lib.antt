@@ -12,3 +12,4 @@ pub mod Solutions
 pub mod Endings
 pub mod Lowering
 pub mod Resuming
+pub mod Begun

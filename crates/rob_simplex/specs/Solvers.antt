@@ -36,11 +36,19 @@ has_point Optimal = ⊤
 has_point (Unbounded column) = ⊤
 has_point New = ⊥
 has_point Infeasible = ⊥
-has_point Stopped = ⊥
+has_point (Stopped cause) = ⊥
 
 -- the solver's state says so
 abbrev pub HasPoint : Solver → Type 0
 HasPoint s = has_point s.state
+
+-- the path has stopped
+abbrev pub has_stopped : State → Type 0
+has_stopped (Stopped cause) = ⊤
+has_stopped New = ⊥
+has_stopped Optimal = ⊥
+has_stopped Infeasible = ⊥
+has_stopped (Unbounded column) = ⊥
 
 -- the column that grows without limit
 abbrev pub column_of : State → ℕ
@@ -48,7 +56,7 @@ column_of (Unbounded column) = column
 column_of New = 0
 column_of Optimal = 0
 column_of Infeasible = 0
-column_of Stopped = 0
+column_of (Stopped cause) = 0
 
 -- a best point has been found
 abbrev pub HasOptimum : Solver → Type 0
@@ -68,7 +76,7 @@ growing_of (Unbounded column) = Some column
 growing_of New = None
 growing_of Optimal = None
 growing_of Infeasible = None
-growing_of Stopped = None
+growing_of (Stopped cause) = None
 
 -- what always holds, of rows within `top` and of what they tell within `limit`: of the program's size and the weights;
 -- where there is a point, entries that are divided by are positive, and what is told of it fits

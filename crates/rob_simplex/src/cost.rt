@@ -1,4 +1,4 @@
-// A new cost, put on a dictionary that stands, column by column.
+//! A new cost, put on a dictionary that stands, column by column.
 
 ghost use Rattle.std.specs.Prelude.{◌≡◌, ◌≢◌, ◌<◌, ◌≤◌, ◌+◌, ◌-◌, ◌^◌, ◌<ℤ◌, ◌*ℤ◌, ℕ, suc, pos, nat_abs, length, OnOk, OnErr, IfErr, MatchResult};
 ghost use Rattle.rob_linear.specs.Vectors.{at};
@@ -15,11 +15,12 @@ ghost use Rattle.rob_simplex.specs.PathEnds.{PathStopsFrom};
 
 use crate::dictionary::Dictionary;
 use crate::lowering::{Lowering, Step, lower_row, write_step};
+use crate::state::{Cause, Halt};
 use rob_entries::Entry;
 use rob_number::{Exact, Ledger, Wide};
 
 impl<E: Entry> Dictionary<E> {
-    // Makes the objective's row that of the cost 0: 1 in its own column, and 0 elsewhere.
+    /// Makes the objective's row that of the cost 0: 1 in its own column, and 0 elsewhere.
     fn drop_cost(&mut self)
         ensures objective { (c : ℕ) → c < width_of self.old
             → rows_of self.new (positions self.old) c ≡ unit_row (suc (self.old.columns + positions self.old)) c }
@@ -38,8 +39,8 @@ impl<E: Entry> Dictionary<E> {
         write_step(&mut self.rows, self.bounds.as_mut_slice(), m, step, n);
     }
 
-    // Takes the factor times the objective's entry off the entry of a column that is not basic, in the objective's row.
-    // `Wide` where that row in lowest terms then has an entry over the limit; the row is then open.
+    /// Takes the factor times the objective's entry off the entry of a column that is not basic, in the objective's
+    /// row. `Wide` where that row in lowest terms then has an entry over the limit; the row is then open.
     fn lower<L: Ledger>(&mut self, column: usize, factor: i64, ledger: &mut L) -> Result<(), Wide>
         requires free { IsFree self.old.columns self.old.basis column }
         requires way { IsFree self.old.columns self.old.basis (self.old.columns + positions self.old) }
@@ -78,7 +79,7 @@ impl<E: Entry> Dictionary<E> {
         )
     }
 
-    // The same for a column that stands open at the position i, whose row then clears it in the objective's.
+    /// The same for a column that stands open at the position i, whose row then clears it in the objective's.
     fn lower_and_clear<L: Ledger>(
         &mut self,
         i: usize,
@@ -113,7 +114,7 @@ impl<E: Entry> Dictionary<E> {
         }
     }
 
-    // Puts in the cost of a column that is basic at position i.
+    /// Puts in the cost of a column that is basic at position i.
     fn put_in_basic<L: Ledger>(
         &mut self,
         i: usize,
@@ -142,8 +143,8 @@ impl<E: Entry> Dictionary<E> {
         cleared
     }
 
-    // Puts in the cost of a column: the objective's row goes from the stage of the columns before it to the next.
-    // `Wide` where a stage is wide; the rows are then open.
+    /// Puts in the cost of a column: the objective's row goes from the stage of the columns before it to the next.
+    /// `Wide` where a stage is wide; the rows are then open.
     fn put_in<L: Ledger>(&mut self, column: usize, factor: i64, ledger: &mut L) -> Result<(), Wide>
         requires stands { (P : Program) × StandsFor (truncated P column) self.old }
         requires column_in { column < self.old.columns }
@@ -167,8 +168,8 @@ impl<E: Entry> Dictionary<E> {
         }
     }
 
-    // Puts the cost on the dictionary in place of the one that it has. `Wide` where a stage of the objective's row is
-    // wide; the rows are then open.
+    /// Puts the cost on the dictionary in place of the one that it has. `Wide` where a stage of the objective's row is
+    /// wide; the rows are then open.
     fn put_on<L: Ledger>(&mut self, cost: &[i64], ledger: &mut L) -> Result<(), Wide>
         requires stands { (P : Program) × StandsFor P self.old }
         requires size { length cost.now ≡ self.old.columns }
@@ -201,7 +202,7 @@ impl<E: Entry> Dictionary<E> {
         &mut self,
         cost: &[i64],
         ledger: &mut L,
-    ) -> Result<Option<usize>, usize>
+    ) -> Result<Option<usize>, Halt>
         requires stands { (P : Program) × StandsFor P self.old }
         requires size { length cost.now ≡ self.old.columns }
         requires within { IsWithin N.limit cost.now }
@@ -210,11 +211,12 @@ impl<E: Entry> Dictionary<E> {
             → MatchResult result
             (λ ending. EndsFrom (with_cost P (at cost.now)) (columns_of self.old.basis) ending self.new
             × Tells N.limit ending self.new)
-            (λ i. HasWideRowFrom N.limit (with_cost P (at cost.now)) (columns_of self.old.basis)
-            (columns_of self.new.basis) i) }
-        ensures caused { (P : Program) → StandsFor P self.old
-            → IfErr result (PathStopsFrom N.limit (with_cost P (at cost.now)) (columns_of self.old.basis) self.new) }
-        ensures position { IfErr result (λ i. i ≤ positions self.old) }
+            (λ halt. HasWideRowFrom N.limit (with_cost P (at cost.now)) (columns_of self.old.basis)
+            (columns_of self.new.basis) halt.position) }
+        ensures caused { (P : Program) → StandsFor P self.old → IfErr result
+            (λ halt. PathStopsFrom N.limit (with_cost P (at cost.now)) (columns_of self.old.basis) self.new
+            halt.position) }
+        ensures position { IfErr result (λ halt. halt.position ≤ positions self.old) }
         ensures positions { positions self.new ≡ positions self.old }
         ensures columns { self.new.columns ≡ self.old.columns }
         ensures limit { self.new.limit ≡ self.old.limit }
@@ -222,7 +224,10 @@ impl<E: Entry> Dictionary<E> {
     {
         match self.put_on(cost, ledger) {
             Ok(()) => self.improve_and_judge::<N, L>(ledger),
-            Err(_) => Err(self.basis.len()),
+            Err(_) => Err(Halt {
+                position: self.basis.len(),
+                cause: Cause::Elsewhere,
+            }),
         }
     }
 }

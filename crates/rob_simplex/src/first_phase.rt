@@ -1,9 +1,10 @@
-// The first phase, with the auxiliary column kept out of the table's basis: the path's basis has it at position q,
-// where the table has the column that left last.
+//! The first phase, with the auxiliary column kept out of the table's basis: the path's basis has it at position q,
+//! where the table has the column that left last.
 
 ghost use Rattle.std.specs.Prelude.{◌≡◌, ◌<◌, ◌≤◌, ◌+◌, IfOk, IfErr, MatchResult};
 ghost use Rattle.rob_linear.specs.Programs.{Program};
 ghost use Rattle.rob_linear.specs.WideRows.{HasWideRow};
+ghost use Rattle.rob_simplex.specs.Begun.{HasBegunIn};
 ghost use Rattle.rob_simplex.specs.Counting.{CountsRows};
 ghost use Rattle.rob_simplex.specs.Dictionaries.{positions, columns_of, rows_of, FirstNegative};
 ghost use Rattle.rob_simplex.specs.Phases.{InBeside, HasTurnedBeside, IsOpenBeside, EndsBeside};
@@ -11,6 +12,7 @@ ghost use Rattle.rob_simplex.specs.Starts.{IsStartingTable};
 ghost use Rattle.rob_simplex.specs.Explicit.{FirstTurns, FirstEnds};
 
 use crate::dictionary::Dictionary;
+use crate::state::Halt;
 use rob_entries::Entry;
 use rob_number::Ledger;
 
@@ -35,15 +37,17 @@ pub enum Beside {
 }
 
 impl<E: Entry> Dictionary<E> {
-    /// The first phase, from the starting rows. The auxiliary column is 0 where it is out. An `Err` names the first
-    /// row that would be wide at the basis that is then told.
-    pub fn first_phase<L: Ledger>(&mut self, ledger: &mut L) -> Result<FirstEnding, usize>
+    /// The first phase, from the starting rows. The auxiliary column is 0 where it is out. An `Err` names a row that is
+    /// wide at the basis that is then told.
+    pub fn first_phase<L: Ledger>(&mut self, ledger: &mut L) -> Result<FirstEnding, Halt>
         requires starts { (P : Program) × IsStartingTable P self.old }
         ensures ended { (P : Program) → IsStartingTable P self.old
             → MatchResult result
             (λ ending. FirstEnds P ending self.new)
-            (λ i. HasWideRow self.old.limit P (columns_of self.new.basis) i) }
-        ensures position { IfErr result (λ i. i ≤ positions self.old) }
+            (λ halt. HasWideRow self.old.limit P (columns_of self.new.basis) halt.position) }
+        ensures begun { (P : Program) → IsStartingTable P self.old
+            → IfErr result (λ halt. HasBegunIn P halt.cause self.new) }
+        ensures position { IfErr result (λ halt. halt.position ≤ positions self.old) }
         ensures positions { positions self.new ≡ positions self.old }
         ensures columns { self.new.columns ≡ self.old.columns }
         ensures limit { self.new.limit ≡ self.old.limit }
@@ -56,18 +60,20 @@ impl<E: Entry> Dictionary<E> {
                 Ok(FirstEnding::Feasible)
             }
             Ok(FirstEnding::Infeasible(row)) => Ok(FirstEnding::Infeasible(row)),
-            Err(i) => Err(i),
+            Err(halt) => Err(halt),
         }
     }
 
-    // Its turns. The least row tells whether the auxiliary column is needed.
-    fn first_turns<L: Ledger>(&mut self, ledger: &mut L) -> Result<FirstEnding, usize>
+    /// Its turns. The least row tells whether the auxiliary column is needed.
+    fn first_turns<L: Ledger>(&mut self, ledger: &mut L) -> Result<FirstEnding, Halt>
         requires starts { (P : Program) × IsStartingTable P self.old }
         ensures ended { (P : Program) → IsStartingTable P self.old
             → MatchResult result
             (λ ending. FirstTurns P ending self.new)
-            (λ i. HasWideRow self.old.limit P (columns_of self.new.basis) i) }
-        ensures position { IfErr result (λ i. i ≤ positions self.old) }
+            (λ halt. HasWideRow self.old.limit P (columns_of self.new.basis) halt.position) }
+        ensures begun { (P : Program) → IsStartingTable P self.old
+            → IfErr result (λ halt. HasBegunIn P halt.cause self.new) }
+        ensures position { IfErr result (λ halt. halt.position ≤ positions self.old) }
         ensures positions { positions self.new ≡ positions self.old }
         ensures columns { self.new.columns ≡ self.old.columns }
         ensures limit { self.new.limit ≡ self.old.limit }
@@ -83,7 +89,7 @@ impl<E: Entry> Dictionary<E> {
         }
     }
 
-    // Turns beside the auxiliary column until it has left, no column comes in, or a row would be wide.
+    /// Turns beside the auxiliary column until it has left, no column comes in, or a row would be wide.
     fn go_beside<L: Ledger>(&mut self, q: usize, ledger: &mut L) -> Beside
         requires stands { (P : Program) × InBeside P q self.old }
         ensures ended { (P : Program) → InBeside P q self.old → EndsBeside P q result self.new }
@@ -105,8 +111,8 @@ impl<E: Entry> Dictionary<E> {
         }
     }
 
-    // One turn: the column comes in at position q, and the least row comes to it. Whether the auxiliary column is
-    // still in; after an `Err` position q is open.
+    /// One turn: the column comes in at position q, and the least row comes to it. Whether the auxiliary column is
+    /// still in; after an `Err` position q is open.
     fn turn_beside<L: Ledger>(
         &mut self,
         q: usize,

@@ -2,6 +2,7 @@
 //! point is feasible.
 #![tactic(auto)]
 
+mod begun;
 mod columns;
 mod copies;
 mod cost;
@@ -10,6 +11,7 @@ mod edits;
 mod entering;
 mod entries;
 mod explicit_phase;
+mod first_begun;
 mod first_phase;
 mod judging;
 mod least_row;
@@ -30,5 +32,5 @@ mod weights;
 mod work;
 
 pub use rob_number::LpKind;
-pub use state::LpStop;
+pub use state::{Cause, LpStop};
 pub use work::Work;

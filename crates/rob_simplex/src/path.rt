@@ -1,16 +1,19 @@
-// The path of bases of a program, through both phases.
+//! The path of bases of a program, through both phases.
 
-ghost use Rattle.std.specs.Prelude.{◌≡◌, ◌≤◌, IfErr, MatchResult};
+ghost use Rattle.std.specs.Prelude.{◌≡◌, ◌<◌, ◌≤◌, IfErr, MatchResult};
 ghost use Rattle.rob_linear.specs.Programs.{Program};
+ghost use Rattle.rob_linear.specs.Paths.{Last};
 ghost use Rattle.rob_linear.specs.WideRows.{HasWideRow};
 ghost use Rattle.rob_simplex.specs.Counting.{CountsRows};
 ghost use Rattle.rob_simplex.specs.Dictionaries.{positions, columns_of};
 ghost use Rattle.rob_simplex.specs.Starts.{IsStartingTable};
 ghost use Rattle.rob_simplex.specs.Phases.{InSecond};
 ghost use Rattle.rob_simplex.specs.PathEnds.{PathEnds, PathTells, PathStops};
+ghost use Rattle.rob_simplex.specs.Begun.{HaltsAt, HasBegunFirst, HasBegunFor, HasBegunTurn};
 
 use crate::dictionary::Dictionary;
 use crate::first_phase::FirstEnding;
+use crate::state::{Cause, Halt};
 use rob_entries::Entry;
 use rob_number::{Exact, Ledger};
 
@@ -29,15 +32,18 @@ impl<E: Entry> Dictionary<E> {
     /// Follows the path from the slack columns and the starting rows to its last basis. An `Err` names a row that is
     /// wide at the basis that is then told. Rows may be wider than `N`; the numbers that the last ones tell of a point
     /// fit it.
-    pub fn follow<N: Exact, L: Ledger>(&mut self, ledger: &mut L) -> Result<Ending, usize>
+    pub fn follow<N: Exact, L: Ledger>(&mut self, ledger: &mut L) -> Result<Ending, Halt>
         requires starts { (P : Program) × IsStartingTable P self.old }
         requires limit { N.limit ≤ self.old.limit }
         ensures told { (P : Program) → IsStartingTable P self.old
             → MatchResult result
             (λ ending. PathEnds P ending self.new × PathTells N.limit ending self.new)
-            (λ i. HasWideRow N.limit P (columns_of self.new.basis) i) }
-        ensures caused { (P : Program) → IsStartingTable P self.old → IfErr result (PathStops N.limit P self.new) }
-        ensures position { IfErr result (λ i. i ≤ positions self.old) }
+            (λ halt. HasWideRow N.limit P (columns_of self.new.basis) halt.position) }
+        ensures caused { (P : Program) → IsStartingTable P self.old
+            → IfErr result (λ halt. PathStops N.limit P self.new halt.position) }
+        ensures halted { (P : Program) → IsStartingTable P self.old → IfErr result
+            (λ halt. HaltsAt (Last P) (InSecond P) N.limit P halt.position halt.cause self.new) }
+        ensures position { IfErr result (λ halt. halt.position ≤ positions self.old) }
         ensures positions { positions self.new ≡ positions self.old }
         ensures columns { self.new.columns ≡ self.old.columns }
         ensures limit { self.new.limit ≡ self.old.limit }
@@ -46,20 +52,110 @@ impl<E: Entry> Dictionary<E> {
         match self.first_phase(ledger) {
             Ok(FirstEnding::Feasible) => self.improve_to_end::<N, L>(ledger),
             Ok(FirstEnding::Infeasible(row)) => Ok(Ending::Infeasible(row)),
-            Err(i) => Err(i),
+            Err(halt) => Err(halt),
         }
     }
 
-    // The second phase, and how it ends.
-    fn improve_to_end<N: Exact, L: Ledger>(&mut self, ledger: &mut L) -> Result<Ending, usize>
+    /// Follows the path to its last basis from what was begun where it stopped. It answers as `follow` does.
+    pub fn follow_on<N: Exact, L: Ledger>(
+        &mut self,
+        cause: Cause,
+        ledger: &mut L,
+    ) -> Result<Ending, Halt>
+        requires begun { (P : Program) × HasBegunFor P cause self.old }
+        requires limit { N.limit ≤ self.old.limit }
+        ensures told { (P : Program) → HasBegunFor P cause self.old
+            → MatchResult result
+            (λ ending. PathEnds P ending self.new × PathTells N.limit ending self.new)
+            (λ halt. HasWideRow N.limit P (columns_of self.new.basis) halt.position) }
+        ensures caused { (P : Program) → HasBegunFor P cause self.old
+            → IfErr result (λ halt. PathStops N.limit P self.new halt.position) }
+        ensures position { IfErr result (λ halt. halt.position ≤ positions self.old) }
+        ensures positions { positions self.new ≡ positions self.old }
+        ensures columns { self.new.columns ≡ self.old.columns }
+        ensures limit { self.new.limit ≡ self.old.limit }
+        ensures counted { CountsRows L.ops L.wides ledger.old ledger.new }
+    {
+        match cause {
+            Cause::Turn(row) => self.follow_second::<N, L>(row, ledger),
+            Cause::First(row) => self.follow_first::<N, L>(row, ledger),
+            Cause::Told => unreachable!(),
+            Cause::Elsewhere => unreachable!(),
+        }
+    }
+
+    /// Follows the path from what was begun in the first phase, at this position, to its last basis. It answers as
+    /// `follow` does.
+    fn follow_first<N: Exact, L: Ledger>(
+        &mut self,
+        row: usize,
+        ledger: &mut L,
+    ) -> Result<Ending, Halt>
+        requires row_in { row < positions self.old }
+        requires begun { (P : Program) × HasBegunFirst P self.old row }
+        requires limit { N.limit ≤ self.old.limit }
+        ensures told { (P : Program) → HasBegunFirst P self.old row
+            → MatchResult result
+            (λ ending. PathEnds P ending self.new × PathTells N.limit ending self.new)
+            (λ halt. HasWideRow N.limit P (columns_of self.new.basis) halt.position) }
+        ensures caused { (P : Program) → HasBegunFirst P self.old row
+            → IfErr result (λ halt. PathStops N.limit P self.new halt.position) }
+        ensures position { IfErr result (λ halt. halt.position ≤ positions self.old) }
+        ensures positions { positions self.new ≡ positions self.old }
+        ensures columns { self.new.columns ≡ self.old.columns }
+        ensures limit { self.new.limit ≡ self.old.limit }
+        ensures counted { CountsRows L.ops L.wides ledger.old ledger.new }
+    {
+        match self.first_phase_from(row, ledger) {
+            Ok(FirstEnding::Feasible) => self.improve_to_end::<N, L>(ledger),
+            Ok(FirstEnding::Infeasible(row)) => Ok(Ending::Infeasible(row)),
+            Err(halt) => Err(halt),
+        }
+    }
+
+    /// Follows the path from a turn of the second phase that was begun at this position.
+    fn follow_second<N: Exact, L: Ledger>(
+        &mut self,
+        row: usize,
+        ledger: &mut L,
+    ) -> Result<Ending, Halt>
+        requires row_in { row < positions self.old }
+        requires begun { (P : Program) × HasBegunTurn (InSecond P) self.old row }
+        requires limit { N.limit ≤ self.old.limit }
+        ensures told { (P : Program) → HasBegunTurn (InSecond P) self.old row
+            → MatchResult result
+            (λ ending. PathEnds P ending self.new × PathTells N.limit ending self.new)
+            (λ halt. HasWideRow N.limit P (columns_of self.new.basis) halt.position) }
+        ensures caused { (P : Program) → HasBegunTurn (InSecond P) self.old row
+            → IfErr result (λ halt. PathStops N.limit P self.new halt.position) }
+        ensures position { IfErr result (λ halt. halt.position ≤ positions self.old) }
+        ensures positions { positions self.new ≡ positions self.old }
+        ensures columns { self.new.columns ≡ self.old.columns }
+        ensures limit { self.new.limit ≡ self.old.limit }
+        ensures counted { CountsRows L.ops L.wides ledger.old ledger.new }
+    {
+        match self.end_turn(row, ledger) {
+            Ok(()) => self.improve_to_end::<N, L>(ledger),
+            Err(i) => Err(Halt {
+                position: i,
+                cause: Cause::Elsewhere,
+            }),
+        }
+    }
+
+    /// The second phase, and how it ends.
+    fn improve_to_end<N: Exact, L: Ledger>(&mut self, ledger: &mut L) -> Result<Ending, Halt>
         requires stands { (P : Program) × InSecond P self.old }
         requires limit { N.limit ≤ self.old.limit }
         ensures told { (P : Program) → InSecond P self.old
             → MatchResult result
             (λ ending. PathEnds P ending self.new × PathTells N.limit ending self.new)
-            (λ i. HasWideRow N.limit P (columns_of self.new.basis) i) }
-        ensures caused { (P : Program) → InSecond P self.old → IfErr result (PathStops N.limit P self.new) }
-        ensures position { IfErr result (λ i. i ≤ positions self.old) }
+            (λ halt. HasWideRow N.limit P (columns_of self.new.basis) halt.position) }
+        ensures caused { (P : Program) → InSecond P self.old
+            → IfErr result (λ halt. PathStops N.limit P self.new halt.position) }
+        ensures halted { (P : Program) → InSecond P self.old → IfErr result
+            (λ halt. HaltsAt (Last P) (InSecond P) N.limit P halt.position halt.cause self.new) }
+        ensures position { IfErr result (λ halt. halt.position ≤ positions self.old) }
         ensures positions { positions self.new ≡ positions self.old }
         ensures columns { self.new.columns ≡ self.old.columns }
         ensures limit { self.new.limit ≡ self.old.limit }
@@ -68,7 +164,7 @@ impl<E: Entry> Dictionary<E> {
         match self.improve_and_judge::<N, L>(ledger) {
             Ok(None) => Ok(Ending::Optimal),
             Ok(Some(column)) => Ok(Ending::Unbounded(column)),
-            Err(i) => Err(i),
+            Err(halt) => Err(halt),
         }
     }
 }

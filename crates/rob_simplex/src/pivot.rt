@@ -1,9 +1,10 @@
-// A row whose position is open clears a column in the other rows.
+//! A row whose position is open clears a column in the other rows.
 
 ghost use Rattle.std.specs.Prelude.{◌≡◌, ◌≢◌, ◌<◌, ◌≤◌, ◌+◌, ◌<ℤ◌, ℕ, suc, pos, nat_abs, set, length, OnOk, IfErr};
 ghost use Rattle.rob_linear.specs.Multiples.{IsClearedBy};
 ghost use Rattle.rob_entries.specs.Updates.{IsWideCleared};
 ghost use Rattle.rob_simplex.specs.Dictionaries.{positions, width_of, spare_column, rows_of, kept_row_of, IsFree, IsOpen, IsClosed, IsPivoted, IsBegunPivot, KeepsOwn, ClearsTable, StopsTable};
+ghost use Rattle.rob_simplex.specs.Begun.{IsBroken};
 
 use crate::dictionary::Dictionary;
 use crate::table::{Place, clear_rows};
@@ -81,6 +82,9 @@ impl<E: Entry> Dictionary<E> {
             → i ≡ suc (positions self.old)
             → IsWideCleared self.old.limit (width_of self.old) column (kept_row_of self.old) (rows_of self.old row)) }
         ensures begun { IfErr result (λ i. IsBegunPivot self.old self.new row column) }
+        ensures kept_stays { IfErr result (λ i.
+            kept_row_of self.old (spare_column self.old.columns (positions self.old)) ≡ pos 0
+            → (c : ℕ) → kept_row_of self.new c ≡ kept_row_of self.old c) }
         ensures small { OnOk result ((i c : ℕ) → i ≤ positions self.new
             → nat_abs (rows_of self.new i c) ≤ self.new.limit) }
         ensures basis { OnOk result (self.new.basis ≡ set self.old.basis row column) }
@@ -101,7 +105,7 @@ impl<E: Entry> Dictionary<E> {
         }
     }
 
-    /// The same, but after an `Err` the basis is the next one and the rows are open.
+    /// The same, but after an `Err` the basis is the next one, and the pivot can be ended by rows of a greater limit.
     pub fn pivot<L: Ledger>(
         &mut self,
         row: usize,
@@ -128,6 +132,7 @@ impl<E: Entry> Dictionary<E> {
             kept_row_of self.old (spare_column self.old.columns (positions self.old)) ≡ pos 0
             → i ≡ suc (positions self.old)
             → IsWideCleared self.old.limit (width_of self.old) column (kept_row_of self.old) (rows_of self.old row)) }
+        ensures broken { IfErr result (λ i. IsBroken self.old self.new row column) }
         ensures small { (i c : ℕ) → i ≤ positions self.new → nat_abs (rows_of self.new i c) ≤ self.new.limit }
         ensures basis { self.new.basis ≡ set self.old.basis row column }
         ensures columns { self.new.columns ≡ self.old.columns }

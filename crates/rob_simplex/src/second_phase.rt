@@ -1,15 +1,18 @@
-// The second phase: turns from a feasible basis of the program to its last one.
+//! The second phase: turns from a feasible basis of the program to its last one.
 
 ghost use Rattle.std.specs.Prelude.{◌≡◌, ◌≤◌, IfOk, IfErr, MatchResult};
 ghost use Rattle.rob_linear.specs.Programs.{Program};
+ghost use Rattle.rob_linear.specs.Paths.{LastFrom};
 ghost use Rattle.rob_linear.specs.WideRows.{HasWideRowFrom};
 ghost use Rattle.rob_simplex.specs.Dictionaries.{positions, columns_of};
 ghost use Rattle.rob_simplex.specs.Counting.{CountsRows};
 ghost use Rattle.rob_simplex.specs.Phases.{StandsFor, HasTurned, HasRefused, EndsFrom};
 ghost use Rattle.rob_simplex.specs.Judging.{Tells};
 ghost use Rattle.rob_simplex.specs.PathEnds.{PathStopsFrom};
+ghost use Rattle.rob_simplex.specs.Begun.{HasBegunAt, StandsFrom, HaltsAt};
 
 use crate::dictionary::Dictionary;
+use crate::state::{Cause, Halt};
 use rob_entries::Entry;
 use rob_number::{Exact, Ledger};
 
@@ -25,14 +28,15 @@ pub enum Turn {
 }
 
 impl<E: Entry> Dictionary<E> {
-    // Makes the next turn, if there is one. After an `Err`, which names a row that is wide there, the basis is the next
-    // one and the rows are open.
-    fn advance<L: Ledger>(&mut self, ledger: &mut L) -> Result<Turn, usize>
+    /// Makes the next turn, if there is one. After an `Err`, which names a row that is wide there, the basis is the
+    /// next one, and the turn was begun.
+    fn advance<L: Ledger>(&mut self, ledger: &mut L) -> Result<Turn, Halt>
         requires stands { (P : Program) × StandsFor P self.old }
         ensures turned { IfOk result (λ turn. (P : Program) → StandsFor P self.old → HasTurned P turn self.old self.new) }
-        ensures wide { IfErr result (λ i. (P : Program) → StandsFor P self.old
-            → HasRefused self.old.limit P i self.old self.new) }
-        ensures position { IfErr result (λ i. i ≤ positions self.old) }
+        ensures wide { IfErr result (λ halt. (P : Program) → StandsFor P self.old
+            → HasRefused self.old.limit P halt.position self.old self.new) }
+        ensures begun { IfErr result (λ halt. HasBegunAt (λ t. t ≡ self.old) halt.cause self.new) }
+        ensures position { IfErr result (λ halt. halt.position ≤ positions self.old) }
         ensures positions { positions self.new ≡ positions self.old }
         ensures columns { self.new.columns ≡ self.old.columns }
         ensures limit { self.new.limit ≡ self.old.limit }
@@ -48,20 +52,26 @@ impl<E: Entry> Dictionary<E> {
         };
         match self.pivot(row, column, m + 1, ledger) {
             Ok(()) => Ok(Turn::Replaced),
-            Err(i) => Err(i),
+            Err(i) => Err(Halt {
+                position: i,
+                cause: Cause::Turn(row),
+            }),
         }
     }
 
     /// Turns until the path from the basis that stands ends: with `None` where no column improves the objective, else
     /// with the column that improves it without limit. An `Err` names a row that is wide at the basis that is then
     /// told.
-    pub fn improve<L: Ledger>(&mut self, ledger: &mut L) -> Result<Option<usize>, usize>
+    pub fn improve<L: Ledger>(&mut self, ledger: &mut L) -> Result<Option<usize>, Halt>
         requires stands { (P : Program) × StandsFor P self.old }
         ensures told { (P : Program) → StandsFor P self.old
             → MatchResult result
             (λ ending. EndsFrom P (columns_of self.old.basis) ending self.new)
-            (λ i. HasWideRowFrom self.old.limit P (columns_of self.old.basis) (columns_of self.new.basis) i) }
-        ensures position { IfErr result (λ i. i ≤ positions self.old) }
+            (λ halt. HasWideRowFrom self.old.limit P (columns_of self.old.basis) (columns_of self.new.basis)
+            halt.position) }
+        ensures begun { (P : Program) → StandsFor P self.old → IfErr result
+            (λ halt. HasBegunAt (StandsFrom P (columns_of self.old.basis)) halt.cause self.new) }
+        ensures position { IfErr result (λ halt. halt.position ≤ positions self.old) }
         ensures positions { positions self.new ≡ positions self.old }
         ensures columns { self.new.columns ≡ self.old.columns }
         ensures limit { self.new.limit ≡ self.old.limit }
@@ -72,7 +82,7 @@ impl<E: Entry> Dictionary<E> {
                 Ok(Turn::Optimal) => return Ok(None),
                 Ok(Turn::Unbounded(column)) => return Ok(Some(column)),
                 Ok(Turn::Replaced) => {}
-                Err(i) => return Err(i),
+                Err(halt) => return Err(halt),
             }
         }
     }
@@ -82,16 +92,19 @@ impl<E: Entry> Dictionary<E> {
     pub fn improve_and_judge<N: Exact, L: Ledger>(
         &mut self,
         ledger: &mut L,
-    ) -> Result<Option<usize>, usize>
+    ) -> Result<Option<usize>, Halt>
         requires stands { (P : Program) × StandsFor P self.old }
         requires limit { N.limit ≤ self.old.limit }
         ensures told { (P : Program) → StandsFor P self.old
             → MatchResult result
             (λ ending. EndsFrom P (columns_of self.old.basis) ending self.new × Tells N.limit ending self.new)
-            (λ i. HasWideRowFrom N.limit P (columns_of self.old.basis) (columns_of self.new.basis) i) }
-        ensures caused { (P : Program) → StandsFor P self.old
-            → IfErr result (PathStopsFrom N.limit P (columns_of self.old.basis) self.new) }
-        ensures position { IfErr result (λ i. i ≤ positions self.old) }
+            (λ halt. HasWideRowFrom N.limit P (columns_of self.old.basis) (columns_of self.new.basis) halt.position) }
+        ensures caused { (P : Program) → StandsFor P self.old → IfErr result
+            (λ halt. PathStopsFrom N.limit P (columns_of self.old.basis) self.new halt.position) }
+        ensures halted { (P : Program) → StandsFor P self.old → IfErr result
+            (λ halt. HaltsAt (LastFrom P (columns_of self.old.basis)) (StandsFrom P (columns_of self.old.basis))
+            N.limit P halt.position halt.cause self.new) }
+        ensures position { IfErr result (λ halt. halt.position ≤ positions self.old) }
         ensures positions { positions self.new ≡ positions self.old }
         ensures columns { self.new.columns ≡ self.old.columns }
         ensures limit { self.new.limit ≡ self.old.limit }
@@ -100,9 +113,12 @@ impl<E: Entry> Dictionary<E> {
         match self.improve(ledger) {
             Ok(growing) => match self.judge::<N>(growing) {
                 None => Ok(growing),
-                Some(i) => Err(i),
+                Some(i) => Err(Halt {
+                    position: i,
+                    cause: Cause::Told,
+                }),
             },
-            Err(i) => Err(i),
+            Err(halt) => Err(halt),
         }
     }
 }

@@ -1,4 +1,4 @@
-// What a solver has answered.
+//! What a solver has answered.
 
 /// Where a solver stands.
 #[derive(Debug, PartialEq, Eq, Clone, Copy)]
@@ -11,8 +11,29 @@ pub enum State {
     Infeasible,
     /// It has a feasible point, and a ray along which this column grows.
     Unbounded(usize),
-    /// A row was wide.
-    Stopped,
+    /// A row, or a number that is told, was wide.
+    Stopped(Cause),
+}
+
+/// What a path stopped at.
+#[derive(Debug, PartialEq, Eq, Clone, Copy)]
+pub enum Cause {
+    /// The last basis tells a number that is wide.
+    Told,
+    /// A turn of the second phase: the pivot of the row of this position was begun.
+    Turn(usize),
+    /// The first phase in the explicit form: a turn, or the auxiliary column's coming in. The pivot of the row of this
+    /// position was begun.
+    First(usize),
+    /// A new cost, from which nothing goes on.
+    Elsewhere,
+}
+
+/// Where a path stopped: the position whose row is wide, or tells a number that is, and at what.
+#[derive(Debug, PartialEq, Eq, Clone, Copy)]
+pub struct Halt {
+    pub position: usize,
+    pub cause: Cause,
 }
 
 /// Why `solve` or `resume` stopped.

@@ -1,9 +1,9 @@
-// The solver: its memory, and its answers.
+//! The solver: its memory, and its answers.
 
 ghost use Rattle.std.specs.Prelude.{◌≡◌, ◌+◌, ◌^◌, ◌<◌, ◌≤◌, suc, neg_ℤ, nat_abs, length, IfOk, IfErr, MatchResult};
 ghost use Rattle.rob_algebra.specs.Fraction.{of_pair};
 ghost use Rattle.rob_rows.specs.LinearPrograms.{HasNumbersWithin, program_of};
-ghost use Rattle.rob_simplex.specs.Solvers.{positions, HasPoint, HasOptimum, HasRay, HasWeights, column_of, IsMadeFor, StandsAs};
+ghost use Rattle.rob_simplex.specs.Solvers.{positions, HasPoint, HasOptimum, HasRay, HasWeights, column_of, IsMadeFor, StandsAs, has_stopped};
 ghost use Rattle.rob_simplex.specs.Solutions.{point_of, ray_of, dual_of, value_of, weights_of};
 ghost use Rattle.rob_linear.specs.Vectors.{at};
 ghost use Rattle.rob_rows.specs.PrimitiveParts.{IsWithin};
@@ -12,13 +12,17 @@ ghost use Rattle.rob_simplex.specs.Counting.{CountsRows};
 ghost use Rattle.rob_simplex.specs.Dictionaries.{width_of, columns_of, rows_of};
 ghost use Rattle.rob_algebra.specs.Width.{Fits};
 ghost use Rattle.rob_simplex.specs.Judging.{ratio_of, objective_column};
-ghost use Rattle.rob_simplex.specs.Endings.{IsFresh, HasAnswered, HasSolved, HasStopped, IsCaused};
+ghost use Rattle.rob_simplex.specs.Endings.{IsFresh, HasAnswered, HasBegun, HasHalted, HasSolved, HasStopped, IsCaused, IsTold};
+ghost use Rattle.rob_linear.specs.Paths.{Last};
+ghost use Rattle.rob_simplex.specs.Begun.{HaltsAt};
+ghost use Rattle.rob_simplex.specs.Phases.{InSecond};
+ghost use Rattle.rob_simplex.specs.declared.state.State.TheVariants.{Stopped};
 ghost use Rattle.rob_simplex.specs.Resuming.{CanResume, HasResumed, HasStoppedFrom, IsCausedFrom};
 
 use crate::dictionary::Dictionary;
 use crate::path::Ending;
 use crate::solution::quotient;
-use crate::state::{LpStop, State};
+use crate::state::{Cause, Halt, LpStop, State};
 use rob_entries::{Cells, Entry};
 use rob_number::{Exact, Ledger, LpKind, Memory};
 use rob_rows::Rows;
@@ -83,13 +87,16 @@ impl<N: Exact, E: Entry> Work<N, E> {
     }
 
     /// Solves the program: its true status, with the point, the dual values, the weights or the ray that show it. It is
-    /// called once. After a stop only `basis` and `set_to` may be called.
+    /// called once. After a stop no number may be asked for: `basis`, `cause`, `limit`, `set_to` and `deepened` may be
+    /// called, and `go_on` on rows that took over where a turn was begun.
     pub fn solve<L: Ledger>(&mut self, ledger: &mut L) -> Result<LpKind, LpStop>
         requires fresh { IsFresh self.old }
         ensures solved { (P : Program) → IsMadeFor P self.old
             → MatchResult result (λ kind. HasSolved P kind self.new) (λ stop. HasStopped N.limit P stop self.new) }
         ensures caused { (P : Program) → IsMadeFor P self.old
             → IfErr result (λ stop. IsCaused N.limit P stop self.new) }
+        ensures halted { (P : Program) → IsMadeFor P self.old
+            → IfErr result (λ stop. HasHalted N.limit P stop self.new) }
         ensures answered { IfOk result (λ kind. HasAnswered kind self.new) }
         ensures resumable { (P : Program) → IsMadeFor P self.old
             → IfOk result (λ kind. HasPoint self.new → CanResume P self.new) }
@@ -98,36 +105,82 @@ impl<N: Exact, E: Entry> Work<N, E> {
         ensures limit { self.new.limit ≡ self.old.limit }
         ensures counted { CountsRows L.ops L.wides ledger.old ledger.new }
     {
-        match self.dictionary.follow::<N, L>(ledger) {
-            Ok(Ending::Optimal) => {
+        let ended = self.dictionary.follow::<N, L>(ledger);
+        self.tell(ended)
+    }
+
+    /// Goes on where another solver, whose rows this one took over, stopped at a turn: what was begun is ended, and the
+    /// path followed to its end. It answers as `solve` does, and after a stop the same holds, but nothing goes on.
+    pub fn go_on<L: Ledger>(&mut self, ledger: &mut L) -> Result<LpKind, LpStop>
+        requires begun { (P : Program) × HasBegun P self.old }
+        ensures solved { (P : Program) → HasBegun P self.old
+            → MatchResult result (λ kind. HasSolved P kind self.new) (λ stop. HasStopped N.limit P stop self.new) }
+        ensures caused { (P : Program) → HasBegun P self.old
+            → IfErr result (λ stop. IsCaused N.limit P stop self.new) }
+        ensures answered { IfOk result (λ kind. HasAnswered kind self.new) }
+        ensures resumable { (P : Program) → HasBegun P self.old
+            → IfOk result (λ kind. HasPoint self.new → CanResume P self.new) }
+        ensures columns { self.new.columns ≡ self.old.columns }
+        ensures positions { positions self.new ≡ positions self.old }
+        ensures limit { self.new.limit ≡ self.old.limit }
+        ensures counted { CountsRows L.ops L.wides ledger.old ledger.new }
+    {
+        let cause = self.cause();
+        let ended = self.dictionary.follow_on::<N, L>(cause, ledger);
+        self.tell(ended)
+    }
+
+    /// What the end of the path tells, or why it was not followed to its end.
+    fn tell(&mut self, ended: Result<Ending, Halt>) -> Result<LpKind, LpStop>
+        requires told { (P : Program) × IsTold N.limit P ended self.old }
+        ensures solved { (P : Program) → IsTold N.limit P ended self.old
+            → MatchResult result (λ kind. HasSolved P kind self.new) (λ stop. HasStopped N.limit P stop self.new) }
+        ensures caused { (P : Program) → IsTold N.limit P ended self.old
+            → IfErr result (λ stop. IsCaused N.limit P stop self.new) }
+        ensures halted { (P : Program) → IsTold N.limit P ended self.old
+            → IfErr ended (λ halt. HaltsAt (Last P) (InSecond P) N.limit P halt.position halt.cause self.old.dictionary)
+            → IfErr result (λ stop. HasHalted N.limit P stop self.new) }
+        ensures answered { IfOk result (λ kind. HasAnswered kind self.new) }
+        ensures resumable { (P : Program) → IsTold N.limit P ended self.old
+            → IfOk result (λ kind. HasPoint self.new → CanResume P self.new) }
+        ensures columns { self.new.columns ≡ self.old.columns }
+        ensures positions { positions self.new ≡ positions self.old }
+        ensures limit { self.new.limit ≡ self.old.limit }
+    {
+        let ending = match ended {
+            Ok(ending) => ending,
+            Err(halt) => {
+                self.state = State::Stopped(halt.cause);
+                return Err(LpStop::Wide(halt.position as u32));
+            }
+        };
+        match ending {
+            Ending::Optimal => {
                 self.state = State::Optimal;
                 Ok(LpKind::Optimal)
             }
-            Ok(Ending::Infeasible(row)) => {
+            Ending::Infeasible(row) => {
                 self.dictionary.show_weights(row, &mut self.weights);
                 let m = self.dictionary.positions();
                 if self.weights.largest(0, m) > N::LIMIT as u128 {
-                    self.state = State::Stopped;
+                    self.state = State::Stopped(Cause::Told);
                     return Err(LpStop::Wide(m as u32));
                 }
                 self.state = State::Infeasible;
                 Ok(LpKind::Infeasible)
             }
-            Ok(Ending::Unbounded(column)) => {
+            Ending::Unbounded(column) => {
                 self.state = State::Unbounded(column);
                 Ok(LpKind::Unbounded)
-            }
-            Err(i) => {
-                self.state = State::Stopped;
-                Err(LpStop::Wide(i as u32))
             }
         }
     }
 
     /// The status with `cost` in place of the program's cost, from the dictionary that stands: one number for each
-    /// structural column, in their order. The last call answered `Optimal` or `Unbounded`, or was `set_to` a solver
-    /// whose last call did. It takes no memory. After a stop only `basis` and `set_to` may be called; what is wide may
-    /// be a stage of the objective's row, which is made as the cost is put on.
+    /// structural column, in their order. The last call answered `Optimal` or `Unbounded`, or this solver was `set_to`
+    /// or `deepened` from one whose last call did. It takes no memory. After a stop no number may be asked for, and
+    /// nothing goes on from there; what is wide may be a stage of the objective's row, which is made as the cost is put
+    /// on.
     pub fn resume<L: Ledger>(&mut self, cost: &[i64], ledger: &mut L) -> Result<LpKind, LpStop>
         requires stands { (P : Program) × CanResume P self.old }
         requires size { length cost.now ≡ self.old.columns }
@@ -154,9 +207,9 @@ impl<N: Exact, E: Entry> Work<N, E> {
                 self.state = State::Unbounded(column);
                 Ok(LpKind::Unbounded)
             }
-            Err(row) => {
-                self.state = State::Stopped;
-                Err(LpStop::Wide(row as u32))
+            Err(halt) => {
+                self.state = State::Stopped(Cause::Elsewhere);
+                Err(LpStop::Wide(halt.position as u32))
             }
         }
     }
@@ -204,7 +257,7 @@ impl<N: Exact, E: Entry> Work<N, E> {
         }
     }
 
-    // An entry of the row of position i, in a column of the dictionary, over the row's own entry.
+    /// An entry of the row of position i, in a column of the dictionary, over the row's own entry.
     fn over_own(&self, column: usize, i: usize) -> N
         requires point { HasPoint self.now }
         requires inside { i < positions self.now }
@@ -220,7 +273,7 @@ impl<N: Exact, E: Entry> Work<N, E> {
         )
     }
 
-    // Minus such an entry.
+    /// Minus such an entry.
     fn minus_over_own(&self, column: usize, i: usize) -> N
         requires point { HasPoint self.now }
         requires inside { i < positions self.now }
@@ -253,7 +306,7 @@ impl<N: Exact, E: Entry> Work<N, E> {
         self.over_objective(self.dictionary.columns() + self.dictionary.positions() + 2)
     }
 
-    // An entry of the objective's row, in a column of the dictionary, over the row's own entry.
+    /// An entry of the objective's row, in a column of the dictionary, over the row's own entry.
     fn over_objective(&self, column: usize) -> N
         requires optimum { HasOptimum self.now }
         requires column { column < width_of self.now.dictionary }
@@ -302,6 +355,17 @@ impl<N: Exact, E: Entry> Work<N, E> {
         ensures column { result ≡ column_of self.now.state }
     {
         self.growing() as u32
+    }
+
+    /// What it stopped at.
+    pub fn cause(&self) -> Cause
+        requires stopped { has_stopped self.now.state }
+        ensures cause { self.now.state ≡ Stopped result }
+    {
+        match self.state {
+            State::Stopped(cause) => cause,
+            _ => unreachable!(),
+        }
     }
 
     fn growing(&self) -> usize

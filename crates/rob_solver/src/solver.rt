@@ -1,4 +1,4 @@
-// A solver of one linear program over rows of either depth.
+//! A solver of one linear program over rows of either depth.
 
 ghost use Rattle.std.specs.Prelude.{◌≡◌, ◌+◌, ◌^◌, ◌<◌, ◌≤◌, nat_abs, length, IfOk, IfErr, MatchResult};
 ghost use Rattle.std.specs.Bool.{OnTrue, OnFalse};
@@ -8,16 +8,17 @@ ghost use Rattle.rob_rows.specs.LinearPrograms.{HasNumbersWithin, program_of};
 ghost use Rattle.rob_rows.specs.PrimitiveParts.{IsWithin};
 ghost use Rattle.rob_simplex.specs.Counting.{CountsRows};
 ghost use Rattle.rob_simplex.specs.Dictionaries.{columns_of};
-ghost use Rattle.rob_simplex.specs.Endings.{IsFresh, HasAnswered, HasSolved, HasStopped, IsCaused};
+ghost use Rattle.rob_simplex.specs.Endings.{IsFresh, HasAnswered, HasBegun, HasHalted, HasSolved, HasStopped, IsCaused};
+ghost use Rattle.rob_simplex.specs.declared.state.State.TheVariants.{Stopped as At};
 ghost use Rattle.rob_simplex.specs.Resuming.{CanResume, HasResumed, HasStoppedFrom, IsCausedFrom};
 ghost use Rattle.rob_simplex.specs.Solutions.{point_of, ray_of, dual_of, value_of, weights_of};
-ghost use Rattle.rob_simplex.specs.Solvers.{positions, HasPoint, HasOptimum, HasRay, HasWeights, column_of, IsMadeFor, StandsAs};
+ghost use Rattle.rob_simplex.specs.Solvers.{positions, HasPoint, HasOptimum, HasRay, HasWeights, column_of, IsMadeFor, StandsAs, has_stopped};
 ghost use Rattle.rob_solver.specs.Depths.{narrow_limit, deep_limit};
 
 use crate::depth::Depth;
 use rob_number::{Exact, Ledger, LpKind, Memory};
 use rob_rows::Rows;
-use rob_simplex::{LpStop, Work};
+use rob_simplex::{Cause, LpStop, Work};
 use std::alloc::Global;
 use std::marker::Model;
 
@@ -130,6 +131,8 @@ impl<N: Exact> Solver<N> {
             → MatchResult result (λ kind. HasSolved P kind self.new) (λ stop. HasStopped N.limit P stop self.new) }
         ensures caused { (P : Program) → IsMadeFor P self.old
             → IfErr result (λ stop. IsCaused N.limit P stop self.new) }
+        ensures halted { (P : Program) → IsMadeFor P self.old
+            → IfErr result (λ stop. HasHalted N.limit P stop self.new) }
         ensures answered { IfOk result (λ kind. HasAnswered kind self.new) }
         ensures resumable { (P : Program) → IsMadeFor P self.old
             → IfOk result (λ kind. HasPoint self.new → CanResume P self.new) }
@@ -141,6 +144,28 @@ impl<N: Exact> Solver<N> {
         match &mut self.depth {
             Depth::Narrow(work) => work.solve(ledger),
             Depth::Deep(work) => work.solve(ledger),
+        }
+    }
+
+    /// Goes on where narrow rows, which these took over, stopped at a turn, as `Work::go_on` does. A stop is not
+    /// counted.
+    pub fn go_on<L: Ledger>(&mut self, ledger: &mut L) -> Result<LpKind, LpStop>
+        requires begun { (P : Program) × HasBegun P self.old }
+        ensures solved { (P : Program) → HasBegun P self.old
+            → MatchResult result (λ kind. HasSolved P kind self.new) (λ stop. HasStopped N.limit P stop self.new) }
+        ensures caused { (P : Program) → HasBegun P self.old
+            → IfErr result (λ stop. IsCaused N.limit P stop self.new) }
+        ensures answered { IfOk result (λ kind. HasAnswered kind self.new) }
+        ensures resumable { (P : Program) → HasBegun P self.old
+            → IfOk result (λ kind. HasPoint self.new → CanResume P self.new) }
+        ensures columns { self.new.columns ≡ self.old.columns }
+        ensures positions { positions self.new ≡ positions self.old }
+        ensures limit { self.new.limit ≡ self.old.limit }
+        ensures counted { CountsRows L.ops L.wides ledger.old ledger.new }
+    {
+        match &mut self.depth {
+            Depth::Narrow(work) => work.go_on(ledger),
+            Depth::Deep(work) => work.go_on(ledger),
         }
     }
 
@@ -196,6 +221,17 @@ impl<N: Exact> Solver<N> {
     }
 
     // ---- read
+    /// What it stopped at.
+    pub fn cause(&self) -> Cause
+        requires stopped { has_stopped self.now.state }
+        ensures cause { self.now.state ≡ At result }
+    {
+        match &self.depth {
+            Depth::Narrow(work) => work.cause(),
+            Depth::Deep(work) => work.cause(),
+        }
+    }
+
     /// The basic column of a position, counted from 0: structural columns first, then the slack columns, then the
     /// auxiliary one.
     pub fn basis(&self, i: u32) -> u32

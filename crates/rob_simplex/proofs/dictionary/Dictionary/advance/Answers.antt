@@ -55,3 +55,15 @@ returns-in-Err-clause-position g c =
     let em : c.len-m.result ≡ positions c.args.self.now = c.len-m.ensures ∙ c.self.inside.basis.ok.0 ∙ ap (λ (t : Table). positions t) c.self.view_is in
     let below : c.in-Err.i < c.len-m.result + 1 = c.in-Err.ensures.wide.0 in
     omega arith
+
+pub returns-in-Err-clause-begun : goal.returns-in-Err-clause-begun
+returns-in-Err-clause-begun g c =
+    let em : c.len-m.result ≡ positions c.args.self.now = c.len-m.ensures ∙ c.self.inside.basis.ok.0 ∙ ap (λ (t : Table). positions t) c.self.view_is in
+    record {
+      before = c.args.self.now;
+      stood = refl;
+      column = c.in-Some.column;
+      enters = subst (λ (i : ℕ). FirstNegative (c.args.self.now.columns + positions c.args.self.now) (rows_of c.args.self.now i) c.in-Some.column) em c.in-Some.ensures.first;
+      leaves = c.in-Some-leaving.ensures.first;
+      broken = c.in-Err.ensures.broken;
+    }

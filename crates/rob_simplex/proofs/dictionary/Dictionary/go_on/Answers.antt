@@ -23,7 +23,7 @@ improve_and_judge-requires g c = record {
 pub returns-in-Ok-clause-told : goal.returns-in-Ok-clause-told
 returns-in-Ok-clause-told g c P h =
     subst (λ (b : List ℕ). MatchResult c.improve_and_judge.result (λ e. EndsFrom (with_cost P (at c.args.cost.now)) (columns_of b) e c.improve_and_judge.new.self × Tells g.N.Exact.limit e c.improve_and_judge.new.self)
-    (λ i. HasWideRowFrom g.N.Exact.limit (with_cost P (at c.args.cost.now)) (columns_of b) (columns_of c.improve_and_judge.new.self.basis) i)) c.put_on.ensures.basis
+    (λ halt. HasWideRowFrom g.N.Exact.limit (with_cost P (at c.args.cost.now)) (columns_of b) (columns_of c.improve_and_judge.new.self.basis) halt.position)) c.put_on.ensures.basis
     (c.improve_and_judge.ensures.told (with_cost P (at c.args.cost.now)) (c.in-Ok.ensures.put P h))
 
 pub returns-in-Err-clause-told : goal.returns-in-Err-clause-told
@@ -34,7 +34,8 @@ returns-in-Err-clause-told g c P h =
 
 pub returns-in-Ok-clause-caused : goal.returns-in-Ok-clause-caused
 returns-in-Ok-clause-caused g c P h =
-    subst (λ (b : List ℕ). IfErr c.improve_and_judge.result (PathStopsFrom g.N.Exact.limit (with_cost P (at c.args.cost.now)) (columns_of b) c.improve_and_judge.new.self)) c.put_on.ensures.basis
+    subst (λ (b : List ℕ). IfErr c.improve_and_judge.result
+    (λ halt. PathStopsFrom g.N.Exact.limit (with_cost P (at c.args.cost.now)) (columns_of b) c.improve_and_judge.new.self halt.position)) c.put_on.ensures.basis
     (c.improve_and_judge.ensures.caused (with_cost P (at c.args.cost.now)) (c.in-Ok.ensures.put P h))
 
 pub returns-in-Err-clause-caused : goal.returns-in-Err-clause-caused

@@ -1,7 +1,9 @@
-use Rattle.std.proofs.Common.{◌∙◌, refl, subst, arith, Some, None}
+use Rattle.std.proofs.Common.{◌≡◌, ◌∙◌, refl, sym, subst, arith, Some, None}
 use Rattle.rob_linear.specs.WideRows.{HasWideRowFrom}
 use Rattle.rob_simplex.specs.Dictionaries.{columns_of}
+use Rattle.rob_simplex.specs.Begun.{StandsFrom}
 use Rattle.rob_simplex.specs.Phases.{HasTurned}
+use Rattle.rob_simplex.proofs.BegunTurns.{begun_where}
 use Rattle.rob_simplex.proofs.PathsFrom.{from_here, one_turn, ends_from, refused_from}
 use Rattle.rob_simplex.proofs.dictionary.Dictionary.improve.Goals as goal
 
@@ -48,5 +50,10 @@ turns-smaller g c =
 pub returns-in-Err-clause-told : goal.returns-in-Err-clause-told
 returns-in-Err-clause-told g c P h =
     let i = c.turns.invariant.stands P h in
-    subst (λ l. HasWideRowFrom l P (columns_of c.args.self.now.basis) (columns_of c.advance.new.self.basis) c.in-Err.i) c.turns.invariant.limit
-    (refused_from c.turns.self.limit P (columns_of c.args.self.now.basis) c.turns.self c.advance.new.self c.in-Err.i i.1 (c.in-Err.ensures.wide P i.0))
+    subst (λ l. HasWideRowFrom l P (columns_of c.args.self.now.basis) (columns_of c.advance.new.self.basis) c.in-Err.halt.position) c.turns.invariant.limit
+    (refused_from c.turns.self.limit P (columns_of c.args.self.now.basis) c.turns.self c.advance.new.self c.in-Err.halt.position i.1 (c.in-Err.ensures.wide P i.0))
+
+pub returns-in-Err-clause-begun : goal.returns-in-Err-clause-begun
+returns-in-Err-clause-begun g c P h =
+    begun_where (λ t. t ≡ c.turns.self) (StandsFrom P (columns_of c.args.self.now.basis)) (λ t e. subst (StandsFrom P (columns_of c.args.self.now.basis)) (sym e) (c.turns.invariant.stands P h))
+    c.in-Err.halt.cause c.advance.new.self c.in-Err.ensures.begun

@@ -2,6 +2,7 @@ use Rattle.std.proofs.Common.{subst, Some, None}
 use Rattle.rob_simplex.specs.Dictionaries.{columns_of}
 use Rattle.rob_simplex.specs.Judging.{Tells}
 use Rattle.rob_simplex.specs.Phases.{EndsFrom}
+use Rattle.rob_simplex.proofs.BegunTurns.{halts_on}
 use Rattle.rob_simplex.proofs.Causes.{stops_on}
 use Rattle.rob_simplex.proofs.PathsFrom.{second_from, wide_from}
 use Rattle.rob_simplex.proofs.dictionary.Dictionary.improve_to_end.Goals as goal
@@ -22,7 +23,10 @@ returns-in-Ok-Some-clause-told g c P h =
     (second_from P c.args.self.now c.improve_and_judge.new.self (Some c.in-Ok-Some.column) h told.0, told.1)
 
 pub returns-in-Err-clause-told : goal.returns-in-Err-clause-told
-returns-in-Err-clause-told g c P h = wide_from g.N.Exact.limit P c.args.self.now (columns_of c.improve_and_judge.new.self.basis) c.in-Err.i h (c.in-Err.ensures.told P h.own)
+returns-in-Err-clause-told g c P h = wide_from g.N.Exact.limit P c.args.self.now (columns_of c.improve_and_judge.new.self.basis) c.in-Err.halt.position h (c.in-Err.ensures.told P h.own)
 
 pub returns-in-Err-clause-caused : goal.returns-in-Err-clause-caused
-returns-in-Err-clause-caused g c P h = stops_on g.N.Exact.limit P c.args.self.now c.improve_and_judge.new.self c.in-Err.i h (c.in-Err.ensures.caused P h.own)
+returns-in-Err-clause-caused g c P h = stops_on g.N.Exact.limit P c.args.self.now c.improve_and_judge.new.self c.in-Err.halt.position h (c.in-Err.ensures.caused P h.own)
+
+pub returns-in-Err-clause-halted : goal.returns-in-Err-clause-halted
+returns-in-Err-clause-halted g c P h = halts_on g.N.Exact.limit P c.args.self.now c.improve_and_judge.new.self c.in-Err.halt.position c.in-Err.halt.cause h (c.in-Err.ensures.halted P h.own)

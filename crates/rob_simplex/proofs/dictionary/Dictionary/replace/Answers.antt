@@ -1,8 +1,8 @@
 use Rattle.std.proofs.Common.{◌≡◌, ℕ, ◌<◌, ◌≤◌, ◌+◌, ◌*◌, sym, subst, arith, length, pos, set}
-use Rattle.rob_simplex.specs.Dictionaries.{Table, positions, columns_of, rows_of, kept_row_of, IsFree, IsAlone}
+use Rattle.rob_simplex.specs.Dictionaries.{Table, positions, columns_of, rows_of, kept_row_of, IsFree, IsAlone, IsExchanged}
 use Rattle.rob_simplex.proofs.WrittenBack.{read_at}
 use Rattle.rob_simplex.proofs.EntryLemmas.{small_entries}
-use Rattle.rob_simplex.proofs.Replacing.{exchanged_entries, first_in, left_in, place_low, made_sound, made_rows, made_kept, made}
+use Rattle.rob_simplex.proofs.Replacing.{exchanged_entries, first_in, left_in, place_low, made_sound, made_rows, made_kept, made_exchanged, made}
 use Rattle.rob_simplex.proofs.dictionary.Dictionary.replace.Goals as goal
 
 pub swap-requires-clause-a_in : goal.swap-requires-clause-a_in
@@ -106,3 +106,19 @@ returns-clause-kept g c =
     let et : c.swap.new.self ≡ exchanged_entries table (c.args.row * (n + 4) + c.index-place.result.now) (c.args.row * (n + 4) + (n + 3)) = c.swap.ensures.swapped in
     subst (λ (t : Table). kept_row_of t c.args.column ≡ pos 0 → (k : ℕ) → kept_row_of (made g.E.Entry.top n basis places c.self.inside.near.items table c.self.inside.bounds.items (length c.self.inside.pivot_row.entries) c.self.invariant c.args.row c.args.column rl free c.index-place.result.now c.index-left.result.now c.swap.new.self) k ≡ kept_row_of t k) c.self.view_is
     (made_kept g.E.Entry.top n basis places c.self.inside.near.items table c.self.inside.bounds.items (length c.self.inside.pivot_row.entries) c.self.invariant c.args.row c.args.column rl free c.index-place.result.now c.index-left.result.now c.swap.new.self ex el et)
+
+pub returns-clause-exchanged : goal.returns-clause-exchanged
+returns-clause-exchanged g c =
+    let n = c.self.inside.columns in
+    let basis = c.self.inside.basis.items in
+    let places = c.self.inside.places.items in
+    let table = c.self.inside.rows in
+    let rl : c.args.row < length c.self.inside.basis.items = subst (λ (t : Table). c.args.row < positions t) (sym c.self.view_is) c.requires.row_in in
+    let free : IsFree c.self.inside.columns c.self.inside.basis.items c.args.column = subst (λ (t : Table). IsFree t.columns t.basis c.args.column) (sym c.self.view_is) c.requires.free in
+    let inside : c.args.column < c.self.inside.columns + length c.self.inside.basis.items + 4 = free.inside in
+    let ex = read_at places c.args.column c.index-place.result.now (omega (arith, c.self.invariant.places_size)) c.index-place.ensures in
+    let el = read_at basis c.args.row c.index-left.result.now rl c.index-left.ensures in
+    let et : c.swap.new.self ≡ exchanged_entries table (c.args.row * (n + 4) + c.index-place.result.now) (c.args.row * (n + 4) + (n + 3)) = c.swap.ensures.swapped in
+    subst (λ (t : Table). IsExchanged t (made g.E.Entry.top n basis places c.self.inside.near.items table c.self.inside.bounds.items (length c.self.inside.pivot_row.entries) c.self.invariant c.args.row c.args.column rl free c.index-place.result.now c.index-left.result.now c.swap.new.self)
+    c.args.row (columns_of t.basis c.args.row) c.args.column) c.self.view_is
+    (made_exchanged g.E.Entry.top n basis places c.self.inside.near.items table c.self.inside.bounds.items (length c.self.inside.pivot_row.entries) c.self.invariant c.args.row c.args.column rl free c.index-place.result.now c.index-left.result.now c.swap.new.self ex el et)

@@ -5,6 +5,7 @@ use Rattle.rob_linear.specs.Paths.{LastFrom}
 use Rattle.rob_simplex.specs.Endings.{IsOptimumAt, IsRayAt}
 use Rattle.rob_linear.specs.WideRows.{HasWideRowFrom}
 use Rattle.rob_simplex.specs.declared.state.State.TheVariants.{Optimal, Unbounded}
+use Rattle.rob_simplex.specs.declared.state.Cause.TheVariants.{Elsewhere}
 use Rattle.rob_simplex.specs.Dictionaries.{columns_of}
 use Rattle.rob_simplex.specs.Judging.{Tells}
 use Rattle.rob_simplex.specs.PathEnds.{PathStopsFrom}
@@ -42,7 +43,7 @@ invariant_of-self-in-Ok-Some g c =
 pub invariant_of-self-in-Err : goal.invariant_of-self-in-Err
 invariant_of-self-in-Err g c =
     let v : Solver = record { state = c.self.inside.state; dictionary = c.self.inside.dictionary; weights = c.self.inside.weights } in
-    sound_stopped g.E.Entry.top g.N.Exact.limit v c.self.invariant c.go_on.new.self c.self.inside.weights c.go_on.ensures.limit c.go_on.ensures.columns c.go_on.ensures.positions c.self.invariant.weights_size
+    sound_stopped g.E.Entry.top g.N.Exact.limit v c.self.invariant c.go_on.new.self c.self.inside.weights c.go_on.ensures.limit c.go_on.ensures.columns c.go_on.ensures.positions c.self.invariant.weights_size Elsewhere
 
 pub returns-in-Ok-None-clause-resumed : goal.returns-in-Ok-None-clause-resumed
 returns-in-Ok-None-clause-resumed g c P h =
@@ -64,8 +65,8 @@ pub returns-in-Err-clause-resumed : goal.returns-in-Err-clause-resumed
 returns-in-Err-clause-resumed g c P h =
     let v : Solver = record { state = c.self.inside.state; dictionary = c.self.inside.dictionary; weights = c.self.inside.weights } in
     let told = c.in-Err.ensures.told P (resumed_stands P v c.args.self.now c.self.view_is h) in (
-      refl,
-      subst (λ (u : Solver). HasWideRowFrom g.N.Exact.limit (with_cost P (at c.args.cost.now)) (columns_of u.basis) (columns_of c.go_on.new.self.basis) c.in-Err.row) c.self.view_is
+      tt,
+      subst (λ (u : Solver). HasWideRowFrom g.N.Exact.limit (with_cost P (at c.args.cost.now)) (columns_of u.basis) (columns_of c.go_on.new.self.basis) c.in-Err.halt.position) c.self.view_is
           told,
     )
 
@@ -87,5 +88,5 @@ overflow_cast-result g c = omega (arith, c.in-Err.ensures.position, c.self.invar
 pub returns-in-Err-clause-caused : goal.returns-in-Err-clause-caused
 returns-in-Err-clause-caused g c P h =
     let v : Solver = record { state = c.self.inside.state; dictionary = c.self.inside.dictionary; weights = c.self.inside.weights } in
-    subst (λ (u : Solver). PathStopsFrom g.N.Exact.limit (with_cost P (at c.args.cost.now)) (columns_of u.basis) c.go_on.new.self c.in-Err.row) c.self.view_is
+    subst (λ (u : Solver). PathStopsFrom g.N.Exact.limit (with_cost P (at c.args.cost.now)) (columns_of u.basis) c.go_on.new.self c.in-Err.halt.position) c.self.view_is
     (c.in-Err.ensures.caused P (resumed_stands P v c.args.self.now c.self.view_is h))

@@ -1,0 +1,51 @@
+use Rattle.std.proofs.Common.{◌≤◌, sym, ap, ◌∙◌, subst}
+use Rattle.rob_simplex.specs.Solvers.{Solver}
+use Rattle.rob_simplex.proofs.JudgingLemmas.{limit_below}
+use Rattle.rob_simplex.proofs.Solving.{sound_untold, untold}
+use Rattle.rob_simplex.proofs.TellLemmas.{is_told}
+use Rattle.rob_simplex.proofs.BegunWork.{begun_here, begun_rows, begun_stopped}
+use Rattle.rob_simplex.proofs.work.Work.go_on.Goals as goal
+
+pub cause-cause-requires : goal.cause-cause-requires
+cause-cause-requires g c = record { stopped = begun_stopped c.requires.begun.0 c.args.self.now c.requires.begun.1 }
+
+pub follow_on-ended-requires : goal.follow_on-ended-requires
+follow_on-ended-requires g c =
+    let P = c.requires.begun.0 in
+    let h = c.requires.begun.1 in
+    let v : Solver = record { state = c.self.inside.state; dictionary = c.self.inside.dictionary; weights = c.self.inside.weights } in
+    let b = begun_here P v c.args.self.now c.self.view_is h c.cause-cause.result c.cause-cause.ensures.cause in
+    record { begun = (P, b); limit = subst (λ l. g.N.Exact.limit ≤ l) (sym c.self.invariant.limit_is) (limit_below g.N.Exact.limit g.E.Entry.top g.met.N.Exact.limit_high g.met.E.Entry.top_low) }
+
+-- the solver is as it stopped, but for its dictionary
+pub invariant_of-self : goal.invariant_of-self
+invariant_of-self g c =
+    let v : Solver = record { state = c.self.inside.state; dictionary = c.self.inside.dictionary; weights = c.self.inside.weights } in
+    sound_untold g.E.Entry.top g.N.Exact.limit v c.self.invariant c.follow_on-ended.new.self c.self.inside.weights c.follow_on-ended.ensures.limit c.follow_on-ended.ensures.columns c.follow_on-ended.ensures.positions c.self.invariant.weights_size
+    c.self.inside.state (subst untold (sym (ap (λ (u : Solver). u.state) c.self.view_is ∙ c.cause-cause.ensures.cause)) tt)
+
+pub tell-requires : goal.tell-requires
+tell-requires g c =
+    let P = c.requires.begun.0 in
+    let h = c.requires.begun.1 in
+    let v : Solver = record { state = c.self.inside.state; dictionary = c.self.inside.dictionary; weights = c.self.inside.weights } in
+    let b = begun_here P v c.args.self.now c.self.view_is h c.cause-cause.result c.cause-cause.ensures.cause in
+    record { told = (P, (is_told g.N.Exact.limit P v c.follow_on-ended.new.self c.follow_on-ended.result (begun_rows P v c.cause-cause.result b) c.follow_on-ended.ensures.positions (c.follow_on-ended.ensures.told P b) (c.follow_on-ended.ensures.caused P b) c.follow_on-ended.ensures.position)) }
+
+pub returns-clause-solved : goal.returns-clause-solved
+returns-clause-solved g c P h =
+    let v : Solver = record { state = c.self.inside.state; dictionary = c.self.inside.dictionary; weights = c.self.inside.weights } in
+    let b = begun_here P v c.args.self.now c.self.view_is h c.cause-cause.result c.cause-cause.ensures.cause in
+    c.tell.ensures.solved P (is_told g.N.Exact.limit P v c.follow_on-ended.new.self c.follow_on-ended.result (begun_rows P v c.cause-cause.result b) c.follow_on-ended.ensures.positions (c.follow_on-ended.ensures.told P b) (c.follow_on-ended.ensures.caused P b) c.follow_on-ended.ensures.position)
+
+pub returns-clause-caused : goal.returns-clause-caused
+returns-clause-caused g c P h =
+    let v : Solver = record { state = c.self.inside.state; dictionary = c.self.inside.dictionary; weights = c.self.inside.weights } in
+    let b = begun_here P v c.args.self.now c.self.view_is h c.cause-cause.result c.cause-cause.ensures.cause in
+    c.tell.ensures.caused P (is_told g.N.Exact.limit P v c.follow_on-ended.new.self c.follow_on-ended.result (begun_rows P v c.cause-cause.result b) c.follow_on-ended.ensures.positions (c.follow_on-ended.ensures.told P b) (c.follow_on-ended.ensures.caused P b) c.follow_on-ended.ensures.position)
+
+pub returns-clause-resumable : goal.returns-clause-resumable
+returns-clause-resumable g c P h =
+    let v : Solver = record { state = c.self.inside.state; dictionary = c.self.inside.dictionary; weights = c.self.inside.weights } in
+    let b = begun_here P v c.args.self.now c.self.view_is h c.cause-cause.result c.cause-cause.ensures.cause in
+    c.tell.ensures.resumable P (is_told g.N.Exact.limit P v c.follow_on-ended.new.self c.follow_on-ended.result (begun_rows P v c.cause-cause.result b) c.follow_on-ended.ensures.positions (c.follow_on-ended.ensures.told P b) (c.follow_on-ended.ensures.caused P b) c.follow_on-ended.ensures.position)
