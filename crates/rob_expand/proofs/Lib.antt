@@ -18,3 +18,7 @@ pub mod MakeLemmas
 pub mod PrintLemmas
 pub mod ExpandLemmas
 pub mod PartsLemmas
+pub mod FindingLemmas
+pub mod JudgingLemmas
+pub mod JudgeLemmas
+pub mod InnerLemmas

@@ -5,9 +5,11 @@ pub mod Standing
 pub mod Count
 pub mod Live
 pub mod Settings
+pub mod Inner
 pub mod Lines
 pub mod Statements
 pub mod Names
 pub mod Growing
 pub mod Instances
 pub mod Making
+pub mod Judging

@@ -92,7 +92,7 @@ fn are_bare(alloc: Global, items: &[Item], values: &[Whole]) -> Result<bool, Mem
     ensures bare { IfOk result (λ bare. bare ≡ is_bare items.now values.now) }
 {
     for item in items {
-        let settings = all_settings(alloc, item.ranges.items(), values)?;
+        let settings = item.ranges.settings(alloc, values)?;
         if !settings.items().is_empty() {
             return Ok(false);
         }

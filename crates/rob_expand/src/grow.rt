@@ -15,7 +15,7 @@ use crate::line::{Item, Line};
 use crate::name::add_name;
 use crate::placed::{Named, Part, Placed};
 use crate::setting::with_value;
-use crate::settings::{Setting, all_settings};
+use crate::settings::Setting;
 use rob_number::Memory;
 use rob_ranges::run::Run;
 use rob_ranges::{Ends, Whole};
@@ -128,7 +128,7 @@ fn grow_items(
 {
     let mut long = false;
     for item in items {
-        let settings = all_settings(alloc, item.ranges.items(), values)?;
+        let settings = item.ranges.settings(alloc, values)?;
         let here = grow_entries(alloc, own, words, &item.name, settings.items())?;
         long = either(long, here);
     }

@@ -384,7 +384,7 @@ fn item_numbers(
 {
     let mut numbers = List::new(alloc);
     for item in items {
-        let settings = all_settings(alloc, item.ranges.items(), values)?;
+        let settings = item.ranges.settings(alloc, values)?;
         append_numbers(
             &mut numbers,
             alloc,

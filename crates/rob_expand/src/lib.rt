@@ -1,13 +1,15 @@
 //! What a statement with indices, ranges and sums stands for: whether that fits, and the plain statements.
 #![tactic(auto)]
 
+mod around;
 mod count;
 mod divide;
 mod expansion;
 mod fits;
-mod form;
 mod grow;
+mod inner;
 mod instance;
+mod judging;
 pub mod laws;
 mod line;
 mod lines;
@@ -23,5 +25,6 @@ mod tokens;
 
 pub use expansion::expand;
 pub use fits::{has_room, spend_statement};
+pub use judging::{Judged, judge};
 pub use name::Refusal;
 pub use room::Stop;

@@ -7,11 +7,12 @@ ghost use Rattle.rob_expand.specs.Placed.{placed_of};
 ghost use Rattle.rob_expand.specs.Settings.{all_left};
 
 use crate::count::count;
+use crate::inner::Inner;
 use crate::placed::{Named, Placed};
 use crate::room::{Stop, spend};
-use crate::settings::{Setting, settings_of};
+use crate::settings::Setting;
 use rob_number::List;
-use rob_ranges::{Ends, Whole};
+use rob_ranges::Whole;
 use std::alloc::Global;
 
 /// An item of a list, which is an entry in each setting of its ranges.
@@ -20,7 +21,7 @@ pub struct Item {
     pub name: Named,
     /// The tokens of an entry behind its name.
     pub behind: u32,
-    pub ranges: List<Ends>,
+    pub ranges: Inner,
 }
 
 /// What of a statement has tokens or names: so many tokens in any setting, the name that is declared, expressions, the
@@ -90,7 +91,7 @@ fn spend_items(alloc: Global, items: &[Item], values: &[Whole], room: u32) -> Re
     let mut left = room;
     let mut first = true;
     for item in items {
-        let settings = settings_of(alloc, item.ranges.items(), values, left)?;
+        let settings = item.ranges.settings_up_to(alloc, values, left)?;
         let entries = settings.items().len() as u32;
         let behind = spend_entries(first, item.behind, entries, left)?;
         left = behind;

@@ -9,13 +9,15 @@ ghost use Rattle.rob_expand.specs.Placed.{placed_of};
 ghost use Rattle.rob_expand.specs.Placing.{placed_tree};
 ghost use Rattle.rob_expand.specs.Statements.{IsLine, IsParts, member_item, name_item};
 
-use crate::form::{copied, ends_of, with_name};
+use crate::around::{copied, with_name};
+use crate::inner::Inner;
 use crate::line::{Item, Line};
 use crate::place::{place, place_name, place_over};
 use crate::placed::Placed;
 use crate::tokens::{bounds_tokens, number_tokens, over_tokens, signed_tokens};
 use rob_number::{List, Memory};
 use rob_ranges::Ends;
+use rob_ranges::index::ends_of;
 use rob_syntax::syntax::{Entry, Indexed, Range, Ranged, Ref, Rule, Share, Shares, Sides, Target};
 use std::alloc::Global;
 
@@ -249,10 +251,11 @@ fn member_items(alloc: Global, limit: u64, members: &[Ranged<Share>]) -> Result<
         let name = place_name(alloc, nest.names.items(), &member.item.name)?;
         let centre = signed_tokens(limit, member.item.centre);
         let deviation = number_tokens(limit, member.item.deviation);
+        let ranges = Inner::new(alloc, nest.ends)?;
         made.push(Item {
             name,
             behind: 2 + (centre + deviation),
-            ranges: nest.ends,
+            ranges,
         })?;
     }
     Ok(made)
@@ -267,10 +270,11 @@ fn name_items(alloc: Global, names: &[usize], on: &[Ranged<Ref>]) -> Result<List
     for entry in on {
         let nest = nest_in(alloc, names, entry.ranges.items())?;
         let name = place_name(alloc, nest.names.items(), &entry.item)?;
+        let ranges = Inner::new(alloc, nest.ends)?;
         made.push(Item {
             name,
             behind: 0,
-            ranges: nest.ends,
+            ranges,
         })?;
     }
     Ok(made)

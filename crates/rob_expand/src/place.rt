@@ -8,10 +8,11 @@ ghost use Rattle.rob_syntax.specs.Seen as seen;
 ghost use Rattle.rob_expand.specs.Placed.{placed_of, part_of, parts_of, factors_of};
 ghost use Rattle.rob_expand.specs.Placing.{placed_name, placed_tree, placed_parts, placed_factors};
 
-use crate::form::{ends_of, index_form, with_name};
+use crate::around::with_name;
 use crate::placed::{Named, Part, Placed};
 use rob_number::{List, Memory};
 use rob_ranges::Form;
+use rob_ranges::index::{ends_of, index_form};
 use rob_syntax::syntax;
 use rob_syntax::syntax::{Index, Ref, Tree};
 use std::alloc::Global;

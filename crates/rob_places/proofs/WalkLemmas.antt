@@ -6,17 +6,16 @@ use Rattle.std.specs.List.{list_any}
 use Rattle.rob_index.specs.Statements.{Index, Ref, Range, Tree, TreeParts, TreeFactors, Ranged, Sides, Indexed, uncertain, over, set, budget, variable, adaptive, goal, row}
 use Rattle.rob_index.specs.Statements as stated
 use Rattle.rob_index.specs.Expansion.{ranges_of}
-use Rattle.rob_index.specs.Forms.{minus, length_form, reaches}
-use Rattle.rob_index.specs.Rules.{Inside, of_index, ref_places, optional_places, range_place, under, range_places, tree_places, part_places, factor_places, each_places, sides_places, inner_places, places, is_unknown, is_long, is_out}
-use Rattle.rob_index.proofs.FastLemmas.{is_long_is, is_out_is}
+use Rattle.rob_index.specs.Forms.{minus, length_form}
+use Rattle.rob_index.specs.Rules.{Inside, of_index, ref_places, optional_places, range_place, under, range_places, tree_places, part_places, factor_places, each_places, sides_places, inner_places, places, is_unknown}
 use Rattle.rob_index.specs.Search.{Searched, search_on, search, search_places, price_of, search_out}
-use Rattle.rob_index.specs.Fast.{nothing, index_form, ends_of, nest_of}
+use Rattle.rob_index.specs.Fast.{nothing, index_form, ends_of, nest_of, names_in}
 use Rattle.rob_places.specs.declared.test.Test.{Test}
-use Rattle.rob_places.specs.declared.test.Test.TheVariants.{Unknown, GreatDigits, Long, Out, SoughtLong, SoughtOut}
+use Rattle.rob_places.specs.declared.test.Test.TheVariants.{Unknown, GreatDigits, SoughtLong, SoughtOut}
 use Rattle.rob_places.specs.Around.{Around, nothing_around, around_of}
-use Rattle.rob_places.specs.Tests.{told, test_of, price, is_long_in, is_out_in, sought_out_in, at_index, is_unknown_in, at_range}
+use Rattle.rob_places.specs.Tests.{told, test_of, price, sought_out_in, at_index, is_unknown_in, at_range}
 use Rattle.rob_places.specs.Walk.{walk_indices, walk_optional, walk_tree, walk_parts, walk_factors, walk_item, walk_each, walk_sides, walk_inner, walk_inside}
-use Rattle.rob_places.proofs.AroundLemmas.{names_are, names_length, inside_is, binds_is, has_loose_is}
+use Rattle.rob_places.proofs.AroundLemmas.{names_length, inside_is, binds_is, has_loose_is}
 
 -- ---- one search behind another
 pub on_on : (s : Searched) (f g : ℕ → Searched)
@@ -48,12 +47,6 @@ told_any test (i ∷ is) left = go (test i) (told_any test is left)
     go false h = h
 
 -- ---- at a place
-out_is : (above : List Range) (x : Index) → is_out_in (around_of above) x ≡ is_out (of_index above x)
-out_is above x =
-    (λ i. reaches (nest_of [] above) [] (minus nothing (index_form (names_are [] above i) x)) (pos 1)
-    || reaches (nest_of [] above) [] (index_form (names_are [] above i) x) (pos 1000))
-    ∙ sym (is_out_is (of_index above x))
-
 price_is : (above : List Range) → price (around_of above) ≡ price_of above
 price_is above = ap (λ (n : ℕ). n * (n * n)) (names_length above)
 
@@ -61,15 +54,13 @@ sought_out_is : (above : List Range) (x : Index) (left : ℕ)
     → sought_out_in (around_of above) x left ≡ search_out (of_index above x) left
 sought_out_is above x left = λ i.
     search_on
-    (search (price_is above i) (nest_of [] above) [] (minus nothing (index_form (names_are [] above i) x)) (pos 1) left)
-    (search (price_is above i) (nest_of [] above) [] (index_form (names_are [] above i) x) (pos 1000))
+    (search (price_is above i) (nest_of [] above) [] (minus nothing (index_form (names_in [] above) x)) (pos 1) left)
+    (search (price_is above i) (nest_of [] above) [] (index_form (names_in [] above) x) (pos 1000))
 
 pub index_is : (is_declared : ℕ → Bool) (test : Test) (above : List Range) (x : Index) (left : ℕ)
     → at_index test (around_of above) x left ≡ test_of is_declared test (of_index above x) left
 index_is d Unknown above x left = ap (λ (b : Bool). told b left) (has_loose_is d above x)
 index_is d GreatDigits above x left = refl
-index_is d Long above x left = refl
-index_is d Out above x left = ap (λ (b : Bool). told b left) (out_is above x)
 index_is d SoughtLong above x left = refl
 index_is d SoughtOut above x left = sought_out_is above x left
 
@@ -79,19 +70,12 @@ unknown_is is_declared above r = λ i.
     (has_loose_is is_declared above r.from i || has_loose_is is_declared above r.upto i)
     || (binds_is is_declared above r.name i || is_declared r.name)
 
-long_is : (above : List Range) (r : Range) → is_long_in (around_of above) r ≡ is_long (range_place above r)
-long_is above r =
-    (λ i. reaches (nest_of [] above) [] (length_form (ends_of (names_are [] above i) r)) (pos 100))
-    ∙ sym (is_long_is (range_place above r))
-
 pub range_is : (is_declared : ℕ → Bool) (test : Test) (above : List Range) (r : Range) (left : ℕ)
     → at_range is_declared test (around_of above) r left ≡ test_of is_declared test (range_place above r) left
 range_is d Unknown above r left = ap (λ (b : Bool). told b left) (unknown_is d above r)
 range_is d GreatDigits above r left = refl
-range_is d Long above r left = ap (λ (b : Bool). told b left) (long_is above r)
-range_is d Out above r left = refl
 range_is d SoughtLong above r left = λ i.
-    search (price_is above i) (nest_of [] above) [] (length_form (ends_of (names_are [] above i) r)) (pos 100) left
+    search (price_is above i) (nest_of [] above) [] (length_form (ends_of (names_in [] above) r)) (pos 100) left
 range_is d SoughtOut above r left = refl
 
 -- ---- along a statement

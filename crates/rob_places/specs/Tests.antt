@@ -1,13 +1,13 @@
 -- What is looked for at a place.
 use Rattle.std.specs.Prelude.{ℕ, ◌*◌, ◌||◌, Bool, false, pos, List, [], length, get_or}
 use Rattle.rob_index.specs.Statements.{Index, Range}
-use Rattle.rob_index.specs.Forms.{Form, minus, length_form, reaches}
-use Rattle.rob_index.specs.Rules.{Inside, has_great, is_unknown, has_great_digits, is_long, is_out}
+use Rattle.rob_index.specs.Forms.{Form, minus, length_form}
+use Rattle.rob_index.specs.Rules.{Inside, has_great, is_unknown, has_great_digits}
 use Rattle.rob_index.specs.Search.{Searched, missed, search_on, search, search_long, search_out}
 use Rattle.rob_index.specs.Fast.{nothing, index_form, ends_of}
 use Rattle.rob_places.specs.declared.test.Test.{Test}
-use Rattle.rob_places.specs.declared.test.Test.TheVariants.{Unknown, GreatDigits, Long, Out, SoughtLong, SoughtOut}
-use Rattle.rob_places.specs.Around.{Around, inner_names, binds, has_loose}
+use Rattle.rob_places.specs.declared.test.Test.TheVariants.{Unknown, GreatDigits, SoughtLong, SoughtOut}
+use Rattle.rob_places.specs.Around.{Around, binds, has_loose}
 
 -- an answer that costs nothing
 abbrev pub told : Bool → ℕ → Searched
@@ -21,8 +21,6 @@ is_set table word = get_or table word false
 abbrev pub test_of : (ℕ → Bool) → Test → Inside → ℕ → Searched
 test_of is_declared Unknown i left = told (is_unknown is_declared i) left
 test_of is_declared GreatDigits i left = told (has_great_digits i) left
-test_of is_declared Long i left = told (is_long i) left
-test_of is_declared Out i left = told (is_out i) left
 test_of is_declared SoughtLong i left = search_long i left
 test_of is_declared SoughtOut i left = search_out i left
 
@@ -33,28 +31,19 @@ price a = length a.names * (length a.names * length a.names)
 
 -- the value of an index
 abbrev pub form_of : Around → Index → Form
-form_of a x = index_form (inner_names a) x
+form_of a x = index_form a.names x
 
 -- how far a range's end is from its start
 abbrev pub length_of : Around → Range → Form
-length_of a r = length_form (ends_of (inner_names a) r)
+length_of a r = length_form (ends_of a.names r)
 
--- somewhere the index is below 0, or over 999
-abbrev pub is_out_in : Around → Index → Bool
-is_out_in a x =
-    reaches a.nest [] (minus nothing (form_of a x)) (pos 1) || reaches a.nest [] (form_of a x) (pos 1000)
-
--- the same, as far as it is found
+-- somewhere the index is below 0, or over 999, as far as it is found
 abbrev pub sought_out_in : Around → Index → ℕ → Searched
 sought_out_in a x left =
     search_on (search (price a) a.nest [] (minus nothing (form_of a x)) (pos 1) left)
     (search (price a) a.nest [] (form_of a x) (pos 1000))
 
--- somewhere a range has more than 100 values
-abbrev pub is_long_in : Around → Range → Bool
-is_long_in a r = reaches a.nest [] (length_of a r) (pos 100)
-
--- the same, as far as it is found
+-- somewhere a range has more than 100 values, as far as it is found
 abbrev pub sought_long_in : Around → Range → ℕ → Searched
 sought_long_in a r left = search (price a) a.nest [] (length_of a r) (pos 100) left
 
@@ -62,8 +51,6 @@ sought_long_in a r left = search (price a) a.nest [] (length_of a r) (pos 100) l
 abbrev pub at_index : Test → Around → Index → ℕ → Searched
 at_index Unknown a x left = told (has_loose a x) left
 at_index GreatDigits a x left = told (has_great x) left
-at_index Long a x left = missed left
-at_index Out a x left = told (is_out_in a x) left
 at_index SoughtLong a x left = missed left
 at_index SoughtOut a x left = sought_out_in a x left
 
@@ -76,7 +63,5 @@ is_unknown_in is_declared a r =
 abbrev pub at_range : (ℕ → Bool) → Test → Around → Range → ℕ → Searched
 at_range is_declared Unknown a r left = told (is_unknown_in is_declared a r) left
 at_range is_declared GreatDigits a r left = told (has_great r.from || has_great r.upto) left
-at_range is_declared Long a r left = told (is_long_in a r) left
-at_range is_declared Out a r left = missed left
 at_range is_declared SoughtLong a r left = sought_long_in a r left
 at_range is_declared SoughtOut a r left = missed left

@@ -1,19 +1,20 @@
 //! The ranges around a place.
 
-ghost use Rattle.std.specs.Prelude.{◌≡◌, length, IfOk, OnOk};
+ghost use Rattle.std.specs.Prelude.{◌≡◌, drop, length, IfOk, OnOk};
 ghost use Rattle.rob_index.specs.Fast.{index_form};
 ghost use Rattle.rob_syntax.specs.Seen.{seen_atom, seen_index, seen_range};
 ghost use Rattle.rob_places.specs.Around.{binds, has_loose, inside, is_loose, nothing_around, outside};
 ghost use Rattle.rob_places.specs.Tests.{form_of, length_of};
 
-use crate::index::{ends_of, index_form};
 use rob_number::Memory;
+use rob_ranges::index::{ends_of, index_form};
 use rob_ranges::{Form, Nest};
 use rob_syntax::syntax::{Atom, Index, Range};
 use std::alloc::Global;
 use std::marker::Model;
 
-/// The ranges around a place. Contracts see their names, and their ends as forms, the outermost first.
+/// The ranges around a place. Contracts see their names, the innermost first, and their ends as forms, the outermost
+/// first.
 #[derive(Drop)]
 pub struct Around {
     names: Vec<usize>,
@@ -45,7 +46,7 @@ impl Around {
     {
         let ends = ends_of(alloc, self.names.as_slice(), range)?;
         self.nest.enter(alloc, ends)?;
-        self.names.push(range.name)?;
+        self.names.insert(0, range.name)?;
         Ok(())
     }
 
@@ -54,7 +55,7 @@ impl Around {
         ensures left { self.new ≡ outside self.old }
     {
         self.nest.leave();
-        self.names.pop();
+        remove_first(&mut self.names);
     }
 
     /// How many ranges are around.
@@ -117,4 +118,15 @@ impl Around {
         }
         false
     }
+}
+
+/// Removes the first name, if there is one.
+#[tactic(auto, using(crate::proofs::AroundLemmas::none_behind))]
+fn remove_first(names: &mut Vec<usize>)
+    ensures left { names.new.items ≡ drop 1 names.old.items }
+{
+    if names.is_empty() {
+        return;
+    }
+    names.remove(0);
 }

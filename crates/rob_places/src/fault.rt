@@ -2,7 +2,7 @@
 
 ghost use Rattle.std.specs.Prelude.{◌≡◌, IfOk, OnOk};
 ghost use Rattle.std.specs.List.{list_any};
-ghost use Rattle.rob_index.specs.Rules.{has_great_digits, is_long, is_out, is_unknown, places};
+ghost use Rattle.rob_index.specs.Rules.{has_great_digits, is_unknown, places};
 ghost use Rattle.rob_index.specs.Search.{search_long, search_out, search_places};
 ghost use Rattle.rob_syntax.specs.Seen.{seen_statement};
 ghost use Rattle.rob_places.specs.Tests.{is_set, test_of};
@@ -22,25 +22,11 @@ pub fn some_unknown(alloc: Global, declared: &[bool], statement: &Indexed) -> Re
     some_place(alloc, Test::Unknown, declared, statement)
 }
 
-/// Whether rule 26 is broken: a range has more than 100 values in some setting.
-pub fn some_long(alloc: Global, statement: &Indexed) -> Result<bool, Memory>
-    ensures found { IfOk result (λ found. found ≡ list_any is_long (places (seen_statement statement.now))) }
-{
-    some_place(alloc, Test::Long, &[], statement)
-}
-
 /// Whether digits in an index are over 999, which breaks rule 27.
 pub fn some_great_digits(alloc: Global, statement: &Indexed) -> Result<bool, Memory>
     ensures found { IfOk result (λ found. found ≡ list_any has_great_digits (places (seen_statement statement.now))) }
 {
     some_place(alloc, Test::GreatDigits, &[], statement)
-}
-
-/// Whether an index is below 0 or over 999 in some setting, which breaks rule 27.
-pub fn some_out(alloc: Global, statement: &Indexed) -> Result<bool, Memory>
-    ensures found { IfOk result (λ found. found ≡ list_any is_out (places (seen_statement statement.now))) }
-{
-    some_place(alloc, Test::Out, &[], statement)
 }
 
 /// Whether a range is found to have more than 100 values, for what is left to be spent.

@@ -4,6 +4,5 @@
 
 mod around;
 pub mod fault;
-pub mod index;
 mod test;
 mod walk;

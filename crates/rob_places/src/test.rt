@@ -6,11 +6,11 @@ ghost use Rattle.rob_index.specs.Fast.{nothing};
 ghost use Rattle.rob_index.specs.Rules.{has_great, is_great_atom};
 ghost use Rattle.rob_index.specs.Search.{search};
 ghost use Rattle.rob_syntax.specs.Seen.{seen_atom, seen_index, seen_range};
-ghost use Rattle.rob_places.specs.Tests.{is_out_in, is_set, is_unknown_in, sought_out_in};
+ghost use Rattle.rob_places.specs.Tests.{is_set, is_unknown_in, sought_out_in};
 ghost use Rattle.rob_places.specs.Tests as spec;
 
 use crate::around::Around;
-use rob_number::{List, Memory};
+use rob_number::Memory;
 use rob_ranges::{Form, Purse, Whole};
 use rob_syntax::syntax::{Atom, Index, Range};
 use std::alloc::Global;
@@ -22,10 +22,6 @@ pub enum Test {
     Unknown,
     /// Digits over the greatest index.
     GreatDigits,
-    /// A range that is too long somewhere.
-    Long,
-    /// An index that is out of bounds somewhere.
-    Out,
     /// A range that is found to be too long, for what may be spent.
     SoughtLong,
     /// An index that is found to be out of bounds, for what may be spent.
@@ -54,8 +50,6 @@ pub fn at_index(
     match test {
         Test::Unknown => Ok(around.has_loose(index)),
         Test::GreatDigits => Ok(has_great(index)),
-        Test::Long => Ok(false),
-        Test::Out => is_out(alloc, around, index),
         Test::SoughtLong => Ok(false),
         Test::SoughtOut => is_sought_out(alloc, around, index, left),
     }
@@ -77,8 +71,6 @@ pub fn at_range(
     match task.test {
         Test::Unknown => Ok(is_unknown(task.declared, around, range)),
         Test::GreatDigits => Ok(has_great(&range.from) || has_great(&range.upto)),
-        Test::Long => is_long(alloc, around, range),
-        Test::Out => Ok(false),
         Test::SoughtLong => is_sought_long(alloc, around, range, left),
         Test::SoughtOut => Ok(false),
     }
@@ -129,33 +121,6 @@ fn is_great_atom(atom: Atom) -> bool
     }
 }
 
-/// Whether a range has more than 100 values somewhere.
-fn is_long(alloc: Global, around: &Around, range: &Range) -> Result<bool, Memory>
-    ensures long { IfOk result (λ long. long ≡ spec.is_long_in around.now (seen_range range.now)) }
-{
-    let length = around.length_of(alloc, range)?;
-    around
-        .nest()
-        .reaches(alloc, &length, &Whole::small(alloc, 100))
-}
-
-/// Whether an index is below 0 or over 999 somewhere.
-fn is_out(alloc: Global, around: &Around, index: &Index) -> Result<bool, Memory>
-    ensures out { IfOk result (λ out. out ≡ is_out_in around.now (seen_index index.now)) }
-{
-    let form = around.form_of(alloc, index)?;
-    let opposite = opposite(alloc, &form)?;
-    if around
-        .nest()
-        .reaches(alloc, &opposite, &Whole::small(alloc, 1))?
-    {
-        return Ok(true);
-    }
-    around
-        .nest()
-        .reaches(alloc, &form, &Whole::small(alloc, 1000))
-}
-
 /// Whether a range is found to have more than 100 values.
 fn is_sought_long(
     alloc: Global,
@@ -194,7 +159,7 @@ fn is_sought_out(
 fn opposite(alloc: Global, form: &Form) -> Result<Form, Memory>
     ensures opposite { IfOk result (λ opposite. opposite ≡ minus nothing form.now) }
 {
-    let nothing = Form::new(Whole::small(alloc, 0), List::new(alloc));
+    let nothing = Form::nothing(alloc);
     nothing.minus(alloc, form)
 }
 

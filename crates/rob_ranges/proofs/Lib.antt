@@ -1,4 +1,6 @@
 pub mod DigitLemmas
+pub mod JoinLemmas
 pub mod NestLemmas
 pub mod NestLists
 pub mod SeekingLemmas
+pub mod ShortLemmas

@@ -94,10 +94,6 @@ pub as_well : {A E : Type 0} (r : Result A E) {a b : A} → a ≡ b → IfOk r (
 as_well {A} r e h = subst (λ (z : A). IfOk r (λ v. v ≡ z)) e h
 
 module _ (vs : List ℤ) where
-  pub greatest_none : (rs : List Ends) (f : Form) → length rs < 1 → value_of f vs ≡ greatest (onto rs (fixed vs)) f
-  greatest_none [] f h = sym (greatest_fixed vs f)
-  greatest_none (r ∷ rs) f h = absurd (omega (arith, h))
-
   pub runs_none : (rs : List Ends) → length rs < 1 → true ≡ all_run (onto rs (fixed vs))
   runs_none [] h = sym (fixed_run vs)
   runs_none (r ∷ rs) h = absurd (omega (arith, h))
@@ -129,6 +125,24 @@ module _ (vs : List ℤ) where
     pub dead_outer : int_lt (greatest (onto around (fixed vs)) (length_form r)) (pos 0) ≡ false
         → is_dead (onto around (fixed vs)) ≡ is_dead (onto rs (fixed vs))
     dead_outer h = ap (λ (b : Bool). b || is_dead (onto around (fixed vs))) (sym h) ∙ ap is_dead split
+
+-- ---- a loop that puts in the values of the ranges, from the innermost outwards
+module _ (vs : List ℤ) (rs : List Ends) (left : ℕ) (f : Form) {all : ℤ} where
+  pub put_in_more : (r : Ends) (next : Form) → 0 < left → left ≤ length rs → r ≡ get_or rs (left - 1) r
+      → next ≡ without r f → greatest (onto (take left rs) (fixed vs)) f ≡ all
+      → greatest (onto (take (left - 1) rs) (fixed vs)) next ≡ all
+  put_in_more r next some within is e so_far =
+      let n : (left - 1) + 1 ≡ left = omega arith in
+      let apart : take (left - 1) rs ++ r ∷ [] ≡ take left rs =
+      ap (λ (q : Ends). take (left - 1) rs ++ q ∷ []) is ∙ sym (take_more rs (left - 1) r (omega arith))
+      ∙ ap (λ (k : ℕ). take k rs) n in
+      ap (greatest (onto (take (left - 1) rs) (fixed vs))) e
+      ∙ greatest_outer vs (take left rs) (take (left - 1) rs) r apart f ∙ so_far
+
+  pub put_in_all : left ≤ 0 → greatest (onto (take left rs) (fixed vs)) f ≡ all → value_of f vs ≡ all
+  put_in_all none so_far =
+      let n : 0 ≡ left = omega (arith, none) in
+      sym (greatest_fixed vs f) ∙ ap (λ (k : ℕ). greatest (onto (take k rs) (fixed vs)) f) n ∙ so_far
 
 -- ---- whether a form reaches a bound, where the ends tell, and where they don't
 module _ (r : Ends) (rs : List Ends) (vs : List ℤ) (f : Form) (bound : ℤ) where

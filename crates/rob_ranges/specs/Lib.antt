@@ -1,4 +1,6 @@
 pub mod DigitLists
 pub mod Digits
+pub mod Joining
 pub mod Nests
 pub mod Seeking
+pub mod Shorts

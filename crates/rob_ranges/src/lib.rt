@@ -3,10 +3,12 @@
 
 mod digits;
 pub mod form;
+pub mod index;
 pub mod nest;
 pub mod reach;
 pub mod run;
 pub mod search;
+pub mod short;
 pub mod whole;
 
 pub use form::{Ends, Form};

@@ -22,13 +22,13 @@ pub fn greatest(
 ) -> Result<Whole, Memory>
     ensures greatest { IfOk result (λ value. value ≡ greatest (onto ranges.now (fixed values.now)) form.now) }
 {
-    match ranges {
-        [] => form.value(alloc, values),
-        [around @ .., innermost] => {
-            let outer = form.without(alloc, innermost)?;
-            greatest(alloc, around, values, &outer)
-        }
+    let mut rest = form.copy(alloc)?;
+    let mut left = ranges.len();
+    'outwards: while left > 0 {
+        left -= 1;
+        rest.put_in(alloc, &ranges[left])?;
     }
+    rest.value(alloc, values)
 }
 
 /// Whether a range has a value, whatever the values of those around it.
@@ -169,8 +169,8 @@ pub fn some_reaches(
 pub fn in_front(alloc: Global, value: &Whole, values: &[Whole]) -> Result<List<Whole>, Memory>
     ensures all { IfOk result (λ all. all ≡ value.now ∷ values.now) }
 {
-    let mut out = List::new(alloc);
-    out.push(value.copy(alloc)?)?;
-    append_copies(&mut out, alloc, values)?;
-    Ok(out)
+    let mut all = Vec::with_capacity(alloc, values.len() + 1)?;
+    all.push(value.copy(alloc)?)?;
+    append_copies(&mut all, alloc, values)?;
+    Ok(List::from(all))
 }

@@ -8,11 +8,9 @@ ghost use Rattle.rob_places.specs.Tests.{is_set};
 ghost use Rattle.rob_syntax.specs.Seen.{seen_statement};
 ghost use Rattle.rob_rules.specs.Indices.{seen_fault, late_fault};
 
-use rob_expand::has_room;
+use rob_expand::{has_room, judge};
 use rob_number::Memory;
-use rob_places::fault::{
-    search_long, search_out, some_great_digits, some_long, some_out, some_unknown,
-};
+use rob_places::fault::{search_long, search_out, some_great_digits, some_unknown};
 use rob_syntax::syntax::Indexed;
 use std::alloc::Global;
 
@@ -73,16 +71,15 @@ pub fn judge_indices(
     if unknown {
         return Ok(Some(IndexFault::Unknown));
     }
-    let long = some_long(alloc, statement)?;
-    if long {
+    let judged = judge(alloc, limit, statement)?;
+    if judged.long {
         return Ok(Some(IndexFault::TooLong));
     }
     let great = some_great_digits(alloc, statement)?;
     if great {
         return Ok(Some(IndexFault::Out));
     }
-    let out = some_out(alloc, statement)?;
-    if out {
+    if judged.out {
         return Ok(Some(IndexFault::Out));
     }
     Ok(None)

@@ -3,7 +3,7 @@ use Rattle.std.specs.Prelude.{ℤ, fold}
 use Rattle.std.specs.List.{list_any}
 use Rattle.rob_index.specs.Rules.{is_long_name}
 use Rattle.rob_syntax.specs.Known.{texts}
-use Rattle.rob_index.specs.Forms.{Ends, extensions}
+use Rattle.rob_index.specs.Forms.{extensions}
 use Rattle.rob_expand.specs.declared.line.Item.{Item}
 use Rattle.rob_expand.specs.Growing.{add_name, item_names, named_at}
 use Rattle.rob_expand.proofs.WalkLemmas.{left_is, left_none, words_more, words_all, long_more, long_all}
@@ -12,9 +12,8 @@ use Rattle.rob_expand.proofs.grow.grow_items.Goals as goal
 pub loop-item-preserved : goal.loop-item-preserved
 loop-item-preserved c =
     let f = (λ (x : Item). item_names (texts c.args.own.now.keys) x c.args.values.now) in
-    let settings : c.items-in-loop-item.result.now ≡ extensions c.item-item.result.ranges c.args.values.now =
-    c.items-in-loop-item.ensures.list ∙ c.in_ok-settings.ensures.settings
-    ∙ ap (λ (rs : List Ends). extensions rs c.args.values.now) c.items.ensures.list in
+    let settings : c.items.result.now ≡ extensions c.item-item.result.ranges c.args.values.now =
+    c.items.ensures.list ∙ c.in_ok-settings.ensures.settings in
     let step = left_is c.args.items.now c.loop-item.item-index c.item-item.result c.loop-item-test.true c.item-item.is
     in
     record {

@@ -1,6 +1,6 @@
 use Rattle.std.proofs.Common.{◌≡◌, List, ◌++◌, map, ap, sym, ◌∙◌}
 use Rattle.std.specs.Prelude.{ℤ}
-use Rattle.rob_index.specs.Forms.{Ends, extensions}
+use Rattle.rob_index.specs.Forms.{extensions}
 use Rattle.rob_syntax.specs.Known.{texts}
 use Rattle.rob_syntax.specs.Symbols.{number_of}
 use Rattle.rob_expand.specs.Growing.{named_at}
@@ -10,9 +10,8 @@ use Rattle.rob_expand.proofs.instance.item_numbers.Goals as goal
 
 pub loop-item-preserved : goal.loop-item-preserved
 loop-item-preserved c =
-    let settings : c.items-in-loop-item.result.now ≡ extensions c.item-item.result.ranges c.args.values.now =
-    c.items-in-loop-item.ensures.list ∙ c.in_ok-settings.ensures.settings
-    ∙ ap (λ (rs : List Ends). extensions rs c.args.values.now) c.items.ensures.list in
+    let settings : c.items.result.now ≡ extensions c.item-item.result.ranges c.args.values.now =
+    c.items.ensures.list ∙ c.in_ok-settings.ensures.settings in
     let step = left_is c.args.items.now c.loop-item.item-index c.item-item.result c.loop-item-test.true c.item-item.is
     in
     made_more (item_made (texts c.args.own.now.keys) (texts c.args.words.now.keys) c.args.values.now)

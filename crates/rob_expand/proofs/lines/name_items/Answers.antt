@@ -16,7 +16,7 @@ loop-entry-preserved c =
     let name =
     c.in_ok-name.ensures.named ∙ ap (λ (ns : List ℕ). placed_name ns (seen_ref x.item)) names in
     let ends =
-    c.in_ok-nest.ensures.ends
+    c.in_ok-ranges.ensures.ranges ∙ c.in_ok-nest.ensures.ends
     ∙ ap (λ (rs : List Range). nest_of c.args.names.now (seen_ranges rs)) c.items.ensures.list in
     listed_more (name_item c.args.names.now) (seen_ranged seen_ref) c.loop-entry.made _ c.args.on.now
     c.loop-entry.entry-index x _

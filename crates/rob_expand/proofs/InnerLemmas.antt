@@ -1,0 +1,110 @@
+-- What the lengths of the ranges of an item tell: where there is no setting, and no range with more than 100 values.
+use Rattle.std.proofs.Common.{◌≡◌, Bool, true, false, List, [], ◌∷◌, ◌++◌}
+use Rattle.std.proofs.Common.{refl, sym, ap, ◌∙◌, subst, Option, Some, None, arith}
+use Rattle.std.specs.Prelude.{ℤ, pos, ◌≤ℤ◌, ◌<ℤ◌, ◌||◌, int_lt, int_le, IfSome}
+use Rattle.std.specs.List.{list_any, flat_map}
+use Rattle.std.specs.Int.{w128}
+use Rattle.std.proofs.lemmas.Int.{ints, to_z-of_z}
+use mir.Val.{SFits, to_z, of_z}
+use Rattle.rob_index.specs.Membership.{Among, here, there}
+use Rattle.rob_index.specs.Forms.{Form, Ends, AreWithin, fixed, value_of, values_of, length_form, without, extensions}
+use Rattle.rob_index.proofs.FormLemmas.{minus_is}
+use Rattle.rob_index.proofs.ListLemmas.{values_within}
+use Rattle.rob_index.proofs.NestLemmas.{never_over, lt_from}
+use Rattle.rob_ranges.proofs.DigitLemmas.{lt_no}
+use Rattle.rob_ranges.proofs.NestLemmas.{greatest_fixed, run_over}
+use Rattle.rob_ranges.specs.Shorts.{short_value}
+use Rattle.rob_expand.specs.declared.inner.Lengths.{Lengths}
+use Rattle.rob_expand.specs.Inner.{AreLengths, first_length, second_length, is_long_in}
+
+-- ---- lists of nothing
+flat_none : {A B : Type 0} (f : A → List B) (xs : List A) → ((x : A) → Among x xs → f x ≡ []) → flat_map f xs ≡ []
+flat_none f [] h = refl
+flat_none f (x ∷ xs) h = (λ i. h x here i ++ flat_map f xs) ∙ flat_none f xs (λ y m. h y (there m))
+
+any_none : {A : Type 0} (p : A → Bool) (xs : List A) → ((x : A) → Among x xs → p x ≡ false) → list_any p xs ≡ false
+any_none p [] h = refl
+any_none p (x ∷ xs) h = (λ i. h x here i || list_any p xs) ∙ any_none p xs (λ y m. h y (there m))
+
+-- ---- a range whose length is below 0
+no_le : (a b : ℤ) → b <ℤ a → int_le a b ≡ false
+no_le a b h = grind (arith, ints)
+
+pub no_values : (r : Ends) (vs : List ℤ) → value_of (length_form r) vs <ℤ pos 0 → values_of r vs ≡ []
+no_values r vs h =
+    run_over (value_of r.from vs) (value_of r.upto vs)
+    (no_le (value_of r.from vs) (value_of r.upto vs) (omega (arith, ints, h, minus_is r.upto r.from vs)))
+
+-- ---- a range inside another: its length is at most that at the end that makes it greatest
+fixed_within : (vs : List ℤ) → AreWithin (fixed vs) vs
+fixed_within [] = tt
+fixed_within (v ∷ vs) = (fixed_within vs, omega (arith, ints), omega (arith, ints))
+
+inner_most : (r s : Ends) (vs : List ℤ) (v : ℤ) → Among v (values_of r vs)
+    → value_of (length_form s) (v ∷ vs) ≤ℤ value_of (without r (length_form s)) vs
+inner_most r s vs v m =
+    let w = values_within (value_of r.from vs) (value_of r.upto vs) v m in
+    let h = never_over (r ∷ fixed vs) (length_form s) (v ∷ vs) (fixed_within vs, w.0, w.1) in
+    let e = greatest_fixed vs (without r (length_form s)) in
+    omega (arith, ints, h, e)
+
+-- ---- no setting
+pub first_lacks : (rs : List Ends) (vs : List ℤ) → value_of (first_length rs) vs <ℤ pos 0 → extensions rs vs ≡ []
+first_lacks [] vs h = absurd (omega (arith, ints, h))
+first_lacks (r ∷ rs) vs h = ap (flat_map (λ v. extensions rs (v ∷ vs))) (no_values r vs h)
+
+pub second_lacks : (rs : List Ends) (vs : List ℤ) → value_of (second_length rs) vs <ℤ pos 0 → extensions rs vs ≡ []
+second_lacks [] vs h = absurd (omega (arith, ints, h))
+second_lacks (r ∷ []) vs h = absurd (omega (arith, ints, h))
+second_lacks (r ∷ s ∷ rs) vs h =
+    flat_none (λ v. extensions (s ∷ rs) (v ∷ vs)) (values_of r vs)
+    (λ v m. let k = inner_most r s vs v m in first_lacks (s ∷ rs) (v ∷ vs) (omega (arith, ints, h, k)))
+
+-- ---- no range with more than 100 values
+first_short : (rs : List Ends) (vs : List ℤ) → value_of (first_length rs) vs <ℤ pos 0 → is_long_in rs vs ≡ false
+first_short [] vs h = refl
+first_short (r ∷ rs) vs h =
+    let l : int_lt (pos 99) (value_of (length_form r) vs) ≡ false =
+    lt_no (pos 99) (value_of (length_form r) vs) (omega (arith, ints, h)) in
+    (λ i. l i || list_any (λ v. is_long_in rs (v ∷ vs)) (no_values r vs h i))
+
+second_short : (rs : List Ends) (vs : List ℤ) → value_of (first_length rs) vs ≤ℤ pos 99
+    → value_of (second_length rs) vs <ℤ pos 0 → is_long_in rs vs ≡ false
+second_short [] vs k h = refl
+second_short (r ∷ []) vs k h = absurd (omega (arith, ints, h))
+second_short (r ∷ s ∷ rs) vs k h =
+    let l : int_lt (pos 99) (value_of (length_form r) vs) ≡ false = lt_no (pos 99) (value_of (length_form r) vs) k in
+    (λ i. l i || list_any (λ v. is_long_in (s ∷ rs) (v ∷ vs)) (values_of r vs))
+    ∙ any_none (λ v. is_long_in (s ∷ rs) (v ∷ vs)) (values_of r vs)
+    (λ v m. let n = inner_most r s vs v m in first_short (s ∷ rs) (v ∷ vs) (omega (arith, ints, h, n)))
+
+-- ---- what the two lengths tell, as they are tested
+module _ (rs : List Ends) (vs : List ℤ) (a b : ℤ) (first : value_of (first_length rs) vs ≡ a)
+    (second : value_of (second_length rs) vs ≡ b) where
+  pub empty_first : a <ℤ pos 0 → extensions rs vs ≡ []
+  empty_first h = first_lacks rs vs (omega (arith, ints, first, h))
+
+  pub empty_second : b <ℤ pos 0 → extensions rs vs ≡ []
+  empty_second h = second_lacks rs vs (omega (arith, ints, second, h))
+
+  pub short_first : a <ℤ pos 0 → is_long_in rs vs ≡ false
+  short_first h = first_short rs vs (omega (arith, ints, first, h))
+
+  pub short_second : a ≤ℤ pos 99 → b <ℤ pos 0 → is_long_in rs vs ≡ false
+  short_second k h = second_short rs vs (omega (arith, ints, first, k)) (omega (arith, ints, second, h))
+
+-- ---- the forms that are kept
+pub kept_are : (rs : List Ends) (f g : Form) (o : Option Lengths) → f ≡ first_length rs → g ≡ second_length rs
+    → IfSome o (λ kept. (vs : List ℤ) → value_of f vs ≡ short_value kept.first vs)
+    → IfSome o (λ kept. (vs : List ℤ) → value_of g vs ≡ short_value kept.second vs)
+    → IfSome o (λ kept. AreLengths rs kept)
+kept_are rs f g None p q h k = tt
+kept_are rs f g (Some kept) p q h k = record {
+  first = λ vs. ap (λ (z : Form). value_of z vs) (sym p) ∙ h vs;
+  second = λ vs. ap (λ (z : Form). value_of z vs) (sym q) ∙ k vs;
+}
+
+-- a number of 128 bits is below 0
+pub seen_below : (z : ℤ) → SFits w128 z → int_lt (to_z w128 (of_z w128 z)) (pos 0) ≡ true → z <ℤ pos 0
+seen_below z f t =
+    subst (λ (y : ℤ). y <ℤ pos 0) (to_z-of_z w128 z f) (lt_from (to_z w128 (of_z w128 z)) (pos 0) t)

@@ -1,0 +1,186 @@
+//! The ranges of an item of a list, inside those of its statement.
+
+ghost use Rattle.std.specs.Prelude.{◌≡◌, ◌≤◌, ℤ, [], List as Items, length, pos};
+ghost use Rattle.std.specs.Prelude.{false, IfOk, IfSome, IsTrue, MatchResult};
+ghost use Rattle.rob_index.specs.Forms.{extensions, only, value_of};
+ghost use Rattle.rob_ranges.specs.Shorts.{short_value};
+ghost use Rattle.rob_expand.specs.Inner.{AreLengths, is_long_in};
+ghost use Rattle.rob_expand.specs.Inner as spec;
+ghost use Rattle.rob_expand.specs.Room.{left_of, HasStop};
+
+use crate::room::Stop;
+use crate::settings::{Setting, all_settings, settings_of};
+use rob_number::{List, Memory};
+use rob_ranges::short::{Short, pair_of, short_of};
+use rob_ranges::{Ends, Form, Whole};
+use std::alloc::Global;
+use std::marker::Model;
+
+/// How far the last value of a range is from its first at least: 0 where the range has one value.
+const SHORTEST: i128 = 0;
+
+/// How far it is at most where the range has no more than 100 values.
+const LONGEST: i128 = 99;
+
+/// Ranges inside others, the outermost first. Contracts see their ends. Beside them stand the lengths of the first two,
+/// where these have few bits: they tell of most settings of the ranges around that there is none of these ranges.
+#[derive(Drop)]
+pub struct Inner {
+    ranges: List<Ends>,
+    lengths: Option<Lengths>,
+}
+
+impl Model for Inner {
+    ghost use Rattle.std.specs.Prelude.{List, IfSome};
+    ghost use Rattle.rob_index.specs.Forms as spec;
+    ghost use Rattle.rob_expand.specs.Inner.{AreLengths};
+
+    ghost Value = { List spec.Ends };
+
+    ghost view = { λ inner. inner.ranges };
+
+    ghost invariant = { λ inner. IfSome inner.lengths (λ kept. AreLengths inner.ranges kept) };
+}
+
+/// The lengths of two ranges, the one inside the other, as forms over the values of the ranges around: that of the
+/// outer one, and the greatest that the inner one has.
+#[derive(Clone, Copy)]
+pub struct Lengths {
+    pub first: Short,
+    pub second: Short,
+}
+
+/// The values of such lengths.
+#[derive(Clone, Copy)]
+struct Sizes {
+    first: i128,
+    second: i128,
+}
+
+impl Inner {
+    /// The ranges.
+    pub fn new(alloc: Global, ranges: List<Ends>) -> Result<Inner, Memory>
+        ensures ranges { IfOk result (λ inner. inner ≡ ranges) }
+    {
+        let lengths = lengths_of(alloc, ranges.items())?;
+        Ok(Inner { ranges, lengths })
+    }
+
+    /// The ranges as they are.
+    pub fn ranges(&self) -> &[Ends]
+        ensures ranges { result.now ≡ self.now }
+    {
+        self.ranges.items()
+    }
+
+    /// All settings.
+    pub fn settings(&self, alloc: Global, values: &[Whole]) -> Result<List<Setting>, Memory>
+        ensures settings { IfOk result (λ settings. settings ≡ extensions self.now values.now) }
+    {
+        if self.is_empty_at(values) {
+            return Ok(List::new(alloc));
+        }
+        all_settings(alloc, self.ranges.items(), values)
+    }
+
+    /// All settings, if there are at most so many.
+    pub fn settings_up_to(
+        &self,
+        alloc: Global,
+        values: &[Whole],
+        most: u32,
+    ) -> Result<List<Setting>, Stop>
+        ensures settings { IfOk result (λ settings. settings ≡ extensions self.now values.now) }
+        ensures most { MatchResult result
+            (λ _. length (extensions self.now values.now) ≤ most)
+            (λ e. HasStop (left_of (length (extensions self.now values.now)) most) e) }
+    {
+        if self.is_empty_at(values) {
+            return Ok(List::new(alloc));
+        }
+        settings_of(alloc, self.ranges.items(), values, most)
+    }
+
+    /// Whether the lengths tell that there is no setting, and no range that has more than 100 values.
+    pub fn is_quiet_at(&self, values: &[Whole]) -> bool
+        ensures empty { IsTrue result → extensions self.now values.now ≡ [] }
+        ensures short { IsTrue result → is_long_in self.now values.now ≡ false }
+    {
+        match self.sizes_at(values) {
+            None => false,
+            Some(sizes) => sizes.first < SHORTEST
+                || (sizes.first <= LONGEST && sizes.second < SHORTEST),
+        }
+    }
+
+    /// Whether the lengths tell that there is no setting.
+    fn is_empty_at(&self, values: &[Whole]) -> bool
+        ensures empty { IsTrue result → extensions self.now values.now ≡ [] }
+    {
+        match self.sizes_at(values) {
+            None => false,
+            Some(sizes) => sizes.first < SHORTEST || sizes.second < SHORTEST,
+        }
+    }
+
+    /// The lengths at some values, where they have few bits.
+    fn sizes_at(&self, values: &[Whole]) -> Option<Sizes>
+        ensures first { IfSome result (λ sizes. value_of (spec.first_length self.now) values.now ≡ sizes.first) }
+        ensures second { IfSome result (λ sizes. value_of (spec.second_length self.now) values.now ≡ sizes.second) }
+    {
+        let lengths = self.lengths?;
+        let pair = pair_of(values)?;
+        let first = lengths.first.value(pair);
+        let second = lengths.second.value(pair);
+        Some(Sizes { first, second })
+    }
+}
+
+/// The lengths of the first two ranges, where these have few bits.
+fn lengths_of(alloc: Global, ranges: &[Ends]) -> Result<Option<Lengths>, Memory>
+    ensures lengths { IfOk result (λ lengths. IfSome lengths (λ kept. AreLengths ranges.now kept)) }
+{
+    let first = first_length(alloc, ranges)?;
+    let second = second_length(alloc, ranges)?;
+    Ok(both(&first, &second))
+}
+
+/// Two forms with few bits.
+fn both(first: &Form, second: &Form) -> Option<Lengths>
+    ensures first { IfSome result (λ kept. (vs : Items ℤ) → value_of first.now vs ≡ short_value kept.first vs) }
+    ensures second { IfSome result (λ kept. (vs : Items ℤ) → value_of second.now vs ≡ short_value kept.second vs) }
+{
+    let first = short_of(first)?;
+    let second = short_of(second)?;
+    Some(Lengths { first, second })
+}
+
+/// The length of the first range, or 0.
+fn first_length(alloc: Global, ranges: &[Ends]) -> Result<Form, Memory>
+    ensures length { IfOk result (λ form. form ≡ spec.first_length ranges.now) }
+{
+    match ranges {
+        [] => Ok(nothing(alloc)),
+        [first, ..] => first.length(alloc),
+    }
+}
+
+/// The length of the second range, where the first one's value is that which makes it greatest, or 0.
+fn second_length(alloc: Global, ranges: &[Ends]) -> Result<Form, Memory>
+    ensures length { IfOk result (λ form. form ≡ spec.second_length ranges.now) }
+{
+    match ranges {
+        [first, second, ..] => {
+            let length = second.length(alloc)?;
+            length.without(alloc, first)
+        }
+        _ => Ok(nothing(alloc)),
+    }
+}
+
+/// The form that is 0.
+fn nothing(alloc: Global) -> Form
+    ensures nothing { result ≡ only (pos 0) }
+{
+    Form::nothing(alloc)
+}

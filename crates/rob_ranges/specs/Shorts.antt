@@ -1,0 +1,18 @@
+-- Forms over two values at most, by factors of few bits.
+use Rattle.std.specs.Prelude.{ℤ, pos, ◌+ℤ◌, ◌*ℤ◌, List, [], ◌∷◌}
+use Rattle.rob_ranges.specs.declared.short.Short.{Short}
+use Rattle.rob_ranges.specs.DigitLists.{wide_of}
+
+-- the innermost value, or 0
+abbrev pub first_of : List ℤ → ℤ
+first_of [] = pos 0
+first_of (x ∷ xs) = x
+
+-- the value around the innermost, or 0
+abbrev pub second_of : List ℤ → ℤ
+second_of [] = pos 0
+second_of (x ∷ xs) = first_of xs
+
+-- the form's value
+abbrev pub short_value : Short → List ℤ → ℤ
+short_value f xs = (wide_of f.constant +ℤ (f.first *ℤ first_of xs)) +ℤ (f.second *ℤ second_of xs)
