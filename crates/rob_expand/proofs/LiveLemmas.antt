@@ -68,6 +68,15 @@ falls_later x y s v w step steps a b falls least before =
     let f : (pos 0 -ℤ step) *ℤ (w -ℤ v) ≡ pos 0 -ℤ ((w -ℤ v) *ℤ step) = simp products (omega (arith, ints)) in
     omega (arith, ints, a, d, e, f, least)
 
+-- one that falls by `step` is over 0 no longer where that was taken often enough
+falls_enough : (x y s v w step steps : ℤ) → y ≡ x +ℤ (s *ℤ (w -ℤ v)) → s ≡ pos 0 -ℤ step → x ≤ℤ (steps *ℤ step)
+    → w ≡ v +ℤ steps → y ≤ℤ pos 0
+falls_enough x y s v w step steps a b enough there =
+    let d : w -ℤ v ≡ steps = omega (arith, ints, there) in
+    let e : s *ℤ (w -ℤ v) ≡ (pos 0 -ℤ step) *ℤ steps = λ i. b i *ℤ d i in
+    let f : (pos 0 -ℤ step) *ℤ steps ≡ pos 0 -ℤ (steps *ℤ step) = simp products (omega (arith, ints)) in
+    omega (arith, ints, a, e, f, enough)
+
 -- it was taken some times
 pub steps_positive : (number step steps : ℤ) → pos 0 <ℤ number → pos 0 <ℤ step → number ≤ℤ (steps *ℤ step)
     → pos 0 <ℤ steps
@@ -103,3 +112,13 @@ some_live r vs v here step steps live is over fall high enough least made =
           (fall_is (lack_at r vs v) (lack_at r vs (v +ℤ pos 1)) (slope r) step fall (slope_is r vs v)) high
           (subst (λ (z : ℤ). ((steps -ℤ pos 1) *ℤ step) <ℤ z) is least) (omega (arith, ints, h, made, f)),
     )
+
+pub alive_there : (r : Ends) (vs : List ℤ) (v here step steps live : ℤ) → here ≡ lack_at r vs v
+    → step ≡ lack_at r vs v +ℤ (negsuc 0 *ℤ lack_at r vs (v +ℤ pos 1)) → here ≤ℤ (steps *ℤ step)
+    → live ≡ v +ℤ (pos 1 *ℤ steps) → pos 0 <ℤ lack_at r vs live → ⊥
+alive_there r vs v here step steps live is fall enough made over =
+    let f : pos 1 *ℤ steps ≡ steps = simp products (omega (arith, ints)) in
+    let low = falls_enough (lack_at r vs v) (lack_at r vs live) (slope r) v live step steps (lack_from r vs v live)
+    (fall_is (lack_at r vs v) (lack_at r vs (v +ℤ pos 1)) (slope r) step fall (slope_is r vs v))
+    (subst (λ (z : ℤ). z ≤ℤ (steps *ℤ step)) is enough) (omega (arith, ints, made, f)) in
+    omega (arith, ints, low, over)

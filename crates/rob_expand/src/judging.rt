@@ -1,7 +1,8 @@
 //! The rules 26 and 27 of a line: whether a range has more than 100 values, or an index is below 0 or over 999, in some
 //! setting. Each setting is walked through: where the line fits, each has its token. Inside a range that is too long
-//! nothing is looked at. By hand, with `for i = 0 to 90`: in `sum(j = i to i + i: x[j])` nothing is found, since `j` has
-//! at most 91 values; with `x[j + 900]` an index is out of bounds, and with `j = i to i + i + i` a range is too long.
+//! nothing is looked at. By hand, with `for i = 0 to 90`: in `sum(j = i to i + i: x[j])` nothing is found, since `j`
+//! has at most 91 values; with `x[j + 900]` an index is out of bounds, and with `j = i to i + i + i` a range is too
+//! long.
 
 ghost use Rattle.std.specs.Prelude.{◌≡◌, [], map, false, IfOk};
 ghost use Rattle.std.specs.List.{list_any};

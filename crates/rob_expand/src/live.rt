@@ -1,6 +1,6 @@
 //! Where the ranges inside a range have values.
 
-ghost use Rattle.std.specs.Prelude.{ℤ, pos, negsuc, ◌≡◌, ◌+ℤ◌, ◌*ℤ◌, ◌≤ℤ◌, ◌<ℤ◌, int_lt, IfOk, MatchOption};
+ghost use Rattle.std.specs.Prelude.{ℤ, pos, negsuc, ◌≡◌, ◌+ℤ◌, ◌*ℤ◌, ◌≤ℤ◌, ◌<ℤ◌, int_lt, IfOk, IfSome, MatchOption};
 ghost use Rattle.rob_expand.specs.Live.{lack_at, IsDead};
 
 use crate::divide::steps_to;
@@ -9,9 +9,9 @@ use rob_number::Memory;
 use rob_ranges::{Ends, Whole};
 use std::alloc::Global;
 
-/// A value from `from` on, before which the outermost of the ranges inside has none; or nothing, where it has none from
-/// there on. It is the first at which that range has one, as no clause says, and is found by division: how far the
-/// range's start is behind its end changes by the same amount from value to value.
+/// The first value from `from` on at which the outermost of the ranges inside has one; or nothing, where it has none
+/// from there on. It is found by division: how far the range's start is behind its end changes by the same amount from
+/// value to value.
 pub fn first_live(
     alloc: Global,
     from: &Whole,
@@ -21,6 +21,7 @@ pub fn first_live(
     ensures live { IfOk result (λ live. MatchOption live
         ((w : ℤ) → from.now ≤ℤ w → IsDead inner.now values.now w)
         (λ v. (from.now ≤ℤ v) × ((w : ℤ) → from.now ≤ℤ w → w <ℤ v → IsDead inner.now values.now w))) }
+    ensures alive { IfOk result (λ live. IfSome live (λ v. IsDead inner.now values.now v → ⊥)) }
 {
     match inner {
         [] => Ok(Some(from.copy(alloc)?)),
@@ -39,6 +40,7 @@ fn first_of(
         ((w : ℤ) → from.now ≤ℤ w → pos 0 <ℤ lack_at range.now values.now w)
         (λ v. (from.now ≤ℤ v)
         × ((w : ℤ) → from.now ≤ℤ w → w <ℤ v → pos 0 <ℤ lack_at range.now values.now w))) }
+    ensures alive { IfOk result (λ live. IfSome live (λ v. pos 0 <ℤ lack_at range.now values.now v → ⊥)) }
 {
     let here = lack(alloc, range, from, values)?;
     if is_positive(alloc, &here)? {
@@ -62,6 +64,7 @@ fn first_behind(
         ((w : ℤ) → from.now ≤ℤ w → pos 0 <ℤ lack_at range.now values.now w)
         (λ v. (from.now ≤ℤ v)
         × ((w : ℤ) → from.now ≤ℤ w → w <ℤ v → pos 0 <ℤ lack_at range.now values.now w))) }
+    ensures alive { IfOk result (λ live. IfSome live (λ v. pos 0 <ℤ lack_at range.now values.now v → ⊥)) }
 {
     let step = fall(alloc, range, from, values)?;
     if is_positive(alloc, &step)? {

@@ -139,6 +139,7 @@ impl Nest {
             found ≡ (search purse.old.price self.now [] form.now bound.now purse.old.left).found) }
         ensures left { OnOk result
             (purse.new.left ≡ (search purse.old.price self.now [] form.now bound.now purse.old.left).left) }
+        ensures price { purse.new.price ≡ purse.old.price }
     {
         if self.ranges.is_empty() {
             let value = form.value(alloc, &[])?;

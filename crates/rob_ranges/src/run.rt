@@ -1,6 +1,6 @@
 //! The values of a range, upwards.
 
-ghost use Rattle.std.specs.Prelude.{◌≡◌, ◌∷◌, ◌+ℤ◌, [], pos, IfOk, MatchOption};
+ghost use Rattle.std.specs.Prelude.{◌≡◌, ◌∷◌, ◌+ℤ◌, [], pos, None, IfOk, MatchOption};
 ghost use Rattle.rob_index.specs.Forms.{values_of};
 
 use crate::form::Ends;
@@ -35,10 +35,11 @@ impl Run {
         Ok(Run { next, last })
     }
 
-    /// The next value, if one is left.
+    /// The next value, if one is left; else none is behind it.
     pub fn next(&mut self, alloc: Global) -> Result<Option<Whole>, Memory>
         ensures next { IfOk result (λ next.
             MatchOption next (self.old ≡ []) (λ value. self.old ≡ value ∷ self.new)) }
+        ensures empty { IfOk result (λ next. next ≡ None → self.new ≡ []) }
     {
         if self.next.is_at_most(alloc, &self.last)? {
             let value = self.next.copy(alloc)?;

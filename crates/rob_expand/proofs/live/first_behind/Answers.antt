@@ -1,7 +1,7 @@
 use Rattle.std.proofs.Common.{sym, ◌∙◌}
 use Rattle.std.specs.Prelude.{pos}
 use Rattle.rob_index.proofs.NestLemmas.{lt_from, lt_not}
-use Rattle.rob_expand.proofs.LiveLemmas.{none_live, some_live}
+use Rattle.rob_expand.proofs.LiveLemmas.{alive_there, none_live, some_live}
 use Rattle.rob_expand.proofs.live.first_behind.Goals as goal
 
 pub returns-then-branch : goal.returns-then-branch
@@ -11,6 +11,10 @@ returns-then-branch c = record {
       c.in_ok-live.live c.requires.here c.requires.over c.in_ok-step.ensures.fall
       (lt_from (pos 0) c.in_ok-step.step (sym c.in_ok-is_positive.ensures.positive ∙ c.if-branch.true))
       c.in_ok-steps.ensures.enough c.in_ok-steps.ensures.least c.in_ok-live.ensures.sum;
+  alive =
+      alive_there c.args.range.now c.args.values.now c.args.from.now c.args.here.now c.in_ok-step.step
+      c.in_ok-steps.steps c.in_ok-live.live c.requires.here c.in_ok-step.ensures.fall c.in_ok-steps.ensures.enough
+      c.in_ok-live.ensures.sum;
 }
 
 pub returns : goal.returns
@@ -19,4 +23,5 @@ returns c = record {
       none_live c.args.range.now c.args.values.now c.args.from.now c.args.here.now c.in_ok-step.step c.requires.here
       c.requires.over c.in_ok-step.ensures.fall
       (lt_not (pos 0) c.in_ok-step.step (sym c.in_ok-is_positive.ensures.positive ∙ c.if-branch.false));
+  alive = tt;
 }
