@@ -4,7 +4,7 @@ use Rattle.rob_linear.specs.Programs.{Program}
 use Rattle.rob_linear.specs.WideRows.{HasWideRow}
 use Rattle.rob_number.specs.declared.lp_kind.LpKind.{LpKind}
 use Rattle.rob_simplex.specs.declared.state.Cause.{Cause}
-use Rattle.rob_simplex.specs.declared.state.Cause.TheVariants.{Told, Turn, First, Elsewhere}
+use Rattle.rob_simplex.specs.declared.state.Cause.TheVariants.{Told, Turn, Elsewhere}
 use Rattle.rob_simplex.specs.declared.state.LpStop.{LpStop}
 use Rattle.rob_simplex.specs.declared.state.LpStop.TheVariants.{Wide}
 use Rattle.rob_simplex.specs.declared.state.State.{State}
@@ -50,9 +50,6 @@ tells_wide limit P (Wide i) s h e = halted_here limit P i s Told h e
 
 pub begun_turn : (limit : ℕ) (P : Program) (stop : LpStop) (s : Solver) (row : ℕ) → HasHalted limit P stop s → s.state ≡ Stopped (Turn row) → HasBegun P s
 begun_turn limit P (Wide i) s row h e = subst (begun_in P s) (sym e) (halted_here limit P i s (Turn row) h e)
-
-pub begun_first : (limit : ℕ) (P : Program) (stop : LpStop) (s : Solver) (row : ℕ) → HasHalted limit P stop s → s.state ≡ Stopped (First row) → HasBegun P s
-begun_first limit P (Wide i) s row h e = subst (begun_in P s) (sym e) (halted_here limit P i s (First row) h e)
 
 pub begun_nowhere : (limit : ℕ) (P : Program) (stop : LpStop) (s : Solver) → HasHalted limit P stop s → s.state ≡ Stopped Elsewhere → ⊥
 begun_nowhere limit P (Wide i) s h e = halted_here limit P i s Elsewhere h e

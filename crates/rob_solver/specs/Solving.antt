@@ -9,12 +9,14 @@ use Rattle.rob_simplex.specs.Endings.{HasSolved, HasAnswered, HasBegun, HasStopp
 use Rattle.rob_simplex.specs.PathEnds.{EndsWide}
 use Rattle.rob_simplex.specs.Resuming.{CanResume}
 use Rattle.rob_simplex.specs.Solvers.{Solver, positions, HasPoint}
+use Rattle.rob_simplex.specs.declared.state.Cause.TheVariants.{Turn}
 use Rattle.rob_simplex.specs.declared.state.LpStop.{LpStop}
 use Rattle.rob_simplex.specs.declared.state.LpStop.TheVariants.{Wide as At}
+use Rattle.rob_simplex.specs.declared.state.State.TheVariants.{Stopped as Halted}
 use Rattle.rob_solver.specs.Depths.{narrow_limit, deep_limit}
 use Rattle.rob_solver.specs.declared.solving.Solved.{Solved as Answer}
 use Rattle.rob_solver.specs.declared.solving.Narrow.{Narrow}
-use Rattle.rob_solver.specs.declared.solving.Narrow.TheVariants.{Solved, Told, Begun}
+use Rattle.rob_solver.specs.declared.solving.Narrow.TheVariants.{Solved, Told, Begun, Anew}
 use Rattle.rob_solver.specs.declared.solving.Stopped.{Stopped}
 use Rattle.rob_solver.specs.declared.solving.Stopped.TheVariants.{Wide, Memory}
 
@@ -47,19 +49,22 @@ abbrev pub IsCausedDeep : {N : Type 0} → ℕ → Program → Stopped N → Typ
 IsCausedDeep limit P (Wide solver stop) = IsCausedBy limit P stop solver
 IsCausedDeep limit P Memory = ⊤
 
--- a turn was begun over narrow rows, from a basis on the program's path
+-- a turn of the second phase was begun over narrow rows, from a basis on the program's path
 pub record IsBegun (P : Program) (s : Solver) : Type 0 where
   pub rows : P.m ≡ positions s
   pub columns : P.n ≡ s.columns
   pub narrow : s.limit ≡ narrow_limit
+  pub row : ℕ
+  pub turn : s.state ≡ Halted (Turn row)
   pub begun : HasBegun P s
 
--- what narrow rows come to
+-- what narrow rows come to; of a first phase that stopped nothing is known
 abbrev pub ComesTo : {N : Type 0} → ℕ → Program → Narrow N → Type 0
 ComesTo limit P (Solved solved) = IsSolved P solved
 ComesTo limit P (Told solver stop) =
     (P.m ≡ positions solver) × HasStopped limit P stop solver × TellsWide limit P stop solver
 ComesTo limit P (Begun solver) = IsBegun P solver
+ComesTo limit P Anew = ⊤
 
 -- wide results were raised once where a row is told to be wide, and else stand
 abbrev pub CountsStopped : {N : Type 0} → ℕ → ℕ → Stopped N → Type 0

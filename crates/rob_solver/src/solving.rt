@@ -39,12 +39,15 @@ enum Narrow<N: Exact> {
     Solved(Solved<N>),
     /// A number that the last basis tells, which is wide over rows of either depth.
     Told(Solver<N>, LpStop),
-    /// A turn that was begun.
+    /// A turn of the second phase that was begun.
     Begun(Solver<N>),
+    /// A stop in the first phase.
+    Anew,
 }
 
-/// Solves the program over narrow rows, and where these stop over deep ones, which take over what was begun. A number
-/// that the last basis tells is wide over rows of either depth.
+/// Solves the program over narrow rows, and where these stop over deep ones: these take over a turn of the second phase
+/// that was begun, and begin anew where the first phase stopped, whose form over narrow rows may have the longer
+/// numbers. A number that the last basis tells is wide over rows of either depth.
 pub fn solve<N: Exact, R: Rows, L: Ledger>(
     alloc: Global,
     source: &R,
@@ -62,6 +65,7 @@ pub fn solve<N: Exact, R: Rows, L: Ledger>(
         Ok(Narrow::Solved(solved)) => Ok(solved),
         Ok(Narrow::Told(solver, stop)) => Err(refused(solver, stop, ledger)),
         Ok(Narrow::Begun(solver)) => go_on(alloc, solver, ledger),
+        Ok(Narrow::Anew) => solve_deep(alloc, source, ledger),
         Err(Memory) => Err(Stopped::Memory),
     }
 }
@@ -84,13 +88,14 @@ fn solve_narrow<N: Exact, R: Rows, L: Ledger>(
         Err(stop) => match solver.cause() {
             Cause::Told => Ok(Narrow::Told(solver, stop)),
             Cause::Turn(_) => Ok(Narrow::Begun(solver)),
-            Cause::First(_) => Ok(Narrow::Begun(solver)),
+            Cause::First(_) => Ok(Narrow::Anew),
             Cause::Elsewhere => unreachable!(),
         },
     }
 }
 
-/// Over deep rows from a turn that narrow ones have begun. These are let go of once they are taken over.
+/// Over deep rows from a turn of the second phase that narrow ones have begun. These are let go of once they are taken
+/// over.
 fn go_on<N: Exact, L: Ledger>(
     alloc: Global,
     narrow: Solver<N>,
@@ -107,6 +112,30 @@ fn go_on<N: Exact, L: Ledger>(
         Err(Memory) => return Err(Stopped::Memory),
     };
     match deep.go_on(ledger) {
+        Ok(kind) => Ok(Solved { solver: deep, kind }),
+        Err(stop) => Err(refused(deep, stop, ledger)),
+    }
+}
+
+/// Over deep rows from the program's start.
+fn solve_deep<N: Exact, R: Rows, L: Ledger>(
+    alloc: Global,
+    source: &R,
+    ledger: &mut L,
+) -> Result<Solved<N>, Stopped<N>>
+    requires ready { R.ready source.now }
+    requires few { length (R.lp source.now).c + length (R.lp source.now).b < 2 ^ 31 }
+    requires numbers { HasNumbersWithin N.limit (R.lp source.now) }
+    ensures solved { IfOk result (IsSolved (program_of (R.lp source.now))) }
+    ensures stopped { IfErr result (IsStopped N.limit (program_of (R.lp source.now))) }
+    ensures caused { IfErr result (IsCausedDeep N.limit (program_of (R.lp source.now))) }
+    ensures counted { CountsSolving L.ops L.wides ledger.old ledger.new result }
+{
+    let mut deep = match Solver::deep(alloc, source) {
+        Ok(deep) => deep,
+        Err(Memory) => return Err(Stopped::Memory),
+    };
+    match deep.solve(ledger) {
         Ok(kind) => Ok(Solved { solver: deep, kind }),
         Err(stop) => Err(refused(deep, stop, ledger)),
     }
