@@ -5,12 +5,13 @@ use Rattle.rob_index.specs.Forms.{Form, Ends, value_of, values_of, length_form, 
 use Rattle.rob_ranges.specs.Shorts.{short_value}
 use Rattle.rob_expand.specs.declared.inner.Lengths.{Lengths}
 
--- how far the last value of the outermost range is from its first
+-- how far the last value of the outermost range is from its first; 0 where there is none, as of a range with one value
 abbrev pub first_length : List Ends → Form
 first_length [] = only (pos 0)
 first_length (r ∷ rs) = length_form r
 
--- how far that of the range inside it is from its first at most, whatever the value of the outermost range
+-- how far that of the range inside it is from its first at most, whatever the value of the outermost range; 0 where
+-- there is none
 abbrev pub second_length : List Ends → Form
 second_length [] = only (pos 0)
 second_length (r ∷ []) = only (pos 0)

@@ -1,13 +1,12 @@
 -- Nests whose outer ranges have values put in, comparisons by the sign of a difference, and the values of a range run
 -- through upwards.
-use Rattle.std.proofs.Common.{◌≡◌, ◌<◌, ◌≤◌, ◌+◌, ◌-◌, ℕ, suc, take, get_or, Bool, true, false, List, [], ◌∷◌, ◌++◌, length, Option, Some, None, refl, sym, ap, ◌∙◌, subst, arith}
+use Rattle.std.proofs.Common.{◌≡◌, ◌<◌, ◌≤◌, ◌+◌, ◌-◌, ℕ, suc, take, get_or, Bool, true, false, List, [], ◌∷◌, ◌++◌, length, refl, sym, ap, ◌∙◌, subst, arith}
 use Rattle.std.specs.Prelude.{Result, IfOk, ℤ, pos, negsuc, ◌+ℤ◌, ◌-ℤ◌, ◌*ℤ◌, ◌≤ℤ◌, ◌<ℤ◌, ◌&&◌, ◌||◌, not, int_le, int_lt}
-use Rattle.std.specs.List.{list_any}
 use Rattle.std.proofs.lemmas.List.{take_more}
 use Rattle.std.proofs.Math.Seq.{take-length}
 use Rattle.std.proofs.lemmas.Int.{ints, by_lt_z}
 use Rattle.rob_index.specs.Expansion.{count, upwards}
-use Rattle.rob_index.specs.Forms.{Form, Ends, value_of, weighed, first_factor, outer, far_end, without, minus, greatest, all_run, is_dead, lack_form, length_form, only, at_one, fixed, onto, from_ends, reaches, values_of}
+use Rattle.rob_index.specs.Forms.{Form, Ends, value_of, weighed, first_factor, outer, far_end, without, minus, greatest, all_run, is_dead, lack_form, length_form, only, at_one, fixed, onto}
 use Rattle.rob_index.proofs.FormLemmas.{without_is, outer_is, minus_is}
 use Rattle.rob_index.proofs.ListLemmas.{natural_is, natural_low}
 use Rattle.rob_index.proofs.NestLemmas.{le_from, le_to, lt_from, lt_not}
@@ -144,21 +143,6 @@ module _ (vs : List ℤ) (rs : List Ends) (left : ℕ) (f : Form) {all : ℤ} wh
       let n : 0 ≡ left = omega (arith, none) in
       sym (greatest_fixed vs f) ∙ ap (λ (k : ℕ). greatest (onto (take k rs) (fixed vs)) f) n ∙ so_far
 
--- ---- whether a form reaches a bound, where the ends tell, and where they don't
-module _ (r : Ends) (rs : List Ends) (vs : List ℤ) (f : Form) (bound : ℤ) where
-  abbrev by_ends : Option Bool → Bool
-  by_ends o = elim o as (λ _. Bool) [
-    | None ↦ list_any (λ v. reaches rs (v ∷ vs) f bound) (values_of r vs)
-    | Some b ↦ b
-  ]
-
-  pub reach_told : (b : Bool) → from_ends (onto (r ∷ rs) (fixed vs)) f bound ≡ Some b → reaches (r ∷ rs) vs f bound ≡ b
-  reach_told b e = ap by_ends e
-
-  pub reach_open : from_ends (onto (r ∷ rs) (fixed vs)) f bound ≡ None
-      → reaches (r ∷ rs) vs f bound ≡ list_any (λ v. reaches rs (v ∷ vs) f bound) (values_of r vs)
-  reach_open e = ap by_ends e
-
 -- ---- the values of a range, from one of them on
 count_next : (a b : ℤ) → a ≤ℤ b → count a b ≡ suc (count (a +ℤ pos 1) b)
 count_next a b h =
@@ -178,20 +162,3 @@ run_next a b next h e =
 -- none is left
 pub run_over : (a b : ℤ) → int_le a b ≡ false → upwards a (count a b) ≡ []
 run_over a b h = ap (upwards a) (count_none a b (le_over a b h))
-
--- ---- a loop over values, whose answer is to be `all`
-module _ (test : ℤ → Bool) (run : List ℤ) (all : Bool) (stands : list_any test run ≡ all) where
-  pub found_here : (v : ℤ) (rest : List ℤ) → run ≡ v ∷ rest → test v ≡ true → true ≡ all
-  found_here v rest e h =
-      sym (ap (λ (b : Bool). b || list_any test rest) h) ∙ sym (ap (list_any test) e) ∙ stands
-
-  pub goes_past : (v : ℤ) (rest : List ℤ) → run ≡ v ∷ rest → test v ≡ false → list_any test rest ≡ all
-  goes_past v rest e h =
-      sym (ap (λ (b : Bool). b || list_any test rest) h) ∙ sym (ap (list_any test) e) ∙ stands
-
-  pub none_left : run ≡ [] → false ≡ all
-  none_left e = sym (ap (list_any test) e) ∙ stands
-
--- fewer values are left behind one
-pub fewer : (run : List ℤ) (v : ℤ) (rest : List ℤ) → run ≡ v ∷ rest → length rest < length run
-fewer run v rest e = let k = ap length e in omega (arith, k)

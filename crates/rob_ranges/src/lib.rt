@@ -1,4 +1,5 @@
-//! Whole numbers of any size, linear forms over the values of nested ranges, and whether a form reaches a bound there.
+//! Whole numbers of any size, linear forms over the values of nested ranges, and a search of bounded effort for values
+//! at which a form reaches a bound.
 #![tactic(auto)]
 
 mod digits;

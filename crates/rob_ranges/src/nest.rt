@@ -2,12 +2,12 @@
 //! each range that is entered.
 
 ghost use Rattle.std.specs.Prelude.{◌≡◌, ◌++◌, ◌∷◌, ◌||◌, ◌&&◌, [], true, false, if◌then◌else◌, IfOk, OnOk};
-ghost use Rattle.rob_index.specs.Forms.{from_ends, onto, reaches};
+ghost use Rattle.rob_index.specs.Forms.{from_ends, onto};
 ghost use Rattle.rob_index.specs.Search.{search};
 ghost use Rattle.rob_ranges.specs.Nests.{IsTold, all_but_last};
 
 use crate::form::{Ends, Form};
-use crate::reach::{always_runs, greatest, never_runs, some_reaches};
+use crate::reach::{always_runs, greatest, never_runs};
 use crate::search::{Purse, search_each};
 use crate::whole::Whole;
 use rob_number::Memory;
@@ -109,24 +109,7 @@ impl Nest {
         Ok(seen_of(below, told))
     }
 
-    /// Whether the form reaches the bound at some values of the ranges.
-    #[tactic(auto, using(crate::proofs::NestLemmas::reach_told, crate::proofs::NestLemmas::reach_open))]
-    pub fn reaches(&self, alloc: Global, form: &Form, bound: &Whole) -> Result<bool, Memory>
-        ensures reaches { IfOk result (λ found. found ≡ reaches self.now [] form.now bound.now) }
-    {
-        match self.ranges.as_slice() {
-            [] => {
-                let value = form.value(alloc, &[])?;
-                bound.is_at_most(alloc, &value)
-            }
-            [outermost, inner @ ..] => match self.from_ends(alloc, form, bound)? {
-                Some(seen) => Ok(seen),
-                None => some_reaches(alloc, outermost, inner, &[], form, bound),
-            },
-        }
-    }
-
-    /// Whether it is found to, for what may be spent.
+    /// Whether the form is found to reach the bound at some values of the ranges, for what may be spent.
     #[tactic(auto, using(crate::proofs::SeekingLemmas::steps_of_search))]
     pub fn search(
         &self,

@@ -1,13 +1,11 @@
-//! Whether a form reaches a bound somewhere in nested ranges: from the ends of the ranges where these tell, else with
-//! values put in for the outermost range, one after the other. `ranges` are those that are open, the outermost first;
-//! `values` are those put in for the ranges around them, the innermost first.
+//! The greatest value of a form in nested ranges, and what the ends of the ranges tell of whether it reaches a bound.
+//! `ranges` are those that are open, the outermost first; `values` are those put in for the ranges around them, the
+//! innermost first.
 
 ghost use Rattle.std.specs.Prelude.{◌≡◌, ◌∷◌, pos, int_le, int_lt, IfOk};
-ghost use Rattle.std.specs.List.{list_any};
-ghost use Rattle.rob_index.specs.Forms.{all_run, fixed, from_ends, greatest, is_dead, lack_form, length_form, onto, reaches, values_of};
+ghost use Rattle.rob_index.specs.Forms.{all_run, fixed, from_ends, greatest, is_dead, lack_form, length_form, onto};
 
 use crate::form::{Ends, Form, append_copies};
-use crate::run::Run;
 use crate::whole::Whole;
 use rob_number::{List, Memory};
 use std::alloc::Global;
@@ -116,53 +114,6 @@ pub fn from_ends(
     } else {
         Ok(None)
     }
-}
-
-/// Whether the form reaches the bound at some values of the ranges.
-#[tactic(auto, using(crate::proofs::NestLemmas::reach_told, crate::proofs::NestLemmas::reach_open))]
-#[cycle(reaches)]
-pub fn reaches(
-    alloc: Global,
-    ranges: &[Ends],
-    values: &[Whole],
-    form: &Form,
-    bound: &Whole,
-) -> Result<bool, Memory>
-    ensures reaches { IfOk result (λ found. found ≡ reaches ranges.now values.now form.now bound.now) }
-{
-    match ranges {
-        [] => {
-            let value = form.value(alloc, values)?;
-            bound.is_at_most(alloc, &value)
-        }
-        [outermost, inner @ ..] => match from_ends(alloc, ranges, values, form, bound)? {
-            Some(seen) => Ok(seen),
-            None => some_reaches(alloc, outermost, inner, values, form, bound),
-        },
-    }
-}
-
-/// Whether the form reaches the bound at some values of the inner ranges, with a value of the outermost put in.
-#[cycle(reaches)]
-pub fn some_reaches(
-    alloc: Global,
-    outermost: &Ends,
-    inner: &[Ends],
-    values: &[Whole],
-    form: &Form,
-    bound: &Whole,
-) -> Result<bool, Memory>
-    ensures some { IfOk result (λ found. found
-        ≡ list_any (λ v. reaches inner.now (v ∷ values.now) form.now bound.now) (values_of outermost.now values.now)) }
-{
-    let mut run = Run::new(alloc, outermost, values)?;
-    'upwards: while let Some(value) = run.next(alloc)? {
-        let put_in = in_front(alloc, &value, values)?;
-        if reaches(alloc, inner, put_in.items(), form, bound)? {
-            return Ok(true);
-        }
-    }
-    Ok(false)
 }
 
 /// A value in front of others.
