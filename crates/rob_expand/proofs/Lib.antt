@@ -21,4 +21,5 @@ pub mod PartsLemmas
 pub mod FindingLemmas
 pub mod JudgingLemmas
 pub mod JudgeLemmas
+pub mod PassingLemmas
 pub mod InnerLemmas

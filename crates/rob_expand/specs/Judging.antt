@@ -1,5 +1,6 @@
 -- What is found of a line in a setting: a range of more than 100 values, or an index below 0 or over 999.
 use Rattle.std.specs.Prelude.{ℤ, pos, int_lt, ◌||◌, Bool, true, false, List, [], ◌∷◌, Option, Some, None, if◌then◌else◌}
+use Rattle.rob_index.specs.Expansion.{count, upwards}
 use Rattle.rob_index.specs.Forms.{Form, Ends, value_of, values_of, length_form, extensions}
 use Rattle.rob_index.specs.Rules.{greatest_index}
 use Rattle.rob_expand.specs.declared.judging.Finding.{Finding}
@@ -62,6 +63,10 @@ range_found r inside vs = worse (length_found r vs) (worst (λ v. inside (v ∷ 
 abbrev pub ranges_found : List Ends → List ℤ → Finding
 ranges_found [] vs = Nothing
 ranges_found (r ∷ rs) vs = range_found r (ranges_found rs) vs
+
+-- these ranges at each value from one up to another of a range around them
+abbrev pub values_found : ℤ → ℤ → List Ends → List ℤ → Finding
+values_found from upto inner vs = worst (λ v. ranges_found inner (v ∷ vs)) (upwards from (count from upto))
 
 abbrev mutual
   -- an expression

@@ -1,22 +1,23 @@
 //! The rules 26 and 27 of a line: whether a range has more than 100 values, or an index is below 0 or over 999, in some
-//! setting. Each setting is walked through: where the line fits, each has its token. Inside a range that is too long
-//! nothing is looked at. By hand, with `for i = 0 to 90`: in `sum(j = i to i + i: x[j])` nothing is found, since `j`
-//! has at most 91 values; with `x[j + 900]` an index is out of bounds, and with `j = i to i + i + i` a range is too
-//! long.
+//! setting. Each setting is walked through: where the line fits, each has its token. Of two ranges beside each other
+//! the values of the first at which the second has none are passed over. Inside a range that is too long nothing is
+//! looked at. By hand, with `for i = 0 to 90`: in `sum(j = i to i + i: x[j])` nothing is found, since `j` has at most
+//! 91 values; with `x[j + 900]` an index is out of bounds, and with `j = i to i + i + i` a range is too long.
 
 ghost use Rattle.std.specs.Prelude.{◌≡◌, [], map, false, IfOk};
 ghost use Rattle.std.specs.List.{list_any};
 ghost use Rattle.rob_index.specs.Forms.{length_form, value_of};
 ghost use Rattle.rob_index.specs.Rules.{is_long, is_out, places};
 ghost use Rattle.rob_syntax.specs.Seen.{seen_statement};
-ghost use Rattle.rob_expand.specs.Judging.{factors_found, index_found, indices_found, item_found, length_found, line_found, lines_found, optional_found, parts_found, range_found, ranges_found, tree_found, worst};
+ghost use Rattle.rob_expand.specs.Judging.{factors_found, index_found, indices_found, item_found, length_found, line_found, lines_found, optional_found, parts_found, range_found, ranges_found, tree_found, values_found, worst};
 ghost use Rattle.rob_expand.specs.Judging as spec;
 ghost use Rattle.rob_expand.specs.Placed.{factors_of, part_of, parts_of, placed_of};
 
 use crate::line::{Item, Line};
 use crate::lines::line_of;
+use crate::live::first_live;
 use crate::placed::{Named, Part, Placed};
-use crate::setting::with_value;
+use crate::setting::{next, with_value};
 use crate::settings::{Setting, all_settings};
 use rob_number::Memory;
 use rob_ranges::run::Run;
@@ -140,17 +141,41 @@ fn judge_inner(
     ensures found { IfOk result (λ found.
         found ≡ range_found range.now (ranges_found inner.now) values.now) }
 {
-    let mut found = judge_length(alloc, range, values)?;
+    let found = judge_length(alloc, range, values)?;
     if is_too_long(found) {
         return Ok(found);
     }
-    let mut run = Run::new(alloc, range, values)?;
-    'values: while let Some(value) = run.next(alloc)? {
-        let inside = with_value(alloc, &value, values)?;
+    let from = range.from().value(alloc, values)?;
+    let upto = range.upto().value(alloc, values)?;
+    let here = judge_values(alloc, from, &upto, inner, values)?;
+    Ok(worse(found, here))
+}
+
+/// The ranges inside a range with these ends, at each of its values. Those at which they have none are passed over.
+#[cycle(judge_ranges)]
+fn judge_values(
+    alloc: Global,
+    from: Whole,
+    upto: &Whole,
+    inner: &[Ends],
+    values: &[Whole],
+) -> Result<Finding, Memory>
+    ensures found { IfOk result (λ found. found ≡ values_found from upto.now inner.now values.now) }
+{
+    let mut found = Finding::Nothing;
+    let mut value = from;
+    'values: loop {
+        let Some(live) = first_live(alloc, &value, inner, values)? else {
+            return Ok(found);
+        };
+        if upto.is_less(alloc, &live)? {
+            return Ok(found);
+        }
+        let inside = with_value(alloc, &live, values)?;
         let here = judge_ranges(alloc, inner, inside.items())?;
         found = worse(found, here);
+        value = next(alloc, &live)?;
     }
-    Ok(found)
 }
 
 /// How long a range is.
