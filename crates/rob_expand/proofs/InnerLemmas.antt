@@ -61,14 +61,14 @@ second_lacks (r ∷ s ∷ rs) vs h =
     (λ v m. let k = inner_most r s vs v m in first_lacks (s ∷ rs) (v ∷ vs) (omega (arith, ints, h, k)))
 
 -- ---- no range with more than 100 values
-first_short : (rs : List Ends) (vs : List ℤ) → value_of (first_length rs) vs <ℤ pos 0 → is_long_in rs vs ≡ false
+pub first_short : (rs : List Ends) (vs : List ℤ) → value_of (first_length rs) vs <ℤ pos 0 → is_long_in rs vs ≡ false
 first_short [] vs h = refl
 first_short (r ∷ rs) vs h =
     let l : int_lt (pos 99) (value_of (length_form r) vs) ≡ false =
     lt_no (pos 99) (value_of (length_form r) vs) (omega (arith, ints, h)) in
     (λ i. l i || list_any (λ v. is_long_in rs (v ∷ vs)) (no_values r vs h i))
 
-second_short : (rs : List Ends) (vs : List ℤ) → value_of (first_length rs) vs ≤ℤ pos 99
+pub second_short : (rs : List Ends) (vs : List ℤ) → value_of (first_length rs) vs ≤ℤ pos 99
     → value_of (second_length rs) vs <ℤ pos 0 → is_long_in rs vs ≡ false
 second_short [] vs k h = refl
 second_short (r ∷ []) vs k h = absurd (omega (arith, ints, h))
@@ -108,3 +108,24 @@ kept_are rs f g (Some kept) p q h k = record {
 pub seen_below : (z : ℤ) → SFits w128 z → int_lt (to_z w128 (of_z w128 z)) (pos 0) ≡ true → z <ℤ pos 0
 seen_below z f t =
     subst (λ (y : ℤ). y <ℤ pos 0) (to_z-of_z w128 z f) (lt_from (to_z w128 (of_z w128 z)) (pos 0) t)
+
+-- what no length passes
+module _ (rs self : List Ends) (o : Option Lengths) (kept : Lengths) (vs : List ℤ) (most : ℤ) (is : o ≡ Some kept)
+    (view : rs ≡ self) (told : IfSome o (λ k. AreLengths rs k)) (fits : SFits w128 most) where
+  lengths_are : AreLengths self kept
+  lengths_are =
+      subst (λ (l : List Ends). AreLengths l kept) view
+      (subst (λ (p : Option Lengths). IfSome p (λ k. AreLengths rs k)) is told)
+
+  pub most_first : short_value kept.first vs ≤ℤ most → value_of (first_length self) vs ≤ℤ to_z w128 (of_z w128 most)
+  most_first h =
+      let e = lengths_are.first vs in
+      let f = to_z-of_z w128 most fits in
+      omega (arith, ints, h, e, f)
+
+  pub most_second : short_value kept.second vs ≤ℤ most
+      → value_of (second_length self) vs ≤ℤ to_z w128 (of_z w128 most)
+  most_second h =
+      let e = lengths_are.second vs in
+      let f = to_z-of_z w128 most fits in
+      omega (arith, ints, h, e, f)

@@ -23,3 +23,5 @@ pub mod JudgingLemmas
 pub mod JudgeLemmas
 pub mod PassingLemmas
 pub mod InnerLemmas
+pub mod SpotLemmas
+pub mod AppendLemmas

@@ -13,3 +13,4 @@ pub mod Growing
 pub mod Instances
 pub mod Making
 pub mod Judging
+pub mod Spots

@@ -31,6 +31,7 @@ use crate::line::{Item, Line};
 use crate::lines::line_of;
 use crate::name::Refusal;
 use crate::settings::all_settings;
+use crate::spot::spots_of;
 use rob_number::{List, Memory};
 use rob_ranges::Whole;
 use rob_syntax::Words;
@@ -66,11 +67,12 @@ pub fn expand(
     if lacking {
         return Err(Refusal::NoStatement);
     }
-    let long = grow_lines(alloc, own, words, &line, settings.items())?;
+    let spots = spots_of(alloc, line.items.items(), settings.items())?;
+    let long = grow_lines(alloc, own, words, &line, spots.items())?;
     if long {
         return Err(Refusal::NoStatement);
     }
-    append_instances(list, alloc, own, words, statement, &line, settings.items())?;
+    append_instances(list, alloc, own, words, statement, &line, spots.items())?;
     Ok(())
 }
 

@@ -11,6 +11,7 @@ use crate::line::spend_lines;
 use crate::lines::line_of;
 use crate::room::Stop;
 use crate::settings::settings_of;
+use crate::spot::spots_of;
 use rob_number::Memory;
 use rob_syntax::syntax::Indexed;
 use std::alloc::Global;
@@ -42,5 +43,6 @@ pub fn spend_statement(
 {
     let (ranges, line) = line_of(alloc, limit, statement)?;
     let settings = settings_of(alloc, ranges.items(), &[], room)?;
-    spend_lines(alloc, &line, settings.items(), room)
+    let spots = spots_of(alloc, line.items.items(), settings.items())?;
+    spend_lines(alloc, &line, spots.items(), room)
 }

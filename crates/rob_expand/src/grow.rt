@@ -10,12 +10,16 @@ ghost use Rattle.rob_expand.specs.Growing.{each_names, factors_names, item_names
 ghost use Rattle.rob_expand.specs.Growing as spec;
 ghost use Rattle.rob_expand.specs.Names.{tree_names};
 ghost use Rattle.rob_expand.specs.Placed.{placed_of};
+ghost use Rattle.rob_expand.specs.Spots.{IsThin, IsThinAt, picks};
+ghost use Rattle.rob_expand.specs.declared.spot.Spot.{Spot as SpecSpot};
+ghost use Rattle.rob_ranges.specs.Spans.{Every};
 
 use crate::line::{Item, Line};
 use crate::name::add_name;
 use crate::placed::{Named, Part, Placed};
 use crate::setting::with_value;
 use crate::settings::Setting;
+use crate::spot::{Spot, one_at};
 use rob_number::Memory;
 use rob_ranges::run::Run;
 use rob_ranges::{Ends, Whole};
@@ -28,29 +32,39 @@ pub fn grow_lines(
     own: &Words,
     words: &mut Words,
     line: &Line,
-    settings: &[Setting],
+    spots: &[Spot],
 ) -> Result<bool, Memory>
+    requires thin { Every (IsThin line.now.items) spots.now }
     ensures words { OnOk result (texts words.new.keys ≡ fold spec.add_name (texts words.old.keys)
-        (flat_map (line_names (texts own.now.keys) line.now) settings.now)) }
-    ensures long { IfOk result (λ long. long
-        ≡ list_any is_long_name (flat_map (line_names (texts own.now.keys) line.now) settings.now)) }
+        (flat_map (λ (s : SpecSpot). line_names (texts own.now.keys) line.now s.values) spots.now)) }
+    ensures long { IfOk result (λ long. long ≡ list_any is_long_name
+        (flat_map (λ (s : SpecSpot). line_names (texts own.now.keys) line.now s.values) spots.now)) }
 {
     let mut long = false;
-    for setting in settings {
-        let here = grow_line(alloc, own, words, line, setting.items())?;
+    for spot in spots {
+        let here = grow_line(
+            alloc,
+            own,
+            words,
+            line,
+            spot.kept.items(),
+            spot.values.items(),
+        )?;
         long = either(long, here);
     }
     Ok(long)
 }
 
-/// The names of a line.
+/// The names of a line, where no items but those at these places have entries.
 fn grow_line(
     alloc: Global,
     own: &Words,
     words: &mut Words,
     line: &Line,
+    kept: &[usize],
     values: &[Whole],
 ) -> Result<bool, Memory>
+    requires thin { IsThinAt line.now.items kept.now values.now }
     ensures words { OnOk result (texts words.new.keys ≡ fold spec.add_name (texts words.old.keys)
         (line_names (texts own.now.keys) line.now values.now)) }
     ensures long { IfOk result (λ long. long
@@ -58,7 +72,7 @@ fn grow_line(
 {
     let head = grow_optional(alloc, own, words, &line.head, values)?;
     let trees = grow_trees(alloc, own, words, line.trees.items(), values)?;
-    let items = grow_items(alloc, own, words, line.items.items(), values)?;
+    let items = grow_kept(alloc, own, words, line.items.items(), kept, values)?;
     let over = grow_optional(alloc, own, words, &line.over, values)?;
     let last = either(items, over);
     let behind = either(trees, last);
@@ -108,6 +122,28 @@ fn grow_trees(
     let mut long = false;
     for tree in trees {
         let here = grow_tree(alloc, own, words, tree, values)?;
+        long = either(long, here);
+    }
+    Ok(long)
+}
+
+/// The names of the items at some places.
+fn grow_kept(
+    alloc: Global,
+    own: &Words,
+    words: &mut Words,
+    items: &[Item],
+    kept: &[usize],
+    values: &[Whole],
+) -> Result<bool, Memory>
+    ensures words { OnOk result (texts words.new.keys ≡ fold spec.add_name (texts words.old.keys)
+        (flat_map (λ x. item_names (texts own.now.keys) x values.now) (picks items.now kept.now))) }
+    ensures long { IfOk result (λ long. long ≡ list_any is_long_name
+        (flat_map (λ x. item_names (texts own.now.keys) x values.now) (picks items.now kept.now))) }
+{
+    let mut long = false;
+    for k in kept {
+        let here = grow_items(alloc, own, words, one_at(items, *k), values)?;
         long = either(long, here);
     }
     Ok(long)

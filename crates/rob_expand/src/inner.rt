@@ -1,9 +1,10 @@
 //! The ranges of an item of a list, inside those of its statement.
 
-ghost use Rattle.std.specs.Prelude.{◌≡◌, ◌≤◌, ℤ, [], List as Items, length, pos};
+ghost use Rattle.std.specs.Prelude.{◌≡◌, ◌≤◌, ◌≤ℤ◌, ℤ, [], List as Items, length, pos};
 ghost use Rattle.std.specs.Prelude.{false, IfOk, IfSome, IsTrue, MatchResult};
 ghost use Rattle.rob_index.specs.Forms.{extensions, only, value_of};
 ghost use Rattle.rob_ranges.specs.Shorts.{short_value};
+ghost use Rattle.rob_ranges.specs.Spans.{IsIn};
 ghost use Rattle.rob_expand.specs.Inner.{AreLengths, is_long_in};
 ghost use Rattle.rob_expand.specs.Inner as spec;
 ghost use Rattle.rob_expand.specs.Room.{left_of, HasStop};
@@ -12,6 +13,7 @@ use crate::room::Stop;
 use crate::settings::{Setting, all_settings, settings_of};
 use rob_number::{List, Memory};
 use rob_ranges::short::{Short, pair_of, short_of};
+use rob_ranges::span::Span;
 use rob_ranges::{Ends, Form, Whole};
 use std::alloc::Global;
 use std::marker::Model;
@@ -113,6 +115,19 @@ impl Inner {
         }
     }
 
+    /// Whether the lengths tell that there is no setting, and no range that has more than 100 values, anywhere in a
+    /// span.
+    pub fn is_quiet_in(&self, span: Span) -> bool
+        ensures empty { IsTrue result → (vs : Items ℤ) → IsIn span vs → extensions self.now vs ≡ [] }
+        ensures short { IsTrue result → (vs : Items ℤ) → IsIn span vs → is_long_in self.now vs ≡ false }
+    {
+        match self.sizes_in(span) {
+            None => false,
+            Some(sizes) => sizes.first < SHORTEST
+                || (sizes.first <= LONGEST && sizes.second < SHORTEST),
+        }
+    }
+
     /// Whether the lengths tell that there is no setting.
     fn is_empty_at(&self, values: &[Whole]) -> bool
         ensures empty { IsTrue result → extensions self.now values.now ≡ [] }
@@ -132,6 +147,19 @@ impl Inner {
         let pair = pair_of(values)?;
         let first = lengths.first.value(pair);
         let second = lengths.second.value(pair);
+        Some(Sizes { first, second })
+    }
+
+    /// The lengths that are nowhere passed in a span, where they have few bits.
+    fn sizes_in(&self, span: Span) -> Option<Sizes>
+        ensures first { IfSome result (λ sizes. (vs : Items ℤ) → IsIn span vs
+            → value_of (spec.first_length self.now) vs ≤ℤ sizes.first) }
+        ensures second { IfSome result (λ sizes. (vs : Items ℤ) → IsIn span vs
+            → value_of (spec.second_length self.now) vs ≤ℤ sizes.second) }
+    {
+        let lengths = self.lengths?;
+        let first = span.most(lengths.first);
+        let second = span.most(lengths.second);
         Some(Sizes { first, second })
     }
 }

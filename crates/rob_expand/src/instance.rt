@@ -10,7 +10,10 @@ ghost use Rattle.rob_expand.specs.Growing.{named_at, over_at, printed};
 ghost use Rattle.rob_expand.specs.Instances.{each_at, instance, member_at};
 ghost use Rattle.rob_expand.specs.Making.{budget_in, entry_at, first_at, head_in, numbers_in, relation_in, second_at};
 ghost use Rattle.rob_expand.specs.Placed.{placed_of};
+ghost use Rattle.rob_expand.specs.Spots.{IsThin, IsThinAt, picks};
 ghost use Rattle.rob_expand.specs.Statements.{IsLineOf};
+ghost use Rattle.rob_expand.specs.declared.spot.Spot.{Spot as SpecSpot};
+ghost use Rattle.rob_ranges.specs.Spans.{Every};
 
 use crate::line::{Item, Line};
 use crate::lines::nest_in;
@@ -19,6 +22,7 @@ use crate::name::name_number;
 use crate::place::place_name;
 use crate::placed::{Named, Placed};
 use crate::settings::{Setting, all_settings};
+use crate::spot::{Spot, one_at};
 use rob_number::{List, Memory};
 use rob_ranges::Whole;
 use rob_syntax::Words;
@@ -36,14 +40,17 @@ pub fn append_instances(
     words: &Words,
     statement: &Indexed,
     line: &Line,
-    settings: &[Setting],
+    spots: &[Spot],
 ) -> Result<(), Memory>
     requires line { IsLineOf (seen_statement statement.now) line.now }
-    ensures appended { OnOk result (list.new ≡ list.old ++ map (numbered (texts words.now.keys))
-        (map (instance (texts own.now.keys) printed (seen_statement statement.now)) settings.now)) }
+    requires thin { Every (IsThin line.now.items) spots.now }
+    ensures appended { OnOk result (list.new ≡ list.old ++ map (λ (s : SpecSpot). numbered (texts words.now.keys)
+        (instance (texts own.now.keys) printed (seen_statement statement.now) s.values)) spots.now) }
 {
-    for setting in settings {
-        let plain = make_statement(alloc, own, words, statement, line, setting.items())?;
+    for spot in spots {
+        let kept = spot.kept.items();
+        let values = spot.values.items();
+        let plain = make_statement(alloc, own, words, statement, line, kept, values)?;
         list.push(plain)?;
     }
     Ok(())
@@ -56,9 +63,11 @@ fn make_statement(
     words: &Words,
     statement: &Indexed,
     line: &Line,
+    kept: &[usize],
     values: &[Whole],
 ) -> Result<Statement, Memory>
     requires line { IsLineOf (seen_statement statement.now) line.now }
+    requires thin { IsThinAt line.now.items kept.now values.now }
     ensures made { IfOk result (λ made. made ≡ numbered (texts words.now.keys)
         (instance (texts own.now.keys) printed (seen_statement statement.now) values.now)) }
 {
@@ -70,7 +79,9 @@ fn make_statement(
         Indexed::Set(sides) => make_set(alloc, own, words, sides.item.rel, line, values),
         Indexed::Budget(shares) => make_budget(alloc, own, words, shares, line, values),
         Indexed::Var(entry) => make_var(alloc, own, words, entry.bounds, line, values),
-        Indexed::Adaptive(rule) => make_policy(alloc, own, words, rule.bounds, line, values),
+        Indexed::Adaptive(rule) => {
+            make_policy(alloc, own, words, rule.bounds, line, kept, values)
+        }
         Indexed::Goal(target) => make_goal(alloc, own, words, target.sense, line, values),
         Indexed::Row(_, sides) => make_row(alloc, own, words, sides.item.rel, line, values),
     }
@@ -150,8 +161,10 @@ fn make_policy(
     words: &Words,
     bounds: Option<Bounds>,
     line: &Line,
+    kept: &[usize],
     values: &[Whole],
 ) -> Result<Statement, Memory>
+    requires thin { IsThinAt line.now.items kept.now values.now }
     ensures made { IfOk result (λ made. made ≡ Statement.Adaptive (record {
       name = head_in (texts own.now.keys) (texts words.now.keys) line.now values.now;
       on = numbers_in (texts own.now.keys) (texts words.now.keys) line.now.items values.now;
@@ -159,7 +172,7 @@ fn make_policy(
     })) }
 {
     let name = head_number(alloc, own, words, line, values)?;
-    let on = item_numbers(alloc, own, words, line.items.items(), values)?;
+    let on = kept_numbers(alloc, own, words, line.items.items(), kept, values)?;
     Ok(Statement::Adaptive(Policy { name, on, bounds }))
 }
 
@@ -371,30 +384,42 @@ fn append_entries(
     Ok(())
 }
 
-/// The numbers of the names of some items, in each setting of their ranges.
-fn item_numbers(
+/// The numbers of the names of the items at some places, in each setting of their ranges.
+fn kept_numbers(
+    alloc: Global,
+    own: &Words,
+    words: &Words,
+    items: &[Item],
+    kept: &[usize],
+    values: &[Whole],
+) -> Result<List<usize>, Memory>
+    ensures numbers { IfOk result (λ numbers. numbers
+        ≡ numbers_in (texts own.now.keys) (texts words.now.keys) (picks items.now kept.now) values.now) }
+{
+    let mut numbers = List::new(alloc);
+    for k in kept {
+        append_items(&mut numbers, alloc, own, words, one_at(items, *k), values)?;
+    }
+    Ok(numbers)
+}
+
+/// Appends the numbers of the names of some items, in each setting of their ranges.
+fn append_items(
+    numbers: &mut List<usize>,
     alloc: Global,
     own: &Words,
     words: &Words,
     items: &[Item],
     values: &[Whole],
-) -> Result<List<usize>, Memory>
-    ensures numbers { IfOk result (λ numbers. numbers
-        ≡ numbers_in (texts own.now.keys) (texts words.now.keys) items.now values.now) }
+) -> Result<(), Memory>
+    ensures numbers { OnOk result (numbers.new ≡ numbers.old
+        ++ numbers_in (texts own.now.keys) (texts words.now.keys) items.now values.now) }
 {
-    let mut numbers = List::new(alloc);
     for item in items {
         let settings = item.ranges.settings(alloc, values)?;
-        append_numbers(
-            &mut numbers,
-            alloc,
-            own,
-            words,
-            &item.name,
-            settings.items(),
-        )?;
+        append_numbers(numbers, alloc, own, words, &item.name, settings.items())?;
     }
-    Ok(numbers)
+    Ok(())
 }
 
 /// Appends the number of a name in each of some settings.

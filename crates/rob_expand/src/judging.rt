@@ -12,6 +12,9 @@ ghost use Rattle.rob_syntax.specs.Seen.{seen_statement};
 ghost use Rattle.rob_expand.specs.Judging.{factors_found, index_found, indices_found, item_found, length_found, line_found, lines_found, optional_found, parts_found, range_found, ranges_found, tree_found, values_found, worst};
 ghost use Rattle.rob_expand.specs.Judging as spec;
 ghost use Rattle.rob_expand.specs.Placed.{factors_of, part_of, parts_of, placed_of};
+ghost use Rattle.rob_expand.specs.Spots.{IsThin, IsThinAt, picks};
+ghost use Rattle.rob_expand.specs.declared.spot.Spot.{Spot as SpecSpot};
+ghost use Rattle.rob_ranges.specs.Spans.{Every};
 
 use crate::line::{Item, Line};
 use crate::lines::line_of;
@@ -19,6 +22,7 @@ use crate::live::first_live;
 use crate::placed::{Named, Part, Placed};
 use crate::setting::{next, with_value};
 use crate::settings::{Setting, all_settings};
+use crate::spot::{Spot, one_at, spots_of};
 use rob_number::Memory;
 use rob_ranges::run::Run;
 use rob_ranges::{Ends, Form, Whole};
@@ -114,7 +118,8 @@ fn judge_statement(alloc: Global, ranges: &[Ends], line: &Line) -> Result<Findin
         return Ok(found);
     }
     let settings = all_settings(alloc, ranges, &[])?;
-    let here = judge_lines(alloc, line, settings.items())?;
+    let spots = spots_of(alloc, line.items.items(), settings.items())?;
+    let here = judge_lines(alloc, line, spots.items())?;
     Ok(worse(found, here))
 }
 
@@ -199,12 +204,13 @@ fn length_at(alloc: Global, range: &Ends, values: &[Whole]) -> Result<Whole, Mem
 }
 
 /// A line in each of some settings.
-fn judge_lines(alloc: Global, line: &Line, settings: &[Setting]) -> Result<Finding, Memory>
-    ensures found { IfOk result (λ found. found ≡ worst (line_found line.now) settings.now) }
+fn judge_lines(alloc: Global, line: &Line, spots: &[Spot]) -> Result<Finding, Memory>
+    requires thin { Every (IsThin line.now.items) spots.now }
+    ensures found { IfOk result (λ found. found ≡ worst (λ (s : SpecSpot). line_found line.now s.values) spots.now) }
 {
     let mut found = Finding::Nothing;
-    for setting in settings {
-        let here = judge_line(alloc, line, setting.items())?;
+    for spot in spots {
+        let here = judge_line(alloc, line, spot.kept.items(), spot.values.items())?;
         found = worse(found, here);
         if is_too_long(found) {
             return Ok(found);
@@ -213,13 +219,19 @@ fn judge_lines(alloc: Global, line: &Line, settings: &[Setting]) -> Result<Findi
     Ok(found)
 }
 
-/// A line.
-fn judge_line(alloc: Global, line: &Line, values: &[Whole]) -> Result<Finding, Memory>
+/// A line, where no items but those at these places have entries or a range that is too long.
+fn judge_line(
+    alloc: Global,
+    line: &Line,
+    kept: &[usize],
+    values: &[Whole],
+) -> Result<Finding, Memory>
+    requires thin { IsThinAt line.now.items kept.now values.now }
     ensures found { IfOk result (λ found. found ≡ line_found line.now values.now) }
 {
     let head = judge_optional(alloc, &line.head, values)?;
     let trees = judge_trees(alloc, line.trees.items(), values)?;
-    let items = judge_items(alloc, line.items.items(), values)?;
+    let items = judge_kept(alloc, line.items.items(), kept, values)?;
     let over = judge_optional(alloc, &line.over, values)?;
     let last = worse(items, over);
     let behind = worse(trees, last);
@@ -276,6 +288,27 @@ fn judge_trees(alloc: Global, trees: &[Placed], values: &[Whole]) -> Result<Find
     for tree in trees {
         let here = judge_tree(alloc, tree, values)?;
         found = worse(found, here);
+    }
+    Ok(found)
+}
+
+/// The items at some places.
+fn judge_kept(
+    alloc: Global,
+    items: &[Item],
+    kept: &[usize],
+    values: &[Whole],
+) -> Result<Finding, Memory>
+    ensures found { IfOk result (λ found.
+        found ≡ worst (λ x. item_found x values.now) (picks items.now kept.now)) }
+{
+    let mut found = Finding::Nothing;
+    for k in kept {
+        let here = judge_items(alloc, one_at(items, *k), values)?;
+        found = worse(found, here);
+        if is_too_long(found) {
+            return Ok(found);
+        }
     }
     Ok(found)
 }

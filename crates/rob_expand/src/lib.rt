@@ -21,6 +21,7 @@ mod placed;
 mod room;
 mod setting;
 mod settings;
+mod spot;
 mod tokens;
 
 pub use expansion::expand;

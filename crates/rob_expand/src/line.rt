@@ -1,16 +1,19 @@
 //! How many tokens the canonical lines of a statement have, counted without making them.
 
-ghost use Rattle.std.specs.Prelude.{◌≡◌, ◌+◌, ◌≤◌, map, true, Some, IfOk, MatchResult};
+ghost use Rattle.std.specs.Prelude.{◌≡◌, ◌+◌, ◌≤◌, ◌&&◌, map, true, Some, IfOk, MatchResult};
 ghost use Rattle.rob_expand.specs.Room.{HasStop, left_of};
 ghost use Rattle.rob_expand.specs.Lines.{line_left, trees_left, items_left, entries_tokens};
 ghost use Rattle.rob_expand.specs.Placed.{placed_of};
 ghost use Rattle.rob_expand.specs.Settings.{all_left};
+ghost use Rattle.rob_expand.specs.Spots.{IsThin, IsThinAt, picks};
+ghost use Rattle.rob_expand.specs.declared.spot.Spot.{Spot as SpecSpot};
+ghost use Rattle.rob_ranges.specs.Spans.{Every};
 
 use crate::count::count;
 use crate::inner::Inner;
 use crate::placed::{Named, Placed};
 use crate::room::{Stop, spend};
-use crate::settings::Setting;
+use crate::spot::{Spot, one_at};
 use rob_number::List;
 use rob_ranges::Whole;
 use std::alloc::Global;
@@ -38,28 +41,36 @@ pub struct Line {
 }
 
 /// What is left behind the lines of some settings.
-pub fn spend_lines(alloc: Global, line: &Line, settings: &[Setting], room: u32) -> Result<u32, Stop>
+pub fn spend_lines(alloc: Global, line: &Line, spots: &[Spot], room: u32) -> Result<u32, Stop>
+    requires thin { Every (IsThin line.now.items) spots.now }
     ensures left { MatchResult result
-        (λ left. all_left (line_left line.now) settings.now room ≡ Some left)
-        (λ e. HasStop (all_left (line_left line.now) settings.now room) e) }
+        (λ left. all_left (λ (s : SpecSpot). line_left line.now s.values) spots.now room ≡ Some left)
+        (λ e. HasStop (all_left (λ (s : SpecSpot). line_left line.now s.values) spots.now room) e) }
 {
     let mut left = room;
-    for setting in settings {
-        let behind = spend_line(alloc, line, setting.items(), left)?;
+    for spot in spots {
+        let behind = spend_line(alloc, line, spot.kept.items(), spot.values.items(), left)?;
         left = behind;
     }
     Ok(left)
 }
 
-/// What is left behind a line.
-fn spend_line(alloc: Global, line: &Line, values: &[Whole], room: u32) -> Result<u32, Stop>
+/// What is left behind a line, where no items but those at these places have entries.
+fn spend_line(
+    alloc: Global,
+    line: &Line,
+    kept: &[usize],
+    values: &[Whole],
+    room: u32,
+) -> Result<u32, Stop>
+    requires thin { IsThinAt line.now.items kept.now values.now }
     ensures left { MatchResult result
         (λ left. line_left line.now values.now room ≡ Some left)
         (λ e. HasStop (line_left line.now values.now room) e) }
 {
     let left = spend(line.base, room)?;
     let left = spend_trees(alloc, line.limit, line.trees.items(), values, left)?;
-    spend_items(alloc, line.items.items(), values, left)
+    spend_kept(alloc, line.items.items(), kept, values, left)
 }
 
 /// What is left behind some expressions.
@@ -82,14 +93,49 @@ fn spend_trees(
     Ok(left)
 }
 
-/// What is left behind the items of a list.
-fn spend_items(alloc: Global, items: &[Item], values: &[Whole], room: u32) -> Result<u32, Stop>
+/// What is left behind the items at some places of a list.
+fn spend_kept(
+    alloc: Global,
+    items: &[Item],
+    kept: &[usize],
+    values: &[Whole],
+    room: u32,
+) -> Result<u32, Stop>
     ensures left { MatchResult result
-        (λ left. items_left true items.now values.now room ≡ Some left)
-        (λ e. HasStop (items_left true items.now values.now room) e) }
+        (λ left. items_left true (picks items.now kept.now) values.now room ≡ Some left)
+        (λ e. HasStop (items_left true (picks items.now kept.now) values.now room) e) }
 {
     let mut left = room;
     let mut first = true;
+    for k in kept {
+        let behind = spend_items(alloc, first, one_at(items, *k), values, left)?;
+        first = both(first, behind == left);
+        left = behind;
+    }
+    Ok(left)
+}
+
+/// Whether both hold.
+fn both(first: bool, second: bool) -> bool
+    ensures both { result ≡ (first && second) }
+{
+    first && second
+}
+
+/// What is left behind some items of a list, of which the first entry is the first of the list or isn't.
+fn spend_items(
+    alloc: Global,
+    begins: bool,
+    items: &[Item],
+    values: &[Whole],
+    room: u32,
+) -> Result<u32, Stop>
+    ensures left { MatchResult result
+        (λ left. items_left begins items.now values.now room ≡ Some left)
+        (λ e. HasStop (items_left begins items.now values.now room) e) }
+{
+    let mut left = room;
+    let mut first = begins;
     for item in items {
         let settings = item.ranges.settings_up_to(alloc, values, left)?;
         let entries = settings.items().len() as u32;

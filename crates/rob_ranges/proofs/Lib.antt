@@ -4,3 +4,4 @@ pub mod NestLemmas
 pub mod NestLists
 pub mod SeekingLemmas
 pub mod ShortLemmas
+pub mod SpanLemmas

@@ -4,3 +4,4 @@ pub mod Joining
 pub mod Nests
 pub mod Seeking
 pub mod Shorts
+pub mod Spans

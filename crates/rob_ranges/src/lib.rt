@@ -10,6 +10,7 @@ pub mod reach;
 pub mod run;
 pub mod search;
 pub mod short;
+pub mod span;
 pub mod whole;
 
 pub use form::{Ends, Form};

@@ -3,34 +3,48 @@ use Rattle.std.specs.Prelude.{ℤ, fold}
 use Rattle.std.specs.List.{list_any}
 use Rattle.rob_index.specs.Rules.{is_long_name}
 use Rattle.rob_syntax.specs.Known.{texts}
+use Rattle.rob_index.specs.Statements.{Name}
+use Rattle.rob_ranges.proofs.SpanLemmas.{every_at}
+use Rattle.rob_expand.specs.declared.spot.Spot.{Spot}
+use Rattle.rob_expand.specs.Spots.{IsThin}
 use Rattle.rob_expand.specs.Growing.{add_name, line_names}
 use Rattle.rob_expand.proofs.WalkLemmas.{left_is, left_none, words_more, words_all, long_more, long_all}
+use Rattle.rob_expand.proofs.SpotLemmas.{thin_along}
 use Rattle.rob_expand.proofs.grow.grow_lines.Goals as goal
 
-pub loop-setting-preserved : goal.loop-setting-preserved
-loop-setting-preserved c =
-    let f = line_names (texts c.args.own.now.keys) c.args.line.now in
-    let step = left_is c.args.settings.now c.loop-setting.setting-index c.setting-item.result c.loop-setting-test.true
-    c.setting-item.is in
+pub grow_line-requires : goal.grow_line-requires
+grow_line-requires c = record {
+  thin =
+      thin_along c.args.line.now.items c.spot-item.result.kept c.items.result.now c.spot-item.result.values
+      c.items-in-loop-spot.result.now c.items.ensures.list c.items-in-loop-spot.ensures.list
+      (every_at (IsThin c.args.line.now.items) c.args.spots.now c.loop-spot.spot-index c.spot-item.result
+      c.loop-spot-test.true c.spot-item.is c.requires.thin);
+}
+
+pub loop-spot-preserved : goal.loop-spot-preserved
+loop-spot-preserved c =
+    let f : Spot → List Name = λ (s : Spot). line_names (texts c.args.own.now.keys) c.args.line.now s.values in
+    let step = left_is c.args.spots.now c.loop-spot.spot-index c.spot-item.result c.loop-spot-test.true
+    c.spot-item.is in
     record {
-      words = words_more f (texts c.loop-setting.words.keys) _ _ _ c.setting-item.result step
+      words = words_more f (texts c.loop-spot.words.keys) _ _ _ c.spot-item.result step
           (c.in_ok-here.ensures.words
-          ∙ ap (λ (vs : List ℤ). fold add_name (texts c.loop-setting.words.keys)
-          (line_names (texts c.args.own.now.keys) c.args.line.now vs)) c.items.ensures.list)
-          c.loop-setting.invariant.words;
+          ∙ ap (λ (vs : List ℤ). fold add_name (texts c.loop-spot.words.keys)
+          (line_names (texts c.args.own.now.keys) c.args.line.now vs)) c.items-in-loop-spot.ensures.list)
+          c.loop-spot.invariant.words;
       long =
-          long_more f c.loop-setting.long c.in_ok-here.here _ _ _ c.setting-item.result step
+          long_more f c.loop-spot.long c.in_ok-here.here _ _ _ c.spot-item.result step
           (c.in_ok-here.ensures.long
           ∙ ap (λ (vs : List ℤ). list_any is_long_name (line_names (texts c.args.own.now.keys) c.args.line.now vs))
-          c.items.ensures.list)
-          c.either-long.ensures.either c.loop-setting.invariant.long;
+          c.items-in-loop-spot.ensures.list)
+          c.either-long.ensures.either c.loop-spot.invariant.long;
     }
 
 pub returns : goal.returns
 returns c =
-    let f = line_names (texts c.args.own.now.keys) c.args.line.now in
-    let none = left_none c.args.settings.now c.loop-setting.setting-index c.loop-setting-test.false in
+    let f : Spot → List Name = λ (s : Spot). line_names (texts c.args.own.now.keys) c.args.line.now s.values in
+    let none = left_none c.args.spots.now c.loop-spot.spot-index c.loop-spot-test.false in
     record {
-      words = words_all f _ _ none c.loop-setting.invariant.words;
-      long = long_all f c.loop-setting.long _ none c.loop-setting.invariant.long;
+      words = words_all f _ _ none c.loop-spot.invariant.words;
+      long = long_all f c.loop-spot.long _ none c.loop-spot.invariant.long;
     }

@@ -1,8 +1,10 @@
-use Rattle.std.proofs.Common.{ap, ◌∙◌}
+use Rattle.std.proofs.Common.{List, ap, ◌∙◌}
 use Rattle.rob_expand.specs.declared.line.Item.{Item}
 use Rattle.rob_expand.specs.Judging.{worst, item_found}
+use Rattle.rob_expand.specs.Spots.{picks}
 use Rattle.rob_expand.proofs.FindingLemmas.{worse_both}
 use Rattle.rob_expand.proofs.JudgeLemmas.{factor_found}
+use Rattle.rob_expand.proofs.SpotLemmas.{thin_found}
 use Rattle.rob_expand.proofs.judging.judge_line.Goals as goal
 
 pub returns : goal.returns
@@ -16,6 +18,9 @@ returns c =
           ∙ worse_both (c.in_ok-trees.ensures.found ∙ ap (worst (factor_found vs)) c.items.ensures.list)
           (c.worse-last.ensures.worse
           ∙ worse_both
-          (c.in_ok-items.ensures.found ∙ ap (worst (λ (x : Item). item_found x vs)) c.items-2.ensures.list)
+          (c.in_ok-items.ensures.found
+          ∙ ap (λ (xs : List Item). worst (λ (x : Item). item_found x vs) (picks xs c.args.kept.now))
+          c.items-2.ensures.list
+          ∙ thin_found c.args.line.now.items c.args.kept.now vs c.requires.thin)
           c.in_ok-over.ensures.found));
     }

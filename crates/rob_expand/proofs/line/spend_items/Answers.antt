@@ -1,4 +1,4 @@
-use Rattle.std.proofs.Common.{◌≡◌, List, length, true, sym, ap, ◌∙◌, arith}
+use Rattle.std.proofs.Common.{◌≡◌, List, length, sym, ap, ◌∙◌, arith}
 use Rattle.std.specs.Prelude.{ℤ}
 use Rattle.std.proofs.lemmas.Result.{err_from_is_err_and}
 use Rattle.rob_index.specs.Forms.{extensions}
@@ -14,7 +14,7 @@ returns-in_err-settings c = record {
       let p = err_from_is_err_and c.from_residual.result c.from_residual.ensures.1 in
       refused c.from_residual.result _
       (left_of (length (extensions c.item-item.result.ranges c.args.values.now)) c.loop-item.left)
-      (items_left true c.args.items.now c.args.values.now c.args.room)
+      (items_left c.args.begins c.args.items.now c.args.values.now c.args.room)
       c.in_err-settings.field-0.0 p.0 p.1 p.2
       (λ none. items_crowded c.args.values.now c.args.items.now c.loop-item.item-index c.loop-item.first
       c.loop-item.left c.item-item.result c.loop-item-test.true c.item-item.is c.loop-item.invariant.left none)

@@ -1,10 +1,13 @@
-use Rattle.std.proofs.Common.{map}
+use Rattle.std.proofs.Common.{List, true, map, refl, ap, ◌∙◌}
 use Rattle.std.proofs.lemmas.Result.{err_from_is_err_and}
 use Rattle.rob_expand.specs.Room.{left_of}
 use Rattle.rob_expand.specs.Placed.{placed_of}
-use Rattle.rob_expand.specs.Lines.{line_left, trees_left}
+use Rattle.rob_expand.specs.declared.line.Item.{Item}
+use Rattle.rob_expand.specs.Lines.{items_left, line_left, trees_left}
+use Rattle.rob_expand.specs.Spots.{picks}
 use Rattle.rob_expand.proofs.StepLemmas.{refused, moved}
 use Rattle.rob_expand.proofs.LineLemmas.{line_baseless, line_treeless, line_behind}
+use Rattle.rob_expand.proofs.SpotLemmas.{thin_left}
 use Rattle.rob_expand.proofs.line.spend_line.Goals as goal
 
 pub returns-in_err-left : goal.returns-in_err-left
@@ -32,11 +35,16 @@ returns-in_err-left-2 c = record {
 }
 
 pub returns : goal.returns
-returns c = record {
-  left =
-      moved c.spend_items.result _ _
-      (line_behind c.args.line.now c.args.values.now c.args.room c.in_ok-left.left c.in_ok-left.ensures.left
-      c.items.result.now c.items.ensures.list c.in_ok-left-2.left c.items-2.result.now c.items-2.ensures.list
-      c.in_ok-left-2.ensures.left)
-      c.spend_items.ensures.left;
-}
+returns c =
+    let line = c.args.line.now in
+    let vs = c.args.values.now in
+    record {
+      left =
+          moved c.spend_kept.result _ _
+          (ap (λ (xs : List Item). items_left true (picks xs c.args.kept.now) vs c.in_ok-left-2.left)
+          c.items-2.ensures.list
+          ∙ thin_left line.items c.args.kept.now vs c.requires.thin true c.in_ok-left-2.left
+          ∙ line_behind line vs c.args.room c.in_ok-left.left c.in_ok-left.ensures.left
+          c.items.result.now c.items.ensures.list c.in_ok-left-2.left line.items refl c.in_ok-left-2.ensures.left)
+          c.spend_kept.ensures.left;
+    }

@@ -1,4 +1,4 @@
-use Rattle.std.proofs.Common.{◌≡◌, List, ◌++◌, map, ap, sym, ◌∙◌}
+use Rattle.std.proofs.Common.{◌≡◌, ℕ, List, ◌++◌, map, ap, sym, ◌∙◌}
 use Rattle.std.specs.Prelude.{ℤ}
 use Rattle.rob_index.specs.Forms.{extensions}
 use Rattle.rob_syntax.specs.Known.{texts}
@@ -6,7 +6,7 @@ use Rattle.rob_syntax.specs.Symbols.{number_of}
 use Rattle.rob_expand.specs.Growing.{named_at}
 use Rattle.rob_expand.proofs.MakeLemmas.{item_made, numbers_made}
 use Rattle.rob_expand.proofs.WalkLemmas.{left_is, left_none, made_more, made_all}
-use Rattle.rob_expand.proofs.instance.item_numbers.Goals as goal
+use Rattle.rob_expand.proofs.instance.append_items.Goals as goal
 
 pub loop-item-preserved : goal.loop-item-preserved
 loop-item-preserved c =
@@ -28,5 +28,6 @@ returns c = record {
       made_all (item_made (texts c.args.own.now.keys) (texts c.args.words.now.keys) c.args.values.now)
       c.loop-item.numbers _
       (left_none c.args.items.now c.loop-item.item-index c.loop-item-test.false) c.loop-item.invariant
-      ∙ sym (numbers_made (texts c.args.own.now.keys) (texts c.args.words.now.keys) c.args.values.now c.args.items.now);
+      ∙ ap (λ (l : List ℕ). c.args.numbers.now ++ l)
+      (sym (numbers_made (texts c.args.own.now.keys) (texts c.args.words.now.keys) c.args.values.now c.args.items.now));
 }

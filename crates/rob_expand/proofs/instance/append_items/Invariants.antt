@@ -2,9 +2,9 @@ use Rattle.std.proofs.Common.{◌≡◌, ◌++◌, drop}
 use Rattle.std.specs.List.{flat_map}
 use Rattle.rob_syntax.specs.Known.{texts}
 use Rattle.rob_expand.proofs.MakeLemmas.{item_made}
-use Rattle.rob_expand.proofs.instance.item_numbers.Given as goal
+use Rattle.rob_expand.proofs.instance.append_items.Given as goal
 
 abbrev pub invariant-loop-item : goal.invariant-loop-item
 invariant-loop-item l =
     l.numbers ++ flat_map (item_made (texts l.own.keys) (texts l.words.keys) l.values) (drop l.item-index l.items)
-    ≡ flat_map (item_made (texts l.own.keys) (texts l.words.keys) l.values) l.items
+    ≡ l.fn.numbers ++ flat_map (item_made (texts l.own.keys) (texts l.words.keys) l.values) l.items

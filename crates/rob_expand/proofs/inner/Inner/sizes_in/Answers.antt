@@ -1,0 +1,17 @@
+use Rattle.std.proofs.Common.{rules}
+use Rattle.std.specs.Int.{w128}
+use mir.Val.{SFits}
+use Rattle.rob_expand.proofs.InnerLemmas.{most_first, most_second}
+use Rattle.rob_expand.proofs.inner.Inner.sizes_in.Goals as goal
+
+pub returns-clause-first : goal.returns-clause-first
+returns-clause-first c vs within =
+    let f : SFits w128 c.most-first.result = search rules in
+    most_first c.self.inside.ranges c.args.self.now c.self.inside.lengths c.in_ok-lengths.lengths vs
+    c.most-first.result c.in_ok-lengths.was c.self.view_is c.self.invariant f (c.most-first.ensures.most vs within)
+
+pub returns-clause-second : goal.returns-clause-second
+returns-clause-second c vs within =
+    let f : SFits w128 c.most-second.result = search rules in
+    most_second c.self.inside.ranges c.args.self.now c.self.inside.lengths c.in_ok-lengths.lengths vs
+    c.most-second.result c.in_ok-lengths.was c.self.view_is c.self.invariant f (c.most-second.ensures.most vs within)

@@ -1,0 +1,12 @@
+use Rattle.std.proofs.Common.{◌≡◌, ◌++◌, drop}
+use Rattle.std.specs.List.{flat_map}
+use Rattle.rob_syntax.specs.Known.{texts}
+use Rattle.rob_expand.specs.Spots.{picks}
+use Rattle.rob_expand.proofs.MakeLemmas.{item_made}
+use Rattle.rob_expand.proofs.instance.kept_numbers.Given as goal
+
+abbrev pub invariant-loop-k : goal.invariant-loop-k
+invariant-loop-k l =
+    l.numbers ++ flat_map (item_made (texts l.own.keys) (texts l.words.keys) l.values)
+    (picks l.items (drop l.k-index l.kept))
+    ≡ flat_map (item_made (texts l.own.keys) (texts l.words.keys) l.values) (picks l.items l.kept)

@@ -1,0 +1,33 @@
+-- The items of a list that aren't idle in a setting: these alone have entries there, or a range that is too long.
+use Rattle.std.specs.Prelude.{◌≡◌, ℕ, ℤ, ◌&&◌, not, Bool, List, [], ◌∷◌, take, drop, if◌then◌else◌}
+use Rattle.std.specs.List.{flat_map}
+use Rattle.rob_index.specs.Forms.{extensions}
+use Rattle.rob_expand.specs.declared.line.Item.{Item}
+use Rattle.rob_expand.specs.declared.spot.Spot.{Spot}
+use Rattle.rob_expand.specs.Growing.{is_empty}
+use Rattle.rob_expand.specs.Inner.{is_long_in}
+
+-- the ranges of an item have no setting at these values, and none of them has more than 100 values
+abbrev pub is_idle : Item → List ℤ → Bool
+is_idle x vs = is_empty (extensions x.ranges vs) && not (is_long_in x.ranges vs)
+
+-- the items that aren't idle
+abbrev pub busy : List Item → List ℤ → List Item
+busy [] vs = []
+busy (x ∷ xs) vs = if is_idle x vs then busy xs vs else x ∷ busy xs vs
+
+-- the item at a place, if there is one
+abbrev pub pick : List Item → ℕ → List Item
+pick xs k = take 1 (drop k xs)
+
+-- the items at these places
+abbrev pub picks : List Item → List ℕ → List Item
+picks xs ks = flat_map (pick xs) ks
+
+-- the items at these places are all, but for some that are idle at these values
+abbrev pub IsThinAt : List Item → List ℕ → List ℤ → Type 0
+IsThinAt xs ks vs = busy (picks xs ks) vs ≡ busy xs vs
+
+-- a setting has the places of such items
+abbrev pub IsThin : List Item → Spot → Type 0
+IsThin xs spot = IsThinAt xs spot.kept spot.values

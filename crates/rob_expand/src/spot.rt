@@ -1,0 +1,184 @@
+//! Settings, each with the items of a list that aren't idle there. An item is left out for all settings of a span at
+//! once, where the greatest lengths of its ranges tell that it has none there; the settings are halved until one is
+//! left. So an item without a setting isn't asked for in each.
+
+ghost use Rattle.std.specs.Prelude.{◌≡◌, ◌++◌, ℤ, [], ◌∷◌, List as Items, map, IfOk, IfSome, IsTrue, OnOk, if◌then◌else◌};
+ghost use Rattle.rob_expand.specs.declared.spot.Spot.{Spot as SpecSpot};
+ghost use Rattle.rob_ranges.specs.Spans.{Every, IsIn};
+ghost use Rattle.rob_expand.specs.Spots.{IsThin, IsThinAt, busy, pick, picks};
+
+use crate::around;
+use crate::line::Item;
+use crate::setting::copied;
+use crate::settings::Setting;
+use rob_number::{List, Memory};
+use rob_ranges::Whole;
+use rob_ranges::short::pair_of;
+use rob_ranges::span::{Span, span_of};
+use std::alloc::Global;
+
+/// So many settings are tried at once also where they don't have the same value of the range around the innermost.
+const MANY: usize = 128;
+
+/// A setting, and the places of the items of a list that may have entries there.
+#[derive(Drop)]
+pub struct Spot {
+    pub values: Setting,
+    pub kept: List<usize>,
+}
+
+/// Each of some settings, with such items.
+pub fn spots_of(alloc: Global, items: &[Item], settings: &[Setting]) -> Result<List<Spot>, Memory>
+    ensures values { IfOk result (λ spots. map (λ (s : SpecSpot). s.values) spots ≡ settings.now) }
+    ensures thin { IfOk result (λ spots. Every (IsThin items.now) spots) }
+{
+    let mut spots = List::new(alloc);
+    let all = all_places(alloc, items)?;
+    let kept = thin_in(alloc, items, all.items(), settings)?;
+    append_spots(&mut spots, alloc, items, kept.items(), settings)?;
+    Ok(spots)
+}
+
+/// The places of all items.
+fn all_places(alloc: Global, items: &[Item]) -> Result<List<usize>, Memory>
+    ensures all { IfOk result (λ places. picks items.now places ≡ items.now) }
+{
+    let mut places = List::new(alloc);
+    let mut k = 0;
+    'upwards: while k < items.len() {
+        places.push(k)?;
+        k += 1;
+    }
+    Ok(places)
+}
+
+/// Appends each of some settings, in which no items but those at these places have entries.
+fn append_spots(
+    spots: &mut List<Spot>,
+    alloc: Global,
+    items: &[Item],
+    kept: &[usize],
+    settings: &[Setting],
+) -> Result<(), Memory>
+    requires done { Every (IsThin items.now) spots.old }
+    requires kept { Every (IsThinAt items.now kept.now) settings.now }
+    ensures values { OnOk result (map (λ (s : SpecSpot). s.values) spots.new
+        ≡ map (λ (s : SpecSpot). s.values) spots.old ++ settings.now) }
+    ensures thin { OnOk result (Every (IsThin items.now) spots.new) }
+{
+    match settings {
+        [] => Ok(()),
+        [setting] => append_spot(spots, alloc, kept, setting.items()),
+        _ => {
+            let (front, behind) = settings.split_at(settings.len() / 2);
+            let first = thin_in(alloc, items, kept, front)?;
+            append_spots(spots, alloc, items, first.items(), front)?;
+            let second = thin_in(alloc, items, kept, behind)?;
+            append_spots(spots, alloc, items, second.items(), behind)
+        }
+    }
+}
+
+/// Appends a setting with these places.
+fn append_spot(
+    spots: &mut List<Spot>,
+    alloc: Global,
+    kept: &[usize],
+    values: &[Whole],
+) -> Result<(), Memory>
+    ensures appended { OnOk result (spots.new
+        ≡ spots.old ++ record { values = values.now; kept = kept.now } ∷ []) }
+{
+    let values = copied(alloc, values)?;
+    let kept = around::copied(alloc, kept)?;
+    spots.push(Spot { values, kept })
+}
+
+/// Those of these places whose items may have entries in some of these settings.
+fn thin_in(
+    alloc: Global,
+    items: &[Item],
+    kept: &[usize],
+    settings: &[Setting],
+) -> Result<List<usize>, Memory>
+    requires kept { Every (IsThinAt items.now kept.now) settings.now }
+    ensures thin { IfOk result (λ thin. Every (IsThinAt items.now thin) settings.now) }
+{
+    match span_for(kept, settings) {
+        None => around::copied(alloc, kept),
+        Some(span) => busy_places(alloc, items, kept, span),
+    }
+}
+
+/// A span that has these settings, where it is worth while to try a place there.
+fn span_for(kept: &[usize], settings: &[Setting]) -> Option<Span>
+    ensures span { IfSome result (λ span. Every (IsIn span) settings.now) }
+{
+    if kept.is_empty() || (settings.len() < MANY && !is_row(settings)) {
+        return None;
+    }
+    span_of(settings)
+}
+
+/// Whether the first of some settings and the last have the same value of the range around the innermost: then a form
+/// is greatest at one of them.
+fn is_row(settings: &[Setting]) -> bool {
+    match settings {
+        [first, .., last] => match (pair_of(first.items()), pair_of(last.items())) {
+            (Some(first), Some(last)) => {
+                first.second.low == last.second.low && first.second.high == last.second.high
+            }
+            _ => false,
+        },
+        _ => true,
+    }
+}
+
+/// Those of these places whose items may have entries in some setting of a span.
+fn busy_places(
+    alloc: Global,
+    items: &[Item],
+    kept: &[usize],
+    span: Span,
+) -> Result<List<usize>, Memory>
+    ensures busy { IfOk result (λ places. (vs : Items ℤ) → IsIn span vs
+        → busy (picks items.now places) vs ≡ busy (picks items.now kept.now) vs) }
+{
+    let mut places = List::new(alloc);
+    for k in kept {
+        let quiet = are_quiet(one_at(items, *k), span);
+        push_unless(&mut places, quiet, *k)?;
+    }
+    Ok(places)
+}
+
+/// The item at a place, if there is one.
+pub fn one_at(items: &[Item], k: usize) -> &[Item]
+    ensures one { result.now ≡ pick items.now k }
+{
+    if k < items.len() {
+        &items[k..k + 1]
+    } else {
+        &[]
+    }
+}
+
+/// Whether the lengths tell that the only one of these items is idle in all settings of a span.
+fn are_quiet(items: &[Item], span: Span) -> bool
+    ensures quiet { IsTrue result → (vs : Items ℤ) → IsIn span vs → busy items.now vs ≡ [] }
+{
+    match items {
+        [item] => item.ranges.is_quiet_in(span),
+        _ => false,
+    }
+}
+
+/// Appends a place, unless its item is idle.
+fn push_unless(places: &mut List<usize>, quiet: bool, k: usize) -> Result<(), Memory>
+    ensures pushed { OnOk result (places.new ≡ places.old ++ (if quiet then [] else k ∷ [])) }
+{
+    if quiet {
+        return Ok(());
+    }
+    places.push(k)
+}
