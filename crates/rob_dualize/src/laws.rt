@@ -1,6 +1,6 @@
 //! What the calls' conditions ask of a model.
 
-ghost use Rattle.std.specs.Prelude.{◌^◌, ◌-◌, ◌∷◌, [], ℕ, pos};
+ghost use Rattle.std.specs.Prelude.{◌≡◌, ◌^◌, ◌-◌, ◌∷◌, [], ℕ, pos};
 ghost use Rattle.rob_algebra.specs.Fraction.{of_int};
 ghost use Rattle.rob_bounds.specs.Bounds.{IsNarrow};
 ghost use Rattle.rob_linear.specs.Programs.{Program};
@@ -31,6 +31,13 @@ pub fn size_laws()
 /// Programs with the same numbers are narrow alike. It does nothing, and its clause is the claim.
 pub fn narrow_laws()
     ensures same { (limit : ℕ) (P Q : Program) → AreSame P Q → IsNarrow limit P → IsNarrow limit Q }
+{}
+
+/// What is told of the forms and the set rows of a model is its counterpart. It does nothing, and its clause is the
+/// claim.
+pub fn counterpart_laws()
+    ensures told { (m : RobustModel) (forms : Forms) (set : SetForm) → IsForms m forms → IsSetForm m set
+        → counterpart_of forms set ≡ counterpart m }
 {}
 
 /// A model that no row can refuse, so what is said of models without a wide row is said of one. It does nothing, and
