@@ -3,7 +3,6 @@ use Rattle.std.proofs.Common.{◌≡◌, inl, inr, ℕ, suc, ◌+◌, ◌<◌, �
 use Rattle.std.specs.Prelude.{IfOk, IfErr, MatchResult}
 use Rattle.rob_algebra.specs.Fraction.{Fraction, of_int, ◌*ℚ◌}
 use Rattle.rob_linear.specs.Vectors.{Matrix}
-use Rattle.rob_linear.specs.WideRows.{HasWideRow}
 use Rattle.rob_meaning.specs.Certificates.{Cover}
 use Rattle.rob_meaning.specs.Forms.{matrices}
 use Rattle.rob_meaning.specs.RobustModel.{RobustModel, column_count}
@@ -23,12 +22,12 @@ use Rattle.rob_simplex.specs.Solvers.{Solver, column_of, positions}
 use Rattle.rob_simplex.specs.Solutions.{point_of, dual_of, ray_of, weights_of}
 use Rattle.rob_counterpart.specs.ReadCertificates.{plan_read, bound_read, weight_of}
 use Rattle.rob_counterpart.specs.Splitting.{plus, minus, OneIsZero}
-use Rattle.rob_counterpart.proofs.SamePaths.{wide_row_same}
-use Rattle.rob_simplex.specs.Dictionaries.{columns_of}
-use Rattle.rob_dualize.specs.Ending.{HasEnded, StopsAt}
+use Rattle.rob_dualize.specs.Ending.{HasEnded, StopsAt, position_of}
+use Rattle.rob_dualize.specs.Refusals.{IsRefusedAt}
 use Rattle.rob_model.specs.declared.place.Program.TheVariants.{Master}
-use Rattle.rob_simplex.specs.Endings.{HasSolved, HasAnswered}
-use Rattle.rob_solver.specs.Solving.{IsSolved, IsStopped}
+use Rattle.rob_simplex.specs.Endings.{HasSolved, HasAnswered, HasStopped}
+use Rattle.rob_simplex.specs.declared.state.LpStop.{LpStop}
+use Rattle.rob_solver.specs.Solving.{IsSolved, IsStopped, IsCausedBy}
 use Rattle.rob_solver.specs.declared.solving.Solved.{Solved}
 use Rattle.rob_solver.specs.declared.solving.Stopped.{Stopped}
 use Rattle.rob_solver.specs.declared.solving.Stopped.TheVariants as unsolved
@@ -37,7 +36,7 @@ use Rattle.rob_dualize.specs.Solving.{IsLastScenario}
 use Rattle.rob_runs.specs.Cuts.{Cut, master_over}
 use Rattle.rob_runs.specs.Readings.{AreKept, covers_of_amounts, cleared_by}
 use Rattle.rob_runs.specs.Runs.{plan_at, direction_at, best, boundless, KeepsForms, CutsOff, MasterIsOptimal, MasterIsUnbounded, MasterIsInfeasible}
-use Rattle.rob_runs.specs.Spots.{LooksAt, TellsWideRow}
+use Rattle.rob_runs.specs.Spots.{LooksAt}
 use Rattle.rob_runs.proofs.FoundLemmas.{found_keeps}
 use Rattle.rob_runs.proofs.RunCertificates.{length-direction_at}
 use Rattle.rob_cuts.specs.Certificates.{CoveredPlan, optimal_with, infeasible_with, unbounded_with, items_told}
@@ -50,6 +49,7 @@ use Rattle.rob_cuts.proofs.LookLemmas.{best_pairs, boundless_pairs, direction_pa
 use Rattle.rob_cuts.proofs.MasterLemmas.{master_same, rights_count}
 use Rattle.rob_cuts.proofs.RunLemmas.{length-cuts}
 use Rattle.rob_cuts.proofs.StopLemmas.{master_place}
+use Rattle.rob_dualize.proofs.RefusalLemmas.{refused_at}
 use Rattle.rob_dualize.proofs.SetLemmas.{same_trans}
 
 module _ (m : RobustModel) (forms : Forms) (f : IsForms m forms) (rounds : List Told) (master : Lp)
@@ -75,19 +75,20 @@ module _ (m : RobustModel) (forms : Forms) (f : IsForms m forms) (rounds : List 
       let e = ended_as k h in
       ap (λ (n : ℕ). suc n + suc n) f.columns ∙ sym e.same.width ∙ e.columns
 
-  -- a wide row of the master
-  pub wide_master : (limit : ℕ) (basis : List ℕ) (i : ℕ) → length basis ≡ length rounds → HasWideRow limit (program_of master) (columns_of basis) i
-      → TellsWideRow limit (master_over m (cuts_told rounds)) basis i
-  wide_master limit basis i e w = record {
-    whole = e ∙ sym (length-cuts rounds);
-    row = wide_row_same (program_of master) (master_over m (cuts_told rounds)) (master_same forms (cuts_told rounds) master list m f) limit (columns_of basis) i w;
-  }
+  -- the row where the master's solver stopped is wide, and the master is refused for it
+  pub refused_master : (limit : ℕ) (stop : LpStop) → (program_of master).m ≡ positions s
+      → HasStopped limit (program_of master) stop s → IsCausedBy limit (program_of master) stop s
+      → IsRefusedAt limit (master_over m (cuts_told rounds)) s.basis (position_of stop)
+  refused_master limit stop rows wide caused =
+      refused_at limit (program_of master) (master_over m (cuts_told rounds))
+      (master_same forms (cuts_told rounds) master list m f) s rows stop wide caused
 
-  pub master_stops : (limit : ℕ) (basis : List ℕ) (i : ℕ) → TellsWideRow limit (master_over m (cuts_told rounds)) basis i → (stop : Stop) → StopsAt basis Master i stop
-      → IsWideNext limit m rounds stop
-  master_stops limit basis i w (EmptySet weights) h = absurd h
-  master_stops limit basis i w (Wide place trace) h = master_place limit m (cuts_told rounds) place basis i w h.0
-  master_stops limit basis i w Memory h = tt
+  pub master_stops : (limit i : ℕ) → IsRefusedAt limit (master_over m (cuts_told rounds)) s.basis i → (stop : Stop)
+      → StopsAt s.basis Master i stop → IsWideNext limit m rounds stop
+  master_stops limit i r (EmptySet weights) h = absurd h
+  master_stops limit i r (Wide place trace) h =
+      master_place limit m (cuts_told rounds) place s.basis i (record { whole = r.0.whole; row = r.0.row }) r.1 h.0
+  master_stops limit i r Memory h = tt
 
   -- ---- with a best plan
   module _ (h : HasEnded (program_of master) kind.Optimal s) where

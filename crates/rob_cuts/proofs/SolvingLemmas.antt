@@ -52,8 +52,8 @@ set_cause limit m (Wide place trace) h = by place h.0
       rounds = h.1;
       spot = set_row basis p;
       place_is = refl;
-      wide = record { run = tt; wide = record { whole = w.whole; row = w.row } };
-      refused = tt;
+      wide = record { run = tt; wide = record { whole = w.0.whole; row = w.0.row } };
+      refused = w.1;
       after = refl;
     }
     by other w = absurd w

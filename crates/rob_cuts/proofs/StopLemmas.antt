@@ -15,11 +15,12 @@ use Rattle.rob_cert.specs.declared.trace.Round.{Round as Told}
 use Rattle.rob_elab.specs.Forms.{IsForms}
 use Rattle.rob_elab.specs.declared.forms.Forms.{Forms}
 use Rattle.rob_counterpart.specs.Counterpart.{cell}
-use Rattle.rob_runs.specs.Cuts.{Cut}
+use Rattle.rob_dualize.specs.Refusals.{IsRefusedRow}
+use Rattle.rob_runs.specs.Cuts.{Cut, master_over}
 use Rattle.rob_runs.specs.Runs.{Round, boundless, best, IsRound, CutsOff}
 use Rattle.rob_runs.specs.Searches.{search_at}
 use Rattle.rob_runs.specs.Spots.{RunSpot, master_row, search_row, clearing, cost, cut_clearing, cut_sum, LooksAt, ComesTo, SomeWide, IsWideCleared, IsWideCost, HasWidePrefix, TellsWideRow, IsWideAfter, IsWideSearch, cut_term}
-use Rattle.rob_worst.specs.Finding.{IsRefusedRow, IsWideAt}
+use Rattle.rob_worst.specs.Finding.{IsRefusedSearch, IsWideAt}
 use Rattle.rob_cuts.specs.Master.{cut_product}
 use Rattle.rob_cuts.specs.Places.{spot_told, IsRefusedAfter}
 use Rattle.rob_cuts.specs.Rounds.{cut_of, cuts_told}
@@ -72,13 +73,14 @@ module _ (limit : ℕ) (m : RobustModel) (cuts : List Cut) where
     )
 
     row_refused : (step : Bool) (f g : ℕ) (basis : List ℕ) (p : ℕ) → ComesTo m z f
-        → IsWideSearch limit m by_step f z (search_row step g basis p) × IsRefusedRow limit (search_at m f z) basis p
+        → IsWideSearch limit m by_step f z (search_row step g basis p)
+        × IsRefusedSearch limit (search_at m f z) basis p
         → IsRefusedAfter limit m cuts (search_row step g basis p)
     row_refused step f g basis p comes w = (
       z,
       subst (λ (b : Bool). LooksAt m cuts b z) (sym w.0.0) looks,
       subst (ComesTo m z) (sym w.0.1) comes,
-      subst (λ (i : ℕ). IsRefusedRow limit (search_at m i z) basis p) (sym w.0.1) w.1,
+      subst (λ (i : ℕ). IsRefusedSearch limit (search_at m i z) basis p) (sym w.0.1) w.1,
     )
 
     search_place : (f : ℕ) → ComesTo m z f → (place : Spot) → IsWideAt limit m by_step f z place → IsWideThere place
@@ -130,8 +132,9 @@ module _ (limit : ℕ) (m : RobustModel) (cuts : List Cut) where
 
   -- of the master
   pub master_place : (place : Spot) (basis : List ℕ) (i : ℕ) → IsWideAfter limit m cuts (master_row basis i)
-      → place ≡ spot.Dictionary program.Master basis i → IsWideThere place
-  master_place place basis i w e = (master_row basis i, tt, e, w, tt)
+      → IsRefusedRow limit (master_over m cuts) basis i → place ≡ spot.Dictionary program.Master basis i
+      → IsWideThere place
+  master_place place basis i w r e = (master_row basis i, tt, e, w, r)
 
 -- ---- of a cut's sums
 product_same : (m : RobustModel) (forms : Forms) → IsForms m forms → (c : Cut) (j : ℕ) → cut_product forms c j ≡ cut_term m c j

@@ -46,7 +46,8 @@ abbrev pub IsOfRound : RunSpot → Type 0
 IsOfRound (set_row basis i) = ⊥
 IsOfRound other = ⊤
 
--- the number at the place is wide in the round that comes next; a search's row is one for which it is refused
+-- the number at the place is wide in the round that comes next, whose program, where it is one of a row, is refused for
+-- the row
 abbrev pub IsWideNext : ℕ → RobustModel → List Told → Stop → Type 0
 IsWideNext limit m rounds stop =
     StopsWith

@@ -44,8 +44,8 @@ abbrev pub ComesAfterSet : RobustModel → List Round → RunSpot → Type 0
 ComesAfterSet m trace (set_row basis i) = trace ≡ []
 ComesAfterSet m trace other = HasScenario m
 
--- the rounds are a run, and the number at the place is wide in its next round; a search's row is one for which it is
--- refused
+-- the rounds are a run, and the number at the place is wide in its next round; where it is one of a row, its program is
+-- refused for the row
 pub record IsWideAt (limit : ℕ) (m : RobustModel) (place : Spot) (told : List Told) : Type 0 where
   pub trace : List Round
   pub rounds : told ≡ map round_told trace

@@ -17,7 +17,7 @@ ghost use Rattle.rob_sets.specs.SetForm.{IsSetForm};
 ghost use Rattle.rob_sets.specs.declared.set_form.SetForm.{SetForm as SetRows};
 ghost use Rattle.rob_simplex.specs.Solvers.{positions, column_of, HasOptimum, HasRay, HasWeights};
 ghost use Rattle.rob_simplex.specs.Solutions.{dual_of, weights_of};
-ghost use Rattle.rob_solver.specs.Solving.{IsSolved, IsStopped, CountsSolving};
+ghost use Rattle.rob_solver.specs.Solving.{IsSolved, IsStopped, IsCausedDeep, CountsSolving};
 ghost use Rattle.rob_dualize.specs.Ending.{HasEnded};
 ghost use Rattle.rob_dualize.specs.Solving.{CountsStop};
 ghost use Rattle.rob_dualize.specs.Wholes.{counterpart_of, IsFew};
@@ -110,6 +110,7 @@ fn solve_master<N: Exact, L: Ledger>(
     ensures solved { IfOk result (IsSolved (program_of master.now)) }
     ensures few { MatchResult result (λ solved. positions solved.solver < 2 ^ 31) HasFewRows }
     ensures stopped { IfErr result (IsStopped N.limit (program_of master.now)) }
+    ensures caused { IfErr result (IsCausedDeep N.limit (program_of master.now)) }
     ensures counted { CountsSolving L.ops L.wides ledger.old ledger.new result }
 {
     if master.c.items().len() + master.b.items().len() >= 1 << 31 {

@@ -34,8 +34,9 @@ use std::alloc::Global;
 /// direction are those of the last master's basis, its items are the cuts with the master's dual values or Farkas
 /// weights, and its covers are the dual values of the last searches. `EmptySet` comes only where no scenario is
 /// admitted, with the weights of the set rows that show it; `Wide` only where a row on the path of the set's program,
-/// or a number of the next round, is over the limit, with the rounds before it. A master whose rows and columns
-/// together reach 2^31 is want of memory.
+/// or a number of the next round, is over the limit, with the rounds before it. It names a row only where a row of that
+/// position has a number of more than 126 bits there, or the last basis tells a number or a weight over the limit. A
+/// master whose rows and columns together reach 2^31 is want of memory.
 pub fn solve_cuts<N: Exact, L: Ledger>(
     alloc: Global,
     forms: &Forms,

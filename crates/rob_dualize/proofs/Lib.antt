@@ -7,6 +7,7 @@ pub mod EndingLemmas
 pub mod SolvingLemmas
 pub mod EntryLemmas
 pub mod CertificateLemmas
+pub mod RefusalLemmas
 pub mod MakingLemmas
 pub mod SetLemmas
 pub mod SizeLemmas

@@ -1,22 +1,18 @@
 -- Solvers that are made for the set's program and for the counterpart.
 use Rattle.std.proofs.Common.{◌≡◌, ℕ, zero, suc, ◌+◌, ◌*◌, ◌<◌, ◌≤◌, List, length, sym, ap, ◌∙◌, subst, arith, Result, Ok, Err}
-use Rattle.std.specs.Prelude.{IfOk}
-use Rattle.rob_counterpart.proofs.SamePaths.{wide_row_same}
+use Rattle.std.specs.Prelude.{IfOk, IfErr}
 use lib.IntN.{pos}
 use Rattle.rob_algebra.specs.Fraction.{Fraction}
 use Rattle.rob_linear.specs.Programs.{Program, system_of}
 use Rattle.rob_linear.specs.Turns.{own_of}
 use Rattle.rob_meaning.specs.RobustModel.{RobustModel}
 use Rattle.rob_simplex.specs.Dictionaries.{columns_of}
-use Rattle.rob_linear.specs.WideRows.{HasWideRow}
 use Rattle.rob_number.specs.declared.lp_kind.LpKind.{LpKind}
-use Rattle.rob_simplex.specs.Endings.{HasStopped}
 use Rattle.rob_simplex.specs.declared.state.LpStop.{LpStop}
-use Rattle.rob_simplex.specs.declared.state.LpStop.TheVariants.{Wide}
-use Rattle.rob_solver.specs.Solving.{IsStopped}
+use Rattle.rob_solver.specs.Solving.{IsStopped, IsCausedDeep}
 use Rattle.rob_solver.specs.declared.solving.Stopped.{Stopped}
 use Rattle.rob_solver.specs.declared.solving.Stopped.TheVariants as unsolved
-use Rattle.rob_simplex.specs.Solvers.{Solver, positions, entries}
+use Rattle.rob_simplex.specs.Solvers.{Solver, entries}
 use Rattle.rob_simplex.specs.Solutions.{point_of}
 use Rattle.rob_sets.specs.SetForm.{IsSetForm}
 use Rattle.rob_sets.specs.declared.set_form.SetForm.{SetForm}
@@ -30,12 +26,13 @@ use Rattle.rob_counterpart.specs.SetPrograms.{set_of}
 use Rattle.rob_counterpart.specs.Splitting.{plus, minus, OneIsZero}
 use Rattle.rob_counterpart.proofs.SetLemmas.{over_set_is, cost_is}
 use Rattle.rob_counterpart.proofs.SplitLemmas.{point_opposite, set_pair}
-use Rattle.rob_dualize.specs.Ending.{HasLastPoint, HasEnded, IsSolvedAs, IsStoppedAs, read_from, position_of}
-use Rattle.rob_dualize.specs.Solving.{TellsWideRow}
+use Rattle.rob_dualize.specs.Ending.{HasLastPoint, HasEnded, IsSolvedAs, IsStoppedAt, IsStoppedAs, read_from, position_of}
+use Rattle.rob_dualize.specs.Refusals.{IsRefusedAt}
 use Rattle.rob_elab.specs.Elaborated.{AreElaborated}
 use Rattle.rob_dualize.specs.SetSolving.{IsFewSet, IsSetOfModel}
 use Rattle.rob_dualize.specs.Wholes.{wholes, counterpart_of, IsFew}
 use Rattle.rob_dualize.proofs.Soundness.{wholes_are}
+use Rattle.rob_dualize.proofs.RefusalLemmas.{refused_at}
 use Rattle.rob_dualize.proofs.SolvingLemmas.{last_basis, last_point}
 
 -- what an answer is, by what it is known to be
@@ -83,16 +80,16 @@ has_ended N Q solver kind h = record {
 }
 
 -- the stop of a program with the numbers of Q
-pub has_stopped : {N : Type 0} (limit : ℕ) (P Q : Program) → AreSame P Q → (stopped : Stopped N) → IsStopped limit P stopped → IsStoppedAs limit Q stopped
-has_stopped limit P Q same (unsolved.Wide s stop) h = record { program = P; same = same; rows = h.0; wide = h.1 }
-has_stopped limit P Q same unsolved.Memory h = tt
+stopped_as : {N : Type 0} (limit : ℕ) (P Q : Program) → AreSame P Q → (stopped : Stopped N) → IsStopped limit P stopped
+    → IsCausedDeep limit P stopped → IsStoppedAs limit Q stopped
+stopped_as limit P Q same (unsolved.Wide s stop) h c =
+    record { program = P; same = same; rows = h.0; wide = h.1; caused = c }
+stopped_as limit P Q same unsolved.Memory h c = tt
 
-pub stopped_row : (limit : ℕ) (P : Program) (stop : LpStop) (s : Solver) → HasStopped limit P stop s → HasWideRow limit P (columns_of s.basis) (position_of stop)
-stopped_row limit P (Wide i) s h = h.1
-
--- a wide row at a whole basis, of a program with the same numbers
-wide_told : (limit : ℕ) (P Q : Program) → AreSame P Q → (basis : List ℕ) (i : ℕ) → length basis ≡ P.m → HasWideRow limit P (columns_of basis) i → TellsWideRow limit Q basis i
-wide_told limit P Q s basis i e w = record { whole = e ∙ s.height; row = wide_row_same P Q s limit (columns_of basis) i w }
+pub has_stopped : {A N : Type 0} (limit : ℕ) (P Q : Program) → AreSame P Q → (r : Result A (Stopped N))
+    → IfErr r (IsStopped limit P) → IfErr r (IsCausedDeep limit P) → IfErr r (IsStoppedAs limit Q)
+has_stopped limit P Q same (Ok x) h c = tt
+has_stopped limit P Q same (Err stopped) h c = stopped_as limit P Q same stopped h c
 
 -- ---- of a model
 module _ (forms : Forms) (set : SetForm) (m : RobustModel) (f : IsForms m forms) (st : IsSetForm m set) where
@@ -108,7 +105,9 @@ module _ (forms : Forms) (set : SetForm) (m : RobustModel) (f : IsForms m forms)
   pub read_same : (inside : List Fraction) (k : LpKind) (s : Solver) → read_from (wholes forms set) inside k s ≡ read_from (robust_of m) inside k s
   read_same inside k s = ap (λ (q : RobustProgram). read_from q inside k s) same_wholes
 
-  pub counterpart_wide : (limit : ℕ) (now : Solver) (P : Program) → AreSame P (counterpart_of forms set) → P.m ≡ positions now → (i : ℕ)
-      → HasWideRow limit P (columns_of now.basis) i → TellsWideRow limit (counterpart m) now.basis i
-  counterpart_wide limit now P same rows i w =
-      wide_told limit P (counterpart m) (subst (λ (q : RobustProgram). AreSame P (reform q)) same_wholes same) now.basis i (sym rows) w
+  pub counterpart_refused : (limit : ℕ) (now : Solver) (stop : LpStop)
+      → IsStoppedAt limit (counterpart_of forms set) now stop
+      → IsRefusedAt limit (counterpart m) now.basis (position_of stop)
+  counterpart_refused limit now stop h =
+      refused_at limit h.program (counterpart m)
+      (subst (λ (q : RobustProgram). AreSame h.program (reform q)) same_wholes h.same) now h.rows stop h.wide h.caused

@@ -3,7 +3,6 @@ use Rattle.std.proofs.Common.{◌≡◌, ℕ, ◌+◌, ◌^◌, ◌<◌, ◌≤�
 use Rattle.std.proofs.lemmas.List.{length-map}
 use lib.IntN.{ℤ, pos, nat_abs}
 use Rattle.rob_linear.specs.Programs.{Program}
-use Rattle.rob_linear.specs.WideRows.{HasWideRow}
 use Rattle.rob_meaning.specs.RobustModel.{RobustModel}
 use Rattle.rob_meaning.specs.SetRows.{set_rows}
 use Rattle.rob_meaning.specs.UncertaintySet.{Admits}
@@ -13,7 +12,6 @@ use Rattle.rob_number.specs.declared.lp_kind.LpKind.{LpKind}
 use Rattle.rob_number.specs.declared.lp_kind.LpKind.TheVariants as kind
 use Rattle.rob_rows.specs.declared.program.Lp.{Lp}
 use Rattle.rob_rows.specs.LinearPrograms.{program_of}
-use Rattle.rob_simplex.specs.Dictionaries.{columns_of}
 use Rattle.rob_simplex.specs.Endings.{HasSolved, HasAnswered, IsOptimumOf, IsRayOf}
 use Rattle.rob_simplex.specs.Resuming.{CanResume}
 use Rattle.rob_simplex.specs.Solvers.{Solver, positions, HasPoint, IsMadeFor}
@@ -29,7 +27,6 @@ use Rattle.rob_counterpart.specs.Counterpart.{set_program}
 use Rattle.rob_counterpart.specs.ReadCertificates.{scenario_read}
 use Rattle.rob_counterpart.specs.SamePrograms.{AreSame}
 use Rattle.rob_counterpart.specs.Splitting.{plus, minus, OneIsZero}
-use Rattle.rob_counterpart.proofs.SamePaths.{wide_row_same}
 use Rattle.rob_counterpart.proofs.SameSystems.{over_set_same}
 use Rattle.rob_counterpart.proofs.SetLemmas.{over_set_is, cost_is}
 use Rattle.rob_sets.specs.SetForm.{IsSetForm, RowFits, cleared_row}
@@ -39,8 +36,10 @@ use Rattle.rob_sets.specs.declared.set_form.SetForm.{SetForm}
 use Rattle.rob_sets.proofs.SetProgramLemmas.{same_program}
 use Rattle.rob_dualize.specs.Ending.{HasEnded, HasLastPoint, IsSolvedAs, IsStoppedAt, StopsAt, TellsWeights, position_of}
 use Rattle.rob_dualize.specs.SetSolving.{program_of_set, IsFewSet, IsSolved, IsWideInSet, HasSetCause}
-use Rattle.rob_dualize.specs.Solving.{IsLastScenario, TellsWideRow, IsWideOnPath, CountsStop, HasCause}
-use Rattle.rob_dualize.proofs.MakingLemmas.{set_pairs, stopped_row}
+use Rattle.rob_dualize.specs.Refusals.{IsRefusedAt}
+use Rattle.rob_dualize.specs.Solving.{IsLastScenario, IsWideOnPath, CountsStop, HasCause}
+use Rattle.rob_dualize.proofs.MakingLemmas.{set_pairs}
+use Rattle.rob_dualize.proofs.RefusalLemmas.{refused_at}
 use Rattle.rob_dualize.proofs.SolvingLemmas.{scenario_found, weights_told}
 
 pub same_trans : (P Q R : Program) → AreSame P Q → AreSame Q R → AreSame P R
@@ -147,7 +146,7 @@ module _ (m : RobustModel) (set : SetForm) (is : IsSetForm m set) where
   empty_cause limit model s h n (Wide place trace) e w = absurd w
   empty_cause limit model s h n Memory e w = tt
 
-  wide_cause : (limit : ℕ) (stop : Stop) (basis : List ℕ) (p : ℕ) → StopsAt basis named.Set p stop → TellsWideRow limit (set_program m) basis p → HasSetCause limit m stop
+  wide_cause : (limit : ℕ) (stop : Stop) (basis : List ℕ) (p : ℕ) → StopsAt basis named.Set p stop → IsRefusedAt limit (set_program m) basis p → HasSetCause limit m stop
   wide_cause limit (EmptySet weights) basis p h w = absurd h
   wide_cause limit (Wide place trace) basis p h w = (subst (IsWideInSet limit m) (sym h.0) w, h.1)
   wide_cause limit Memory basis p h w = tt
@@ -155,14 +154,9 @@ module _ (m : RobustModel) (set : SetForm) (is : IsSetForm m set) where
   pub stopped_cause : (limit : ℕ) (now : Solver) (lp_stop : LpStop) → IsStoppedAt limit (program_of_set set) now lp_stop
       → (p : ℕ) → p ≡ position_of lp_stop → (stop : Stop) → StopsAt now.basis named.Set p stop → HasSetCause limit m stop
   stopped_cause limit now lp_stop h p e stop at =
-      let w : HasWideRow limit h.program (columns_of now.basis) p =
-      subst (λ (k : ℕ). HasWideRow limit h.program (columns_of now.basis) k) (sym e) (stopped_row limit h.program lp_stop now h.wide) in
-      let same : AreSame h.program (set_program m) = of_model h.program h.same in
       wide_cause limit stop now.basis p at
-      (record {
-        whole = sym h.rows ∙ same.height;
-        row = wide_row_same h.program (set_program m) same limit (columns_of now.basis) p w;
-      })
+      (subst (λ (k : ℕ). IsRefusedAt limit (set_program m) now.basis k) (sym e)
+      (refused_at limit h.program (set_program m) (of_model h.program h.same) now h.rows lp_stop h.wide h.caused))
 
 pub memory_set_cause : (limit : ℕ) (m : RobustModel) (stop : Stop) → stop ≡ Memory → HasSetCause limit m stop
 memory_set_cause limit m stop e = subst (HasSetCause limit m) (sym e) tt

@@ -44,7 +44,8 @@ use Rattle.rob_counterpart.proofs.OwnSetLemmas.{weights_in}
 use Rattle.rob_counterpart.proofs.ScenarioLemmas.{set_weights, basis_admitted}
 use Rattle.rob_counterpart.proofs.TabulateLemmas.{tabulate-same}
 use Rattle.rob_dualize.specs.Ending.{HasEnded, HasLastPoint, IsWideStop, StopsAt}
-use Rattle.rob_dualize.specs.Solving.{IsLastScenario, IsSolution, IsShownEmpty, TellsWideRow, IsWideOnPath, HasCause, CountsStop, Finds, IsNarrowModel, IsNotWide, Solves}
+use Rattle.rob_dualize.specs.Refusals.{IsRefusedAt}
+use Rattle.rob_dualize.specs.Solving.{IsLastScenario, IsSolution, IsShownEmpty, IsWideOnPath, HasCause, CountsStop, Finds, IsNarrowModel, IsNotWide, Solves}
 use Rattle.rob_dualize.proofs.EndingLemmas.{infeasible_end}
 use Rattle.rob_dualize.proofs.TabulateLemmas.{map-tabulate}
 
@@ -60,7 +61,7 @@ stops_at basis columns program i (Wide place trace) e h = (h.0 ∙ ap (λ b. spo
 stops_at basis columns program i Memory e h = tt
 
 module _ (limit : ℕ) (m : RobustModel) where
-  pub wide_in_counterpart : (basis : List ℕ) (i : ℕ) (stop : Stop) (scenario : List Fraction) → Admits m scenario → TellsWideRow limit (counterpart m) basis i
+  pub wide_in_counterpart : (basis : List ℕ) (i : ℕ) (stop : Stop) (scenario : List Fraction) → Admits m scenario → IsRefusedAt limit (counterpart m) basis i
       → StopsAt basis named.Reform i stop → HasCause limit m stop
   wide_in_counterpart basis i (EmptySet weights) u a w h = absurd h
   wide_in_counterpart basis i (Wide place trace) u a w h = (subst (λ (p : Spot). IsWideOnPath limit m p) (sym h.0) ((u, a), w), h.1)
@@ -82,8 +83,8 @@ refused_cause limit m stop e = subst (HasCause limit m) (sym e) tt
 
 -- ---- narrow models
 pub narrow_spot : (limit : ℕ) (m : RobustModel) (place : Spot) → IsNarrowModel limit m → ¬ (IsWideOnPath limit m place)
-narrow_spot limit m (spot.Dictionary named.Set basis i) n w = narrow_path limit (set_program m) n.set (columns_of basis) i w.row
-narrow_spot limit m (spot.Dictionary named.Reform basis i) n w = narrow_path limit (counterpart m) n.counterpart (columns_of basis) i w.1.row
+narrow_spot limit m (spot.Dictionary named.Set basis i) n w = narrow_path limit (set_program m) n.set (columns_of basis) i w.0.row
+narrow_spot limit m (spot.Dictionary named.Reform basis i) n w = narrow_path limit (counterpart m) n.counterpart (columns_of basis) i w.1.0.row
 narrow_spot limit m other n w = absurd w
 
 pub narrow_stop : (limit : ℕ) (m : RobustModel) (stop : Stop) → HasCause limit m stop → IsNarrowModel limit m → IsNotWide stop

@@ -16,7 +16,7 @@ use Rattle.rob_simplex.specs.Solutions.{point_of, dual_of, ray_of, weights_of}
 use Rattle.rob_simplex.specs.declared.state.LpStop.{LpStop}
 use Rattle.rob_simplex.specs.declared.state.LpStop.TheVariants.{Wide as At}
 use Rattle.rob_simplex.specs.Endings.{IsLastPoint, HasSolved, HasAnswered, HasStopped}
-use Rattle.rob_solver.specs.Solving.{IsSolved}
+use Rattle.rob_solver.specs.Solving.{IsSolved, IsCausedBy}
 use Rattle.rob_solver.specs.declared.solving.Solved.{Solved}
 use Rattle.rob_solver.specs.declared.solving.Stopped.{Stopped}
 use Rattle.rob_solver.specs.declared.solving.Stopped.TheVariants as unsolved
@@ -55,12 +55,14 @@ pub record IsSolvedAs {N : Type 0} (Q : Program) (solved : Solved N) : Type 0 wh
   pub answer : IsSolved program solved
 
 -- the row of the position that the stop names is wide at the basis where the solver stands, of a program with the
--- numbers of Q
+-- numbers of Q; and why: its rows are deep and that one has an entry over their limit, or a number is told there that
+-- is over the limit
 pub record IsStoppedAt (limit : ℕ) (Q : Program) (s : Solver) (stop : LpStop) : Type 0 where
   pub program : Program
   pub same : AreSame program Q
   pub rows : program.m ≡ positions s
   pub wide : HasStopped limit program stop s
+  pub caused : IsCausedBy limit program stop s
 
 -- why a program with the numbers of Q has no answer: such a row; want of memory is free
 abbrev pub IsStoppedAs : {N : Type 0} → ℕ → Program → Stopped N → Type 0

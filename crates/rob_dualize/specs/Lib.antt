@@ -1,6 +1,7 @@
 pub mod Wholes
 pub mod Numbers
 pub mod Ending
+pub mod Refusals
 pub mod Solving
 pub mod SetSolving
 pub mod Models

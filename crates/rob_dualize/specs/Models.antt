@@ -14,7 +14,7 @@ use Rattle.rob_dualize.specs.Solving.{IsWideOnPath, TellsEmpty}
 
 -- the spot is wide for the model by the reformulation route: where its set rows and forms are written in whole numbers
 -- it is the first; or nothing is wide there, and it is a row of a basis on the path of the set's program or of the
--- counterpart
+-- counterpart, for which that program is refused
 abbrev pub IsWideIn : ℕ → RobustModel → Spot → Type 0
 IsWideIn limit m spot = IsFirstWide limit m (judged m) spot ⊎ (IsWritten limit m × IsWideOnPath limit m spot)
 

@@ -16,7 +16,8 @@ use Rattle.rob_simplex.specs.Solvers.{Solver, positions}
 use Rattle.rob_cert.specs.declared.ending.Stop.{Stop}
 use Rattle.rob_cert.specs.declared.ending.Stop.TheVariants.{EmptySet, Wide, Memory}
 use Rattle.rob_dualize.specs.Ending.{HasLastPoint}
-use Rattle.rob_dualize.specs.Solving.{TellsEmpty, TellsWideRow}
+use Rattle.rob_dualize.specs.Refusals.{IsRefusedAt}
+use Rattle.rob_dualize.specs.Solving.{TellsEmpty}
 
 -- the program of the set
 abbrev pub program_of_set : SetForm → Program
@@ -39,12 +40,13 @@ pub record IsSolved (Q : Program) (s : Solver) : Type 0 where
   pub rows : last.program.m ≡ positions s
   pub columns : last.program.n ≡ s.columns
 
--- the row at the spot is wide on the path of the set's program
+-- the row at the spot is wide on the path of the set's program, which is refused for it
 abbrev pub IsWideInSet : ℕ → RobustModel → Spot → Type 0
-IsWideInSet limit m (spot.Dictionary program.Set basis i) = TellsWideRow limit (set_program m) basis i
+IsWideInSet limit m (spot.Dictionary program.Set basis i) = IsRefusedAt limit (set_program m) basis i
 IsWideInSet limit m other = ⊥
 
--- why the set's program is not solved to a scenario: none is admitted, as the weights show; or a row is wide
+-- why the set's program is not solved to a scenario: none is admitted, as the weights show; or it is refused for a wide
+-- row
 abbrev pub HasSetCause : ℕ → RobustModel → Stop → Type 0
 HasSetCause limit m (EmptySet weights) = TellsEmpty limit m weights
 HasSetCause limit m (Wide place trace) = IsWideInSet limit m place × (trace.rounds ≡ [])

@@ -1,15 +1,14 @@
 -- What the reformulation route answers for a model: a certificate that proves, read off the last basis of the model's
 -- robust counterpart; or why there is none.
 -- Ben-Tal, El Ghaoui, Nemirovski, Robust Optimization (2009), chapter 1.
-use Rattle.std.specs.Prelude.{◌≡◌, ℕ, ℤ, ◌≤◌, nat_abs, List, [], length, map, Result, MatchResult, IfOk, IfErr, ⊤}
+use Rattle.std.specs.Prelude.{◌≡◌, ℕ, ℤ, ◌≤◌, nat_abs, List, [], map, Result, MatchResult, IfOk, IfErr, ⊤}
 use Rattle.rob_algebra.specs.Fraction.{Fraction, of_int}
 use Rattle.rob_linear.specs.Vectors.{Matrix, Columns}
 use Rattle.rob_linear.specs.Systems.{IsBasis}
-use Rattle.rob_linear.specs.Programs.{Program, system_of, auxiliary_of}
+use Rattle.rob_linear.specs.Programs.{system_of, auxiliary_of}
 use Rattle.rob_linear.specs.Turns.{own_of, Enters}
 use Rattle.rob_linear.specs.Paths.{Last}
 use Rattle.rob_linear.specs.Optimality.{IsBasicPoint}
-use Rattle.rob_linear.specs.WideRows.{HasWideRow}
 use Rattle.rob_bounds.specs.Bounds.{IsNarrow}
 use Rattle.rob_meaning.specs.Certificates.{Status, optimal, infeasible, unbounded, Certificate}
 use Rattle.rob_meaning.specs.Multipliers.{ShowsEmpty, ShowsEmptyIn}
@@ -26,12 +25,12 @@ use Rattle.rob_model.specs.declared.place.Program.TheVariants as program
 use Rattle.rob_model.specs.declared.plan.Scenario.{Scenario}
 use Rattle.rob_model.specs.View.{scenario_of}
 use Rattle.rob_number.specs.Counts.{raised}
-use Rattle.rob_simplex.specs.Dictionaries.{columns_of}
 use Rattle.rob_cert.specs.Shape.{HasShape}
 use Rattle.rob_cert.specs.View.{certificate_of}
 use Rattle.rob_cert.specs.declared.certificate.Cert.{Cert}
 use Rattle.rob_cert.specs.declared.ending.Stop.{Stop}
 use Rattle.rob_cert.specs.declared.ending.Stop.TheVariants.{EmptySet, Wide, Memory}
+use Rattle.rob_dualize.specs.Refusals.{IsRefusedAt}
 
 -- some scenario is admitted
 abbrev pub HasScenario : RobustModel → Type 0
@@ -90,18 +89,12 @@ pub record TellsEmpty (limit : ℕ) (m : RobustModel) (weights : List ℤ) : Typ
   pub shown : IsShownEmpty m (map of_int weights)
   pub fits : Each (λ weight. nat_abs weight ≤ limit) weights
 
--- the list is the whole basis, a column for each row of the program; it is on the path, and the row of that position is
--- wide there
-pub record TellsWideRow (limit : ℕ) (P : Program) (basis : List ℕ) (i : ℕ) : Type 0 where
-  pub whole : length basis ≡ P.m
-  pub row : HasWideRow limit P (columns_of basis) i
-
--- the row of that position is wide at the told basis, which is on the path of the set's program, or, where some
--- scenario is admitted, of the counterpart
+-- the row of that position is wide at the told basis, and for it the set's program is refused, or, where some scenario
+-- is admitted, the counterpart
 abbrev pub IsWideOnPath : ℕ → RobustModel → Spot → Type 0
-IsWideOnPath limit m (spot.Dictionary program.Set basis i) = TellsWideRow limit (set_program m) basis i
+IsWideOnPath limit m (spot.Dictionary program.Set basis i) = IsRefusedAt limit (set_program m) basis i
 IsWideOnPath limit m (spot.Dictionary program.Reform basis i) =
-    ((scenario : List Fraction) × Admits m scenario) × TellsWideRow limit (counterpart m) basis i
+    HasScenario m × IsRefusedAt limit (counterpart m) basis i
 IsWideOnPath limit m other = ⊥
 
 -- each refusal with what stands behind it; memory is free

@@ -4,6 +4,9 @@ ghost use Rattle.std.specs.Prelude.{◌≡◌, ◌^◌, ◌-◌, ◌∷◌, [], 
 ghost use Rattle.rob_algebra.specs.Fraction.{of_int};
 ghost use Rattle.rob_bounds.specs.Bounds.{IsNarrow};
 ghost use Rattle.rob_linear.specs.Programs.{Program};
+ghost use Rattle.rob_linear.specs.Vectors.{Columns};
+ghost use Rattle.rob_linear.specs.WideRows.{HasWideRow};
+ghost use Rattle.rob_counterpart.specs.Counterpart.{counterpart, set_program};
 ghost use Rattle.rob_counterpart.specs.SamePrograms.{AreSame};
 ghost use Rattle.rob_meaning.specs.Certificates.{optimal};
 ghost use Rattle.rob_meaning.specs.Proves.{HasStatus};
@@ -47,8 +50,11 @@ pub fn smallest_model()
     ensures model { IsModel one_demand }
     ensures admitted { Admits one_demand (of_int (pos 8) ∷ []) }
     ensures status { HasStatus one_demand optimal (of_int (pos 12)) }
-    // Its numbers are so small that no row of either program is wide with 62 bits,
+    // Its numbers are so small that no row on the path of either program is wide with 62 bits,
     ensures narrow { IsNarrowModel (2 ^ 62 - 1) one_demand }
+    ensures set_rows { (basis : Columns) (i : ℕ) → ¬ (HasWideRow (2 ^ 62 - 1) (set_program one_demand) basis i) }
+    ensures counterpart_rows { (basis : Columns) (i : ℕ)
+        → ¬ (HasWideRow (2 ^ 62 - 1) (counterpart one_demand) basis i) }
     // so none is named.
     ensures not_wide { (spot : Spot) → ¬ (IsWideOnPath (2 ^ 62 - 1) one_demand spot) }
 {}

@@ -18,8 +18,8 @@ use std::alloc::Global;
 
 /// The certificate of a model, by one solve of its robust counterpart, as `solve_dual` gives it. `EmptySet` comes only
 /// where no scenario is admitted, with the weights of the set rows that show it; `Wide` names the first number of the
-/// set rows and forms that is wide, or, where none is, a wide row on the path of the set's program or of the
-/// counterpart.
+/// set rows and forms that is wide, or, where none is, a wide row for which the set's program or the counterpart is
+/// refused.
 pub fn solve_model<N: Exact, L: Ledger>(
     alloc: Global,
     model: &Model<N>,

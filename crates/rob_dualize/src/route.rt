@@ -28,8 +28,8 @@ use std::alloc::Global;
 /// counterpart's last basis: its plan, bound and covers are the basic solution, its direction and holds the basic
 /// direction, its items the dual values or the Farkas weights; the scale and the items' weights are 1. `EmptySet` comes
 /// only where no scenario is admitted, with the weights of the set rows that show it; `Wide` only where a row of a
-/// basis on the path of the set's program or of the counterpart has a number over the limit, and names that row; that
-/// some row has one is no refusal.
+/// basis on the path of the set's program or of the counterpart has a number over 2^126 - 1, or tells at the last
+/// basis one over the limit, and names that row; that some row has a number over the limit is no refusal.
 pub fn solve_dual<N: Exact, L: Ledger>(
     alloc: Global,
     forms: &Forms,

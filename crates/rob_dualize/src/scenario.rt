@@ -18,7 +18,8 @@ use rob_sets::SetForm;
 use std::alloc::Global;
 
 /// A scenario of the set: the parameters of the basic solution of the last basis of the set's program. Else the Farkas
-/// weights of that basis, which show that no scenario is admitted, or a wide row on the program's path.
+/// weights of that basis, which show that no scenario is admitted, or the row on the program's path for which it is
+/// refused.
 pub fn scenario<N: Exact, L: Ledger>(
     alloc: Global,
     forms: &Forms,

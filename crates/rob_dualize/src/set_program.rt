@@ -25,7 +25,7 @@ use rob_solver::{Solved, Solver, Stopped, solve};
 use std::alloc::Global;
 
 /// A solver of the set's program that stands at its last basis, which has a scenario. Else the Farkas weights of that
-/// basis, which show that no scenario is admitted, or a wide row on the program's path.
+/// basis, which show that no scenario is admitted, or the row on the program's path for which it is refused.
 pub fn solved_set<N: Exact, L: Ledger>(
     alloc: Global,
     set: &SetForm,

@@ -10,7 +10,7 @@ use Rattle.rob_cert.specs.declared.ending.Stop.{Stop}
 use Rattle.rob_cert.specs.declared.ending.Stop.TheVariants as stop
 use Rattle.rob_cert.specs.declared.trace.Round.{Round}
 use Rattle.rob_cert.specs.declared.trace.Trace.{Trace}
-use Rattle.rob_cuts.specs.Places.{spot_told}
+use Rattle.rob_cuts.specs.Places.{IsRefusedAfter, spot_told}
 use Rattle.rob_cuts.specs.Rounds.{RoundFits, round_told}
 use Rattle.rob_cuts.specs.Solving as cuts
 use Rattle.rob_dualize.specs.Solving as dual
@@ -123,15 +123,16 @@ module _ (m : RobustModel) where
 
   -- where no scenario is admitted, it is one of a row of the set's program, since all else comes behind an admitted one
   run_empty : IsEmptySet m → (limit : ℕ) (trace : List RunRound) (place : RunSpot)
-      → IsWideAfter limit m (trace_cuts trace) place
+      → IsWideAfter limit m (trace_cuts trace) place → IsRefusedAfter limit m (trace_cuts trace) place
       → cuts.ComesAfterSet m trace place → IsEmptyAnswer limit m (TooWide (spot_told place))
-  run_empty none limit trace (set_row basis i) wide after = record { whole = wide.whole; row = wide.row }
-  run_empty none limit trace (master_row basis i) wide after = absurd (none after.0 after.1)
-  run_empty none limit trace (search_row by_step f basis i) wide after = absurd (none after.0 after.1)
-  run_empty none limit trace (clearing by_step) wide after = absurd (none after.0 after.1)
-  run_empty none limit trace (cost f k) wide after = absurd (none after.0 after.1)
-  run_empty none limit trace (cut_clearing f) wide after = absurd (none after.0 after.1)
-  run_empty none limit trace (cut_sum f j) wide after = absurd (none after.0 after.1)
+  run_empty none limit trace (set_row basis i) wide refused after =
+      (record { whole = wide.whole; row = wide.row }, refused)
+  run_empty none limit trace (master_row basis i) wide refused after = absurd (none after.0 after.1)
+  run_empty none limit trace (search_row by_step f basis i) wide refused after = absurd (none after.0 after.1)
+  run_empty none limit trace (clearing by_step) wide refused after = absurd (none after.0 after.1)
+  run_empty none limit trace (cost f k) wide refused after = absurd (none after.0 after.1)
+  run_empty none limit trace (cut_clearing f) wide refused after = absurd (none after.0 after.1)
+  run_empty none limit trace (cut_sum f j) wide refused after = absurd (none after.0 after.1)
 
   path_empty : IsEmptySet m → (limit : ℕ) (place : Spot) → dual.IsWideOnPath limit m place
       → IsEmptyAnswer limit m (TooWide place)
@@ -146,7 +147,7 @@ module _ (m : RobustModel) where
   empty_on_way Cuts none limit place h =
       let w = h.1 in
       subst (λ (s : Spot). IsEmptyAnswer limit m (TooWide s)) (sym w.place_is)
-      (run_empty none limit w.trace w.spot w.wide.wide w.after)
+      (run_empty none limit w.trace w.spot w.wide.wide w.refused w.after)
 
 -- ---- the two routes
 module _ {N : Type 0} (value : N → Fraction) (limit : ℕ) (m : RobustModel) (before now : ℕ) where

@@ -75,10 +75,11 @@ module _ (call : Call) (result : Ended) where
     pub solving : (line : Line) (m : RobustModel) → HasForms call line m → IsSolving line.verb
         → IsSolveAnswer line.way (limit_of line) m result
     -- no joint scenario is admitted, as where any set is empty, so it is that, with the weights that show it, or a
-    -- row of the set's program is wide
+    -- row of the set's program is wide, and that is refused for it
     pub empty : (line : Line) (m : RobustModel) → HasForms call line m → IsSolving line.verb → IsEmptySet m
         → IsEmptyAnswer (limit_of line) m result
-    -- some joint scenario is admitted, and no number on that way is wide, so it is the model's status
+    -- some joint scenario is admitted, and on that way no number is wide but in rows for which their programs are not
+    -- refused, so it is the model's status
     pub status : (line : Line) (m : RobustModel) (status : Status) (v : Fraction) (u : List Fraction)
         → HasForms call line m
         → IsSolving line.verb → HasStatus m status v → Admits m u
@@ -155,11 +156,12 @@ module _ (call : Call) (result : Ended) where
     pub worst : (line : Line) (m : RobustModel) (c : Certificate) (form : ℕ) → HasSought call line m c form
         → IsWorstAnswer (limit_of line) m form (certificate_vector c) result
     -- no joint scenario is admitted, so it is that, with the weights that show it, or a row of the set's program is
-    -- wide
+    -- wide, and that is refused for it
     pub worst_empty : (line : Line) (m : RobustModel) (c : Certificate) (form : ℕ)
         → HasSought call line m c form → IsEmptySet m
         → IsEmptyAnswer (limit_of line) m result
-    -- some is, and no number on the way is wide, so the worst case is printed
+    -- some is, and on the way no number is wide but in rows for which their programs are not refused, so the worst case
+    -- is printed
     pub worst_printed : (line : Line) (m : RobustModel) (c : Certificate) (form : ℕ) (u : List Fraction)
         → HasSought call line m c form → Admits m u
         → ((spot : Spot) → IsWideSought (limit_of line) m form (certificate_vector c) spot → ⊥) → EndsAs Printed result

@@ -58,7 +58,7 @@ IsSolveAnswer way limit m (TooWide spot) = IsWideOnWay way limit m spot
 IsSolveAnswer way limit m ended = IsOutside ended
 
 -- one of them for an empty set: its weights show that it is empty, or a row of a basis on the path of the set's program
--- is wide. So no status is answered, and no row of the counterpart is named
+-- is wide, and the program is refused for it. So no status is answered, and no row of the counterpart is named
 abbrev pub IsEmptyAnswer : ℕ → RobustModel → Ended → Type 0
 IsEmptyAnswer limit m (EmptySet weights) = IsShownEmpty m (map of_int weights)
 IsEmptyAnswer limit m (TooWide (Dictionary program.Set basis i)) = IsWideOnPath limit m (Dictionary program.Set basis i)
@@ -100,7 +100,8 @@ NamesWideSought limit m form z result =
     ((spot : Spot) × IsWideSought limit m form z spot × (result ≡ TooWide spot)) ⊎ IsOutside result
 
 -- the number is wide before it is known whether some joint scenario is admitted: it is the first of the set rows and
--- forms; or none of them is wide, and it is one of a row of a basis on the path of the set's program
+-- forms; or none of them is wide, and it is one of a row of a basis on the path of the set's program, which is refused
+-- for the row
 pub data IsWideBefore (limit : ℕ) (m : RobustModel) (spot : Spot) : Type 0 where
   writing : IsFirstWide limit m (judged m) spot → IsWideBefore limit m spot
   admitting : (basis : List ℕ) (i : ℕ) → spot ≡ Dictionary program.Set basis i → IsWritten limit m

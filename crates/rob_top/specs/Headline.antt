@@ -3,11 +3,12 @@
 -- In short, of `solve` and `prove`, for every text that is read as a model whose set isn't empty: `optimal v` comes
 -- with a plan that keeps every row in every admitted scenario, with worst case v, and no affine plan has a better
 -- one; `infeasible` and `unbounded` are true alike; the printed certificate proves it; and `too wide` names a number
--- on the way to that model's solution that leaves the width. Of `whole` and `tree` the same holds over plans whose
--- named variables are whole, and a branch tree proves it; of `cells` over plans with a policy of their own in each
--- cell, and a certificate of the split model was found that proves it. Of a model with several sets read: a set isn't
--- empty where each named set and the default set admit some scenario; and a row is kept in every scenario that the
--- row's own set admits.
+-- on the way to that model's solution that leaves the width. Where that is one of a row of a program, a row of that
+-- position has an entry over 2^126 - 1 there, or the basis is the program's last and tells a number there that leaves
+-- the width. Of `whole` and `tree` the same holds over plans whose named variables are whole, and a branch tree proves
+-- it; of `cells` over plans with a policy of their own in each cell, and a certificate of the split model was found
+-- that proves it. Of a model with several sets read: a set isn't empty where each named set and the default set admit
+-- some scenario; and a row is kept in every scenario that the row's own set admits.
 --
 -- The premises stand here, and nowhere else. What a file holds is what the fetch of it answered in this call,
 -- whatever the shelf; where the shelf tells its files too, it is what they hold. What was put is what the sink's puts

@@ -30,7 +30,8 @@ IsFoundBy Dual m c rounds = IsReadAtEnd m c × IsLastScenario m c.inside × (rou
 IsFoundBy Cuts m c rounds = IsSolution m c rounds
 
 -- the number at the spot is wide: it is one of a row of a basis on the path of the set's program or of the counterpart,
--- and there are no rounds; or it is one of the set's program, or of the round that comes next after these
+-- and there are no rounds; or it is one of the set's program, or of the round that comes next after these. Where it is
+-- one of a row, its program is refused for the row
 abbrev pub IsWideBy : Route → ℕ → RobustModel → Spot → List Round → Type 0
 IsWideBy Dual limit m spot rounds = IsWideOnPath limit m spot × (rounds ≡ [])
 IsWideBy Cuts limit m spot rounds = IsWideAt limit m spot rounds

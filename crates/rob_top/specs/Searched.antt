@@ -68,7 +68,8 @@ pub data ShowsWorst (limit : ℕ) (m : RobustModel) (form : ℕ) (z : List Fract
 -- ---- numbers that are wide
 
 -- the number at the spot is wide: one of a row of a basis on the path of the set's program; or, where some scenario is
--- admitted, one of the search at the plan, or the slack in the scenario that it finds
+-- admitted, one of the search at the plan, or the slack in the scenario that it finds. Where it is one of a row, that
+-- program, or the search, is refused for the row
 pub data IsWideSought (limit : ℕ) (m : RobustModel) (form : ℕ) (z : List Fraction) (spot : Spot) : Type 0 where
   in_set : IsWideInSet limit m spot → IsWideSought limit m form z spot
   in_search : HasScenario m → IsWideAt limit m false form z spot → IsWideSought limit m form z spot

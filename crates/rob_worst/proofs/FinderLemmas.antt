@@ -36,12 +36,12 @@ use Rattle.rob_dualize.specs.Solving.{CountsStop, HasScenario}
 use Rattle.rob_dualize.specs.SetSolving.{program_of_set, IsSolved}
 use Rattle.rob_worst.specs.Finders.{HasSearched, HasStoppedSearch}
 use Rattle.rob_dualize.specs.SetSolving.{HasSetCause}
-use Rattle.rob_worst.specs.Finding.{IsRefusedRow, Tells, HasSearchCause, Searches, FindsWorst}
+use Rattle.rob_worst.specs.Finding.{IsRefusedSearch, Tells, HasSearchCause, Searches, FindsWorst}
 use Rattle.rob_worst.specs.Refusals.{program_for}
 use Rattle.rob_worst.specs.Tasks.{IsTaskOf}
 use Rattle.rob_worst.specs.declared.task.Task.{Task}
 use Rattle.rob_solver.specs.Depths.{deep_limit}
-use Rattle.rob_worst.proofs.DeepLemmas.{refused_row}
+use Rattle.rob_worst.proofs.DeepLemmas.{refused_search}
 use Rattle.rob_worst.proofs.SearchLemmas.{scenario_found, ray_found, peak_found, wide_found}
 use Rattle.rob_dualize.proofs.SetLemmas.{of_model, rows_count}
 use Rattle.rob_worst.proofs.StopLemmas.{row_cause}
@@ -139,14 +139,14 @@ row_stop limit m set is step i z task t now deep lp_stop h p e stop at_row =
     let same : AreSame h.program (set_program m) = of_model m set is h.program h.same in
     let wide : TellsWideRow limit (search_at m i z) now.basis (position_of lp_stop) =
     wide_found limit m i z task.cost now t.costs h.program same h.start h.last h.without h.rows lp_stop h.stopped in
-    let refused : IsRefusedRow limit (search_at m i z) now.basis (position_of lp_stop) =
-    refused_row m i z task.cost t.costs h.program same h.start h.last h.without now h.rows deep limit lp_stop
+    let refused : IsRefusedSearch limit (search_at m i z) now.basis (position_of lp_stop) =
+    refused_search m i z task.cost t.costs h.program same h.start h.last h.without now h.rows deep limit lp_stop
     h.caused in
     row_cause limit m step i z stop now.basis p
     (subst (λ (f : ℕ). StopsAt now.basis (program_for step f) p stop) t.form
     (subst (λ (b : Bool). StopsAt now.basis (program_for b task.form) p stop) t.step at_row))
     (subst (λ (k : ℕ). TellsWideRow limit (search_at m i z) now.basis k) (sym e) wide)
-    (subst (λ (k : ℕ). IsRefusedRow limit (search_at m i z) now.basis k) (sym e) refused)
+    (subst (λ (k : ℕ). IsRefusedSearch limit (search_at m i z) now.basis k) (sym e) refused)
 
 -- ---- the answers
 module _ {N : Type 0} (value : N → Fraction) (limit : ℕ) (m : RobustModel) (step : Bool) (i : ℕ) (z : List Fraction) (before now : ℕ) where

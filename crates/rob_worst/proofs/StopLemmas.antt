@@ -17,7 +17,7 @@ use Rattle.rob_runs.specs.Searches.{search_at}
 use Rattle.rob_runs.specs.Spots.{SomeWide, IsWideCleared, TellsWideRow}
 use Rattle.rob_sets.specs.FirstWide.{Some_of}
 use Rattle.rob_worst.specs.Costs.{IsWidePart, StopsAtPart}
-use Rattle.rob_worst.specs.Finding.{IsRefusedRow, IsWideAt, HasSearchCause}
+use Rattle.rob_worst.specs.Finding.{IsRefusedSearch, IsWideAt, HasSearchCause}
 use Rattle.rob_dualize.specs.Ending.{IsWideStop}
 use Rattle.rob_worst.specs.Refusals.{program_for, place_for}
 use Rattle.rob_worst.proofs.CostLemmas.{part_wide}
@@ -63,12 +63,12 @@ module _ (limit : ℕ) (m : RobustModel) (by_step : Bool) (i : ℕ) (z : List Fr
 
   -- ---- a row of the search
   row_spot : (step : Bool) (basis : List ℕ) (p : ℕ) → step ≡ by_step → TellsWideRow limit (search_at m i z) basis p
-      → IsRefusedRow limit (search_at m i z) basis p → IsWideAt limit m by_step i z (spot.Dictionary (program_for step i) basis p)
+      → IsRefusedSearch limit (search_at m i z) basis p → IsWideAt limit m by_step i z (spot.Dictionary (program_for step i) basis p)
   row_spot false basis p e w r = ((e, refl, w), r)
   row_spot true basis p e w r = ((e, refl, w), r)
 
   pub row_cause : (stop : Stop) (basis : List ℕ) (p : ℕ) → StopsAt basis (program_for by_step i) p stop
-      → TellsWideRow limit (search_at m i z) basis p → IsRefusedRow limit (search_at m i z) basis p
+      → TellsWideRow limit (search_at m i z) basis p → IsRefusedSearch limit (search_at m i z) basis p
       → HasSearchCause limit m by_step i z stop
   row_cause (EmptySet weights) basis p h w r = absurd h
   row_cause (Wide place trace) basis p h w r =

@@ -1,16 +1,16 @@
 -- What a search for the worst case of a form answers: the greatest value with a scenario that has it and amounts that
 -- show it, or a ray along which there is none; or why it has no answer.
 -- Bertsimas, Dunning, Lubin, Reformulation versus cutting-planes for robust optimization (2016).
-use Rattle.std.specs.Prelude.{◌≡◌, ◌⊎◌, ◌≤◌, ℕ, nat_abs, Bool, true, false, List, [], map, Result, MatchResult, IfOk, IfErr, ⊤}
+use Rattle.std.specs.Prelude.{◌≡◌, ◌⊎◌, ◌≤◌, ℕ, nat_abs, Bool, true, false, List, [], length, map, Result, MatchResult, IfOk, IfErr, ⊤}
 use Rattle.rob_algebra.specs.Fraction.{Fraction, of_int}
-use Rattle.rob_linear.specs.Paths.{Last}
+use Rattle.rob_linear.specs.Paths.{Reached}
 use Rattle.rob_linear.specs.Programs.{Program}
+use Rattle.rob_linear.specs.WideRows.{IsOwnWideAt}
 use Rattle.rob_meaning.specs.RobustModel.{RobustModel}
 use Rattle.rob_runs.specs.Searches.{search_at, FindsRay}
 use Rattle.rob_runs.specs.Told.{TellsWorst}
-use Rattle.rob_runs.specs.Spots.{TellsWideRow, IsWideSearch, search_row, clearing, cost}
-use Rattle.rob_simplex.specs.Dictionaries.{Table}
-use Rattle.rob_simplex.specs.PathEnds.{EndsWide}
+use Rattle.rob_runs.specs.Spots.{IsWideSearch, search_row, clearing, cost}
+use Rattle.rob_simplex.specs.Dictionaries.{columns_of}
 use Rattle.rob_solver.specs.Depths.{deep_limit}
 use Rattle.rob_model.specs.declared.place.Spot.{Spot}
 use Rattle.rob_model.specs.declared.place.Spot.TheVariants as spot
@@ -21,6 +21,7 @@ use Rattle.rob_cert.specs.declared.ending.Stop.{Stop}
 use Rattle.rob_cert.specs.declared.ending.Stop.TheVariants.{EmptySet, Wide, Memory}
 use Rattle.rob_cert.specs.declared.ending.Worst.{Worst}
 use Rattle.rob_cert.specs.declared.ending.Worst.TheVariants.{At, Along}
+use Rattle.rob_dualize.specs.Refusals.{TellsWideNumber}
 use Rattle.rob_dualize.specs.SetSolving.{HasSetCause}
 use Rattle.rob_dualize.specs.Solving.{CountsStop, HasScenario}
 
@@ -40,25 +41,26 @@ HasConstantWithin limit (Along ray basis column) = ⊤
 
 -- ---- refusals
 
--- the list is the last basis of the program's path, and the row of that position tells there a number over the limit:
--- of the basic solution or of the direction; or, at the objective's position, the value or a dual value
-pub record TellsWideNumber (limit : ℕ) (P : Program) (basis : List ℕ) (p : ℕ) : Type 0 where
-  pub dictionary : Table
-  pub basis_is : basis ≡ dictionary.basis
-  pub ends : EndsWide (Last P) limit P dictionary p
+-- the list is the whole basis, a column for each row of the program; it is on the path, and the program's own row of
+-- that position is wide there, or, of the objective's position, a stage: no row of the auxiliary form
+pub record TellsWideOwnRow (limit : ℕ) (P : Program) (basis : List ℕ) (p : ℕ) : Type 0 where
+  pub whole : length basis ≡ P.m
+  pub reached : Reached P (columns_of basis)
+  pub wide : IsOwnWideAt limit P (columns_of basis) p
 
--- why a program is refused for the row of that position: an entry is over the limit of deep rows, 2^126 - 1, at that
--- basis on the program's path; or the row tells such a number
-abbrev pub IsRefusedRow : ℕ → Program → List ℕ → ℕ → Type 0
-IsRefusedRow limit P basis p = TellsWideRow deep_limit P basis p ⊎ TellsWideNumber limit P basis p
+-- why a search is refused for the row of that position. It goes on from the last basis of the set's program, so has no
+-- first phase: an entry of its own row is over the limit of deep rows, 2^126 - 1, at that basis on the path of the
+-- search's program; or the row tells a number over the limit
+abbrev pub IsRefusedSearch : ℕ → Program → List ℕ → ℕ → Type 0
+IsRefusedSearch limit P basis p = TellsWideOwnRow deep_limit P basis p ⊎ TellsWideNumber limit P basis p
 
 -- the number at the spot is wide in the search for form i at the plan z, or by step at the direction z; and where it is
 -- one of a row, the search is refused for that row
 abbrev pub IsWideAt : ℕ → RobustModel → Bool → ℕ → List Fraction → Spot → Type 0
 IsWideAt limit m by_step i z (spot.Dictionary (program.SearchPlan f) basis p) =
-    IsWideSearch limit m by_step i z (search_row false f basis p) × IsRefusedRow limit (search_at m i z) basis p
+    IsWideSearch limit m by_step i z (search_row false f basis p) × IsRefusedSearch limit (search_at m i z) basis p
 IsWideAt limit m by_step i z (spot.Dictionary (program.SearchMove f) basis p) =
-    IsWideSearch limit m by_step i z (search_row true f basis p) × IsRefusedRow limit (search_at m i z) basis p
+    IsWideSearch limit m by_step i z (search_row true f basis p) × IsRefusedSearch limit (search_at m i z) basis p
 IsWideAt limit m by_step i z (spot.Clearing where_at.Plan) = IsWideSearch limit m by_step i z (clearing false)
 IsWideAt limit m by_step i z (spot.Clearing where_at.Move) = IsWideSearch limit m by_step i z (clearing true)
 IsWideAt limit m by_step i z (spot.Sum (where_at.Cost f) k) = IsWideSearch limit m by_step i z (cost f k)

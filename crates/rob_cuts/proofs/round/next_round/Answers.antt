@@ -1,21 +1,20 @@
 use Rattle.std.proofs.Common.{◌≡◌, ◌<◌, ◌^◌, length, ap, ◌∙◌, sym, subst, arith}
 use Rattle.std.specs.Prelude.{MatchResult}
-use Rattle.rob_linear.specs.WideRows.{HasWideRow}
 use Rattle.rob_model.specs.declared.place.Program.TheVariants as named
 use Rattle.rob_number.specs.declared.lp_kind.LpKind.TheVariants as kind
 use Rattle.rob_rows.specs.LinearPrograms.{program_of}
-use Rattle.rob_simplex.specs.Dictionaries.{columns_of}
-use Rattle.rob_solver.specs.Solving.{IsStopped, CountsStopped}
+use Rattle.rob_solver.specs.Solving.{IsStopped, IsCausedDeep, CountsStopped}
 use Rattle.rob_dualize.specs.Ending.{HasEnded}
+use Rattle.rob_dualize.specs.Refusals.{IsRefusedAt}
 use Rattle.rob_dualize.specs.Solving.{CountsStop}
-use Rattle.rob_dualize.proofs.MakingLemmas.{stopped_row}
+use Rattle.rob_runs.specs.Cuts.{master_over}
 use Rattle.rob_dualize.proofs.SolvingLemmas.{wide_counted}
 use Rattle.rob_simplex.specs.Solvers.{positions}
 use Rattle.rob_cuts.specs.Rounds.{cuts_told}
 use Rattle.rob_cuts.specs.Stops.{HasFewRows}
 use Rattle.rob_cuts.proofs.MasterLemmas.{master_shaped}
 use Rattle.rob_cuts.proofs.OutcomeLemmas.{infeasible_out}
-use Rattle.rob_cuts.proofs.RoundLemmas.{ended_so, rounds_made, rounds_are_rows, wide_master, master_stops}
+use Rattle.rob_cuts.proofs.RoundLemmas.{ended_so, rounds_made, rounds_are_rows, refused_master, master_stops}
 use Rattle.rob_dualize.proofs.MakingLemmas.{set_of_few}
 use Rattle.rob_cuts.proofs.RouteLemmas.{few_forms}
 use Rattle.rob_cuts.proofs.SolvingLemmas.{counts_stopped}
@@ -104,12 +103,14 @@ wide-requires g c =
 pub returns-in-Err-Wide-clause-outcome : goal.returns-in-Err-Wide-clause-outcome
 returns-in-Err-Wide-clause-outcome g c = λ m model f st.
     let s = c.in-Err-Wide.solver in
-    let h = subst (IsStopped g.N.Exact.limit (program_of c.args.run.now.master)) c.in-Err-Wide.field-0-is c.in-Err-Wide.ensures.stopped in
-    let rows = rounds_made m c.args.forms.now f c.args.run.now.rounds c.args.run.now.master c.requires.run.master s h.0 in
-    master_stops m c.args.forms.now f c.args.run.now.rounds c.args.run.now.master c.requires.run.master s g.N.Exact.limit s.basis c.position.result
-    (wide_master m c.args.forms.now f c.args.run.now.rounds c.args.run.now.master c.requires.run.master s g.N.Exact.limit s.basis c.position.result (sym rows)
-    (subst (λ i. HasWideRow g.N.Exact.limit (program_of c.args.run.now.master) (columns_of s.basis) i) (sym c.position.ensures.position)
-    (stopped_row g.N.Exact.limit (program_of c.args.run.now.master) c.in-Err-Wide.stop s h.1)))
+    let run = c.args.run.now in
+    let limit = g.N.Exact.limit in
+    let wide = subst (IsStopped limit (program_of run.master)) c.in-Err-Wide.field-0-is c.in-Err-Wide.ensures.stopped in
+    let caused = subst (IsCausedDeep limit (program_of run.master)) c.in-Err-Wide.field-0-is c.in-Err-Wide.ensures.caused in
+    let refused = refused_master m c.args.forms.now f run.rounds run.master c.requires.run.master s limit
+    c.in-Err-Wide.stop wide.0 wide.1 caused in
+    master_stops m c.args.forms.now f run.rounds run.master c.requires.run.master s limit c.position.result
+    (subst (IsRefusedAt limit (master_over m (cuts_told run.rounds)) s.basis) (sym c.position.ensures.position) refused)
     c.wide.result c.wide.ensures.stop
 
 pub returns-in-Err-Wide-clause-wides : goal.returns-in-Err-Wide-clause-wides

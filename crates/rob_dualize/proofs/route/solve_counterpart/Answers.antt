@@ -1,10 +1,9 @@
 use Rattle.std.proofs.Common.{◌≡◌, length, arith}
-use Rattle.std.proofs.lemmas.Result.{IfErr-weaker}
 use Rattle.rob_linear.specs.Programs.{Program}
 use Rattle.rob_rows.specs.LinearPrograms.{program_of}
 use Rattle.rob_counterpart.proofs.TabulateLemmas.{length-tabulate}
-use Rattle.rob_solver.specs.Solving.{IsSolved, IsStopped}
-use Rattle.rob_dualize.specs.Ending.{IsSolvedAs, IsStoppedAs}
+use Rattle.rob_solver.specs.Solving.{IsSolved}
+use Rattle.rob_dualize.specs.Ending.{IsSolvedAs}
 use Rattle.rob_dualize.specs.Told.{listed}
 use Rattle.rob_dualize.specs.Wholes.{wholes, counterpart_of}
 use Rattle.rob_dualize.proofs.CounterpartLists.{listed_same, reform_within}
@@ -42,6 +41,5 @@ returns-clause-solved g c =
 pub returns-clause-stopped : goal.returns-clause-stopped
 returns-clause-stopped g c =
     let Q : Program = counterpart_of c.args.forms.now c.args.set.now in
-    IfErr-weaker c.solve.result (IsStopped g.N.Exact.limit (program_of (listed Q))) (IsStoppedAs g.N.Exact.limit Q)
-    (has_stopped g.N.Exact.limit (program_of (listed Q)) Q (listed_same Q (listed Q) (listed_is Q)))
-    c.solve.ensures.stopped
+    has_stopped g.N.Exact.limit (program_of (listed Q)) Q (listed_same Q (listed Q) (listed_is Q)) c.solve.result
+    c.solve.ensures.stopped c.solve.ensures.caused

@@ -1,18 +1,17 @@
 use Rattle.std.proofs.Common.{ℕ, ◌≡◌, ◌∙◌, sym, ap, subst}
 use Rattle.std.specs.Prelude.{IfOk}
 use Rattle.rob_meaning.specs.Certificates.{Certificate}
-use Rattle.rob_counterpart.specs.Counterpart.{robust_of}
+use Rattle.rob_counterpart.specs.Counterpart.{counterpart, robust_of}
 use Rattle.rob_model.specs.View.{scenario_of}
 use Rattle.rob_model.specs.declared.place.Program.TheVariants as named
 use Rattle.rob_number.specs.Counts.{raised}
 use Rattle.rob_cert.specs.View.{certificate_of}
-use Rattle.rob_linear.specs.WideRows.{HasWideRow}
-use Rattle.rob_simplex.specs.Dictionaries.{columns_of}
 use Rattle.rob_solver.specs.Solving.{CountsStopped}
 use Rattle.rob_dualize.specs.Ending.{HasEnded, IsStoppedAt, IsStoppedAs, read_from}
+use Rattle.rob_dualize.specs.Refusals.{IsRefusedAt}
 use Rattle.rob_dualize.specs.Wholes.{counterpart_of}
 use Rattle.rob_dualize.proofs.EndingLemmas.{solution}
-use Rattle.rob_dualize.proofs.MakingLemmas.{has_ended, counterpart_ended, counterpart_few, counterpart_wide, read_same, stopped_row}
+use Rattle.rob_dualize.proofs.MakingLemmas.{has_ended, counterpart_ended, counterpart_few, counterpart_refused, read_same}
 use Rattle.rob_dualize.proofs.SolvingLemmas.{stopped_with, answered, wide_in_counterpart, wide_counted}
 use Rattle.rob_dualize.proofs.route.solve_dual.Goals as goal
 
@@ -48,8 +47,8 @@ returns-in-Err-Wide-clause-solves g c = λ m model f st.
     subst (CountsStopped (g.L.Ledger.wides c.scenario.new.ledger) (g.L.Ledger.wides c.solve_counterpart.new.ledger)) c.in-Err-Wide.field-0-is c.in-Err-Wide.ensures.counted.wides in
     stopped_with g.N.Exact.value g.N.Exact.limit m (g.L.Ledger.wides c.args.ledger.now) (g.L.Ledger.wides c.solve_counterpart.new.ledger) c.wide.result
     (wide_in_counterpart g.N.Exact.limit m s.basis c.position.result c.wide.result (scenario_of g.N.Exact.value c.in-Ok.inside) found.found.0
-    (counterpart_wide c.args.forms.now c.args.set.now m f st g.N.Exact.limit s h.program h.same h.rows c.position.result
-    (subst (λ (i : ℕ). HasWideRow g.N.Exact.limit h.program (columns_of s.basis) i) (sym c.position.ensures.position) (stopped_row g.N.Exact.limit h.program c.in-Err-Wide.stop s h.wide)))
+    (subst (λ (i : ℕ). IsRefusedAt g.N.Exact.limit (counterpart m) s.basis i) (sym c.position.ensures.position)
+    (counterpart_refused c.args.forms.now c.args.set.now m f st g.N.Exact.limit s c.in-Err-Wide.stop h))
     c.wide.ensures.stop)
     (wide_counted (g.L.Ledger.wides c.args.ledger.now) (g.L.Ledger.wides c.solve_counterpart.new.ledger) s.basis named.Reform c.position.result c.wide.result
     (counted ∙ ap raised found.counted) c.wide.ensures.stop)

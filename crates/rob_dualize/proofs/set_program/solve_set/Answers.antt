@@ -1,8 +1,7 @@
-use Rattle.std.proofs.lemmas.Result.{IfErr-weaker}
 use Rattle.rob_rows.specs.LinearPrograms.{program_of}
 use Rattle.rob_sets.proofs.SetProgramLemmas.{has_whole_rows}
-use Rattle.rob_solver.specs.Solving.{IsSolved, IsStopped}
-use Rattle.rob_dualize.specs.Ending.{IsSolvedAs, IsStoppedAs}
+use Rattle.rob_solver.specs.Solving.{IsSolved}
+use Rattle.rob_dualize.specs.Ending.{IsSolvedAs}
 use Rattle.rob_dualize.specs.SetSolving.{program_of_set}
 use Rattle.rob_dualize.proofs.MakingLemmas.{ok_weaker, has_stopped}
 use Rattle.rob_dualize.proofs.SetLemmas.{fits_weaker, set_is_few, set_made}
@@ -28,6 +27,6 @@ returns-clause-solved g c =
 
 pub returns-clause-stopped : goal.returns-clause-stopped
 returns-clause-stopped g c =
-    IfErr-weaker c.solve.result (IsStopped g.N.Exact.limit (program_of c.in-Ok.lp)) (IsStoppedAs g.N.Exact.limit (program_of_set c.args.set.now))
-    (has_stopped g.N.Exact.limit (program_of c.in-Ok.lp) (program_of_set c.args.set.now) (set_made c.args.set.now c.in-Ok.lp c.in-Ok.ensures.program))
-    c.solve.ensures.stopped
+    has_stopped g.N.Exact.limit (program_of c.in-Ok.lp) (program_of_set c.args.set.now)
+    (set_made c.args.set.now c.in-Ok.lp c.in-Ok.ensures.program) c.solve.result c.solve.ensures.stopped
+    c.solve.ensures.caused
