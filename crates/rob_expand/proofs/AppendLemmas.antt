@@ -14,6 +14,14 @@ pub thin_items : (xs : List Item) (ks js : List ℕ) (vss : List (List ℤ)) →
     → Every (IsThinAt xs js) vss
 thin_items xs ks js vss is thin = subst (λ (l : List ℕ). Every (IsThinAt xs l) vss) (sym is) thin
 
+-- the same items, places and settings
+pub thin_moved : (xs ys : List Item) (ks js : List ℕ) (vss wss : List (List ℤ)) → ys ≡ xs → js ≡ ks → wss ≡ vss
+    → Every (IsThinAt xs ks) vss → Every (IsThinAt ys js) wss
+thin_moved xs ys ks js vss wss e f g thin =
+    subst (λ (l : List Item). Every (IsThinAt l js) wss) (sym e)
+    (subst (λ (l : List ℕ). Every (IsThinAt xs l) wss) (sym f)
+    (subst (λ (l : List (List ℤ)). Every (IsThinAt xs ks) l) (sym g) thin))
+
 pub spots_none : (spots : List Spot) (vss : List (List ℤ)) → length vss < 1
     → values_in spots ≡ values_in spots ++ vss
 spots_none spots [] h = sym (append-nil (values_in spots))

@@ -1,5 +1,5 @@
 -- The walks over the expressions of a line, the items of its list, and the settings of a statement.
-use Rattle.std.proofs.Common.{◌≡◌, ℕ, zero, suc, ◌+◌, ◌-◌, ◌*◌, ◌<◌, ◌≤◌, ◌==◌, Bool, true, false, List, ◌∷◌, length, map, drop, get_or, Option, Some, None, refl, sym, ap, ◌∙◌, arith}
+use Rattle.std.proofs.Common.{◌≡◌, ℕ, zero, suc, ◌+◌, ◌-◌, ◌*◌, ◌<◌, ◌≤◌, ◌==◌, Bool, true, false, List, [], ◌∷◌, ◌++◌, length, map, drop, get_or, Option, Some, None, refl, sym, ap, ◌∙◌, arith}
 use Rattle.std.specs.Prelude.{ℤ, ◌&&◌}
 use Rattle.std.proofs.Common.{◌^◌}
 use Rattle.std.proofs.Math.Nat.{mul-le-mul_left}
@@ -121,27 +121,43 @@ module _ (vs : List ℤ) where
 
 -- ---- settings
 module _ {A : Type 0} (left : A → ℕ → Option ℕ) where
-  all_step : (xs : List A) (i room : ℕ) (x : A) → i < length xs → x ≡ get_or xs i x
-      → all_left left (drop i xs) room ≡ after (left x room) (all_left left (drop (i + 1) xs))
-  all_step xs i room x inside is =
-      at_drop_more (λ (l : List A). all_left left l room) xs i x inside
-      ∙ ap (λ (y : A). all_left left (y ∷ drop (i + 1) xs) room) (sym is)
+  pub left_none : (xs : List A) (room : ℕ) → length xs < 1 → all_left left xs room ≡ Some room
+  left_none [] room h = refl
+  left_none (x ∷ xs) room h = absurd (omega (arith, h))
 
-  pub all_more : (xs : List A) (i room : ℕ) (x : A) (behind : ℕ) {result : Option ℕ} → i < length xs → x ≡ get_or xs i x
-      → left x room ≡ Some behind → all_left left (drop i xs) room ≡ result
-      → all_left left (drop (i + 1) xs) behind ≡ result
-  all_more xs i room x behind inside is some so_far =
-      sym (ap (λ (o : Option ℕ). after o (all_left left (drop (i + 1) xs))) some)
-      ∙ sym (all_step xs i room x inside is) ∙ so_far
+  left_one : (x : A) (room : ℕ) → left x room ≡ all_left left (x ∷ []) room
+  left_one x room = go (left x room)
+    where
+      go : (o : Option ℕ) → o ≡ after o (all_left left [])
+      go None = refl
+      go (Some behind) = refl
 
-  pub all_stop : (xs : List A) (i room : ℕ) (x : A) {result : Option ℕ} → i < length xs → x ≡ get_or xs i x
-      → all_left left (drop i xs) room ≡ result → left x room ≡ None → result ≡ None
-  all_stop xs i room x inside is so_far none =
-      sym so_far ∙ all_step xs i room x inside is
-      ∙ ap (λ (o : Option ℕ). after o (all_left left (drop (i + 1) xs))) none
+  pub left_only : (xs : List A) (x : A) (room : ℕ) → length xs ≡ 1 → x ≡ get_or xs 0 x
+      → left x room ≡ all_left left xs room
+  left_only [] x room one is = absurd (omega (arith, one))
+  left_only (y ∷ []) x room one is = left_one x room ∙ ap (λ (z : A). all_left left (z ∷ []) room) is
+  left_only (y ∷ z ∷ zs) x room one is = absurd (omega (arith, one))
 
-  pub all_end : (xs : List A) (i room : ℕ) → length xs ≤ i → all_left left (drop i xs) room ≡ Some room
-  all_end xs i room all = at_drop_all (λ (l : List A). all_left left l room) xs i all
+  left_append : (xs ys : List A) (room : ℕ)
+      → all_left left (xs ++ ys) room ≡ after (all_left left xs room) (all_left left ys)
+  left_append [] ys room = refl
+  left_append (x ∷ xs) ys room = go (left_append xs ys) (left x room)
+    where
+      go : ((behind : ℕ) → all_left left (xs ++ ys) behind ≡ after (all_left left xs behind) (all_left left ys))
+          → (o : Option ℕ) → after o (all_left left (xs ++ ys)) ≡ after (after o (all_left left xs)) (all_left left ys)
+      go so None = refl
+      go so (Some behind) = so behind
+
+  module _ (all front behind : List A) (is : all ≡ front ++ behind) (room : ℕ) where
+    left_split : all_left left all room ≡ after (all_left left front room) (all_left left behind)
+    left_split = ap (λ (l : List A). all_left left l room) is ∙ left_append front behind room
+
+    pub left_behind : (rest : ℕ) → all_left left front room ≡ Some rest
+        → all_left left behind rest ≡ all_left left all room
+    left_behind rest some = sym (left_split ∙ ap (λ (o : Option ℕ). after o (all_left left behind)) some)
+
+    pub left_short : all_left left front room ≡ None → all_left left all room ≡ None
+    left_short none = left_split ∙ ap (λ (o : Option ℕ). after o (all_left left behind)) none
 
 -- ---- a line: what it has in any setting, then its expressions, then the items of its list
 module _ (line : Line) (vs : List ℤ) (room : ℕ) where

@@ -19,7 +19,6 @@ use Rattle.rob_expand.specs.Inner.{is_long_in}
 use Rattle.rob_expand.specs.Judging.{worse, worst, item_found}
 use Rattle.rob_expand.specs.Lines.{entries_tokens, entry_count, items_left}
 use Rattle.rob_expand.specs.Room.{left_of, after}
-use Rattle.rob_expand.specs.Settings.{all_left}
 use Rattle.rob_expand.specs.Spots.{IsThin, IsThinAt, busy, is_idle, pick, picks}
 use Rattle.rob_ranges.specs.Spans.{Every}
 use Rattle.rob_expand.proofs.FindingLemmas.{worse_assoc, worst_append, worst_map}
@@ -295,11 +294,6 @@ place_end xs ks i vs first left none = ap (λ (l : List ℕ). items_left first (
 -- ---- settings with their places
 abbrev pub values_in : List Spot → List (List ℤ)
 values_in spots = map (λ (s : Spot). s.values) spots
-
-pub spots_left : (f : List ℤ → ℕ → Option ℕ) (spots : List Spot) (room : ℕ)
-    → all_left (λ (s : Spot). f s.values) spots room ≡ all_left f (values_in spots) room
-spots_left f [] room = refl
-spots_left f (s ∷ spots) room = λ i. after (f s.values room) (λ left. spots_left f spots left i)
 
 pub spots_found : (f : List ℤ → Finding) (spots : List Spot) (vss : List (List ℤ)) → values_in spots ≡ vss
     → worst (λ (s : Spot). f s.values) spots ≡ worst f vss

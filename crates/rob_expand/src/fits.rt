@@ -11,7 +11,7 @@ use crate::line::spend_lines;
 use crate::lines::line_of;
 use crate::room::Stop;
 use crate::settings::settings_of;
-use crate::spot::spots_of;
+use crate::spot::thin_places;
 use rob_number::Memory;
 use rob_syntax::syntax::Indexed;
 use std::alloc::Global;
@@ -43,6 +43,6 @@ pub fn spend_statement(
 {
     let (ranges, line) = line_of(alloc, limit, statement)?;
     let settings = settings_of(alloc, ranges.items(), &[], room)?;
-    let spots = spots_of(alloc, line.items.items(), settings.items())?;
-    spend_lines(alloc, &line, spots.items(), room)
+    let kept = thin_places(alloc, line.items.items(), settings.items())?;
+    spend_lines(alloc, &line, kept.items(), settings.items(), room)
 }

@@ -5,15 +5,15 @@ ghost use Rattle.rob_expand.specs.Room.{HasStop, left_of};
 ghost use Rattle.rob_expand.specs.Lines.{line_left, trees_left, items_left, entries_tokens};
 ghost use Rattle.rob_expand.specs.Placed.{placed_of};
 ghost use Rattle.rob_expand.specs.Settings.{all_left};
-ghost use Rattle.rob_expand.specs.Spots.{IsThin, IsThinAt, picks};
-ghost use Rattle.rob_expand.specs.declared.spot.Spot.{Spot as SpecSpot};
+ghost use Rattle.rob_expand.specs.Spots.{IsThinAt, picks};
 ghost use Rattle.rob_ranges.specs.Spans.{Every};
 
 use crate::count::count;
 use crate::inner::Inner;
 use crate::placed::{Named, Placed};
 use crate::room::{Stop, spend};
-use crate::spot::{Spot, one_at};
+use crate::settings::Setting;
+use crate::spot::{one_at, thin_in};
 use rob_number::List;
 use rob_ranges::Whole;
 use std::alloc::Global;
@@ -40,19 +40,33 @@ pub struct Line {
     pub over: Option<Named>,
 }
 
-/// What is left behind the lines of some settings.
-pub fn spend_lines(alloc: Global, line: &Line, spots: &[Spot], room: u32) -> Result<u32, Stop>
-    requires thin { Every (IsThin line.now.items) spots.now }
+/// What is left behind the lines of some settings, in which no items but those at these places have entries. The
+/// settings are halved, and in each half those places are left out that have no entry there: so a count that ends for
+/// want of room has told the places of few settings.
+pub fn spend_lines(
+    alloc: Global,
+    line: &Line,
+    kept: &[usize],
+    settings: &[Setting],
+    room: u32,
+) -> Result<u32, Stop>
+    requires thin { Every (IsThinAt line.now.items kept.now) settings.now }
     ensures left { MatchResult result
-        (λ left. all_left (λ (s : SpecSpot). line_left line.now s.values) spots.now room ≡ Some left)
-        (λ e. HasStop (all_left (λ (s : SpecSpot). line_left line.now s.values) spots.now room) e) }
+        (λ left. all_left (line_left line.now) settings.now room ≡ Some left)
+        (λ e. HasStop (all_left (line_left line.now) settings.now room) e) }
 {
-    let mut left = room;
-    for spot in spots {
-        let behind = spend_line(alloc, line, spot.kept.items(), spot.values.items(), left)?;
-        left = behind;
+    match settings {
+        [] => Ok(room),
+        [setting] => spend_line(alloc, line, kept, setting.items(), room),
+        _ => {
+            let (front, behind) = settings.split_at(settings.len() / 2);
+            let items = line.items.items();
+            let first = thin_in(alloc, items, kept, front)?;
+            let left = spend_lines(alloc, line, first.items(), front, room)?;
+            let second = thin_in(alloc, items, kept, behind)?;
+            spend_lines(alloc, line, second.items(), behind, left)
+        }
     }
-    Ok(left)
 }
 
 /// What is left behind a line, where no items but those at these places have entries.

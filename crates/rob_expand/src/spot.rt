@@ -33,10 +33,21 @@ pub fn spots_of(alloc: Global, items: &[Item], settings: &[Setting]) -> Result<L
     ensures thin { IfOk result (λ spots. Every (IsThin items.now) spots) }
 {
     let mut spots = List::new(alloc);
-    let all = all_places(alloc, items)?;
-    let kept = thin_in(alloc, items, all.items(), settings)?;
+    let kept = thin_places(alloc, items, settings)?;
     append_spots(&mut spots, alloc, items, kept.items(), settings)?;
     Ok(spots)
+}
+
+/// The places of all items but some that are idle in all of these settings.
+pub fn thin_places(
+    alloc: Global,
+    items: &[Item],
+    settings: &[Setting],
+) -> Result<List<usize>, Memory>
+    ensures thin { IfOk result (λ places. Every (IsThinAt items.now places) settings.now) }
+{
+    let all = all_places(alloc, items)?;
+    thin_in(alloc, items, all.items(), settings)
 }
 
 /// The places of all items.
@@ -95,7 +106,7 @@ fn append_spot(
 }
 
 /// Those of these places whose items may have entries in some of these settings.
-fn thin_in(
+pub fn thin_in(
     alloc: Global,
     items: &[Item],
     kept: &[usize],

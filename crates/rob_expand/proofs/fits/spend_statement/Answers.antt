@@ -1,16 +1,14 @@
-use Rattle.std.proofs.Common.{List, [], length, map, ap, sym, ◌∙◌}
+use Rattle.std.proofs.Common.{List, [], length, ap, sym, ◌∙◌}
 use Rattle.std.proofs.lemmas.Result.{err_from_is_err_and}
 use Rattle.rob_index.specs.Statements.{Name}
 use Rattle.rob_index.specs.Counting.{lines_tokens}
 use Rattle.rob_index.specs.Expansion.{expand}
 use Rattle.rob_index.specs.Forms.{Ends, extensions}
 use Rattle.rob_syntax.specs.Seen.{seen_statement}
-use Rattle.rob_expand.specs.declared.spot.Spot.{Spot}
-use Rattle.rob_expand.specs.Lines.{line_left}
 use Rattle.rob_expand.specs.Room.{left_of}
+use Rattle.rob_expand.proofs.AppendLemmas.{thin_moved}
 use Rattle.rob_expand.proofs.FitsLemmas.{moved_all, refused_all, settings_left}
 use Rattle.rob_expand.proofs.LinesLemmas.{expansion_left, expansion_crowded}
-use Rattle.rob_expand.proofs.SpotLemmas.{spots_left, thin_spots}
 use Rattle.rob_expand.proofs.fits.spend_statement.Goals as goal
 
 pub returns-in_err-settings : goal.returns-in_err-settings
@@ -30,21 +28,21 @@ returns-in_err-settings c = record {
 
 pub spend_lines-requires : goal.spend_lines-requires
 spend_lines-requires c = record {
-  thin = thin_spots _ _ _ _ c.items-2.ensures.list c.items-4.ensures.list c.in_ok-spots.ensures.thin;
+  thin =
+      thin_moved _ _ _ _ _ _ (sym c.items-2.ensures.list) c.items-4.ensures.list
+      (c.items-5.ensures.list ∙ sym c.items-3.ensures.list) c.in_ok-kept.ensures.thin;
 }
 
 pub returns : goal.returns
 returns c = record {
   left =
       let s = seen_statement c.args.statement.now in
-      let settings = ap (map (λ (s : Spot). s.values)) c.items-4.ensures.list ∙ c.in_ok-spots.ensures.values
-      ∙ c.items-3.ensures.list ∙ c.in_ok-settings.ensures.settings
+      let settings = c.items-5.ensures.list ∙ c.in_ok-settings.ensures.settings
       ∙ ap (λ (rs : List Ends). extensions rs []) c.items.ensures.list in
       moved_all c.spend_lines.result _
       (λ (words : List Name). left_of (lines_tokens c.args.limit (expand words s)) c.args.room)
       c.spend_lines.ensures.left
       (λ words.
-      spots_left (line_left c.in_ok-ranges.line) c.items-4.result.now c.args.room
-      ∙ settings_left _ _ _ settings c.args.room
+      settings_left _ _ _ settings c.args.room
       ∙ expansion_left c.args.limit words s _ _ c.in_ok-ranges.ensures.line c.args.room);
 }
