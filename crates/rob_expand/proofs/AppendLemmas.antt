@@ -1,6 +1,6 @@
 -- Settings that are appended, each with the places of its items.
 use Rattle.std.proofs.Common.{◌≡◌, ℕ, ◌<◌, List, [], ◌∷◌, ◌++◌, length, get_or, sym, ap, ◌∙◌, subst, append_assoc, append-nil, arith}
-use Rattle.std.specs.Prelude.{ℤ, Result, Ok, Err, OnOk}
+use Rattle.std.specs.Prelude.{ℤ, Bool, false, Result, Ok, Err, OnOk}
 use Rattle.std.proofs.lemmas.List.{map-append}
 use Rattle.rob_ranges.specs.Spans.{Every}
 use Rattle.rob_ranges.proofs.SpanLemmas.{every_both}
@@ -10,17 +10,17 @@ use Rattle.rob_expand.specs.Spots.{IsThin, IsThinAt}
 use Rattle.rob_expand.proofs.SpotLemmas.{values_in}
 
 -- the same places
-pub thin_items : (xs : List Item) (ks js : List ℕ) (vss : List (List ℤ)) → js ≡ ks → Every (IsThinAt xs ks) vss
-    → Every (IsThinAt xs js) vss
-thin_items xs ks js vss is thin = subst (λ (l : List ℕ). Every (IsThinAt xs l) vss) (sym is) thin
+pub thin_items : (xs : List Item) (ks js : List ℕ) (vss : List (List ℤ)) → js ≡ ks
+    → Every (IsThinAt false xs ks) vss → Every (IsThinAt false xs js) vss
+thin_items xs ks js vss is thin = subst (λ (l : List ℕ). Every (IsThinAt false xs l) vss) (sym is) thin
 
 -- the same items, places and settings
-pub thin_moved : (xs ys : List Item) (ks js : List ℕ) (vss wss : List (List ℤ)) → ys ≡ xs → js ≡ ks → wss ≡ vss
-    → Every (IsThinAt xs ks) vss → Every (IsThinAt ys js) wss
-thin_moved xs ys ks js vss wss e f g thin =
-    subst (λ (l : List Item). Every (IsThinAt l js) wss) (sym e)
-    (subst (λ (l : List ℕ). Every (IsThinAt xs l) wss) (sym f)
-    (subst (λ (l : List (List ℤ)). Every (IsThinAt xs ks) l) (sym g) thin))
+pub thin_moved : (short : Bool) (xs ys : List Item) (ks js : List ℕ) (vss wss : List (List ℤ)) → ys ≡ xs
+    → js ≡ ks → wss ≡ vss → Every (IsThinAt short xs ks) vss → Every (IsThinAt short ys js) wss
+thin_moved short xs ys ks js vss wss e f g thin =
+    subst (λ (l : List Item). Every (IsThinAt short l js) wss) (sym e)
+    (subst (λ (l : List ℕ). Every (IsThinAt short xs l) wss) (sym f)
+    (subst (λ (l : List (List ℤ)). Every (IsThinAt short xs ks) l) (sym g) thin))
 
 pub spots_none : (spots : List Spot) (vss : List (List ℤ)) → length vss < 1
     → values_in spots ≡ values_in spots ++ vss
@@ -43,7 +43,7 @@ one_value old new spot vss vs one is here made =
     ∙ ap (λ (l : List (List ℤ)). values_in old ++ l) (ap (λ (v : List ℤ). v ∷ []) here ∙ only_one vss vs one is)
 
 pub one_thin : (xs : List Item) (old new : List Spot) (spot : Spot) → new ≡ old ++ spot ∷ []
-    → Every (IsThin xs) old → IsThinAt xs spot.kept spot.values → Every (IsThin xs) new
+    → Every (IsThin xs) old → IsThinAt false xs spot.kept spot.values → Every (IsThin xs) new
 one_thin xs old new spot made done thin =
     every_both (IsThin xs) new old (spot ∷ []) made done (thin, tt)
 

@@ -1,6 +1,6 @@
 -- Findings: the worse of two, the worst of many, and walks that gather them item by item.
-use Rattle.std.proofs.Common.{◌≡◌, Bool, true, false, List, [], ◌∷◌, ◌++◌, map, refl, sym, ap, ◌∙◌}
-use Rattle.std.specs.Prelude.{◌||◌}
+use Rattle.std.proofs.Common.{◌≡◌, ◌<◌, Bool, true, false, List, [], ◌∷◌, ◌++◌, length, get_or, map, refl, sym, ap, ◌∙◌, arith}
+use Rattle.std.specs.Prelude.{◌||◌, Result, Ok, Err, IfOk}
 use Rattle.std.specs.List.{flat_map, list_any}
 use Rattle.rob_expand.specs.declared.judging.Finding.{Finding}
 use Rattle.rob_expand.specs.declared.judging.Finding.TheVariants.{Nothing, Out, TooLong}
@@ -113,6 +113,35 @@ pub worst_out : {A : Type 0} (p : A → Bool) (xs : List A)
 worst_out p [] = refl
 worst_out p (x ∷ xs) =
     sym (finding_both false (p x) false (list_any p xs)) ∙ ap (worse (finding false (p x))) (worst_out p xs)
+
+-- ---- lists that are halved
+module _ {A : Type 0} (f : A → Finding) where
+  pub found_none : (xs : List A) → length xs < 1 → Nothing ≡ worst f xs
+  found_none [] h = refl
+  found_none (x ∷ xs) h = absurd (omega (arith, h))
+
+  found_only : (xs : List A) (x : A) → length xs ≡ 1 → x ≡ get_or xs 0 x → f x ≡ worst f xs
+  found_only [] x one is = absurd (omega (arith, one))
+  found_only (y ∷ []) x one is = ap f is ∙ sym (worse_nothing (f y))
+  found_only (y ∷ z ∷ zs) x one is = absurd (omega (arith, one))
+
+  pub found_if_only : {E : Type 0} (xs : List A) (x y : A) → length xs ≡ 1 → x ≡ get_or xs 0 x
+      → (r : Result Finding E) → y ≡ x → IfOk r (λ found. found ≡ f y) → IfOk r (λ found. found ≡ worst f xs)
+  found_if_only xs x y one is (Ok found) same given = given ∙ ap f same ∙ found_only xs x one is
+  found_if_only xs x y one is (Err e) same given = tt
+
+  module _ (all front behind : List A) (is : all ≡ front ++ behind) where
+    found_apart : worse (worst f front) (worst f behind) ≡ worst f all
+    found_apart = sym (ap (worst f) is ∙ worst_append f front behind)
+
+    pub found_split : {a b : Finding} → a ≡ worst f front → b ≡ worst f behind → worse a b ≡ worst f all
+    found_split first second = worse_both first second ∙ found_apart
+
+    -- a range is too long in front
+    pub found_first : (found : Finding) → found ≡ worst f front → is_too_long found ≡ true → found ≡ worst f all
+    found_first found first long =
+        sym (worse_long found (worst f behind) long) ∙ ap (λ (a : Finding). worse a (worst f behind)) first
+        ∙ found_apart
 
 -- ---- walks
 module _ {A : Type 0} (f : A → Finding) (found : Finding) where

@@ -21,7 +21,7 @@ use Rattle.rob_expand.specs.Lines.{entries_tokens, entry_count, items_left}
 use Rattle.rob_expand.specs.Room.{left_of, after}
 use Rattle.rob_expand.specs.Spots.{IsThin, IsThinAt, busy, is_idle, pick, picks}
 use Rattle.rob_ranges.specs.Spans.{Every}
-use Rattle.rob_expand.proofs.FindingLemmas.{worse_assoc, worst_append, worst_map}
+use Rattle.rob_expand.proofs.FindingLemmas.{worse_assoc, worst_append}
 use Rattle.rob_expand.proofs.JudgeLemmas.{quiet_item}
 use Rattle.rob_expand.proofs.LineLemmas.{entries_some}
 use Rattle.rob_expand.proofs.PlaceLemmas.{map_twice}
@@ -43,43 +43,48 @@ not_is : (b : Bool) → not b ≡ true → b ≡ false
 not_is true h = cc
 not_is false h = refl
 
-idle_none : (x : Item) (vs : List ℤ) → is_idle x vs ≡ true → extensions x.ranges vs ≡ []
-idle_none x vs h =
-    empty_is (extensions x.ranges vs) (both_hold (is_empty (extensions x.ranges vs)) (not (is_long_in x.ranges vs)) h).0
+idle_none : (short : Bool) (x : Item) (vs : List ℤ) → is_idle short x vs ≡ true → extensions x.ranges vs ≡ []
+idle_none short x vs h =
+    empty_is (extensions x.ranges vs)
+    (both_hold (is_empty (extensions x.ranges vs)) (not (short && is_long_in x.ranges vs)) h).0
 
-idle_short : (x : Item) (vs : List ℤ) → is_idle x vs ≡ true → is_long_in x.ranges vs ≡ false
+idle_short : (x : Item) (vs : List ℤ) → is_idle true x vs ≡ true → is_long_in x.ranges vs ≡ false
 idle_short x vs h =
     not_is (is_long_in x.ranges vs)
     (both_hold (is_empty (extensions x.ranges vs)) (not (is_long_in x.ranges vs)) h).1
 
-pub idle_is : (x : Item) (vs : List ℤ) → extensions x.ranges vs ≡ [] → is_long_in x.ranges vs ≡ false
-    → is_idle x vs ≡ true
-idle_is x vs none short = λ i. is_empty (none i) && not (short i)
+pub idle_if_short : (x : Item) (vs : List ℤ) → extensions x.ranges vs ≡ [] → is_long_in x.ranges vs ≡ false
+    → is_idle true x vs ≡ true
+idle_if_short x vs none short = λ i. is_empty (none i) && not (short i)
+
+pub idle_if_none : (x : Item) (vs : List ℤ) → extensions x.ranges vs ≡ [] → is_idle false x vs ≡ true
+idle_if_none x vs none = λ i. is_empty (none i) && true
 
 -- ---- it adds nothing
 module _ (vs : List ℤ) where
   pub busy_flat : {B : Type 0} (f : Item → List B) → ((x : Item) → extensions x.ranges vs ≡ [] → f x ≡ [])
-      → (xs : List Item) → flat_map f (busy xs vs) ≡ flat_map f xs
+      → (xs : List Item) → flat_map f (busy false xs vs) ≡ flat_map f xs
   busy_flat f none [] = refl
-  busy_flat {B} f none (x ∷ xs) = go (busy_flat f none xs) (is_idle x vs) refl
+  busy_flat {B} f none (x ∷ xs) = go (busy_flat f none xs) (is_idle false x vs) refl
     where
-      go : flat_map f (busy xs vs) ≡ flat_map f xs → (b : Bool) → is_idle x vs ≡ b
-          → flat_map f (if b then busy xs vs else x ∷ busy xs vs) ≡ f x ++ flat_map f xs
-      go so true e = so ∙ ap (λ (l : List B). l ++ flat_map f xs) (sym (none x (idle_none x vs e)))
+      go : flat_map f (busy false xs vs) ≡ flat_map f xs → (b : Bool) → is_idle false x vs ≡ b
+          → flat_map f (if b then busy false xs vs else x ∷ busy false xs vs) ≡ f x ++ flat_map f xs
+      go so true e = so ∙ ap (λ (l : List B). l ++ flat_map f xs) (sym (none x (idle_none false x vs e)))
       go so false e = ap (λ (l : List B). f x ++ l) so
 
-  pub busy_found : (xs : List Item) → worst (λ x. item_found x vs) (busy xs vs) ≡ worst (λ x. item_found x vs) xs
+  pub busy_found : (xs : List Item)
+      → worst (λ x. item_found x vs) (busy true xs vs) ≡ worst (λ x. item_found x vs) xs
   busy_found [] = refl
-  busy_found (x ∷ xs) = go (busy_found xs) (is_idle x vs) refl
+  busy_found (x ∷ xs) = go (busy_found xs) (is_idle true x vs) refl
     where
-      go : worst (λ x. item_found x vs) (busy xs vs) ≡ worst (λ x. item_found x vs) xs → (b : Bool)
-          → is_idle x vs ≡ b
-          → worst (λ x. item_found x vs) (if b then busy xs vs else x ∷ busy xs vs)
+      go : worst (λ x. item_found x vs) (busy true xs vs) ≡ worst (λ x. item_found x vs) xs → (b : Bool)
+          → is_idle true x vs ≡ b
+          → worst (λ x. item_found x vs) (if b then busy true xs vs else x ∷ busy true xs vs)
           ≡ worse (item_found x vs) (worst (λ x. item_found x vs) xs)
       go so true e =
           so
           ∙ ap (λ (a : Finding). worse a (worst (λ x. item_found x vs) xs))
-          (sym (quiet_item x vs (idle_none x vs e) (idle_short x vs e)))
+          (sym (quiet_item x vs (idle_none true x vs e) (idle_short x vs e)))
       go so false e = ap (worse (item_found x vs)) so
 
   and_true : (b : Bool) → (b && true) ≡ b
@@ -96,28 +101,30 @@ module _ (vs : List ℤ) where
       ∙ ap (λ (b : Bool). items_left b xs vs room) (and_true first)
 
   pub busy_left : (xs : List Item) (first : Bool) (room : ℕ)
-      → items_left first (busy xs vs) vs room ≡ items_left first xs vs room
+      → items_left first (busy false xs vs) vs room ≡ items_left first xs vs room
   busy_left [] first room = refl
-  busy_left (x ∷ xs) first room = go (busy_left xs) (is_idle x vs) refl
+  busy_left (x ∷ xs) first room = go (busy_left xs) (is_idle false x vs) refl
     where
-      go : ((first : Bool) (room : ℕ) → items_left first (busy xs vs) vs room ≡ items_left first xs vs room)
-          → (b : Bool) → is_idle x vs ≡ b
-          → items_left first (if b then busy xs vs else x ∷ busy xs vs) vs room ≡ items_left first (x ∷ xs) vs room
-      go so true e = so first room ∙ sym (none_left x xs first room (idle_none x vs e))
+      go : ((first : Bool) (room : ℕ) → items_left first (busy false xs vs) vs room ≡ items_left first xs vs room)
+          → (b : Bool) → is_idle false x vs ≡ b
+          → items_left first (if b then busy false xs vs else x ∷ busy false xs vs) vs room
+          ≡ items_left first (x ∷ xs) vs room
+      go so true e = so first room ∙ sym (none_left x xs first room (idle_none false x vs e))
       go so false e = λ i.
           after (left_of (entries_tokens first (1 + x.behind) (entry_count x vs)) room)
           (λ left. so (first && entry_count x vs == 0) left i)
 
 -- ---- of the items at some places, where these are thin
-module _ (xs : List Item) (ks : List ℕ) (vs : List ℤ) (thin : IsThinAt xs ks vs) where
+pub thin_found : (xs : List Item) (ks : List ℕ) (vs : List ℤ) → IsThinAt true xs ks vs
+    → worst (λ x. item_found x vs) (picks xs ks) ≡ worst (λ x. item_found x vs) xs
+thin_found xs ks vs thin =
+    sym (busy_found vs (picks xs ks)) ∙ ap (worst (λ x. item_found x vs)) thin ∙ busy_found vs xs
+
+module _ (xs : List Item) (ks : List ℕ) (vs : List ℤ) (thin : IsThinAt false xs ks vs) where
   pub thin_left : (first : Bool) (room : ℕ) → items_left first (picks xs ks) vs room ≡ items_left first xs vs room
   thin_left first room =
       sym (busy_left vs (picks xs ks) first room)
       ∙ ap (λ (l : List Item). items_left first l vs room) thin ∙ busy_left vs xs first room
-
-  pub thin_found : worst (λ x. item_found x vs) (picks xs ks) ≡ worst (λ x. item_found x vs) xs
-  thin_found =
-      sym (busy_found vs (picks xs ks)) ∙ ap (worst (λ x. item_found x vs)) thin ∙ busy_found vs xs
 
   thin_flat : {B : Type 0} (f : Item → List B) → ((x : Item) → extensions x.ranges vs ≡ [] → f x ≡ [])
       → flat_map f (picks xs ks) ≡ flat_map f xs
@@ -129,10 +136,10 @@ module _ (xs : List Item) (ks : List ℕ) (vs : List ℤ) (thin : IsThinAt xs ks
       thin_flat (λ x. item_names own x vs) (λ x none. ap (λ (l : List (List ℤ)). map (named_at own x.name) l) none)
 
 -- the same places and values
-pub thin_along : (xs : List Item) (ks js : List ℕ) (vs ws : List ℤ) → js ≡ ks → ws ≡ vs → IsThinAt xs ks vs
-    → IsThinAt xs js ws
-thin_along xs ks js vs ws e f thin = subst (λ (l : List ℕ). IsThinAt xs l ws) (sym e)
-    (subst (λ (l : List ℤ). IsThinAt xs ks l) (sym f) thin)
+pub thin_along : (xs : List Item) (ks js : List ℕ) (vs ws : List ℤ) → js ≡ ks → ws ≡ vs → IsThinAt false xs ks vs
+    → IsThinAt false xs js ws
+thin_along xs ks js vs ws e f thin = subst (λ (l : List ℕ). IsThinAt false xs l ws) (sym e)
+    (subst (λ (l : List ℤ). IsThinAt false xs ks l) (sym f) thin)
 
 -- ---- items one by one
 pub picks_more : (xs : List Item) (ks : List ℕ) (i k : ℕ) → i < length ks → k ≡ get_or ks i 0
@@ -141,13 +148,14 @@ picks_more xs ks i k inside is =
     ap (picks xs)
     (at_drop_more (λ (l : List ℕ). l) ks i 0 inside ∙ ap (λ (j : ℕ). j ∷ drop (i + 1) ks) (sym is))
 
-pub busy_append : (xs ys : List Item) (vs : List ℤ) → busy (xs ++ ys) vs ≡ busy xs vs ++ busy ys vs
-busy_append [] ys vs = refl
-busy_append (x ∷ xs) ys vs = go (busy_append xs ys vs) (is_idle x vs) refl
+pub busy_append : (short : Bool) (xs ys : List Item) (vs : List ℤ)
+    → busy short (xs ++ ys) vs ≡ busy short xs vs ++ busy short ys vs
+busy_append short [] ys vs = refl
+busy_append short (x ∷ xs) ys vs = go (busy_append short xs ys vs) (is_idle short x vs) refl
   where
-    go : busy (xs ++ ys) vs ≡ busy xs vs ++ busy ys vs → (b : Bool) → is_idle x vs ≡ b
-        → (if b then busy (xs ++ ys) vs else x ∷ busy (xs ++ ys) vs)
-        ≡ (if b then busy xs vs else x ∷ busy xs vs) ++ busy ys vs
+    go : busy short (xs ++ ys) vs ≡ busy short xs vs ++ busy short ys vs → (b : Bool) → is_idle short x vs ≡ b
+        → (if b then busy short (xs ++ ys) vs else x ∷ busy short (xs ++ ys) vs)
+        ≡ (if b then busy short xs vs else x ∷ busy short xs vs) ++ busy short ys vs
     go so true e = so
     go so false e = ap (λ (l : List Item). x ∷ l) so
 
@@ -158,43 +166,43 @@ picks_append xs (k ∷ ks) js =
     ∙ sym (append_assoc (pick xs k) (picks xs ks) (picks xs js))
 
 -- the only item of some
-pub only_quiet : (xs : List Item) (x : Item) (vs : List ℤ) → length xs ≡ 1 → x ≡ get_or xs 0 x
-    → extensions x.ranges vs ≡ [] → is_long_in x.ranges vs ≡ false → busy xs vs ≡ []
-only_quiet [] x vs one is none short = absurd (omega (arith, one))
-only_quiet (y ∷ []) x vs one is none short =
-    ap (λ (b : Bool). if b then [] else y ∷ [])
-    (ap (λ (z : Item). is_idle z vs) (sym is) ∙ idle_is x vs none short)
-only_quiet (y ∷ z ∷ zs) x vs one is none short = absurd (omega (arith, one))
+pub only_idle : (short : Bool) (xs : List Item) (x : Item) (vs : List ℤ) → length xs ≡ 1 → x ≡ get_or xs 0 x
+    → is_idle short x vs ≡ true → busy short xs vs ≡ []
+only_idle short [] x vs one is idle = absurd (omega (arith, one))
+only_idle short (y ∷ []) x vs one is idle =
+    ap (λ (b : Bool). if b then [] else y ∷ []) (ap (λ (z : Item). is_idle short z vs) (sym is) ∙ idle)
+only_idle short (y ∷ z ∷ zs) x vs one is idle = absurd (omega (arith, one))
 
 -- a place is kept, or left out where its item is idle
-pub kept_more : (xs : List Item) (places new ks : List ℕ) (i k : ℕ) (quiet : Bool) (vs : List ℤ) {result : List Item}
-    → i < length ks → k ≡ get_or ks i 0 → (quiet ≡ true → busy (pick xs k) vs ≡ [])
-    → new ≡ places ++ (if quiet then [] else k ∷ [])
-    → busy (picks xs places ++ picks xs (drop i ks)) vs ≡ result
-    → busy (picks xs new ++ picks xs (drop (i + 1) ks)) vs ≡ result
-kept_more xs places new ks i k true vs inside is idle made so_far =
+pub kept_more : (short : Bool) (xs : List Item) (places new ks : List ℕ) (i k : ℕ) (idle : Bool) (vs : List ℤ)
+    {result : List Item} → i < length ks → k ≡ get_or ks i 0 → (idle ≡ true → busy short (pick xs k) vs ≡ [])
+    → new ≡ places ++ (if idle then [] else k ∷ [])
+    → busy short (picks xs places ++ picks xs (drop i ks)) vs ≡ result
+    → busy short (picks xs new ++ picks xs (drop (i + 1) ks)) vs ≡ result
+kept_more short xs places new ks i k true vs inside is none made so_far =
     let rest = picks xs (drop (i + 1) ks) in
-    ap (λ (l : List ℕ). busy (picks xs l ++ rest) vs) (made ∙ append-nil places)
-    ∙ busy_append (picks xs places) rest vs
-    ∙ ap (λ (l : List Item). busy (picks xs places) vs ++ (l ++ busy rest vs)) (sym (idle refl))
-    ∙ ap (λ (l : List Item). busy (picks xs places) vs ++ l) (sym (busy_append (pick xs k) rest vs))
-    ∙ sym (busy_append (picks xs places) (pick xs k ++ rest) vs)
-    ∙ ap (λ (l : List Item). busy (picks xs places ++ l) vs) (sym (picks_more xs ks i k inside is))
+    ap (λ (l : List ℕ). busy short (picks xs l ++ rest) vs) (made ∙ append-nil places)
+    ∙ busy_append short (picks xs places) rest vs
+    ∙ ap (λ (l : List Item). busy short (picks xs places) vs ++ (l ++ busy short rest vs)) (sym (none refl))
+    ∙ ap (λ (l : List Item). busy short (picks xs places) vs ++ l) (sym (busy_append short (pick xs k) rest vs))
+    ∙ sym (busy_append short (picks xs places) (pick xs k ++ rest) vs)
+    ∙ ap (λ (l : List Item). busy short (picks xs places ++ l) vs) (sym (picks_more xs ks i k inside is))
     ∙ so_far
-kept_more xs places new ks i k false vs inside is idle made so_far =
+kept_more short xs places new ks i k false vs inside is none made so_far =
     let rest = picks xs (drop (i + 1) ks) in
-    ap (λ (l : List ℕ). busy (picks xs l ++ rest) vs) made
-    ∙ ap (λ (l : List Item). busy (l ++ rest) vs) (picks_append xs places (k ∷ []))
-    ∙ ap (λ (l : List Item). busy ((picks xs places ++ l) ++ rest) vs) (append-nil (pick xs k))
-    ∙ ap (λ (l : List Item). busy l vs) (append_assoc (picks xs places) (pick xs k) rest)
-    ∙ ap (λ (l : List Item). busy (picks xs places ++ l) vs) (sym (picks_more xs ks i k inside is))
+    ap (λ (l : List ℕ). busy short (picks xs l ++ rest) vs) made
+    ∙ ap (λ (l : List Item). busy short (l ++ rest) vs) (picks_append xs places (k ∷ []))
+    ∙ ap (λ (l : List Item). busy short ((picks xs places ++ l) ++ rest) vs) (append-nil (pick xs k))
+    ∙ ap (λ (l : List Item). busy short l vs) (append_assoc (picks xs places) (pick xs k) rest)
+    ∙ ap (λ (l : List Item). busy short (picks xs places ++ l) vs) (sym (picks_more xs ks i k inside is))
     ∙ so_far
 
-pub kept_all : (xs : List Item) (places ks : List ℕ) (i : ℕ) (vs : List ℤ) {result : List Item} → drop i ks ≡ []
-    → busy (picks xs places ++ picks xs (drop i ks)) vs ≡ result → busy (picks xs places) vs ≡ result
-kept_all xs places ks i vs none so_far =
-    ap (λ (l : List Item). busy l vs) (sym (append-nil (picks xs places)))
-    ∙ ap (λ (l : List ℕ). busy (picks xs places ++ picks xs l) vs) (sym none) ∙ so_far
+pub kept_all : (short : Bool) (xs : List Item) (places ks : List ℕ) (i : ℕ) (vs : List ℤ) {result : List Item}
+    → drop i ks ≡ []
+    → busy short (picks xs places ++ picks xs (drop i ks)) vs ≡ result → busy short (picks xs places) vs ≡ result
+kept_all short xs places ks i vs none so_far =
+    ap (λ (l : List Item). busy short l vs) (sym (append-nil (picks xs places)))
+    ∙ ap (λ (l : List ℕ). busy short (picks xs places ++ picks xs l) vs) (sym none) ∙ so_far
 
 -- ---- all places
 slot : (xs : List Item) (k : ℕ) → k < length xs → take k xs ++ (pick xs k ++ []) ≡ take (k + 1) xs
@@ -295,10 +303,6 @@ place_end xs ks i vs first left none = ap (λ (l : List ℕ). items_left first (
 abbrev pub values_in : List Spot → List (List ℤ)
 values_in spots = map (λ (s : Spot). s.values) spots
 
-pub spots_found : (f : List ℤ → Finding) (spots : List Spot) (vss : List (List ℤ)) → values_in spots ≡ vss
-    → worst (λ (s : Spot). f s.values) spots ≡ worst f vss
-spots_found f spots vss is = sym (worst_map f (λ (s : Spot). s.values) spots) ∙ ap (worst f) is
-
 pub spots_flat : {B : Type 0} (f : List ℤ → List B) (spots : List Spot) (vss : List (List ℤ)) → values_in spots ≡ vss
     → flat_map (λ (s : Spot). f s.values) spots ≡ flat_map f vss
 spots_flat f spots vss is = sym (flat_mapped f (λ (s : Spot). s.values) spots) ∙ ap (flat_map f) is
@@ -313,29 +317,30 @@ thin_spots xs ys ss ts e f thin =
     subst (λ (l : List Spot). Every (IsThin ys) l) (sym f) (subst (λ (l : List Item). Every (IsThin l) ss) e thin)
 
 -- all places are thin anywhere
-pub all_thin : (xs : List Item) (ks : List ℕ) (vss : List (List ℤ)) → picks xs ks ≡ xs → Every (IsThinAt xs ks) vss
-all_thin xs ks [] is = tt
-all_thin xs ks (vs ∷ vss) is = (ap (λ (l : List Item). busy l vs) is, all_thin xs ks vss is)
+pub all_thin : (short : Bool) (xs : List Item) (ks : List ℕ) (vss : List (List ℤ)) → picks xs ks ≡ xs
+    → Every (IsThinAt short xs ks) vss
+all_thin short xs ks [] is = tt
+all_thin short xs ks (vs ∷ vss) is = (ap (λ (l : List Item). busy short l vs) is, all_thin short xs ks vss is)
 
 -- places that are thinner
-pub thinner : (xs : List Item) (ks js : List ℕ) (Holds : List ℤ → Type 0) (vss : List (List ℤ))
-    → ((vs : List ℤ) → Holds vs → busy (picks xs js) vs ≡ busy (picks xs ks) vs) → Every Holds vss
-    → Every (IsThinAt xs ks) vss → Every (IsThinAt xs js) vss
-thinner xs ks js Holds [] same within thin = tt
-thinner xs ks js Holds (vs ∷ vss) same within thin =
-    (same vs within.0 ∙ thin.0, thinner xs ks js Holds vss same within.1 thin.1)
+pub thinner : (short : Bool) (xs : List Item) (ks js : List ℕ) (Holds : List ℤ → Type 0) (vss : List (List ℤ))
+    → ((vs : List ℤ) → Holds vs → busy short (picks xs js) vs ≡ busy short (picks xs ks) vs) → Every Holds vss
+    → Every (IsThinAt short xs ks) vss → Every (IsThinAt short xs js) vss
+thinner short xs ks js Holds [] same within thin = tt
+thinner short xs ks js Holds (vs ∷ vss) same within thin =
+    (same vs within.0 ∙ thin.0, thinner short xs ks js Holds vss same within.1 thin.1)
 
 -- the same of what is answered
-module _ (xs : List Item) (ks : List ℕ) (vss : List (List ℤ)) where
-  pub thin_if_same : {E : Type 0} (r : Result (List ℕ) E) → IfOk r (λ js. js ≡ ks) → Every (IsThinAt xs ks) vss
-      → IfOk r (λ js. Every (IsThinAt xs js) vss)
-  thin_if_same (Ok js) is thin = subst (λ (l : List ℕ). Every (IsThinAt xs l) vss) (sym is) thin
+module _ (short : Bool) (xs : List Item) (ks : List ℕ) (vss : List (List ℤ)) where
+  pub thin_if_same : {E : Type 0} (r : Result (List ℕ) E) → IfOk r (λ js. js ≡ ks) → Every (IsThinAt short xs ks) vss
+      → IfOk r (λ js. Every (IsThinAt short xs js) vss)
+  thin_if_same (Ok js) is thin = subst (λ (l : List ℕ). Every (IsThinAt short xs l) vss) (sym is) thin
   thin_if_same (Err e) is thin = tt
 
   pub thin_if_busy : {E : Type 0} (Holds : List ℤ → Type 0) (r : Result (List ℕ) E)
-      → IfOk r (λ js. (vs : List ℤ) → Holds vs → busy (picks xs js) vs ≡ busy (picks xs ks) vs) → Every Holds vss
-      → Every (IsThinAt xs ks) vss → IfOk r (λ js. Every (IsThinAt xs js) vss)
-  thin_if_busy Holds (Ok js) same within thin = thinner xs ks js Holds vss same within thin
+      → IfOk r (λ js. (vs : List ℤ) → Holds vs → busy short (picks xs js) vs ≡ busy short (picks xs ks) vs)
+      → Every Holds vss → Every (IsThinAt short xs ks) vss → IfOk r (λ js. Every (IsThinAt short xs js) vss)
+  thin_if_busy Holds (Ok js) same within thin = thinner short xs ks js Holds vss same within thin
   thin_if_busy Holds (Err e) same within thin = tt
 
 -- ---- walks over the items at some places

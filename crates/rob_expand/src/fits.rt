@@ -43,6 +43,6 @@ pub fn spend_statement(
 {
     let (ranges, line) = line_of(alloc, limit, statement)?;
     let settings = settings_of(alloc, ranges.items(), &[], room)?;
-    let kept = thin_places(alloc, line.items.items(), settings.items())?;
+    let kept = thin_places(alloc, false, line.items.items(), settings.items())?;
     spend_lines(alloc, &line, kept.items(), settings.items(), room)
 }

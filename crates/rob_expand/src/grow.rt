@@ -1,7 +1,7 @@
 //! The names of a line in its settings, and the words that grow by them. Each call says whether some name is too long:
 //! none of these becomes a word.
 
-ghost use Rattle.std.specs.Prelude.{◌≡◌, ◌||◌, fold, map, option_to_list, IfOk, OnOk};
+ghost use Rattle.std.specs.Prelude.{◌≡◌, ◌||◌, fold, map, option_to_list, false, IfOk, OnOk};
 ghost use Rattle.std.specs.List.{flat_map, list_any};
 ghost use Rattle.rob_index.specs.Forms.{values_of};
 ghost use Rattle.rob_index.specs.Rules.{is_long_name};
@@ -64,7 +64,7 @@ fn grow_line(
     kept: &[usize],
     values: &[Whole],
 ) -> Result<bool, Memory>
-    requires thin { IsThinAt line.now.items kept.now values.now }
+    requires thin { IsThinAt false line.now.items kept.now values.now }
     ensures words { OnOk result (texts words.new.keys ≡ fold spec.add_name (texts words.old.keys)
         (line_names (texts own.now.keys) line.now values.now)) }
     ensures long { IfOk result (λ long. long

@@ -128,6 +128,16 @@ impl Inner {
         }
     }
 
+    /// Whether the lengths tell that there is no setting anywhere in a span.
+    pub fn is_empty_in(&self, span: Span) -> bool
+        ensures empty { IsTrue result → (vs : Items ℤ) → IsIn span vs → extensions self.now vs ≡ [] }
+    {
+        match self.sizes_in(span) {
+            None => false,
+            Some(sizes) => sizes.first < SHORTEST || sizes.second < SHORTEST,
+        }
+    }
+
     /// Whether the lengths tell that there is no setting.
     fn is_empty_at(&self, values: &[Whole]) -> bool
         ensures empty { IsTrue result → extensions self.now values.now ≡ [] }

@@ -1,6 +1,6 @@
 //! The plain statement that a statement stands for in a setting. A name is the number of its word.
 
-ghost use Rattle.std.specs.Prelude.{◌≡◌, ◌++◌, [], map, IfOk, OnOk};
+ghost use Rattle.std.specs.Prelude.{◌≡◌, ◌++◌, [], map, false, IfOk, OnOk};
 ghost use Rattle.std.specs.Option.{option_map};
 ghost use Rattle.rob_syntax.specs.Known.{texts};
 ghost use Rattle.rob_syntax.specs.Numbered.{numbered, numbered_member, numbered_tree};
@@ -67,7 +67,7 @@ fn make_statement(
     values: &[Whole],
 ) -> Result<Statement, Memory>
     requires line { IsLineOf (seen_statement statement.now) line.now }
-    requires thin { IsThinAt line.now.items kept.now values.now }
+    requires thin { IsThinAt false line.now.items kept.now values.now }
     ensures made { IfOk result (λ made. made ≡ numbered (texts words.now.keys)
         (instance (texts own.now.keys) printed (seen_statement statement.now) values.now)) }
 {
@@ -164,7 +164,7 @@ fn make_policy(
     kept: &[usize],
     values: &[Whole],
 ) -> Result<Statement, Memory>
-    requires thin { IsThinAt line.now.items kept.now values.now }
+    requires thin { IsThinAt false line.now.items kept.now values.now }
     ensures made { IfOk result (λ made. made ≡ Statement.Adaptive (record {
       name = head_in (texts own.now.keys) (texts words.now.keys) line.now values.now;
       on = numbers_in (texts own.now.keys) (texts words.now.keys) line.now.items values.now;

@@ -4,7 +4,7 @@
 //! looked at. By hand, with `for i = 0 to 90`: in `sum(j = i to i + i: x[j])` nothing is found, since `j` has at most
 //! 91 values; with `x[j + 900]` an index is out of bounds, and with `j = i to i + i + i` a range is too long.
 
-ghost use Rattle.std.specs.Prelude.{◌≡◌, [], map, false, IfOk};
+ghost use Rattle.std.specs.Prelude.{◌≡◌, [], map, false, true, IfOk};
 ghost use Rattle.std.specs.List.{list_any};
 ghost use Rattle.rob_index.specs.Forms.{length_form, value_of};
 ghost use Rattle.rob_index.specs.Rules.{is_long, is_out, places};
@@ -12,8 +12,7 @@ ghost use Rattle.rob_syntax.specs.Seen.{seen_statement};
 ghost use Rattle.rob_expand.specs.Judging.{factors_found, index_found, indices_found, item_found, length_found, line_found, lines_found, optional_found, parts_found, range_found, ranges_found, tree_found, values_found, worst};
 ghost use Rattle.rob_expand.specs.Judging as spec;
 ghost use Rattle.rob_expand.specs.Placed.{factors_of, part_of, parts_of, placed_of};
-ghost use Rattle.rob_expand.specs.Spots.{IsThin, IsThinAt, picks};
-ghost use Rattle.rob_expand.specs.declared.spot.Spot.{Spot as SpecSpot};
+ghost use Rattle.rob_expand.specs.Spots.{IsThinAt, picks};
 ghost use Rattle.rob_ranges.specs.Spans.{Every};
 
 use crate::line::{Item, Line};
@@ -22,7 +21,7 @@ use crate::live::first_live;
 use crate::placed::{Named, Part, Placed};
 use crate::setting::{next, with_value};
 use crate::settings::{Setting, all_settings};
-use crate::spot::{Spot, one_at, spots_of};
+use crate::spot::{one_at, thin_in, thin_places};
 use rob_number::Memory;
 use rob_ranges::run::Run;
 use rob_ranges::{Ends, Form, Whole};
@@ -118,8 +117,8 @@ fn judge_statement(alloc: Global, ranges: &[Ends], line: &Line) -> Result<Findin
         return Ok(found);
     }
     let settings = all_settings(alloc, ranges, &[])?;
-    let spots = spots_of(alloc, line.items.items(), settings.items())?;
-    let here = judge_lines(alloc, line, spots.items())?;
+    let kept = thin_places(alloc, true, line.items.items(), settings.items())?;
+    let here = judge_lines(alloc, line, kept.items(), settings.items())?;
     Ok(worse(found, here))
 }
 
@@ -203,20 +202,34 @@ fn length_at(alloc: Global, range: &Ends, values: &[Whole]) -> Result<Whole, Mem
     upto.plus_times(alloc, &minus_one, &from)
 }
 
-/// A line in each of some settings.
-fn judge_lines(alloc: Global, line: &Line, spots: &[Spot]) -> Result<Finding, Memory>
-    requires thin { Every (IsThin line.now.items) spots.now }
-    ensures found { IfOk result (λ found. found ≡ worst (λ (s : SpecSpot). line_found line.now s.values) spots.now) }
+/// A line in each of some settings, where no items but those at these places have entries or a range that is too long.
+/// The settings are halved, and in each half those places are left out that have neither there: so nothing is told of
+/// the settings behind the first one where a range is too long.
+fn judge_lines(
+    alloc: Global,
+    line: &Line,
+    kept: &[usize],
+    settings: &[Setting],
+) -> Result<Finding, Memory>
+    requires thin { Every (IsThinAt true line.now.items kept.now) settings.now }
+    ensures found { IfOk result (λ found. found ≡ worst (line_found line.now) settings.now) }
 {
-    let mut found = Finding::Nothing;
-    for spot in spots {
-        let here = judge_line(alloc, line, spot.kept.items(), spot.values.items())?;
-        found = worse(found, here);
-        if is_too_long(found) {
-            return Ok(found);
+    match settings {
+        [] => Ok(Finding::Nothing),
+        [setting] => judge_line(alloc, line, kept, setting.items()),
+        _ => {
+            let (front, behind) = settings.split_at(settings.len() / 2);
+            let items = line.items.items();
+            let first = thin_in(alloc, true, items, kept, front)?;
+            let found = judge_lines(alloc, line, first.items(), front)?;
+            if is_too_long(found) {
+                return Ok(found);
+            }
+            let second = thin_in(alloc, true, items, kept, behind)?;
+            let here = judge_lines(alloc, line, second.items(), behind)?;
+            Ok(worse(found, here))
         }
     }
-    Ok(found)
 }
 
 /// A line, where no items but those at these places have entries or a range that is too long.
@@ -226,7 +239,7 @@ fn judge_line(
     kept: &[usize],
     values: &[Whole],
 ) -> Result<Finding, Memory>
-    requires thin { IsThinAt line.now.items kept.now values.now }
+    requires thin { IsThinAt true line.now.items kept.now values.now }
     ensures found { IfOk result (λ found. found ≡ line_found line.now values.now) }
 {
     let head = judge_optional(alloc, &line.head, values)?;

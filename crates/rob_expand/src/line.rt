@@ -1,6 +1,6 @@
 //! How many tokens the canonical lines of a statement have, counted without making them.
 
-ghost use Rattle.std.specs.Prelude.{◌≡◌, ◌+◌, ◌≤◌, ◌&&◌, map, true, Some, IfOk, MatchResult};
+ghost use Rattle.std.specs.Prelude.{◌≡◌, ◌+◌, ◌≤◌, ◌&&◌, map, true, false, Some, IfOk, MatchResult};
 ghost use Rattle.rob_expand.specs.Room.{HasStop, left_of};
 ghost use Rattle.rob_expand.specs.Lines.{line_left, trees_left, items_left, entries_tokens};
 ghost use Rattle.rob_expand.specs.Placed.{placed_of};
@@ -50,7 +50,7 @@ pub fn spend_lines(
     settings: &[Setting],
     room: u32,
 ) -> Result<u32, Stop>
-    requires thin { Every (IsThinAt line.now.items kept.now) settings.now }
+    requires thin { Every (IsThinAt false line.now.items kept.now) settings.now }
     ensures left { MatchResult result
         (λ left. all_left (line_left line.now) settings.now room ≡ Some left)
         (λ e. HasStop (all_left (line_left line.now) settings.now room) e) }
@@ -61,9 +61,9 @@ pub fn spend_lines(
         _ => {
             let (front, behind) = settings.split_at(settings.len() / 2);
             let items = line.items.items();
-            let first = thin_in(alloc, items, kept, front)?;
+            let first = thin_in(alloc, false, items, kept, front)?;
             let left = spend_lines(alloc, line, first.items(), front, room)?;
-            let second = thin_in(alloc, items, kept, behind)?;
+            let second = thin_in(alloc, false, items, kept, behind)?;
             spend_lines(alloc, line, second.items(), behind, left)
         }
     }
@@ -77,7 +77,7 @@ fn spend_line(
     values: &[Whole],
     room: u32,
 ) -> Result<u32, Stop>
-    requires thin { IsThinAt line.now.items kept.now values.now }
+    requires thin { IsThinAt false line.now.items kept.now values.now }
     ensures left { MatchResult result
         (λ left. line_left line.now values.now room ≡ Some left)
         (λ e. HasStop (line_left line.now values.now room) e) }

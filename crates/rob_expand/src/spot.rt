@@ -1,11 +1,13 @@
 //! Settings, each with the items of a list that aren't idle there. An item is left out for all settings of a span at
 //! once, where the greatest lengths of its ranges tell that it has none there; the settings are halved until one is
-//! left. So an item without a setting isn't asked for in each.
+//! left. So an item without a setting isn't asked for in each. Where ranges that are too long count, an item that has
+//! one isn't left out, though it has no setting: it has to be short.
 
-ghost use Rattle.std.specs.Prelude.{◌≡◌, ◌++◌, ℤ, [], ◌∷◌, List as Items, map, IfOk, IfSome, IsTrue, OnOk, if◌then◌else◌};
+ghost use Rattle.std.specs.Prelude.{◌≡◌, ◌++◌, ℤ, [], ◌∷◌, List as Items, map, IfOk, IfSome, IsTrue, OnOk, false, if◌then◌else◌};
 ghost use Rattle.rob_expand.specs.declared.spot.Spot.{Spot as SpecSpot};
 ghost use Rattle.rob_ranges.specs.Spans.{Every, IsIn};
 ghost use Rattle.rob_expand.specs.Spots.{IsThin, IsThinAt, busy, pick, picks};
+ghost use Rattle.rob_expand.specs.Spots as spec;
 
 use crate::around;
 use crate::line::Item;
@@ -33,7 +35,7 @@ pub fn spots_of(alloc: Global, items: &[Item], settings: &[Setting]) -> Result<L
     ensures thin { IfOk result (λ spots. Every (IsThin items.now) spots) }
 {
     let mut spots = List::new(alloc);
-    let kept = thin_places(alloc, items, settings)?;
+    let kept = thin_places(alloc, false, items, settings)?;
     append_spots(&mut spots, alloc, items, kept.items(), settings)?;
     Ok(spots)
 }
@@ -41,13 +43,14 @@ pub fn spots_of(alloc: Global, items: &[Item], settings: &[Setting]) -> Result<L
 /// The places of all items but some that are idle in all of these settings.
 pub fn thin_places(
     alloc: Global,
+    short: bool,
     items: &[Item],
     settings: &[Setting],
 ) -> Result<List<usize>, Memory>
-    ensures thin { IfOk result (λ places. Every (IsThinAt items.now places) settings.now) }
+    ensures thin { IfOk result (λ places. Every (IsThinAt short items.now places) settings.now) }
 {
     let all = all_places(alloc, items)?;
-    thin_in(alloc, items, all.items(), settings)
+    thin_in(alloc, short, items, all.items(), settings)
 }
 
 /// The places of all items.
@@ -72,7 +75,7 @@ fn append_spots(
     settings: &[Setting],
 ) -> Result<(), Memory>
     requires done { Every (IsThin items.now) spots.old }
-    requires kept { Every (IsThinAt items.now kept.now) settings.now }
+    requires kept { Every (IsThinAt false items.now kept.now) settings.now }
     ensures values { OnOk result (map (λ (s : SpecSpot). s.values) spots.new
         ≡ map (λ (s : SpecSpot). s.values) spots.old ++ settings.now) }
     ensures thin { OnOk result (Every (IsThin items.now) spots.new) }
@@ -82,9 +85,9 @@ fn append_spots(
         [setting] => append_spot(spots, alloc, kept, setting.items()),
         _ => {
             let (front, behind) = settings.split_at(settings.len() / 2);
-            let first = thin_in(alloc, items, kept, front)?;
+            let first = thin_in(alloc, false, items, kept, front)?;
             append_spots(spots, alloc, items, first.items(), front)?;
-            let second = thin_in(alloc, items, kept, behind)?;
+            let second = thin_in(alloc, false, items, kept, behind)?;
             append_spots(spots, alloc, items, second.items(), behind)
         }
     }
@@ -108,16 +111,17 @@ fn append_spot(
 /// Those of these places whose items may have entries in some of these settings.
 pub fn thin_in(
     alloc: Global,
+    short: bool,
     items: &[Item],
     kept: &[usize],
     settings: &[Setting],
 ) -> Result<List<usize>, Memory>
-    requires kept { Every (IsThinAt items.now kept.now) settings.now }
-    ensures thin { IfOk result (λ thin. Every (IsThinAt items.now thin) settings.now) }
+    requires kept { Every (IsThinAt short items.now kept.now) settings.now }
+    ensures thin { IfOk result (λ thin. Every (IsThinAt short items.now thin) settings.now) }
 {
     match span_for(kept, settings) {
         None => around::copied(alloc, kept),
-        Some(span) => busy_places(alloc, items, kept, span),
+        Some(span) => busy_places(alloc, short, items, kept, span),
     }
 }
 
@@ -148,17 +152,18 @@ fn is_row(settings: &[Setting]) -> bool {
 /// Those of these places whose items may have entries in some setting of a span.
 fn busy_places(
     alloc: Global,
+    short: bool,
     items: &[Item],
     kept: &[usize],
     span: Span,
 ) -> Result<List<usize>, Memory>
     ensures busy { IfOk result (λ places. (vs : Items ℤ) → IsIn span vs
-        → busy (picks items.now places) vs ≡ busy (picks items.now kept.now) vs) }
+        → busy short (picks items.now places) vs ≡ busy short (picks items.now kept.now) vs) }
 {
     let mut places = List::new(alloc);
     for k in kept {
-        let quiet = are_quiet(one_at(items, *k), span);
-        push_unless(&mut places, quiet, *k)?;
+        let idle = are_idle(short, one_at(items, *k), span);
+        push_unless(&mut places, idle, *k)?;
     }
     Ok(places)
 }
@@ -175,20 +180,31 @@ pub fn one_at(items: &[Item], k: usize) -> &[Item]
 }
 
 /// Whether the lengths tell that the only one of these items is idle in all settings of a span.
-fn are_quiet(items: &[Item], span: Span) -> bool
-    ensures quiet { IsTrue result → (vs : Items ℤ) → IsIn span vs → busy items.now vs ≡ [] }
+fn are_idle(short: bool, items: &[Item], span: Span) -> bool
+    ensures idle { IsTrue result → (vs : Items ℤ) → IsIn span vs → busy short items.now vs ≡ [] }
 {
     match items {
-        [item] => item.ranges.is_quiet_in(span),
+        [item] => is_idle(short, item, span),
         _ => false,
     }
 }
 
-/// Appends a place, unless its item is idle.
-fn push_unless(places: &mut List<usize>, quiet: bool, k: usize) -> Result<(), Memory>
-    ensures pushed { OnOk result (places.new ≡ places.old ++ (if quiet then [] else k ∷ [])) }
+/// The same of an item.
+fn is_idle(short: bool, item: &Item, span: Span) -> bool
+    ensures idle { IsTrue result → (vs : Items ℤ) → IsIn span vs → IsTrue (spec.is_idle short item.now vs) }
 {
-    if quiet {
+    if short {
+        item.ranges.is_quiet_in(span)
+    } else {
+        item.ranges.is_empty_in(span)
+    }
+}
+
+/// Appends a place, unless its item is idle.
+fn push_unless(places: &mut List<usize>, idle: bool, k: usize) -> Result<(), Memory>
+    ensures pushed { OnOk result (places.new ≡ places.old ++ (if idle then [] else k ∷ [])) }
+{
+    if idle {
         return Ok(());
     }
     places.push(k)

@@ -1,4 +1,4 @@
-use Rattle.std.proofs.Common.{List, [], length, ap, sym, ◌∙◌}
+use Rattle.std.proofs.Common.{List, [], false, length, ap, sym, ◌∙◌}
 use Rattle.std.proofs.lemmas.Result.{err_from_is_err_and}
 use Rattle.rob_index.specs.Statements.{Name}
 use Rattle.rob_index.specs.Counting.{lines_tokens}
@@ -29,7 +29,7 @@ returns-in_err-settings c = record {
 pub spend_lines-requires : goal.spend_lines-requires
 spend_lines-requires c = record {
   thin =
-      thin_moved _ _ _ _ _ _ (sym c.items-2.ensures.list) c.items-4.ensures.list
+      thin_moved false _ _ _ _ _ _ (sym c.items-2.ensures.list) c.items-4.ensures.list
       (c.items-5.ensures.list ∙ sym c.items-3.ensures.list) c.in_ok-kept.ensures.thin;
 }
 

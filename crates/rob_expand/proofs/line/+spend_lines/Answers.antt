@@ -1,5 +1,5 @@
 use Rattle.std.proofs.Common.{◌≡◌, List, length, sym, ap, ◌∙◌, subst, refl, arith}
-use Rattle.std.specs.Prelude.{ℤ}
+use Rattle.std.specs.Prelude.{ℤ, false}
 use Rattle.std.proofs.lemmas.Result.{err_from_is_err_and}
 use Rattle.rob_ranges.proofs.SpanLemmas.{behind_of, every_at, front_of}
 use Rattle.rob_expand.specs.Lines.{line_left}
@@ -15,38 +15,38 @@ spend_line-requires t c =
     let one : length c.args.settings.now ≡ 1 = omega (arith, c.in-len1.len_at_least, c.in-len1.len_below) in
     record {
       thin =
-          subst (IsThinAt c.args.line.now.items c.args.kept.now) (sym c.items.ensures.list)
-          (every_at (IsThinAt c.args.line.now.items c.args.kept.now) c.args.settings.now 0 c.setting-item.result
+          subst (IsThinAt false c.args.line.now.items c.args.kept.now) (sym c.items.ensures.list)
+          (every_at (IsThinAt false c.args.line.now.items c.args.kept.now) c.args.settings.now 0 c.setting-item.result
           (omega (arith, one)) c.setting-item.is c.requires.thin);
     }
 
 pub thin_in-requires : goal.thin_in-requires
 thin_in-requires t c = record {
   kept =
-      thin_moved _ _ _ _ _ _ c.items-items.ensures.list refl refl
-      (front_of (IsThinAt c.args.line.now.items c.args.kept.now) c.args.settings.now c.split_at.result.0.now
+      thin_moved false _ _ _ _ _ _ c.items-items.ensures.list refl refl
+      (front_of (IsThinAt false c.args.line.now.items c.args.kept.now) c.args.settings.now c.split_at.result.0.now
       c.split_at.result.1.now c.split_at.ensures.by_index.0 c.requires.thin);
 }
 
 pub thin_in-requires-in_default : goal.thin_in-requires-in_default
 thin_in-requires-in_default t c = record {
   kept =
-      thin_moved _ _ _ _ _ _ c.items-items.ensures.list refl refl
-      (behind_of (IsThinAt c.args.line.now.items c.args.kept.now) c.args.settings.now c.split_at.result.0.now
+      thin_moved false _ _ _ _ _ _ c.items-items.ensures.list refl refl
+      (behind_of (IsThinAt false c.args.line.now.items c.args.kept.now) c.args.settings.now c.split_at.result.0.now
       c.split_at.result.1.now c.split_at.ensures.by_index.0 c.requires.thin);
 }
 
 pub spend_lines-requires : goal.spend_lines-requires
 spend_lines-requires t c = (
   omega (arith, c.decreases, c.split_at.ensures.front_len, c.in_default.len_at_least),
-  thin_moved _ _ _ _ _ _ (sym c.items-items.ensures.list) c.items-in_default.ensures.list refl
+  thin_moved false _ _ _ _ _ _ (sym c.items-items.ensures.list) c.items-in_default.ensures.list refl
       c.in_ok-first-in_default.ensures.thin,
 )
 
 pub spend_lines-requires-in_default : goal.spend_lines-requires-in_default
 spend_lines-requires-in_default t c = (
   omega (arith, c.decreases, c.split_at.ensures.back_len, c.in_default.len_at_least),
-  thin_moved _ _ _ _ _ _ (sym c.items-items.ensures.list) c.items-in_default-2.ensures.list refl
+  thin_moved false _ _ _ _ _ _ (sym c.items-items.ensures.list) c.items-in_default-2.ensures.list refl
       c.in_ok-second-in_default.ensures.thin,
 )
 

@@ -1,5 +1,5 @@
-use Rattle.std.proofs.Common.{◌≡◌, ◌<◌, List, ℕ, length, sym, ◌∙◌, subst, arith}
-use Rattle.std.specs.Prelude.{ℤ}
+use Rattle.std.proofs.Common.{◌≡◌, List, length, sym, subst, arith}
+use Rattle.std.specs.Prelude.{ℤ, false}
 use Rattle.rob_ranges.proofs.SpanLemmas.{behind_of, every_at, front_of}
 use Rattle.rob_expand.specs.Spots.{IsThinAt}
 use Rattle.rob_expand.proofs.AppendLemmas.{both_values, on_ok, one_thin, one_value, spots_none, thin_items}
@@ -8,14 +8,14 @@ use Rattle.rob_expand.proofs.spot.+append_spots.Goals as goal
 pub thin_in-requires : goal.thin_in-requires
 thin_in-requires t c = record {
   kept =
-      front_of (IsThinAt c.args.items.now c.args.kept.now) c.args.settings.now c.split_at.result.0.now
+      front_of (IsThinAt false c.args.items.now c.args.kept.now) c.args.settings.now c.split_at.result.0.now
       c.split_at.result.1.now c.split_at.ensures.by_index.0 c.requires.kept;
 }
 
 pub thin_in-requires-in_default : goal.thin_in-requires-in_default
 thin_in-requires-in_default t c = record {
   kept =
-      behind_of (IsThinAt c.args.items.now c.args.kept.now) c.args.settings.now c.split_at.result.0.now
+      behind_of (IsThinAt false c.args.items.now c.args.kept.now) c.args.settings.now c.split_at.result.0.now
       c.split_at.result.1.now c.split_at.ensures.by_index.0 c.requires.kept;
 }
 
@@ -43,11 +43,11 @@ returns-in-empty t c = record {
 pub returns-in-len1 : goal.returns-in-len1
 returns-in-len1 t c =
     let one : length c.args.settings.now ≡ 1 = omega (arith, c.in-len1.len_at_least, c.in-len1.len_below) in
-    let here : IsThinAt c.args.items.now c.args.kept.now c.setting-item.result =
-    every_at (IsThinAt c.args.items.now c.args.kept.now) c.args.settings.now 0 c.setting-item.result
+    let here : IsThinAt false c.args.items.now c.args.kept.now c.setting-item.result =
+    every_at (IsThinAt false c.args.items.now c.args.kept.now) c.args.settings.now 0 c.setting-item.result
     (omega (arith, one)) c.setting-item.is c.requires.kept in
-    let there : IsThinAt c.args.items.now c.args.kept.now c.items.result.now =
-    subst (λ (vs : List ℤ). IsThinAt c.args.items.now c.args.kept.now vs) (sym c.items.ensures.list) here in
+    let there : IsThinAt false c.args.items.now c.args.kept.now c.items.result.now =
+    subst (λ (vs : List ℤ). IsThinAt false c.args.items.now c.args.kept.now vs) (sym c.items.ensures.list) here in
     record {
       values =
           on_ok c.append_spot.result

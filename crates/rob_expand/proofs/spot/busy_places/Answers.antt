@@ -8,10 +8,10 @@ use Rattle.rob_expand.proofs.spot.busy_places.Goals as goal
 pub loop-k-preserved : goal.loop-k-preserved
 loop-k-preserved c vs within =
     let here = c.loop-k in
-    kept_more c.args.items.now here.places _ c.args.kept.now here.k-index (get_or c.args.kept.now c.loop-k.k-index 0) c.are_quiet-quiet.result vs
+    kept_more c.args.short c.args.items.now here.places _ c.args.kept.now here.k-index (get_or c.args.kept.now c.loop-k.k-index 0) c.are_idle-idle.result vs
     c.loop-k-test.true refl
-    (λ quiet. ap (λ (l : List Item). busy l vs) (sym c.one_at.ensures.one)
-    ∙ c.are_quiet-quiet.ensures.quiet quiet vs within)
+    (λ idle. ap (λ (l : List Item). busy c.args.short l vs) (sym c.one_at.ensures.one)
+    ∙ c.are_idle-idle.ensures.idle idle vs within)
     c.in_ok-push_unless.ensures.pushed (here.invariant vs within)
 
 pub returns : goal.returns
@@ -19,6 +19,6 @@ returns c =
     let here = c.loop-k in
     record {
       busy = λ vs within.
-          kept_all c.args.items.now here.places c.args.kept.now here.k-index vs
+          kept_all c.args.short c.args.items.now here.places c.args.kept.now here.k-index vs
           (left_none c.args.kept.now here.k-index c.loop-k-test.false) (here.invariant vs within);
     }

@@ -7,4 +7,5 @@ use Rattle.rob_expand.proofs.spot.busy_places.Given as goal
 abbrev pub invariant-loop-k : goal.invariant-loop-k
 invariant-loop-k l =
     (vs : List ℤ) → IsIn l.span vs
-    → busy (picks l.items l.places ++ picks l.items (drop l.k-index l.kept)) vs ≡ busy (picks l.items l.kept) vs
+    → busy l.short (picks l.items l.places ++ picks l.items (drop l.k-index l.kept)) vs
+    ≡ busy l.short (picks l.items l.kept) vs

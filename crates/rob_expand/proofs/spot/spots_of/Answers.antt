@@ -1,4 +1,4 @@
-use Rattle.std.proofs.Common.{ℕ, List, ◌++◌, map, sym, ap, ◌∙◌, subst}
+use Rattle.std.proofs.Common.{ℕ, List, false, ◌++◌, map, sym, ap, ◌∙◌, subst}
 use Rattle.rob_ranges.specs.Spans.{Every}
 use Rattle.rob_expand.specs.declared.spot.Spot.{Spot}
 use Rattle.rob_expand.specs.Spots.{IsThin, IsThinAt}
@@ -8,7 +8,7 @@ pub append_spots-requires : goal.append_spots-requires
 append_spots-requires c = record {
   done = subst (λ (l : List Spot). Every (IsThin c.args.items.now) l) (sym c.new-spots.ensures.empty) tt;
   kept =
-      subst (λ (l : List ℕ). Every (IsThinAt c.args.items.now l) c.args.settings.now) (sym c.items.ensures.list)
+      subst (λ (l : List ℕ). Every (IsThinAt false c.args.items.now l) c.args.settings.now) (sym c.items.ensures.list)
       c.in_ok-kept.ensures.thin;
 }
 
