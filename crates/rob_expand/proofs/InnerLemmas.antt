@@ -1,14 +1,15 @@
 -- What the lengths of the ranges of an item tell: where there is no setting, and no range with more than 100 values.
 use Rattle.std.proofs.Common.{◌≡◌, Bool, true, false, List, [], ◌∷◌, ◌++◌}
 use Rattle.std.proofs.Common.{refl, sym, ap, ◌∙◌, subst, Option, Some, None, arith}
-use Rattle.std.specs.Prelude.{ℤ, pos, ◌≤ℤ◌, ◌<ℤ◌, ◌||◌, int_lt, int_le, IfSome}
+use Rattle.std.specs.Prelude.{ℤ, pos, negsuc, ◌*ℤ◌, ◌≤ℤ◌, ◌<ℤ◌, ◌||◌, int_lt, int_le, IfSome, IfOk, Result, Ok, Err}
 use Rattle.std.specs.List.{list_any, flat_map}
 use Rattle.std.specs.Int.{w128}
 use Rattle.std.proofs.lemmas.Int.{ints, to_z-of_z}
 use mir.Val.{SFits, to_z, of_z}
 use Rattle.rob_index.specs.Membership.{Among, here, there}
-use Rattle.rob_index.specs.Forms.{Form, Ends, AreWithin, fixed, value_of, values_of, length_form, without, extensions}
-use Rattle.rob_index.proofs.FormLemmas.{minus_is}
+use Rattle.rob_index.specs.Forms.{Form, Ends, AreWithin, fixed, value_of, values_of, length_form, without, extensions, only, plus_times}
+use Rattle.rob_algebra.specs.Integer.{mul_nonneg}
+use Rattle.rob_index.proofs.FormLemmas.{minus_is, plus_times_is}
 use Rattle.rob_index.proofs.ListLemmas.{values_within}
 use Rattle.rob_index.proofs.NestLemmas.{never_over, lt_from}
 use Rattle.rob_ranges.proofs.DigitLemmas.{lt_no}
@@ -78,6 +79,52 @@ second_short (r ∷ s ∷ rs) vs k h =
     ∙ any_none (λ v. is_long_in (s ∷ rs) (v ∷ vs)) (values_of r vs)
     (λ v m. let n = inner_most r s vs v m in first_short (s ∷ rs) (v ∷ vs) (omega (arith, ints, h, n)))
 
+-- ---- no values at which neither length is below 0
+pub not_below : (a : ℤ) → int_lt a (pos 0) ≡ false → pos 0 ≤ℤ a
+not_below (pos n) h = omega (arith, ints)
+not_below (negsuc n) h = cc
+
+module _ (rs : List Ends) (vs : List ℤ)
+    (apart : pos 0 ≤ℤ value_of (first_length rs) vs → pos 0 ≤ℤ value_of (second_length rs) vs → ⊥) where
+  -- what holds where the one is below 0, and where the other one is
+  one_below : {P : Type 0} → (value_of (first_length rs) vs <ℤ pos 0 → P)
+      → (value_of (second_length rs) vs <ℤ pos 0 → P) → P
+  one_below {P} f g =
+      go (int_lt (value_of (first_length rs) vs) (pos 0)) (int_lt (value_of (second_length rs) vs) (pos 0)) refl refl
+    where
+      go : (b c : Bool) → int_lt (value_of (first_length rs) vs) (pos 0) ≡ b
+          → int_lt (value_of (second_length rs) vs) (pos 0) ≡ c → P
+      go true c p q = f (lt_from (value_of (first_length rs) vs) (pos 0) p)
+      go false true p q = g (lt_from (value_of (second_length rs) vs) (pos 0) q)
+      go false false p q =
+          absurd (apart (not_below (value_of (first_length rs) vs) p) (not_below (value_of (second_length rs) vs) q))
+
+  pub apart_lacks : extensions rs vs ≡ []
+  apart_lacks = one_below (first_lacks rs vs) (second_lacks rs vs)
+
+  pub apart_short : value_of (first_length rs) vs ≤ℤ pos 99 → is_long_in rs vs ≡ false
+  apart_short k = one_below (first_short rs vs) (second_short rs vs k)
+
+-- ---- a sum of both with factors of at least 0
+pub opposite_size : (a : ℤ) → int_lt a (pos 0) ≡ true → pos 0 ≤ℤ (negsuc 0 *ℤ a)
+opposite_size (pos n) h = cc
+opposite_size (negsuc n) h = omega (arith, ints)
+
+pub least_if : {E : Type 0} (r : Result ℤ E) (z : ℤ) → pos 0 ≤ℤ z → IfOk r (λ w. w ≡ z) → IfOk r (λ w. pos 0 ≤ℤ w)
+least_if (Ok w) z h is = subst (λ (y : ℤ). pos 0 ≤ℤ y) (sym is) h
+least_if (Err e) z h is = tt
+
+pub sum_least : (f g sum : Form) (a b : ℤ) (vs : List ℤ) → pos 0 ≤ℤ a → pos 0 ≤ℤ b
+    → sum ≡ plus_times (plus_times (only (pos 0)) a f) b g → pos 0 ≤ℤ value_of f vs → pos 0 ≤ℤ value_of g vs
+    → pos 0 ≤ℤ value_of sum vs
+sum_least f g sum a b vs h k is p q =
+    let m = mul_nonneg a (value_of f vs) h p in
+    let n = mul_nonneg b (value_of g vs) k q in
+    let e = plus_times_is (plus_times (only (pos 0)) a f) b g vs in
+    let d = plus_times_is (only (pos 0)) a f vs in
+    let z : value_of (only (pos 0)) vs ≡ pos 0 = refl in
+    subst (λ (s : Form). pos 0 ≤ℤ value_of s vs) (sym is) (omega (arith, ints, m, n, e, d, z))
+
 -- ---- what the two lengths tell, as they are tested
 module _ (rs : List Ends) (vs : List ℤ) (a b : ℤ) (first : value_of (first_length rs) vs ≡ a)
     (second : value_of (second_length rs) vs ≡ b) where
@@ -94,14 +141,20 @@ module _ (rs : List Ends) (vs : List ℤ) (a b : ℤ) (first : value_of (first_l
   short_second k h = second_short rs vs (omega (arith, ints, first, k)) (omega (arith, ints, second, h))
 
 -- ---- the forms that are kept
-pub kept_are : (rs : List Ends) (f g : Form) (o : Option Lengths) → f ≡ first_length rs → g ≡ second_length rs
+pub kept_are : (rs : List Ends) (f g s : Form) (o : Option Lengths) → f ≡ first_length rs → g ≡ second_length rs
     → IfSome o (λ kept. (vs : List ℤ) → value_of f vs ≡ short_value kept.first vs)
     → IfSome o (λ kept. (vs : List ℤ) → value_of g vs ≡ short_value kept.second vs)
+    → IfSome o (λ kept. (vs : List ℤ) → value_of s vs ≡ short_value kept.combined vs)
+    → ((vs : List ℤ) → pos 0 ≤ℤ value_of f vs → pos 0 ≤ℤ value_of g vs → pos 0 ≤ℤ value_of s vs)
     → IfSome o (λ kept. AreLengths rs kept)
-kept_are rs f g None p q h k = tt
-kept_are rs f g (Some kept) p q h k = record {
+kept_are rs f g s None p q h k m least = tt
+kept_are rs f g s (Some kept) p q h k m least = record {
   first = λ vs. ap (λ (z : Form). value_of z vs) (sym p) ∙ h vs;
   second = λ vs. ap (λ (z : Form). value_of z vs) (sym q) ∙ k vs;
+  combined = λ vs a b.
+      subst (λ (z : ℤ). pos 0 ≤ℤ z) (m vs)
+      (least vs (subst (λ (z : Form). pos 0 ≤ℤ value_of z vs) (sym p) a)
+      (subst (λ (z : Form). pos 0 ≤ℤ value_of z vs) (sym q) b));
 }
 
 -- a number of 128 bits is below 0
@@ -123,9 +176,13 @@ module _ (rs self : List Ends) (o : Option Lengths) (kept : Lengths) (vs : List 
       let f = to_z-of_z w128 most fits in
       omega (arith, ints, h, e, f)
 
-  pub most_second : short_value kept.second vs ≤ℤ most
-      → value_of (second_length self) vs ≤ℤ to_z w128 (of_z w128 most)
-  most_second h =
+  -- a number that is at least 0 where the greatest second length and the greatest sum are
+  pub most_apart : (sum least : ℤ) → SFits w128 least → (pos 0 ≤ℤ most → pos 0 ≤ℤ sum → pos 0 ≤ℤ least)
+      → short_value kept.second vs ≤ℤ most → short_value kept.combined vs ≤ℤ sum
+      → pos 0 ≤ℤ value_of (first_length self) vs → pos 0 ≤ℤ value_of (second_length self) vs
+      → pos 0 ≤ℤ to_z w128 (of_z w128 least)
+  most_apart sum least g lesser h k p q =
       let e = lengths_are.second vs in
-      let f = to_z-of_z w128 most fits in
-      omega (arith, ints, h, e, f)
+      let c = lengths_are.combined vs p q in
+      subst (λ (z : ℤ). pos 0 ≤ℤ z) (sym (to_z-of_z w128 least g))
+      (lesser (omega (arith, ints, h, e, q)) (omega (arith, ints, k, c)))

@@ -1,5 +1,5 @@
 -- What the lengths of the ranges of an item tell, before any value is put in for one of them.
-use Rattle.std.specs.Prelude.{◌≡◌, ℤ, pos, Bool, false, ◌||◌, int_lt, List, [], ◌∷◌, Option, IfSome}
+use Rattle.std.specs.Prelude.{◌≡◌, ◌≤ℤ◌, ℤ, pos, Bool, false, ◌||◌, int_lt, List, [], ◌∷◌, Option, IfSome}
 use Rattle.std.specs.List.{list_any}
 use Rattle.rob_index.specs.Forms.{Form, Ends, value_of, values_of, length_form, without, only}
 use Rattle.rob_ranges.specs.Shorts.{short_value}
@@ -17,10 +17,12 @@ second_length [] = only (pos 0)
 second_length (r ∷ []) = only (pos 0)
 second_length (r ∷ s ∷ rs) = without r (length_form s)
 
--- both lengths are the forms that are kept, where forms are kept
+-- both lengths are the forms that are kept, where forms are kept; and a third form is at least 0 wherever both are
 pub record AreLengths (ranges : List Ends) (kept : Lengths) : Type 0 where
   pub first : (vs : List ℤ) → value_of (first_length ranges) vs ≡ short_value kept.first vs
   pub second : (vs : List ℤ) → value_of (second_length ranges) vs ≡ short_value kept.second vs
+  pub combined : (vs : List ℤ) → pos 0 ≤ℤ value_of (first_length ranges) vs
+      → pos 0 ≤ℤ value_of (second_length ranges) vs → pos 0 ≤ℤ short_value kept.combined vs
 
 -- some range has more than 100 values at some values of those around it
 abbrev pub is_long_in : List Ends → List ℤ → Bool

@@ -45,14 +45,18 @@ impl Model for Inner {
 }
 
 /// The lengths of two ranges, the one inside the other, as forms over the values of the ranges around: that of the
-/// outer one, and the greatest that the inner one has.
+/// outer one, and the greatest that the inner one has. Beside them a sum of both with factors of at least 0, so that it
+/// is below 0 only where one of them is: where one grows with the innermost value and the other one falls, that value
+/// has no factor in the sum. (Elimination by Fourier and Motzkin; Schrijver, Theory of Linear and Integer Programming,
+/// chapter 12.) By hand: of `i = t to 50, j = 51 to t` the lengths are 50 - t and t - 51, and their sum is -1.
 #[derive(Clone, Copy)]
 pub struct Lengths {
     pub first: Short,
     pub second: Short,
+    pub combined: Short,
 }
 
-/// The values of such lengths.
+/// The values of such lengths, or numbers that tell of them in many settings.
 #[derive(Clone, Copy)]
 struct Sizes {
     first: i128,
@@ -160,18 +164,32 @@ impl Inner {
         Some(Sizes { first, second })
     }
 
-    /// The lengths that are nowhere passed in a span, where they have few bits.
+    /// The length that the first range nowhere passes in a span, where the lengths have few bits, and a number that is
+    /// below 0 only if one of both is at each place there.
     fn sizes_in(&self, span: Span) -> Option<Sizes>
         ensures first { IfSome result (λ sizes. (vs : Items ℤ) → IsIn span vs
             → value_of (spec.first_length self.now) vs ≤ℤ sizes.first) }
-        ensures second { IfSome result (λ sizes. (vs : Items ℤ) → IsIn span vs
-            → value_of (spec.second_length self.now) vs ≤ℤ sizes.second) }
+        ensures apart { IfSome result (λ sizes. (vs : Items ℤ) → IsIn span vs
+            → pos 0 ≤ℤ value_of (spec.first_length self.now) vs → pos 0 ≤ℤ value_of (spec.second_length self.now) vs
+            → pos 0 ≤ℤ sizes.second) }
     {
         let lengths = self.lengths?;
         let first = span.most(lengths.first);
         let second = span.most(lengths.second);
-        Some(Sizes { first, second })
+        let combined = span.most(lengths.combined);
+        let apart = lesser(second, combined);
+        Some(Sizes {
+            first,
+            second: apart,
+        })
     }
+}
+
+/// The lesser of two numbers.
+fn lesser(a: i128, b: i128) -> i128
+    ensures lesser { pos 0 ≤ℤ a → pos 0 ≤ℤ b → pos 0 ≤ℤ result }
+{
+    if a <= b { a } else { b }
 }
 
 /// The lengths of the first two ranges, where these have few bits.
@@ -180,17 +198,61 @@ fn lengths_of(alloc: Global, ranges: &[Ends]) -> Result<Option<Lengths>, Memory>
 {
     let first = first_length(alloc, ranges)?;
     let second = second_length(alloc, ranges)?;
-    Ok(both(&first, &second))
+    let combined = combination(alloc, &first, &second)?;
+    Ok(all_short(&first, &second, &combined))
 }
 
-/// Two forms with few bits.
-fn both(first: &Form, second: &Form) -> Option<Lengths>
+/// A sum of two forms with factors of at least 0: that of each is as great as the other one's factor of the innermost
+/// value, so that this value has none in the sum where one of them grows with it and the other one falls.
+fn combination(alloc: Global, first: &Form, second: &Form) -> Result<Form, Memory>
+    ensures combined { IfOk result (λ form. (vs : Items ℤ) → pos 0 ≤ℤ value_of first.now vs
+        → pos 0 ≤ℤ value_of second.now vs → pos 0 ≤ℤ value_of form vs) }
+{
+    let mut sum = nothing(alloc);
+    let a = weight(alloc, second)?;
+    sum.add(alloc, &a, first)?;
+    let b = weight(alloc, first)?;
+    sum.add(alloc, &b, second)?;
+    Ok(sum)
+}
+
+/// The factor of the innermost value, without its sign.
+fn weight(alloc: Global, form: &Form) -> Result<Whole, Memory>
+    ensures weight { IfOk result (λ weight. pos 0 ≤ℤ weight) }
+{
+    match form.factors() {
+        [] => Ok(Whole::small(alloc, 0)),
+        [factor, ..] => size(alloc, factor),
+    }
+}
+
+/// The number without its sign.
+fn size(alloc: Global, number: &Whole) -> Result<Whole, Memory>
+    ensures size { IfOk result (λ size. pos 0 ≤ℤ size) }
+{
+    if number.is_negative() {
+        let minus_one = Whole::small(alloc, -1);
+        minus_one.times(alloc, number)
+    } else {
+        number.copy(alloc)
+    }
+}
+
+/// Three forms with few bits.
+fn all_short(first: &Form, second: &Form, combined: &Form) -> Option<Lengths>
     ensures first { IfSome result (λ kept. (vs : Items ℤ) → value_of first.now vs ≡ short_value kept.first vs) }
     ensures second { IfSome result (λ kept. (vs : Items ℤ) → value_of second.now vs ≡ short_value kept.second vs) }
+    ensures combined { IfSome result (λ kept. (vs : Items ℤ)
+        → value_of combined.now vs ≡ short_value kept.combined vs) }
 {
     let first = short_of(first)?;
     let second = short_of(second)?;
-    Some(Lengths { first, second })
+    let combined = short_of(combined)?;
+    Some(Lengths {
+        first,
+        second,
+        combined,
+    })
 }
 
 /// The length of the first range, or 0.

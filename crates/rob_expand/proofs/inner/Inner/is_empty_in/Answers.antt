@@ -2,7 +2,7 @@ use Rattle.std.proofs.Common.{arith, rules}
 use Rattle.std.specs.Int.{w128}
 use mir.Val.{SFits}
 use Rattle.std.proofs.lemmas.Int.{ints}
-use Rattle.rob_expand.proofs.InnerLemmas.{first_lacks, second_lacks, seen_below}
+use Rattle.rob_expand.proofs.InnerLemmas.{apart_lacks, first_lacks, seen_below}
 use Rattle.rob_expand.proofs.inner.Inner.is_empty_in.Goals as goal
 
 pub returns-then-sizes-lt-SHORTEST : goal.returns-then-sizes-lt-SHORTEST
@@ -18,7 +18,7 @@ pub returns-else-sizes-lt-SHORTEST : goal.returns-else-sizes-lt-SHORTEST
 returns-else-sizes-lt-SHORTEST c = record {
   empty = λ t vs within.
       let f : SFits w128 c.in-Some.sizes.second = search rules in
-      let most = c.in-Some.ensures.second vs within in
       let below = seen_below c.in-Some.sizes.second f t in
-      second_lacks c.args.self.now vs (omega (arith, ints, most, below));
+      apart_lacks c.args.self.now vs
+      (λ p q. let least = c.in-Some.ensures.apart vs within p q in absurd (omega (arith, ints, least, below)));
 }

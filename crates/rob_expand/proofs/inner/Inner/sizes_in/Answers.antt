@@ -1,7 +1,7 @@
 use Rattle.std.proofs.Common.{rules}
 use Rattle.std.specs.Int.{w128}
 use mir.Val.{SFits}
-use Rattle.rob_expand.proofs.InnerLemmas.{most_first, most_second}
+use Rattle.rob_expand.proofs.InnerLemmas.{most_first, most_apart}
 use Rattle.rob_expand.proofs.inner.Inner.sizes_in.Goals as goal
 
 pub returns-clause-first : goal.returns-clause-first
@@ -10,8 +10,11 @@ returns-clause-first c vs within =
     most_first c.self.inside.ranges c.args.self.now c.self.inside.lengths c.in_ok-lengths.lengths vs
     c.most-first.result c.in_ok-lengths.was c.self.view_is c.self.invariant f (c.most-first.ensures.most vs within)
 
-pub returns-clause-second : goal.returns-clause-second
-returns-clause-second c vs within =
+pub returns-clause-apart : goal.returns-clause-apart
+returns-clause-apart c vs within =
     let f : SFits w128 c.most-second.result = search rules in
-    most_second c.self.inside.ranges c.args.self.now c.self.inside.lengths c.in_ok-lengths.lengths vs
-    c.most-second.result c.in_ok-lengths.was c.self.view_is c.self.invariant f (c.most-second.ensures.most vs within)
+    let g : SFits w128 c.lesser-apart.result = search rules in
+    most_apart c.self.inside.ranges c.args.self.now c.self.inside.lengths c.in_ok-lengths.lengths vs
+    c.most-second.result c.in_ok-lengths.was c.self.view_is c.self.invariant f c.most-combined.result
+    c.lesser-apart.result g c.lesser-apart.ensures.lesser (c.most-second.ensures.most vs within)
+    (c.most-combined.ensures.most vs within)

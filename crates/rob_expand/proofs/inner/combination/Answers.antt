@@ -1,0 +1,15 @@
+use Rattle.std.proofs.Common.{ap, ◌∙◌}
+use Rattle.rob_index.specs.Forms.{Form, plus_times}
+use Rattle.rob_expand.proofs.InnerLemmas.{sum_least}
+use Rattle.rob_expand.proofs.inner.combination.Goals as goal
+
+pub returns : goal.returns
+returns c = record {
+  combined = λ vs.
+      sum_least c.args.first.now c.args.second.now _ c.in_ok-a.a c.in_ok-b.b vs c.in_ok-a.ensures.weight
+      c.in_ok-b.ensures.weight
+      (c.in_ok-add-2.ensures.sum
+      ∙ ap (λ (f : Form). plus_times f c.in_ok-b.b c.args.second.now)
+      (c.in_ok-add.ensures.sum
+      ∙ ap (λ (f : Form). plus_times f c.in_ok-a.a c.args.first.now) c.nothing-sum.ensures.nothing));
+}
