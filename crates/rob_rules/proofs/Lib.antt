@@ -13,6 +13,7 @@ pub mod LinkLemmas
 pub mod ShapeLemmas
 pub mod JoinLemmas
 pub mod IndicesLemmas
+pub mod ShownLemmas
 pub mod LowestLemmas
 pub mod PaddedLemmas
 pub mod CountLemmas

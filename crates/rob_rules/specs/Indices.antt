@@ -1,5 +1,5 @@
 -- The rules of indices as the code names them.
-use Rattle.std.specs.Prelude.{List, Option, Some, None, if◌then◌else◌}
+use Rattle.std.specs.Prelude.{Bool, List, Option, Some, None, if◌then◌else◌}
 use Rattle.std.specs.List.{list_any}
 use Rattle.rob_index.specs.Statements.{Name, Tree, Indexed}
 use Rattle.rob_index.specs.Expansion.{expand}
@@ -14,6 +14,10 @@ seen_fault code.Unknown = index.index_unknown
 seen_fault code.TooLong = index.range_too_long
 seen_fault code.Out = index.index_out
 seen_fault code.TooMuch = index.too_much
+
+-- the fault of a line with a range that is too long, where a name is unknown or none is
+abbrev pub long_fault : Bool → index.IndexFault
+long_fault unknown = if unknown then index.index_unknown else index.range_too_long
 
 -- what is left to be judged where no other rule of indices is broken: what goes by the plain statements
 abbrev pub late_fault : List Name → Indexed Tree → Option index.IndexFault

@@ -1,12 +1,16 @@
-//! Which rule of indices a line breaks, as it is named: first whether what it stands for fits, then place by place.
+//! Which rule of indices a line breaks, as it is named: first what the ends of its ranges show, then whether what it
+//! stands for fits, then place by place. A line with `for s = 1 to 3900` is refused for it whether it fits or not, and
+//! nothing is counted.
 
 ghost use Rattle.std.specs.Prelude.{◌≡◌, ℕ, ◌≤◌, List, IfOk, MatchOption, Some};
-ghost use Rattle.rob_index.specs.Rules.{most_tokens, rule_of};
-ghost use Rattle.rob_index.specs.Search.{named, named_crowded};
+ghost use Rattle.rob_index.specs.Rules.{most_tokens, places, rule_of};
+ghost use Rattle.rob_index.specs.Search.{named, named_crowded, search_places};
+ghost use Rattle.rob_index.specs.Search as spec;
 ghost use Rattle.rob_index.specs.Statements.{Name};
 ghost use Rattle.rob_places.specs.Tests.{is_set};
 ghost use Rattle.rob_syntax.specs.Seen.{seen_statement};
 ghost use Rattle.rob_rules.specs.Indices.{seen_fault, late_fault};
+ghost use Rattle.rob_rules.specs.Indices as rules;
 
 use rob_expand::{has_room, judge};
 use rob_number::Memory;
@@ -62,6 +66,11 @@ pub fn judge_indices(
         ≡ late_fault words (seen_statement statement.now))
         (λ f. named limit words (is_set declared.now) total (seen_statement statement.now) ≡ Some (seen_fault f))) }
 {
+    let shown = shows_long(alloc, statement)?;
+    if shown {
+        let early = some_unknown(alloc, declared, statement)?;
+        return Ok(Some(long_fault(early)));
+    }
     let fits = has_room(alloc, limit, statement, MOST_TOKENS - total)?;
     if !fits {
         let fault = judge_crowded(alloc, declared, statement)?;
@@ -83,6 +92,27 @@ pub fn judge_indices(
         return Ok(Some(IndexFault::Out));
     }
     Ok(None)
+}
+
+/// Whether the ends of the ranges alone show that some range has more than 100 values: where nothing may be spent, no
+/// value is put in.
+fn shows_long(alloc: Global, statement: &Indexed) -> Result<bool, Memory>
+    ensures shown { IfOk result (λ shown.
+        shown ≡ (search_places spec.search_long (places (seen_statement statement.now)) 0).found) }
+{
+    let mut left = 0;
+    search_long(alloc, statement, &mut left)
+}
+
+/// The fault of a line with a range that is too long, where a name is unknown or none is.
+fn long_fault(unknown: bool) -> IndexFault
+    ensures fault { seen_fault result ≡ rules.long_fault unknown }
+{
+    if unknown {
+        IndexFault::Unknown
+    } else {
+        IndexFault::TooLong
+    }
 }
 
 /// The rule of indices that is named of a line that is too much.

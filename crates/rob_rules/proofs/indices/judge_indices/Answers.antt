@@ -1,8 +1,22 @@
-use Rattle.std.proofs.Common.{sym, ◌∙◌}
+use Rattle.std.proofs.Common.{Bool, Some, ap, sym, ◌∙◌}
+use Rattle.rob_index.specs.Rules.{IndexFault}
 use Rattle.rob_places.specs.Tests.{is_set}
 use Rattle.rob_syntax.specs.Seen.{seen_statement}
+use Rattle.rob_rules.specs.Indices.{long_fault}
 use Rattle.rob_rules.proofs.IndicesLemmas.{no_room, first_long, first_great, first_out, none_first, room_left}
+use Rattle.rob_rules.proofs.ShownLemmas.{shown_named}
 use Rattle.rob_rules.proofs.indices.judge_indices.Goals as goal
+
+pub returns-then-shown : goal.returns-then-shown
+returns-then-shown c =
+    let s = seen_statement c.args.statement.now in
+    let declared = is_set c.args.declared.now in
+    record {
+      named = λ words.
+          shown_named c.args.limit words declared c.args.total s (sym c.in_ok-shown.ensures.shown ∙ c.if-shown.true)
+          ∙ ap (λ (b : Bool). Some (long_fault b)) (sym c.in_ok-early.ensures.found)
+          ∙ ap (λ (f : IndexFault). Some f) (sym c.long_fault.ensures.fault);
+    }
 
 pub returns-then-not-fits : goal.returns-then-not-fits
 returns-then-not-fits c =
