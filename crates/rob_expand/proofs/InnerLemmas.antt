@@ -1,7 +1,7 @@
 -- What the lengths of the ranges of an item tell: where there is no setting, and no range with more than 100 values.
 use Rattle.std.proofs.Common.{◌≡◌, Bool, true, false, List, [], ◌∷◌, ◌++◌}
 use Rattle.std.proofs.Common.{refl, sym, ap, ◌∙◌, subst, Option, Some, None, arith}
-use Rattle.std.specs.Prelude.{ℤ, pos, negsuc, ◌*ℤ◌, ◌≤ℤ◌, ◌<ℤ◌, ◌||◌, int_lt, int_le, IfSome, IfOk, Result, Ok, Err}
+use Rattle.std.specs.Prelude.{ℤ, pos, negsuc, ◌+ℤ◌, ◌*ℤ◌, ◌≤ℤ◌, ◌<ℤ◌, ◌||◌, int_lt, int_le, IfSome, IfOk, Result, Ok, Err}
 use Rattle.std.specs.List.{list_any, flat_map}
 use Rattle.std.specs.Int.{w128}
 use Rattle.std.proofs.lemmas.Int.{ints, to_z-of_z}
@@ -14,7 +14,9 @@ use Rattle.rob_index.proofs.ListLemmas.{values_within}
 use Rattle.rob_index.proofs.NestLemmas.{never_over, lt_from}
 use Rattle.rob_ranges.proofs.DigitLemmas.{lt_no}
 use Rattle.rob_ranges.proofs.NestLemmas.{greatest_fixed, run_over}
-use Rattle.rob_ranges.specs.Shorts.{short_value}
+use Rattle.rob_ranges.specs.declared.short.Short.{Short}
+use Rattle.rob_ranges.specs.DigitLists.{wide_of}
+use Rattle.rob_ranges.specs.Shorts.{first_of, second_of, short_value}
 use Rattle.rob_expand.specs.declared.inner.Lengths.{Lengths}
 use Rattle.rob_expand.specs.Inner.{AreLengths, first_length, second_length, is_long_in}
 
@@ -107,7 +109,7 @@ module _ (rs : List Ends) (vs : List ℤ)
 
 -- ---- a sum of both with factors of at least 0
 pub opposite_size : (a : ℤ) → int_lt a (pos 0) ≡ true → pos 0 ≤ℤ (negsuc 0 *ℤ a)
-opposite_size (pos n) h = cc
+opposite_size (pos n) h = let l = lt_from (pos n) (pos 0) h in absurd (omega (arith, ints, l))
 opposite_size (negsuc n) h = omega (arith, ints)
 
 pub least_if : {E : Type 0} (r : Result ℤ E) (z : ℤ) → pos 0 ≤ℤ z → IfOk r (λ w. w ≡ z) → IfOk r (λ w. pos 0 ≤ℤ w)
@@ -162,27 +164,51 @@ pub seen_below : (z : ℤ) → SFits w128 z → int_lt (to_z w128 (of_z w128 z))
 seen_below z f t =
     subst (λ (y : ℤ). y <ℤ pos 0) (to_z-of_z w128 z f) (lt_from (to_z w128 (of_z w128 z)) (pos 0) t)
 
--- what no length passes
-module _ (rs self : List Ends) (o : Option Lengths) (kept : Lengths) (vs : List ℤ) (most : ℤ) (is : o ≡ Some kept)
-    (view : rs ≡ self) (told : IfSome o (λ k. AreLengths rs k)) (fits : SFits w128 most) where
+-- the form's value, from the two innermost values
+at_values : (z : ℤ) (form : Short) (vs : List ℤ) (p q value : ℤ) → z ≡ short_value form vs → p ≡ first_of vs
+    → q ≡ second_of vs → value ≡ (wide_of form.constant +ℤ (form.first *ℤ p)) +ℤ (form.second *ℤ q)
+    → SFits w128 value → z ≡ to_z w128 (of_z w128 value)
+at_values z form vs p q value is e f made fits =
+    is ∙ (λ i. (wide_of form.constant +ℤ (form.first *ℤ sym e i)) +ℤ (form.second *ℤ sym f i)) ∙ sym made
+    ∙ sym (to_z-of_z w128 value fits)
+
+module _ (rs self : List Ends) (o : Option Lengths) (kept : Lengths) (vs : List ℤ) (is : o ≡ Some kept)
+    (view : rs ≡ self) (told : IfSome o (λ k. AreLengths rs k)) where
   lengths_are : AreLengths self kept
   lengths_are =
       subst (λ (l : List Ends). AreLengths l kept) view
       (subst (λ (p : Option Lengths). IfSome p (λ k. AreLengths rs k)) is told)
 
-  pub most_first : short_value kept.first vs ≤ℤ most → value_of (first_length self) vs ≤ℤ to_z w128 (of_z w128 most)
-  most_first h =
+  -- the lengths at some values
+  module _ (p q value : ℤ) (e : p ≡ first_of vs) (f : q ≡ second_of vs) (fits : SFits w128 value) where
+    pub at_first : value ≡ (wide_of kept.first.constant +ℤ (kept.first.first *ℤ p)) +ℤ (kept.first.second *ℤ q)
+        → value_of (first_length self) vs ≡ to_z w128 (of_z w128 value)
+    at_first made =
+        at_values (value_of (first_length self) vs) kept.first vs p q value (lengths_are.first vs) e f made fits
+
+    pub at_second : value ≡ (wide_of kept.second.constant +ℤ (kept.second.first *ℤ p)) +ℤ (kept.second.second *ℤ q)
+        → value_of (second_length self) vs ≡ to_z w128 (of_z w128 value)
+    at_second made =
+        at_values (value_of (second_length self) vs) kept.second vs p q value (lengths_are.second vs) e f made fits
+
+  -- what no length passes
+  pub most_first : (most : ℤ) → SFits w128 most → short_value kept.first vs ≤ℤ most
+      → value_of (first_length self) vs ≤ℤ to_z w128 (of_z w128 most)
+  most_first most fits h =
       let e = lengths_are.first vs in
       let f = to_z-of_z w128 most fits in
       omega (arith, ints, h, e, f)
 
   -- a number that is at least 0 where the greatest second length and the greatest sum are
-  pub most_apart : (sum least : ℤ) → SFits w128 least → (pos 0 ≤ℤ most → pos 0 ≤ℤ sum → pos 0 ≤ℤ least)
+  pub most_apart : (most sum least : ℤ) → SFits w128 most → SFits w128 sum → SFits w128 least
+      → (pos 0 ≤ℤ to_z w128 (of_z w128 most) → pos 0 ≤ℤ to_z w128 (of_z w128 sum) → pos 0 ≤ℤ least)
       → short_value kept.second vs ≤ℤ most → short_value kept.combined vs ≤ℤ sum
       → pos 0 ≤ℤ value_of (first_length self) vs → pos 0 ≤ℤ value_of (second_length self) vs
       → pos 0 ≤ℤ to_z w128 (of_z w128 least)
-  most_apart sum least g lesser h k p q =
+  most_apart most sum least f s g lesser h k p q =
       let e = lengths_are.second vs in
       let c = lengths_are.combined vs p q in
+      let m = to_z-of_z w128 most f in
+      let n = to_z-of_z w128 sum s in
       subst (λ (z : ℤ). pos 0 ≤ℤ z) (sym (to_z-of_z w128 least g))
-      (lesser (omega (arith, ints, h, e, q)) (omega (arith, ints, k, c)))
+      (lesser (omega (arith, ints, h, e, q, m)) (omega (arith, ints, k, c, n)))

@@ -62,12 +62,12 @@ returns-in-len1 t c =
           c.items.ensures.list c.judge_line.ensures.found;
     }
 
-pub returns-then-is_too_long-in_default : goal.returns-then-is_too_long-in_default
-returns-then-is_too_long-in_default t c = record {
+pub returns-then-is_too_long : goal.returns-then-is_too_long
+returns-then-is_too_long t c = record {
   found =
       found_first (line_found c.args.line.now) c.args.settings.now c.split_at.result.0.now c.split_at.result.1.now
       c.split_at.ensures.by_index.0 c.in_ok-found-in_default.found c.in_ok-found-in_default.ensures.found
-      (sym c.is_too_long.ensures.is ∙ c.if-is_too_long-in_default.true);
+      (sym c.is_too_long.ensures.is ∙ c.if-is_too_long.true);
 }
 
 pub returns-in_ok-here-in_default : goal.returns-in_ok-here-in_default
