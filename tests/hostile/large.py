@@ -70,6 +70,12 @@ def indexed():
     yield "sums of two values", filled(row, b"sum(i=1 to 2:x)", b" + ", end), (0, b"form")
     yield "a row for each of 2,800 settings", INDEXED + b"row r[i, j]: x >= 1 for i = 1 to 28, j = 1 to 100\n", (
         23, b"fault: model 22 line 5\n")
+    policy, settings = INDEXED + b"adaptive y[s,t](", b") for s=1 to 39,t=1 to 100\n"
+    yield "entries in 3,900 settings", filled(policy, b"d", b",", settings), too_much
+    yield "entries that are in no setting", filled(policy, b"d for i=t to 50,j=51 to t", b",", settings), (
+        23, b"fault: model 22 line 5\n")
+    yield "entries with 101 values", filled(policy, b"d for i=1 to 101,j=1 to 0", b",", settings), (
+        23, b"fault: model 26 line 5\n")
     yield "lines for no setting", filled(INDEXED, b"var y[i,j] for i=1 to 100,j=i to 0", b"\n", b"\n"), (0, b"form")
     yield "an index of digits", row + b"x[" + b"9" * 65_400 + b"]" + end, (23, b"fault: model 27 line 5\n")
     yield "an index of many atoms", filled(row + b"x[", b"0", b"+", b"]" + end), unknown
