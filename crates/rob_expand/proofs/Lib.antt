@@ -25,3 +25,4 @@ pub mod PassingLemmas
 pub mod InnerLemmas
 pub mod SpotLemmas
 pub mod AppendLemmas
+pub mod RoundingLemmas

@@ -5,6 +5,7 @@ pub mod Standing
 pub mod Count
 pub mod Live
 pub mod Settings
+pub mod Rests
 pub mod Inner
 pub mod Lines
 pub mod Statements

@@ -10,6 +10,7 @@ ghost use Rattle.rob_expand.specs.Inner as spec;
 ghost use Rattle.rob_expand.specs.Room.{left_of, HasStop};
 
 use crate::room::Stop;
+use crate::rounding::lowered;
 use crate::settings::{Setting, all_settings, settings_of};
 use rob_number::{List, Memory};
 use rob_ranges::short::{Short, pair_of, short_of};
@@ -48,7 +49,8 @@ impl Model for Inner {
 /// outer one, and the greatest that the inner one has. Beside them a sum of both with factors of at least 0, so that it
 /// is below 0 only where one of them is: where one grows with the innermost value and the other one falls, that value
 /// has no factor in the sum. (Elimination by Fourier and Motzkin; Schrijver, Theory of Linear and Integer Programming,
-/// chapter 12.) By hand: of `i = t to 50, j = 51 to t` the lengths are 50 - t and t - 51, and their sum is -1.
+/// chapter 12.) By hand: of `i = t to 50, j = 51 to t` the lengths are 50 - t and t - 51, and their sum is -1. Of
+/// `i = t + t to 101, j = 101 to t + t` they are lowered to 100 - 2 t and 2 t - 102 first.
 #[derive(Clone, Copy)]
 pub struct Lengths {
     pub first: Short,
@@ -202,17 +204,19 @@ fn lengths_of(alloc: Global, ranges: &[Ends]) -> Result<Option<Lengths>, Memory>
     Ok(all_short(&first, &second, &combined))
 }
 
-/// A sum of two forms with factors of at least 0: that of each is as great as the other one's factor of the innermost
-/// value, so that this value has none in the sum where one of them grows with it and the other one falls.
+/// A sum of two forms, lowered, with factors of at least 0: that of each is as great as the other one's factor of the
+/// innermost value, so that this value has none in the sum where one of them grows with it and the other one falls.
 fn combination(alloc: Global, first: &Form, second: &Form) -> Result<Form, Memory>
     ensures combined { IfOk result (λ form. (vs : Items ℤ) → pos 0 ≤ℤ value_of first.now vs
         → pos 0 ≤ℤ value_of second.now vs → pos 0 ≤ℤ value_of form vs) }
 {
+    let one = lowered(alloc, first)?;
+    let other = lowered(alloc, second)?;
     let mut sum = nothing(alloc);
     let a = weight(alloc, second)?;
-    sum.add(alloc, &a, first)?;
+    sum.add(alloc, &a, &one)?;
     let b = weight(alloc, first)?;
-    sum.add(alloc, &b, second)?;
+    sum.add(alloc, &b, &other)?;
     Ok(sum)
 }
 

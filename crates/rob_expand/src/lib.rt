@@ -19,6 +19,7 @@ mod name;
 mod place;
 mod placed;
 mod room;
+mod rounding;
 mod setting;
 mod settings;
 mod spot;

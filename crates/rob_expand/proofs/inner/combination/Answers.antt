@@ -5,11 +5,12 @@ use Rattle.rob_expand.proofs.inner.combination.Goals as goal
 
 pub returns : goal.returns
 returns c = record {
-  combined = λ vs.
-      sum_least c.args.first.now c.args.second.now _ c.in_ok-a.a c.in_ok-b.b vs c.in_ok-a.ensures.weight
+  combined = λ vs p q.
+      sum_least c.in_ok-one.one c.in_ok-other.other _ c.in_ok-a.a c.in_ok-b.b vs c.in_ok-a.ensures.weight
       c.in_ok-b.ensures.weight
       (c.in_ok-add-2.ensures.sum
-      ∙ ap (λ (f : Form). plus_times f c.in_ok-b.b c.args.second.now)
+      ∙ ap (λ (f : Form). plus_times f c.in_ok-b.b c.in_ok-other.other)
       (c.in_ok-add.ensures.sum
-      ∙ ap (λ (f : Form). plus_times f c.in_ok-a.a c.args.first.now) c.nothing-sum.ensures.nothing));
+      ∙ ap (λ (f : Form). plus_times f c.in_ok-a.a c.in_ok-one.one) c.nothing-sum.ensures.nothing))
+      (c.in_ok-one.ensures.lowered vs p) (c.in_ok-other.ensures.lowered vs q);
 }
