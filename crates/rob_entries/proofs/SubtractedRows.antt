@@ -1,15 +1,13 @@
 -- A row from which another one is taken off, in the places of a list.
 use Rattle.std.proofs.Common.{◌≡◌, ◌≢◌, ◌⊎◌, ℕ, zero, suc, ◌+◌, ◌<◌, sym, ap, ◌∙◌, subst, arith, inl, inr, List, length, get_or, set, map}
 use Rattle.std.proofs.lemmas.Bool.{cases_eq}
-use Rattle.std.proofs.lemmas.Int.{ints, by_lt_z}
+use Rattle.std.proofs.lemmas.Int.{ints}
 use lib.IntN.{ℤ, pos, ◌*ℤ◌, ◌-ℤ◌}
 use Rattle.rob_algebra.specs.Integer.{mul-zero}
 use Rattle.rob_linear.specs.Vectors.{Vector, at}
+use Rattle.rob_linear.proofs.Square.{cases_zero}
 use Rattle.rob_entries.specs.Updates.{AreListed}
 use Rattle.rob_entries.proofs.MappedRows.{number_here, number_other}
-
-cases_zero : (z : ℤ) → (z ≡ pos 0) ⊎ (z ≢ pos 0)
-cases_zero z = by_lt_z z (pos 0) (λ h. inr (λ e. omega (arith, ints))) (λ h. by_lt_z (pos 0) z (λ k. inr (λ e. omega (arith, ints))) (λ k. inl (omega (arith, ints))))
 
 -- whether a number is in a list, up to an index
 listed_before : (places : List ℕ) (k n : ℕ) → ((j : ℕ) × (j < n) × (k ≡ get_or places j 0)) ⊎ ((j : ℕ) → j < n → k ≢ get_or places j 0)

@@ -7,7 +7,7 @@ use lib.IntN.{ℤ, pos, nat_abs}
 use Rattle.rob_linear.specs.Vectors.{at}
 use Rattle.rob_rows.specs.PrimitiveParts.{IsWithin}
 
-take_all : {X : Type 0} (xs ys : List X) → take (length xs) (xs ++ ys) ≡ xs
+pub take_all : {X : Type 0} (xs ys : List X) → take (length xs) (xs ++ ys) ≡ xs
 take_all [] ys = refl
 take_all (x ∷ xs) ys = ap (λ t. x ∷ t) (take_all xs ys)
 

@@ -1,4 +1,4 @@
-// The numbers of rows, one row behind another. A row of a given width begins at its start.
+//! The numbers of rows, one row behind another. A row of a given width begins at its start.
 
 ghost use Rattle.std.specs.Prelude.{◌≡◌, ◌≢◌, ◌⊎◌, ℕ, ℤ, ◌<◌, ◌≤◌, ◌+◌, ◌-◌, ◌^◌, ◌*ℤ◌, ◌<ℤ◌, pos, neg_ℤ, nat_abs, set, take, drop, length, slice_index_or, IfOk, OnErr};
 ghost use Rattle.rob_linear.specs.Vectors.{at};
@@ -209,7 +209,7 @@ impl<E: Entry> Cells<E> {
     }
 }
 
-// An entry of 62 bits as one of another type.
+/// An entry of 62 bits as one of another type.
 fn deeper<F: Entry, E: Entry>(entry: F) -> E
     requires short { nat_abs (F.value entry) < 2 ^ 62 }
     ensures value { E.value result ≡ F.value entry }

@@ -1,8 +1,8 @@
-// Rows that another row clears of one entry, up to positive factors: the row operation of a pivot where rows need not
-// be in lowest terms. (Edmonds 1967.)
-//     row  becomes  p * row - q * top,  with p * row[place] = q * top[place] and p above 0
-// A number that bounds the entries of each row shows where the entries' type suffices. Else the row is put in lowest
-// terms.
+//! Rows that another row clears of one entry, up to positive factors: the row operation of a pivot where rows need not
+//! be in lowest terms. (Edmonds 1967.)
+//!     row  becomes  p * row - q * top,  with p * row[place] = q * top[place] and p above 0
+//! A number that bounds the entries of each row shows where the entries' type suffices. Else the row is put in lowest
+//! terms.
 
 ghost use Rattle.std.specs.Prelude.{◌≡◌, ◌≢◌, ℕ, ◌<◌, ◌≤◌, ◌-◌, ◌*ℤ◌, ◌-ℤ◌, ◌<ℤ◌, pos, nat_abs, map, length, take, IfOk, OnOk, OnErr};
 ghost use Rattle.rob_algebra.specs.Gcd.{gcd};
@@ -75,7 +75,7 @@ impl<E: Entry> PivotRow<E> {
         self.bound = E::largest(self.entries.as_slice());
     }
 
-    // The row, p times, less q times this one.
+    /// The row, p times, less q times this one.
     fn apply(&self, row: &mut [E], p: E, q: E)
         requires length { length row.old ≡ length self.now.entries }
         requires positive { pos 0 <ℤ E.value p }
@@ -96,7 +96,7 @@ impl<E: Entry> PivotRow<E> {
         }
     }
 
-    // The same in lowest terms, whatever sizes the products have.
+    /// The same in lowest terms, whatever sizes the products have.
     fn apply_lowest(&mut self, row: &mut [E], p: E, q: E, limit: u128) -> Result<u128, Wide>
         requires length { length row.old ≡ length self.old.entries }
         requires limit { limit ≤ E.top }
@@ -161,7 +161,7 @@ impl<E: Entry> PivotRow<E> {
     }
 }
 
-// Lists the places where the row is not 0 at the front of `places`, and tells how many there are.
+/// Lists the places where the row is not 0 at the front of `places`, and tells how many there are.
 fn list_places<E: Entry>(row: &[E], places: &mut [usize]) -> usize
     requires room { length places.old ≡ length row.now }
     ensures few { result ≤ length places.new }

@@ -1,4 +1,4 @@
-// The entries of rows: whole numbers of one type, up to a size that the type allows.
+//! The entries of rows: whole numbers of one type, up to a size that the type allows.
 
 ghost use Rattle.std.specs.Prelude.{◌≡◌, ◌≢◌, ◌+◌, ◌-◌, ◌*◌, ◌^◌, ◌<◌, ◌≤◌, ◌↔◌, ◌*ℤ◌, ◌-ℤ◌, ◌<ℤ◌, ℕ, ℤ, pos, neg_ℤ, nat_abs, map, length, Any, IsTrue, IfSome, IfNone, OnOk, OnErr};
 ghost use Rattle.std.specs.Ordering.{MatchOrdering, int_cmp};

@@ -1,4 +1,4 @@
-// Numbers of 128 bits as the entries of rows: each call is one of rows of such numbers.
+//! Numbers of 128 bits as the entries of rows: each call is one of rows of such numbers.
 
 use crate::entry::Entry;
 use rob_deep::Factors;

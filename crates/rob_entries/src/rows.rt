@@ -1,4 +1,4 @@
-// One row of entries: its signs turned round, and the lowest column where it is negative.
+//! One row of entries: its signs turned round, and the lowest column where it is negative.
 
 ghost use Rattle.std.specs.Prelude.{◌≡◌, ℕ, ◌<◌, ◌≤◌, ◌≤ℤ◌, ◌<ℤ◌, pos, neg_ℤ, map, min, length, slice_index_or};
 ghost use Rattle.rob_linear.specs.Vectors.{at};
@@ -18,7 +18,7 @@ pub fn negate<E: Entry>(row: &mut [E], bound: u128)
     }
 }
 
-// The column, where the entry is negative and the column comes before the best one so far; else that one.
+/// The column, where the entry is negative and the column comes before the best one so far; else that one.
 fn lower<E: Entry>(best: usize, entry: E, column: usize) -> usize
     ensures stays { (pos 0 ≤ℤ E.value entry) → result ≡ best }
     ensures lower { (E.value entry <ℤ pos 0) → result ≡ min best column }

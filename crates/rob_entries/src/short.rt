@@ -1,4 +1,4 @@
-// Numbers of 64 bits as the entries of rows: each call is one of rows of such numbers.
+//! Numbers of 64 bits as the entries of rows: each call is one of rows of such numbers.
 
 ghost use Rattle.std.specs.Prelude.{◌≡◌, ◌*ℤ◌};
 
@@ -93,7 +93,7 @@ impl Entry for i64 {
     }
 }
 
-// a * b
+/// a * b
 fn product(a: i64, b: i64) -> i128
     ensures value { result ≡ a *ℤ b }
 {

@@ -1,4 +1,4 @@
-// A row less another row in place, where the sizes of both show that no entry can leave the type.
+//! A row less another row in place, where the sizes of both show that no entry can leave the type.
 
 ghost use Rattle.std.specs.Prelude.{◌≡◌, ◌+◌, ◌*◌, ◌<◌, ◌≤◌, ◌*ℤ◌, ◌-ℤ◌, ℕ, pos, map, length};
 ghost use Rattle.rob_linear.specs.Vectors.{at};
