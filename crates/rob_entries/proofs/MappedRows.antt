@@ -2,8 +2,9 @@
 use Rattle.std.proofs.Common.{◌≡◌, ◌≢◌, ℕ, ◌+◌, ◌*◌, ◌<◌, ◌≤◌, sym, ap, ◌∙◌, subst, arith, inl, inr, List, map, length, get_or, set}
 use Rattle.std.proofs.lemmas.Bool.{cases_eq}
 use Rattle.std.proofs.lemmas.List.{map-set, get_or-map, length-map, get_or-set_same, get_or-set_other}
-use Rattle.std.proofs.lemmas.Int.{ints}
+use Rattle.std.proofs.lemmas.Int.{ints, unsigned_abs-mul}
 use lib.IntN.{ℤ, pos, nat_abs, ◌*ℤ◌, ◌-ℤ◌}
+use lib.Signed.{◌<ℤ◌}
 use Rattle.rob_linear.specs.Vectors.{at}
 
 module _ {X : Type 0} (f : X → ℤ) where
@@ -46,6 +47,30 @@ once w p a q b a' b' is one e f =
     plain : (x y : ℤ) → (pos 1 *ℤ x) -ℤ y ≡ x -ℤ y
     plain x y = omega (arith, ints)
 
--- what is p times an entry less q times another one, as an index has read them
-pub fused_read : (w p a q b a' b' : ℤ) → w ≡ (p *ℤ a) -ℤ (q *ℤ b) → a ≡ a' → b ≡ b' → w ≡ (p *ℤ a') -ℤ (q *ℤ b')
-fused_read w p a q b a' b' is e f = is ∙ ap (λ t. (p *ℤ t) -ℤ (q *ℤ b)) e ∙ ap (λ t. (p *ℤ a') -ℤ (q *ℤ t)) f
+-- an entry times p alone, as an index has read it
+pub alone_narrow : (top : ℕ) (p a z a' : ℤ) → a ≡ a' → z ≡ pos 0 → nat_abs p * nat_abs a' ≤ top → nat_abs p * nat_abs a + nat_abs z * nat_abs z ≤ top
+alone_narrow top p a z a' e f h =
+    subst (λ t. nat_abs p * nat_abs t + nat_abs z * nat_abs z ≤ top) (sym e)
+    (subst (λ t. nat_abs p * nat_abs a' + nat_abs t * nat_abs t ≤ top) (sym f) (none (nat_abs p * nat_abs a') h))
+  where
+    none : (n : ℕ) → n ≤ top → n + 0 ≤ top
+    none n l = omega arith
+
+pub alone_read : (w p a z a' : ℤ) → w ≡ (p *ℤ a) -ℤ (z *ℤ z) → a ≡ a' → z ≡ pos 0 → w ≡ p *ℤ a'
+alone_read w p a z a' is e f = is ∙ ap (λ t. (p *ℤ t) -ℤ (z *ℤ z)) e ∙ ap (λ t. (p *ℤ a') -ℤ (t *ℤ t)) f ∙ plain (p *ℤ a')
+  where
+    plain : (x : ℤ) → x -ℤ (pos 0 *ℤ pos 0) ≡ x
+    plain x = omega (arith, ints)
+
+-- a factor of size 1
+pub unit_of : (z : ℤ) → pos 0 <ℤ z → nat_abs z ≡ 1 → z ≡ pos 1
+unit_of z h e = omega (arith, ints)
+
+-- once such a product, less q times another entry
+pub scaled_narrow : (top : ℕ) (p q a b w : ℤ) → w ≡ p *ℤ a → nat_abs p * nat_abs a + nat_abs q * nat_abs b ≤ top → nat_abs (pos 1) * nat_abs w + nat_abs q * nat_abs b ≤ top
+scaled_narrow top p q a b w e h =
+    let size : nat_abs w ≡ nat_abs p * nat_abs a = ap nat_abs e ∙ unsigned_abs-mul p a in
+    subst (λ t. t + nat_abs q * nat_abs b ≤ top) (sym (once_more (nat_abs w) ∙ size)) h
+  where
+    once_more : (n : ℕ) → 1 * n ≡ n
+    once_more n = omega arith

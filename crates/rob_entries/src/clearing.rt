@@ -12,7 +12,7 @@ ghost use Rattle.rob_rows.specs.PrimitiveParts.{combination, IsPrimitivePart, Is
 ghost use Rattle.rob_entries.specs.Updates.{AreListed, AreOwn, IsBounded, IsNarrowBy, IsWideCleared};
 
 use crate::entry::Entry;
-use crate::updates::{combine_in_place, subtract};
+use crate::updates::{scale, subtract};
 use rob_number::Wide;
 use std::alloc::{AllocError, Global};
 use std::marker::Model;
@@ -84,16 +84,13 @@ impl<E: Entry> PivotRow<E> {
         ensures entries { (k : ℕ) → k < length row.old → at (map E.value row.new) k
             ≡ (E.value p *ℤ at (map E.value row.old) k) -ℤ (E.value q *ℤ at self.now.entries k) }
     {
-        if p.size() == 1 {
-            subtract(
-                row,
-                q,
-                self.entries.as_slice(),
-                &self.places.as_slice()[..self.listed],
-            );
-        } else {
-            combine_in_place(row, p, q, self.entries.as_slice());
-        }
+        scale(row, p);
+        subtract(
+            row,
+            q,
+            self.entries.as_slice(),
+            &self.places.as_slice()[..self.listed],
+        );
     }
 
     /// The same in lowest terms, whatever sizes the products have.

@@ -11,7 +11,8 @@ fused-requires g c =
     let k = get_or c.args.places.now i 0 in
     let value = g.E.Entry.value in
     let il : c.loop-k.k-index < length c.args.places.now = omega arith in
-    let inside : get_or c.args.places.now c.loop-k.k-index 0 < length c.args.row.now = c.requires.listed.inside i il in
+    let there : get_or c.args.places.now c.loop-k.k-index 0 < length c.args.other.now = c.requires.listed.inside i il in
+    let inside : get_or c.args.places.now c.loop-k.k-index 0 < length c.args.row.now = (let n = c.requires.lengths in omega arith) in
     let a : g.E.Entry.value c.index-row-k.result ≡ at (map g.E.Entry.value c.loop-k.row) (get_or c.args.places.now c.loop-k.k-index 0) = number_read value c.loop-k.row k c.index-row-k.result (omega arith) c.index-row-k.is in
     let b : g.E.Entry.value c.index-other-k.result ≡ at (map g.E.Entry.value c.args.other.now) (get_or c.args.places.now c.loop-k.k-index 0) = number_read value c.args.other.now k c.index-other-k.result (omega arith) c.index-other-k.is in
     let same = c.loop-k.invariant.same k (λ j l e. place_other c.args.places.now i j c.requires.listed.rising l il (sym e)) in
@@ -27,7 +28,8 @@ loop-k-preserved g c =
     let value = g.E.Entry.value in
     let q = value c.args.q in
     let il : c.loop-k.k-index < length c.args.places.now = omega arith in
-    let inside : get_or c.args.places.now c.loop-k.k-index 0 < length c.args.row.now = c.requires.listed.inside i il in
+    let there : get_or c.args.places.now c.loop-k.k-index 0 < length c.args.other.now = c.requires.listed.inside i il in
+    let inside : get_or c.args.places.now c.loop-k.k-index 0 < length c.args.row.now = (let n = c.requires.lengths in omega arith) in
     let a : g.E.Entry.value c.index-row-k.result ≡ at (map g.E.Entry.value c.loop-k.row) (get_or c.args.places.now c.loop-k.k-index 0) = number_read value c.loop-k.row k c.index-row-k.result (omega arith) c.index-row-k.is in
     let b : g.E.Entry.value c.index-other-k.result ≡ at (map g.E.Entry.value c.args.other.now) (get_or c.args.places.now c.loop-k.k-index 0) = number_read value c.args.other.now k c.index-other-k.result (omega arith) c.index-other-k.is in
     let same = c.loop-k.invariant.same k (λ j l e. place_other c.args.places.now i j c.requires.listed.rising l il (sym e)) in
@@ -43,6 +45,6 @@ pub returns : goal.returns
 returns g c =
     let value = g.E.Entry.value in
     record {
-      entries = λ k l. subtracted (at (map value c.loop-k.row)) (at (map value c.args.row.now)) (at (map value c.args.other.now)) c.args.places.now (value c.args.q) (length c.args.row.now) c.requires.listed k l
+      entries = λ k l. subtracted (at (map value c.loop-k.row)) (at (map value c.args.row.now)) (at (map value c.args.other.now)) c.args.places.now (value c.args.q) (length c.args.other.now) c.requires.listed k (let n = c.requires.lengths in omega arith)
           (λ j jl. c.loop-k.invariant.done j (omega arith)) (λ x apart. c.loop-k.invariant.same x (λ j jl. apart j (omega arith)));
     }
