@@ -8,3 +8,4 @@ pub mod Zeros
 pub mod ClearingLemmas
 pub mod WrittenRows
 pub mod ClearedCells
+pub mod MapLemmas

@@ -1,3 +1,4 @@
 pub mod Entries
 pub mod Updates
 pub mod Choices
+pub mod Maps

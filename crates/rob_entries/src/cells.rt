@@ -10,22 +10,28 @@ ghost use Rattle.rob_entries.specs.Updates.{AreOwn, IsMultipleOf, IsWideCleared}
 use crate::clearing::PivotRow;
 use crate::entry::Entry;
 use crate::rows::{lowest_column, negate};
+use crate::updates::mark_of;
 use rob_number::Wide;
 use std::alloc::{AllocError, Global};
 use std::marker::Model;
 
-/// The numbers of rows, one row behind another. Contracts see the list of the numbers.
+/// The numbers of rows, one row behind another, with a map of those that may not be 0. Contracts see the list of the
+/// numbers.
 #[derive(Drop)]
 pub struct Cells<E: Entry> {
     items: Vec<E>,
+    marks: Vec<bool>,
 }
 
 impl<E: Entry> Model for Cells<E> {
     ghost use Rattle.std.specs.Prelude.{List, ℤ, map};
+    ghost use Rattle.rob_entries.specs.Maps.{IsMapped};
 
     ghost Value = { List ℤ };
 
     ghost view = { λ cells. map E.value cells.items.items };
+
+    ghost invariant = { λ cells. IsMapped (map E.value cells.items.items) cells.marks.items };
 }
 
 impl<E: Entry> Cells<E> {
@@ -37,6 +43,7 @@ impl<E: Entry> Cells<E> {
     {
         Ok(Cells {
             items: vec![in alloc; E::of(0); count]?,
+            marks: vec![in alloc; false; count]?,
         })
     }
 
@@ -61,6 +68,9 @@ impl<E: Entry> Cells<E> {
         self.items
             .as_mut_slice()
             .copy_from_slice(other.items.as_slice());
+        self.marks
+            .as_mut_slice()
+            .copy_from_slice(other.marks.as_slice());
     }
 
     // ---- read
@@ -71,12 +81,16 @@ impl<E: Entry> Cells<E> {
         self.items.len()
     }
 
-    /// The number at a place.
+    /// The number at a place. Its mark is looked at first, so a scan of one column touches few of the numbers.
     pub fn get(&self, k: usize) -> E
         requires inside { k < length self.now }
         ensures entry { E.value result ≡ at self.now k }
     {
-        self.items[k]
+        if self.marks[k] {
+            self.items[k]
+        } else {
+            E::of(0)
+        }
     }
 
     /// The greatest size of a row's entries, 0 where there is none.
@@ -112,6 +126,7 @@ impl<E: Entry> Cells<E> {
         ensures written { self.new ≡ set self.old k (E.value entry) }
     {
         self.items[k] = entry;
+        self.marks[k] = mark_of(entry);
     }
 
     /// Exchanges the numbers at two places.
@@ -120,9 +135,9 @@ impl<E: Entry> Cells<E> {
         requires b_in { b < length self.old }
         ensures swapped { self.new ≡ set (set self.old a (at self.old b)) b (at self.old a) }
     {
-        let entry = self.items[a];
-        self.items[a] = self.items[b];
-        self.items[b] = entry;
+        let entry = self.get(a);
+        self.set(a, self.get(b));
+        self.set(b, entry);
     }
 
     /// Turns the signs of a row's entries round.
@@ -200,8 +215,11 @@ impl<E: Entry> Cells<E> {
         ensures same { row.new ≡ row.old }
     {
         let width = row.width();
+        let marks = self.marks.as_mut_slice();
         row.clear(
             &mut self.items.as_mut_slice()[start..start + width],
+            marks,
+            start,
             bound,
             place,
             limit,

@@ -4,15 +4,16 @@
 //! A number that bounds the entries of each row shows where the entries' type suffices. Else the row is put in lowest
 //! terms.
 
-ghost use Rattle.std.specs.Prelude.{◌≡◌, ◌≢◌, ℕ, ◌<◌, ◌≤◌, ◌-◌, ◌*ℤ◌, ◌-ℤ◌, ◌<ℤ◌, pos, nat_abs, map, length, take, IfOk, OnOk, OnErr};
+ghost use Rattle.std.specs.Prelude.{◌≡◌, ◌≢◌, ℕ, ◌+◌, ◌^◌, ◌<◌, ◌≤◌, ◌-◌, ◌*ℤ◌, ◌-ℤ◌, ◌<ℤ◌, pos, nat_abs, map, length, take, IfOk, OnOk, OnErr};
 ghost use Rattle.rob_algebra.specs.Gcd.{gcd};
 ghost use Rattle.rob_linear.specs.Vectors.{at};
 ghost use Rattle.rob_linear.specs.Multiples.{IsClearedBy};
 ghost use Rattle.rob_rows.specs.PrimitiveParts.{combination, IsPrimitivePart, IsWithin, HasWidePart};
+ghost use Rattle.rob_entries.specs.Maps.{AreMarked};
 ghost use Rattle.rob_entries.specs.Updates.{AreListed, AreOwn, IsBounded, IsNarrowBy, IsWideCleared};
 
 use crate::entry::Entry;
-use crate::updates::{scale, subtract};
+use crate::updates::{mark, scale, subtract};
 use rob_number::Wide;
 use std::alloc::{AllocError, Global};
 use std::marker::Model;
@@ -75,18 +76,24 @@ impl<E: Entry> PivotRow<E> {
         self.bound = E::largest(self.entries.as_slice());
     }
 
-    /// The row, p times, less q times this one.
-    fn apply(&self, row: &mut [E], p: E, q: E)
+    /// The row, which begins at `start`, p times, less q times this one, with its marks.
+    fn apply(&self, row: &mut [E], marks: &mut [bool], start: usize, p: E, q: E)
         requires length { length row.old ≡ length self.now.entries }
+        requires small { start + length row.old < 2 ^ 64 }
+        requires marks_in { start + length row.old ≤ length marks.old }
         requires positive { pos 0 <ℤ E.value p }
         requires narrow { IsNarrowBy E.top (length row.old) (E.value p) (E.value q) (at (map E.value row.old))
             (at self.now.entries) }
         ensures entries { (k : ℕ) → k < length row.old → at (map E.value row.new) k
             ≡ (E.value p *ℤ at (map E.value row.old) k) -ℤ (E.value q *ℤ at self.now.entries k) }
+        ensures marked { AreMarked start (length row.old) (at (map E.value row.new)) (at self.now.entries) marks.old
+            marks.new }
     {
         scale(row, p);
         subtract(
             row,
+            marks,
+            start,
             q,
             self.entries.as_slice(),
             &self.places.as_slice()[..self.listed],
@@ -94,8 +101,18 @@ impl<E: Entry> PivotRow<E> {
     }
 
     /// The same in lowest terms, whatever sizes the products have.
-    fn apply_lowest(&mut self, row: &mut [E], p: E, q: E, limit: u128) -> Result<u128, Wide>
+    fn apply_lowest(
+        &mut self,
+        row: &mut [E],
+        marks: &mut [bool],
+        start: usize,
+        p: E,
+        q: E,
+        limit: u128,
+    ) -> Result<u128, Wide>
         requires length { length row.old ≡ length self.old.entries }
+        requires small { start + length row.old < 2 ^ 64 }
+        requires marks_in { start + length row.old ≤ length marks.old }
         requires limit { limit ≤ E.top }
         requires positive { pos 0 <ℤ E.value p }
         requires factors { (nat_abs (E.value p) ≤ E.top) × (nat_abs (E.value q) ≤ E.top) }
@@ -109,6 +126,9 @@ impl<E: Entry> PivotRow<E> {
         ensures wide { OnErr result
             (HasWidePart limit (combination (E.value p) (map E.value row.old) (E.value q) self.old.entries)) }
         ensures unchanged { OnErr result (row.new ≡ row.old) }
+        ensures marked { IfOk result (λ _. AreMarked start (length row.old) (at (map E.value row.new))
+            (at self.old.entries) marks.old marks.new) }
+        ensures kept { OnErr result (marks.new ≡ marks.old) }
         ensures same { self.new ≡ self.old }
     {
         E::combine(
@@ -120,19 +140,31 @@ impl<E: Entry> PivotRow<E> {
             limit,
         )?;
         row.copy_from_slice(self.room.as_slice());
+        mark(
+            marks,
+            start,
+            row,
+            self.entries.as_slice(),
+            &self.places.as_slice()[..self.listed],
+        );
         Ok(E::largest(row))
     }
 
-    /// Clears the row's entry at the place, and tells a number that bounds the new entries. The row may be a positive
-    /// multiple of the one in lowest terms. `Wide` where that one has an entry over the limit; then the row stays.
+    /// Clears the entry at the place of the row, which begins at `start`, marks what it writes, and tells a number that
+    /// bounds the new entries. The row may be a positive multiple of the one in lowest terms. `Wide` where that one has
+    /// an entry over the limit; then the row stays.
     pub fn clear(
         &mut self,
         row: &mut [E],
+        marks: &mut [bool],
+        start: usize,
         bound: u128,
         place: usize,
         limit: u128,
     ) -> Result<u128, Wide>
         requires length { length row.old ≡ length self.old.entries }
+        requires small { start + length row.old < 2 ^ 64 }
+        requires marks_in { start + length row.old ≤ length marks.old }
         requires limit { limit ≤ E.top }
         requires row_in { IsBounded limit (map E.value row.old) bound }
         requires self_in { self.old.bound ≤ limit }
@@ -145,15 +177,18 @@ impl<E: Entry> PivotRow<E> {
         ensures wide { OnErr result
             (IsWideCleared limit (length row.old) place (at (map E.value row.old)) (at self.old.entries)) }
         ensures unchanged { OnErr result (row.new ≡ row.old) }
+        ensures marked { IfOk result (λ _. AreMarked start (length row.old) (at (map E.value row.new))
+            (at self.old.entries) marks.old marks.new) }
+        ensures kept { OnErr result (marks.new ≡ marks.old) }
         ensures same { self.new ≡ self.old }
     {
         let (p, q) = E::lowest(self.entries[place], row[place]);
         match E::bound_of(p, bound, q, self.bound, limit) {
             Some(sum) => {
-                self.apply(row, p, q);
+                self.apply(row, marks, start, p, q);
                 Ok(sum)
             }
-            None => self.apply_lowest(row, p, q, limit),
+            None => self.apply_lowest(row, marks, start, p, q, limit),
         }
     }
 }

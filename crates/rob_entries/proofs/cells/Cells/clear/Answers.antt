@@ -1,10 +1,13 @@
-use Rattle.std.proofs.Common.{◌≡◌, ℕ, ◌+◌, ◌≤◌, ◌<◌, inl, inr, arith, subst, length, map, nat_abs}
+use Rattle.std.proofs.Common.{◌≡◌, ℕ, ◌+◌, ◌≤◌, ◌<◌, ◌∙◌, sym, ap, inl, inr, arith, subst, Bool, List, ◌++◌, take, drop, length, map, nat_abs, pos}
+use lib.IntN.{ℤ}
 use Rattle.std.proofs.lemmas.Result.{on_err_weaker}
 use Rattle.rob_linear.specs.Vectors.{at}
 use Rattle.rob_linear.specs.Multiples.{IsClearedBy}
+use Rattle.rob_entries.specs.Maps.{IsMapped, AreMarked}
 use Rattle.rob_entries.specs.Updates.{IsBounded}
 use Rattle.rob_entries.proofs.ClearingLemmas.{if_ok_more}
-use Rattle.rob_entries.proofs.WrittenRows.{part, stored, row_within, stored_other, stored_same}
+use Rattle.rob_entries.proofs.WrittenRows.{written_back, part, stored, row_length, row_at, row_within, stored_other, stored_same}
+use Rattle.rob_entries.proofs.MapLemmas.{cleared_back, cleared_zero}
 use Rattle.rob_entries.proofs.ClearedCells.{own_here, wide_here, cleared_here, bounded_here}
 use Rattle.rob_entries.proofs.cells.Cells.clear.Goals as goal
 
@@ -69,3 +72,39 @@ returns-clause-unchanged g c =
     let inside : c.args.start + c.width-width.result ≤ length c.args.self.now = (let h = c.requires.inside in omega arith) in
     on_err_weaker c.clear.result (stored_same g.E.Entry.value c.args.self.now c.self.inside.items.items c.as_mut_slice.result.now c.self.inside.items.len c.self.view_is c.as_mut_slice.ensures.value c.self.inside.items.ok.0 c.args.start c.width-width.result inside c.clear.new.row c.clear.auto.row)
     c.clear.ensures.unchanged
+
+pub invariant_of-self : goal.invariant_of-self
+invariant_of-self g c =
+    let value = g.E.Entry.value in
+    let top = c.args.row.now.entries in
+    let marks = c.self.inside.marks.items in
+    let e : c.width-width.result ≡ length c.args.row.now.entries = c.width-width.ensures.width in
+    let inside : c.args.start + c.width-width.result ≤ length c.args.self.now = (let h = c.requires.inside in omega arith) in
+    let map_is : IsMapped c.args.self.now c.self.inside.marks.items = subst (λ (t : List ℤ). IsMapped t c.self.inside.marks.items) c.self.view_is c.self.invariant in
+    let size : length c.clear.new.marks ≡ length c.self.inside.marks.items = c.clear.auto.marks ∙ ap length c.as_mut_slice-marks.ensures.value in
+    let back : take c.self.inside.marks.len (c.clear.new.marks ++ drop (length c.clear.new.marks) c.self.inside.marks.items) ≡ c.clear.new.marks =
+    written_back c.clear.new.marks marks c.self.inside.marks.len (size ∙ sym c.self.inside.marks.ok.0) in
+    let w : length (part c.as_mut_slice.result.now c.args.start c.width-width.result) ≡ c.width-width.result = row_length g.E.Entry.value c.args.self.now c.self.inside.items.items c.as_mut_slice.result.now c.self.inside.items.len c.self.view_is c.as_mut_slice.ensures.value c.self.inside.items.ok.0 c.args.start c.width-width.result inside in
+    let marked =
+    if_ok_more c.clear.result
+    (λ x. AreMarked c.args.start (length (part c.as_mut_slice.result.now c.args.start c.width-width.result)) (at (map value c.clear.new.row)) (at top) c.as_mut_slice-marks.result.now c.clear.new.marks)
+    (λ x. AreMarked c.args.start c.width-width.result (at (map value c.clear.new.row)) (at top) marks c.clear.new.marks)
+    (λ x h. subst (λ (t : List Bool). AreMarked c.args.start c.width-width.result (at (map value c.clear.new.row)) (at top) t c.clear.new.marks) c.as_mut_slice-marks.ensures.value
+    (subst (λ n. AreMarked c.args.start n (at (map value c.clear.new.row)) (at top) c.as_mut_slice-marks.result.now c.clear.new.marks) w h))
+    c.clear.ensures.marked in
+    subst (λ (t : List Bool). IsMapped (map g.E.Entry.value (stored g.E.Entry.value c.args.self.now c.self.inside.items.items c.as_mut_slice.result.now c.self.inside.items.len c.self.view_is c.as_mut_slice.ensures.value c.self.inside.items.ok.0 c.args.start c.width-width.result inside c.clear.new.row c.clear.auto.row)) t) (sym back)
+    (cleared_back g.E.Entry.value c.args.self.now c.self.inside.items.items c.as_mut_slice.result.now c.self.inside.items.len c.self.view_is c.as_mut_slice.ensures.value c.self.inside.items.ok.0 c.args.start c.width-width.result inside c.clear.new.row c.clear.auto.row marks c.clear.new.marks map_is c.clear.result (at top) size marked
+    (on_err_weaker c.clear.result (λ h. h ∙ c.as_mut_slice-marks.ensures.value) c.clear.ensures.kept) c.clear.ensures.unchanged
+    (λ k l z tz. cleared_zero c.clear.result (length (part c.as_mut_slice.result.now c.args.start c.width-width.result)) c.args.place (at (map value (part c.as_mut_slice.result.now c.args.start c.width-width.result))) (at top)
+    (at (map value c.clear.new.row)) (c.clear.new.row ≡ part c.as_mut_slice.result.now c.args.start c.width-width.result) c.clear.ensures.cleared c.clear.ensures.unchanged
+    (λ same j jl. ap (λ (t : List ℤ). at t j) (ap (map value) same)) k (omega arith) (row_at g.E.Entry.value c.args.self.now c.self.inside.items.items c.as_mut_slice.result.now c.self.inside.items.len c.self.view_is c.as_mut_slice.ensures.value c.self.inside.items.ok.0 c.args.start c.width-width.result inside k l ∙ z) tz))
+
+pub clear-requires-clause-marks_in : goal.clear-requires-clause-marks_in
+clear-requires-clause-marks_in g c =
+    let value = g.E.Entry.value in
+    let e : c.width-width.result ≡ length c.args.row.now.entries = c.width-width.ensures.width in
+    let inside : c.args.start + c.width-width.result ≤ length c.args.self.now = (let h = c.requires.inside in omega arith) in
+    let map_is : IsMapped c.args.self.now c.self.inside.marks.items = subst (λ (t : List ℤ). IsMapped t c.self.inside.marks.items) c.self.view_is c.self.invariant in
+    let size : length c.as_mut_slice-marks.result.now ≡ length c.args.self.now = ap length c.as_mut_slice-marks.ensures.value ∙ map_is.size in
+    let w : length (part c.as_mut_slice.result.now c.args.start c.width-width.result) ≡ c.width-width.result = row_length g.E.Entry.value c.args.self.now c.self.inside.items.items c.as_mut_slice.result.now c.self.inside.items.len c.self.view_is c.as_mut_slice.ensures.value c.self.inside.items.ok.0 c.args.start c.width-width.result inside in
+    omega arith

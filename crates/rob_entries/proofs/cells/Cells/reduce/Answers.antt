@@ -1,5 +1,8 @@
-use Rattle.std.proofs.Common.{◌≡◌, ◌≤◌, ◌∙◌, ap, subst, sym, arith, length, map, pos, nat_abs, ◌*ℤ◌}
+use Rattle.std.proofs.Common.{◌≡◌, ◌≤◌, ◌∙◌, ap, refl, subst, sym, arith, List, length, map, pos, nat_abs, ◌*ℤ◌}
 use Rattle.std.proofs.lemmas.List.{length-map}
+use lib.IntN.{ℤ}
+use Rattle.rob_entries.specs.Maps.{IsMapped}
+use Rattle.rob_entries.proofs.MapLemmas.{mapped_back, part_zero}
 use Rattle.rob_entries.proofs.ClearingLemmas.{part_multiple, divisor_positive}
 use Rattle.rob_entries.proofs.WrittenRows.{part, row_within, row_length, row_at, stored_here, stored_other, stored_reached}
 use Rattle.rob_entries.proofs.cells.Cells.reduce.Goals as goal
@@ -46,3 +49,16 @@ pub returns-clause-others : goal.returns-clause-others
 returns-clause-others g c =
     stored_other g.E.Entry.value c.args.self.now c.self.inside.items.items c.as_mut_slice.result.now c.self.inside.items.len c.self.view_is c.as_mut_slice.ensures.value c.self.inside.items.ok.0 c.args.start c.args.width c.requires.inside
     c.reduce.new.row c.reduce.auto.row
+
+pub invariant_of-self : goal.invariant_of-self
+invariant_of-self g c =
+    let value = g.E.Entry.value in
+    let n : length (part c.as_mut_slice.result.now c.args.start c.args.width) ≡ c.args.width =
+    row_length value c.args.self.now c.self.inside.items.items c.as_mut_slice.result.now c.self.inside.items.len c.self.view_is c.as_mut_slice.ensures.value c.self.inside.items.ok.0 c.args.start c.args.width c.requires.inside in
+    let wide : length (map g.E.Entry.value c.reduce.new.row) ≡ c.args.width = length-map c.reduce.new.row value ∙ c.reduce.auto.row ∙ n in
+    let lowest = c.reduce.ensures.part in
+    mapped_back value c.args.self.now c.self.inside.items.items c.as_mut_slice.result.now c.self.inside.items.len c.self.view_is c.as_mut_slice.ensures.value c.self.inside.items.ok.0 c.args.start c.args.width c.requires.inside
+    c.reduce.new.row c.reduce.auto.row c.self.inside.marks.items c.self.inside.marks.items (subst (λ (t : List ℤ). IsMapped t c.self.inside.marks.items) c.self.view_is c.self.invariant)
+    refl (λ k l z. part_zero (pos lowest.divisor) _ _ (divisor_positive lowest.divisor lowest.positive)
+    (part_multiple (map value c.reduce.new.row) (map value (part c.as_mut_slice.result.now c.args.start c.args.width)) lowest k (omega arith))
+    (row_at value c.args.self.now c.self.inside.items.items c.as_mut_slice.result.now c.self.inside.items.len c.self.view_is c.as_mut_slice.ensures.value c.self.inside.items.ok.0 c.args.start c.args.width c.requires.inside k l ∙ z))

@@ -1,6 +1,9 @@
-use Rattle.std.proofs.Common.{◌≡◌, ◌<◌, ◌≤◌, ◌∙◌, ap, sym, subst, arith, List, map, length}
+use Rattle.std.proofs.Common.{◌≡◌, ◌+◌, ◌^◌, ◌<◌, ◌≤◌, ◌∙◌, ap, sym, subst, arith, List, map, length}
+use Rattle.std.proofs.lemmas.List.{length-map}
 use lib.IntN.{ℤ}
+use Rattle.rob_linear.specs.Vectors.{at}
 use Rattle.rob_rows.specs.PrimitiveParts.{content, IsWithin}
+use Rattle.rob_entries.specs.Maps.{AreMarked}
 use Rattle.rob_entries.specs.Updates.{Clearing}
 use Rattle.rob_entries.proofs.ClearingLemmas.{largest_low, content_one}
 use Rattle.rob_entries.proofs.WrittenRows.{written_back}
@@ -26,3 +29,28 @@ returns-clause-bounded g c =
       within = c.largest.ensures.bound;
       low = largest_low (map value c.copy_from_slice.new.self) c.largest.result c.args.limit (subst (λ t. IsWithin c.args.limit (map value t)) (sym whole) c.in_ok-combine.ensures.bounded) c.largest.ensures.reached;
     }
+
+pub mark-requires-clause-lengths : goal.mark-requires-clause-lengths
+mark-requires-clause-lengths g c =
+    let value = g.E.Entry.value in
+    let same : map g.E.Entry.value c.as_slice-3.result.now ≡ c.args.self.now.entries = ap (map value) c.as_slice-3.ensures.value ∙ ap (λ (v : Clearing). v.entries) c.self.view_is in
+    sym (length-map c.as_slice-3.result.now value) ∙ ap length same ∙ sym c.requires.length ∙ sym c.copy_from_slice.auto.self
+
+pub mark-requires-clause-small : goal.mark-requires-clause-small
+mark-requires-clause-small g c =
+    let n : length c.copy_from_slice.new.self ≡ length c.args.row.now = c.copy_from_slice.auto.self in
+    let h : c.args.start + length c.args.row.now < 2 ^ 64 = c.requires.small in
+    omega arith
+
+pub mark-requires-clause-marks_in : goal.mark-requires-clause-marks_in
+mark-requires-clause-marks_in g c =
+    let n : length c.copy_from_slice.new.self ≡ length c.args.row.now = c.copy_from_slice.auto.self in
+    let h : c.args.start + length c.args.row.now ≤ length c.args.marks.now = c.requires.marks_in in
+    omega arith
+
+pub returns-clause-marked : goal.returns-clause-marked
+returns-clause-marked g c =
+    let value = g.E.Entry.value in
+    let same : map g.E.Entry.value c.as_slice-3.result.now ≡ c.args.self.now.entries = ap (map value) c.as_slice-3.ensures.value ∙ ap (λ (v : Clearing). v.entries) c.self.view_is in
+    subst (λ (t : List ℤ). AreMarked c.args.start (length c.args.row.now) (at (map value c.copy_from_slice.new.self)) (at t) c.args.marks.now c.mark.new.marks) same
+    (subst (λ n. AreMarked c.args.start n (at (map value c.copy_from_slice.new.self)) (at (map value c.as_slice-3.result.now)) c.args.marks.now c.mark.new.marks) c.copy_from_slice.auto.self c.mark.ensures.marked)
