@@ -9,7 +9,8 @@ use Rattle.rob_entries.specs.Updates.{AreOwn, IsBounded, IsMultipleOf, IsWideCle
 use Rattle.rob_entries.proofs.ClearingLemmas.{cleared_ext, wide_ext, part_multiple, divisor_positive}
 use Rattle.rob_entries.proofs.WrittenRows.{part, row_length, row_at, numbers_length, stored, stored_here}
 
-module _ {X : Type 0} (f : X → ℤ) (cells : List ℤ) (items now : List X) (len : ℕ) (is : map f items ≡ cells) (lent : now ≡ items) (sized : len ≡ length items) (a w : ℕ) (inside : a + w ≤ length cells)
+module _ {X : Type 0} (f : X → ℤ) (cells : List ℤ) (items now : List X) (len : ℕ) (is : map f items ≡ cells)
+    (lent : now ≡ items) (sized : len ≡ length items) (a w : ℕ) (inside : a + w ≤ length cells)
     (width : ℕ) (wide_is : w ≡ width) where
   part_width : length (part now a w) ≡ width
   part_width = row_length f cells items now len is lent sized a w inside ∙ wide_is
@@ -18,9 +19,12 @@ module _ {X : Type 0} (f : X → ℤ) (cells : List ℤ) (items now : List X) (l
   entry_at k l = row_at f cells items now len is lent sized a w inside k (omega arith)
 
   -- as it is read
-  pub loaded : (row : List ℤ) → IsPrimitivePart row (map f (part now a w)) → IsMultipleOf width (λ k. at cells (a + k)) (at row)
+  pub loaded : (row : List ℤ) → IsPrimitivePart row (map f (part now a w))
+      → IsMultipleOf width (λ k. at cells (a + k)) (at row)
   loaded row lowest =
-      let n : length row ≡ w = sym (length-map row (λ entry. pos lowest.divisor *ℤ entry)) ∙ ap length lowest.same_direction ∙ numbers_length f cells items now len is lent sized a w inside in
+      let n : length row ≡ w =
+      sym (length-map row (λ entry. pos lowest.divisor *ℤ entry)) ∙ ap length lowest.same_direction
+      ∙ numbers_length f cells items now len is lent sized a w inside in
       record {
         times = pos lowest.divisor;
         positive = divisor_positive lowest.divisor lowest.positive;
@@ -28,13 +32,16 @@ module _ {X : Type 0} (f : X → ℤ) (cells : List ℤ) (items now : List X) (l
       }
 
   module _ (place : ℕ) (top : Vector) (pl : place < width) where
-    pub own_here : AreOwn (λ k. at cells (a + k)) top (width - 1) → AreOwn (at (map f (part now a w))) top (length (part now a w) - 1)
+    pub own_here : AreOwn (λ k. at cells (a + k)) top (width - 1)
+        → AreOwn (at (map f (part now a w))) top (length (part now a w) - 1)
     own_here own = record {
       zero = subst (λ n. top (n - 1) ≡ pos 0) (sym part_width) own.zero;
-      some = subst (λ n. at (map f (part now a w)) (n - 1) ≢ pos 0) (sym part_width) (λ z. own.some (sym (entry_at (width - 1) (omega arith)) ∙ z));
+      some = subst (λ n. at (map f (part now a w)) (n - 1) ≢ pos 0) (sym part_width)
+          (λ z. own.some (sym (entry_at (width - 1) (omega arith)) ∙ z));
     }
 
-    pub wide_here : (limit : ℕ) → IsWideCleared limit (length (part now a w)) place (at (map f (part now a w))) top → IsWideCleared limit width place (λ k. at cells (a + k)) top
+    pub wide_here : (limit : ℕ) → IsWideCleared limit (length (part now a w)) place (at (map f (part now a w))) top
+        → IsWideCleared limit width place (λ k. at cells (a + k)) top
     wide_here limit h =
         wide_ext limit width place (at (map f (part now a w))) (λ k. at cells (a + k)) top entry_at pl
         (subst (λ n. IsWideCleared limit n place (at (map f (part now a w))) top) part_width h)
@@ -46,12 +53,20 @@ module _ {X : Type 0} (f : X → ℤ) (cells : List ℤ) (items now : List X) (l
       here k l = stored_here f cells items now len is lent sized a w inside s kept k (omega arith)
 
       pub cleared_here : IsClearedBy (length (part now a w)) place (at (map f (part now a w))) top (at (map f s))
-          → IsClearedBy width place (λ k. at cells (a + k)) top (λ k. at (map f (stored f cells items now len is lent sized a w inside s kept)) (a + k))
+          → IsClearedBy width place (λ k. at cells (a + k)) top
+          (λ k. at (map f (stored f cells items now len is lent sized a w inside s kept)) (a + k))
       cleared_here h =
-          cleared_ext width place (at (map f (part now a w))) (λ k. at cells (a + k)) top (at (map f s)) (λ k. at (map f (stored f cells items now len is lent sized a w inside s kept)) (a + k)) entry_at
+          cleared_ext width place (at (map f (part now a w))) (λ k. at cells (a + k)) top (at (map f s))
+          (λ k. at (map f (stored f cells items now len is lent sized a w inside s kept)) (a + k)) entry_at
           (λ k l. sym (here k l)) pl
           (subst (λ n. IsClearedBy n place (at (map f (part now a w))) top (at (map f s))) part_width h)
 
       pub bounded_here : (limit sum : ℕ) → IsBounded limit (map f s) sum
-          → (sum ≤ limit) × ((k : ℕ) → k < width → nat_abs (at (map f (stored f cells items now len is lent sized a w inside s kept)) (a + k)) ≤ sum)
-      bounded_here limit sum h = (h.low, λ k l. subst (λ t. nat_abs t ≤ sum) (sym (here k l)) (h.within k (pos 0) (let n : length (map f s) ≡ width = length-map s f ∙ kept ∙ part_width in omega arith)))
+          → (sum ≤ limit)
+          × ((k : ℕ) → k < width
+          → nat_abs (at (map f (stored f cells items now len is lent sized a w inside s kept)) (a + k)) ≤ sum)
+      bounded_here limit sum h = (
+        h.low,
+        λ k l. subst (λ t. nat_abs t ≤ sum) (sym (here k l))
+            (h.within k (pos 0) (let n : length (map f s) ≡ width = length-map s f ∙ kept ∙ part_width in omega arith)),
+      )

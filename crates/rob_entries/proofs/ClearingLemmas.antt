@@ -21,7 +21,8 @@ use Rattle.rob_entries.specs.Updates.{IsNarrowBy, IsBounded, IsWideCleared}
 use Rattle.rob_entries.proofs.MappedRows.{number_read}
 
 -- rows with the same entries are cleared alike
-pub cleared_ext : (width place : ℕ) (low low' top new new' : Vector) → ((k : ℕ) → k < width → low k ≡ low' k) → ((k : ℕ) → k < width → new k ≡ new' k) → place < width
+pub cleared_ext : (width place : ℕ) (low low' top new new' : Vector) → ((k : ℕ) → k < width → low k ≡ low' k)
+    → ((k : ℕ) → k < width → new k ≡ new' k) → place < width
     → IsClearedBy width place low top new → IsClearedBy width place low' top new'
 cleared_ext width place low low' top new new' el en pl c = record {
   divisor = c.divisor;
@@ -29,16 +30,22 @@ cleared_ext width place low low' top new new' el en pl c = record {
   q = c.q;
   divides = c.divides;
   positive = c.positive;
-  entries = λ k l. ap (λ t. c.divisor *ℤ t) (sym (en k l)) ∙ c.entries k l ∙ ap (λ t. (c.p *ℤ t) -ℤ (c.q *ℤ top k)) (el k l);
+  entries = λ k l. ap (λ t. c.divisor *ℤ t) (sym (en k l)) ∙ c.entries k l
+      ∙ ap (λ t. (c.p *ℤ t) -ℤ (c.q *ℤ top k)) (el k l);
   cleared = sym (en place pl) ∙ c.cleared;
 }
 
-pub wide_ext : (limit width place : ℕ) (low low' top : Vector) → ((k : ℕ) → k < width → low k ≡ low' k) → place < width → IsWideCleared limit width place low top → IsWideCleared limit width place low' top
-wide_ext limit width place low low' top el pl w = (w.0, cleared_ext width place low low' top w.0 w.0 el (λ k l. refl) pl w.1, w.2, w.3)
+pub wide_ext : (limit width place : ℕ) (low low' top : Vector) → ((k : ℕ) → k < width → low k ≡ low' k) → place < width
+    → IsWideCleared limit width place low top → IsWideCleared limit width place low' top
+wide_ext limit width place low low' top el pl w =
+    (w.0, cleared_ext width place low low' top w.0 w.0 el (λ k l. refl) pl w.1, w.2, w.3)
 
 -- a row is a multiple of its primitive part
-pub part_multiple : (row whole : List ℤ) (part : IsPrimitivePart row whole) (k : ℕ) → k < length row → pos part.divisor *ℤ at row k ≡ at whole k
-part_multiple row whole part k l = sym (get_or-map (λ entry. pos part.divisor *ℤ entry) row k (pos 0) (pos 0) l) ∙ ap (λ t. get_or t k (pos 0)) part.same_direction
+pub part_multiple : (row whole : List ℤ) (part : IsPrimitivePart row whole) (k : ℕ) → k < length row
+    → pos part.divisor *ℤ at row k ≡ at whole k
+part_multiple row whole part k l =
+    sym (get_or-map (λ entry. pos part.divisor *ℤ entry) row k (pos 0) (pos 0) l)
+    ∙ ap (λ t. get_or t k (pos 0)) part.same_direction
 
 pub divisor_positive : (d : ℕ) → 0 < d → pos 0 <ℤ pos d
 divisor_positive d h = omega (arith, ints)
@@ -49,7 +56,9 @@ module _ (t e p q : ℤ) (m : ArePartsOf t e p q) where
   times_positive = let h : 0 < m.times = m.positive in omega (arith, ints)
 
   pub factor_positive : pos 0 <ℤ t → pos 0 <ℤ p
-  factor_positive h = mul_cancel_lt (pos m.times) (pos 0) p times_positive (subst (λ x. x <ℤ (pos m.times *ℤ p)) (sym (mul-zero (pos m.times))) (subst (λ x. pos 0 <ℤ x) m.p_is h))
+  factor_positive h =
+      mul_cancel_lt (pos m.times) (pos 0) p times_positive
+      (subst (λ x. x <ℤ (pos m.times *ℤ p)) (sym (mul-zero (pos m.times))) (subst (λ x. pos 0 <ℤ x) m.p_is h))
 
   -- p times the entry is q times the other one
   pub factors_meet : p *ℤ e ≡ q *ℤ t
@@ -74,28 +83,38 @@ module _ (t e p q : ℤ) (m : ArePartsOf t e p q) where
       omega arith
 
 -- ---- the row
-module _ (width place : ℕ) (low top : List ℤ) (p q : ℤ) (wl : length low ≡ width) (wt : length top ≡ width) (inside : place < width) (positive : pos 0 <ℤ at top place)
+module _ (width place : ℕ) (low top : List ℤ) (p q : ℤ) (wl : length low ≡ width) (wt : length top ≡ width)
+    (inside : place < width) (positive : pos 0 <ℤ at top place)
     (m : ArePartsOf (at top place) (at low place) p q) where
-  pub cleared_by_factors : (new : List ℤ) → ((k : ℕ) → k < width → at new k ≡ (p *ℤ at low k) -ℤ (q *ℤ at top k)) → IsClearedBy width place (at low) (at top) (at new)
+  pub cleared_by_factors : (new : List ℤ) → ((k : ℕ) → k < width → at new k ≡ (p *ℤ at low k) -ℤ (q *ℤ at top k))
+      → IsClearedBy width place (at low) (at top) (at new)
   cleared_by_factors new h =
-      factors_clear width place (at low) (at top) (at new) p q inside (factor_positive (at top place) (at low place) p q m positive) (factors_meet (at top place) (at low place) p q m) h
+      factors_clear width place (at low) (at top) (at new) p q inside
+      (factor_positive (at top place) (at low place) p q m positive)
+      (factors_meet (at top place) (at low place) p q m) h
 
   -- the entry goes
-  zero_there : (d : ℤ) (new : Vector) → pos 0 <ℤ d → d *ℤ new place ≡ (p *ℤ at low place) -ℤ (q *ℤ at top place) → new place ≡ pos 0
+  zero_there : (d : ℤ) (new : Vector) → pos 0 <ℤ d
+      → d *ℤ new place ≡ (p *ℤ at low place) -ℤ (q *ℤ at top place) → new place ≡ pos 0
   zero_there d new h e =
       let meet : p *ℤ at low place ≡ q *ℤ at top place = factors_meet (at top place) (at low place) p q m in
       mul_cancel_zero d (new place) h (omega (arith, ints))
 
   part_length : (new : List ℤ) → IsPrimitivePart new (combination p low q top) → length new ≡ width
-  part_length new part = sym (length-map new (λ entry. pos part.divisor *ℤ entry)) ∙ ap length part.same_direction ∙ length-combination p low q top (wl ∙ sym wt) ∙ wl
+  part_length new part =
+      sym (length-map new (λ entry. pos part.divisor *ℤ entry)) ∙ ap length part.same_direction
+      ∙ length-combination p low q top (wl ∙ sym wt) ∙ wl
 
-  part_entries : (new : List ℤ) (part : IsPrimitivePart new (combination p low q top)) (k : ℕ) → k < width → pos part.divisor *ℤ at new k ≡ (p *ℤ at low k) -ℤ (q *ℤ at top k)
+  part_entries : (new : List ℤ) (part : IsPrimitivePart new (combination p low q top)) (k : ℕ) → k < width
+      → pos part.divisor *ℤ at new k ≡ (p *ℤ at low k) -ℤ (q *ℤ at top k)
   part_entries new part k l =
       let n : length new ≡ width = part_length new part in
-      sym (get_or-map (λ entry. pos part.divisor *ℤ entry) new k (pos 0) (pos 0) (omega arith)) ∙ ap (λ t. get_or t k (pos 0)) part.same_direction
+      sym (get_or-map (λ entry. pos part.divisor *ℤ entry) new k (pos 0) (pos 0) (omega arith))
+      ∙ ap (λ t. get_or t k (pos 0)) part.same_direction
       ∙ combination-at p low q top k (wl ∙ sym wt) (omega arith)
 
-  pub cleared_by_part : (new : List ℤ) → IsPrimitivePart new (combination p low q top) → IsClearedBy width place (at low) (at top) (at new)
+  pub cleared_by_part : (new : List ℤ) → IsPrimitivePart new (combination p low q top)
+      → IsClearedBy width place (at low) (at top) (at new)
   cleared_by_part new part =
       let d : 0 < part.divisor = part.positive in
       let dz : pos 0 <ℤ pos part.divisor = omega (arith, ints) in
@@ -109,42 +128,55 @@ module _ (width place : ℕ) (low top : List ℤ) (p q : ℤ) (wl : length low �
         cleared = zero_there (pos part.divisor) (at new) dz (part_entries new part place inside);
       }
 
-  pub wide_by_part : (limit : ℕ) → HasWidePart limit (combination p low q top) → IsWideCleared limit width place (at low) (at top)
+  pub wide_by_part : (limit : ℕ) → HasWidePart limit (combination p low q top)
+      → IsWideCleared limit width place (at low) (at top)
   wide_by_part limit w =
       let part : IsPrimitivePart w.0 (combination p low q top) = w.1 in
       let x : HasWideEntry limit w.0 = w.2 in
       let kl : x.0 < length w.0 = x.2 in
       let n : length w.0 ≡ width = part_length w.0 part in
       let over : limit < nat_abs x.1 = x.4 in
-      let wide : limit < nat_abs (at w.0 x.0) = subst (λ t. limit < nat_abs t) (sym (get_or_default w.0 x.0 (pos 0) x.1 kl ∙ x.3)) over in
+      let wide : limit < nat_abs (at w.0 x.0) =
+      subst (λ t. limit < nat_abs t) (sym (get_or_default w.0 x.0 (pos 0) x.1 kl ∙ x.3)) over in
       let il : x.0 < width = omega arith in
       let some : ((p *ℤ at low x.0) -ℤ (q *ℤ at top x.0)) ≢ pos 0 = (λ z. absurd (
       let d : 0 < part.divisor = part.positive in
-      let zero : at w.0 x.0 ≡ pos 0 = mul_cancel_zero (pos part.divisor) (at w.0 x.0) (omega (arith, ints)) (part_entries w.0 part x.0 il ∙ z) in
+      let zero : at w.0 x.0 ≡ pos 0 =
+      mul_cancel_zero (pos part.divisor) (at w.0 x.0) (omega (arith, ints)) (part_entries w.0 part x.0 il ∙ z) in
       let e : nat_abs (at w.0 x.0) ≡ 0 = ap nat_abs zero in
       omega arith)) in
-      let c : IsCombined (length low) p (at low) q (at top) (at w.0) = pivot_row w.0 low top p q x.0 (wl ∙ sym wt) (omega arith) some part in
+      let c : IsCombined (length low) p (at low) q (at top) (at w.0) =
+      pivot_row w.0 low top p q x.0 (wl ∙ sym wt) (omega arith) some part in
       (at w.0, cleared_by_part w.0 part, subst (λ n. IsPrimitive n (at w.0)) wl c.primitive, (x.0, il, wide))
 
 -- ---- bounds
-pub narrow_by_bounds : (width : ℕ) (row top : List ℤ) (p q : ℤ) (bound other limit sum most : ℕ) → IsWithin bound row → IsWithin other top → length row ≡ width → length top ≡ width
-    → sum ≡ nat_abs p * bound + nat_abs q * other → sum ≤ limit → limit ≤ most → IsNarrowBy most width p q (at row) (at top)
+pub narrow_by_bounds : (width : ℕ) (row top : List ℤ) (p q : ℤ) (bound other limit sum most : ℕ) → IsWithin bound row
+    → IsWithin other top → length row ≡ width → length top ≡ width
+    → sum ≡ nat_abs p * bound + nat_abs q * other → sum ≤ limit → limit ≤ most
+    → IsNarrowBy most width p q (at row) (at top)
 narrow_by_bounds width row top p q bound other limit sum most h k wr wt e l high j jl =
-    let first : nat_abs p * nat_abs (at row j) ≤ nat_abs p * bound = mul-le-mul (omega arith) (h j (pos 0) (omega arith)) in
-    let second : nat_abs q * nat_abs (at top j) ≤ nat_abs q * other = mul-le-mul (omega arith) (k j (pos 0) (omega arith)) in
+    let first : nat_abs p * nat_abs (at row j) ≤ nat_abs p * bound =
+    mul-le-mul (omega arith) (h j (pos 0) (omega arith)) in
+    let second : nat_abs q * nat_abs (at top j) ≤ nat_abs q * other =
+    mul-le-mul (omega arith) (k j (pos 0) (omega arith)) in
     omega arith
 
-pub bounded_by_sum : (width : ℕ) (row top new : List ℤ) (p q : ℤ) (bound other limit sum : ℕ) → IsWithin bound row → IsWithin other top → length row ≡ width → length top ≡ width → length new ≡ width
-    → sum ≡ nat_abs p * bound + nat_abs q * other → sum ≤ limit → ((k : ℕ) → k < width → at new k ≡ (p *ℤ at row k) -ℤ (q *ℤ at top k)) → IsBounded limit new sum
+pub bounded_by_sum : (width : ℕ) (row top new : List ℤ) (p q : ℤ) (bound other limit sum : ℕ) → IsWithin bound row
+    → IsWithin other top → length row ≡ width → length top ≡ width → length new ≡ width
+    → sum ≡ nat_abs p * bound + nat_abs q * other → sum ≤ limit
+    → ((k : ℕ) → k < width → at new k ≡ (p *ℤ at row k) -ℤ (q *ℤ at top k)) → IsBounded limit new sum
 bounded_by_sum width row top new p q bound other limit sum h k wr wt wn e l entries = record {
   low = l;
   within = λ j d jl.
       let here : get_or new j d ≡ at new j = get_or_default new j d (pos 0) jl in
       let a : nat_abs (p *ℤ at row j) ≡ nat_abs p * nat_abs (at row j) = unsigned_abs-mul p (at row j) in
       let b : nat_abs (q *ℤ at top j) ≡ nat_abs q * nat_abs (at top j) = unsigned_abs-mul q (at top j) in
-      let c : nat_abs p * nat_abs (at row j) ≤ nat_abs p * bound = mul-le-mul (omega arith) (h j (pos 0) (omega arith)) in
-      let g : nat_abs q * nat_abs (at top j) ≤ nat_abs q * other = mul-le-mul (omega arith) (k j (pos 0) (omega arith)) in
-      let s : nat_abs ((p *ℤ at row j) -ℤ (q *ℤ at top j)) ≤ nat_abs (p *ℤ at row j) + nat_abs (q *ℤ at top j) = less_size (p *ℤ at row j) (q *ℤ at top j) in
+      let c : nat_abs p * nat_abs (at row j) ≤ nat_abs p * bound =
+      mul-le-mul (omega arith) (h j (pos 0) (omega arith)) in
+      let g : nat_abs q * nat_abs (at top j) ≤ nat_abs q * other =
+      mul-le-mul (omega arith) (k j (pos 0) (omega arith)) in
+      let s : nat_abs ((p *ℤ at row j) -ℤ (q *ℤ at top j)) ≤ nat_abs (p *ℤ at row j) + nat_abs (q *ℤ at top j) =
+      less_size (p *ℤ at row j) (q *ℤ at top j) in
       subst (λ t. nat_abs t ≤ sum) (sym (here ∙ entries j (omega arith))) (omega arith);
 }
   where
@@ -152,7 +184,8 @@ bounded_by_sum width row top new p q bound other limit sum h k wr wt wn e l entr
     less_size x y = omega (arith, ints)
 
 -- the greatest size is within the limit, where all are
-pub largest_low : (row : List ℤ) (size limit : ℕ) → IsWithin limit row → (0 < size → Any (λ entry. nat_abs entry ≡ size) row) → size ≤ limit
+pub largest_low : (row : List ℤ) (size limit : ℕ) → IsWithin limit row
+    → (0 < size → Any (λ entry. nat_abs entry ≡ size) row) → size ≤ limit
 largest_low row size limit h reached =
     elim (cases_eq size 0) [
       | inl e ↦ omega arith
@@ -166,17 +199,24 @@ largest_low row size limit h reached =
     ]
 
 -- an entry is within what bounds its row
-pub entry_low : (row : List ℤ) (place bound limit most : ℕ) → place < length row → IsWithin bound row → bound ≤ limit → limit ≤ most → nat_abs (at row place) ≤ most
-entry_low row place bound limit most inside h low high = let l : nat_abs (at row place) ≤ bound = h place (pos 0) inside in omega arith
+pub entry_low : (row : List ℤ) (place bound limit most : ℕ) → place < length row → IsWithin bound row → bound ≤ limit
+    → limit ≤ most → nat_abs (at row place) ≤ most
+entry_low row place bound limit most inside h low high =
+    let l : nat_abs (at row place) ≤ bound = h place (pos 0) inside in omega arith
 
 -- a row in lowest terms that is not 0 everywhere has the content 1
 pub content_one : (row : List ℤ) (k : ℕ) → k < length row → at row k ≢ pos 0 → content row ≤ 1 → content row ≡ 1
-content_one row k l some low = elim (cases_eq (content row) 0) [ inl z ↦ absurd (some (content_zero row k z l)) | inr n ↦ omega arith ]
+content_one row k l some low = elim (cases_eq (content row) 0) [
+  | inl z ↦ absurd (some (content_zero row k z l))
+  | inr n ↦ omega arith
+]
 
 -- ---- what the code reads
 -- the factors of the two entries at the place
-pub parts_read : {X : Type 0} (value : X → ℤ) (entries row : List X) (top : List ℤ) (place : ℕ) (x y : X) (p q : ℤ) → map value entries ≡ top → place < length entries → place < length row
-    → x ≡ get_or entries place x → y ≡ get_or row place y → ArePartsOf (value x) (value y) p q → ArePartsOf (at top place) (at (map value row) place) p q
+pub parts_read : {X : Type 0} (value : X → ℤ) (entries row : List X) (top : List ℤ) (place : ℕ) (x y : X) (p q : ℤ)
+    → map value entries ≡ top → place < length entries → place < length row
+    → x ≡ get_or entries place x → y ≡ get_or row place y → ArePartsOf (value x) (value y) p q
+    → ArePartsOf (at top place) (at (map value row) place) p q
 parts_read value entries row top place x y p q same xl yl ex ey m = record {
   times = m.times;
   positive = m.positive;
@@ -184,11 +224,13 @@ parts_read value entries row top place x y p q same xl yl ex ey m = record {
   q_is = sym (number_read value row place y yl ey) ∙ m.q_is;
 }
 
-pub read_low : {X : Type 0} (value : X → ℤ) (row : List X) (place : ℕ) (y : X) (bound limit most : ℕ) → place < length row → y ≡ get_or row place y → IsWithin bound (map value row) → bound ≤ limit → limit ≤ most
+pub read_low : {X : Type 0} (value : X → ℤ) (row : List X) (place : ℕ) (y : X) (bound limit most : ℕ)
+    → place < length row → y ≡ get_or row place y → IsWithin bound (map value row) → bound ≤ limit → limit ≤ most
     → nat_abs (value y) ≤ most
 read_low value row place y bound limit most l e h low high =
     subst (λ t. nat_abs t ≤ most) (sym (number_read value row place y l e))
-    (entry_low (map value row) place bound limit most (subst (λ n. place < n) (sym (length-map row value)) l) h low high)
+    (entry_low (map value row) place bound limit most
+    (subst (λ n. place < n) (sym (length-map row value)) l) h low high)
 
 pub ok_if : {T E : Type 0} (r : Result T E) (P Q : Type 0) → (P → Q) → OnOk r P → IfOk r (λ x. Q)
 ok_if (Ok x) P Q f h = f h

@@ -20,7 +20,10 @@ module _ (row : Vector) (k : ℕ) (places : List ℕ) (listed : ℕ) (h : IsList
     few = let l : listed ≤ k = h.few in omega arith;
     inside = λ j jl. let l : get_or places j 0 < k = h.inside j jl in omega arith;
     rising = h.rising;
-    all = λ i il some. elim (cases_eq i k) [ inl e ↦ absurd (some (ap row e ∙ z)) | inr d ↦ h.all i (omega arith) some ];
+    all = λ i il some. elim (cases_eq i k) [
+      | inl e ↦ absurd (some (ap row e ∙ z))
+      | inr d ↦ h.all i (omega arith) some
+    ];
   }
 
   -- a place more
@@ -34,7 +37,8 @@ module _ (row : Vector) (k : ℕ) (places : List ℕ) (listed : ℕ) (h : IsList
   list_place room = record {
     few = let l : listed ≤ k = h.few in omega arith;
     inside = λ j jl. elim (cases_eq j listed) [
-      | inl e ↦ let s : get_or (set places listed k) j 0 ≡ k = ap (λ t. get_or (set places listed k) t 0) e ∙ here room in omega arith
+      | inl e ↦ let s : get_or (set places listed k) j 0 ≡ k =
+          ap (λ t. get_or (set places listed k) t 0) e ∙ here room in omega arith
       | inr d ↦
           let s : get_or (set places listed k) j 0 ≡ get_or places j 0 = before j (omega arith) in
           let l : get_or places j 0 < k = h.inside j (omega arith) in
@@ -61,10 +65,12 @@ module _ (row : Vector) (k : ℕ) (places : List ℕ) (listed : ℕ) (h : IsList
   }
 
 -- all of them
-pub all_listed : (width : ℕ) (row : Vector) (places : List ℕ) (listed : ℕ) → listed ≤ length places → IsListedTo row width places listed → AreListed width row (take listed places)
+pub all_listed : (width : ℕ) (row : Vector) (places : List ℕ) (listed : ℕ) → listed ≤ length places
+    → IsListedTo row width places listed → AreListed width row (take listed places)
 all_listed width row places listed few h =
     let n : length (take listed places) ≡ listed = omega (arith, length-take listed places) in
-    let at_front : (j : ℕ) → j < listed → get_or (take listed places) j 0 ≡ get_or places j 0 = λ j l. get_or-take listed places j 0 l in
+    let at_front : (j : ℕ) → j < listed → get_or (take listed places) j 0 ≡ get_or places j 0 =
+    λ j l. get_or-take listed places j 0 l in
     record {
       inside = λ j jl. subst (λ t. t < width) (sym (at_front j (omega arith))) (h.inside j (omega arith));
       rising = λ i j il jl.

@@ -9,7 +9,9 @@ use Rattle.rob_deep.proofs.Words.{read, seen}
 
 -- a combination by factors that are read
 pub combination_read : (p : ℤ) (upper : List ℤ) (q : ℤ) (low : List ℤ) → SFits w128 p → SFits w128 q
-    → combination (read p) upper (read q) low ≡ combination p (map (λ number. number) upper) q (map (λ number. number) low)
+    → combination (read p) upper (read q) low
+    ≡ combination p (map (λ number. number) upper) q (map (λ number. number) low)
 combination_read p upper q low f g =
     ap (λ t. combination t upper (read q) low) (seen p f) ∙ ap (λ t. combination p upper t low) (seen q g)
-    ∙ ap (λ t. combination p t q low) (sym (map-id upper)) ∙ ap (λ t. combination p (map (λ number. number) upper) q t) (sym (map-id low))
+    ∙ ap (λ t. combination p t q low) (sym (map-id upper))
+    ∙ ap (λ t. combination p (map (λ number. number) upper) q t) (sym (map-id low))

@@ -21,21 +21,24 @@ turned false h = (λ e. let f : true ≡ false = e in cc, λ x. let f : false �
 
 -- ---- marks that are written
 -- a mark that is off behind a write is the one that was written, or it was off
-pub written_off : (marks : List Bool) (i j : ℕ) (mark : Bool) → i < length marks → get_or (set marks i mark) j true ≡ false → ((j ≡ i) × (mark ≡ false)) ⊎ ((j ≢ i) × (get_or marks j true ≡ false))
+pub written_off : (marks : List Bool) (i j : ℕ) (mark : Bool) → i < length marks
+    → get_or (set marks i mark) j true ≡ false → ((j ≡ i) × (mark ≡ false)) ⊎ ((j ≢ i) × (get_or marks j true ≡ false))
 written_off marks i j mark l off = elim (cases_eq j i) [
   | inl e ↦ inl (e, sym (ap (λ t. get_or (set marks i mark) t true) e ∙ get_or-set_same marks i mark true l) ∙ off)
   | inr d ↦ inr (d, sym (get_or-set_other marks i j mark true d) ∙ off)
 ]
 
 -- a number is written, and its mark
-pub marked_write : (numbers : List ℤ) (marks : List Bool) → IsMapped numbers marks → (k : ℕ) (x : ℤ) (mark : Bool) → k < length numbers → (mark ≡ false → x ≡ pos 0) → IsMapped (set numbers k x) (set marks k mark)
+pub marked_write : (numbers : List ℤ) (marks : List Bool) → IsMapped numbers marks → (k : ℕ) (x : ℤ) (mark : Bool)
+    → k < length numbers → (mark ≡ false → x ≡ pos 0) → IsMapped (set numbers k x) (set marks k mark)
 marked_write numbers marks h k x mark l zero =
     let size : length marks ≡ length numbers = h.size in
     record {
       size = length-set marks k mark ∙ h.size ∙ sym (length-set numbers k x);
       zeros = λ j jl off. elim (written_off marks k j mark (omega arith) off) [
         | inl e ↦ ap (at (set numbers k x)) e.0 ∙ get_or-set_same numbers k x (pos 0) l ∙ zero e.1
-        | inr d ↦ get_or-set_other numbers k j x (pos 0) d.0 ∙ h.zeros j (subst (λ n. j < n) (length-set numbers k x) jl) d.1
+        | inr d ↦ get_or-set_other numbers k j x (pos 0) d.0
+            ∙ h.zeros j (subst (λ n. j < n) (length-set numbers k x) jl) d.1
       ];
     }
 
@@ -48,8 +51,10 @@ MarkedTo start places count row before after =
     ⊎ ((get_or before j true ≡ false) × ((i : ℕ) → i < count → j ≢ start + get_or places i 0))
 
 -- one place more
-pub mark_more : (start : ℕ) (places : List ℕ) (i : ℕ) (row next : Vector) (before after : List Bool) (mark : Bool) → start + get_or places i 0 < length after → MarkedTo start places i row before after
-    → ((n : ℕ) → n < i → next (get_or places n 0) ≡ row (get_or places n 0)) → (mark ≡ false → next (get_or places i 0) ≡ pos 0)
+pub mark_more : (start : ℕ) (places : List ℕ) (i : ℕ) (row next : Vector) (before after : List Bool) (mark : Bool)
+    → start + get_or places i 0 < length after → MarkedTo start places i row before after
+    → ((n : ℕ) → n < i → next (get_or places n 0) ≡ row (get_or places n 0))
+    → (mark ≡ false → next (get_or places i 0) ≡ pos 0)
     → MarkedTo start places (i + 1) next before (set after (start + get_or places i 0) mark)
 mark_more start places i row next before after mark inside h stays zero j off =
     elim (written_off after (start + get_or places i 0) j mark inside off) [
@@ -67,7 +72,9 @@ mark_more start places i row next before after mark inside h stays zero j off =
     ]
 
 -- all of them, where they are the places in which another row is not 0
-pub all_marked : (start width : ℕ) (places : List ℕ) (row other : Vector) (before after : List Bool) → AreListed width other places → MarkedTo start places (length places) row before after → AreMarked start width row other before after
+pub all_marked : (start width : ℕ) (places : List ℕ) (row other : Vector) (before after : List Bool)
+    → AreListed width other places → MarkedTo start places (length places) row before after
+    → AreMarked start width row other before after
 all_marked start width places row other before after listed h j off = elim (h j off) [
   | inl z ↦ inl (get_or places z.0 0, listed.inside z.0 z.1, z.2, z.3)
   | inr z ↦ inr (
@@ -80,18 +87,21 @@ all_marked start width places row other before after listed h j off = elim (h j 
 ]
 
 -- ---- a row that is written back
-module _ {X : Type 0} (f : X → ℤ) (cells : List ℤ) (items now : List X) (len : ℕ) (is : map f items ≡ cells) (lent : now ≡ items) (sized : len ≡ length items) (a w : ℕ) (inside : a + w ≤ length cells)
+module _ {X : Type 0} (f : X → ℤ) (cells : List ℤ) (items now : List X) (len : ℕ) (is : map f items ≡ cells)
+    (lent : now ≡ items) (sized : len ≡ length items) (a w : ℕ) (inside : a + w ≤ length cells)
     (s : List X) (kept : length s ≡ length (part now a w)) (marks next : List Bool) (h : IsMapped cells marks) where
   -- what was 0 stays 0 where the other row is 0
   marked_back : (other : Vector) → length next ≡ length marks → AreMarked a w (at (map f s)) other marks next
       → ((k : ℕ) → k < w → at cells (a + k) ≡ pos 0 → other k ≡ pos 0 → at (map f s) k ≡ pos 0)
       → IsMapped (map f (stored f cells items now len is lent sized a w inside s kept)) next
   marked_back other size marked zero =
-      let n : length (map f (stored f cells items now len is lent sized a w inside s kept)) ≡ length cells = stored_length f cells items now len is lent sized a w inside s kept in
+      let n : length (map f (stored f cells items now len is lent sized a w inside s kept)) ≡ length cells =
+      stored_length f cells items now len is lent sized a w inside s kept in
       record {
         size = size ∙ h.size ∙ sym n;
         zeros = λ j l off. elim (marked j off) [
-          | inl z ↦ ap (at (map f (stored f cells items now len is lent sized a w inside s kept))) z.2 ∙ stored_here f cells items now len is lent sized a w inside s kept z.0 z.1 ∙ z.3
+          | inl z ↦ ap (at (map f (stored f cells items now len is lent sized a w inside s kept))) z.2
+              ∙ stored_here f cells items now len is lent sized a w inside s kept z.0 z.1 ∙ z.3
           | inr z ↦ elim (cases_lt j a) [
             | inl b ↦ outside j (inl b) (omega arith) z.0
             | inr b ↦ elim (cases_lt j (a + w)) [
@@ -102,27 +112,36 @@ module _ {X : Type 0} (f : X → ℤ) (cells : List ℤ) (items now : List X) (l
         ];
       }
     where
-      outside : (j : ℕ) → ((j < a) ⊎ (a + w ≤ j)) → j < length cells → get_or marks j true ≡ false → at (map f (stored f cells items now len is lent sized a w inside s kept)) j ≡ pos 0
+      outside : (j : ℕ) → ((j < a) ⊎ (a + w ≤ j)) → j < length cells → get_or marks j true ≡ false
+          → at (map f (stored f cells items now len is lent sized a w inside s kept)) j ≡ pos 0
       outside j o l off = stored_other f cells items now len is lent sized a w inside s kept j o ∙ h.zeros j l off
 
-      within : (j : ℕ) → a ≤ j → j < a + w → j < length cells → get_or marks j true ≡ false → other (j - a) ≡ pos 0 → at (map f (stored f cells items now len is lent sized a w inside s kept)) j ≡ pos 0
+      within : (j : ℕ) → a ≤ j → j < a + w → j < length cells → get_or marks j true ≡ false → other (j - a) ≡ pos 0
+          → at (map f (stored f cells items now len is lent sized a w inside s kept)) j ≡ pos 0
       within j b c l off z =
           let e : a + (j - a) ≡ j = omega arith in
           subst (λ t. at (map f (stored f cells items now len is lent sized a w inside s kept)) t ≡ pos 0) e
-          (stored_here f cells items now len is lent sized a w inside s kept (j - a) (omega arith) ∙ zero (j - a) (omega arith) (ap (at cells) e ∙ h.zeros j l off) z)
+          (stored_here f cells items now len is lent sized a w inside s kept (j - a) (omega arith)
+          ∙ zero (j - a) (omega arith) (ap (at cells) e ∙ h.zeros j l off) z)
 
   -- where no mark changes
-  pub mapped_back : next ≡ marks → ((k : ℕ) → k < w → at cells (a + k) ≡ pos 0 → at (map f s) k ≡ pos 0) → IsMapped (map f (stored f cells items now len is lent sized a w inside s kept)) next
+  pub mapped_back : next ≡ marks → ((k : ℕ) → k < w → at cells (a + k) ≡ pos 0 → at (map f s) k ≡ pos 0)
+      → IsMapped (map f (stored f cells items now len is lent sized a w inside s kept)) next
   mapped_back same zero =
-      marked_back (λ k. pos 0) (ap length same) (λ j off. inr (subst (λ (t : List Bool). get_or t j true ≡ false) same off, λ k l e. refl)) (λ k l z o. zero k l z)
+      marked_back (λ k. pos 0) (ap length same)
+      (λ j off. inr (subst (λ (t : List Bool). get_or t j true ≡ false) same off, λ k l e. refl))
+      (λ k l z o. zero k l z)
 
   -- where the row is cleared, or all stays
-  pub cleared_back : {T E : Type 0} (r : Result T E) (other : Vector) → length next ≡ length marks → IfOk r (λ x. AreMarked a w (at (map f s)) other marks next) → OnErr r (next ≡ marks) → OnErr r (s ≡ part now a w)
+  pub cleared_back : {T E : Type 0} (r : Result T E) (other : Vector) → length next ≡ length marks
+      → IfOk r (λ x. AreMarked a w (at (map f s)) other marks next) → OnErr r (next ≡ marks)
+      → OnErr r (s ≡ part now a w)
       → ((k : ℕ) → k < w → at cells (a + k) ≡ pos 0 → other k ≡ pos 0 → at (map f s) k ≡ pos 0)
       → IsMapped (map f (stored f cells items now len is lent sized a w inside s kept)) next
   cleared_back (Ok x) other size marked same unchanged zero = marked_back other size marked zero
   cleared_back (Err x) other size marked same unchanged zero =
-      mapped_back same (λ k l z. ap (λ (t : List ℤ). at t k) (ap (map f) unchanged) ∙ row_at f cells items now len is lent sized a w inside k l ∙ z)
+      mapped_back same (λ k l z. ap (λ (t : List ℤ). at t k) (ap (map f) unchanged)
+      ∙ row_at f cells items now len is lent sized a w inside k l ∙ z)
 
 -- ---- what stays 0
 -- a row with 0 in a place, and a multiple of it
@@ -130,7 +149,8 @@ pub part_zero : (d x y : ℤ) → pos 0 <ℤ d → d *ℤ x ≡ y → y ≡ pos 
 part_zero d x y h e z = mul_cancel_zero d x h (e ∙ z)
 
 -- where both rows are 0, what is left of one is 0
-pub cleared_zero : {T E : Type 0} (r : Result T E) (width place : ℕ) (low top new : Vector) (X : Type 0) → IfOk r (λ _. IsClearedBy width place low top new) → OnErr r X → (X → (k : ℕ) → k < width → new k ≡ low k)
+pub cleared_zero : {T E : Type 0} (r : Result T E) (width place : ℕ) (low top new : Vector) (X : Type 0)
+    → IfOk r (λ _. IsClearedBy width place low top new) → OnErr r X → (X → (k : ℕ) → k < width → new k ≡ low k)
     → (k : ℕ) → k < width → low k ≡ pos 0 → top k ≡ pos 0 → new k ≡ pos 0
 cleared_zero (Ok x) width place low top new X c o same k l lz tz =
     let p : c.p *ℤ low k ≡ pos 0 = ap (λ t. c.p *ℤ t) lz ∙ mul-zero c.p in

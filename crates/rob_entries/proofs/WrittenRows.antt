@@ -12,8 +12,10 @@ take_all [] ys = refl
 take_all (x ∷ xs) ys = ap (λ t. x ∷ t) (take_all xs ys)
 
 -- a list written back whole
-pub written_back : {X : Type 0} (new items : List X) (len : ℕ) → length new ≡ len → take len (new ++ drop (length new) items) ≡ new
-written_back new items len e = ap (λ t. take t (new ++ drop (length new) items)) (sym e) ∙ take_all new (drop (length new) items)
+pub written_back : {X : Type 0} (new items : List X) (len : ℕ) → length new ≡ len
+    → take len (new ++ drop (length new) items) ≡ new
+written_back new items len e =
+    ap (λ t. take t (new ++ drop (length new) items)) (sym e) ∙ take_all new (drop (length new) items)
 
 -- ---- a part of a list
 abbrev pub part : {X : Type 0} → List X → ℕ → ℕ → List X
@@ -29,29 +31,36 @@ part_at : (row : List ℤ) (a w k : ℕ) → k < w → at (part row a w) k ≡ a
 part_at row a w k l = get_or-take (a + w - a) (drop a row) k (pos 0) (omega arith) ∙ get_or-drop a row k (pos 0)
 
 part_numbers : {X : Type 0} (f : X → ℤ) (items : List X) (a w : ℕ) → map f (part items a w) ≡ part (map f items) a w
-part_numbers f items a w = sym (take-map f (a + w - a) (drop a items)) ∙ ap (take (a + w - a)) (sym (drop-map f a items))
+part_numbers f items a w =
+    sym (take-map f (a + w - a) (drop a items)) ∙ ap (take (a + w - a)) (sym (drop-map f a items))
 
-put_numbers : {X : Type 0} (f : X → ℤ) (items : List X) (a w : ℕ) (s : List X) → map f (put items a w s) ≡ put (map f items) a w (map f s)
+put_numbers : {X : Type 0} (f : X → ℤ) (items : List X) (a w : ℕ) (s : List X)
+    → map f (put items a w s) ≡ put (map f items) a w (map f s)
 put_numbers f items a w s =
     map-append f (take a items) (s ++ post_of a (a + w - a) items)
     ∙ ap (λ t. t ++ map f (s ++ post_of a (a + w - a) items)) (sym (take-map f a items))
     ∙ ap (λ t. take a (map f items) ++ t)
-    (map-append f s (post_of a (a + w - a) items) ∙ ap (λ t. map f s ++ t) (sym (drop-map f (a + w - a) (drop a items)) ∙ ap (drop (a + w - a)) (sym (drop-map f a items))))
+    (map-append f s (post_of a (a + w - a) items)
+    ∙ ap (λ t. map f s ++ t) (sym (drop-map f (a + w - a) (drop a items))
+    ∙ ap (drop (a + w - a)) (sym (drop-map f a items))))
 
-put_here : (row s : List ℤ) (a w k : ℕ) → a + w ≤ length row → length s ≡ w → k < w → at (put row a w s) (a + k) ≡ at s k
+put_here : (row s : List ℤ) (a w k : ℕ) → a + w ≤ length row → length s ≡ w → k < w
+    → at (put row a w s) (a + k) ≡ at s k
 put_here row s a w k h e l = search (rules, places)
 
 put_before : (row s : List ℤ) (a w n : ℕ) → a + w ≤ length row → length s ≡ w → n < a → at (put row a w s) n ≡ at row n
 put_before row s a w n h e l = search (rules, places)
 
-put_behind : (row s : List ℤ) (a w n : ℕ) → a + w ≤ length row → length s ≡ w → a + w ≤ n → at (put row a w s) n ≡ at row n
+put_behind : (row s : List ℤ) (a w n : ℕ) → a + w ≤ length row → length s ≡ w → a + w ≤ n
+    → at (put row a w s) n ≡ at row n
 put_behind row s a w n h e l = search (rules, places)
 
 put_length : (row s : List ℤ) (a w : ℕ) → a + w ≤ length row → length s ≡ w → length (put row a w s) ≡ length row
 put_length row s a w h e = search (rules, places)
 
 -- ---- a row of the cells
-module _ {X : Type 0} (f : X → ℤ) (cells : List ℤ) (items now : List X) (len : ℕ) (is : map f items ≡ cells) (lent : now ≡ items) (sized : len ≡ length items) (a w : ℕ) (inside : a + w ≤ length cells) where
+module _ {X : Type 0} (f : X → ℤ) (cells : List ℤ) (items now : List X) (len : ℕ) (is : map f items ≡ cells)
+    (lent : now ≡ items) (sized : len ≡ length items) (a w : ℕ) (inside : a + w ≤ length cells) where
   numbers : map f now ≡ cells
   numbers = ap (map f) lent ∙ is
 
@@ -68,7 +77,8 @@ module _ {X : Type 0} (f : X → ℤ) (cells : List ℤ) (items now : List X) (l
   pub row_at : (k : ℕ) → k < w → at (map f (part now a w)) k ≡ at cells (a + k)
   row_at k l = ap (λ (t : List ℤ). at t k) row_part ∙ part_at cells a w k l
 
-  pub row_within : (bound : ℕ) → ((k : ℕ) → k < w → nat_abs (at cells (a + k)) ≤ bound) → IsWithin bound (map f (part now a w))
+  pub row_within : (bound : ℕ) → ((k : ℕ) → k < w → nat_abs (at cells (a + k)) ≤ bound)
+      → IsWithin bound (map f (part now a w))
   row_within bound h k d l =
       let kl : k < w = omega (arith, length-map (part now a w) f, row_length) in
       subst (λ t. nat_abs t ≤ bound) (sym (get_or_default (map f (part now a w)) k d (pos 0) l ∙ row_at k kl)) (h k kl)
@@ -77,10 +87,12 @@ module _ {X : Type 0} (f : X → ℤ) (cells : List ℤ) (items now : List X) (l
   numbers_length = length-map (part now a w) f ∙ row_length
 
   -- what bounds it
-  pub row_bounded : (bound : ℕ) → IsWithin bound (map f (part now a w)) → (k : ℕ) → k < w → nat_abs (at cells (a + k)) ≤ bound
+  pub row_bounded : (bound : ℕ) → IsWithin bound (map f (part now a w)) → (k : ℕ) → k < w
+      → nat_abs (at cells (a + k)) ≤ bound
   row_bounded bound h k l = subst (λ t. nat_abs t ≤ bound) (row_at k l) (h k (pos 0) (omega (arith, numbers_length)))
 
-  pub row_reached : (size : ℕ) → Any (λ entry. nat_abs entry ≡ size) (map f (part now a w)) → (k : ℕ) × (k < w) × (nat_abs (at cells (a + k)) ≡ size)
+  pub row_reached : (size : ℕ) → Any (λ entry. nat_abs entry ≡ size) (map f (part now a w)) → (k : ℕ) × (k < w)
+      × (nat_abs (at cells (a + k)) ≡ size)
   row_reached size h =
       let kl : h.0 < length (map f (part now a w)) = h.2 in
       let l : h.0 < w = omega (arith, numbers_length) in
@@ -97,13 +109,16 @@ module _ {X : Type 0} (f : X → ℤ) (cells : List ℤ) (items now : List X) (l
 
     pub stored_numbers : map f stored ≡ put cells a w (map f s)
     stored_numbers =
-        ap (map f) (written_back (put now a w s) items len (same_len_mid a (a + w - a) now s kept ∙ ap length lent ∙ sym sized)) ∙ put_numbers f now a w s
+        ap (map f) (written_back (put now a w s) items len
+        (same_len_mid a (a + w - a) now s kept ∙ ap length lent ∙ sym sized)) ∙ put_numbers f now a w s
         ∙ ap (λ (t : List ℤ). put t a w (map f s)) numbers
 
     pub stored_here : (k : ℕ) → k < w → at (map f stored) (a + k) ≡ at (map f s) k
-    stored_here k l = ap (λ (t : List ℤ). at t (a + k)) stored_numbers ∙ put_here cells (map f s) a w k inside new_length l
+    stored_here k l =
+        ap (λ (t : List ℤ). at t (a + k)) stored_numbers ∙ put_here cells (map f s) a w k inside new_length l
 
-    pub stored_reached : (size : ℕ) → Any (λ entry. nat_abs entry ≡ size) (map f s) → (k : ℕ) × (k < w) × (nat_abs (at (map f stored) (a + k)) ≡ size)
+    pub stored_reached : (size : ℕ) → Any (λ entry. nat_abs entry ≡ size) (map f s) → (k : ℕ) × (k < w)
+        × (nat_abs (at (map f stored) (a + k)) ≡ size)
     stored_reached size h =
         let kl : h.0 < length (map f s) = h.2 in
         let l : h.0 < w = omega (arith, new_length) in
@@ -112,19 +127,25 @@ module _ {X : Type 0} (f : X → ℤ) (cells : List ℤ) (items now : List X) (l
     pub stored_other : (k : ℕ) → (k < a) ⊎ (a + w ≤ k) → at (map f stored) k ≡ at cells k
     stored_other k c =
         ap (λ (t : List ℤ). at t k) stored_numbers
-        ∙ elim c [ inl b ↦ put_before cells (map f s) a w k inside new_length b | inr b ↦ put_behind cells (map f s) a w k inside new_length b ]
+        ∙ elim c [
+          | inl b ↦ put_before cells (map f s) a w k inside new_length b
+          | inr b ↦ put_behind cells (map f s) a w k inside new_length b
+        ]
 
     pub stored_length : length (map f stored) ≡ length cells
     stored_length = ap length stored_numbers ∙ put_length cells (map f s) a w inside new_length
 
     -- where the row is as it was, so are the cells
     pub stored_same : s ≡ part now a w → map f stored ≡ cells
-    stored_same e = stored_numbers ∙ ap (λ (t : List ℤ). put cells a w t) (ap (map f) e ∙ row_part) ∙ put_same a (a + w - a) cells
+    stored_same e =
+        stored_numbers ∙ ap (λ (t : List ℤ). put cells a w t) (ap (map f) e ∙ row_part) ∙ put_same a (a + w - a) cells
 
 -- ---- one number more is written as it is in another list
-pub one_more : (xs new ys : List ℤ) (k : ℕ) (x : ℤ) → length xs ≡ length ys → k < length ys → new ≡ set xs k x → x ≡ at ys k → ((j : ℕ) → j < k → at xs j ≡ at ys j)
+pub one_more : (xs new ys : List ℤ) (k : ℕ) (x : ℤ) → length xs ≡ length ys → k < length ys → new ≡ set xs k x
+    → x ≡ at ys k → ((j : ℕ) → j < k → at xs j ≡ at ys j)
     → (j : ℕ) → j < k + 1 → at new j ≡ at ys j
 one_more xs new ys k x size l e is h j jl = elim (cases_eq j k) [
-  | inl same ↦ ap (λ (t : List ℤ). at t j) e ∙ ap (at (set xs k x)) same ∙ get_or-set_same xs k x (pos 0) (omega arith) ∙ is ∙ ap (at ys) (sym same)
+  | inl same ↦ ap (λ (t : List ℤ). at t j) e ∙ ap (at (set xs k x)) same ∙ get_or-set_same xs k x (pos 0) (omega arith)
+      ∙ is ∙ ap (at ys) (sym same)
   | inr other ↦ ap (λ (t : List ℤ). at t j) e ∙ get_or-set_other xs k j x (pos 0) other ∙ h j (omega arith)
 ]

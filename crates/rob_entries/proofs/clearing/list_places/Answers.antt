@@ -15,11 +15,13 @@ loop-k-preserved g c =
     elim c.if-some.branch [
       | then-some w ↦
           subst (λ t. IsListedTo row (k + 1) t c.if-some.listed) (sym w.places-is)
-          (subst (λ n. IsListedTo row (k + 1) (set c.loop-k.places c.loop-k.listed k) n) (sym w.listed-is) (list_place row k c.loop-k.places c.loop-k.listed c.loop-k.invariant (omega arith)))
+          (subst (λ n. IsListedTo row (k + 1) (set c.loop-k.places c.loop-k.listed k) n) (sym w.listed-is)
+          (list_place row k c.loop-k.places c.loop-k.listed c.loop-k.invariant (omega arith)))
       | else-some w ↦
           let z : g.E.Entry.value c.index-row-k.result ≡ pos 0 = search rules in
           subst (λ t. IsListedTo row (k + 1) t c.if-some.listed) (sym w.places-is)
-          (subst (λ n. IsListedTo row (k + 1) c.loop-k.places n) (sym w.listed-is) (skip_place row k c.loop-k.places c.loop-k.listed c.loop-k.invariant (sym e ∙ z)))
+          (subst (λ n. IsListedTo row (k + 1) c.loop-k.places n) (sym w.listed-is)
+          (skip_place row k c.loop-k.places c.loop-k.listed c.loop-k.invariant (sym e ∙ z)))
     ]
 
 pub returns-clause-listed : goal.returns-clause-listed
@@ -27,4 +29,5 @@ returns-clause-listed g c =
     let row = at (map g.E.Entry.value c.args.row.now) in
     let few : c.loop-k.listed ≤ c.loop-k.k = c.loop-k.invariant.few in
     let end : c.loop-k.k ≡ length c.args.row.now = omega arith in
-    all_listed (length c.args.row.now) row c.loop-k.places c.loop-k.listed (omega arith) (subst (λ n. IsListedTo row n c.loop-k.places c.loop-k.listed) end c.loop-k.invariant)
+    all_listed (length c.args.row.now) row c.loop-k.places c.loop-k.listed (omega arith)
+    (subst (λ n. IsListedTo row n c.loop-k.places c.loop-k.listed) end c.loop-k.invariant)

@@ -11,7 +11,8 @@ loop-k-preserved g c =
     number_read g.E.Entry.value c.loop-k.row k c.index-row-k.result (omega arith) c.index-row-k.is in
     record {
       done =
-          written_more value c.loop-k.row (λ j. neg_ℤ (at (map value c.args.row.now) j)) k c.minus.result (omega arith) c.loop-k.invariant.done
+          written_more value c.loop-k.row (λ j. neg_ℤ (at (map value c.args.row.now) j)) k c.minus.result
+          (omega arith) c.loop-k.invariant.done
           (c.minus.ensures.value ∙ ap neg_ℤ (e ∙ c.loop-k.invariant.same k (omega arith)));
       same = kept_behind value c.loop-k.row (at (map value c.args.row.now)) k c.minus.result c.loop-k.invariant.same;
     }

@@ -12,9 +12,13 @@ loop-k-preserved g c =
     let p = get_or c.args.places.now i 0 in
     let il : c.loop-k.k-index < length c.args.places.now = omega arith in
     let there : get_or c.args.places.now c.loop-k.k-index 0 < length c.args.other.now = c.requires.listed.inside i il in
-    let inside : get_or c.args.places.now c.loop-k.k-index 0 < length c.args.row.now = (let n = c.requires.lengths in omega arith) in
-    let read : g.E.Entry.value c.index-row-k.result ≡ at (map g.E.Entry.value c.args.row.now) (get_or c.args.places.now c.loop-k.k-index 0) = number_read value c.args.row.now p c.index-row-k.result inside c.index-row-k.is in
-    mark_more c.args.start c.args.places.now i (at (map value c.args.row.now)) (at (map value c.args.row.now)) c.args.marks.now c.loop-k.marks c.mark_of.result (omega arith) c.loop-k.invariant (λ n l. refl)
+    let inside : get_or c.args.places.now c.loop-k.k-index 0 < length c.args.row.now =
+    (let n = c.requires.lengths in omega arith) in
+    let read : g.E.Entry.value c.index-row-k.result
+    ≡ at (map g.E.Entry.value c.args.row.now) (get_or c.args.places.now c.loop-k.k-index 0) =
+    number_read value c.args.row.now p c.index-row-k.result inside c.index-row-k.is in
+    mark_more c.args.start c.args.places.now i (at (map value c.args.row.now)) (at (map value c.args.row.now))
+    c.args.marks.now c.loop-k.marks c.mark_of.result (omega arith) c.loop-k.invariant (λ n l. refl)
     (λ off. sym read ∙ c.mark_of.ensures.off.0 off)
 
 pub returns : goal.returns
@@ -24,6 +28,8 @@ returns g c =
     let end : c.loop-k.k-index ≡ length c.args.places.now = omega arith in
     record {
       marked = subst (λ n. AreMarked c.args.start n row other c.args.marks.now c.loop-k.marks) c.requires.lengths
-          (all_marked c.args.start (length c.args.other.now) c.args.places.now row other c.args.marks.now c.loop-k.marks c.requires.listed
-          (subst (λ n. MarkedTo c.args.start c.args.places.now n row c.args.marks.now c.loop-k.marks) end c.loop-k.invariant));
+          (all_marked c.args.start (length c.args.other.now) c.args.places.now row other c.args.marks.now
+          c.loop-k.marks c.requires.listed
+          (subst (λ n. MarkedTo c.args.start c.args.places.now n row c.args.marks.now c.loop-k.marks)
+          end c.loop-k.invariant));
     }

@@ -7,7 +7,9 @@ use Rattle.rob_entries.proofs.updates.subtract.Given as goal
 abbrev pub invariant-loop-k : goal.invariant-loop-k
 invariant-loop-k g l = record {
   done : (j : ℕ) → j < l.k-index → at (map g.E.Entry.value l.row) (get_or l.fn.places j 0)
-      ≡ at (map g.E.Entry.value l.fn.row) (get_or l.fn.places j 0) -ℤ (g.E.Entry.value l.fn.q *ℤ at (map g.E.Entry.value l.fn.other) (get_or l.fn.places j 0));
-  same : (x : ℕ) → ((j : ℕ) → j < l.k-index → x ≢ get_or l.fn.places j 0) → at (map g.E.Entry.value l.row) x ≡ at (map g.E.Entry.value l.fn.row) x;
+      ≡ at (map g.E.Entry.value l.fn.row) (get_or l.fn.places j 0)
+      -ℤ (g.E.Entry.value l.fn.q *ℤ at (map g.E.Entry.value l.fn.other) (get_or l.fn.places j 0));
+  same : (x : ℕ) → ((j : ℕ) → j < l.k-index → x ≢ get_or l.fn.places j 0)
+      → at (map g.E.Entry.value l.row) x ≡ at (map g.E.Entry.value l.fn.row) x;
   marked : MarkedTo l.fn.start l.fn.places l.k-index (at (map g.E.Entry.value l.row)) l.fn.marks l.marks;
 }

@@ -10,9 +10,15 @@ returns g c =
     let value = g.E.Entry.value in
     let row = map value (part c.as_slice.result.now c.args.start c.args.count) in
     let near : ℕ → ℕ = λ k. get_or c.args.near.now k 0 in
-    let count = row_length value c.args.self.now c.self.inside.items.items c.as_slice.result.now c.self.inside.items.len c.self.view_is c.as_slice.ensures.value c.self.inside.items.ok.0 c.args.start c.args.count c.requires.row_in in
+    let count =
+    row_length value c.args.self.now c.self.inside.items.items c.as_slice.result.now c.self.inside.items.len
+    c.self.view_is c.as_slice.ensures.value c.self.inside.items.ok.0 c.args.start c.args.count c.requires.row_in in
     record {
-      lowest = lowest_ext (at row) (λ k. at c.args.self.now (c.args.start + k)) near c.args.count c.args.before c.lowest_column.result
-          (row_at value c.args.self.now c.self.inside.items.items c.as_slice.result.now c.self.inside.items.len c.self.view_is c.as_slice.ensures.value c.self.inside.items.ok.0 c.args.start c.args.count c.requires.row_in)
-          (subst (λ n. IsLowest (at row) near n c.args.before c.lowest_column.result) count c.lowest_column.ensures.lowest);
+      lowest = lowest_ext (at row) (λ k. at c.args.self.now (c.args.start + k)) near c.args.count
+          c.args.before c.lowest_column.result
+          (row_at value c.args.self.now c.self.inside.items.items c.as_slice.result.now c.self.inside.items.len
+          c.self.view_is c.as_slice.ensures.value c.self.inside.items.ok.0 c.args.start
+          c.args.count c.requires.row_in)
+          (subst (λ n. IsLowest (at row) near n c.args.before c.lowest_column.result) count
+          c.lowest_column.ensures.lowest);
     }

@@ -7,28 +7,45 @@ use Rattle.rob_entries.proofs.cells.Cells.negate.Goals as goal
 
 pub negate-requires-clause-within : goal.negate-requires-clause-within
 negate-requires-clause-within g c =
-    row_within g.E.Entry.value c.args.self.now c.self.inside.items.items c.as_mut_slice.result.now c.self.inside.items.len c.self.view_is c.as_mut_slice.ensures.value c.self.inside.items.ok.0 c.args.start c.args.width c.requires.inside
+    row_within g.E.Entry.value c.args.self.now c.self.inside.items.items c.as_mut_slice.result.now
+    c.self.inside.items.len c.self.view_is c.as_mut_slice.ensures.value c.self.inside.items.ok.0 c.args.start
+    c.args.width c.requires.inside
     c.args.bound c.requires.within
 
 pub returns-clause-row : goal.returns-clause-row
 returns-clause-row g c k l =
     let n : length (part c.as_mut_slice.result.now c.args.start c.args.width) ≡ c.args.width =
-    row_length g.E.Entry.value c.args.self.now c.self.inside.items.items c.as_mut_slice.result.now c.self.inside.items.len c.self.view_is c.as_mut_slice.ensures.value c.self.inside.items.ok.0 c.args.start c.args.width c.requires.inside in
-    stored_here g.E.Entry.value c.args.self.now c.self.inside.items.items c.as_mut_slice.result.now c.self.inside.items.len c.self.view_is c.as_mut_slice.ensures.value c.self.inside.items.ok.0 c.args.start c.args.width c.requires.inside
+    row_length g.E.Entry.value c.args.self.now c.self.inside.items.items c.as_mut_slice.result.now
+    c.self.inside.items.len c.self.view_is c.as_mut_slice.ensures.value c.self.inside.items.ok.0 c.args.start
+    c.args.width c.requires.inside in
+    stored_here g.E.Entry.value c.args.self.now c.self.inside.items.items c.as_mut_slice.result.now
+    c.self.inside.items.len c.self.view_is c.as_mut_slice.ensures.value c.self.inside.items.ok.0 c.args.start
+    c.args.width c.requires.inside
     c.negate.new.row c.negate.auto.row k l
     ∙ c.negate.ensures.negated k (omega arith)
-    ∙ ap neg_ℤ (row_at g.E.Entry.value c.args.self.now c.self.inside.items.items c.as_mut_slice.result.now c.self.inside.items.len c.self.view_is c.as_mut_slice.ensures.value c.self.inside.items.ok.0 c.args.start c.args.width c.requires.inside k l)
+    ∙ ap neg_ℤ (row_at g.E.Entry.value c.args.self.now c.self.inside.items.items c.as_mut_slice.result.now
+    c.self.inside.items.len c.self.view_is c.as_mut_slice.ensures.value c.self.inside.items.ok.0 c.args.start
+    c.args.width c.requires.inside k l)
 
 pub returns-clause-others : goal.returns-clause-others
 returns-clause-others g c =
-    stored_other g.E.Entry.value c.args.self.now c.self.inside.items.items c.as_mut_slice.result.now c.self.inside.items.len c.self.view_is c.as_mut_slice.ensures.value c.self.inside.items.ok.0 c.args.start c.args.width c.requires.inside
+    stored_other g.E.Entry.value c.args.self.now c.self.inside.items.items c.as_mut_slice.result.now
+    c.self.inside.items.len c.self.view_is c.as_mut_slice.ensures.value c.self.inside.items.ok.0 c.args.start
+    c.args.width c.requires.inside
     c.negate.new.row c.negate.auto.row
 
 pub invariant_of-self : goal.invariant_of-self
 invariant_of-self g c =
     let n : length (part c.as_mut_slice.result.now c.args.start c.args.width) ≡ c.args.width =
-    row_length g.E.Entry.value c.args.self.now c.self.inside.items.items c.as_mut_slice.result.now c.self.inside.items.len c.self.view_is c.as_mut_slice.ensures.value c.self.inside.items.ok.0 c.args.start c.args.width c.requires.inside in
-    mapped_back g.E.Entry.value c.args.self.now c.self.inside.items.items c.as_mut_slice.result.now c.self.inside.items.len c.self.view_is c.as_mut_slice.ensures.value c.self.inside.items.ok.0 c.args.start c.args.width c.requires.inside
-    c.negate.new.row c.negate.auto.row c.self.inside.marks.items c.self.inside.marks.items (subst (λ (t : List ℤ). IsMapped t c.self.inside.marks.items) c.self.view_is c.self.invariant)
+    row_length g.E.Entry.value c.args.self.now c.self.inside.items.items c.as_mut_slice.result.now
+    c.self.inside.items.len c.self.view_is c.as_mut_slice.ensures.value c.self.inside.items.ok.0 c.args.start
+    c.args.width c.requires.inside in
+    mapped_back g.E.Entry.value c.args.self.now c.self.inside.items.items c.as_mut_slice.result.now
+    c.self.inside.items.len c.self.view_is c.as_mut_slice.ensures.value c.self.inside.items.ok.0 c.args.start
+    c.args.width c.requires.inside
+    c.negate.new.row c.negate.auto.row c.self.inside.marks.items c.self.inside.marks.items
+    (subst (λ (t : List ℤ). IsMapped t c.self.inside.marks.items) c.self.view_is c.self.invariant)
     refl (λ k l z. c.negate.ensures.negated k (omega arith)
-    ∙ ap neg_ℤ (row_at g.E.Entry.value c.args.self.now c.self.inside.items.items c.as_mut_slice.result.now c.self.inside.items.len c.self.view_is c.as_mut_slice.ensures.value c.self.inside.items.ok.0 c.args.start c.args.width c.requires.inside k l ∙ z))
+    ∙ ap neg_ℤ (row_at g.E.Entry.value c.args.self.now c.self.inside.items.items c.as_mut_slice.result.now
+    c.self.inside.items.len c.self.view_is c.as_mut_slice.ensures.value c.self.inside.items.ok.0 c.args.start
+    c.args.width c.requires.inside k l ∙ z))

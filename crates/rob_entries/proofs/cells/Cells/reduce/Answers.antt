@@ -9,56 +9,82 @@ use Rattle.rob_entries.proofs.cells.Cells.reduce.Goals as goal
 
 pub reduce-requires-clause-within : goal.reduce-requires-clause-within
 reduce-requires-clause-within g c =
-    row_within g.E.Entry.value c.args.self.now c.self.inside.items.items c.as_mut_slice.result.now c.self.inside.items.len c.self.view_is c.as_mut_slice.ensures.value c.self.inside.items.ok.0 c.args.start c.args.width c.requires.inside
+    row_within g.E.Entry.value c.args.self.now c.self.inside.items.items c.as_mut_slice.result.now
+    c.self.inside.items.len c.self.view_is c.as_mut_slice.ensures.value c.self.inside.items.ok.0 c.args.start
+    c.args.width c.requires.inside
     c.args.limit c.requires.within
 
 pub returns-clause-row : goal.returns-clause-row
 returns-clause-row g c =
     let value = g.E.Entry.value in
     let n : length (part c.as_mut_slice.result.now c.args.start c.args.width) ≡ c.args.width =
-    row_length value c.args.self.now c.self.inside.items.items c.as_mut_slice.result.now c.self.inside.items.len c.self.view_is c.as_mut_slice.ensures.value c.self.inside.items.ok.0 c.args.start c.args.width c.requires.inside in
-    let wide : length (map g.E.Entry.value c.reduce.new.row) ≡ c.args.width = length-map c.reduce.new.row value ∙ c.reduce.auto.row ∙ n in
+    row_length value c.args.self.now c.self.inside.items.items c.as_mut_slice.result.now c.self.inside.items.len
+    c.self.view_is c.as_mut_slice.ensures.value c.self.inside.items.ok.0 c.args.start
+    c.args.width c.requires.inside in
+    let wide : length (map g.E.Entry.value c.reduce.new.row) ≡ c.args.width =
+    length-map c.reduce.new.row value ∙ c.reduce.auto.row ∙ n in
     let lowest = c.reduce.ensures.part in
     record {
       times = pos lowest.divisor;
       positive = divisor_positive lowest.divisor lowest.positive;
       entries = λ k l. ap (λ t. pos lowest.divisor *ℤ t)
-          (stored_here value c.args.self.now c.self.inside.items.items c.as_mut_slice.result.now c.self.inside.items.len c.self.view_is c.as_mut_slice.ensures.value c.self.inside.items.ok.0 c.args.start c.args.width c.requires.inside
+          (stored_here value c.args.self.now c.self.inside.items.items c.as_mut_slice.result.now c.self.inside.items.len
+          c.self.view_is c.as_mut_slice.ensures.value c.self.inside.items.ok.0 c.args.start
+          c.args.width c.requires.inside
           c.reduce.new.row c.reduce.auto.row k l)
-          ∙ part_multiple (map value c.reduce.new.row) (map value (part c.as_mut_slice.result.now c.args.start c.args.width)) lowest k (omega arith)
-          ∙ row_at value c.args.self.now c.self.inside.items.items c.as_mut_slice.result.now c.self.inside.items.len c.self.view_is c.as_mut_slice.ensures.value c.self.inside.items.ok.0 c.args.start c.args.width c.requires.inside k l;
+          ∙ part_multiple (map value c.reduce.new.row)
+          (map value (part c.as_mut_slice.result.now c.args.start c.args.width)) lowest k (omega arith)
+          ∙ row_at value c.args.self.now c.self.inside.items.items c.as_mut_slice.result.now c.self.inside.items.len
+          c.self.view_is c.as_mut_slice.ensures.value c.self.inside.items.ok.0 c.args.start
+          c.args.width c.requires.inside k l;
     }
 
 pub returns-clause-bound : goal.returns-clause-bound
 returns-clause-bound g c k l =
     let value = g.E.Entry.value in
     let n : length (part c.as_mut_slice.result.now c.args.start c.args.width) ≡ c.args.width =
-    row_length value c.args.self.now c.self.inside.items.items c.as_mut_slice.result.now c.self.inside.items.len c.self.view_is c.as_mut_slice.ensures.value c.self.inside.items.ok.0 c.args.start c.args.width c.requires.inside in
-    let wide : length (map g.E.Entry.value c.reduce.new.row) ≡ c.args.width = length-map c.reduce.new.row value ∙ c.reduce.auto.row ∙ n in
+    row_length value c.args.self.now c.self.inside.items.items c.as_mut_slice.result.now c.self.inside.items.len
+    c.self.view_is c.as_mut_slice.ensures.value c.self.inside.items.ok.0 c.args.start
+    c.args.width c.requires.inside in
+    let wide : length (map g.E.Entry.value c.reduce.new.row) ≡ c.args.width =
+    length-map c.reduce.new.row value ∙ c.reduce.auto.row ∙ n in
     subst (λ t. nat_abs t ≤ c.largest.result)
-    (sym (stored_here value c.args.self.now c.self.inside.items.items c.as_mut_slice.result.now c.self.inside.items.len c.self.view_is c.as_mut_slice.ensures.value c.self.inside.items.ok.0 c.args.start c.args.width c.requires.inside
+    (sym (stored_here value c.args.self.now c.self.inside.items.items c.as_mut_slice.result.now c.self.inside.items.len
+    c.self.view_is c.as_mut_slice.ensures.value c.self.inside.items.ok.0 c.args.start c.args.width c.requires.inside
     c.reduce.new.row c.reduce.auto.row k l))
     (c.largest.ensures.bound k (pos 0) (omega arith))
 
 pub returns-clause-reached : goal.returns-clause-reached
 returns-clause-reached g c h =
-    stored_reached g.E.Entry.value c.args.self.now c.self.inside.items.items c.as_mut_slice.result.now c.self.inside.items.len c.self.view_is c.as_mut_slice.ensures.value c.self.inside.items.ok.0 c.args.start c.args.width c.requires.inside
+    stored_reached g.E.Entry.value c.args.self.now c.self.inside.items.items c.as_mut_slice.result.now
+    c.self.inside.items.len c.self.view_is c.as_mut_slice.ensures.value c.self.inside.items.ok.0 c.args.start
+    c.args.width c.requires.inside
     c.reduce.new.row c.reduce.auto.row c.largest.result (c.largest.ensures.reached h)
 
 pub returns-clause-others : goal.returns-clause-others
 returns-clause-others g c =
-    stored_other g.E.Entry.value c.args.self.now c.self.inside.items.items c.as_mut_slice.result.now c.self.inside.items.len c.self.view_is c.as_mut_slice.ensures.value c.self.inside.items.ok.0 c.args.start c.args.width c.requires.inside
+    stored_other g.E.Entry.value c.args.self.now c.self.inside.items.items c.as_mut_slice.result.now
+    c.self.inside.items.len c.self.view_is c.as_mut_slice.ensures.value c.self.inside.items.ok.0 c.args.start
+    c.args.width c.requires.inside
     c.reduce.new.row c.reduce.auto.row
 
 pub invariant_of-self : goal.invariant_of-self
 invariant_of-self g c =
     let value = g.E.Entry.value in
     let n : length (part c.as_mut_slice.result.now c.args.start c.args.width) ≡ c.args.width =
-    row_length value c.args.self.now c.self.inside.items.items c.as_mut_slice.result.now c.self.inside.items.len c.self.view_is c.as_mut_slice.ensures.value c.self.inside.items.ok.0 c.args.start c.args.width c.requires.inside in
-    let wide : length (map g.E.Entry.value c.reduce.new.row) ≡ c.args.width = length-map c.reduce.new.row value ∙ c.reduce.auto.row ∙ n in
+    row_length value c.args.self.now c.self.inside.items.items c.as_mut_slice.result.now c.self.inside.items.len
+    c.self.view_is c.as_mut_slice.ensures.value c.self.inside.items.ok.0 c.args.start
+    c.args.width c.requires.inside in
+    let wide : length (map g.E.Entry.value c.reduce.new.row) ≡ c.args.width =
+    length-map c.reduce.new.row value ∙ c.reduce.auto.row ∙ n in
     let lowest = c.reduce.ensures.part in
-    mapped_back value c.args.self.now c.self.inside.items.items c.as_mut_slice.result.now c.self.inside.items.len c.self.view_is c.as_mut_slice.ensures.value c.self.inside.items.ok.0 c.args.start c.args.width c.requires.inside
-    c.reduce.new.row c.reduce.auto.row c.self.inside.marks.items c.self.inside.marks.items (subst (λ (t : List ℤ). IsMapped t c.self.inside.marks.items) c.self.view_is c.self.invariant)
+    mapped_back value c.args.self.now c.self.inside.items.items c.as_mut_slice.result.now c.self.inside.items.len
+    c.self.view_is c.as_mut_slice.ensures.value c.self.inside.items.ok.0 c.args.start c.args.width c.requires.inside
+    c.reduce.new.row c.reduce.auto.row c.self.inside.marks.items c.self.inside.marks.items
+    (subst (λ (t : List ℤ). IsMapped t c.self.inside.marks.items) c.self.view_is c.self.invariant)
     refl (λ k l z. part_zero (pos lowest.divisor) _ _ (divisor_positive lowest.divisor lowest.positive)
-    (part_multiple (map value c.reduce.new.row) (map value (part c.as_mut_slice.result.now c.args.start c.args.width)) lowest k (omega arith))
-    (row_at value c.args.self.now c.self.inside.items.items c.as_mut_slice.result.now c.self.inside.items.len c.self.view_is c.as_mut_slice.ensures.value c.self.inside.items.ok.0 c.args.start c.args.width c.requires.inside k l ∙ z))
+    (part_multiple (map value c.reduce.new.row)
+    (map value (part c.as_mut_slice.result.now c.args.start c.args.width)) lowest k (omega arith))
+    (row_at value c.args.self.now c.self.inside.items.items c.as_mut_slice.result.now c.self.inside.items.len
+    c.self.view_is c.as_mut_slice.ensures.value c.self.inside.items.ok.0 c.args.start c.args.width
+    c.requires.inside k l ∙ z))

@@ -10,13 +10,16 @@ use Rattle.rob_entries.proofs.clearing.PivotRow.apply.Goals as goal
 pub scale-requires-clause-narrow : goal.scale-requires-clause-narrow
 scale-requires-clause-narrow g c k l =
     let value = g.E.Entry.value in
-    let h : nat_abs (g.E.Entry.value c.args.p) * nat_abs (at (map g.E.Entry.value c.args.row.now) k) + nat_abs (g.E.Entry.value c.args.q) * nat_abs (at c.args.self.now.entries k) ≤ g.E.Entry.top = c.requires.narrow k l in
+    let h : nat_abs (g.E.Entry.value c.args.p) * nat_abs (at (map g.E.Entry.value c.args.row.now) k)
+    + nat_abs (g.E.Entry.value c.args.q) * nat_abs (at c.args.self.now.entries k) ≤ g.E.Entry.top =
+    c.requires.narrow k l in
     omega arith
 
 pub subtract-requires-clause-lengths : goal.subtract-requires-clause-lengths
 subtract-requires-clause-lengths g c =
     let value = g.E.Entry.value in
-    let same : map g.E.Entry.value c.as_slice.result.now ≡ c.args.self.now.entries = ap (map value) c.as_slice.ensures.value ∙ ap (λ (v : Clearing). v.entries) c.self.view_is in
+    let same : map g.E.Entry.value c.as_slice.result.now ≡ c.args.self.now.entries =
+    ap (map value) c.as_slice.ensures.value ∙ ap (λ (v : Clearing). v.entries) c.self.view_is in
     sym (length-map c.as_slice.result.now value) ∙ ap length same ∙ sym c.requires.length ∙ sym c.scale.auto.row
 
 pub subtract-requires-clause-small : goal.subtract-requires-clause-small
@@ -34,16 +37,21 @@ subtract-requires-clause-marks_in g c =
 pub subtract-requires-clause-narrow : goal.subtract-requires-clause-narrow
 subtract-requires-clause-narrow g c k l =
     let value = g.E.Entry.value in
-    let same : map g.E.Entry.value c.as_slice.result.now ≡ c.args.self.now.entries = ap (map value) c.as_slice.ensures.value ∙ ap (λ (v : Clearing). v.entries) c.self.view_is in
+    let same : map g.E.Entry.value c.as_slice.result.now ≡ c.args.self.now.entries =
+    ap (map value) c.as_slice.ensures.value ∙ ap (λ (v : Clearing). v.entries) c.self.view_is in
     let n : length c.scale.new.row ≡ length c.args.row.now = c.scale.auto.row in
     let inside : k < length c.args.row.now = omega arith in
-    subst (λ (t : List ℤ). nat_abs (pos 1) * nat_abs (at (map value c.scale.new.row) k) + nat_abs (value c.args.q) * nat_abs (at t k) ≤ g.E.Entry.top) (sym same)
-    (scaled_narrow g.E.Entry.top (value c.args.p) (value c.args.q) (at (map value c.args.row.now) k) (at c.args.self.now.entries k) (at (map value c.scale.new.row) k) (c.scale.ensures.entries k inside) (c.requires.narrow k inside))
+    subst (λ (t : List ℤ). nat_abs (pos 1) * nat_abs (at (map value c.scale.new.row) k)
+    + nat_abs (value c.args.q) * nat_abs (at t k) ≤ g.E.Entry.top) (sym same)
+    (scaled_narrow g.E.Entry.top (value c.args.p) (value c.args.q) (at (map value c.args.row.now) k)
+    (at c.args.self.now.entries k) (at (map value c.scale.new.row) k) (c.scale.ensures.entries k inside)
+    (c.requires.narrow k inside))
 
 pub returns-clause-entries : goal.returns-clause-entries
 returns-clause-entries g c k l =
     let value = g.E.Entry.value in
-    let same : map g.E.Entry.value c.as_slice.result.now ≡ c.args.self.now.entries = ap (map value) c.as_slice.ensures.value ∙ ap (λ (v : Clearing). v.entries) c.self.view_is in
+    let same : map g.E.Entry.value c.as_slice.result.now ≡ c.args.self.now.entries =
+    ap (map value) c.as_slice.ensures.value ∙ ap (λ (v : Clearing). v.entries) c.self.view_is in
     let n : length c.scale.new.row ≡ length c.args.row.now = c.scale.auto.row in
     c.subtract.ensures.entries k (omega arith)
     ∙ ap (λ t. t -ℤ (value c.args.q *ℤ at (map value c.as_slice.result.now) k)) (c.scale.ensures.entries k l)
@@ -52,6 +60,9 @@ returns-clause-entries g c k l =
 pub returns-clause-marked : goal.returns-clause-marked
 returns-clause-marked g c =
     let value = g.E.Entry.value in
-    let same : map g.E.Entry.value c.as_slice.result.now ≡ c.args.self.now.entries = ap (map value) c.as_slice.ensures.value ∙ ap (λ (v : Clearing). v.entries) c.self.view_is in
-    subst (λ (t : List ℤ). AreMarked c.args.start (length c.args.row.now) (at (map value c.subtract.new.row)) (at t) c.args.marks.now c.subtract.new.marks) same
-    (subst (λ n. AreMarked c.args.start n (at (map value c.subtract.new.row)) (at (map value c.as_slice.result.now)) c.args.marks.now c.subtract.new.marks) c.scale.auto.row c.subtract.ensures.marked)
+    let same : map g.E.Entry.value c.as_slice.result.now ≡ c.args.self.now.entries =
+    ap (map value) c.as_slice.ensures.value ∙ ap (λ (v : Clearing). v.entries) c.self.view_is in
+    subst (λ (t : List ℤ). AreMarked c.args.start (length c.args.row.now) (at (map value c.subtract.new.row)) (at t)
+    c.args.marks.now c.subtract.new.marks) same
+    (subst (λ n. AreMarked c.args.start n (at (map value c.subtract.new.row)) (at (map value c.as_slice.result.now))
+    c.args.marks.now c.subtract.new.marks) c.scale.auto.row c.subtract.ensures.marked)

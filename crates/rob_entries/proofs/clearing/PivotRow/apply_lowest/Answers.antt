@@ -12,11 +12,14 @@ use Rattle.rob_entries.proofs.clearing.PivotRow.apply_lowest.Goals as goal
 pub combine-requires-clause-primitive : goal.combine-requires-clause-primitive
 combine-requires-clause-primitive g c =
     let value = g.E.Entry.value in
-    let same : map g.E.Entry.value c.as_slice.result.now ≡ c.args.self.now.entries = ap (map value) c.as_slice.ensures.value ∙ ap (λ (v : Clearing). v.entries) c.self.view_is in
+    let same : map g.E.Entry.value c.as_slice.result.now ≡ c.args.self.now.entries =
+    ap (map value) c.as_slice.ensures.value ∙ ap (λ (v : Clearing). v.entries) c.self.view_is in
     let some = c.requires.some in
-    let inside : some.0 < length c.args.self.now.entries = (let l : some.0 < length c.args.row.now = some.1 in let n = c.requires.length in omega arith) in
+    let inside : some.0 < length c.args.self.now.entries =
+    (let l : some.0 < length c.args.row.now = some.1 in let n = c.requires.length in omega arith) in
     subst (λ (t : List ℤ). content t ≡ 1) (sym same)
-    (content_one c.args.self.now.entries some.0 inside some.2 (subst (λ (v : Clearing). content v.entries ≤ 1) c.self.view_is c.self.invariant.lowest))
+    (content_one c.args.self.now.entries some.0 inside some.2
+    (subst (λ (v : Clearing). content v.entries ≤ 1) c.self.view_is c.self.invariant.lowest))
 
 pub returns-clause-bounded : goal.returns-clause-bounded
 returns-clause-bounded g c =
@@ -24,17 +27,22 @@ returns-clause-bounded g c =
     let room = c.self.inside.room in
     let whole : c.copy_from_slice.new.self ≡ c.combine.new.out =
     c.copy_from_slice.ensures.after ∙ c.as_slice-2.ensures.value
-    ∙ written_back c.combine.new.out room.items room.len (c.combine.auto.out ∙ ap length c.as_mut_slice.ensures.value ∙ sym room.ok.0) in
+    ∙ written_back c.combine.new.out room.items room.len
+    (c.combine.auto.out ∙ ap length c.as_mut_slice.ensures.value ∙ sym room.ok.0) in
     record {
       within = c.largest.ensures.bound;
-      low = largest_low (map value c.copy_from_slice.new.self) c.largest.result c.args.limit (subst (λ t. IsWithin c.args.limit (map value t)) (sym whole) c.in_ok-combine.ensures.bounded) c.largest.ensures.reached;
+      low = largest_low (map value c.copy_from_slice.new.self) c.largest.result c.args.limit
+          (subst (λ t. IsWithin c.args.limit (map value t)) (sym whole) c.in_ok-combine.ensures.bounded)
+          c.largest.ensures.reached;
     }
 
 pub mark-requires-clause-lengths : goal.mark-requires-clause-lengths
 mark-requires-clause-lengths g c =
     let value = g.E.Entry.value in
-    let same : map g.E.Entry.value c.as_slice-3.result.now ≡ c.args.self.now.entries = ap (map value) c.as_slice-3.ensures.value ∙ ap (λ (v : Clearing). v.entries) c.self.view_is in
-    sym (length-map c.as_slice-3.result.now value) ∙ ap length same ∙ sym c.requires.length ∙ sym c.copy_from_slice.auto.self
+    let same : map g.E.Entry.value c.as_slice-3.result.now ≡ c.args.self.now.entries =
+    ap (map value) c.as_slice-3.ensures.value ∙ ap (λ (v : Clearing). v.entries) c.self.view_is in
+    sym (length-map c.as_slice-3.result.now value) ∙ ap length same ∙ sym c.requires.length
+    ∙ sym c.copy_from_slice.auto.self
 
 pub mark-requires-clause-small : goal.mark-requires-clause-small
 mark-requires-clause-small g c =
@@ -51,6 +59,10 @@ mark-requires-clause-marks_in g c =
 pub returns-clause-marked : goal.returns-clause-marked
 returns-clause-marked g c =
     let value = g.E.Entry.value in
-    let same : map g.E.Entry.value c.as_slice-3.result.now ≡ c.args.self.now.entries = ap (map value) c.as_slice-3.ensures.value ∙ ap (λ (v : Clearing). v.entries) c.self.view_is in
-    subst (λ (t : List ℤ). AreMarked c.args.start (length c.args.row.now) (at (map value c.copy_from_slice.new.self)) (at t) c.args.marks.now c.mark.new.marks) same
-    (subst (λ n. AreMarked c.args.start n (at (map value c.copy_from_slice.new.self)) (at (map value c.as_slice-3.result.now)) c.args.marks.now c.mark.new.marks) c.copy_from_slice.auto.self c.mark.ensures.marked)
+    let same : map g.E.Entry.value c.as_slice-3.result.now ≡ c.args.self.now.entries =
+    ap (map value) c.as_slice-3.ensures.value ∙ ap (λ (v : Clearing). v.entries) c.self.view_is in
+    subst (λ (t : List ℤ). AreMarked c.args.start (length c.args.row.now) (at (map value c.copy_from_slice.new.self))
+    (at t) c.args.marks.now c.mark.new.marks) same
+    (subst (λ n. AreMarked c.args.start n (at (map value c.copy_from_slice.new.self))
+    (at (map value c.as_slice-3.result.now)) c.args.marks.now c.mark.new.marks)
+    c.copy_from_slice.auto.self c.mark.ensures.marked)

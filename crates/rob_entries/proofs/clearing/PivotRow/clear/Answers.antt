@@ -10,87 +10,130 @@ use Rattle.rob_entries.proofs.clearing.PivotRow.clear.Goals as goal
 
 pub lowest-p-requires-clause-q_size : goal.lowest-p-requires-clause-q_size
 lowest-p-requires-clause-q_size g c =
-    read_low g.E.Entry.value c.args.row.now c.args.place c.index-row-place.result c.args.bound c.args.limit g.E.Entry.top c.requires.place_in c.index-row-place.is c.requires.row_in.within c.requires.row_in.low c.requires.limit
+    read_low g.E.Entry.value c.args.row.now c.args.place c.index-row-place.result c.args.bound c.args.limit
+    g.E.Entry.top c.requires.place_in c.index-row-place.is c.requires.row_in.within
+    c.requires.row_in.low c.requires.limit
 
 pub bound_of-requires-clause-p_size : goal.bound_of-requires-clause-p_size
 bound_of-requires-clause-p_size g c =
     let value = g.E.Entry.value in
     let top = c.args.self.now.entries in
-    let same : map g.E.Entry.value c.self.inside.entries.items ≡ c.args.self.now.entries = ap (λ (v : Clearing). v.entries) c.self.view_is in
-    let n : length c.self.inside.entries.items ≡ length c.args.self.now.entries = sym (length-map c.self.inside.entries.items value) ∙ ap length same in
+    let same : map g.E.Entry.value c.self.inside.entries.items ≡ c.args.self.now.entries =
+    ap (λ (v : Clearing). v.entries) c.self.view_is in
+    let n : length c.self.inside.entries.items ≡ length c.args.self.now.entries =
+    sym (length-map c.self.inside.entries.items value) ∙ ap length same in
     let inside : c.args.place < length c.args.row.now = c.requires.place_in in
-    let m = parts_read value c.self.inside.entries.items c.args.row.now top c.args.place c.index.result.now c.index-row-place.result (value c.lowest-p.result.0) (value c.lowest-p.result.1) same
+    let m = parts_read value c.self.inside.entries.items c.args.row.now top c.args.place c.index.result.now
+    c.index-row-place.result (value c.lowest-p.result.0) (value c.lowest-p.result.1) same
     (let w = c.requires.length in omega arith) inside c.index.ensures c.index-row-place.is c.lowest-p.ensures.parts in
-    let within : IsWithin c.args.self.now.bound c.args.self.now.entries = subst (λ (v : Clearing). IsWithin v.bound v.entries) c.self.view_is c.self.invariant.within in
-    first_low (at top c.args.place) (at (map value c.args.row.now) c.args.place) (value c.lowest-p.result.0) (value c.lowest-p.result.1) m g.E.Entry.top
-    (entry_low top c.args.place c.args.self.now.bound c.args.limit g.E.Entry.top (let w = c.requires.length in omega arith) within c.requires.self_in c.requires.limit)
+    let within : IsWithin c.args.self.now.bound c.args.self.now.entries =
+    subst (λ (v : Clearing). IsWithin v.bound v.entries) c.self.view_is c.self.invariant.within in
+    first_low (at top c.args.place) (at (map value c.args.row.now) c.args.place) (value c.lowest-p.result.0)
+    (value c.lowest-p.result.1) m g.E.Entry.top
+    (entry_low top c.args.place c.args.self.now.bound c.args.limit g.E.Entry.top (let w = c.requires.length in
+    omega arith) within c.requires.self_in c.requires.limit)
 
 pub bound_of-requires-clause-q_size : goal.bound_of-requires-clause-q_size
 bound_of-requires-clause-q_size g c =
     let value = g.E.Entry.value in
     let low : nat_abs (g.E.Entry.value c.index-row-place.result) ≤ g.E.Entry.top =
-    read_low value c.args.row.now c.args.place c.index-row-place.result c.args.bound c.args.limit g.E.Entry.top c.requires.place_in c.index-row-place.is c.requires.row_in.within c.requires.row_in.low c.requires.limit in
-    second_low (value c.index.result.now) (value c.index-row-place.result) (value c.lowest-p.result.0) (value c.lowest-p.result.1) c.lowest-p.ensures.parts g.E.Entry.top low
+    read_low value c.args.row.now c.args.place c.index-row-place.result c.args.bound c.args.limit g.E.Entry.top
+    c.requires.place_in c.index-row-place.is c.requires.row_in.within c.requires.row_in.low c.requires.limit in
+    second_low (value c.index.result.now) (value c.index-row-place.result) (value c.lowest-p.result.0)
+    (value c.lowest-p.result.1) c.lowest-p.ensures.parts g.E.Entry.top low
 
 pub apply-requires-clause-narrow : goal.apply-requires-clause-narrow
 apply-requires-clause-narrow g c =
     let value = g.E.Entry.value in
-    let within : IsWithin c.args.self.now.bound c.args.self.now.entries = subst (λ (v : Clearing). IsWithin v.bound v.entries) c.self.view_is c.self.invariant.within in
-    let sum : c.in-Some.sum ≡ nat_abs (g.E.Entry.value c.lowest-p.result.0) * c.args.bound + nat_abs (g.E.Entry.value c.lowest-p.result.1) * c.args.self.now.bound =
-    c.in-Some.ensures.bound ∙ ap (λ (v : Clearing). nat_abs (value c.lowest-p.result.0) * c.args.bound + nat_abs (value c.lowest-p.result.1) * v.bound) c.self.view_is in
-    narrow_by_bounds (length c.args.row.now) (map value c.args.row.now) c.args.self.now.entries (value c.lowest-p.result.0) (value c.lowest-p.result.1) c.args.bound c.args.self.now.bound c.args.limit c.in-Some.sum g.E.Entry.top
-    c.requires.row_in.within within (length-map c.args.row.now value) (sym c.requires.length) sum c.in-Some.ensures.within c.requires.limit
+    let within : IsWithin c.args.self.now.bound c.args.self.now.entries =
+    subst (λ (v : Clearing). IsWithin v.bound v.entries) c.self.view_is c.self.invariant.within in
+    let sum : c.in-Some.sum ≡ nat_abs (g.E.Entry.value c.lowest-p.result.0) * c.args.bound
+    + nat_abs (g.E.Entry.value c.lowest-p.result.1) * c.args.self.now.bound =
+    c.in-Some.ensures.bound
+    ∙ ap (λ (v : Clearing). nat_abs (value c.lowest-p.result.0) * c.args.bound
+    + nat_abs (value c.lowest-p.result.1) * v.bound) c.self.view_is in
+    narrow_by_bounds (length c.args.row.now) (map value c.args.row.now) c.args.self.now.entries
+    (value c.lowest-p.result.0) (value c.lowest-p.result.1) c.args.bound c.args.self.now.bound c.args.limit
+    c.in-Some.sum g.E.Entry.top
+    c.requires.row_in.within within (length-map c.args.row.now value) (sym c.requires.length) sum
+    c.in-Some.ensures.within c.requires.limit
 
 pub apply_lowest-requires-clause-factors : goal.apply_lowest-requires-clause-factors
 apply_lowest-requires-clause-factors g c =
     let value = g.E.Entry.value in
     let top = c.args.self.now.entries in
-    let same : map g.E.Entry.value c.self.inside.entries.items ≡ c.args.self.now.entries = ap (λ (v : Clearing). v.entries) c.self.view_is in
-    let n : length c.self.inside.entries.items ≡ length c.args.self.now.entries = sym (length-map c.self.inside.entries.items value) ∙ ap length same in
+    let same : map g.E.Entry.value c.self.inside.entries.items ≡ c.args.self.now.entries =
+    ap (λ (v : Clearing). v.entries) c.self.view_is in
+    let n : length c.self.inside.entries.items ≡ length c.args.self.now.entries =
+    sym (length-map c.self.inside.entries.items value) ∙ ap length same in
     let inside : c.args.place < length c.args.row.now = c.requires.place_in in
-    let m = parts_read value c.self.inside.entries.items c.args.row.now top c.args.place c.index.result.now c.index-row-place.result (value c.lowest-p.result.0) (value c.lowest-p.result.1) same
+    let m = parts_read value c.self.inside.entries.items c.args.row.now top c.args.place c.index.result.now
+    c.index-row-place.result (value c.lowest-p.result.0) (value c.lowest-p.result.1) same
     (let w = c.requires.length in omega arith) inside c.index.ensures c.index-row-place.is c.lowest-p.ensures.parts in
-    let within : IsWithin c.args.self.now.bound c.args.self.now.entries = subst (λ (v : Clearing). IsWithin v.bound v.entries) c.self.view_is c.self.invariant.within in
+    let within : IsWithin c.args.self.now.bound c.args.self.now.entries =
+    subst (λ (v : Clearing). IsWithin v.bound v.entries) c.self.view_is c.self.invariant.within in
     let low : nat_abs (g.E.Entry.value c.index-row-place.result) ≤ g.E.Entry.top =
-    read_low value c.args.row.now c.args.place c.index-row-place.result c.args.bound c.args.limit g.E.Entry.top c.requires.place_in c.index-row-place.is c.requires.row_in.within c.requires.row_in.low c.requires.limit in (
-      first_low (at top c.args.place) (at (map value c.args.row.now) c.args.place) (value c.lowest-p.result.0) (value c.lowest-p.result.1) m g.E.Entry.top
-          (entry_low top c.args.place c.args.self.now.bound c.args.limit g.E.Entry.top (let w = c.requires.length in omega arith) within c.requires.self_in c.requires.limit),
-      second_low (value c.index.result.now) (value c.index-row-place.result) (value c.lowest-p.result.0) (value c.lowest-p.result.1) c.lowest-p.ensures.parts g.E.Entry.top low,
+    read_low value c.args.row.now c.args.place c.index-row-place.result c.args.bound c.args.limit g.E.Entry.top
+    c.requires.place_in c.index-row-place.is c.requires.row_in.within c.requires.row_in.low c.requires.limit in (
+      first_low (at top c.args.place) (at (map value c.args.row.now) c.args.place) (value c.lowest-p.result.0)
+          (value c.lowest-p.result.1) m g.E.Entry.top
+          (entry_low top c.args.place c.args.self.now.bound c.args.limit g.E.Entry.top (let w = c.requires.length in
+          omega arith) within c.requires.self_in c.requires.limit),
+      second_low (value c.index.result.now) (value c.index-row-place.result) (value c.lowest-p.result.0)
+          (value c.lowest-p.result.1) c.lowest-p.ensures.parts g.E.Entry.top low,
     )
 
 pub returns-in-Some-clause-cleared : goal.returns-in-Some-clause-cleared
 returns-in-Some-clause-cleared g c =
     let value = g.E.Entry.value in
     let top = c.args.self.now.entries in
-    let same : map g.E.Entry.value c.self.inside.entries.items ≡ c.args.self.now.entries = ap (λ (v : Clearing). v.entries) c.self.view_is in
-    let n : length c.self.inside.entries.items ≡ length c.args.self.now.entries = sym (length-map c.self.inside.entries.items value) ∙ ap length same in
+    let same : map g.E.Entry.value c.self.inside.entries.items ≡ c.args.self.now.entries =
+    ap (λ (v : Clearing). v.entries) c.self.view_is in
+    let n : length c.self.inside.entries.items ≡ length c.args.self.now.entries =
+    sym (length-map c.self.inside.entries.items value) ∙ ap length same in
     let inside : c.args.place < length c.args.row.now = c.requires.place_in in
-    let m = parts_read value c.self.inside.entries.items c.args.row.now top c.args.place c.index.result.now c.index-row-place.result (value c.lowest-p.result.0) (value c.lowest-p.result.1) same
+    let m = parts_read value c.self.inside.entries.items c.args.row.now top c.args.place c.index.result.now
+    c.index-row-place.result (value c.lowest-p.result.0) (value c.lowest-p.result.1) same
     (let w = c.requires.length in omega arith) inside c.index.ensures c.index-row-place.is c.lowest-p.ensures.parts in
-    cleared_by_factors (length c.args.row.now) c.args.place (map value c.args.row.now) top (value c.lowest-p.result.0) (value c.lowest-p.result.1) (length-map c.args.row.now value) (sym c.requires.length) inside
+    cleared_by_factors (length c.args.row.now) c.args.place (map value c.args.row.now) top (value c.lowest-p.result.0)
+    (value c.lowest-p.result.1) (length-map c.args.row.now value) (sym c.requires.length) inside
     c.requires.positive m (map value c.apply.new.row) c.apply.ensures.entries
 
 pub returns-in-Some-clause-bounded : goal.returns-in-Some-clause-bounded
 returns-in-Some-clause-bounded g c =
     let value = g.E.Entry.value in
-    let within : IsWithin c.args.self.now.bound c.args.self.now.entries = subst (λ (v : Clearing). IsWithin v.bound v.entries) c.self.view_is c.self.invariant.within in
-    let sum : c.in-Some.sum ≡ nat_abs (g.E.Entry.value c.lowest-p.result.0) * c.args.bound + nat_abs (g.E.Entry.value c.lowest-p.result.1) * c.args.self.now.bound =
-    c.in-Some.ensures.bound ∙ ap (λ (v : Clearing). nat_abs (value c.lowest-p.result.0) * c.args.bound + nat_abs (value c.lowest-p.result.1) * v.bound) c.self.view_is in
-    bounded_by_sum (length c.args.row.now) (map value c.args.row.now) c.args.self.now.entries (map value c.apply.new.row) (value c.lowest-p.result.0) (value c.lowest-p.result.1) c.args.bound c.args.self.now.bound c.args.limit c.in-Some.sum
-    c.requires.row_in.within within (length-map c.args.row.now value) (sym c.requires.length) (length-map c.apply.new.row value ∙ c.apply.auto.row) sum c.in-Some.ensures.within c.apply.ensures.entries
+    let within : IsWithin c.args.self.now.bound c.args.self.now.entries =
+    subst (λ (v : Clearing). IsWithin v.bound v.entries) c.self.view_is c.self.invariant.within in
+    let sum : c.in-Some.sum ≡ nat_abs (g.E.Entry.value c.lowest-p.result.0) * c.args.bound
+    + nat_abs (g.E.Entry.value c.lowest-p.result.1) * c.args.self.now.bound =
+    c.in-Some.ensures.bound
+    ∙ ap (λ (v : Clearing). nat_abs (value c.lowest-p.result.0) * c.args.bound
+    + nat_abs (value c.lowest-p.result.1) * v.bound) c.self.view_is in
+    bounded_by_sum (length c.args.row.now) (map value c.args.row.now) c.args.self.now.entries
+    (map value c.apply.new.row) (value c.lowest-p.result.0) (value c.lowest-p.result.1) c.args.bound
+    c.args.self.now.bound c.args.limit c.in-Some.sum
+    c.requires.row_in.within within (length-map c.args.row.now value) (sym c.requires.length)
+    (length-map c.apply.new.row value ∙ c.apply.auto.row) sum c.in-Some.ensures.within c.apply.ensures.entries
 
 pub returns-in-None-clause-cleared : goal.returns-in-None-clause-cleared
 returns-in-None-clause-cleared g c =
     let value = g.E.Entry.value in
     let top = c.args.self.now.entries in
-    let same : map g.E.Entry.value c.self.inside.entries.items ≡ c.args.self.now.entries = ap (λ (v : Clearing). v.entries) c.self.view_is in
-    let n : length c.self.inside.entries.items ≡ length c.args.self.now.entries = sym (length-map c.self.inside.entries.items value) ∙ ap length same in
+    let same : map g.E.Entry.value c.self.inside.entries.items ≡ c.args.self.now.entries =
+    ap (λ (v : Clearing). v.entries) c.self.view_is in
+    let n : length c.self.inside.entries.items ≡ length c.args.self.now.entries =
+    sym (length-map c.self.inside.entries.items value) ∙ ap length same in
     let inside : c.args.place < length c.args.row.now = c.requires.place_in in
-    let m = parts_read value c.self.inside.entries.items c.args.row.now top c.args.place c.index.result.now c.index-row-place.result (value c.lowest-p.result.0) (value c.lowest-p.result.1) same
+    let m = parts_read value c.self.inside.entries.items c.args.row.now top c.args.place c.index.result.now
+    c.index-row-place.result (value c.lowest-p.result.0) (value c.lowest-p.result.1) same
     (let w = c.requires.length in omega arith) inside c.index.ensures c.index-row-place.is c.lowest-p.ensures.parts in
-    ok_if c.apply_lowest.result (IsPrimitivePart (map value c.apply_lowest.new.row) (combination (value c.lowest-p.result.0) (map value c.args.row.now) (value c.lowest-p.result.1) top))
-    (IsClearedBy (length c.args.row.now) c.args.place (at (map value c.args.row.now)) (at top) (at (map value c.apply_lowest.new.row)))
-    (cleared_by_part (length c.args.row.now) c.args.place (map value c.args.row.now) top (value c.lowest-p.result.0) (value c.lowest-p.result.1) (length-map c.args.row.now value) (sym c.requires.length) inside
+    ok_if c.apply_lowest.result
+    (IsPrimitivePart (map value c.apply_lowest.new.row)
+    (combination (value c.lowest-p.result.0) (map value c.args.row.now) (value c.lowest-p.result.1) top))
+    (IsClearedBy (length c.args.row.now) c.args.place (at (map value c.args.row.now)) (at top)
+    (at (map value c.apply_lowest.new.row)))
+    (cleared_by_part (length c.args.row.now) c.args.place (map value c.args.row.now) top (value c.lowest-p.result.0)
+    (value c.lowest-p.result.1) (length-map c.args.row.now value) (sym c.requires.length) inside
     c.requires.positive m (map value c.apply_lowest.new.row))
     c.apply_lowest.ensures.part
 
@@ -98,12 +141,16 @@ pub returns-in-None-clause-wide : goal.returns-in-None-clause-wide
 returns-in-None-clause-wide g c =
     let value = g.E.Entry.value in
     let top = c.args.self.now.entries in
-    let same : map g.E.Entry.value c.self.inside.entries.items ≡ c.args.self.now.entries = ap (λ (v : Clearing). v.entries) c.self.view_is in
-    let n : length c.self.inside.entries.items ≡ length c.args.self.now.entries = sym (length-map c.self.inside.entries.items value) ∙ ap length same in
+    let same : map g.E.Entry.value c.self.inside.entries.items ≡ c.args.self.now.entries =
+    ap (λ (v : Clearing). v.entries) c.self.view_is in
+    let n : length c.self.inside.entries.items ≡ length c.args.self.now.entries =
+    sym (length-map c.self.inside.entries.items value) ∙ ap length same in
     let inside : c.args.place < length c.args.row.now = c.requires.place_in in
-    let m = parts_read value c.self.inside.entries.items c.args.row.now top c.args.place c.index.result.now c.index-row-place.result (value c.lowest-p.result.0) (value c.lowest-p.result.1) same
+    let m = parts_read value c.self.inside.entries.items c.args.row.now top c.args.place c.index.result.now
+    c.index-row-place.result (value c.lowest-p.result.0) (value c.lowest-p.result.1) same
     (let w = c.requires.length in omega arith) inside c.index.ensures c.index-row-place.is c.lowest-p.ensures.parts in
     on_err_weaker c.apply_lowest.result
-    (wide_by_part (length c.args.row.now) c.args.place (map value c.args.row.now) top (value c.lowest-p.result.0) (value c.lowest-p.result.1) (length-map c.args.row.now value) (sym c.requires.length) inside
+    (wide_by_part (length c.args.row.now) c.args.place (map value c.args.row.now) top (value c.lowest-p.result.0)
+    (value c.lowest-p.result.1) (length-map c.args.row.now value) (sym c.requires.length) inside
     c.requires.positive m c.args.limit)
     c.apply_lowest.ensures.wide

@@ -9,9 +9,12 @@ pub combine_deep-requires-clause-top_within : goal.combine_deep-requires-clause-
 combine_deep-requires-clause-top_within c = subst (IsWithin c.args.limit) (map-id c.args.upper.now) c.requires.within.0
 
 pub returns-clause-bounded : goal.returns-clause-bounded
-returns-clause-bounded c = subst (λ row. OnOk c.combine_deep.result (IsWithin c.args.limit row)) (sym (map-id c.combine_deep.new.out)) c.combine_deep.ensures.within
+returns-clause-bounded c =
+    subst (λ row. OnOk c.combine_deep.result (IsWithin c.args.limit row)) (sym (map-id c.combine_deep.new.out))
+    c.combine_deep.ensures.within
 
 pub returns-clause-wide : goal.returns-clause-wide
 returns-clause-wide c =
-    subst (λ row. OnErr c.combine_deep.result (HasWidePart c.args.limit row)) (combination_read c.args.p c.args.upper.now c.args.q c.args.low.now c.ranges.p c.ranges.q)
+    subst (λ row. OnErr c.combine_deep.result (HasWidePart c.args.limit row))
+    (combination_read c.args.p c.args.upper.now c.args.q c.args.low.now c.ranges.p c.ranges.q)
     c.combine_deep.ensures.wide

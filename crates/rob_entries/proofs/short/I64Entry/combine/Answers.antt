@@ -6,12 +6,16 @@ use Rattle.rob_entries.proofs.ShortRows.{combination_read}
 use Rattle.rob_entries.proofs.short.I64Entry.combine.Goals as goal
 
 pub combine_lowest-requires-clause-top_within : goal.combine_lowest-requires-clause-top_within
-combine_lowest-requires-clause-top_within c = subst (IsWithin c.args.limit) (map-id c.args.upper.now) c.requires.within.0
+combine_lowest-requires-clause-top_within c =
+    subst (IsWithin c.args.limit) (map-id c.args.upper.now) c.requires.within.0
 
 pub returns-clause-bounded : goal.returns-clause-bounded
-returns-clause-bounded c = subst (λ row. OnOk c.combine_lowest.result (IsWithin c.args.limit row)) (sym (map-id c.combine_lowest.new.out)) c.combine_lowest.ensures.within
+returns-clause-bounded c =
+    subst (λ row. OnOk c.combine_lowest.result (IsWithin c.args.limit row)) (sym (map-id c.combine_lowest.new.out))
+    c.combine_lowest.ensures.within
 
 pub returns-clause-wide : goal.returns-clause-wide
 returns-clause-wide c =
-    subst (λ row. OnErr c.combine_lowest.result (HasWidePart c.args.limit row)) (combination_read c.args.p c.args.upper.now c.args.q c.args.low.now c.ranges.p c.ranges.q)
+    subst (λ row. OnErr c.combine_lowest.result (HasWidePart c.args.limit row))
+    (combination_read c.args.p c.args.upper.now c.args.q c.args.low.now c.ranges.p c.ranges.q)
     c.combine_lowest.ensures.wide
