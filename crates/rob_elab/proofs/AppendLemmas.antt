@@ -1,26 +1,26 @@
 -- Forms that are appended one after another: those done so far, and those that are left.
-use Rattle.std.specs.Prelude.{◌≡◌, ℕ, suc, ◌+◌, ◌≤◌, ℤ, List, [], ◌∷◌, ◌++◌, length, Result, Ok, Err, IsErrAnd, OnOk, IfErr, refl}
-use Rattle.std.proofs.Common.{sym, ◌∙◌, ap, arith, subst}
-use Rattle.rob_number.specs.Counts.{Rose}
-use Rattle.rob_meaning.specs.Clearing.{cleared, entries}
+use Rattle.std.specs.Prelude.{◌≡◌, ℕ, suc, ◌+◌, ◌≤◌, ℤ, List, [], ◌∷◌, ◌++◌, length, Result, Ok, Err, IsErrAnd, refl}
+use Rattle.std.proofs.Common.{◌∙◌, ap, arith, subst}
+use Rattle.rob_algebra.specs.Fraction.{Fraction}
+use Rattle.rob_meaning.specs.Clearing.{entries}
 use Rattle.rob_meaning.specs.Coefficients.{Table, table}
 use Rattle.rob_meaning.specs.Expressions.{Expression}
 use Rattle.rob_meaning.specs.Forms.{entries_of, matrix_of}
 use Rattle.rob_meaning.specs.Places.{Each}
 use Rattle.rob_meaning.specs.RobustModel.{RobustModel}
-use Rattle.rob_model.specs.declared.place.Spot.TheVariants.{Clearing}
 use Rattle.rob_model.specs.declared.place.Where.TheVariants.{Form}
 use Rattle.rob_sets.specs.Appending.{AppendsLines, StopsAt}
 use Rattle.rob_sets.specs.FirstWide as judge
-use Rattle.rob_sets.specs.FirstWide.{IsWideCleared}
-use Rattle.rob_sets.specs.Stops.{StopsWith}
 use Rattle.rob_sets.specs.Subexpressions.{subexpressions, HasWideCoefficient}
+use Rattle.rob_sets.specs.Tables.{numbers_of}
+use Rattle.rob_sets.specs.Tabulating.{IsTableOf}
 use Rattle.rob_sets.specs.declared.error.ElabErr.{ElabErr}
-use Rattle.rob_sets.specs.declared.error.ElabErr.TheVariants as Refused
-use Rattle.rob_sets.proofs.DifferenceLemmas.{each_none}
+use Rattle.rob_sets.specs.declared.table.Table.{Table as TableData}
+use Rattle.rob_sets.proofs.JudgedLemmas.{stops_right}
+use Rattle.rob_sets.proofs.ListLemmas.{each_none}
 use Rattle.rob_sets.proofs.PartedLemmas.{Parted}
 use Rattle.rob_sets.proofs.ProgressLemmas.{Progress, ends, ends_with, numbered_go_on, numbered_stop}
-use Rattle.rob_elab.specs.Appending.{Appends}
+use Rattle.rob_elab.specs.Appending.{Appends, AppendsTable}
 use Rattle.rob_elab.specs.Forms.{MatrixFits, judged_from}
 
 -- matrices in a list
@@ -72,42 +72,23 @@ module _ {limit : ℕ} {m : RobustModel} {all left : List Expression} {start now
 
 module _ (limit : ℕ) (m : RobustModel) where
   -- ---- one form, by its table
-  form_stops : (i : ℕ) (e : Expression) (d : ElabErr) (first before last : ℕ) → first ≤ before
-      → (HasWide : judge.Some_of (HasWideCoefficient limit m) (subexpressions e) → ⊥)
-      → StopsWith (Clearing (Form i)) (Rose before last × IsWideCleared limit (entries (entries_of m (table m e)))) d
-      → StopsAt limit m (judged_from m i (e ∷ [])) first last d
-  form_stops i e (Refused.Wide spot) first before last least none h =
-      let rose : Rose first last = omega (arith, h.1.0, least) in
-      record {
-        cause = record {
-          before = judge.coefficients (Form i) e ∷ [];
-          here = judge.clearing (Form i) (entries (entries_of m (table m e)));
-          after = [];
-          order = refl;
-          none_before = (none, tt);
-          wide = h.1.1;
-          named = sym h.0;
-        };
-        rose = rose;
-      }
-  form_stops i e Refused.Memory first before last least none h = record { cause = tt; rose = tt }
-
-  pub form_appends : (i : ℕ) (e : Expression) (f : Table) (a b : Matrices) (first before last : ℕ)
-      (r : Result (Unit {0}) ElabErr) → f ≡ table m e
+  by_table : (e : Expression) (a b : Matrices) (first before last : ℕ) (r : Result (Unit {0}) ElabErr)
       → Each (λ s. HasWideCoefficient limit m s → ⊥) (subexpressions e) → first ≤ before
-      → OnOk r (b ≡ a ++ cleared (entries_of m f) ∷ []) → OnOk r (MatrixFits limit (cleared (entries_of m f)))
-      → OnOk r (IsWideCleared limit (entries (entries_of m f)) → ⊥)
-      → IfErr r (StopsWith (Clearing (Form i)) (Rose before last × IsWideCleared limit (entries (entries_of m f))))
-      → Appends limit m i (e ∷ []) a b first last r
-  form_appends i e f a b first before last (Ok _) is none least g h k w = record {
-    appended = g ∙ ap (λ (x : Table). a ++ cleared (entries_of m x) ∷ []) is;
-    fit = (subst (λ (x : Table). MatrixFits limit (cleared (entries_of m x))) is h, tt);
-    none_wide = (
-      each_none (HasWideCoefficient limit m) (subexpressions e) none,
-      (subst (λ (x : Table). IsWideCleared limit (entries (entries_of m x)) → ⊥) is k, tt),
-    );
+      → AppendsTable limit m (table m e) a b before last r → Appends limit m (length a) (e ∷ []) a b first last r
+  by_table e a b first before last (Ok _) none least h = record {
+    appended = h.appended;
+    fit = h.fit;
+    none_wide = (each_none (HasWideCoefficient limit m) (subexpressions e) none, h.none_wide);
   }
-  form_appends i e f a b first before last (Err d) is none least g h k w =
-      form_stops i e d first before last least (each_none (HasWideCoefficient limit m) (subexpressions e) none)
-      (subst (λ (x : Table). StopsWith (Clearing (Form i))
-      (Rose before last × IsWideCleared limit (entries (entries_of m x))) d) is w)
+  by_table e a b first before last (Err d) none least h =
+      stops_right limit m (judge.coefficients (Form (length a)) e ∷ [])
+      (judge.clearing (Form (length a)) (entries (entries_of m (table m e))) ∷ []) d first before last least
+      (each_none (HasWideCoefficient limit m) (subexpressions e) none, tt) h
+
+  pub form_appends : {N : Type 0} (value : N → Fraction) (t : TableData N) (e : Expression) (a b : Matrices)
+      (first before last : ℕ) (r : Result (Unit {0}) ElabErr) → IsTableOf value limit m e t → first ≤ before
+      → AppendsTable limit m (numbers_of value t) a b before last r
+      → Appends limit m (length a) (e ∷ []) a b first last r
+  form_appends value t e a b first before last r here least h =
+      by_table e a b first before last r here.none_wide least
+      (subst (λ (f : Table). AppendsTable limit m f a b before last r) (λ i k j. here.coefficients k j i) h)

@@ -1,6 +1,5 @@
 pub mod AppendLemmas
 pub mod BoundLemmas
-pub mod ColumnLemmas
 pub mod LeftLemmas
 pub mod ObjectiveLemmas
 pub mod RowLemmas

@@ -1,139 +1,116 @@
--- The rows of a table, one after another, and their common denominator.
-use Rattle.std.specs.Prelude.{◌≡◌, ℕ, ◌+◌, ◌≤◌, ◌<◌, ℤ, List, [], ◌∷◌, ◌++◌, map, length, take, drop, nat_abs, ◌⊎◌, Result, Ok, Err, IfOk, OnOk, refl}
-use Rattle.std.proofs.Common.{sym, ◌∙◌, ap, ap₂, arith, subst, get_or, append_assoc, inl, inr}
+-- The first rows and columns of a table: their common denominator, and their whole numbers.
+use Rattle.std.specs.Prelude.{◌≡◌, ℕ, zero, suc, ◌+◌, ◌-◌, ◌<◌, ◌≤◌, ℤ, List, [], ◌∷◌, ◌++◌, map, Result, Ok, Err, IfOk, OnOk, nat_abs, refl}
+use Rattle.std.proofs.Common.{sym, ◌∙◌, ap, ap₂, arith, subst, append_assoc, add-zero, inl, inr}
+use Rattle.std.proofs.lemmas.List.{map-append}
 use Rattle.rob_algebra.specs.Fraction.{Fraction}
 use Rattle.rob_algebra.specs.Width.{IsWideWhole}
-use Rattle.rob_meaning.specs.Clearing.{denominator, entries, whole_at}
-use Rattle.rob_meaning.specs.Places.{Each, tabulate}
+use Rattle.rob_meaning.specs.Clearing.{denominator, entries, lcm, whole_at}
 use Rattle.rob_meaning.specs.Coefficients.{Table}
-use Rattle.rob_meaning.specs.Forms.{entries_of, form_columns, form_rows}
-use Rattle.rob_meaning.specs.RobustModel.{RobustModel}
-use Rattle.rob_elab.specs.Forms.{MatrixFits}
+use Rattle.rob_meaning.specs.Places.{Each, tabulate}
+use Rattle.rob_meaning.proofs.EachLemmas.{each_append}
+use Rattle.rob_elab.specs.Forms.{MatrixFits, rows_of}
 use Rattle.rob_sets.specs.FirstWide.{IsWideCleared, Some_of}
 use Rattle.rob_sets.specs.declared.error.Stop.{Stop}
-use Rattle.rob_sets.proofs.ClearingSteps.{denominator-first, parted}
+use Rattle.rob_sets.proofs.ClearingSteps.{denominator-first, denominator-more, whole_none}
+use Rattle.rob_sets.proofs.ListLemmas.{append-nil, some_left, some_right}
 use Rattle.rob_sets.proofs.RowLemmas.{tabulate-more}
-use Rattle.rob_sets.proofs.SubexpressionLemmas.{some_left, some_right, take_one_more, take_past}
-use Rattle.std.proofs.lemmas.List.{map-append}
 
-one_more : {A B : Type 0} (f : A → B) (items new : List A) (x : A) (n : ℕ) (g : ℕ → B) → map f items ≡ tabulate n g
-    → new ≡ items ++ x ∷ [] → f x ≡ g n
-    → map f new ≡ tabulate (n + 1) g
-one_more {A} {B} f items new x n g h e is =
-    ap (map f) e ∙ map-append f items (x ∷ []) ∙ ap₂ (λ (ys : List B) (y : B). ys ++ y ∷ []) h is
-    ∙ sym (tabulate-more n g)
+-- ---- the common denominator
+-- lists that grow, and what each grows by
+module _ (xs ys : ℕ → List Fraction) (more : (k : ℕ) → xs (k + 1) ≡ xs k ++ ys k) where
+  rises : (k d : ℕ) → denominator (xs k) ≤ denominator (xs (k + d))
+  rises k zero = omega (arith, ap (λ n. denominator (xs n)) (add-zero k))
+  rises k (suc d) =
+      omega (
+        arith,
+        rises k d,
+        denominator-first (xs (k + d)) (ys (k + d)),
+        ap denominator (more (k + d)),
+        ap (λ n. denominator (xs n)) (let e : k + suc d ≡ (k + d) + 1 = omega arith in e),
+      )
 
-module _ {N : Type 0} (value : N → Fraction) where
-  pub row_more : (items new : List N) (x : N) (n : ℕ) (g : ℕ → Fraction) → map value items ≡ tabulate n g
-      → new ≡ items ++ x ∷ [] → value x ≡ g n
-      → map value new ≡ tabulate (n + 1) g
-  row_more items new x n g h e is = one_more value items new x n g h e is
+  wide_later : (limit k n : ℕ) → k < n → limit < denominator (xs k ++ ys k) → limit < denominator (xs n)
+  wide_later limit k n inside wide =
+      omega (
+        arith,
+        wide,
+        rises (k + 1) (n - (k + 1)),
+        ap denominator (more k),
+        ap (λ i. denominator (xs i)) (let e : (k + 1) + (n - (k + 1)) ≡ n = omega arith in e),
+      )
 
-  pub rows_more : (items new : List (List N)) (x : List N) (n : ℕ) (g : ℕ → List Fraction)
-      → map (map value) items ≡ tabulate n g → new ≡ items ++ x ∷ []
-      → map value x ≡ g n → map (map value) new ≡ tabulate (n + 1) g
-  rows_more items new x n g h e is = one_more (map value) items new x n g h e is
+-- a number more, behind others
+module _ (before : List Fraction) (f : ℕ → Fraction) where
+  one_more : (k : ℕ) → before ++ tabulate (k + 1) f ≡ (before ++ tabulate k f) ++ f k ∷ []
+  one_more k =
+      ap (λ (zs : List Fraction). before ++ zs) (tabulate-more k f)
+      ∙ sym (append_assoc before (tabulate k f) (f k ∷ []))
 
-  -- ---- the entries of the rows so far
+  multiple_is : (k : ℕ) (q : Fraction) (common : ℕ) → q ≡ f k → common ≡ denominator (before ++ tabulate k f)
+      → lcm q.den common ≡ denominator ((before ++ tabulate k f) ++ f k ∷ [])
+  multiple_is k q common is so_far =
+      ap₂ (λ (r : Fraction) (n : ℕ). lcm r.den n) is so_far ∙ sym (denominator-more (before ++ tabulate k f) (f k))
+
+  pub number_more : (k : ℕ) (q : Fraction) (common multiple : ℕ) → q ≡ f k
+      → common ≡ denominator (before ++ tabulate k f) → multiple ≡ lcm q.den common
+      → multiple ≡ denominator (before ++ tabulate (k + 1) f)
+  number_more k q common multiple is so_far h =
+      h ∙ multiple_is k q common is so_far ∙ ap denominator (sym (one_more k))
+
+  pub number_wide : (limit k n : ℕ) (q : Fraction) (common : ℕ) → k < n → q ≡ f k
+      → common ≡ denominator (before ++ tabulate k f) → limit < lcm q.den common
+      → limit < denominator (before ++ tabulate n f)
+  number_wide limit k n q common inside is so_far wide =
+      wide_later (λ i. before ++ tabulate i f) (λ i. f i ∷ []) one_more limit k n inside
+      (subst (λ i. limit < i) (multiple_is k q common is so_far) wide)
+
+-- a row more
+module _ (columns : ℕ) (f : Table) where
   entries-both : (xs ys : List (List Fraction)) → entries (xs ++ ys) ≡ entries xs ++ entries ys
   entries-both [] ys = refl
   entries-both (x ∷ xs) ys = ap (λ zs. x ++ zs) (entries-both xs ys) ∙ sym (append_assoc x (entries xs) (entries ys))
 
-  nothing : (xs : List Fraction) → xs ++ [] ≡ xs
-  nothing [] = refl
-  nothing (x ∷ xs) = ap (λ ys. x ∷ ys) (nothing xs)
+  pub rows_more : (k : ℕ) → entries (rows_of (k + 1) columns f)
+      ≡ entries (rows_of k columns f) ++ tabulate columns (f k)
+  rows_more k =
+      ap entries (tabulate-more k (λ i. tabulate columns (f i)))
+      ∙ entries-both (rows_of k columns f) (tabulate columns (f k) ∷ [])
+      ∙ ap (λ (zs : List Fraction). entries (rows_of k columns f) ++ zs) (append-nil (tabulate columns (f k)))
 
-  abbrev pub first_entries : List (List N) → ℕ → List Fraction
-  first_entries rows i = entries (map (map value) (take i rows))
+  pub rows_wide : (limit k n : ℕ) → k < n
+      → limit < denominator (entries (rows_of k columns f) ++ tabulate columns (f k))
+      → limit < denominator (entries (rows_of n columns f))
+  rows_wide limit k n inside wide =
+      wide_later (λ i. entries (rows_of i columns f)) (λ i. tabulate columns (f i)) rows_more limit k n inside wide
 
-  pub entries_more : (rows : List (List N)) (i : ℕ) (row items : List N) → i < length rows
-      → row ≡ get_or rows i row → items ≡ row
-      → first_entries rows (i + 1) ≡ first_entries rows i ++ map value items
-  entries_more rows i row items h e is =
-      ap (λ (xs : List (List N)). entries (map (map value) xs)) (take_one_more rows i row h e)
-      ∙ ap entries (map-append (map value) (take i rows) (row ∷ []))
-      ∙ entries-both (map (map value) (take i rows)) (map value row ∷ [])
-      ∙ ap (λ (xs : List Fraction). first_entries rows i ++ xs) (nothing (map value row) ∙ ap (map value) (sym is))
+-- ---- whole numbers
+pub mapped_more : {A B : Type 0} (h : A → B) (items new : List B) (z : B) (n : ℕ) (f : ℕ → A)
+    → items ≡ map h (tabulate n f) → new ≡ items ++ z ∷ [] → z ≡ h (f n) → new ≡ map h (tabulate (n + 1) f)
+mapped_more {A} {B} h items new z n f so_far added is =
+    added ∙ ap₂ (λ (ys : List B) (y : B). ys ++ y ∷ []) so_far is ∙ sym (map-append h (tabulate n f) (f n ∷ []))
+    ∙ ap (map h) (sym (tabulate-more n f))
 
-  pub entries_all : (rows : List (List N)) (i : ℕ) → length rows ≤ i
-      → first_entries rows i ≡ entries (map (map value) rows)
-  entries_all rows i h = ap (λ (xs : List (List N)). entries (map (map value) xs)) (take_past rows i h)
+module _ (P : Fraction → Type 0) where
+  pub some_number : (n : ℕ) (f : ℕ → Fraction) (k : ℕ) → k < n → P (f k) → Some_of P (tabulate n f)
+  some_number zero f k inside w = absurd (omega arith)
+  some_number (suc n) f zero inside w = inl w
+  some_number (suc n) f (suc k) inside w = inr (some_number n (λ i. f (suc i)) k (omega arith) w)
 
-  entries_parted : (rows : List (List N)) (i : ℕ)
-      → entries (map (map value) rows) ≡ first_entries rows i ++ entries (map (map value) (drop i rows))
-  entries_parted rows i =
-      ap (λ (xs : List (List N)). entries (map (map value) xs)) (parted rows i)
-      ∙ ap entries (map-append (map value) (take i rows) (drop i rows))
-      ∙ entries-both (map (map value) (take i rows)) (map (map value) (drop i rows))
-
-  -- a denominator of the first rows that is over the limit
-  pub rows_wide : (rows : List (List N)) (i limit : ℕ) (row items : List N) → i < length rows
-      → row ≡ get_or rows i row → items ≡ row
-      → limit < denominator (first_entries rows i ++ map value items)
-      → limit < denominator (entries (map (map value) rows))
-  rows_wide rows i limit row items h e is wide =
-      let here = ap denominator (entries_more rows i row items h e is) in
-      let all = ap denominator (entries_parted rows (i + 1)) in
-      let below = denominator-first (first_entries rows (i + 1)) (entries (map (map value) (drop (i + 1) rows))) in
-      omega arith
-
-  -- ---- whole numbers
-  pub whole_rows_more : (rows : List (List N)) (i common : ℕ) (row items : List N) (matrix new : List (List ℤ))
-      (numbers : List ℤ) → i < length rows → row ≡ get_or rows i row
-      → items ≡ row → matrix ≡ map (map (whole_at common)) (map (map value) (take i rows))
-      → new ≡ matrix ++ numbers ∷ []
-      → numbers ≡ map (whole_at common) (map value items)
-      → new ≡ map (map (whole_at common)) (map (map value) (take (i + 1) rows))
-  whole_rows_more rows i common row items matrix new numbers h e is so_far added whole =
-      added
-      ∙ ap₂ (λ (xs : List (List ℤ)) (x : List ℤ). xs ++ x ∷ []) so_far
-      (whole ∙ ap (λ (x : List N). map (whole_at common) (map value x)) is)
-      ∙ sym (map-append (map (whole_at common)) (map (map value) (take i rows)) (map value row ∷ []))
-      ∙ ap (map (map (whole_at common))) (sym (map-append (map value) (take i rows) (row ∷ [])))
-      ∙ ap (λ (xs : List (List N)). map (map (whole_at common)) (map (map value) xs))
-      (sym (take_one_more rows i row h e))
-
-  pub wide_in_row : (P : Fraction → Type 0) (rows : List (List N)) (i : ℕ) (row items : List N) → i < length rows
-      → row ≡ get_or rows i row → items ≡ row
-      → Some_of P (map value items) → Some_of P (entries (map (map value) rows))
-  wide_in_row P rows i row items h e is w =
-      subst (λ (xs : List Fraction). Some_of P xs) (sym (entries_parted rows (i + 1)))
-      (some_left P (first_entries rows (i + 1)) (entries (map (map value) (drop (i + 1) rows)))
-      (subst (λ (xs : List Fraction). Some_of P xs) (sym (entries_more rows i row items h e is))
-      (some_right P (first_entries rows i) (map value items) w)))
-
-  pub whole_rows_all : (rows : List (List N)) (i common : ℕ) (matrix : List (List ℤ)) → length rows ≤ i
-      → matrix ≡ map (map (whole_at common)) (map (map value) (take i rows))
-      → matrix ≡ map (map (whole_at common)) (map (map value) rows)
-  whole_rows_all rows i common matrix h so_far =
-      so_far ∙ ap (λ (xs : List (List N)). map (map (whole_at common)) (map (map value) xs)) (take_past rows i h)
+  pub some_row : (n : ℕ) (f : ℕ → List Fraction) (k : ℕ) → k < n → Some_of P (f k)
+      → Some_of P (entries (tabulate n f))
+  some_row zero f k inside w = absurd (omega arith)
+  some_row (suc n) f zero inside w = some_left P (f 0) (entries (tabulate n (λ i. f (suc i)))) w
+  some_row (suc n) f (suc k) inside w =
+      some_right P (f 0) (entries (tabulate n (λ i. f (suc i)))) (some_row n (λ i. f (suc i)) k (omega arith) w)
 
 -- ---- what is cleared
-none_in_row : (limit d : ℕ) (xs : List Fraction) → Each (λ a. nat_abs a ≤ limit) (map (whole_at d) xs)
-    → Some_of (λ q. IsWideWhole limit (whole_at d q)) xs → ⊥
-none_in_row limit d [] f w = w
-none_in_row limit d (x ∷ xs) f (inl w) = let le : nat_abs (whole_at d x) ≤ limit = f.0 in omega arith
-none_in_row limit d (x ∷ xs) f (inr w) = none_in_row limit d xs f.1 w
-
-some_parted : (P : Fraction → Type 0) (xs ys : List Fraction) → Some_of P (xs ++ ys) → Some_of P xs ⊎ Some_of P ys
-some_parted P [] ys w = inr w
-some_parted P (x ∷ xs) ys (inl w) = inl (inl w)
-some_parted P (x ∷ xs) ys (inr w) = by (some_parted P xs ys w)
-  where
-    by : Some_of P xs ⊎ Some_of P ys → Some_of P (x ∷ xs) ⊎ Some_of P ys
-    by (inl v) = inl (inr v)
-    by (inr v) = inr v
-
-none_in_rows : (limit d : ℕ) (rows : List (List Fraction)) → MatrixFits limit (map (map (whole_at d)) rows)
-    → Some_of (λ q. IsWideWhole limit (whole_at d q)) (entries rows) → ⊥
-none_in_rows limit d [] f w = w
-none_in_rows limit d (row ∷ rows) f w =
-    either (some_parted (λ q. IsWideWhole limit (whole_at d q)) row (entries rows) w) (none_in_row limit d row f.0)
-    (none_in_rows limit d rows f.1)
-  where
-    either : {A B : Type 0} → A ⊎ B → (A → ⊥) → (B → ⊥) → ⊥
-    either (inl a) f g = f a
-    either (inr b) f g = g b
+entries_fit : (limit d : ℕ) (rows : List (List Fraction)) → MatrixFits limit (map (map (whole_at d)) rows)
+    → Each (λ a. nat_abs a ≤ limit) (map (whole_at d) (entries rows))
+entries_fit limit d [] f = tt
+entries_fit limit d (row ∷ rows) f =
+    subst (λ (xs : List ℤ). Each (λ a. nat_abs a ≤ limit) xs) (sym (map-append (whole_at d) row (entries rows)))
+    (each_append (λ a. nat_abs a ≤ limit) (map (whole_at d) row) (map (whole_at d) (entries rows)) f.0
+    (entries_fit limit d rows f.1))
 
 pub rows_fit : (limit : ℕ) (rows : List (List Fraction)) (common : ℕ) (r : Result (List (List ℤ)) Stop)
     → common ≡ denominator (entries rows) → common ≤ limit
@@ -144,12 +121,7 @@ rows_fit limit rows common (Ok list) is within h k = by
   where
     by : IsWideCleared limit (entries rows) → ⊥
     by (inl w) = omega arith
-    by (inr w) = none_in_rows limit (denominator (entries rows)) rows
+    by (inr w) = whole_none limit (denominator (entries rows)) (entries rows)
+        (entries_fit limit (denominator (entries rows)) rows
         (subst (λ d. MatrixFits limit (map (map (whole_at d)) rows)) is
-        (subst (λ (xs : List (List ℤ)). MatrixFits limit xs) h k)) w
-
--- the part of a table that a model's rows and columns reach
-pub entries_is : {N : Type 0} (value : N → Fraction) (m : RobustModel) (f : Table) (rows columns : ℕ)
-    (list : List (List N)) → rows ≡ form_rows m → columns ≡ form_columns m
-    → map (map value) list ≡ tabulate rows (λ k. tabulate columns (f k)) → map (map value) list ≡ entries_of m f
-entries_is value m f rows columns list r c h = h ∙ ap₂ (λ a b. tabulate a (λ k. tabulate b (f k))) r c
+        (subst (λ (xs : List (List ℤ)). MatrixFits limit xs) h k))) w

@@ -2,17 +2,21 @@
 use Rattle.std.specs.Prelude.{◌≡◌, ℕ, zero, suc, ◌≤◌, ℤ, nat_abs, List, [], ◌∷◌, length}
 use Rattle.rob_algebra.specs.Fraction.{Fraction}
 use Rattle.rob_meaning.specs.Clearing.{entries}
-use Rattle.rob_meaning.specs.Coefficients.{table}
+use Rattle.rob_meaning.specs.Coefficients.{Table, table}
 use Rattle.rob_meaning.specs.Expressions.{Expression}
 use Rattle.rob_meaning.specs.Forms as meaning
 use Rattle.rob_meaning.specs.Forms.{entries_of, matrices, matrix_at, sum_at}
-use Rattle.rob_meaning.specs.Places.{Each}
+use Rattle.rob_meaning.specs.Places.{Each, tabulate}
 use Rattle.rob_meaning.specs.RobustModel.{RobustModel, column_count}
 use Rattle.rob_model.specs.View.{sense_of}
 use Rattle.rob_model.specs.declared.place.Where.TheVariants.{Form}
 use Rattle.rob_sets.specs.FirstWide as judge
 use Rattle.rob_sets.specs.FirstWide.{Judged}
 use Rattle.rob_elab.specs.declared.forms.Forms.{Forms}
+
+-- the first rows and columns of a table
+abbrev pub rows_of : ℕ → ℕ → Table → List (List Fraction)
+rows_of rows columns f = tabulate rows (λ k. tabulate columns (f k))
 
 -- the forms are those of the model, each with its whole matrix, in order
 pub record IsForms (m : RobustModel) (forms : Forms) : Type 0 where

@@ -11,10 +11,10 @@ ghost use Rattle.rob_elab.specs.Forms.{FormsFit, IsForms, judged_forms};
 
 use crate::bounds::{append_adaptive_bounds, append_variable_bounds};
 use crate::forms::Forms;
-use crate::matrix::column_count;
 use crate::objective::append_objective;
 use crate::rows::append_rows;
 use rob_model::Model;
+use rob_model::names::column_count;
 use rob_number::{Exact, Ledger, List};
 use rob_sets::{ElabErr, SetForm};
 use std::alloc::Global;

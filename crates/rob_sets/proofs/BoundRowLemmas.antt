@@ -9,7 +9,7 @@ use Rattle.rob_meaning.specs.SetRows.{bound_rows, lower_row, upper_row}
 use Rattle.rob_model.specs.View.{parameter_of}
 use Rattle.rob_model.specs.declared.model.Param.{Param}
 use Rattle.rob_sets.proofs.PartedLemmas.{Parted}
-use Rattle.rob_sets.proofs.ProgressLemmas.{length-both}
+use Rattle.rob_sets.proofs.ListLemmas.{length-both}
 
 pub length-declared : {A : Type 0} (f : Fraction → A) (b : Option Fraction) → length (if_declared f b) ≤ 1
 length-declared f None = omega arith

@@ -16,7 +16,7 @@ use Rattle.rob_model.proofs.PartLemmas.{drop_at, drop_past}
 use Rattle.rob_sets.specs.Appending.{row_of}
 use Rattle.rob_sets.proofs.BoundLemmas.{row_same, minus_minus}
 use Rattle.rob_sets.proofs.PartedLemmas.{Parted}
-use Rattle.rob_sets.proofs.ProgressLemmas.{length-both}
+use Rattle.rob_sets.proofs.ListLemmas.{length-both}
 use Rattle.rob_sets.proofs.CellLemmas.{unit-other}
 use Rattle.rob_meaning.proofs.TableLemmas.{times_zero}
 use Rattle.rob_meaning.proofs.SetRowLemmas.{length-member_rows}

@@ -1,5 +1,5 @@
 -- Least common denominators and whole numbers, one fraction after another.
-use Rattle.std.specs.Prelude.{◌≡◌, ℕ, zero, suc, ◌+◌, ◌^◌, ◌<◌, ◌≤◌, ℤ, pos, nat_abs, List, [], ◌∷◌, ◌++◌, map, length, take, drop, refl}
+use Rattle.std.specs.Prelude.{◌≡◌, ℕ, zero, suc, ◌+◌, ◌^◌, ◌<◌, ◌≤◌, ℤ, pos, nat_abs, List, [], ◌∷◌, ◌++◌, map, length, take, drop, Option, Some, None, MatchOption, Result, Ok, Err, IfOk, OnOk, refl}
 use Rattle.std.proofs.Common.{sym, ◌∙◌, ap, ap₂, arith, subst, get_or, inl, inr, to_z, of_z, w64, append_assoc}
 use Rattle.rob_number.proofs.CastLemmas.{seen}
 use Rattle.rob_algebra.specs.Fraction.{Fraction}
@@ -9,8 +9,7 @@ use Rattle.rob_meaning.specs.Places.{Each}
 use Rattle.rob_meaning.proofs.LeastLemmas.{denominator_least, whole_by_denominator}
 use Rattle.rob_sets.specs.FirstWide.{IsWideCleared, Some_of}
 use Rattle.rob_sets.specs.declared.error.Stop.{Stop}
-use Rattle.std.specs.Prelude.{Result, Ok, Err, IfOk, OnOk}
-use Rattle.rob_sets.proofs.SubexpressionLemmas.{take_one_more, take_past}
+use Rattle.rob_sets.proofs.ListLemmas.{append-nil, take_one_more, take_past}
 use Rattle.std.proofs.lemmas.List.{map-append}
 use Rattle.rob_meaning.proofs.EachLemmas.{each_append, each_left, each_right}
 
@@ -32,11 +31,7 @@ denominator-more qs q =
 
 -- that of no further ones
 pub common_first : (qs : List Fraction) → denominator qs ≡ denominator (qs ++ [])
-common_first qs = ap denominator (sym (nothing qs))
-  where
-    nothing : (xs : List Fraction) → xs ++ [] ≡ xs
-    nothing [] = refl
-    nothing (x ∷ xs) = ap (λ ys. x ∷ ys) (nothing xs)
+common_first qs = ap denominator (sym (append-nil qs))
 
 -- that of the first few is at most that of all
 pub denominator-first : (xs ys : List Fraction) → denominator xs ≤ denominator (xs ++ ys)
@@ -121,7 +116,21 @@ each_more P list z h here = each_append P list (z ∷ []) h (here, tt)
 pub cast_back : (z : ℤ) (n : ℕ) → z ≡ pos n → n < 2 ^ 62 → nat_abs (to_z w64 (of_z w64 z)) ≡ n
 cast_back z n e h = ap (λ x. nat_abs (to_z w64 (of_z w64 x))) e ∙ ap nat_abs (seen (pos n) h)
 
+-- a least common multiple within a limit, of numbers that were cast
+pub multiple_as : {a b c limit most : ℕ} (r : Option ℕ) → a ≡ c → limit ≡ most
+    → MatchOption r (limit < lcm a b) (λ n. (n ≡ lcm a b) × (n ≤ limit))
+    → MatchOption r (most < lcm c b) (λ n. (n ≡ lcm c b) × (n ≤ most))
+multiple_as {b} None e f h = omega (arith, f, ap (λ n. lcm n b) e, h)
+multiple_as {b} (Some n) e f h = (h.0 ∙ ap (λ i. lcm i b) e, omega (arith, f, h.1))
+
 -- ---- what is cleared
+-- numbers that fit are not wide
+pub whole_none : (limit d : ℕ) (xs : List Fraction) → Each (λ a. nat_abs a ≤ limit) (map (whole_at d) xs)
+    → Some_of (λ q. IsWideWhole limit (whole_at d q)) xs → ⊥
+whole_none limit d [] f w = w
+whole_none limit d (x ∷ xs) f (inl w) = let le : nat_abs (whole_at d x) ≤ limit = f.0 in omega arith
+whole_none limit d (x ∷ xs) f (inr w) = whole_none limit d xs f.1 w
+
 pub clear_fits : (limit : ℕ) (qs : List Fraction) (common : ℕ) (r : Result (List ℤ) Stop)
     → common ≡ denominator qs → common ≤ limit
     → IfOk r (λ list. list ≡ map (whole_at common) qs) → IfOk r (λ list. Each (λ a. nat_abs a ≤ limit) list)
@@ -129,16 +138,10 @@ pub clear_fits : (limit : ℕ) (qs : List Fraction) (common : ℕ) (r : Result (
 clear_fits limit qs common (Err e) is within h k = tt
 clear_fits limit qs common (Ok list) is within h k = by
   where
-    none : (xs : List Fraction) (d : ℕ) → Each (λ a. nat_abs a ≤ limit) (map (whole_at d) xs)
-        → Some_of (λ q. IsWideWhole limit (whole_at d q)) xs → ⊥
-    none [] d f w = w
-    none (x ∷ xs) d f (inl w) = let le : nat_abs (whole_at d x) ≤ limit = f.0 in omega arith
-    none (x ∷ xs) d f (inr w) = none xs d f.1 w
-
     by : IsWideCleared limit qs → ⊥
     by (inl w) = omega arith
     by (inr w) =
-        none qs (denominator qs)
+        whole_none limit (denominator qs) qs
         (subst (λ d. Each (λ a. nat_abs a ≤ limit) (map (whole_at d) qs)) is
         (subst (λ (xs : List ℤ). Each (λ a. nat_abs a ≤ limit) xs) h k)) w
 

@@ -6,11 +6,13 @@ use Rattle.rob_meaning.specs.RobustModel.{RobustModel}
 use Rattle.rob_model.specs.declared.place.Spot.{Spot}
 use Rattle.rob_sets.specs.Appending.{StopsAt}
 use Rattle.rob_sets.specs.FirstWide.{Judged, HasCause, IsFirstWide, IsWideThere, NothingWide, spot_of}
+use Rattle.rob_sets.specs.Judging.{Judging}
 use Rattle.rob_sets.specs.Stops.{StopsFor, error_of}
 use Rattle.rob_sets.specs.declared.error.ElabErr.{ElabErr}
 use Rattle.rob_sets.specs.declared.error.ElabErr.TheVariants as Refused
 use Rattle.rob_sets.specs.declared.error.Stop.{Stop}
 use Rattle.rob_sets.specs.declared.error.Stop.TheVariants as Stopped
+use Rattle.rob_sets.proofs.PartedLemmas.{Parted}
 use Rattle.rob_meaning.proofs.EachLemmas.{each_append}
 
 module _ (limit : ℕ) (m : RobustModel) where
@@ -76,6 +78,16 @@ module _ (limit : ℕ) (m : RobustModel) where
       → StopsAt limit m js start now e
   stops_memory js e start now is =
       subst (λ (x : ElabErr). StopsAt limit m js start now x) (sym is) (record { cause = tt; rose = tt })
+
+  -- what is judged here is behind what is done, and before what is left
+  pub stops_judging : {all left here more : List Judged} (e : ElabErr) (first before last : ℕ)
+      → Judging (IsWideThere limit m) all left → Parted left here more → first ≤ before
+      → StopsAt limit m here before last e → StopsAt limit m all first last e
+  stops_judging {here} {more} e first before last p j least h =
+      subst (λ (ks : List Judged). StopsAt limit m ks first last e)
+      (ap (λ (ks : List Judged). p.done ++ ks) (sym j.is) ∙ p.order)
+      (stops_right p.done (here ++ more) e first before last least p.none_wide
+      (stops_left here more e before before last (omega arith) h))
 
   -- the cause of an answer
   pub cause_err : {T : Type 0} (js : List Judged) (r : Result T ElabErr) (e d : ElabErr) → r ≡ Err d → d ≡ e

@@ -1,151 +1,130 @@
--- A subexpression more: what its table says, and what of it is wide.
-use Rattle.std.specs.Prelude.{◌≡◌, ℕ, ◌+◌, ◌<◌, ◌≤◌, List, [], ◌∷◌, ◌++◌, map, length, Result, Ok, Err, IfOk, IfErr, OnOk}
-use Rattle.std.proofs.Common.{sym, ◌∙◌, ap, ap₂, subst, get_or, inl, inr, rules, add-one}
+-- The first few terms of a sum and factors of a product: their tables, and the subexpressions that are left.
+use Rattle.std.specs.Prelude.{◌≡◌, ℕ, ◌+◌, ◌<◌, ◌≤◌, Bool, List, [], ◌∷◌, ◌++◌, map, length, take, drop, refl}
+use Rattle.std.proofs.Common.{sym, ◌∙◌, ap, ap₂, get_or}
+use Rattle.std.proofs.lemmas.List.{map-append}
 use Rattle.rob_algebra.specs.Fraction.{Fraction, ◌+ℚ◌}
-use Rattle.rob_algebra.specs.Width.{Fits, IsWide}
-use Rattle.rob_algebra.proofs.WidthLaws.{fits_not_wide}
-use Rattle.rob_meaning.specs.Coefficients.{single, table, sum_table, product_table, table_times}
-use Rattle.rob_meaning.specs.Expressions.{Expression, number, parameter, variable, adaptive, adaptive_in, sum, product}
-use Rattle.rob_meaning.specs.Places.{Each}
+use Rattle.rob_algebra.specs.FractionLaws as Q
+use Rattle.rob_meaning.specs.Coefficients.{Table, single, table, sum_table, product_table, table_times}
+use Rattle.rob_meaning.specs.Expressions.{Expression, sum, product, Terms, no_terms, term, Factors, no_factors, factor}
+use Rattle.rob_meaning.specs.Places.{0ℚ}
 use Rattle.rob_meaning.specs.RobustModel.{RobustModel}
 use Rattle.rob_meaning.specs.Values.{signed}
-use Rattle.rob_model.specs.View.{expression_of, signed_of, terms_of, factors_of}
-use Rattle.rob_model.specs.declared.expr.Expr.{Expr, the_lemmas}
-use Rattle.rob_model.specs.declared.expr.Expr.TheVariants as Is
+use Rattle.rob_meaning.proofs.TableLemmas.{table_times-assoc, times_comm}
+use Rattle.rob_model.specs.View.{Signed, expression_of, signed_of, terms_of, factors_of}
+use Rattle.rob_model.specs.declared.expr.Expr.{Expr}
 use Rattle.rob_model.specs.declared.expr.Term.{Term}
-use Rattle.rob_sets.specs.FirstWide.{Some_of}
-use Rattle.rob_sets.specs.Subexpressions.{subexpressions, HasWideCoefficient}
-use Rattle.rob_sets.specs.Tables.{numbers_of}
-use Rattle.rob_sets.specs.Stops.{StopsFor}
-use Rattle.rob_sets.specs.declared.error.Stop.{Stop}
-use Rattle.rob_sets.specs.declared.error.Stop.TheVariants.{Wide as StopWide, Memory as StopMemory}
-use Rattle.rob_sets.specs.declared.table.Table.{Table}
-use Rattle.rob_sets.proofs.NumberLemmas.{number_fits}
-use Rattle.rob_sets.proofs.RuleLemmas.{default_table}
-use Rattle.rob_sets.proofs.SubexpressionLemmas.{some_left, some_right, first_terms, first_terms-more, first_factors, first_factors-more, sum_table-with, product_table-with}
-use Rattle.rob_meaning.proofs.EachLemmas.{each_append}
+use Rattle.rob_model.proofs.PartLemmas.{terms_at, factors_at, signed_is, drop_past}
+use Rattle.rob_sets.specs.Subexpressions.{with_term, with_factor, sums_from, products_from, subexpressions}
+use Rattle.rob_sets.proofs.ListLemmas.{take_one_more, take_past}
+use Rattle.rob_sets.proofs.PartedLemmas.{Parted}
 
--- ---- lists: some items, then one, then the rest
-module _ {A : Type 0} (xs ys zs : List A) (p : A) (e : xs ≡ ys ++ (p ∷ zs)) where
-  pub each_from : (P : A → Type 0) → Each P ys → P p → Each P zs → Each P xs
-  each_from P h here rest = subst (λ (l : List A). Each P l) (sym e) (each_append P ys (p ∷ zs) h (here, rest))
+-- ---- prefixes of a sum
+pub sum_table-with : (m : RobustModel) (before : Terms) (minus : Bool) (e : Expression) (k j : ℕ)
+    → sum_table m (with_term before minus e) k j ≡ sum_table m before k j +ℚ signed minus (table m e k j)
+sum_table-with m no_terms minus e k j = Q.ℚ-add_comm (signed minus (table m e k j)) 0ℚ
+sum_table-with m (term first d ts) minus e k j =
+    ap (λ u. signed first (table m d k j) +ℚ u) (sum_table-with m ts minus e k j)
+    ∙ sym (Q.ℚ-add_assoc (signed first (table m d k j)) (sum_table m ts k j) (signed minus (table m e k j)))
 
-  pub some_first : (P : A → Type 0) → Some_of P ys → Some_of P xs
-  some_first P h = subst (λ (l : List A). Some_of P l) (sym e) (some_left P ys (p ∷ zs) h)
+-- ---- prefixes of a product
+pub product_table-with : (m : RobustModel) (before : Factors) (e : Expression) (k j : ℕ)
+    → product_table m (with_factor before e) k j ≡ table_times (product_table m before) (table m e) k j
+product_table-with m no_factors e k j = times_comm (table m e) (single 0 0) k j
+product_table-with m (factor d fs) e k j =
+    ap (λ (f : Table). table_times (table m d) f k j) (λ i a b. product_table-with m fs e a b i)
+    ∙ sym (table_times-assoc (table m d) (product_table m fs) (table m e) k j)
 
-  pub some_here : (P : A → Type 0) → P p → Some_of P xs
-  some_here P h = subst (λ (l : List A). Some_of P l) (sym e) (some_right P ys (p ∷ zs) (inl h))
+-- ---- the program's terms and factors, the first few and the others
+module _ {N : Type 0} (value : N → Fraction) where
+  abbrev pub first_terms : List (Term N) → ℕ → Terms
+  first_terms ts i = terms_of (map (signed_of value) (take i ts))
 
-  pub some_rest : (P : A → Type 0) → Some_of P zs → Some_of P xs
-  some_rest P h = subst (λ (l : List A). Some_of P l) (sym e) (some_right P ys (p ∷ zs) (inr h))
+  abbrev pub other_terms : List (Term N) → ℕ → Terms
+  other_terms ts i = terms_of (map (signed_of value) (drop i ts))
 
--- ---- what an expression is
-module _ {N : Type 0} (value : N → Fraction) (e : Expr N) where
-  pub number_is : (x : N) → e ≡ Is.Number x → expression_of value e ≡ number (value x)
-  number_is x h = search (rules, the_lemmas)
+  abbrev pub first_factors : List (Expr N) → ℕ → Factors
+  first_factors fs i = factors_of (map (expression_of value) (take i fs))
 
-  pub parameter_is : (k : ℕ) → e ≡ Is.Param k → expression_of value e ≡ parameter k
-  parameter_is k h = search (rules, the_lemmas)
+  abbrev pub other_factors : List (Expr N) → ℕ → Factors
+  other_factors fs i = factors_of (map (expression_of value) (drop i fs))
 
-  pub variable_is : (k : ℕ) → e ≡ Is.Var k → expression_of value e ≡ variable k
-  variable_is k h = search (rules, the_lemmas)
+  terms_with : (ts : List Signed) (s : Signed) → terms_of (ts ++ s ∷ []) ≡ with_term (terms_of ts) s.0 s.1
+  terms_with [] s = refl
+  terms_with (t ∷ ts) s = ap (term t.0 t.1) (terms_with ts s)
 
-  pub adaptive_is : (y : ℕ) → e ≡ Is.Adaptive y → expression_of value e ≡ adaptive y
-  adaptive_is y h = search (rules, the_lemmas)
+  factors_with : (fs : List Expression) (e : Expression) → factors_of (fs ++ e ∷ []) ≡ with_factor (factors_of fs) e
+  factors_with [] e = refl
+  factors_with (f ∷ fs) e = ap (factor f) (factors_with fs e)
 
-  pub adaptive_in_is : (y S : ℕ) → e ≡ Is.AdaptiveIn y S → expression_of value e ≡ adaptive_in y S
-  adaptive_in_is y S h = search (rules, the_lemmas)
+  pub first_terms-more : (ts : List (Term N)) (i : ℕ) (t : Term N) → i < length ts → t ≡ get_or ts i t
+      → first_terms ts (i + 1) ≡ with_term (first_terms ts i) t.minus (expression_of value t.inner)
+  first_terms-more ts i t h e =
+      ap (λ (xs : List (Term N)). terms_of (map (signed_of value) xs)) (take_one_more ts i t h e)
+      ∙ ap terms_of (map-append (signed_of value) (take i ts) (t ∷ []))
+      ∙ terms_with (map (signed_of value) (take i ts)) (signed_of value t)
+      ∙ ap (λ (s : Signed). with_term (first_terms ts i) s.0 s.1) (signed_is value t)
 
-  pub sum_is : (ts us : List (Term N)) → e ≡ Is.Sum ts → us ≡ ts
-      → expression_of value e ≡ sum (terms_of (map (signed_of value) us))
-  sum_is ts us h same = search (rules, the_lemmas)
+  pub first_factors-more : (fs : List (Expr N)) (i : ℕ) (f : Expr N) → i < length fs → f ≡ get_or fs i f
+      → first_factors fs (i + 1) ≡ with_factor (first_factors fs i) (expression_of value f)
+  first_factors-more fs i f h e =
+      ap (λ (xs : List (Expr N)). factors_of (map (expression_of value) xs)) (take_one_more fs i f h e)
+      ∙ ap factors_of (map-append (expression_of value) (take i fs) (f ∷ []))
+      ∙ factors_with (map (expression_of value) (take i fs)) (expression_of value f)
 
-  pub product_is : (fs gs : List (Expr N)) → e ≡ Is.Product fs → gs ≡ fs
-      → expression_of value e ≡ product (factors_of (map (expression_of value) gs))
-  product_is fs gs h same = search (rules, the_lemmas)
+  -- what is left of the subexpressions
+  pub sums_at : (ts : List (Term N)) (i : ℕ) (t : Term N) → i < length ts → t ≡ get_or ts i t
+      → Parted (sums_from (first_terms ts i) (other_terms ts i)) (subexpressions (expression_of value t.inner))
+      (sum (first_terms ts (i + 1)) ∷ sums_from (first_terms ts (i + 1)) (other_terms ts (i + 1)))
+  sums_at ts i t h e = record {
+    is = ap (λ (xs : Terms). sums_from (first_terms ts i) xs) (terms_at value ts i t h e)
+        ∙ ap (λ (xs : Terms). subexpressions (expression_of value t.inner)
+        ++ (sum xs ∷ sums_from xs (other_terms ts (i + 1))))
+        (sym (first_terms-more ts i t h e));
+  }
 
-module _ {N : Type 0} (value : N → Fraction) (limit : ℕ) (fits : (x : N) → Fits limit (value x))
-    (one : 1 ≤ limit) (m : RobustModel) where
-  -- where a table holds an expression's coefficients, none of them is wide
-  pub none_wide : (t : Table N) (s : Expression) → ((k j : ℕ) → numbers_of value t k j ≡ table m s k j)
-      → HasWideCoefficient limit m s → ⊥
-  none_wide t s h w =
-      fits_not_wide limit (table m s w.0 w.1)
-      (subst (Fits limit) (h w.0 w.1) (number_fits value limit fits one t w.0 w.1)) w.2
+  pub products_at : (fs : List (Expr N)) (i : ℕ) (f : Expr N) → i < length fs → f ≡ get_or fs i f
+      → Parted (products_from (first_factors fs i) (other_factors fs i)) (subexpressions (expression_of value f))
+      (product (first_factors fs (i + 1)) ∷ products_from (first_factors fs (i + 1)) (other_factors fs (i + 1)))
+  products_at fs i f h e = record {
+    is = ap (λ (xs : Factors). products_from (first_factors fs i) xs) (factors_at value fs i f h e)
+        ∙ ap (λ (xs : Factors). subexpressions (expression_of value f)
+        ++ (product xs ∷ products_from xs (other_factors fs (i + 1))))
+        (sym (first_factors-more fs i f h e));
+  }
 
-  -- an expression that is its only subexpression
-  pub leaf : (y x : Expression) → y ≡ x → subexpressions x ≡ x ∷ [] → (r : Result (Table N) Stop)
-      → IfOk r (λ t. (k j : ℕ) → numbers_of value t k j ≡ table m x k j)
-      → OnOk r (Each (λ s. HasWideCoefficient limit m s → ⊥) (subexpressions y))
-  leaf y x e alone (Ok t) h =
-      subst (λ (l : List Expression). Each (λ s. HasWideCoefficient limit m s → ⊥) l)
-      (sym (ap subexpressions e ∙ alone)) (none_wide t x h, tt)
-  leaf y x e alone (Err d) h = tt
-
-  -- the table of an expression, said of another one that it is
-  pub table_along : (y x : Expression) → y ≡ x → (r : Result (Table N) Stop)
-      → IfOk r (λ t. (k j : ℕ) → numbers_of value t k j ≡ table m x k j)
-      → IfOk r (λ t. (k j : ℕ) → numbers_of value t k j ≡ table m y k j)
-  table_along y x e (Ok t) h = λ k j. h k j ∙ ap (λ (z : Expression). table m z k j) (sym e)
-  table_along y x e (Err d) h = tt
-
-  -- an adaptive variable in the default set
-  pub default_ok : (y : ℕ) (r : Result (Table N) Stop)
-      → IfOk r (λ t. (k j : ℕ) → numbers_of value t k j ≡ table m (adaptive_in y 0) k j)
-      → IfOk r (λ t. (k j : ℕ) → numbers_of value t k j ≡ table m (adaptive y) k j)
-  default_ok y (Ok t) h = λ k j. h k j ∙ default_table m y k j
-  default_ok y (Err d) h = tt
-
-  pub default_wide : (y : ℕ) (x : Expression) (A : Type 0) → x ≡ adaptive y → (r : Result (Table N) Stop)
-      → IfErr r (StopsFor (A × HasWideCoefficient limit m (adaptive_in y 0)))
-      → IfErr r (StopsFor (A × Some_of (HasWideCoefficient limit m) (subexpressions x)))
-  default_wide y x A e (Ok t) h = tt
-  default_wide y x A e (Err StopMemory) h = tt
-  default_wide y x A e (Err StopWide) h = (
-    h.0,
-    subst (λ (x : Expression). Some_of (HasWideCoefficient limit m) (subexpressions x)) (sym e)
-        (inl (h.1.0, h.1.1, subst (IsWide limit) (default_table m y h.1.0 h.1.1) h.1.2)),
+  -- past the end all are the first, and none is left
+  pub terms_end : (ts : List (Term N)) (i : ℕ) → length ts ≤ i
+      → (first_terms ts i ≡ terms_of (map (signed_of value) ts)) × (other_terms ts i ≡ no_terms)
+  terms_end ts i h = (
+    ap (λ (xs : List (Term N)). terms_of (map (signed_of value) xs)) (take_past ts i h),
+    ap (λ (xs : List (Term N)). terms_of (map (signed_of value) xs)) (drop_past ts i h),
   )
 
-  pub parts_along : (y x : Expression) → y ≡ x → (r : Result (Table N) Stop)
-      → OnOk r (Each (λ s. HasWideCoefficient limit m s → ⊥) (subexpressions x))
-      → OnOk r (Each (λ s. HasWideCoefficient limit m s → ⊥) (subexpressions y))
-  parts_along y x e (Ok t) h =
-      subst (λ (z : Expression). Each (λ s. HasWideCoefficient limit m s → ⊥) (subexpressions z)) (sym e) h
-  parts_along y x e (Err d) h = tt
+  pub factors_end : (fs : List (Expr N)) (i : ℕ) → length fs ≤ i
+      → (first_factors fs i ≡ factors_of (map (expression_of value) fs)) × (other_factors fs i ≡ no_factors)
+  factors_end fs i h = (
+    ap (λ (xs : List (Expr N)). factors_of (map (expression_of value) xs)) (take_past fs i h),
+    ap (λ (xs : List (Expr N)). factors_of (map (expression_of value) xs)) (drop_past fs i h),
+  )
 
-  -- a 1 in the row of a parameter, or in the column of a variable
-  pub parameter_table : (r : Result (Table N) Stop) (d : ℕ)
-      → IfOk r (λ t. (k j : ℕ) → numbers_of value t k j ≡ single (d + 1) 0 k j)
-      → IfOk r (λ t. (k j : ℕ) → numbers_of value t k j ≡ table m (parameter d) k j)
-  parameter_table (Ok t) d h = λ k j. h k j ∙ ap (λ n. single n 0 k j) (add-one d)
-  parameter_table (Err e) d h = tt
+  -- ---- the table of one term or one factor more
+  module _ (m : RobustModel) (so_far part next : Table) where
+    pub sum_more : (ts : List (Term N)) (i : ℕ) (t : Term N) → i < length ts → t ≡ get_or ts i t
+        → ((k j : ℕ) → so_far k j ≡ sum_table m (first_terms ts i) k j)
+        → ((k j : ℕ) → part k j ≡ table m (expression_of value t.inner) k j)
+        → ((k j : ℕ) → next k j ≡ so_far k j +ℚ signed t.minus (part k j)) → (k j : ℕ)
+        → next k j ≡ sum_table m (first_terms ts (i + 1)) k j
+    sum_more ts i t h e a b c k j =
+        c k j ∙ ap₂ (λ u v. u +ℚ signed t.minus v) (a k j) (b k j)
+        ∙ sym (sum_table-with m (first_terms ts i) t.minus (expression_of value t.inner) k j)
+        ∙ ap (λ x. sum_table m x k j) (sym (first_terms-more ts i t h e))
 
-  pub variable_table : (r : Result (Table N) Stop) (v : ℕ)
-      → IfOk r (λ t. (k j : ℕ) → numbers_of value t k j ≡ single 0 (v + 1) k j)
-      → IfOk r (λ t. (k j : ℕ) → numbers_of value t k j ≡ table m (variable v) k j)
-  variable_table (Ok t) v h = λ k j. h k j ∙ ap (λ n. single 0 n k j) (add-one v)
-  variable_table (Err e) v h = tt
-
-  -- ---- one term or one factor more
-  pub sum_more : (ts : List (Term N)) (i : ℕ) (t : Term N) → i < length ts → t ≡ get_or ts i t
-      → (so_far part next : ℕ → ℕ → Fraction)
-      → ((k j : ℕ) → so_far k j ≡ sum_table m (first_terms value ts i) k j)
-      → ((k j : ℕ) → part k j ≡ table m (expression_of value t.inner) k j)
-      → ((k j : ℕ) → next k j ≡ so_far k j +ℚ signed t.minus (part k j)) → (k j : ℕ)
-      → next k j ≡ sum_table m (first_terms value ts (i + 1)) k j
-  sum_more ts i t h e so_far part next a b c k j =
-      c k j ∙ ap₂ (λ u v. u +ℚ signed t.minus v) (a k j) (b k j)
-      ∙ sym (sum_table-with m (first_terms value ts i) t.minus (expression_of value t.inner) k j)
-      ∙ ap (λ x. sum_table m x k j) (sym (first_terms-more value ts i t h e))
-
-  pub product_more : (fs : List (Expr N)) (i : ℕ) (f : Expr N) → i < length fs → f ≡ get_or fs i f
-      → (so_far part next : ℕ → ℕ → Fraction)
-      → ((k j : ℕ) → so_far k j ≡ product_table m (first_factors value fs i) k j)
-      → ((k j : ℕ) → part k j ≡ table m (expression_of value f) k j)
-      → ((k j : ℕ) → next k j ≡ table_times so_far part k j) → (k j : ℕ)
-      → next k j ≡ product_table m (first_factors value fs (i + 1)) k j
-  product_more fs i f h e so_far part next a b c k j =
-      c k j ∙ ap₂ (λ (u v : ℕ → ℕ → Fraction). table_times u v k j) (λ n x y. a x y n) (λ n x y. b x y n)
-      ∙ sym (product_table-with m (first_factors value fs i) (expression_of value f) k j)
-      ∙ ap (λ x. product_table m x k j) (sym (first_factors-more value fs i f h e))
+    pub product_more : (fs : List (Expr N)) (i : ℕ) (f : Expr N) → i < length fs → f ≡ get_or fs i f
+        → ((k j : ℕ) → so_far k j ≡ product_table m (first_factors fs i) k j)
+        → ((k j : ℕ) → part k j ≡ table m (expression_of value f) k j)
+        → ((k j : ℕ) → next k j ≡ table_times so_far part k j) → (k j : ℕ)
+        → next k j ≡ product_table m (first_factors fs (i + 1)) k j
+    product_more fs i f h e a b c k j =
+        c k j ∙ ap₂ (λ (u v : Table). table_times u v k j) (λ n x y. a x y n) (λ n x y. b x y n)
+        ∙ sym (product_table-with m (first_factors fs i) (expression_of value f) k j)
+        ∙ ap (λ x. product_table m x k j) (sym (first_factors-more fs i f h e))

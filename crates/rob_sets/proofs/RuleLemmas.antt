@@ -1,14 +1,12 @@
 -- The table of an adaptive variable, column by column.
-use Rattle.std.specs.Prelude.{◌≡◌, ℕ, zero, suc, ◌+◌, ◌*◌, ◌<◌, ◌≤◌, List, [], ◌∷◌, map, length, drop, refl}
-use Rattle.std.proofs.Common.{sym, ◌∙◌, ap, ap₂, arith, get_or, add-one, div-mul-le_self, mul-le-mul_right, mul_comm, suc-mul, zero-mul}
-use Rattle.std.proofs.lemmas.List.{get_or-map, length-map}
+use Rattle.std.specs.Prelude.{◌≡◌, ℕ, zero, suc, ◌+◌, ◌<◌, ◌≤◌, List, [], ◌∷◌, map, length, drop, refl}
+use Rattle.std.proofs.Common.{sym, ◌∙◌, ap, ap₂, arith, get_or, add-one}
 use Rattle.std.proofs.Math.Seq.{drop-cons}
 use Rattle.rob_algebra.specs.Fraction.{Fraction, ◌+ℚ◌, ◌*ℚ◌}
 use Rattle.rob_algebra.specs.FractionLaws as Q
-use Rattle.rob_meaning.specs.Coefficients.{unit, single, rule_table, table}
-use Rattle.rob_meaning.specs.Expressions.{adaptive, adaptive_in}
-use Rattle.rob_meaning.specs.Places.{0ℚ, 1ℚ, Each}
-use Rattle.rob_meaning.specs.RobustModel.{AdaptiveVariable, RobustModel, column_count, column_of, joint_number, list_in, list_of, set_count, written_count}
+use Rattle.rob_meaning.specs.Coefficients.{unit, single, rule_table}
+use Rattle.rob_meaning.specs.Places.{0ℚ, 1ℚ}
+use Rattle.rob_meaning.specs.RobustModel.{column_count, column_of, list_in, list_of}
 use Rattle.rob_model.specs.Limits.{most_columns}
 use Rattle.rob_model.proofs.ColumnLemmas.{rule_fits}
 use Rattle.std.proofs.lemmas.Grind.{common_steps}
@@ -98,50 +96,3 @@ module _ {N : Type 0} (value : N → Fraction) where
         rule_fits value m k p.0 p.0.on (column_of (robust value m) k) h p.1 refl refl few,
         ap length (list_at m.adaptives k p.0 h p.1),
       )
-
--- ---- the parameters of a set
--- the row of a list's parameter
-pub joint_row : (m : RobustModel) (S w : ℕ) (on : List ℕ) (i : ℕ) → w ≡ written_count m → i < length on
-    → get_or (map (joint_number m S) on) i 0 + 1 ≡ S * w + get_or on i 0 + 1
-joint_row m S w on i e h =
-    ap (λ n. n + 1) (get_or-map (joint_number m S) on i 0 0 h ∙ ap (λ n. S * n + get_or on i 0) (sym e))
-
--- it is among the joint parameters
-pub joint_below : (m : RobustModel) (S k : ℕ) → S < set_count m → k < written_count m
-    → S * written_count m + k < length m.parameters
-joint_below m S k some small =
-    omega (
-      arith,
-      mul-le-mul_right (written_count m) (let le : suc S ≤ set_count m = omega arith in le),
-      suc-mul S (written_count m),
-      div-mul-le_self (length m.parameters) (set_count m),
-      mul_comm (set_count m) (written_count m),
-    )
-
-pub map_same : (m : RobustModel) (S : ℕ) (on : List ℕ) → length (map (joint_number m S) on) ≡ length on
-map_same m S on = length-map on (joint_number m S)
-
-default_list : (m : RobustModel) (ks : List ℕ) → map (joint_number m 0) ks ≡ ks
-default_list m [] = refl
-default_list m (k ∷ ks) =
-    ap₂ (λ (x : ℕ) (xs : List ℕ). x ∷ xs) (let e : 0 * written_count m + k ≡ k =
-    omega (arith, zero-mul (written_count m)) in e) (default_list m ks)
-
--- in the default set the parameters are the list's
-pub default_table : (m : RobustModel) (y k j : ℕ) → table m (adaptive_in y 0) k j ≡ table m (adaptive y) k j
-default_table m y k j =
-    ap (λ (ds : List ℕ). single 0 (suc (column_of m y)) k j +ℚ rule_table ds (suc (column_of m y)) k j)
-    (default_list m (list_of m y))
-
--- what is true of the parameters of each list
-pub each_list : (P : ℕ → Type 0) (ys : List AdaptiveVariable) (k : ℕ)
-    → Each (λ (y : AdaptiveVariable). Each P y.on) ys → Each P (list_in ys k)
-each_list P [] k h = tt
-each_list P (y ∷ ys) zero h = h.0
-each_list P (y ∷ ys) (suc k) h = each_list P ys k h.1
-
--- and of the one at a place
-pub each_there : (P : ℕ → Type 0) (xs : List ℕ) (i : ℕ) → i < length xs → Each P xs → P (get_or xs i 0)
-each_there P [] i h e = absurd (omega arith)
-each_there P (x ∷ xs) zero h e = e.0
-each_there P (x ∷ xs) (suc i) h e = each_there P xs i (omega arith) e.1

@@ -42,7 +42,7 @@ use Rattle.rob_sets.specs.declared.set_form.SetForm.{SetForm}
 use Rattle.rob_sets.specs.declared.set_form.SetRow.{SetRow}
 use Rattle.rob_sets.proofs.BoundRowLemmas.{bounds_many}
 use Rattle.rob_sets.proofs.StatementLemmas.{statements_many}
-use Rattle.rob_sets.proofs.SubexpressionLemmas.{take_one_more}
+use Rattle.rob_sets.proofs.ListLemmas.{take_one_more}
 
 -- ---- numbers in pairs
 

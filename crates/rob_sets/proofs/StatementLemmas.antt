@@ -14,7 +14,7 @@ use Rattle.rob_sets.specs.SetForm.{judged_rows, judged_sides, judged_statements}
 use Rattle.rob_sets.specs.declared.error.ElabErr.{ElabErr}
 use Rattle.rob_sets.specs.declared.set_form.SetRow.{SetRow}
 use Rattle.rob_sets.proofs.PartedLemmas.{Parted}
-use Rattle.rob_sets.proofs.ProgressLemmas.{append-nil, length-both}
+use Rattle.rob_sets.proofs.ListLemmas.{append-nil, length-both}
 use Rattle.rob_meaning.proofs.SetRowLemmas.{length-member_rows}
 
 pub appends_along : (limit : ℕ) (m : RobustModel) (xs ys : List lifted.SetRow) (js ks : List Judged) (a b : List SetRow)

@@ -13,15 +13,22 @@ stops (Ok x) h = tt
 stops (Err Wide) h = h
 stops (Err Memory) h = tt
 
--- a cause of a cause
+-- a cause of a cause, of a stop
+pub stop_weaker : {cause other : Type 0} → (e : Stop) → (other → cause) → StopsFor other e → StopsFor cause e
+stop_weaker Wide f h = f h
+stop_weaker Memory f h = tt
+
+-- and of a call
 pub stops_more : {T cause other : Type 0} → (r : Result T Stop) (e d : Stop) → r ≡ Err d → d ≡ e → (other → cause)
     → StopsFor other e → IfErr r (StopsFor cause)
 stops_more {T} {cause} {other} r e d is same f h =
-    subst (λ (x : Result T Stop). IfErr x (StopsFor cause)) (sym is) (subst (StopsFor cause) (sym same) (by e h))
-  where
-    by : (e : Stop) → StopsFor other e → StopsFor cause e
-    by Wide h = f h
-    by Memory h = tt
+    subst (λ (x : Result T Stop). IfErr x (StopsFor cause)) (sym is)
+    (subst (StopsFor cause) (sym same) (stop_weaker e f h))
+
+pub stops_also : {T cause other : Type 0} → (r : Result T Stop) → (other → cause) → IfErr r (StopsFor other)
+    → IfErr r (StopsFor cause)
+stops_also (Ok x) f h = tt
+stops_also (Err stop) f h = stop_weaker stop f h
 
 -- a stop for width has no cause, so it is for memory
 pub only_memory : {T cause : Type 0} → (r : Result T Stop) (e d : Stop) → r ≡ Err d → d ≡ e → (cause → ⊥)
@@ -32,12 +39,6 @@ only_memory {T} {cause} r e d is same f h =
     by : (e : Stop) → StopsFor cause e → e ≡ Memory
     by Wide h = absurd (f h)
     by Memory h = refl
-
-pub stops_also : {T cause other : Type 0} → (r : Result T Stop) → (other → cause) → IfErr r (StopsFor other)
-    → IfErr r (StopsFor cause)
-stops_also (Ok x) f h = tt
-stops_also (Err Wide) f h = f h
-stops_also (Err Memory) f h = tt
 
 -- the answer that names the spot
 pub stops_with : {cause other : Type 0} → (stop : Stop) (e : ElabErr) (spot named : Spot) → e ≡ error_of stop spot

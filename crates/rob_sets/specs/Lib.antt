@@ -1,7 +1,9 @@
 pub mod Appending
 pub mod FirstWide
+pub mod Judging
 pub mod SetForm
 pub mod Stops
 pub mod Subexpressions
 pub mod Tables
+pub mod Tabulating
 pub mod SetProgram

@@ -1,7 +1,6 @@
 //! Fractions times their least common denominator.
 
-ghost use Rattle.std.specs.Prelude.{◌≡◌, ◌≤◌, ◌<◌, ◌/◌, ◌^◌, ◌++◌, ℕ, ℤ, List, pos, ◌*ℤ◌, ◌<ℤ◌, nat_abs, map, OnOk, IfOk, IfErr, MatchOption};
-ghost use Rattle.rob_algebra.specs.Fraction.{Fraction};
+ghost use Rattle.std.specs.Prelude.{◌≡◌, ◌≤◌, ◌<◌, ◌/◌, ◌^◌, pos, ◌*ℤ◌, ◌<ℤ◌, nat_abs, map, OnOk, IfOk, IfErr, MatchOption};
 ghost use Rattle.rob_algebra.specs.Width.{IsWideWhole};
 ghost use Rattle.rob_number.specs.Counts.{Rose, NeverFell};
 ghost use Rattle.rob_meaning.specs.Clearing.{lcm, denominator as common_denominator, whole_at};
@@ -27,26 +26,24 @@ pub fn common_multiple(a: u64, b: u64, limit: u64) -> Option<u64>
     }
 }
 
+/// The least common multiple of a common denominator and of the denominator of one number more, or none where it is over
+/// the limit. It takes one greatest common divisor of machine numbers.
+pub fn with_number<N: Exact>(common: u64, q: N) -> Option<u64>
+    requires positive { 0 < common }
+    ensures multiple { MatchOption result (N.limit < lcm (N.value q).den common)
+        (λ d. (d ≡ lcm (N.value q).den common) × (d ≤ N.limit)) }
+{
+    common_multiple(q.den() as u64, common, N::LIMIT as u64)
+}
+
 /// The least common denominator, or none where it is over the limit.
 pub fn denominator<N: Exact>(numbers: &[N]) -> Option<u64>
     ensures least { MatchOption result (N.limit < common_denominator (map N.value numbers.now))
         (λ d. (d ≡ common_denominator (map N.value numbers.now)) × (d ≤ N.limit)) }
 {
-    denominator_with(1, numbers)
-}
-
-/// The least common denominator of numbers whose own is `common` and of further ones, or none where it is over the
-/// limit. One greatest common divisor of machine numbers for each fraction.
-pub fn denominator_with<N: Exact>(common: u64, numbers: &[N]) -> Option<u64>
-    requires positive { 0 < common }
-    requires within { common ≤ N.limit }
-    ensures least { (before : List Fraction) → common ≡ common_denominator before
-        → MatchOption result (N.limit < common_denominator (before ++ map N.value numbers.now))
-        (λ d. (d ≡ common_denominator (before ++ map N.value numbers.now)) × (d ≤ N.limit)) }
-{
-    let mut least = common;
+    let mut least: u64 = 1;
     for q in numbers {
-        match common_multiple(q.den() as u64, least, N::LIMIT as u64) {
+        match with_number(least, *q) {
             Some(multiple) => least = multiple,
             None => return None,
         }

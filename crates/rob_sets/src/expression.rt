@@ -1,19 +1,16 @@
 //! The coefficients of expressions.
 
-ghost use Rattle.std.specs.Prelude.{◌≡◌, ◌≤◌, ◌<◌, ℕ, map, length, OnOk, IfOk, IfErr};
-ghost use Rattle.rob_number.specs.Counts.{Rose, NeverFell};
-ghost use Rattle.rob_meaning.specs.Coefficients.{single, table as table_of, sum_table, product_table};
+ghost use Rattle.std.specs.Prelude.{◌≡◌, ◌≤◌, ◌<◌, ℕ, map, length, IfOk, IfErr};
+ghost use Rattle.rob_number.specs.Counts.{NeverFell};
+ghost use Rattle.rob_meaning.specs.Coefficients.{single};
 ghost use Rattle.rob_meaning.specs.Degrees.{IsLinear, AreLinear, FactorsLinear, uncertain_degree, decision_degree};
-ghost use Rattle.rob_meaning.specs.Expressions.{adaptive_in as rule_in, product as product_of, no_terms, no_factors};
-ghost use Rattle.rob_meaning.specs.Places.{Each};
+ghost use Rattle.rob_meaning.specs.Expressions.{adaptive_in as rule_in, product as product_of, sum as sum_of};
 ghost use Rattle.rob_meaning.specs.RobustModel.{set_count};
 ghost use Rattle.rob_meaning.specs.WellFormed.{IsInside, TermsInside, FactorsInside};
 ghost use Rattle.rob_model.specs.Valid.{IsValid};
 ghost use Rattle.rob_model.specs.View.{robust, expression_of, signed_of, terms_of, factors_of};
-ghost use Rattle.rob_sets.specs.FirstWide.{Some_of};
-ghost use Rattle.rob_sets.specs.Stops.{StopsFor};
-ghost use Rattle.rob_sets.specs.Subexpressions.{subexpressions, sums_from, products_from, HasWideCoefficient};
 ghost use Rattle.rob_sets.specs.Tables.{numbers_of};
+ghost use Rattle.rob_sets.specs.Tabulating.{Tabulates};
 
 use crate::error::Stop;
 use crate::table::{Cell, Table};
@@ -34,13 +31,8 @@ pub fn coefficients<N: Exact, L: Ledger>(
     requires valid { IsValid N.value model.now }
     requires inside { IsInside (robust N.value model.now) (expression_of N.value e.now) }
     requires linear { IsLinear (robust N.value model.now) (expression_of N.value e.now) }
-    ensures table { IfOk result (λ t. (k j : ℕ) → numbers_of N.value t k j
-        ≡ table_of (robust N.value model.now) (expression_of N.value e.now) k j) }
-    ensures none_wide { OnOk result (Each (λ s. HasWideCoefficient N.limit (robust N.value model.now) s → ⊥)
-        (subexpressions (expression_of N.value e.now))) }
-    ensures wide { IfErr result (StopsFor (Rose (L.wides ledger.old) (L.wides ledger.new)
-        × Some_of (HasWideCoefficient N.limit (robust N.value model.now))
-        (subexpressions (expression_of N.value e.now)))) }
+    ensures table { Tabulates N.value N.limit (robust N.value model.now) (expression_of N.value e.now)
+        (L.wides ledger.old) (L.wides ledger.new) result }
     ensures counted { NeverFell L.ops L.wides ledger.old ledger.new }
 {
     match e {
@@ -79,13 +71,8 @@ fn sum<N: Exact, L: Ledger>(
     requires valid { IsValid N.value model.now }
     requires inside { TermsInside (robust N.value model.now) (terms_of (map (signed_of N.value) terms.now)) }
     requires linear { AreLinear (robust N.value model.now) (terms_of (map (signed_of N.value) terms.now)) }
-    ensures table { IfOk result (λ t. (k j : ℕ) → numbers_of N.value t k j
-        ≡ sum_table (robust N.value model.now) (terms_of (map (signed_of N.value) terms.now)) k j) }
-    ensures none_wide { OnOk result (Each (λ s. HasWideCoefficient N.limit (robust N.value model.now) s → ⊥)
-        (sums_from no_terms (terms_of (map (signed_of N.value) terms.now)))) }
-    ensures wide { IfErr result (StopsFor (Rose (L.wides ledger.old) (L.wides ledger.new)
-        × Some_of (HasWideCoefficient N.limit (robust N.value model.now))
-        (sums_from no_terms (terms_of (map (signed_of N.value) terms.now))))) }
+    ensures table { Tabulates N.value N.limit (robust N.value model.now)
+        (sum_of (terms_of (map (signed_of N.value) terms.now))) (L.wides ledger.old) (L.wides ledger.new) result }
     ensures counted { NeverFell L.ops L.wides ledger.old ledger.new }
 {
     let mut so_far = Table::new(alloc);
@@ -111,13 +98,9 @@ fn product<N: Exact, L: Ledger>(
         (product_of (factors_of (map (expression_of N.value) factors.now))) ≤ 1 }
     requires decision { decision_degree (robust N.value model.now)
         (product_of (factors_of (map (expression_of N.value) factors.now))) ≤ 1 }
-    ensures table { IfOk result (λ t. (k j : ℕ) → numbers_of N.value t k j
-        ≡ product_table (robust N.value model.now) (factors_of (map (expression_of N.value) factors.now)) k j) }
-    ensures none_wide { OnOk result (Each (λ s. HasWideCoefficient N.limit (robust N.value model.now) s → ⊥)
-        (products_from no_factors (factors_of (map (expression_of N.value) factors.now)))) }
-    ensures wide { IfErr result (StopsFor (Rose (L.wides ledger.old) (L.wides ledger.new)
-        × Some_of (HasWideCoefficient N.limit (robust N.value model.now))
-        (products_from no_factors (factors_of (map (expression_of N.value) factors.now))))) }
+    ensures table { Tabulates N.value N.limit (robust N.value model.now)
+        (product_of (factors_of (map (expression_of N.value) factors.now)))
+        (L.wides ledger.old) (L.wides ledger.new) result }
     ensures counted { NeverFell L.ops L.wides ledger.old ledger.new }
 {
     let mut so_far: Table<N> = unit(alloc, Cell { row: 0, column: 0 }, ledger)?;
@@ -155,10 +138,8 @@ fn rule_table<N: Exact, L: Ledger>(
     requires valid { IsValid N.value model.now }
     requires inside { adaptive < length model.now.adaptives }
     requires set { set < set_count (robust N.value model.now) }
-    ensures table { IfOk result (λ t. (k j : ℕ) → numbers_of N.value t k j
-        ≡ table_of (robust N.value model.now) (rule_in adaptive set) k j) }
-    ensures wide { IfErr result (StopsFor (Rose (L.wides ledger.old) (L.wides ledger.new)
-        × HasWideCoefficient N.limit (robust N.value model.now) (rule_in adaptive set))) }
+    ensures table { Tabulates N.value N.limit (robust N.value model.now) (rule_in adaptive set)
+        (L.wides ledger.old) (L.wides ledger.new) result }
     ensures counted { NeverFell L.ops L.wides ledger.old ledger.new }
 {
     let mut column = column_of(model, adaptive) as u32 + 1;

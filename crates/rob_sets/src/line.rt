@@ -1,20 +1,20 @@
 //! Differences of two sides, and the set rows of linear conditions.
 
-ghost use Rattle.std.specs.Prelude.{◌≡◌, ◌<◌, ◌+◌, ◌∷◌, [], ℕ, map, length, OnOk, IfOk, IfErr};
+ghost use Rattle.std.specs.Prelude.{◌≡◌, ◌<◌, ◌+◌, ◌∷◌, [], ℕ, true, map, length, IfOk, IfErr};
+ghost use Rattle.rob_algebra.specs.Fraction.{◌+ℚ◌};
+ghost use Rattle.rob_algebra.specs.Width.{IsWide};
 ghost use Rattle.rob_number.specs.Counts.{Rose, NeverFell};
-ghost use Rattle.rob_meaning.specs.Coefficients.{table as table_of};
 ghost use Rattle.rob_meaning.specs.Forms.{difference, sides};
-ghost use Rattle.rob_meaning.specs.Places.{Each};
 ghost use Rattle.rob_meaning.specs.SetRows.{expression_row};
+ghost use Rattle.rob_meaning.specs.Values.{signed};
 ghost use Rattle.rob_meaning.specs.WellFormed.{IsExpression, IsSetSide};
 ghost use Rattle.rob_model.specs.Valid.{IsValid};
 ghost use Rattle.rob_model.specs.View.{robust, expression_of, relation_of};
 ghost use Rattle.rob_sets.specs.Appending.{Appends};
-ghost use Rattle.rob_sets.specs.FirstWide.{Some_of};
 ghost use Rattle.rob_sets.specs.SetForm.{judged_sides};
 ghost use Rattle.rob_sets.specs.Stops.{StopsFor};
-ghost use Rattle.rob_sets.specs.Subexpressions.{subexpressions, HasWideCoefficient};
 ghost use Rattle.rob_sets.specs.Tables.{numbers_of};
+ghost use Rattle.rob_sets.specs.Tabulating.{Tabulates};
 
 use crate::error::{ElabErr, Stop, stopped};
 use crate::expression::coefficients;
@@ -36,18 +36,30 @@ pub fn difference_table<N: Exact, L: Ledger>(
     requires valid { IsValid N.value model.now }
     requires left { IsExpression (robust N.value model.now) (expression_of N.value left.now) }
     requires right { IsExpression (robust N.value model.now) (expression_of N.value right.now) }
-    ensures table { IfOk result (λ t. (k j : ℕ) → numbers_of N.value t k j ≡ table_of (robust N.value model.now)
-        (difference (expression_of N.value left.now) (expression_of N.value right.now)) k j) }
-    ensures none_wide { OnOk result (Each (λ s. HasWideCoefficient N.limit (robust N.value model.now) s → ⊥)
-        (subexpressions (difference (expression_of N.value left.now) (expression_of N.value right.now)))) }
-    ensures wide { IfErr result (StopsFor (Rose (L.wides ledger.old) (L.wides ledger.new)
-        × Some_of (HasWideCoefficient N.limit (robust N.value model.now))
-        (subexpressions (difference (expression_of N.value left.now) (expression_of N.value right.now))))) }
+    ensures table { Tabulates N.value N.limit (robust N.value model.now)
+        (difference (expression_of N.value left.now) (expression_of N.value right.now))
+        (L.wides ledger.old) (L.wides ledger.new) result }
     ensures counted { NeverFell L.ops L.wides ledger.old ledger.new }
 {
-    let mut table = coefficients(alloc, left, model, ledger)?;
+    let table = coefficients(alloc, left, model, ledger)?;
     let subtracted = coefficients(alloc, right, model, ledger)?;
-    table.join(true, &subtracted, ledger)?;
+    less(table, &subtracted, ledger)
+}
+
+/// A table less another one.
+pub fn less<N: Exact, L: Ledger>(
+    left: Table<N>,
+    right: &Table<N>,
+    ledger: &mut L,
+) -> Result<Table<N>, Stop>
+    ensures table { IfOk result (λ t. (k j : ℕ) → numbers_of N.value t k j
+        ≡ numbers_of N.value left k j +ℚ signed true (numbers_of N.value right.now k j)) }
+    ensures wide { IfErr result (StopsFor (Rose (L.wides ledger.old) (L.wides ledger.new) × ((k : ℕ) × (j : ℕ)
+        × IsWide N.limit (numbers_of N.value left k j +ℚ signed true (numbers_of N.value right.now k j))))) }
+    ensures counted { NeverFell L.ops L.wides ledger.old ledger.new }
+{
+    let mut table = left;
+    table.join(true, right, ledger)?;
     Ok(table)
 }
 

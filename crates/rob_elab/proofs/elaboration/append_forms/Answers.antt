@@ -4,9 +4,10 @@ use Rattle.rob_meaning.specs.Expressions.{Expression}
 use Rattle.rob_meaning.specs.Forms.{adaptive_forms, forms, objective_form, row_forms, tau_column, variable_forms}
 use Rattle.rob_meaning.specs.RobustModel.{RobustModel}
 use Rattle.rob_model.specs.View.{robust}
+use Rattle.rob_sets.proofs.AppendingLemmas.{appended_length}
 use Rattle.rob_sets.proofs.PartedLemmas.{parted}
-use Rattle.rob_sets.proofs.ProgressLemmas.{appended_length, begins}
-use Rattle.rob_sets.proofs.SubexpressionLemmas.{few_variables}
+use Rattle.rob_sets.proofs.ProgressLemmas.{begins}
+use Rattle.rob_sets.proofs.LeafLemmas.{few_variables}
 use Rattle.rob_elab.specs.Appending.{Appends}
 use Rattle.rob_elab.proofs.AppendLemmas.{AppendsForms, FormProgress, Matrices, forms_end_with, forms_go_on, forms_stop}
 use Rattle.rob_elab.proofs.LeftLemmas.{rows_many, variables_many}

@@ -7,7 +7,6 @@ use Rattle.rob_model.specs.View.{robust, expression_of}
 use Rattle.rob_model.specs.declared.place.Spot.TheVariants.{Coefficient}
 use Rattle.rob_model.specs.declared.place.Where.TheVariants.{Form}
 use Rattle.rob_sets.specs.FirstWide as judge
-use Rattle.rob_sets.specs.Tables.{numbers_of}
 use Rattle.rob_sets.proofs.JudgedLemmas.{stops_here}
 use Rattle.rob_elab.proofs.AppendLemmas.{form_appends}
 use Rattle.rob_elab.proofs.rows.append_difference.Goals as goal
@@ -17,12 +16,10 @@ returns-in-Ok-clause-form g c =
     let value = g.N.Exact.value in
     let m = robust value c.args.model.now in
     let e = difference (expression_of value c.args.left.now) (expression_of value c.args.right.now) in
-    form_appends g.N.Exact.limit m (length c.args.matrices.now) e (numbers_of value c.in-Ok.table) c.args.matrices.now
-    c.append_form.new.matrices
+    form_appends g.N.Exact.limit m value c.in-Ok.table e c.args.matrices.now c.append_form.new.matrices
     (g.L.Ledger.wides c.args.ledger.now) (g.L.Ledger.wides c.difference_table.new.ledger)
-    (g.L.Ledger.wides c.append_form.new.ledger) c.append_form.result
-    (λ i k j. c.in-Ok.ensures.table k j i) c.in-Ok.ensures.none_wide c.difference_table.ensures.counted.wides
-    c.append_form.ensures.matrix c.append_form.ensures.fits c.append_form.ensures.not_wide c.append_form.ensures.cause
+    (g.L.Ledger.wides c.append_form.new.ledger) c.append_form.result c.in-Ok.ensures.table
+    c.difference_table.ensures.counted.wides c.append_form.ensures.matrix
 
 pub returns-in-Err-clause-form : goal.returns-in-Err-clause-form
 returns-in-Err-clause-form g c =
@@ -36,4 +33,4 @@ returns-in-Err-clause-form g c =
     (g.L.Ledger.wides c.args.ledger.now)
     (g.L.Ledger.wides c.difference_table.new.ledger) c.stopped.ensures.error
     (ap (λ (xs : List (List (List ℤ))). Coefficient (Form (length xs))) (sym c.items.ensures.list))
-    (omega arith) c.in-Err.ensures.wide
+    (omega arith) c.in-Err.ensures.table

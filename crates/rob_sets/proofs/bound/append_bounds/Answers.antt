@@ -7,7 +7,9 @@ use Rattle.rob_sets.specs.declared.set_form.SetRow.{SetRow}
 use Rattle.rob_sets.proofs.BoundRowLemmas.{bounds_at, bounds_end, bounds_many, length-declared, upper_at}
 use Rattle.rob_sets.proofs.CountLemmas.{later}
 use Rattle.rob_sets.proofs.ItemLemmas.{drop_item, drop_over}
-use Rattle.rob_sets.proofs.ProgressLemmas.{RowProgress, appended_length, begins, ends, rows_go_on, rows_stop, so_many}
+use Rattle.rob_sets.proofs.AppendingLemmas.{appended_length}
+use Rattle.rob_sets.proofs.ProgressLemmas.{begins, ends, so_many}
+use Rattle.rob_sets.proofs.RowSteps.{RowProgress, rows_go_on, rows_stop}
 use Rattle.rob_sets.proofs.bound.append_bounds.Goals as goal
 
 pub loop-parameter-init : goal.loop-parameter-init

@@ -9,7 +9,9 @@ use Rattle.rob_sets.specs.Appending.{Appends}
 use Rattle.rob_sets.specs.SetForm.{judged_row, judged_rows}
 use Rattle.rob_sets.proofs.BudgetLemmas.{budget_many, down_at, members_at, members_end}
 use Rattle.rob_sets.proofs.CountLemmas.{later}
-use Rattle.rob_sets.proofs.ProgressLemmas.{appended_length, begins, ends_with, rows_go_on, rows_stop, so_many}
+use Rattle.rob_sets.proofs.AppendingLemmas.{appended_length}
+use Rattle.rob_sets.proofs.ProgressLemmas.{begins, ends_with, so_many}
+use Rattle.rob_sets.proofs.RowSteps.{rows_go_on, rows_stop}
 use Rattle.rob_sets.proofs.budget.append_budget.Goals as goal
 use Rattle.rob_meaning.proofs.EachLemmas.{each_get}
 

@@ -3,7 +3,7 @@ use Rattle.rob_number.specs.Counts.{NeverFell}
 use Rattle.rob_meaning.specs.SetRows.{budget_row, member_rows}
 use Rattle.rob_model.specs.View.{member_of, robust}
 use Rattle.rob_sets.proofs.BudgetLemmas.{other_members}
-use Rattle.rob_sets.proofs.ProgressLemmas.{RowProgress}
+use Rattle.rob_sets.proofs.RowSteps.{RowProgress}
 use Rattle.rob_sets.proofs.budget.append_budget.Given as goal
 
 -- the rows of the members so far are done

@@ -1,19 +1,19 @@
-use Rattle.std.proofs.Common.{rules, arith, ap, ap₂, sym, ◌∙◌, subst, get_or, add-one, add-zero}
-use Rattle.std.proofs.lemmas.Result.{err_from_is_err_and}
-use Rattle.std.specs.Prelude.{ℕ, ◌+◌, ◌<◌, ◌*◌, List, length, map}
+use Rattle.std.proofs.Common.{rules, arith, ap, ap₂, inl, sym, ◌∙◌, subst, get_or, add-one, add-zero}
+use Rattle.std.specs.Prelude.{ℕ, ◌+◌, ◌*◌, List, length, map, refl}
 use Rattle.rob_algebra.specs.Fraction.{◌+ℚ◌, ◌*ℚ◌}
-use Rattle.rob_sets.specs.Stops.{StopsFor}
 use Rattle.rob_algebra.specs.Width.{IsWide}
 use Rattle.rob_number.specs.Counts.{Rose}
 use Rattle.rob_meaning.specs.Coefficients.{rule_table, single, table}
 use Rattle.rob_meaning.specs.Expressions.{adaptive_in}
-use Rattle.rob_meaning.specs.RobustModel.{column_of, joint_number, written_count}
-use Rattle.rob_meaning.specs.Places.{Each}
+use Rattle.rob_meaning.specs.RobustModel.{column_of, joint_number}
 use Rattle.rob_model.specs.View.{robust}
 use Rattle.rob_model.specs.declared.model.Adaptive.{Adaptive}
+use Rattle.rob_sets.specs.Stops.{StopsFor}
 use Rattle.rob_sets.specs.Tables.{numbers_of}
-use Rattle.rob_sets.proofs.RuleLemmas.{each_list, each_there, joint_below, joint_row, list_is, map_same, rule_at, rule_end, rule_few, rule_step}
-use Rattle.rob_sets.proofs.StopLemmas.{stops_more}
+use Rattle.rob_sets.proofs.JointLemmas.{joint_row, listed_below, map_same}
+use Rattle.rob_sets.proofs.RuleLemmas.{list_is, rule_at, rule_end, rule_few, rule_step}
+use Rattle.rob_sets.proofs.StopLemmas.{stop_weaker}
+use Rattle.rob_sets.proofs.TabulatingLemmas.{leaf_is, tabulates_err}
 use Rattle.rob_sets.proofs.expression.rule_table.Goals as goal
 
 pub overflow_cast-column : goal.overflow_cast-column
@@ -69,12 +69,8 @@ overflow_add-first g c =
     omega (
       arith,
       c.requires.valid.limits.parameters,
-      joint_below m c.args.set (get_or c.items-parameter-items.result.now c.loop-parameter.parameter-index 0)
-          c.requires.set
-          (each_there (λ k. k < written_count m) c.items-parameter-items.result.now c.loop-parameter.parameter-index
-          c.loop-parameter-test.true
-          (subst (λ (xs : List ℕ). Each (λ k. k < written_count m) xs) (sym c.loop-parameter.invariant.list)
-          (each_list (λ k. k < written_count m) m.adaptives c.args.adaptive c.requires.valid.well_formed.lists))),
+      listed_below m c.args.set c.args.adaptive c.items-parameter-items.result.now c.loop-parameter.parameter-index
+          c.requires.set c.requires.valid.well_formed.lists c.loop-parameter.invariant.list c.loop-parameter-test.true,
       ap (λ n. c.args.set * n) c.written_count.ensures.count,
     )
 
@@ -84,12 +80,8 @@ overflow_add-first-in-loop-parameter g c =
     omega (
       arith,
       c.requires.valid.limits.parameters,
-      joint_below m c.args.set (get_or c.items-parameter-items.result.now c.loop-parameter.parameter-index 0)
-          c.requires.set
-          (each_there (λ k. k < written_count m) c.items-parameter-items.result.now c.loop-parameter.parameter-index
-          c.loop-parameter-test.true
-          (subst (λ (xs : List ℕ). Each (λ k. k < written_count m) xs) (sym c.loop-parameter.invariant.list)
-          (each_list (λ k. k < written_count m) m.adaptives c.args.adaptive c.requires.valid.well_formed.lists))),
+      listed_below m c.args.set c.args.adaptive c.items-parameter-items.result.now c.loop-parameter.parameter-index
+          c.requires.set c.requires.valid.well_formed.lists c.loop-parameter.invariant.list c.loop-parameter-test.true,
       ap (λ n. c.args.set * n) c.written_count.ensures.count,
     )
 
@@ -112,12 +104,7 @@ loop-parameter-preserved g c =
           (sym (joint_row m c.args.set c.written_count.result c.items-parameter-items.result.now
           c.loop-parameter.parameter-index c.written_count.ensures.count c.loop-parameter-test.true)));
       counted = record {
-        ops = omega (
-          arith,
-          c.loop-parameter.invariant.counted.ops,
-          c.one-number.ensures.ops,
-          c.add.ensures.counted.ops,
-        );
+        ops = omega (arith, c.loop-parameter.invariant.counted.ops, c.one-number.ensures.ops, c.add.ensures.counted.ops);
         wides = omega (
           arith,
           c.loop-parameter.invariant.counted.wides,
@@ -128,43 +115,47 @@ loop-parameter-preserved g c =
     }
 
 pub returns-clause-table : goal.returns-clause-table
-returns-clause-table g c k j =
+returns-clause-table g c =
     let value = g.N.Exact.value in
     let m = robust value c.args.model.now in
-    rule_end (map (joint_number m c.args.set) c.items-parameter-items.result.now) c.loop-parameter.parameter-index
-    c.loop-parameter.column k j
-    (numbers_of value c.loop-parameter.table k j) (table m (adaptive_in c.args.adaptive c.args.set) k j)
+    let e = adaptive_in c.args.adaptive c.args.set in
+    leaf_is value g.N.Exact.limit g.met.N.Exact.fits g.met.N.Exact.limit_low m e c.loop-parameter.table refl
+    (λ k j. rule_end (map (joint_number m c.args.set) c.items-parameter-items.result.now)
+    c.loop-parameter.parameter-index c.loop-parameter.column k j (numbers_of value c.loop-parameter.table k j)
+    (table m e k j)
     (omega (arith, c.loop-parameter-test.false, map_same m c.args.set c.items-parameter-items.result.now))
-    (c.loop-parameter.invariant.rest k j)
+    (c.loop-parameter.invariant.rest k j))
 
-pub returns-in_err-add-clause-wide : goal.returns-in_err-add-clause-wide
-returns-in_err-add-clause-wide g c =
+pub returns-in_err-add-clause-table : goal.returns-in_err-add-clause-table
+returns-in_err-add-clause-table g c =
     let value = g.N.Exact.value in
+    let limit = g.N.Exact.limit in
     let m = robust value c.args.model.now in
-    let p = err_from_is_err_and c.from_residual-in_err-add.result c.from_residual-in_err-add.ensures.1 in
-    let row = get_or (map (joint_number m c.args.set) c.items-parameter-items.result.now)
-    c.loop-parameter.parameter-index 0 + 1 in
-    let here = sym
-    (joint_row m c.args.set c.written_count.result c.items-parameter-items.result.now
-    c.loop-parameter.parameter-index c.written_count.ensures.count c.loop-parameter-test.true) in
-    stops_more c.from_residual-in_err-add.result c.in_err-add.field-0.0 p.0 p.1 p.2
-    (λ (h : Rose (g.L.Ledger.wides c.one-number.new.ledger) (g.L.Ledger.wides c.add.new.ledger)
-    × IsWide g.N.Exact.limit
-    (numbers_of value c.loop-parameter.table row (c.loop-parameter.column + 1) +ℚ value c.one-number.result)). (
+    let e = adaptive_in c.args.adaptive c.args.set in
+    let on = map (joint_number m c.args.set) c.items-parameter-items.result.now in
+    let i = c.loop-parameter.parameter-index in
+    let row = get_or on i 0 + 1 in
+    let column = c.loop-parameter.column + 1 in
+    let r = c.from_residual-in_err-add in
+    let before = g.L.Ledger.wides c.one-number.new.ledger in
+    let last = g.L.Ledger.wides c.add.new.ledger in
+    let x = value c.one-number.result in
+    tabulates_err value limit m e (g.L.Ledger.wides c.args.ledger.now) last r.result c.in_err-add.field-0.0
+    (stop_weaker c.in_err-add.field-0.0
+    (λ (h : Rose before last × IsWide limit (numbers_of value c.loop-parameter.table row column +ℚ x)). (
       omega (arith, c.loop-parameter.invariant.counted.wides, c.one-number.ensures.wides, h.0),
-      (
+      inl (
         row,
-        c.loop-parameter.column + 1,
-        subst (IsWide g.N.Exact.limit)
-            (rule_at (map (joint_number m c.args.set) c.items-parameter-items.result.now)
-            c.loop-parameter.parameter-index c.loop-parameter.column (value c.one-number.result)
-            (numbers_of value c.loop-parameter.table row (c.loop-parameter.column + 1))
-            (table m (adaptive_in c.args.adaptive c.args.set) row (c.loop-parameter.column + 1))
+        column,
+        subst (IsWide limit)
+            (rule_at on i c.loop-parameter.column x (numbers_of value c.loop-parameter.table row column)
+            (table m e row column)
             (omega (arith, c.loop-parameter-test.true, map_same m c.args.set c.items-parameter-items.result.now))
-            c.one-number.ensures.value (c.loop-parameter.invariant.rest row (c.loop-parameter.column + 1))) h.1,
+            c.one-number.ensures.value (c.loop-parameter.invariant.rest row column)) h.1,
       ),
     ))
-    (subst (λ r. StopsFor (Rose (g.L.Ledger.wides c.one-number.new.ledger) (g.L.Ledger.wides c.add.new.ledger)
-    × IsWide g.N.Exact.limit
-    (numbers_of value c.loop-parameter.table r (c.loop-parameter.column + 1) +ℚ value c.one-number.result))
-    c.in_err-add.field-0.0) here c.in_err-add.ensures.wide)
+    (subst (λ n. StopsFor (Rose before last
+    × IsWide limit (numbers_of value c.loop-parameter.table n column +ℚ x)) c.in_err-add.field-0.0)
+    (sym (joint_row m c.args.set c.written_count.result c.items-parameter-items.result.now i
+    c.written_count.ensures.count c.loop-parameter-test.true)) c.in_err-add.ensures.wide))
+    r.ensures.1

@@ -11,9 +11,10 @@ use Rattle.rob_sets.specs.FirstWide as judge
 use Rattle.rob_sets.specs.SetForm.{judged_row}
 use Rattle.rob_sets.specs.Subexpressions.{subexpressions, HasWideCoefficient}
 use Rattle.rob_sets.specs.Tables.{numbers_of}
-use Rattle.rob_sets.proofs.DifferenceLemmas.{each_none, side_row}
+use Rattle.rob_sets.proofs.DifferenceLemmas.{side_row}
+use Rattle.rob_sets.proofs.ListLemmas.{each_none}
 use Rattle.rob_sets.proofs.JudgedLemmas.{stops_here}
-use Rattle.rob_sets.proofs.ProgressLemmas.{appends_nothing, appends_then}
+use Rattle.rob_sets.proofs.AppendingLemmas.{appends_nothing, appends_then}
 use Rattle.rob_sets.proofs.line.append_side.Goals as goal
 
 pub returns-in-Ok-clause-row : goal.returns-in-Ok-clause-row
@@ -28,13 +29,13 @@ returns-in-Ok-clause-row g c =
     (g.L.Ledger.wides c.args.ledger.now) (g.L.Ledger.wides c.difference_table.new.ledger)
     (g.L.Ledger.wides c.append_row.new.ledger) c.append_row.result
     (appends_nothing {judged = judge.coefficients (SetLine c.args.number) (difference l r) ∷ []} c.args.rows.now
-    (each_none (HasWideCoefficient g.N.Exact.limit m) (subexpressions (difference l r)) c.in-Ok.ensures.none_wide, tt))
+    (each_none (HasWideCoefficient g.N.Exact.limit m) (subexpressions (difference l r)) c.in-Ok.ensures.table.none_wide, tt))
     c.difference_table.ensures.counted.wides
     (subst (λ (row : lifted.SetRow).
     Appends g.N.Exact.limit m (row ∷ []) (judged_row m (length c.args.rows.now) row ∷ [])
     c.args.rows.now c.append_row.new.rows
     (g.L.Ledger.wides c.difference_table.new.ledger) (g.L.Ledger.wides c.append_row.new.ledger) c.append_row.result)
-    (side_row m l r f c.in-Ok.ensures.table c.requires.left.1 c.requires.right.1) c.append_row.ensures.row)
+    (side_row m l r f c.in-Ok.ensures.table.coefficients c.requires.left.1 c.requires.right.1) c.append_row.ensures.row)
 
 pub returns-in-Err-clause-row : goal.returns-in-Err-clause-row
 returns-in-Err-clause-row g c =
@@ -45,4 +46,4 @@ returns-in-Err-clause-row g c =
     (judged_row m (length c.args.rows.now) (expression_row m e) ∷ [])
     c.in-Err.stop c.stopped.result (Coefficient (SetLine c.args.number)) (g.L.Ledger.wides c.args.ledger.now)
     (g.L.Ledger.wides c.args.ledger.now)
-    (g.L.Ledger.wides c.difference_table.new.ledger) c.stopped.ensures.error refl (omega arith) c.in-Err.ensures.wide
+    (g.L.Ledger.wides c.difference_table.new.ledger) c.stopped.ensures.error refl (omega arith) c.in-Err.ensures.table

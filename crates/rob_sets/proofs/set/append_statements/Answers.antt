@@ -7,7 +7,8 @@ use Rattle.rob_model.specs.declared.model.SetLine.{SetLine as SetLineData}
 use Rattle.rob_sets.specs.SetForm.{judged_statements}
 use Rattle.rob_sets.proofs.CountLemmas.{later}
 use Rattle.rob_sets.proofs.ItemLemmas.{drop_item, drop_over, item_inside, item_is}
-use Rattle.rob_sets.proofs.ProgressLemmas.{appended_length, begins, ends, goes_on, so_many, stops}
+use Rattle.rob_sets.proofs.AppendingLemmas.{appended_length}
+use Rattle.rob_sets.proofs.ProgressLemmas.{begins, ends, goes_on, so_many, stops}
 use Rattle.rob_sets.proofs.StatementLemmas.{judged_at, lifts_at, statements_at, statements_many}
 use Rattle.rob_sets.proofs.set.append_statements.Goals as goal
 use Rattle.rob_meaning.proofs.EachLemmas.{each_get}
@@ -76,10 +77,11 @@ loop-line-preserved g c =
     record {
       number = omega (arith, c.loop-line.invariant.number);
       lifts = omega (arith, more, c.loop-line.invariant.lifts, lifts_at m (set_line_of value) lines i t k at more);
-      progress = goes_on c.loop-line.invariant.progress (statements_at m (set_line_of value) lines i t k at more)
+      progress = goes_on c.loop-line.invariant.progress
+          (record { is = statements_at m (set_line_of value) lines i t k at more })
           (judged_at m (set_line_of value) lines i t k at more c.loop-line.number (length c.loop-line.rows)
           (length c.append_statement.new.rows)
-          (appended_length c.in_ok-append_statement.ensures.rows)).is
+          (appended_length c.in_ok-append_statement.ensures.rows))
           c.in_ok-append_statement.ensures.rows;
       counted = later c.loop-line.invariant.counted c.append_statement.ensures.counted;
     }

@@ -7,7 +7,7 @@ use Rattle.rob_sets.specs.Appending.{StopsAt}
 use Rattle.rob_sets.specs.SetForm.{judged_rows, judged_set, judged_statements}
 use Rattle.rob_sets.proofs.BoundRowLemmas.{bounds_many}
 use Rattle.rob_sets.proofs.JudgedLemmas.{cause_err, stops_right}
-use Rattle.rob_sets.proofs.ProgressLemmas.{appended_length}
+use Rattle.rob_sets.proofs.AppendingLemmas.{appended_length}
 use Rattle.rob_sets.proofs.set.clear_set.Goals as goal
 
 pub append_statements-requires-clause-few : goal.append_statements-requires-clause-few
