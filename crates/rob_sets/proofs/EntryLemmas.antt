@@ -69,11 +69,6 @@ module _ {N : Type 0} (value : N → Fraction) where
       (cond b (Some e.1) (lookup (is_at (cell_cmp (record { row = e.0.row; column = e.0.column }))) es)))
       (same_cell e.0.row e.0.column)
 
-  -- and of the others there is none
-  pub number_in-behind : (e : Cell × N) (es : List (Cell × N)) → AreOrdered (e ∷ es)
-      → number_in es e.0.row e.0.column ≡ 0ℚ
-  number_in-behind e es ordered = none_behind e es e.0.row e.0.column ordered (same_cell e.0.row e.0.column)
-
   -- ---- the numbers of a table are joined, entry by entry
   pub joined_step : (minus : Bool) (es fs : List (Cell × N)) (c : Cell) (x y : N) → es ≡ (c, x) ∷ fs → AreOrdered es
       → value y ≡ signed minus (value x) → (k j : ℕ) (a b total : Fraction)
@@ -149,4 +144,6 @@ module _ {N : Type 0} (value : N → Fraction) where
 
   pub behind_is : (e : Cell × N) (es fs : List (Cell × N)) → es ≡ e ∷ fs → AreOrdered es
       → number_in fs e.0.row e.0.column ≡ 0ℚ
-  behind_is e es fs is ordered = number_in-behind e fs (subst (λ (xs : List (Cell × N)). AreOrdered xs) is ordered)
+  behind_is e es fs is ordered =
+      none_behind e fs e.0.row e.0.column (subst (λ (xs : List (Cell × N)). AreOrdered xs) is ordered)
+      (same_cell e.0.row e.0.column)

@@ -26,8 +26,8 @@ pub fn common_multiple(a: u64, b: u64, limit: u64) -> Option<u64>
     }
 }
 
-/// The least common multiple of a common denominator and of the denominator of one number more, or none where it is over
-/// the limit. It takes one greatest common divisor of machine numbers.
+/// The least common multiple of a common denominator and of the denominator of one number more, or none where it is
+/// over the limit. It takes one greatest common divisor of machine numbers.
 pub fn with_number<N: Exact>(common: u64, q: N) -> Option<u64>
     requires positive { 0 < common }
     ensures multiple { MatchOption result (N.limit < lcm (N.value q).den common)

@@ -12,8 +12,7 @@ use Rattle.rob_elab.proofs.matrix.cleared_row.Goals as goal
 pub returns-in-None-clause-wide : goal.returns-in-None-clause-wide
 returns-in-None-clause-wide g c =
     let f = numbers_of g.N.Exact.value c.args.table.now c.args.row in
-    let Q = λ (q : Fraction). IsWideWhole g.N.Exact.limit (whole_at c.args.common q) in
-    (
+    let Q = λ (q : Fraction). IsWideWhole g.N.Exact.limit (whole_at c.args.common q) in (
       omega (
         arith,
         c.loop-column.invariant.counted.wides,

@@ -44,8 +44,7 @@ loop-row-preserved g c =
 pub returns-clause-least : goal.returns-clause-least
 returns-clause-least g c =
     let f = numbers_of g.N.Exact.value c.args.table.now in
-    let all : c.loop-row.row ≡ c.args.rows = omega (arith, c.loop-row-test.false, c.loop-row.auto.row-end) in
-    (
+    let all : c.loop-row.row ≡ c.args.rows = omega (arith, c.loop-row-test.false, c.loop-row.auto.row-end) in (
       c.loop-row.invariant.least ∙ ap (λ n. denominator (entries (rows_of n c.args.columns f))) all,
       c.loop-row.invariant.within,
     )

@@ -49,8 +49,7 @@ pub returns-clause-least : goal.returns-clause-least
 returns-clause-least g c before h =
     let f = numbers_of g.N.Exact.value c.args.table.now c.args.row in
     let all : c.loop-column.column ≡ c.args.columns =
-    omega (arith, c.loop-column-test.false, c.loop-column.auto.column-end) in
-    (
+    omega (arith, c.loop-column-test.false, c.loop-column.auto.column-end) in (
       c.loop-column.invariant.least before h ∙ ap (λ n. denominator (before ++ tabulate n f)) all,
       c.loop-column.invariant.within,
     )

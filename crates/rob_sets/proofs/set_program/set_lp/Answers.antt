@@ -1,7 +1,7 @@
 use Rattle.std.proofs.Common.{◌∙◌, List, ap, map}
 use Rattle.rob_sets.specs.SetProgram.{in_pairs, left_sides, right_sides}
 use Rattle.rob_sets.specs.declared.set_form.SetRow.{SetRow}
-use Rattle.rob_sets.proofs.SetProgramLemmas.{is_over, is_shaped, is_within}
+use Rattle.rob_sets.proofs.ProgramListLemmas.{is_over, is_shaped, is_within}
 use Rattle.rob_sets.proofs.set_program.set_lp.Goals as goal
 
 pub returns-clause-program : goal.returns-clause-program

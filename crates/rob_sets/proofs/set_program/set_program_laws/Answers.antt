@@ -1,6 +1,7 @@
 use Rattle.rob_counterpart.specs.Counterpart.{set_program}
 use Rattle.rob_counterpart.specs.SamePrograms.{AreSame}
-use Rattle.rob_sets.proofs.SetProgramLemmas.{has_whole_rows, few, of_model, same_program, empty_where_infeasible, infeasible_where_empty}
+use Rattle.rob_sets.proofs.SetEmptyLemmas.{empty_where_infeasible, infeasible_where_empty}
+use Rattle.rob_sets.proofs.SetProgramLemmas.{has_whole_rows, few, of_model, same_program}
 use Rattle.rob_sets.proofs.set_program.set_program_laws.Goals as goal
 
 pub returns-clause-whole : goal.returns-clause-whole
