@@ -9,7 +9,7 @@ ghost use Rattle.rob_model.specs.View.{robust, expression_of, relation_of};
 ghost use Rattle.rob_elab.specs.Appending.{Appends};
 
 use crate::matrix::append_form;
-use rob_model::{Expr, Model, Rel, Spot, Where};
+use rob_model::{Expr, Model, Rel, RowDef, Spot, Where};
 use rob_number::{Exact, Ledger, List};
 use rob_sets::ElabErr;
 use rob_sets::error::stopped;
@@ -41,31 +41,29 @@ pub fn append_difference<N: Exact, L: Ledger>(
     }
 }
 
-/// Clears and appends the forms of a comparison, an equality having two.
-pub fn append_sides<N: Exact, L: Ledger>(
+/// Clears and appends the forms of a row, an equality having two.
+fn append_sides<N: Exact, L: Ledger>(
     alloc: Global,
     model: &Model<N>,
-    left: &Expr<N>,
-    rel: Rel,
-    right: &Expr<N>,
+    row: &RowDef<N>,
     matrices: &mut List<List<List<i64>>>,
     ledger: &mut L,
 ) -> Result<(), ElabErr>
     requires valid { IsValid N.value model.now }
-    requires left { IsExpression (robust N.value model.now) (expression_of N.value left.now) }
-    requires right { IsExpression (robust N.value model.now) (expression_of N.value right.now) }
+    requires left { IsExpression (robust N.value model.now) (expression_of N.value row.now.left) }
+    requires right { IsExpression (robust N.value model.now) (expression_of N.value row.now.right) }
     requires few { length matrices.old + 2 < 10000 }
     ensures forms { Appends N.limit (robust N.value model.now) (length matrices.old)
-        (sides (relation_of rel) (expression_of N.value left.now) (expression_of N.value right.now))
+        (sides (relation_of row.now.rel) (expression_of N.value row.now.left) (expression_of N.value row.now.right))
         matrices.old matrices.new (L.wides ledger.old) (L.wides ledger.new) result }
     ensures counted { NeverFell L.ops L.wides ledger.old ledger.new }
 {
-    match rel {
-        Rel::AtMost => append_difference(alloc, model, left, right, matrices, ledger),
-        Rel::AtLeast => append_difference(alloc, model, right, left, matrices, ledger),
+    match row.rel {
+        Rel::AtMost => append_difference(alloc, model, &row.left, &row.right, matrices, ledger),
+        Rel::AtLeast => append_difference(alloc, model, &row.right, &row.left, matrices, ledger),
         Rel::Equal => {
-            append_difference(alloc, model, left, right, matrices, ledger)?;
-            append_difference(alloc, model, right, left, matrices, ledger)
+            append_difference(alloc, model, &row.left, &row.right, matrices, ledger)?;
+            append_difference(alloc, model, &row.right, &row.left, matrices, ledger)
         }
     }
 }
@@ -85,9 +83,7 @@ pub fn append_rows<N: Exact, L: Ledger>(
     ensures counted { NeverFell L.ops L.wides ledger.old ledger.new }
 {
     for row in model.rows.items() {
-        append_sides(
-            alloc, model, &row.left, row.rel, &row.right, matrices, ledger,
-        )?;
+        append_sides(alloc, model, row, matrices, ledger)?;
     }
     Ok(())
 }

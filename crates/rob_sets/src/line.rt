@@ -25,6 +25,14 @@ use rob_model::{Expr, Model, Rel, Spot, Where};
 use rob_number::{Exact, Ledger, List};
 use std::alloc::Global;
 
+/// Two sides that are compared.
+#[derive(Clone, Copy)]
+pub struct Comparison<'a, N> {
+    pub left: &'a Expr<N>,
+    pub rel: Rel,
+    pub right: &'a Expr<N>,
+}
+
 /// The coefficients of left less right, each subexpression in turn.
 pub fn difference_table<N: Exact, L: Ledger>(
     alloc: Global,
@@ -96,25 +104,25 @@ pub fn append_line<N: Exact, L: Ledger>(
     alloc: Global,
     model: &Model<N>,
     number: u32,
-    left: &Expr<N>,
-    rel: Rel,
-    right: &Expr<N>,
+    line: Comparison<'_, N>,
     rows: &mut List<SetRow>,
     ledger: &mut L,
 ) -> Result<(), ElabErr>
     requires valid { IsValid N.value model.now }
-    requires left { IsSetSide (robust N.value model.now) (expression_of N.value left.now) }
-    requires right { IsSetSide (robust N.value model.now) (expression_of N.value right.now) }
+    requires left { IsSetSide (robust N.value model.now) (expression_of N.value line.left.now) }
+    requires right { IsSetSide (robust N.value model.now) (expression_of N.value line.right.now) }
     requires few { length rows.old + 2 < 1000 }
     ensures rows { Appends N.limit (robust N.value model.now)
         (map (expression_row (robust N.value model.now))
-        (sides (relation_of rel) (expression_of N.value left.now) (expression_of N.value right.now)))
+        (sides (relation_of line.rel) (expression_of N.value line.left.now) (expression_of N.value line.right.now)))
         (judged_sides (robust N.value model.now) number (length rows.old)
-        (sides (relation_of rel) (expression_of N.value left.now) (expression_of N.value right.now)))
+        (sides (relation_of line.rel) (expression_of N.value line.left.now) (expression_of N.value line.right.now)))
         rows.old rows.new (L.wides ledger.old) (L.wides ledger.new) result }
     ensures counted { NeverFell L.ops L.wides ledger.old ledger.new }
 {
-    match rel {
+    let left = line.left;
+    let right = line.right;
+    match line.rel {
         Rel::AtMost => append_side(alloc, model, number, left, right, rows, ledger),
         Rel::AtLeast => append_side(alloc, model, number, right, left, rows, ledger),
         Rel::Equal => {

@@ -13,7 +13,7 @@ ghost use Rattle.rob_sets.specs.SetForm.{IsSetForm, SetFits, judged_set, judged_
 use crate::bound::append_bounds;
 use crate::budget::append_budget;
 use crate::error::ElabErr;
-use crate::line::append_line;
+use crate::line::{Comparison, append_line};
 use crate::row::{lift_count, member_count};
 use crate::set_form::{SetForm, SetRow};
 use rob_model::{Model, SetLine};
@@ -93,9 +93,14 @@ fn append_statement<N: Exact, L: Ledger>(
     ensures counted { NeverFell L.ops L.wides ledger.old ledger.new }
 {
     match line {
-        SetLine::Line { left, rel, right } => append_line(
-            alloc, model, number, left, *rel, right, rows, ledger,
-        ),
+        SetLine::Line { left, rel, right } => {
+            let line = Comparison {
+                left,
+                rel: *rel,
+                right,
+            };
+            append_line(alloc, model, number, line, rows, ledger)
+        }
         SetLine::Budget { limit, members } => {
             append_budget(alloc, model, lift, *limit, members.items(), rows, ledger)
         }

@@ -13,8 +13,8 @@ pub returns-in_err-append_difference-in-Equal-clause-forms : goal.returns-in_err
 returns-in_err-append_difference-in-Equal-clause-forms g c =
     let value = g.N.Exact.value in
     let m = robust value c.args.model.now in
-    let l = expression_of value c.args.left.now in
-    let r = expression_of value c.args.right.now in
+    let l = expression_of value c.args.row.now.left in
+    let r = expression_of value c.args.row.now.right in
     let old = c.args.matrices.now in
     let all = difference l r ∷ (difference r l ∷ []) in
     let start : FormProgress g.N.Exact.limit m all all old old = begins old in
@@ -31,8 +31,8 @@ pub returns-in_ok-append_difference-in-Equal-clause-forms : goal.returns-in_ok-a
 returns-in_ok-append_difference-in-Equal-clause-forms g c =
     let value = g.N.Exact.value in
     let m = robust value c.args.model.now in
-    let l = expression_of value c.args.left.now in
-    let r = expression_of value c.args.right.now in
+    let l = expression_of value c.args.row.now.left in
+    let r = expression_of value c.args.row.now.right in
     let old = c.args.matrices.now in
     let all = difference l r ∷ (difference r l ∷ []) in
     let start : FormProgress g.N.Exact.limit m all all old old = begins old in
