@@ -90,5 +90,6 @@ module _ (limit : ℕ) (m : RobustModel) where
       → AppendsTable limit m (numbers_of value t) a b before last r
       → Appends limit m (length a) (e ∷ []) a b first last r
   form_appends value t e a b first before last r here least h =
+      let same : numbers_of value t ≡ table m e = λ i k j. here.coefficients k j i in
       by_table e a b first before last r here.none_wide least
-      (subst (λ (f : Table). AppendsTable limit m f a b before last r) (λ i k j. here.coefficients k j i) h)
+      (subst (λ (f : Table). AppendsTable limit m f a b before last r) same h)

@@ -21,5 +21,5 @@ Appends limit m i forms old new before now result =
 abbrev pub AppendsTable : ℕ → RobustModel → Table → List (List (List ℤ)) → List (List (List ℤ)) → ℕ → ℕ
     → Result (Unit {0}) ElabErr → Type 0
 AppendsTable limit m f old new before now result =
-    AppendsOr (λ g. cleared (entries_of m g)) (MatrixFits limit) limit m (f ∷ [])
+    AppendsOr (λ (g : Table). cleared (entries_of m g)) (MatrixFits limit) limit m (f ∷ [])
     (judge.clearing (Form (length old)) (entries (entries_of m f)) ∷ []) old new before now result

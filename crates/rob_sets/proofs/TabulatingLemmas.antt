@@ -42,22 +42,22 @@ module _ {N : Type 0} (value : N → Fraction) (limit : ℕ) (m : RobustModel) w
       (subst (λ (x : Stop). StopsFor (IsWideOnWay limit m e first last) x) (sym q.2) h)
 
   -- on the way to a part
-  pub part_stops : (e : Expression) {left here more : List Expression} (first before last : ℕ)
+  pub part_stops : {left here more : List Expression} (e : Expression) (first before last : ℕ)
       (r : Result (Table N) Stop) (stop : Stop) → IsLeft limit m e left → Parted left here more → first ≤ before
       → StopsFor (Rose before last × Some_of (HasWideCoefficient limit m) here) stop → IsErrAnd r (λ d. d ≡ stop)
       → Tabulates value limit m e first last r
-  part_stops e {here} first before last r stop p l least h is =
+  part_stops {here} e first before last r stop p l least h is =
       tabulates_err e first last r stop
       (stop_weaker stop (λ (w : Rose before last × Some_of (HasWideCoefficient limit m) here).
       (omega (arith, w.0, least), judging_stops p l w.1)) h) is
 
   -- at what parts are put together to, whose coefficients are those
-  pub whole_stops : (e : Expression) {more : List Expression} (whole : Expression) (f : meaning.Table)
+  pub whole_stops : {more : List Expression} (e whole : Expression) (f : meaning.Table)
       (first before last : ℕ) (r : Result (Table N) Stop) (stop : Stop) → IsLeft limit m e (whole ∷ more)
       → ((k j : ℕ) → f k j ≡ table m whole k j) → first ≤ before
       → StopsFor (Rose before last × ((k : ℕ) × (j : ℕ) × IsWide limit (f k j))) stop → IsErrAnd r (λ d. d ≡ stop)
       → Tabulates value limit m e first last r
-  whole_stops e {more} whole f first before last r stop p same least h is =
+  whole_stops {more} e whole f first before last r stop p same least h is =
       part_stops e first before last r stop p (parted (whole ∷ []) more) least
       (stop_weaker stop (λ (w : Rose before last × ((k : ℕ) × (j : ℕ) × IsWide limit (f k j))).
       (w.0, inl (w.1.0, w.1.1, subst (IsWide limit) (same w.1.0 w.1.1) w.1.2))) h)
@@ -86,10 +86,10 @@ module _ {N : Type 0} (value : N → Fraction) (limit : ℕ) (fits : (x : N) →
       (subst (Fits limit) (h w.0 w.1) (number_fits value limit fits one t w.0 w.1)) w.2
 
   -- one step on, with what parts are put together to
-  pub whole_goes_on : (e : Expression) {more : List Expression} (whole : Expression) (t : Table N)
+  pub whole_goes_on : {more : List Expression} (e whole : Expression) (t : Table N)
       → ((k j : ℕ) → numbers_of value t k j ≡ table m whole k j) → IsLeft limit m e (whole ∷ more)
       → IsLeft limit m e more
-  whole_goes_on e {more} whole t h p = judging_goes_on p (parted (whole ∷ []) more) (none_wide t whole h, tt)
+  whole_goes_on {more} e whole t h p = judging_goes_on p (parted (whole ∷ []) more) (none_wide t whole h, tt)
 
   -- ---- an expression that is its only subexpression
   pub leaf_is : (x : Expression) (t : Table N) → subexpressions x ≡ x ∷ []

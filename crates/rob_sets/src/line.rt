@@ -104,19 +104,19 @@ pub fn append_line<N: Exact, L: Ledger>(
     alloc: Global,
     model: &Model<N>,
     number: u32,
-    line: Comparison<'_, N>,
+    line: &Comparison<'_, N>,
     rows: &mut List<SetRow>,
     ledger: &mut L,
 ) -> Result<(), ElabErr>
     requires valid { IsValid N.value model.now }
-    requires left { IsSetSide (robust N.value model.now) (expression_of N.value line.left.now) }
-    requires right { IsSetSide (robust N.value model.now) (expression_of N.value line.right.now) }
+    requires left { IsSetSide (robust N.value model.now) (expression_of N.value line.now.left.now) }
+    requires right { IsSetSide (robust N.value model.now) (expression_of N.value line.now.right.now) }
     requires few { length rows.old + 2 < 1000 }
     ensures rows { Appends N.limit (robust N.value model.now)
         (map (expression_row (robust N.value model.now))
-        (sides (relation_of line.rel) (expression_of N.value line.left.now) (expression_of N.value line.right.now)))
+        (sides (relation_of line.now.rel) (expression_of N.value line.now.left.now) (expression_of N.value line.now.right.now)))
         (judged_sides (robust N.value model.now) number (length rows.old)
-        (sides (relation_of line.rel) (expression_of N.value line.left.now) (expression_of N.value line.right.now)))
+        (sides (relation_of line.now.rel) (expression_of N.value line.now.left.now) (expression_of N.value line.now.right.now)))
         rows.old rows.new (L.wides ledger.old) (L.wides ledger.new) result }
     ensures counted { NeverFell L.ops L.wides ledger.old ledger.new }
 {

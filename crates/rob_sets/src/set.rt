@@ -99,7 +99,7 @@ fn append_statement<N: Exact, L: Ledger>(
                 rel: *rel,
                 right,
             };
-            append_line(alloc, model, number, line, rows, ledger)
+            append_line(alloc, model, number, &line, rows, ledger)
         }
         SetLine::Budget { limit, members } => {
             append_budget(alloc, model, lift, *limit, members.items(), rows, ledger)
