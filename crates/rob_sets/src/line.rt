@@ -114,9 +114,11 @@ pub fn append_line<N: Exact, L: Ledger>(
     requires few { length rows.old + 2 < 1000 }
     ensures rows { Appends N.limit (robust N.value model.now)
         (map (expression_row (robust N.value model.now))
-        (sides (relation_of line.now.rel) (expression_of N.value line.now.left.now) (expression_of N.value line.now.right.now)))
+        (sides (relation_of line.now.rel) (expression_of N.value line.now.left.now)
+        (expression_of N.value line.now.right.now)))
         (judged_sides (robust N.value model.now) number (length rows.old)
-        (sides (relation_of line.now.rel) (expression_of N.value line.now.left.now) (expression_of N.value line.now.right.now)))
+        (sides (relation_of line.now.rel) (expression_of N.value line.now.left.now)
+        (expression_of N.value line.now.right.now)))
         rows.old rows.new (L.wides ledger.old) (L.wides ledger.new) result }
     ensures counted { NeverFell L.ops L.wides ledger.old ledger.new }
 {
