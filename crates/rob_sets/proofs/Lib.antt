@@ -26,6 +26,7 @@ pub mod ProgressLemmas
 pub mod RowLemmas
 pub mod RowSteps
 pub mod RuleLemmas
+pub mod RuleSteps
 pub mod SetEmptyLemmas
 pub mod SetProgramLemmas
 pub mod StatementLemmas

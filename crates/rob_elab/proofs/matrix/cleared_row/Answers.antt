@@ -28,9 +28,10 @@ loop-column-preserved g c =
     let f = numbers_of g.N.Exact.value c.args.table.now c.args.row in
     record {
       cleared = mapped_more (whole_at c.args.common) c.loop-column.list c.push.new.self c.in-Some.entry
-          c.loop-column.column f c.loop-column.invariant.cleared c.in_ok-push.ensures.appended
+          c.loop-column.column f c.loop-column.invariant.cleared c.in_ok-push-in-Some.ensures.appended
           (c.in-Some.ensures.whole.0 ∙ ap (whole_at c.args.common) c.number-number.ensures.value);
-      fits = subst (λ (xs : List ℤ). Each (λ a. nat_abs a ≤ g.N.Exact.limit) xs) (sym c.in_ok-push.ensures.appended)
+      fits = subst (λ (xs : List ℤ). Each (λ a. nat_abs a ≤ g.N.Exact.limit) xs)
+          (sym c.in_ok-push-in-Some.ensures.appended)
           (each_push (λ a. nat_abs a ≤ g.N.Exact.limit) c.loop-column.list c.in-Some.entry
           c.loop-column.invariant.fits c.in-Some.ensures.whole.1);
       counted = record {

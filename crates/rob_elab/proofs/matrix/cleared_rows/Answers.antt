@@ -45,5 +45,5 @@ pub returns-clause-cleared : goal.returns-clause-cleared
 returns-clause-cleared g c =
     let all : c.loop-row.row ≡ c.args.rows = omega (arith, c.loop-row-test.false, c.loop-row.auto.row-end) in
     c.loop-row.invariant.cleared
-    ∙ ap (λ n. map (map (whole_at c.args.common)) (rows_of n c.args.columns (numbers_of g.N.Exact.value c.args.table.now)))
-    all
+    ∙ ap (λ n. map (map (whole_at c.args.common))
+    (rows_of n c.args.columns (numbers_of g.N.Exact.value c.args.table.now))) all

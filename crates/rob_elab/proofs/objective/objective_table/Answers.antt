@@ -26,7 +26,8 @@ returns-in_err-goal-clause-table g c =
     tabulates_err value limit m (objective_form m.sense m.objective (tau_column m)) first last r.result
     c.in_err-goal.field-0.0
     (stop_weaker c.in_err-goal.field-0.0 (λ (w : IsWideOnWay limit m m.objective first last).
-    (w.0, in_objective (HasWideCoefficient limit m) m.sense m.objective (tau_column m) w.1)) c.in_err-goal.ensures.table)
+    (w.0, in_objective (HasWideCoefficient limit m) m.sense m.objective (tau_column m) w.1))
+    c.in_err-goal.ensures.table)
     r.ensures.1
 
 pub returns-in-Minimise-clause-table : goal.returns-in-Minimise-clause-table

@@ -1,17 +1,17 @@
-use Rattle.std.proofs.Common.{rules, arith, ap, ap₂, inl, sym, ◌∙◌, subst, get_or, add-one, add-zero}
-use Rattle.std.specs.Prelude.{ℕ, ◌+◌, ◌*◌, List, length, map, refl}
-use Rattle.rob_algebra.specs.Fraction.{◌+ℚ◌, ◌*ℚ◌}
+use Rattle.std.proofs.Common.{rules, arith, ap, ap₂, inl, sym, ◌∙◌, get_or, add-one, add-zero}
+use Rattle.std.specs.Prelude.{ℕ, ◌+◌, ◌*◌, List, map, refl}
+use Rattle.rob_algebra.specs.Fraction.{◌+ℚ◌}
 use Rattle.rob_algebra.specs.Width.{IsWide}
 use Rattle.rob_number.specs.Counts.{Rose}
-use Rattle.rob_meaning.specs.Coefficients.{rule_table, single, table}
+use Rattle.rob_meaning.specs.Coefficients.{rule_table, single}
 use Rattle.rob_meaning.specs.Expressions.{adaptive_in}
 use Rattle.rob_meaning.specs.RobustModel.{column_of, joint_number}
 use Rattle.rob_model.specs.View.{robust}
 use Rattle.rob_model.specs.declared.model.Adaptive.{Adaptive}
-use Rattle.rob_sets.specs.Stops.{StopsFor}
 use Rattle.rob_sets.specs.Tables.{numbers_of}
-use Rattle.rob_sets.proofs.JointLemmas.{joint_row, listed_below, map_same}
-use Rattle.rob_sets.proofs.RuleLemmas.{list_is, rule_at, rule_end, rule_few, rule_step}
+use Rattle.rob_sets.proofs.JointLemmas.{listed_below}
+use Rattle.rob_sets.proofs.RuleLemmas.{list_is, rule_few}
+use Rattle.rob_sets.proofs.RuleSteps.{rule_ends, rule_goes_on, rule_wide}
 use Rattle.rob_sets.proofs.StopLemmas.{stop_weaker}
 use Rattle.rob_sets.proofs.TabulatingLemmas.{leaf_is, tabulates_err}
 use Rattle.rob_sets.proofs.expression.rule_table.Goals as goal
@@ -92,19 +92,18 @@ loop-parameter-preserved g c =
     record {
       list = c.loop-parameter.invariant.list;
       column = omega (arith, c.loop-parameter.invariant.column);
-      rest = λ k j. rule_step (map (joint_number m c.args.set) c.items-parameter-items.result.now)
-          c.loop-parameter.parameter-index c.loop-parameter.column k j (value c.one-number.result)
-          (numbers_of value c.loop-parameter.table k j) (numbers_of value c.add.new.self k j)
-          (table m (adaptive_in c.args.adaptive c.args.set) k j)
-          (omega (arith, c.loop-parameter-test.true, map_same m c.args.set c.items-parameter-items.result.now))
-          c.one-number.ensures.value (c.loop-parameter.invariant.rest k j)
-          (c.in_ok-add.ensures.added k j
-          ∙ ap (λ r. numbers_of value c.loop-parameter.table k j
-          +ℚ value c.one-number.result *ℚ single r (c.loop-parameter.column + 1) k j)
-          (sym (joint_row m c.args.set c.written_count.result c.items-parameter-items.result.now
-          c.loop-parameter.parameter-index c.written_count.ensures.count c.loop-parameter-test.true)));
+      rest = rule_goes_on m c.args.set c.args.adaptive c.items-parameter-items.result.now
+          c.loop-parameter.parameter-index c.loop-parameter.column (numbers_of value c.loop-parameter.table)
+          c.loop-parameter.invariant.rest c.written_count.result c.written_count.ensures.count
+          c.loop-parameter-test.true (value c.one-number.result) c.one-number.ensures.value
+          (numbers_of value c.add.new.self) c.in_ok-add.ensures.added;
       counted = record {
-        ops = omega (arith, c.loop-parameter.invariant.counted.ops, c.one-number.ensures.ops, c.add.ensures.counted.ops);
+        ops = omega (
+          arith,
+          c.loop-parameter.invariant.counted.ops,
+          c.one-number.ensures.ops,
+          c.add.ensures.counted.ops,
+        );
         wides = omega (
           arith,
           c.loop-parameter.invariant.counted.wides,
@@ -118,44 +117,34 @@ pub returns-clause-table : goal.returns-clause-table
 returns-clause-table g c =
     let value = g.N.Exact.value in
     let m = robust value c.args.model.now in
-    let e = adaptive_in c.args.adaptive c.args.set in
-    leaf_is value g.N.Exact.limit g.met.N.Exact.fits g.met.N.Exact.limit_low m e c.loop-parameter.table refl
-    (λ k j. rule_end (map (joint_number m c.args.set) c.items-parameter-items.result.now)
-    c.loop-parameter.parameter-index c.loop-parameter.column k j (numbers_of value c.loop-parameter.table k j)
-    (table m e k j)
-    (omega (arith, c.loop-parameter-test.false, map_same m c.args.set c.items-parameter-items.result.now))
-    (c.loop-parameter.invariant.rest k j))
+    leaf_is value g.N.Exact.limit g.met.N.Exact.fits g.met.N.Exact.limit_low m (adaptive_in c.args.adaptive c.args.set)
+    c.loop-parameter.table refl
+    (rule_ends m c.args.set c.args.adaptive c.items-parameter-items.result.now c.loop-parameter.parameter-index
+    c.loop-parameter.column (numbers_of value c.loop-parameter.table) c.loop-parameter.invariant.rest
+    c.loop-parameter-test.false)
 
 pub returns-in_err-add-clause-table : goal.returns-in_err-add-clause-table
 returns-in_err-add-clause-table g c =
     let value = g.N.Exact.value in
     let limit = g.N.Exact.limit in
     let m = robust value c.args.model.now in
-    let e = adaptive_in c.args.adaptive c.args.set in
-    let on = map (joint_number m c.args.set) c.items-parameter-items.result.now in
+    let S = c.args.set in
+    let items = c.items-parameter-items.result.now in
     let i = c.loop-parameter.parameter-index in
-    let row = get_or on i 0 + 1 in
-    let column = c.loop-parameter.column + 1 in
+    let column = c.loop-parameter.column in
     let r = c.from_residual-in_err-add in
     let before = g.L.Ledger.wides c.one-number.new.ledger in
     let last = g.L.Ledger.wides c.add.new.ledger in
     let x = value c.one-number.result in
-    tabulates_err value limit m e (g.L.Ledger.wides c.args.ledger.now) last r.result c.in_err-add.field-0.0
+    tabulates_err value limit m (adaptive_in c.args.adaptive S) (g.L.Ledger.wides c.args.ledger.now) last r.result
+    c.in_err-add.field-0.0
     (stop_weaker c.in_err-add.field-0.0
-    (λ (h : Rose before last × IsWide limit (numbers_of value c.loop-parameter.table row column +ℚ x)). (
+    (λ (h : Rose before last × IsWide limit
+    (numbers_of value c.loop-parameter.table (S * c.written_count.result + get_or items i 0 + 1) (column + 1) +ℚ x)). (
       omega (arith, c.loop-parameter.invariant.counted.wides, c.one-number.ensures.wides, h.0),
-      inl (
-        row,
-        column,
-        subst (IsWide limit)
-            (rule_at on i c.loop-parameter.column x (numbers_of value c.loop-parameter.table row column)
-            (table m e row column)
-            (omega (arith, c.loop-parameter-test.true, map_same m c.args.set c.items-parameter-items.result.now))
-            c.one-number.ensures.value (c.loop-parameter.invariant.rest row column)) h.1,
-      ),
+      inl (rule_wide m S c.args.adaptive items i column (numbers_of value c.loop-parameter.table)
+      c.loop-parameter.invariant.rest c.written_count.result c.written_count.ensures.count c.loop-parameter-test.true
+      x c.one-number.ensures.value limit h.1),
     ))
-    (subst (λ n. StopsFor (Rose before last
-    × IsWide limit (numbers_of value c.loop-parameter.table n column +ℚ x)) c.in_err-add.field-0.0)
-    (sym (joint_row m c.args.set c.written_count.result c.items-parameter-items.result.now i
-    c.written_count.ensures.count c.loop-parameter-test.true)) c.in_err-add.ensures.wide))
+    c.in_err-add.ensures.wide)
     r.ensures.1
