@@ -117,11 +117,11 @@ pub cast_back : (z : ℤ) (n : ℕ) → z ≡ pos n → n < 2 ^ 62 → nat_abs (
 cast_back z n e h = ap (λ x. nat_abs (to_z w64 (of_z w64 x))) e ∙ ap nat_abs (seen (pos n) h)
 
 -- a least common multiple within a limit, of numbers that were cast
-pub multiple_as : {a b c limit most : ℕ} (r : Option ℕ) → a ≡ c → limit ≡ most
+pub multiple_as : (a b c limit most : ℕ) (r : Option ℕ) → a ≡ c → limit ≡ most
     → MatchOption r (limit < lcm a b) (λ n. (n ≡ lcm a b) × (n ≤ limit))
     → MatchOption r (most < lcm c b) (λ n. (n ≡ lcm c b) × (n ≤ most))
-multiple_as {b} None e f h = omega (arith, f, ap (λ n. lcm n b) e, h)
-multiple_as {b} (Some n) e f h = (h.0 ∙ ap (λ i. lcm i b) e, omega (arith, f, h.1))
+multiple_as a b c limit most None e f h = omega (arith, f, ap (λ n. lcm n b) e, h)
+multiple_as a b c limit most (Some n) e f h = (h.0 ∙ ap (λ i. lcm i b) e, omega (arith, f, h.1))
 
 -- ---- what is cleared
 -- numbers that fit are not wide

@@ -2,6 +2,7 @@
 use Rattle.std.specs.Prelude.{◌≡◌, ℕ, zero, suc, ◌+◌, ◌*◌, ◌<◌, ◌≤◌, List, [], ◌∷◌, map, length, refl}
 use Rattle.std.proofs.Common.{sym, ◌∙◌, ap, ap₂, arith, subst, get_or, div-mul-le_self, mul-le-mul_right, mul_comm, suc-mul, zero-mul}
 use Rattle.std.proofs.lemmas.List.{get_or-map, length-map}
+use Rattle.rob_algebra.specs.Fraction.{◌+ℚ◌}
 use Rattle.rob_meaning.specs.Coefficients.{single, rule_table, table}
 use Rattle.rob_meaning.specs.Expressions.{adaptive, adaptive_in}
 use Rattle.rob_meaning.specs.Places.{Each}

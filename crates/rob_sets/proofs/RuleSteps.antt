@@ -31,8 +31,7 @@ module _ (m : RobustModel) (S y : ℕ) (items : List ℕ) (i column : ℕ) (so_f
         → HasWideCoefficient limit m (adaptive_in y S)
     rule_wide limit wide =
         let on = map (joint_number m S) items in
-        let row = get_or on i 0 + 1 in
-        (
+        let row = get_or on i 0 + 1 in (
           row,
           column + 1,
           subst (IsWide limit)

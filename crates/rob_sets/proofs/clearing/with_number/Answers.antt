@@ -9,4 +9,7 @@ returns g c =
     let limit =
     cast_back c.LIMIT.result g.N.Exact.limit (c.LIMIT.ensures ∙ g.met.N.Exact.limit_told)
     (omega (arith, g.met.N.Exact.limit_high)) in
-    record { multiple = multiple_as c.common_multiple.result den limit c.common_multiple.ensures.multiple }
+    record {
+      multiple = multiple_as _ c.args.common (g.N.Exact.value c.args.q).den _ g.N.Exact.limit
+          c.common_multiple.result den limit c.common_multiple.ensures.multiple;
+    }

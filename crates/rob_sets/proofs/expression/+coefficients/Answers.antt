@@ -1,20 +1,18 @@
-use Rattle.std.proofs.Common.{◌∙◌, ap, arith, subst}
+use Rattle.std.proofs.Common.{arith, subst}
 use Rattle.std.proofs.lemmas.List.{length-map}
 use Rattle.std.specs.Prelude.{◌<◌, map, length, refl}
-use Rattle.rob_meaning.specs.Coefficients.{sum_table, product_table}
 use Rattle.rob_meaning.specs.Degrees.{AreLinear, FactorsLinear}
-use Rattle.rob_meaning.specs.Expressions.{number, parameter, variable, adaptive_in, sum, product, Terms, Factors}
+use Rattle.rob_meaning.specs.Expressions.{number, parameter, variable, adaptive_in, sum, product}
 use Rattle.rob_meaning.specs.WellFormed.{IsInside}
 use Rattle.rob_model.specs.View.{robust, expression_of, signed_of, terms_of, factors_of, adaptive_of}
 use Rattle.rob_model.proofs.PartLemmas.{terms_at, factors_at, terms_inside, factors_inside}
-use Rattle.rob_sets.specs.Subexpressions.{sums_from, products_from}
 use Rattle.rob_sets.specs.Tables.{numbers_of}
 use Rattle.rob_sets.proofs.CountLemmas.{later}
 use Rattle.rob_sets.proofs.DegreeLemmas.{apart, degree_left}
-use Rattle.rob_sets.proofs.JudgingLemmas.{judging_begins, judging_ends}
+use Rattle.rob_sets.proofs.JudgingLemmas.{judging_begins}
 use Rattle.rob_sets.proofs.LeafLemmas.{number_is, parameter_is, variable_is, adaptive_is, adaptive_in_is, sum_is, product_is, parameter_table, variable_table, few_variables}
-use Rattle.rob_sets.proofs.PrefixLemmas.{first_terms, first_factors, sums_at, products_at, terms_end, factors_end, sum_more, product_more}
-use Rattle.rob_sets.proofs.StepLemmas.{sum_goes_on, sum_stops, product_goes_on, product_stops}
+use Rattle.rob_sets.proofs.PrefixLemmas.{first_factors, sums_at, products_at}
+use Rattle.rob_sets.proofs.StepLemmas.{sum_ends, sum_goes_on, sum_stops, product_ends, product_goes_on, product_stops}
 use Rattle.rob_sets.proofs.TabulatingLemmas.{default_leaf, leaf, part_stops, tabulates_as}
 use Rattle.rob_sets.proofs.expression.+coefficients.Goals as goal
 
@@ -101,10 +99,9 @@ coefficients-returns-in-Product-clause-table g t c =
 -- ---- term by term
 pub sum-loop-term-init : goal.sum-loop-term-init
 sum-loop-term-init g t c = record {
-  table = c.new-so_far.ensures.zero;
+  so_far = record { table = c.new-so_far.ensures.zero; judging = judging_begins _ };
   inside = c.requires.inside;
   linear = c.requires.linear;
-  judging = judging_begins _;
   counted = record { ops = omega arith; wides = omega arith };
 }
 
@@ -112,22 +109,20 @@ pub sum-returns-in_err-part-clause-table : goal.sum-returns-in_err-part-clause-t
 sum-returns-in_err-part-clause-table g t c =
     let value = g.N.Exact.value in
     let ts = c.args.terms.now in
-    let r = c.from_residual in
     part_stops value g.N.Exact.limit (robust value c.args.model.now) (sum (terms_of (map (signed_of value) ts)))
     (g.L.Ledger.wides c.args.ledger.now) (g.L.Ledger.wides c.loop-term.ledger)
-    (g.L.Ledger.wides c.coefficients.new.ledger) r.result c.in_err-part.field-0.0 c.loop-term.invariant.judging
+    (g.L.Ledger.wides c.coefficients.new.ledger) c.from_residual.result c.in_err-part.field-0.0
+    c.loop-term.invariant.so_far.judging
     (sums_at value ts c.loop-term.term-index c.term-item.result c.loop-term-test.true c.term-item.is)
-    c.loop-term.invariant.counted.wides c.in_err-part.ensures.table r.ensures.1
+    c.loop-term.invariant.counted.wides c.in_err-part.ensures.table c.from_residual.ensures.1
 
 pub sum-returns-in_err-join-clause-table : goal.sum-returns-in_err-join-clause-table
 sum-returns-in_err-join-clause-table g t c =
-    let value = g.N.Exact.value in
-    let ts = c.args.terms.now in
     let r = c.from_residual-in_err-join in
-    sum_stops value g.N.Exact.limit g.met.N.Exact.fits g.met.N.Exact.limit_low (robust value c.args.model.now)
-    (sum (terms_of (map (signed_of value) ts))) c.loop-term.so_far c.in_ok-part.part c.loop-term.term-index ts
-    c.term-item.result c.loop-term-test.true c.term-item.is c.loop-term.invariant.table c.in_ok-part.ensures.table
-    c.loop-term.invariant.judging (g.L.Ledger.wides c.args.ledger.now) (g.L.Ledger.wides c.coefficients.new.ledger)
+    sum_stops g.N.Exact.value g.N.Exact.limit g.met.N.Exact.fits g.met.N.Exact.limit_low
+    (robust g.N.Exact.value c.args.model.now) c.loop-term.so_far c.in_ok-part.part c.loop-term.term-index
+    c.args.terms.now c.term-item.result c.loop-term-test.true c.term-item.is c.loop-term.invariant.so_far
+    c.in_ok-part.ensures.table (g.L.Ledger.wides c.args.ledger.now) (g.L.Ledger.wides c.coefficients.new.ledger)
     (g.L.Ledger.wides c.join.new.ledger) r.result c.in_err-join.field-0.0
     (omega (arith, c.loop-term.invariant.counted.wides, c.coefficients.ensures.counted.wides))
     c.in_err-join.ensures.wide r.ensures.1
@@ -141,41 +136,28 @@ sum-loop-term-preserved g t c =
     let term = c.term-item.result in
     let inside = c.loop-term-test.true in
     let is = c.term-item.is in
-    let here = c.in_ok-part.ensures.table in
-    let table = sum_more value m (numbers_of value c.loop-term.so_far) (numbers_of value c.in_ok-part.part)
-    (numbers_of value c.join.new.self) ts i term inside is c.loop-term.invariant.table here.coefficients
-    c.in_ok-join.ensures.joined in
     record {
-      table = table;
+      so_far = sum_goes_on value g.N.Exact.limit g.met.N.Exact.fits g.met.N.Exact.limit_low m c.loop-term.so_far
+          c.in_ok-part.part i ts term inside is c.loop-term.invariant.so_far c.in_ok-part.ensures.table
+          c.join.new.self c.in_ok-join.ensures.joined;
       inside = (terms_inside value m ts i term inside is c.loop-term.invariant.inside).1;
       linear = (subst (AreLinear m) (terms_at value ts i term inside is) c.loop-term.invariant.linear).1;
-      judging = sum_goes_on value g.N.Exact.limit g.met.N.Exact.fits g.met.N.Exact.limit_low m
-          (sum (terms_of (map (signed_of value) ts))) c.loop-term.so_far c.in_ok-part.part i ts term inside is
-          c.loop-term.invariant.table here c.loop-term.invariant.judging c.join.new.self table;
       counted = later (later c.loop-term.invariant.counted c.coefficients.ensures.counted) c.join.ensures.counted;
     }
 
 pub sum-returns-clause-table : goal.sum-returns-clause-table
 sum-returns-clause-table g t c =
-    let value = g.N.Exact.value in
-    let ts = c.args.terms.now in
-    let i = c.loop-term.term-index in
-    let over = terms_end value ts i c.loop-term-test.false in
-    record {
-      coefficients = λ k j. c.loop-term.invariant.table k j
-          ∙ ap (λ (x : Terms). sum_table (robust value c.args.model.now) x k j) over.0;
-      none_wide = judging_ends c.loop-term.invariant.judging (ap (sums_from (first_terms value ts i)) over.1);
-    }
+    sum_ends g.N.Exact.value g.N.Exact.limit (robust g.N.Exact.value c.args.model.now) c.args.terms.now
+    c.loop-term.term-index c.loop-term.so_far c.loop-term-test.false c.loop-term.invariant.so_far
 
 -- ---- factor by factor
 pub product-loop-factor-init : goal.product-loop-factor-init
 product-loop-factor-init g t c = record {
-  table = c.in_ok-so_far.ensures.number;
+  so_far = record { table = c.in_ok-so_far.ensures.number; judging = judging_begins _ };
   inside = c.requires.inside;
   linear = c.requires.linear;
   uncertain = omega (arith, c.requires.uncertain);
   decision = omega (arith, c.requires.decision);
-  judging = judging_begins _;
   counted = c.unit.ensures.counted;
 }
 
@@ -187,7 +169,7 @@ product-returns-in_err-part-clause-table g t c =
     part_stops value g.N.Exact.limit (robust value c.args.model.now)
     (product (factors_of (map (expression_of value) fs))) (g.L.Ledger.wides c.args.ledger.now)
     (g.L.Ledger.wides c.loop-factor.ledger) (g.L.Ledger.wides c.coefficients.new.ledger) r.result
-    c.in_err-part.field-0.0 c.loop-factor.invariant.judging
+    c.in_err-part.field-0.0 c.loop-factor.invariant.so_far.judging
     (products_at value fs c.loop-factor.factor-index c.factor-item.result c.loop-factor-test.true c.factor-item.is)
     c.loop-factor.invariant.counted.wides c.in_err-part.ensures.table r.ensures.1
 
@@ -202,20 +184,17 @@ product-times-requires g t c =
     c.loop-factor.invariant.decision in
     record {
       apart = apart m (first_factors value fs i) (expression_of value f) (numbers_of value c.loop-factor.so_far)
-          (numbers_of value c.in_ok-part.part) c.loop-factor.invariant.table c.in_ok-part.ensures.table.coefficients
-          d.0 d.1;
+          (numbers_of value c.in_ok-part.part) c.loop-factor.invariant.so_far.table
+          c.in_ok-part.ensures.table.coefficients d.0 d.1;
     }
 
 pub product-returns-in_err-so_far-2-clause-table : goal.product-returns-in_err-so_far-2-clause-table
 product-returns-in_err-so_far-2-clause-table g t c =
-    let value = g.N.Exact.value in
-    let fs = c.args.factors.now in
     let r = c.from_residual-in_err-so_far-2 in
-    product_stops value g.N.Exact.limit g.met.N.Exact.fits g.met.N.Exact.limit_low (robust value c.args.model.now)
-    (product (factors_of (map (expression_of value) fs))) c.loop-factor.so_far c.in_ok-part.part
-    c.loop-factor.factor-index fs c.factor-item.result c.loop-factor-test.true c.factor-item.is
-    c.loop-factor.invariant.table c.in_ok-part.ensures.table c.loop-factor.invariant.judging
-    (g.L.Ledger.wides c.args.ledger.now) (g.L.Ledger.wides c.coefficients.new.ledger)
+    product_stops g.N.Exact.value g.N.Exact.limit g.met.N.Exact.fits g.met.N.Exact.limit_low
+    (robust g.N.Exact.value c.args.model.now) c.loop-factor.so_far c.in_ok-part.part c.loop-factor.factor-index
+    c.args.factors.now c.factor-item.result c.loop-factor-test.true c.factor-item.is c.loop-factor.invariant.so_far
+    c.in_ok-part.ensures.table (g.L.Ledger.wides c.args.ledger.now) (g.L.Ledger.wides c.coefficients.new.ledger)
     (g.L.Ledger.wides c.times.new.ledger) r.result c.in_err-so_far-2.field-0.0
     (omega (arith, c.loop-factor.invariant.counted.wides, c.coefficients.ensures.counted.wides))
     c.in_err-so_far-2.ensures.wide r.ensures.1
@@ -229,31 +208,19 @@ product-loop-factor-preserved g t c =
     let f = c.factor-item.result in
     let inside = c.loop-factor-test.true in
     let is = c.factor-item.is in
-    let here = c.in_ok-part.ensures.table in
     let d = degree_left value m fs i f inside is c.loop-factor.invariant.uncertain c.loop-factor.invariant.decision in
-    let table = product_more value m (numbers_of value c.loop-factor.so_far) (numbers_of value c.in_ok-part.part)
-    (numbers_of value c.in_ok-so_far-2.so_far) fs i f inside is c.loop-factor.invariant.table here.coefficients
-    c.in_ok-so_far-2.ensures.product in
     record {
-      table = table;
+      so_far = product_goes_on value g.N.Exact.limit g.met.N.Exact.fits g.met.N.Exact.limit_low m
+          c.loop-factor.so_far c.in_ok-part.part i fs f inside is c.loop-factor.invariant.so_far
+          c.in_ok-part.ensures.table c.in_ok-so_far-2.so_far c.in_ok-so_far-2.ensures.product;
       inside = (factors_inside value m fs i f inside is c.loop-factor.invariant.inside).1;
       linear = (subst (FactorsLinear m) (factors_at value fs i f inside is) c.loop-factor.invariant.linear).1;
       uncertain = d.2;
       decision = d.3;
-      judging = product_goes_on value g.N.Exact.limit g.met.N.Exact.fits g.met.N.Exact.limit_low m
-          (product (factors_of (map (expression_of value) fs))) c.loop-factor.so_far c.in_ok-part.part i fs f inside
-          is c.loop-factor.invariant.table here c.loop-factor.invariant.judging c.in_ok-so_far-2.so_far table;
       counted = later (later c.loop-factor.invariant.counted c.coefficients.ensures.counted) c.times.ensures.counted;
     }
 
 pub product-returns-clause-table : goal.product-returns-clause-table
 product-returns-clause-table g t c =
-    let value = g.N.Exact.value in
-    let fs = c.args.factors.now in
-    let i = c.loop-factor.factor-index in
-    let over = factors_end value fs i c.loop-factor-test.false in
-    record {
-      coefficients = λ k j. c.loop-factor.invariant.table k j
-          ∙ ap (λ (x : Factors). product_table (robust value c.args.model.now) x k j) over.0;
-      none_wide = judging_ends c.loop-factor.invariant.judging (ap (products_from (first_factors value fs i)) over.1);
-    }
+    product_ends g.N.Exact.value g.N.Exact.limit (robust g.N.Exact.value c.args.model.now) c.args.factors.now
+    c.loop-factor.factor-index c.loop-factor.so_far c.loop-factor-test.false c.loop-factor.invariant.so_far

@@ -28,9 +28,11 @@ returns-in-Ok-clause-row g c =
     (judged_row m (length c.args.rows.now) (expression_row m (difference l r)) ∷ []) c.append_row.new.rows
     (g.L.Ledger.wides c.args.ledger.now) (g.L.Ledger.wides c.difference_table.new.ledger)
     (g.L.Ledger.wides c.append_row.new.ledger) c.append_row.result
-    (appends_nothing {judged = judge.coefficients (SetLine c.args.number) (difference l r) ∷ []} c.args.rows.now
-    (each_none (HasWideCoefficient g.N.Exact.limit m) (subexpressions (difference l r))
-    c.in-Ok.ensures.table.none_wide, tt))
+    (appends_nothing {judged = judge.coefficients (SetLine c.args.number) (difference l r) ∷ []} c.args.rows.now (
+      each_none (HasWideCoefficient g.N.Exact.limit m) (subexpressions (difference l r))
+          c.in-Ok.ensures.table.none_wide,
+      tt,
+    ))
     c.difference_table.ensures.counted.wides
     (subst (λ (row : lifted.SetRow).
     Appends g.N.Exact.limit m (row ∷ []) (judged_row m (length c.args.rows.now) row ∷ [])
