@@ -63,18 +63,10 @@ module _ {N : Type 0} (value : N → Fraction) (limit : ℕ) (m : RobustModel) w
       (w.0, inl (w.1.0, w.1.1, subst (IsWide limit) (same w.1.0 w.1.1) w.1.2))) h)
       is
 
-  -- ---- the same answer
-  -- of an expression that is another one
+  -- ---- the same answer, of an expression that is another one
   pub tabulates_as : (y x : Expression) (first last : ℕ) (r : Result (Table N) Stop) → y ≡ x
       → Tabulates value limit m x first last r → Tabulates value limit m y first last r
   tabulates_as y x first last r e h = subst (λ (z : Expression). Tabulates value limit m z first last r) (sym e) h
-
-  -- counted from an earlier call on
-  pub tabulates_later : (e : Expression) (first before last : ℕ) (r : Result (Table N) Stop) → first ≤ before
-      → Tabulates value limit m e before last r → Tabulates value limit m e first last r
-  tabulates_later e first before last (Ok t) least h = h
-  tabulates_later e first before last (Err stop) least h =
-      stop_weaker stop (λ (w : IsWideOnWay limit m e before last). (omega (arith, w.0, least), w.1)) h
 
 module _ {N : Type 0} (value : N → Fraction) (limit : ℕ) (fits : (x : N) → Fits limit (value x))
     (one : 1 ≤ limit) (m : RobustModel) where
