@@ -1,4 +1,4 @@
-use Rattle.std.proofs.Common.{arith}
+use Rattle.std.proofs.Common.{arith, inl}
 use Rattle.rob_algebra.specs.Width.{IsWideWhole}
 use Rattle.rob_number.specs.Counts.{Rose}
 use Rattle.rob_meaning.specs.Clearing.{entries, whole_at}
@@ -26,3 +26,9 @@ returns-in-Some-clause-wide g c =
       clear_wide g.N.Exact.limit all c.in-Some.common c.in-Some.ensures.least.0 h.1,
     ))
     c.cleared_rows.ensures.wide
+
+pub returns-in-None-clause-wide : goal.returns-in-None-clause-wide
+returns-in-None-clause-wide g c = (
+  omega (arith, c.common_denominator.ensures.counted.wides, c.wide.ensures.counted),
+  inl c.in-None.ensures.least,
+)
