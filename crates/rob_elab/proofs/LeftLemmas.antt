@@ -14,7 +14,7 @@ use Rattle.rob_model.specs.declared.expr.Expr.TheVariants as Is
 use Rattle.rob_sets.proofs.BoundRowLemmas.{length-declared}
 use Rattle.rob_sets.proofs.PartedLemmas.{Parted}
 use Rattle.rob_sets.proofs.LeafLemmas.{adaptive_is, variable_is}
-use Rattle.rob_sets.proofs.ProgressLemmas.{length-both}
+use Rattle.rob_sets.proofs.ListLemmas.{length-both}
 use Rattle.rob_model.proofs.NameCountLemmas.{columns_many}
 
 -- ---- how many

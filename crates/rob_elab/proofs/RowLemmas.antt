@@ -3,7 +3,6 @@ use Rattle.std.specs.Prelude.{◌≡◌, ℕ, zero, suc, ◌+◌, ◌-◌, ◌<�
 use Rattle.std.proofs.Common.{sym, ◌∙◌, ap, ap₂, arith, subst, append_assoc, add-zero, inl, inr}
 use Rattle.std.proofs.lemmas.List.{map-append}
 use Rattle.rob_algebra.specs.Fraction.{Fraction}
-use Rattle.rob_algebra.specs.Width.{IsWideWhole}
 use Rattle.rob_meaning.specs.Clearing.{denominator, entries, lcm, whole_at}
 use Rattle.rob_meaning.specs.Coefficients.{Table}
 use Rattle.rob_meaning.specs.Places.{Each, tabulate}

@@ -3,7 +3,7 @@ use Rattle.std.specs.Prelude.{◌≡◌, ℕ, ◌+◌, ◌≤◌, List, map, len
 use Rattle.std.proofs.Common.{◌∙◌, ap, rules, add-one}
 use Rattle.rob_algebra.specs.Fraction.{Fraction}
 use Rattle.rob_meaning.specs.Coefficients.{single, table}
-use Rattle.rob_meaning.specs.Expressions.{Expression, number, parameter, variable, adaptive, adaptive_in, sum, product}
+use Rattle.rob_meaning.specs.Expressions.{number, parameter, variable, adaptive, adaptive_in, sum, product}
 use Rattle.rob_meaning.specs.RobustModel.{RobustModel, column_count}
 use Rattle.rob_model.specs.View.{expression_of, signed_of, terms_of, factors_of}
 use Rattle.rob_model.specs.declared.expr.Expr.{Expr, the_lemmas}

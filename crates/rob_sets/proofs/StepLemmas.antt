@@ -17,7 +17,7 @@ use Rattle.rob_sets.specs.Tables.{numbers_of}
 use Rattle.rob_sets.specs.Tabulating.{IsTableOf, Tabulates}
 use Rattle.rob_sets.specs.declared.error.Stop.{Stop}
 use Rattle.rob_sets.specs.declared.table.Table.{Table}
-use Rattle.rob_sets.proofs.JudgingLemmas.{judging_begins, judging_ends, judging_goes_on}
+use Rattle.rob_sets.proofs.JudgingLemmas.{judging_ends, judging_goes_on}
 use Rattle.rob_sets.proofs.PrefixLemmas.{first_terms, other_terms, first_factors, other_factors, sums_at, products_at, terms_end, factors_end, sum_more, product_more}
 use Rattle.rob_sets.proofs.TabulatingLemmas.{IsLeft, whole_goes_on, whole_stops}
 
