@@ -1,5 +1,5 @@
 use Rattle.std.proofs.Common.{rules, arith, ap, ap₂, inl, sym, ◌∙◌, get_or, add-one, add-zero}
-use Rattle.std.specs.Prelude.{ℕ, ◌+◌, ◌*◌, List, map, refl}
+use Rattle.std.specs.Prelude.{ℕ, ◌+◌, ◌*◌, List, length, map, refl}
 use Rattle.rob_algebra.specs.Fraction.{◌+ℚ◌}
 use Rattle.rob_algebra.specs.Width.{IsWide}
 use Rattle.rob_number.specs.Counts.{Rose}
