@@ -41,6 +41,13 @@ module _ {N : Type 0} (value : N → Fraction) (limit : ℕ) (m : RobustModel) w
       subst (λ (x : Result (Table N) Stop). Tabulates value limit m e first last x) (sym q.1)
       (subst (λ (x : Stop). StopsFor (IsWideOnWay limit m e first last) x) (sym q.2) h)
 
+  -- for memory
+  pub memory_stops : (e : Expression) (first last : ℕ) (r : Result (Table N) Stop) (stop : Stop)
+      → stop ≡ Stopped.Memory → IsErrAnd r (λ d. d ≡ stop) → Tabulates value limit m e first last r
+  memory_stops e first last r stop memory is =
+      tabulates_err e first last r stop
+      (subst (λ (s : Stop). StopsFor (IsWideOnWay limit m e first last) s) (sym memory) tt) is
+
   -- on the way to a part
   pub part_stops : {left here more : List Expression} (e : Expression) (first before last : ℕ)
       (r : Result (Table N) Stop) (stop : Stop) → IsLeft limit m e left → Parted left here more → first ≤ before

@@ -6,7 +6,7 @@ use Rattle.rob_sets.specs.Subexpressions.{HasWideCoefficient}
 use Rattle.rob_sets.specs.Tabulating.{IsWideOnWay}
 use Rattle.rob_sets.proofs.DifferenceLemmas.{difference_tabulates}
 use Rattle.rob_sets.proofs.StopLemmas.{stop_weaker}
-use Rattle.rob_sets.proofs.TabulatingLemmas.{tabulates_as, tabulates_err}
+use Rattle.rob_sets.proofs.TabulatingLemmas.{memory_stops, tabulates_as, tabulates_err}
 use Rattle.rob_elab.proofs.ObjectiveLemmas.{in_objective, tau_is}
 use Rattle.rob_elab.proofs.objective.objective_table.Goals as goal
 
@@ -29,6 +29,15 @@ returns-in_err-goal-clause-table g c =
     (w.0, in_objective (HasWideCoefficient limit m) m.sense m.objective (tau_column m) w.1))
     c.in_err-goal.ensures.table)
     r.ensures.1
+
+pub returns-in_err-tau-clause-table : goal.returns-in_err-tau-clause-table
+returns-in_err-tau-clause-table g c =
+    let value = g.N.Exact.value in
+    let m = robust value c.args.model.now in
+    let r = c.from_residual-in_err-tau in
+    memory_stops value g.N.Exact.limit m (objective_form m.sense m.objective (tau_column m))
+    (g.L.Ledger.wides c.args.ledger.now) (g.L.Ledger.wides c.unit.new.ledger) r.result c.in_err-tau.field-0.0
+    c.in_err-tau.ensures.memory r.ensures.1
 
 pub returns-in-Minimise-clause-table : goal.returns-in-Minimise-clause-table
 returns-in-Minimise-clause-table g c =

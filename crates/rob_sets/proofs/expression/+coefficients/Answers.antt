@@ -13,7 +13,7 @@ use Rattle.rob_sets.proofs.JudgingLemmas.{judging_begins}
 use Rattle.rob_sets.proofs.LeafLemmas.{number_is, parameter_is, variable_is, adaptive_is, adaptive_in_is, sum_is, product_is, parameter_table, variable_table, few_variables}
 use Rattle.rob_sets.proofs.PrefixLemmas.{first_factors, sums_at, products_at}
 use Rattle.rob_sets.proofs.StepLemmas.{sum_ends, sum_goes_on, sum_stops, product_ends, product_goes_on, product_stops}
-use Rattle.rob_sets.proofs.TabulatingLemmas.{default_leaf, leaf, part_stops, tabulates_as}
+use Rattle.rob_sets.proofs.TabulatingLemmas.{default_leaf, leaf, memory_stops, part_stops, tabulates_as}
 use Rattle.rob_sets.proofs.expression.+coefficients.Goals as goal
 
 -- ---- leaves
@@ -160,6 +160,14 @@ product-loop-factor-init g t c = record {
   decision = omega (arith, c.requires.decision);
   counted = c.unit.ensures.counted;
 }
+
+pub product-returns-in_err-so_far-clause-table : goal.product-returns-in_err-so_far-clause-table
+product-returns-in_err-so_far-clause-table g t c =
+    let value = g.N.Exact.value in
+    memory_stops value g.N.Exact.limit (robust value c.args.model.now)
+    (product (factors_of (map (expression_of value) c.args.factors.now))) (g.L.Ledger.wides c.args.ledger.now)
+    (g.L.Ledger.wides c.unit.new.ledger) c.from_residual.result c.in_err-so_far.field-0.0
+    c.in_err-so_far.ensures.memory c.from_residual.ensures.1
 
 pub product-returns-in_err-part-clause-table : goal.product-returns-in_err-part-clause-table
 product-returns-in_err-part-clause-table g t c =

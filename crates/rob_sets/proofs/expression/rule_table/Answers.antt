@@ -13,7 +13,7 @@ use Rattle.rob_sets.proofs.JointLemmas.{listed_below}
 use Rattle.rob_sets.proofs.RuleLemmas.{list_is, rule_few}
 use Rattle.rob_sets.proofs.RuleSteps.{rule_ends, rule_goes_on, rule_wide}
 use Rattle.rob_sets.proofs.StopLemmas.{stop_weaker}
-use Rattle.rob_sets.proofs.TabulatingLemmas.{leaf_is, tabulates_err}
+use Rattle.rob_sets.proofs.TabulatingLemmas.{leaf_is, memory_stops, tabulates_err}
 use Rattle.rob_sets.proofs.expression.rule_table.Goals as goal
 
 pub overflow_cast-column : goal.overflow_cast-column
@@ -122,6 +122,12 @@ returns-clause-table g c =
     (rule_ends m c.args.set c.args.adaptive c.items-parameter-items.result.now c.loop-parameter.parameter-index
     c.loop-parameter.column (numbers_of value c.loop-parameter.table) c.loop-parameter.invariant.rest
     c.loop-parameter-test.false)
+
+pub returns-in_err-table-clause-table : goal.returns-in_err-table-clause-table
+returns-in_err-table-clause-table g c =
+    memory_stops g.N.Exact.value g.N.Exact.limit (robust g.N.Exact.value c.args.model.now)
+    (adaptive_in c.args.adaptive c.args.set) (g.L.Ledger.wides c.args.ledger.now) (g.L.Ledger.wides c.unit.new.ledger)
+    c.from_residual.result c.in_err-table.field-0.0 c.in_err-table.ensures.memory c.from_residual.ensures.1
 
 pub returns-in_err-add-clause-table : goal.returns-in_err-add-clause-table
 returns-in_err-add-clause-table g c =
