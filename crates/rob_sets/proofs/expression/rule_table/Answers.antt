@@ -89,27 +89,18 @@ pub loop-parameter-preserved : goal.loop-parameter-preserved
 loop-parameter-preserved g c =
     let value = g.N.Exact.value in
     let m = robust value c.args.model.now in
+    let so_far = c.loop-parameter.invariant in
     record {
-      list = c.loop-parameter.invariant.list;
-      column = omega (arith, c.loop-parameter.invariant.column);
+      list = so_far.list;
+      column = omega (arith, so_far.column);
       rest = rule_goes_on m c.args.set c.args.adaptive c.items-parameter-items.result.now
           c.loop-parameter.parameter-index c.loop-parameter.column (numbers_of value c.loop-parameter.table)
-          c.loop-parameter.invariant.rest c.written_count.result c.written_count.ensures.count
+          so_far.rest c.written_count.result c.written_count.ensures.count
           c.loop-parameter-test.true (value c.one-number.result) c.one-number.ensures.value
           (numbers_of value c.add.new.self) c.in_ok-add.ensures.added;
       counted = record {
-        ops = omega (
-          arith,
-          c.loop-parameter.invariant.counted.ops,
-          c.one-number.ensures.ops,
-          c.add.ensures.counted.ops,
-        );
-        wides = omega (
-          arith,
-          c.loop-parameter.invariant.counted.wides,
-          c.one-number.ensures.wides,
-          c.add.ensures.counted.wides,
-        );
+        ops = omega (arith, so_far.counted.ops, c.one-number.ensures.ops, c.add.ensures.counted.ops);
+        wides = omega (arith, so_far.counted.wides, c.one-number.ensures.wides, c.add.ensures.counted.wides);
       };
     }
 
