@@ -74,7 +74,7 @@ module _ {N : Type 0} (value : N → Fraction) (limit : ℕ) (fits : (x : N) →
             (whole_goes_on value limit fits one m (difference l r) (difference l r) t is (both_done a b h k)) refl;
       }
   difference_tabulates a b first before last (Err stop) h k least e w =
-      whole_stops value limit m (difference l r) (difference l r)
+      whole_stops value limit m (difference l r) (difference l r) []
       (λ i j. numbers_of value a i j +ℚ signed true (numbers_of value b i j)) first before last (Err stop) stop
       (both_done a b h k)
       (difference-table m l r (numbers_of value a) (numbers_of value b)

@@ -78,7 +78,7 @@ module _ {N : Type 0} (value : N → Fraction) (limit : ℕ) (fits : (x : N) →
         → IsErrAnd r (λ d. d ≡ stop)
         → Tabulates value limit m (sum (terms_of (map (signed_of value) ts))) first last r
     sum_stops first before last r stop least h refused =
-        whole_stops value limit m (sum (terms_of (map (signed_of value) ts))) (sum (first_terms value ts (i + 1)))
+        whole_stops value limit m (sum (terms_of (map (signed_of value) ts))) (sum (first_terms value ts (i + 1))) _
         (λ k j. numbers_of value so_far k j +ℚ signed t.minus (numbers_of value part k j)) first before last r stop
         (judging_goes_on p.judging (sums_at value ts i t inside is) here.none_wide)
         (sum_more value m (numbers_of value so_far) (numbers_of value part)
@@ -110,7 +110,7 @@ module _ {N : Type 0} (value : N → Fraction) (limit : ℕ) (fits : (x : N) →
         → Tabulates value limit m (product (factors_of (map (expression_of value) fs))) first last r
     product_stops first before last r stop least h refused =
         whole_stops value limit m (product (factors_of (map (expression_of value) fs)))
-        (product (first_factors value fs (i + 1)))
+        (product (first_factors value fs (i + 1))) _
         (table_times (numbers_of value so_far) (numbers_of value part)) first before last r stop
         (judging_goes_on p.judging (products_at value fs i f inside is) here.none_wide)
         (product_more value m (numbers_of value so_far) (numbers_of value part)

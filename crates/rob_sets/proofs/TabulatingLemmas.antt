@@ -59,12 +59,12 @@ module _ {N : Type 0} (value : N → Fraction) (limit : ℕ) (m : RobustModel) w
       (omega (arith, w.0, least), judging_stops p l w.1)) h) is
 
   -- at what parts are put together to, whose coefficients are those
-  pub whole_stops : {more : List Expression} (e whole : Expression) (f : meaning.Table)
+  pub whole_stops : (e whole : Expression) (more : List Expression) (f : meaning.Table)
       (first before last : ℕ) (r : Result (Table N) Stop) (stop : Stop) → IsLeft limit m e (whole ∷ more)
       → ((k j : ℕ) → f k j ≡ table m whole k j) → first ≤ before
       → StopsFor (Rose before last × ((k : ℕ) × (j : ℕ) × IsWide limit (f k j))) stop → IsErrAnd r (λ d. d ≡ stop)
       → Tabulates value limit m e first last r
-  whole_stops {more} e whole f first before last r stop p same least h is =
+  whole_stops e whole more f first before last r stop p same least h is =
       part_stops e first before last r stop p (parted (whole ∷ []) more) least
       (stop_weaker stop (λ (w : Rose before last × ((k : ℕ) × (j : ℕ) × IsWide limit (f k j))).
       (w.0, inl (w.1.0, w.1.1, subst (IsWide limit) (same w.1.0 w.1.1) w.1.2))) h)
