@@ -172,11 +172,10 @@ pub fn append_form<N: Exact, L: Ledger>(
     let place = Where::Form(matrices.items().len() as u32);
     let rows = model.params.items().len() as u32 + 1;
     let columns = column_count(model) + 2;
-    match clear_rows(alloc, table, rows, columns, ledger) {
-        Ok(matrix) => {
-            matrices.push(matrix)?;
-            Ok(())
-        }
-        Err(stop) => Err(stopped(stop, Spot::Clearing(place))),
-    }
+    let matrix = match clear_rows(alloc, table, rows, columns, ledger) {
+        Ok(matrix) => matrix,
+        Err(stop) => return Err(stopped(stop, Spot::Clearing(place))),
+    };
+    matrices.push(matrix)?;
+    Ok(())
 }

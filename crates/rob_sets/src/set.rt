@@ -94,12 +94,12 @@ fn append_statement<N: Exact, L: Ledger>(
 {
     match line {
         SetLine::Line { left, rel, right } => {
-            let line = Comparison {
+            let comparison = Comparison {
                 left,
                 rel: *rel,
                 right,
             };
-            append_line(alloc, model, number, &line, rows, ledger)
+            append_line(alloc, model, number, &comparison, rows, ledger)
         }
         SetLine::Budget { limit, members } => {
             append_budget(alloc, model, lift, *limit, members.items(), rows, ledger)

@@ -22,8 +22,8 @@ overflow_add-columns g c =
     let m = robust g.N.Exact.value c.args.model.now in
     omega (arith, c.column_count-columns.ensures.count, length-column_names m, c.requires.valid.limits.columns)
 
-pub returns-in-Ok-clause-matrix : goal.returns-in-Ok-clause-matrix
-returns-in-Ok-clause-matrix g c =
+pub returns-clause-matrix : goal.returns-clause-matrix
+returns-clause-matrix g c =
     let value = g.N.Exact.value in
     let m = robust value c.args.model.now in
     let f = numbers_of value c.args.table.now in
@@ -34,7 +34,7 @@ returns-in-Ok-clause-matrix g c =
     let e = ap₂ (λ a b. rows_of a b f) rows columns in
     let matrix = c.in-Ok.ensures.cleared ∙ ap cleared e in
     record {
-      appended = c.in_ok-push-in-Ok.ensures.appended
+      appended = c.in_ok-push.ensures.appended
           ∙ ap (λ (x : List (List ℤ)). c.args.matrices.now ++ x ∷ []) matrix;
       fit = (subst (MatrixFits g.N.Exact.limit) matrix c.in-Ok.ensures.fits, tt);
       none_wide = (
@@ -44,8 +44,8 @@ returns-in-Ok-clause-matrix g c =
       );
     }
 
-pub returns-clause-matrix : goal.returns-clause-matrix
-returns-clause-matrix g c =
+pub returns-in-Err-clause-matrix : goal.returns-in-Err-clause-matrix
+returns-in-Err-clause-matrix g c =
     let value = g.N.Exact.value in
     let m = robust value c.args.model.now in
     let f = numbers_of value c.args.table.now in
