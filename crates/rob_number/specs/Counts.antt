@@ -1,5 +1,5 @@
 -- The counts of a ledger. A count is a whole number of 64 bits that never falls, and stands at its last value.
-use Rattle.std.specs.Prelude.{◌≡◌, ℕ, ◌+◌, ◌-◌, ◌^◌, ◌≤◌, min, max, Result, MatchResult, OnErr}
+use Rattle.std.specs.Prelude.{◌≡◌, ℕ, ◌+◌, ◌-◌, ◌^◌, ◌≤◌, min, max, Bool, true, false, Result, MatchResult, OnErr}
 
 -- one more; the last value stands
 abbrev pub raised : ℕ → ℕ
@@ -8,6 +8,15 @@ raised n = max n (min (n + 1) (2 ^ 64 - 1))
 -- the count was raised at least once, or stands at its last value
 abbrev pub Rose : ℕ → ℕ → Type 0
 Rose before now = raised before ≤ now
+
+-- the count rose, where that is asked
+abbrev pub RoseIf : Bool → ℕ → ℕ → Type 0
+RoseIf true before now = Rose before now
+RoseIf false before now = Unit {0}
+
+-- the count of wide results rose, where the error is that a number is wide
+abbrev pub RoseIfWide : {E : Type 0} → (E → Bool) → ℕ → ℕ → E → Type 0
+RoseIfWide is_wide before now e = RoseIf (is_wide e) before now
 
 -- the count never fell, and rose where the call refused
 pub record Told {T E : Type 0} (before now : ℕ) (result : Result T E) : Type 0 where

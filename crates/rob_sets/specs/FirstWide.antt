@@ -1,7 +1,7 @@
 -- What is judged when a set or the forms are written in whole numbers, in a stated order, and the first spot where a
 -- number is wide. An expression is judged by the coefficients of its subexpressions; numbers that are cleared are
 -- judged by their least common denominator and by the whole numbers that they become.
-use Rattle.std.specs.Prelude.{◌≡◌, ℕ, ◌<◌, List, [], ◌∷◌, ◌++◌, ◌⊎◌}
+use Rattle.std.specs.Prelude.{◌≡◌, ℕ, ◌<◌, List, [], ◌∷◌, ◌++◌, ◌⊎◌, Bool, true, false}
 use Rattle.rob_algebra.specs.Fraction.{Fraction}
 use Rattle.rob_algebra.specs.Width.{IsWideWhole}
 use Rattle.rob_meaning.specs.Clearing.{denominator, whole_at}
@@ -11,7 +11,7 @@ use Rattle.rob_meaning.specs.RobustModel.{RobustModel}
 use Rattle.rob_model.specs.declared.place.Spot.{Spot}
 use Rattle.rob_model.specs.declared.place.Spot.TheVariants.{Coefficient, Clearing}
 use Rattle.rob_model.specs.declared.place.Where.{Where}
-use Rattle.rob_number.specs.Counts.{Rose}
+use Rattle.rob_number.specs.Counts as counts
 use Rattle.rob_sets.specs.Subexpressions.{subexpressions, HasWideCoefficient}
 use Rattle.rob_sets.specs.declared.error.ElabErr.{ElabErr}
 use Rattle.rob_sets.specs.declared.error.ElabErr.TheVariants as refused
@@ -60,7 +60,11 @@ abbrev pub HasCause : ℕ → RobustModel → List Judged → ElabErr → Type 0
 HasCause limit m all (refused.Wide spot) = IsFirstWide limit m all spot
 HasCause limit m all refused.Memory = Unit {0}
 
+-- the refusal is for width
+abbrev pub is_wide : ElabErr → Bool
+is_wide (refused.Wide spot) = true
+is_wide refused.Memory = false
+
 -- a refusal for width has raised the count of wide numbers
 abbrev pub RoseIfWide : ℕ → ℕ → ElabErr → Type 0
-RoseIfWide before now (refused.Wide spot) = Rose before now
-RoseIfWide before now refused.Memory = Unit {0}
+RoseIfWide before now e = counts.RoseIfWide is_wide before now e
