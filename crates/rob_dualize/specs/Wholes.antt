@@ -1,5 +1,5 @@
 -- The robust program that forms and set rows are, as the code holds them.
-use Rattle.std.specs.Prelude.{◌≡◌, ℕ, suc, ◌+◌, ◌-◌, ◌^◌, ◌<◌, ◌≤◌, nat_abs, [], length, slice_index_or}
+use Rattle.std.specs.Prelude.{◌≡◌, ℕ, suc, ◌+◌, ◌-◌, ◌^◌, ◌<◌, ◌≤◌, ℤ, nat_abs, [], length, slice_index_or}
 use Rattle.rob_linear.specs.Vectors.{at}
 use Rattle.rob_linear.specs.Programs.{Program}
 use Rattle.rob_meaning.specs.Forms.{matrix_at}
@@ -9,7 +9,7 @@ use Rattle.rob_sets.specs.declared.set_form.SetForm.{SetForm}
 use Rattle.rob_elab.specs.declared.forms.Forms.{Forms}
 use Rattle.rob_counterpart.specs.RobustProgram.{RobustProgram}
 use Rattle.rob_counterpart.specs.Counterpart.{cell, sign_of}
-use Rattle.rob_counterpart.specs.Reform.{reform}
+use Rattle.rob_counterpart.specs.Reform.{reform, tau_cost}
 
 -- the whole numbers of the forms and the set rows
 abbrev pub wholes : Forms → SetForm → RobustProgram
@@ -28,6 +28,10 @@ wholes forms set = record {
 -- their counterpart
 abbrev pub counterpart_of : Forms → SetForm → Program
 counterpart_of forms set = reform (wholes forms set)
+
+-- what column k of it counts in what is maximised, whatever the set: so it does in each master
+abbrev pub cost_of : Forms → ℕ → ℤ
+cost_of forms = tau_cost (wholes forms (record { columns = 0; rows = [] }))
 
 -- the program's rows and columns together are as few as a solver takes
 abbrev pub IsFew : Program → Type 0

@@ -3,9 +3,9 @@
 ghost use Rattle.std.specs.Prelude.{◌≡◌, ◌<◌, ◌≤◌, ◌⊎◌, ℕ, length};
 ghost use Rattle.rob_linear.specs.Vectors.{at};
 ghost use Rattle.rob_meaning.specs.Places.{tabulate};
-ghost use Rattle.rob_counterpart.specs.Reform.{pairs, multiplier, row_entry, tau_cost};
+ghost use Rattle.rob_counterpart.specs.Reform.{pairs, multiplier, row_entry};
 ghost use Rattle.rob_dualize.specs.Told.{listed, CanBeTold, listed_is_shaped};
-ghost use Rattle.rob_dualize.specs.Wholes.{wholes, counterpart_of, IsFew};
+ghost use Rattle.rob_dualize.specs.Wholes.{wholes, cost_of, counterpart_of, IsFew};
 
 use crate::entries::{cost_number, right_number, row_number};
 use rob_elab::Forms;
@@ -46,7 +46,7 @@ impl<'a> Rows for Counterpart<'a> {
     }
 
     fn write_cost(&self, numbers: &mut [i64]) {
-        write_costs(self.forms, self.set, numbers);
+        write_costs(self.forms, numbers);
     }
 
     ghost shaped = { λ source _. listed_is_shaped (counterpart_of source.forms.now source.set.now) };
@@ -100,13 +100,11 @@ fn write_multipliers(forms: &Forms, set: &SetForm, i: usize, p: usize, numbers: 
 }
 
 /// Writes the costs of all columns.
-fn write_costs(forms: &Forms, set: &SetForm, numbers: &mut [i64])
-    requires size { length numbers.old ≡ (counterpart_of forms.now set.now).n }
-    ensures costs { numbers.new
-        ≡ tabulate (counterpart_of forms.now set.now).n (tau_cost (wholes forms.now set.now)) }
+fn write_costs(forms: &Forms, numbers: &mut [i64])
+    ensures costs { numbers.new ≡ tabulate (length numbers.old) (cost_of forms.now) }
 {
     for k in 0..numbers.len() {
-        numbers[k] = cost_number(forms, set, k);
+        numbers[k] = cost_number(forms, k);
     }
 }
 

@@ -6,9 +6,9 @@ ghost use Rattle.rob_meaning.specs.Forms.{matrix_at};
 ghost use Rattle.rob_counterpart.specs.Counterpart.{cell};
 ghost use Rattle.rob_counterpart.specs.RobustProgram.{entry as entry_of};
 ghost use Rattle.rob_counterpart.specs.Splitting.{turned as turned_of};
-ghost use Rattle.rob_counterpart.specs.Reform.{plan_entry, multiplier_entry, right_entry, row_entry, tau_cost};
+ghost use Rattle.rob_counterpart.specs.Reform.{plan_entry, multiplier_entry, right_entry, row_entry};
 ghost use Rattle.rob_sets.specs.SetProgram.{left_sides, right_sides};
-ghost use Rattle.rob_dualize.specs.Wholes.{wholes, counterpart_of, IsFew, AreSound, IsSound};
+ghost use Rattle.rob_dualize.specs.Wholes.{wholes, cost_of, counterpart_of, IsFew, AreSound, IsSound};
 
 use rob_elab::Forms;
 use rob_model::Sense;
@@ -138,8 +138,8 @@ pub fn row_number(forms: &Forms, set: &SetForm, i: usize, p: usize, k: usize) ->
 }
 
 /// What column k counts in what is maximised: `tau` as the sense says, and no other column.
-pub fn cost_number(forms: &Forms, set: &SetForm, k: usize) -> i64
-    ensures number { result ≡ tau_cost (wholes forms.now set.now) k }
+pub fn cost_number(forms: &Forms, k: usize) -> i64
+    ensures number { result ≡ cost_of forms.now k }
     ensures small { nat_abs result ≤ 2 ^ 62 - 1 }
 {
     if k / 2 != forms.columns as usize {
