@@ -25,7 +25,8 @@ use Rattle.rob_dualize.proofs.TabulateLemmas.{item-tabulate}
 use Rattle.rob_runs.specs.Cuts.{Cut, cut_of_number, cuts_of, master_over}
 use Rattle.rob_runs.specs.Spots.{cut_term}
 use Rattle.rob_runs.proofs.SumLemmas.{cut_is_master_entry}
-use Rattle.rob_cuts.specs.Master.{cut_number, plan_pairs, cut_entry, cut_row, cut_right, plan_cost, IsMasterList, AddsCut}
+use Rattle.rob_dualize.specs.Wholes.{cost_of}
+use Rattle.rob_cuts.specs.Master.{cut_number, plan_pairs, cut_entry, cut_row, cut_right, IsMasterList, AddsCut}
 
 -- the item at a place of a list of images
 item-map : {A B : Type 0} (f : A → B) (xs : List A) (k : ℕ) (d : B) (e : A) → k < length xs
@@ -49,7 +50,7 @@ module _ (forms : Forms) (cuts : List Cut) (lp : Lp) (h : IsMasterList forms cut
   rights_count = ap length h.b ∙ length-map cuts (cut_right forms)
 
   pub costs_count : length lp.c ≡ plan_pairs forms
-  costs_count = ap length h.c ∙ length-tabulate (plan_pairs forms) (plan_cost forms)
+  costs_count = ap length h.c ∙ length-tabulate (plan_pairs forms) (cost_of forms)
 
   rows_count : length lp.a ≡ length cuts
   rows_count = ap length h.a ∙ length-map cuts (cut_row forms)
@@ -79,7 +80,7 @@ module _ (forms : Forms) (cuts : List Cut) (lp : Lp) (h : IsMasterList forms cut
     pairs_same : plan_pairs forms ≡ pairs (robust_of m)
     pairs_same = ap (λ (n : ℕ). suc n + suc n) f.columns
 
-    cost_same : (k : ℕ) → plan_cost forms k ≡ tau_cost (robust_of m) k
+    cost_same : (k : ℕ) → cost_of forms k ≡ tau_cost (robust_of m) k
     cost_same k = ap₂ (λ (n : ℕ) (s : Sense). cond (nat_eq (k / 2) n) (turned k (sign_of s)) (pos 0)) f.columns f.sense
 
     pub master_same : AreSame (program_of lp) (master_over m cuts)
@@ -99,7 +100,7 @@ module _ (forms : Forms) (cuts : List Cut) (lp : Lp) (h : IsMasterList forms cut
               ∙ ap neg_ℤ (number_is_entry q 0);
           costs = λ k kl.
               ap (λ (xs : List ℤ). at xs k) h.c
-              ∙ item-tabulate (plan_pairs forms) (plan_cost forms) k (pos 0) (omega arith)
+              ∙ item-tabulate (plan_pairs forms) (cost_of forms) k (pos 0) (omega arith)
               ∙ cost_same k;
         }
 

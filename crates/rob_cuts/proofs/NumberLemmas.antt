@@ -20,7 +20,8 @@ use Rattle.rob_counterpart.proofs.ReformPlaces.{turned_even, turned_odd, half_ev
 use Rattle.rob_runs.specs.Cuts.{Cut}
 use Rattle.rob_runs.specs.Spots.{HasWidePrefix}
 use Rattle.rob_sets.proofs.RowLemmas.{tabulate-more}
-use Rattle.rob_cuts.specs.Master.{cut_number, cut_entry, plan_cost}
+use Rattle.rob_dualize.specs.Wholes.{cost_of}
+use Rattle.rob_cuts.specs.Master.{cut_number, cut_entry}
 use Rattle.rob_cuts.specs.Rounds.{CutFits}
 use Rattle.rob_dualize.proofs.Soundness.{at_small}
 use Rattle.rob_sets.proofs.SetProgramLemmas.{negated_within}
@@ -75,7 +76,7 @@ sense_small : (s : Sense) → nat_abs (sign_of s) ≤ 1
 sense_small minimise = omega arith
 sense_small maximise = omega arith
 
-cost_small : (limit : ℕ) → 1 ≤ limit → (forms : Forms) (k : ℕ) → nat_abs (plan_cost forms k) ≤ limit
+cost_small : (limit : ℕ) → 1 ≤ limit → (forms : Forms) (k : ℕ) → nat_abs (cost_of forms k) ≤ limit
 cost_small limit one forms k =
     by (nat_eq (k / 2) forms.columns)
     (turned_small limit k (sign_of (sense_of forms.sense)) (let h : nat_abs (sign_of (sense_of forms.sense)) ≤ 1 = sense_small (sense_of forms.sense) in omega arith))
@@ -85,13 +86,13 @@ cost_small limit one forms k =
     by false h = omega arith
 
 -- the numbers of a master without cuts
-pub costs_within : (limit : ℕ) → 1 ≤ limit → (forms : Forms) (n : ℕ) (a : List (List ℤ)) (b c : List ℤ) → a ≡ [] → b ≡ [] → c ≡ tabulate n (plan_cost forms)
+pub costs_within : (limit : ℕ) → 1 ≤ limit → (forms : Forms) (n : ℕ) (a : List (List ℤ)) (b c : List ℤ) → a ≡ [] → b ≡ [] → c ≡ tabulate n (cost_of forms)
     → HasNumbersWithin limit (record { a = a; b = b; c = c })
 costs_within limit one forms n a b c ea eb ec = record {
   a = subst (λ (rows : List (List ℤ)). All (λ (row : List ℤ). IsWithin limit row) rows) (sym ea) (λ k d l. absurd (omega arith));
   b = subst (IsWithin limit) (sym eb) (λ k d l. absurd (omega arith));
   c = subst (IsWithin limit) (sym ec)
       (λ k d l. subst (λ (v : ℤ). nat_abs v ≤ limit)
-      (sym (item-tabulate n (plan_cost forms) k d (let e : length (tabulate n (plan_cost forms)) ≡ n = length-tabulate n (plan_cost forms) in omega arith)))
+      (sym (item-tabulate n (cost_of forms) k d (let e : length (tabulate n (cost_of forms)) ≡ n = length-tabulate n (cost_of forms) in omega arith)))
       (cost_small limit one forms k));
 }

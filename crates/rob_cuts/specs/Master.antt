@@ -1,14 +1,14 @@
 -- The master program over cuts, as the code lists it: a row for each cut, and the cost of tau.
 -- Kelley, The cutting-plane method for solving convex programs (1960).
-use Rattle.std.specs.Prelude.{◌≡◌, ℕ, suc, ◌+◌, ◌/◌, ℤ, pos, ◌*ℤ◌, neg_ℤ, nat_eq, cond, List, [], ◌∷◌, ◌++◌, map}
+use Rattle.std.specs.Prelude.{◌≡◌, ℕ, suc, ◌+◌, ◌/◌, ℤ, ◌*ℤ◌, neg_ℤ, List, [], ◌∷◌, ◌++◌, map}
 use Rattle.rob_linear.specs.Vectors.{Vector, at, sum_to}
 use Rattle.rob_meaning.specs.Forms.{matrix_at}
 use Rattle.rob_meaning.specs.Places.{tabulate}
-use Rattle.rob_model.specs.View.{sense_of}
 use Rattle.rob_elab.specs.declared.forms.Forms.{Forms}
 use Rattle.rob_rows.specs.declared.program.Lp.{Lp}
-use Rattle.rob_counterpart.specs.Counterpart.{cell, sign_of}
+use Rattle.rob_counterpart.specs.Counterpart.{cell}
 use Rattle.rob_counterpart.specs.Splitting.{turned}
+use Rattle.rob_dualize.specs.Wholes.{cost_of}
 use Rattle.rob_runs.specs.Cuts.{Cut}
 
 -- the products that are summed for the cut's number in column j
@@ -35,15 +35,11 @@ cut_row forms c = tabulate (plan_pairs forms) (cut_entry forms c)
 abbrev pub cut_right : Forms → Cut → ℤ
 cut_right forms c = neg_ℤ (cut_number forms c 0)
 
--- what column k counts in what is maximised: tau as the sense says
-abbrev pub plan_cost : Forms → ℕ → ℤ
-plan_cost forms k = cond (nat_eq (k / 2) forms.columns) (turned k (sign_of (sense_of forms.sense))) (pos 0)
-
 -- the program lists the master over these cuts
 pub record IsMasterList (forms : Forms) (cuts : List Cut) (lp : Lp) : Type 0 where
   pub a : lp.a ≡ map (cut_row forms) cuts
   pub b : lp.b ≡ map (cut_right forms) cuts
-  pub c : lp.c ≡ tabulate (plan_pairs forms) (plan_cost forms)
+  pub c : lp.c ≡ tabulate (plan_pairs forms) (cost_of forms)
 
 -- a cut more
 pub record AddsCut (forms : Forms) (cut : Cut) (before now : Lp) : Type 0 where

@@ -17,18 +17,17 @@ use rob_elab::Forms;
 use rob_model::{Spot, Where};
 use rob_number::{Exact, List, Memory};
 use rob_rows::Lp;
-use rob_sets::SetForm;
 use rob_worst::sums::push_pair;
 use std::alloc::Global;
 
 /// The master over no cuts: it has a pair of columns for each decision column and for `tau`, and no row.
-pub fn without_cuts(alloc: Global, forms: &Forms, set: &SetForm) -> Result<Lp, Memory>
+pub fn without_cuts(alloc: Global, forms: &Forms) -> Result<Lp, Memory>
     ensures master { IfOk result (λ lp. IsMasterList forms.now [] lp) }
     ensures within { IfOk result (λ lp. (limit : ℕ) → 1 ≤ limit → HasNumbersWithin limit lp) }
 {
     let mut c = List::new(alloc);
     for k in 0..2 * (forms.columns as usize + 1) {
-        c.push(cost_number(forms, set, k))?;
+        c.push(cost_number(forms, k))?;
     }
     let a = List::new(alloc);
     let b = List::new(alloc);

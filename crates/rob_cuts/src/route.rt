@@ -60,7 +60,7 @@ pub fn solve_cuts<N: Exact, L: Ledger>(
         Ok(finder) => finder,
         Err(stop) => return Err(stop),
     };
-    let mut run = match started(alloc, forms, set) {
+    let mut run = match started(alloc, forms) {
         Ok(run) => run,
         Err(Memory) => return Err(Stop::Memory),
     };
@@ -79,12 +79,12 @@ pub fn solve_cuts<N: Exact, L: Ledger>(
 }
 
 /// A run without a round.
-fn started(alloc: Global, forms: &Forms, set: &SetForm) -> Result<Run, Memory>
+fn started(alloc: Global, forms: &Forms) -> Result<Run, Memory>
     ensures master { IfOk result (λ run. IsMasterList forms.now [] run.master) }
     ensures within { IfOk result (λ run. (limit : ℕ) → 1 ≤ limit → HasNumbersWithin limit run.master) }
     ensures rounds { IfOk result (λ run. run.rounds ≡ []) }
 {
-    let master = without_cuts(alloc, forms, set)?;
+    let master = without_cuts(alloc, forms)?;
     let rounds = List::new(alloc);
     Ok(Run { master, rounds })
 }
