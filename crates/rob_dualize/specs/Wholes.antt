@@ -6,10 +6,12 @@ use Rattle.rob_meaning.specs.Forms.{matrix_at}
 use Rattle.rob_model.specs.View.{sense_of}
 use Rattle.rob_sets.specs.SetProgram.{left_sides, right_sides}
 use Rattle.rob_sets.specs.declared.set_form.SetForm.{SetForm}
+use Rattle.rob_elab.specs.Elaborated.{AreElaborated}
 use Rattle.rob_elab.specs.declared.forms.Forms.{Forms}
 use Rattle.rob_counterpart.specs.RobustProgram.{RobustProgram}
 use Rattle.rob_counterpart.specs.Counterpart.{cell, sign_of}
 use Rattle.rob_counterpart.specs.Reform.{reform, tau_cost}
+use Rattle.rob_dualize.specs.declared.elaborated.Elaborated.{Elaborated}
 
 -- the whole numbers of the forms and the set rows
 abbrev pub wholes : Forms → SetForm → RobustProgram
@@ -29,6 +31,14 @@ wholes forms set = record {
 abbrev pub counterpart_of : Forms → SetForm → Program
 counterpart_of forms set = reform (wholes forms set)
 
+-- those of a model
+abbrev pub wholes_in : Elaborated → RobustProgram
+wholes_in model = wholes model.forms.now model.set.now
+
+-- its counterpart
+abbrev pub counterpart_in : Elaborated → Program
+counterpart_in model = reform (wholes_in model)
+
 -- what column k of it counts in what is maximised, whatever the set: so it does in each master
 abbrev pub cost_of : Forms → ℕ → ℤ
 cost_of forms = tau_cost (wholes forms (record { columns = 0; rows = [] }))
@@ -36,6 +46,12 @@ cost_of forms = tau_cost (wholes forms (record { columns = 0; rows = [] }))
 -- the program's rows and columns together are as few as a solver takes
 abbrev pub IsFew : Program → Type 0
 IsFew P = P.n + P.m < 2 ^ 31
+
+-- the forms and the set rows are those of one model, no number of theirs is over the limit, and their counterpart is as
+-- small as a solver takes
+pub record FitsSolver (limit : ℕ) (model : Elaborated) : Type 0 where
+  pub elaborated : AreElaborated limit model.forms.now model.set.now
+  pub few : IsFew (counterpart_in model)
 
 -- what the numbers are read by: each matrix has a row for the constant and each parameter, each row a number for the
 -- constant, each decision column and tau; and no number is over 2^62 - 1 in size

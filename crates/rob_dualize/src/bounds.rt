@@ -9,9 +9,9 @@ ghost use Rattle.rob_elab.specs.Forms.{IsForms};
 ghost use Rattle.rob_dualize.specs.RowBounds.{AreBothWithin, TellsBound, TellsBounds};
 ghost use Rattle.rob_dualize.specs.SetSolving.{IsSetOfModel, program_of_set};
 ghost use Rattle.rob_dualize.specs.Solving.{IsNarrowModel};
-ghost use Rattle.rob_dualize.specs.Wholes.{counterpart_of, IsFew};
+ghost use Rattle.rob_dualize.specs.Wholes.{counterpart_in, counterpart_of, FitsSolver, IsFew};
 
-use crate::counterpart::Counterpart;
+use crate::elaborated::Elaborated;
 use rob_elab::Forms;
 use rob_narrow::{bound_of, greatest};
 use rob_number::{Exact, Memory};
@@ -55,7 +55,7 @@ pub fn model_bounds<N: Exact>(
         → AreBothWithin told ↔ IsNarrowModel N.limit m) }
 {
     let of_set = set_bound::<N>(alloc, set)?;
-    let counterpart = counterpart_bound::<N>(alloc, forms, set)?;
+    let counterpart = counterpart_bound::<N>(alloc, Elaborated { forms, set })?;
     Ok(ModelBounds {
         set: of_set,
         counterpart,
@@ -72,17 +72,11 @@ fn set_bound<N: Exact>(alloc: Global, set: &SetForm) -> Result<RowBound, Memory>
 }
 
 /// The bound of the counterpart, which is told row by row.
-fn counterpart_bound<N: Exact>(
-    alloc: Global,
-    forms: &Forms,
-    set: &SetForm,
-) -> Result<RowBound, Memory>
-    requires model { AreElaborated N.limit forms.now set.now }
-    requires few { IsFew (counterpart_of forms.now set.now) }
-    ensures bound { IfOk result (TellsBound N.limit (counterpart_of forms.now set.now)) }
+fn counterpart_bound<N: Exact>(alloc: Global, model: Elaborated) -> Result<RowBound, Memory>
+    requires model { FitsSolver N.limit model }
+    ensures bound { IfOk result (TellsBound N.limit (counterpart_in model.entry)) }
 {
-    let source = Counterpart { forms, set };
-    row_bound::<N, Counterpart>(alloc, &source)
+    row_bound::<N, Elaborated>(alloc, &model)
 }
 
 /// The bound of a program. Each row is told into one list.

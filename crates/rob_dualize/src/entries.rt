@@ -8,8 +8,9 @@ ghost use Rattle.rob_counterpart.specs.RobustProgram.{entry as entry_of};
 ghost use Rattle.rob_counterpart.specs.Splitting.{turned as turned_of};
 ghost use Rattle.rob_counterpart.specs.Reform.{plan_entry, multiplier_entry, right_entry, row_entry};
 ghost use Rattle.rob_sets.specs.SetProgram.{left_sides, right_sides};
-ghost use Rattle.rob_dualize.specs.Wholes.{wholes, cost_of, counterpart_of, IsFew, AreSound, IsSound};
+ghost use Rattle.rob_dualize.specs.Wholes.{wholes_in, cost_of, counterpart_in, IsFew, AreSound, IsSound};
 
+use crate::elaborated::Elaborated;
 use rob_elab::Forms;
 use rob_model::Sense;
 use rob_sets::SetForm;
@@ -48,15 +49,15 @@ pub fn right_side_number(set: &SetForm, r: usize) -> i64
 }
 
 /// A form's number at a set column, 0 where that is no parameter.
-pub fn entry(forms: &Forms, set: &SetForm, i: usize, c: usize, j: usize) -> i64
-    requires sound { AreSound forms.now }
-    requires form_in { i < length forms.now.matrices }
-    requires column_in { j < suc (suc forms.now.columns) }
-    ensures number { result ≡ entry_of (wholes forms.now set.now) i c j }
+pub fn entry(model: Elaborated, i: usize, c: usize, j: usize) -> i64
+    requires sound { AreSound model.forms.now }
+    requires form_in { i < length model.forms.now.matrices }
+    requires column_in { j < suc (suc model.forms.now.columns) }
+    ensures number { result ≡ entry_of (wholes_in model.entry) i c j }
     ensures small { nat_abs result ≤ 2 ^ 62 - 1 }
 {
-    if c < forms.params as usize {
-        form_number(forms, i, c + 1, j)
+    if c < model.forms.params as usize {
+        form_number(model.forms, i, c + 1, j)
     } else {
         0
     }
@@ -72,69 +73,69 @@ pub fn turned(k: usize, number: i64) -> i64
 }
 
 /// The number of form i's row p at column j of the plan.
-fn plan_number(forms: &Forms, set: &SetForm, i: usize, p: usize, j: usize) -> i64
-    requires sound { AreSound forms.now }
-    requires few { IsFew (counterpart_of forms.now set.now) }
-    requires form_in { i < length forms.now.matrices }
-    requires column_in { j ≤ forms.now.columns }
-    ensures number { result ≡ plan_entry (wholes forms.now set.now) i p j }
+fn plan_number(model: Elaborated, i: usize, p: usize, j: usize) -> i64
+    requires sound { AreSound model.forms.now }
+    requires few { IsFew (counterpart_in model) }
+    requires form_in { i < length model.forms.now.matrices }
+    requires column_in { j ≤ model.forms.now.columns }
+    ensures number { result ≡ plan_entry (wholes_in model.entry) i p j }
     ensures small { nat_abs result ≤ 2 ^ 62 - 1 }
 {
-    if p < 2 * set.columns as usize {
-        turned(p, -entry(forms, set, i, p / 2, j + 1))
+    if p < 2 * model.set.columns as usize {
+        turned(p, -entry(model, i, p / 2, j + 1))
     } else {
-        form_number(forms, i, 0, j + 1)
+        form_number(model.forms, i, 0, j + 1)
     }
 }
 
 /// The number of a form's row p at its multiplier of set row r.
-fn multiplier_number(forms: &Forms, set: &SetForm, p: usize, r: usize) -> i64
-    requires sound { IsSound set.now }
-    requires row_in { r < length set.now.rows }
-    ensures number { result ≡ multiplier_entry (wholes forms.now set.now) p r }
+fn multiplier_number(model: Elaborated, p: usize, r: usize) -> i64
+    requires sound { IsSound model.set.now }
+    requires row_in { r < length model.set.now.rows }
+    ensures number { result ≡ multiplier_entry (wholes_in model.entry) p r }
     ensures small { nat_abs result ≤ 2 ^ 62 - 1 }
 {
-    if p < 2 * set.columns as usize {
-        turned(p, left_number(set, r, p / 2))
+    if p < 2 * model.set.columns as usize {
+        turned(p, left_number(model.set, r, p / 2))
     } else {
-        right_side_number(set, r)
+        right_side_number(model.set, r)
     }
 }
 
 /// The right side of form i's row p.
-pub fn right_number(forms: &Forms, set: &SetForm, i: usize, p: usize) -> i64
-    requires sound { AreSound forms.now }
-    requires form_in { i < length forms.now.matrices }
-    ensures number { result ≡ right_entry (wholes forms.now set.now) i p }
+pub fn right_number(model: Elaborated, i: usize, p: usize) -> i64
+    requires sound { AreSound model.forms.now }
+    requires form_in { i < length model.forms.now.matrices }
+    ensures number { result ≡ right_entry (wholes_in model.entry) i p }
     ensures small { nat_abs result ≤ 2 ^ 62 - 1 }
 {
-    if p < 2 * set.columns as usize {
-        turned(p, entry(forms, set, i, p / 2, 0))
+    if p < 2 * model.set.columns as usize {
+        turned(p, entry(model, i, p / 2, 0))
     } else {
-        -form_number(forms, i, 0, 0)
+        -form_number(model.forms, i, 0, 0)
     }
 }
 
 /// The number of form i's row p at column k of the counterpart.
-pub fn row_number(forms: &Forms, set: &SetForm, i: usize, p: usize, k: usize) -> i64
-    requires forms { AreSound forms.now }
-    requires set { IsSound set.now }
-    requires few { IsFew (counterpart_of forms.now set.now) }
-    requires form_in { i < length forms.now.matrices }
-    requires column_in { k < (counterpart_of forms.now set.now).n }
-    ensures number { result ≡ row_entry (wholes forms.now set.now) i p k }
+pub fn row_number(model: Elaborated, i: usize, p: usize, k: usize) -> i64
+    requires forms { AreSound model.forms.now }
+    requires set { IsSound model.set.now }
+    requires few { IsFew (counterpart_in model) }
+    requires form_in { i < length model.forms.now.matrices }
+    requires column_in { k < (counterpart_in model).n }
+    ensures number { result ≡ row_entry (wholes_in model.entry) i p k }
     ensures small { nat_abs result ≤ 2 ^ 62 - 1 }
 {
-    let plan = 2 * (forms.columns as usize + 1);
+    let plan = 2 * (model.forms.columns as usize + 1);
     if k < plan {
-        return turned(k, plan_number(forms, set, i, p, k / 2));
+        return turned(k, plan_number(model, i, p, k / 2));
     }
-    let rows = set.rows.items().len();
+    let rows = model.set.rows.items().len();
     let first = plan + i * rows;
     if k < first || first + rows <= k {
         return 0;
     }
-    multiplier_number(forms, set, p, k - first)
+    multiplier_number(model, p, k - first)
 }
 
 /// What column k counts in what is maximised: `tau` as the sense says, and no other column.

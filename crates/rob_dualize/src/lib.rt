@@ -5,6 +5,7 @@
 pub mod bounds;
 mod certificate;
 mod counterpart;
+pub mod elaborated;
 pub mod entries;
 pub mod laws;
 mod model;
@@ -16,6 +17,6 @@ pub mod stop;
 pub mod told;
 
 pub use bounds::model_bounds;
-pub use counterpart::Counterpart;
+pub use elaborated::Elaborated;
 pub use model::solve_model;
 pub use route::solve_dual;

@@ -10,13 +10,12 @@ ghost use Rattle.rob_counterpart.specs.Splitting.{difference as difference_of, O
 ghost use Rattle.rob_counterpart.specs.Reform.{pairs};
 ghost use Rattle.rob_dualize.specs.Numbers.{told, KeepPairs, KeepRows};
 ghost use Rattle.rob_counterpart.specs.ReadNumbers.{differences, covers_at, covers_to, vector_at, items_to, all_zero, covers_kept};
-ghost use Rattle.rob_dualize.specs.Wholes.{wholes, counterpart_of, IsFew};
+ghost use Rattle.rob_dualize.specs.Wholes.{wholes_in, counterpart_in, IsFew};
 
+use crate::elaborated::Elaborated;
 use crate::told::whole;
 use rob_cert::{Cover, Item};
-use rob_elab::Forms;
 use rob_number::{Exact, List, Memory};
-use rob_sets::SetForm;
 use std::alloc::Global;
 
 /// The difference of two numbers of which one is 0: so it is one of them or its negation, and no wider.
@@ -56,39 +55,37 @@ pub fn pair_differences<N: Exact>(
 /// The covers, by form and set row: the multipliers that are not 0.
 pub fn covers<N: Exact>(
     alloc: Global,
-    forms: &Forms,
-    set: &SetForm,
+    model: Elaborated,
     numbers: &[N],
 ) -> Result<List<Cover<N>>, Memory>
-    requires few { IsFew (counterpart_of forms.now set.now) }
-    requires numbers { length numbers.now ≡ (counterpart_of forms.now set.now).n }
+    requires few { IsFew (counterpart_in model) }
+    requires numbers { length numbers.now ≡ (counterpart_in model).n }
     ensures covers { IfOk result (λ list. map (cover_of N.value) list
-        ≡ covers_to (wholes forms.now set.now) (length forms.now.matrices) (told N.value numbers.now)) }
+        ≡ covers_to (wholes_in model.entry) (length model.entry.forms.now.matrices) (told N.value numbers.now)) }
 {
     let mut all = List::new(alloc);
-    for i in 0..forms.matrices.items().len() {
-        append_covers(forms, set, numbers, i, &mut all)?;
+    for i in 0..model.forms.matrices.items().len() {
+        append_covers(model, numbers, i, &mut all)?;
     }
     Ok(all)
 }
 
 /// Appends the covers of form i.
 fn append_covers<N: Exact>(
-    forms: &Forms,
-    set: &SetForm,
+    model: Elaborated,
     numbers: &[N],
     i: usize,
     all: &mut List<Cover<N>>,
 ) -> Result<(), Memory>
-    requires few { IsFew (counterpart_of forms.now set.now) }
-    requires numbers { length numbers.now ≡ (counterpart_of forms.now set.now).n }
-    requires form_in { i < length forms.now.matrices }
+    requires few { IsFew (counterpart_in model) }
+    requires numbers { length numbers.now ≡ (counterpart_in model).n }
+    requires form_in { i < length model.forms.now.matrices }
     ensures covers { IfOk result (λ _. map (cover_of N.value) all.new
         ≡ map (cover_of N.value) all.old
-        ++ covers_kept (covers_at (wholes forms.now set.now) (told N.value numbers.now) i)) }
+        ++ covers_kept (covers_at (wholes_in model.entry) (told N.value numbers.now) i)) }
 {
-    let rows = set.rows.items().len();
-    let first = 2 * (forms.columns as usize + 1) + i * rows;
+    let rows = model.set.rows.items().len();
+    let first = 2 * (model.forms.columns as usize + 1) + i * rows;
     for r in 0..rows {
         let amount = numbers[first + r];
         if !is_zero(amount) {
@@ -106,22 +103,21 @@ fn append_covers<N: Exact>(
 /// The items, by form: those whose base and vector are not all 0. Each has weight 1.
 pub fn items<N: Exact>(
     alloc: Global,
-    forms: &Forms,
-    set: &SetForm,
+    model: Elaborated,
     numbers: &[N],
 ) -> Result<List<Item<N>>, Memory>
-    requires few { IsFew (counterpart_of forms.now set.now) }
-    requires parameters { forms.now.params ≤ set.now.columns }
-    requires numbers { length numbers.now ≡ (counterpart_of forms.now set.now).m }
-    requires pairs { KeepRows N.value (wholes forms.now set.now) numbers.now }
+    requires few { IsFew (counterpart_in model) }
+    requires parameters { model.forms.now.params ≤ model.set.now.columns }
+    requires numbers { length numbers.now ≡ (counterpart_in model).m }
+    requires pairs { KeepRows N.value (wholes_in model) numbers.now }
     ensures items { IfOk result (λ list. map (item_of N.value) list
-        ≡ items_to (wholes forms.now set.now) (length forms.now.matrices) (told N.value numbers.now)) }
+        ≡ items_to (wholes_in model.entry) (length model.entry.forms.now.matrices) (told N.value numbers.now)) }
 {
-    let rows = 2 * set.columns as usize + 1;
+    let rows = 2 * model.set.columns as usize + 1;
     let mut all = List::new(alloc);
-    for i in 0..forms.matrices.items().len() {
-        let vector = vector(alloc, forms, set, numbers, i)?;
-        let base = numbers[i * rows + 2 * set.columns as usize];
+    for i in 0..model.forms.matrices.items().len() {
+        let vector = vector(alloc, model, numbers, i)?;
+        let base = numbers[i * rows + 2 * model.set.columns as usize];
         if !is_zero(base) || !are_zero(vector.items()) {
             let item = Item {
                 form: i as u32,
@@ -138,22 +134,21 @@ pub fn items<N: Exact>(
 /// The vector of form i.
 fn vector<N: Exact>(
     alloc: Global,
-    forms: &Forms,
-    set: &SetForm,
+    model: Elaborated,
     numbers: &[N],
     i: usize,
 ) -> Result<List<N>, Memory>
-    requires few { IsFew (counterpart_of forms.now set.now) }
-    requires parameters { forms.now.params ≤ set.now.columns }
-    requires numbers { length numbers.now ≡ (counterpart_of forms.now set.now).m }
-    requires pairs { KeepRows N.value (wholes forms.now set.now) numbers.now }
-    requires form_in { i < length forms.now.matrices }
+    requires few { IsFew (counterpart_in model) }
+    requires parameters { model.forms.now.params ≤ model.set.now.columns }
+    requires numbers { length numbers.now ≡ (counterpart_in model).m }
+    requires pairs { KeepRows N.value (wholes_in model) numbers.now }
+    requires form_in { i < length model.forms.now.matrices }
     ensures vector { IfOk result (λ list. map N.value list
-        ≡ vector_at (wholes forms.now set.now) (told N.value numbers.now) i) }
+        ≡ vector_at (wholes_in model.entry) (told N.value numbers.now) i) }
 {
-    let first = i * (2 * set.columns as usize + 1);
+    let first = i * (2 * model.set.columns as usize + 1);
     let mut vector = List::new(alloc);
-    for c in 0..forms.params as usize {
+    for c in 0..model.forms.params as usize {
         let positive = numbers[first + 2 * c];
         let negative = numbers[first + 2 * c + 1];
         vector.push(difference(negative, positive))?;

@@ -10,10 +10,11 @@ ghost use Rattle.rob_elab.specs.Forms.{IsForms};
 ghost use Rattle.rob_solver.specs.Solving.{CountsSolving};
 ghost use Rattle.rob_dualize.specs.Ending.{IsSolvedAs, IsStoppedAs};
 ghost use Rattle.rob_dualize.specs.Solving.{Solves};
-ghost use Rattle.rob_dualize.specs.Wholes.{counterpart_of, IsFew};
+ghost use Rattle.rob_dualize.specs.Wholes.{counterpart_in, counterpart_of, FitsSolver, IsFew};
 
 use crate::certificate::certificate;
-use crate::counterpart::{Counterpart, program_rows};
+use crate::counterpart::program_rows;
+use crate::elaborated::Elaborated;
 use crate::scenario::scenario;
 use crate::stop::{or_stop, position, wide};
 use rob_cert::{Cert, Stop};
@@ -42,15 +43,14 @@ pub fn solve_dual<N: Exact, L: Ledger>(
         → Solves N.value N.limit m (L.wides ledger.old) (L.wides ledger.new) result }
     ensures counted { NeverFell L.ops L.wides ledger.old ledger.new }
 {
-    let inside = match scenario(alloc, forms, set, ledger) {
+    let model = Elaborated { forms, set };
+    let inside = match scenario(alloc, model, ledger) {
         Ok(inside) => inside,
         Err(stop) => return Err(stop),
     };
-    let rows = program_rows(forms, set) as u32;
-    match solve_counterpart::<N, L>(alloc, forms, set, ledger) {
-        Ok(Solved { solver, kind }) => {
-            or_stop(certificate(alloc, forms, set, &solver, kind, inside))
-        }
+    let rows = program_rows(model) as u32;
+    match solve_counterpart::<N, L>(alloc, model, ledger) {
+        Ok(Solved { solver, kind }) => { or_stop(certificate(alloc, model, &solver, kind, inside)) }
         Err(Stopped::Wide(solver, stop)) => {
             Err(wide(alloc, &solver, Program::Reform, rows, position(stop)))
         }
@@ -61,16 +61,13 @@ pub fn solve_dual<N: Exact, L: Ledger>(
 /// Solves the counterpart, which is told row by row.
 fn solve_counterpart<N: Exact, L: Ledger>(
     alloc: Global,
-    forms: &Forms,
-    set: &SetForm,
+    model: Elaborated,
     ledger: &mut L,
 ) -> Result<Solved<N>, Stopped<N>>
-    requires model { AreElaborated N.limit forms.now set.now }
-    requires few { IsFew (counterpart_of forms.now set.now) }
-    ensures solved { IfOk result (IsSolvedAs (counterpart_of forms.now set.now)) }
-    ensures stopped { IfErr result (IsStoppedAs N.limit (counterpart_of forms.now set.now)) }
+    requires model { FitsSolver N.limit model }
+    ensures solved { IfOk result (IsSolvedAs (counterpart_in model.entry)) }
+    ensures stopped { IfErr result (IsStoppedAs N.limit (counterpart_in model.entry)) }
     ensures counted { CountsSolving L.ops L.wides ledger.old ledger.new result }
 {
-    let source = Counterpart { forms, set };
-    solve(alloc, &source, ledger)
+    solve(alloc, &model, ledger)
 }

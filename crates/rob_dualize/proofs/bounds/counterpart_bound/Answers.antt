@@ -11,13 +11,13 @@ use Rattle.rob_dualize.proofs.bounds.counterpart_bound.Goals as goal
 
 pub row_bound-requires : goal.row_bound-requires
 row_bound-requires g c = record {
-  ready = can_be_told g.N.Exact.limit c.args.forms.now c.args.set.now g.met.N.Exact.limit_high c.requires.model
-      c.requires.few;
+  ready = can_be_told g.N.Exact.limit c.args.model.forms.now c.args.model.set.now g.met.N.Exact.limit_high
+      c.requires.model.elaborated c.requires.model.few;
 }
 
 pub returns : goal.returns
 returns g c =
-    let Q = counterpart_of c.args.forms.now c.args.set.now in
+    let Q = counterpart_of c.args.model.forms.now c.args.model.set.now in
     record {
       bound = ok_weaker (TellsBound g.N.Exact.limit (program_of (listed Q))) (TellsBound g.N.Exact.limit Q)
           (λ told. told_same g.N.Exact.limit (program_of (listed Q)) Q told (listed_same Q (listed Q) (listed_is Q)))

@@ -5,6 +5,9 @@ use Rattle.rob_dualize.proofs.bounds.model_bounds.Goals as goal
 pub set_bound-requires : goal.set_bound-requires
 set_bound-requires g c = record { model = set_of_one c.args.forms.now c.args.set.now c.requires.model }
 
+pub counterpart_bound-requires : goal.counterpart_bound-requires
+counterpart_bound-requires g c = record { model = record { elaborated = c.requires.model; few = c.requires.few } }
+
 pub returns-clause-bounds : goal.returns-clause-bounds
 returns-clause-bounds g c = λ m f st.
     told_of_model g.N.Exact.limit m c.args.forms.now c.args.set.now f st c.in_ok-of_set.of_set c.in_ok-counterpart.counterpart

@@ -13,7 +13,7 @@ use Rattle.rob_dualize.proofs.certificate.infeasible.Goals as goal
 
 pub exact_weights-requires-clause-inside : goal.exact_weights-requires-clause-inside
 exact_weights-requires-clause-inside g c =
-    let e : (reform (wholes c.args.forms.now c.args.set.now)).m ≡ positions c.args.solver.now = rows_told (wholes c.args.forms.now c.args.set.now) c.args.solver.now kind.Infeasible c.requires.ended in
+    let e : (reform (wholes c.args.model.forms.now c.args.model.set.now)).m ≡ positions c.args.solver.now = rows_told (wholes c.args.model.forms.now c.args.model.set.now) c.args.solver.now kind.Infeasible c.requires.ended in
     omega (arith, c.program_rows.ensures.count)
 
 pub items-requires-2-clause-numbers : goal.items-requires-2-clause-numbers
@@ -24,13 +24,13 @@ items-requires-2-clause-numbers g c =
 pub items-requires-2-clause-pairs : goal.items-requires-2-clause-pairs
 items-requires-2-clause-pairs g c =
     let value = g.N.Exact.value in
-    let d : RobustProgram = wholes c.args.forms.now c.args.set.now in
+    let d : RobustProgram = wholes c.args.model.forms.now c.args.model.set.now in
     rows_kept value c.items.result.now c.program_rows.result (λ i. of_int (weights_of c.args.solver.now i)) (ap (map value) c.items.ensures.list ∙ c.in_ok-weights.ensures.numbers) d c.program_rows.ensures.count (infeasible_rows d c.args.solver.now c.requires.ended)
 
 pub returns : goal.returns
 returns g c =
     let value = g.N.Exact.value in
-    let d : RobustProgram = wholes c.args.forms.now c.args.set.now in
+    let d : RobustProgram = wholes c.args.model.forms.now c.args.model.set.now in
     record {
       certificate = parts_same infeasible _ _ _ _ _ _ _ _ _ _ _ _ _ _ _ _ _
           c.whole.ensures.value

@@ -14,32 +14,33 @@ use Rattle.rob_dualize.proofs.route.solve_counterpart.Goals as goal
 
 pub solve-requires-clause-ready : goal.solve-requires-clause-ready
 solve-requires-clause-ready g c =
-    can_be_told g.N.Exact.limit c.args.forms.now c.args.set.now g.met.N.Exact.limit_high c.requires.model c.requires.few
+    can_be_told g.N.Exact.limit c.args.model.forms.now c.args.model.set.now g.met.N.Exact.limit_high c.requires.model.elaborated
+    c.requires.model.few
 
 pub solve-requires-clause-few : goal.solve-requires-clause-few
 solve-requires-clause-few g c =
-    let Q : Program = counterpart_of c.args.forms.now c.args.set.now in
+    let Q : Program = counterpart_of c.args.model.forms.now c.args.model.set.now in
     let n : length (listed Q).c ≡ Q.n = length-tabulate Q.n Q.c in
     let m : length (listed Q).b ≡ Q.m = length-tabulate Q.m Q.b in
-    omega (arith, n, m, c.requires.few)
+    omega (arith, n, m, c.requires.model.few)
 
 pub solve-requires-clause-numbers : goal.solve-requires-clause-numbers
 solve-requires-clause-numbers g c =
     let limit = g.N.Exact.limit in
-    let h = c.requires.model.forms_fit in
-    let k = c.requires.model.set_fits in
-    let Q : Program = counterpart_of c.args.forms.now c.args.set.now in
-    reform_within (wholes c.args.forms.now c.args.set.now) limit (form_fits limit c.args.forms.now c.args.set.now h k) (left_fits limit c.args.forms.now c.args.set.now h k)
-    (right_fits limit c.args.forms.now c.args.set.now h k) (sense_small limit c.args.forms.now g.met.N.Exact.limit_low) (listed Q) (listed_is Q)
+    let h = c.requires.model.elaborated.forms_fit in
+    let k = c.requires.model.elaborated.set_fits in
+    let Q : Program = counterpart_of c.args.model.forms.now c.args.model.set.now in
+    reform_within (wholes c.args.model.forms.now c.args.model.set.now) limit (form_fits limit c.args.model.forms.now c.args.model.set.now h k) (left_fits limit c.args.model.forms.now c.args.model.set.now h k)
+    (right_fits limit c.args.model.forms.now c.args.model.set.now h k) (sense_small limit c.args.model.forms.now g.met.N.Exact.limit_low) (listed Q) (listed_is Q)
 
 pub returns-clause-solved : goal.returns-clause-solved
 returns-clause-solved g c =
-    let Q : Program = counterpart_of c.args.forms.now c.args.set.now in
+    let Q : Program = counterpart_of c.args.model.forms.now c.args.model.set.now in
     ok_weaker (IsSolved (program_of (listed Q))) (IsSolvedAs Q) (λ s h. record { program = program_of (listed Q); same = listed_same Q (listed Q) (listed_is Q); answer = h })
     c.solve.result c.solve.ensures.solved
 
 pub returns-clause-stopped : goal.returns-clause-stopped
 returns-clause-stopped g c =
-    let Q : Program = counterpart_of c.args.forms.now c.args.set.now in
+    let Q : Program = counterpart_of c.args.model.forms.now c.args.model.set.now in
     has_stopped g.N.Exact.limit (program_of (listed Q)) Q (listed_same Q (listed Q) (listed_is Q)) c.solve.result
     c.solve.ensures.stopped c.solve.ensures.caused

@@ -15,6 +15,12 @@ use Rattle.rob_dualize.proofs.MakingLemmas.{has_ended, counterpart_ended, counte
 use Rattle.rob_dualize.proofs.SolvingLemmas.{stopped_with, answered, wide_in_counterpart, wide_counted}
 use Rattle.rob_dualize.proofs.route.solve_dual.Goals as goal
 
+pub scenario-requires : goal.scenario-requires
+scenario-requires g c = record { model = record { elaborated = c.requires.model; few = c.requires.few } }
+
+pub solve_counterpart-requires : goal.solve_counterpart-requires
+solve_counterpart-requires g c = record { model = record { elaborated = c.requires.model; few = c.requires.few } }
+
 pub returns-in-Err-clause-solves : goal.returns-in-Err-clause-solves
 returns-in-Err-clause-solves g c = λ m model f st.
     stopped_with g.N.Exact.value g.N.Exact.limit m (g.L.Ledger.wides c.args.ledger.now) (g.L.Ledger.wides c.scenario.new.ledger) c.in-Err.stop

@@ -11,8 +11,8 @@ use Rattle.rob_dualize.proofs.scenario.scenario.Goals as goal
 
 pub solved_set-requires : goal.solved_set-requires
 solved_set-requires g c = record {
-  model = set_of_one c.args.forms.now c.args.set.now c.requires.model;
-  few = set_of_few c.args.forms.now c.args.set.now c.requires.model c.requires.few;
+  model = set_of_one c.args.model.forms.now c.args.model.set.now c.requires.model.elaborated;
+  few = set_of_few c.args.model.forms.now c.args.model.set.now c.requires.model.elaborated c.requires.model.few;
 }
 
 pub returns-in-Err-clause-found : goal.returns-in-Err-clause-found
@@ -22,14 +22,15 @@ returns-in-Err-clause-found g c = λ m model f st.
 
 pub parameters-requires-clause-pairs : goal.parameters-requires-clause-pairs
 parameters-requires-clause-pairs g c = λ k l.
-    solved_pairs c.args.set.now c.in-Ok.solver c.in-Ok.ensures.solved.last k (omega (arith, parameters_low c.args.forms.now c.args.set.now c.requires.model))
+    let low = parameters_low c.args.model.forms.now c.args.model.set.now c.requires.model.elaborated in
+    solved_pairs c.args.model.set.now c.in-Ok.solver c.in-Ok.ensures.solved.last k (omega (arith, low))
 
 pub returns-in-Ok-parameters-clause-found : goal.returns-in-Ok-parameters-clause-found
 returns-in-Ok-parameters-clause-found g c = λ m model f st.
     let s = c.in-Ok.solver in
     let e : map g.N.Exact.value c.in-Ok-parameters.values ≡ scenario_read m (point_of s) =
     c.in-Ok-parameters.ensures.parameters ∙ ap (λ k. differences k (point_of s)) f.params in
-    let found = solved_scenario m c.args.set.now st model s c.in-Ok.ensures.solved in
+    let found = solved_scenario m c.args.model.set.now st model s c.in-Ok.ensures.solved in
     record {
       found = (subst (Admits m) (sym e) found.0, subst (IsLastScenario m) (sym e) found.1);
       stopped = tt;

@@ -3,7 +3,7 @@ use Rattle.rob_counterpart.specs.Reform.{right_entry}
 use Rattle.rob_dualize.specs.Wholes.{wholes, counterpart_of}
 use Rattle.rob_dualize.proofs.EntryLemmas.{seen_same}
 use Rattle.rob_dualize.proofs.ToldLemmas.{told_columns, form_in, told_row, told_right}
-use Rattle.rob_dualize.proofs.counterpart.CounterpartRows.write_row.Goals as goal
+use Rattle.rob_dualize.proofs.counterpart.ElaboratedRows.write_row.Goals as goal
 
 pub write_form_row-requires-clause-form_in : goal.write_form_row-requires-clause-form_in
 write_form_row-requires-clause-form_in c =

@@ -2,7 +2,7 @@ use Rattle.std.proofs.Common.{ℕ, ◌∙◌, sym, ap}
 use Rattle.rob_meaning.specs.Places.{tabulate}
 use Rattle.rob_dualize.specs.Wholes.{cost_of, counterpart_of}
 use Rattle.rob_dualize.proofs.ToldLemmas.{told_columns}
-use Rattle.rob_dualize.proofs.counterpart.CounterpartRows.write_cost.Goals as goal
+use Rattle.rob_dualize.proofs.counterpart.ElaboratedRows.write_cost.Goals as goal
 
 pub returns : goal.returns
 returns c = record {
