@@ -24,6 +24,7 @@ use crate::refusal::count;
 use crate::searching::{go_deeper, go_on};
 use crate::task::{Task, plan_task, step_task};
 use rob_cert::{Stop, Worst};
+use rob_dualize::Elaborated;
 use rob_dualize::set_program::{alike_set, parameters, solved_set};
 use rob_elab::Forms;
 use rob_model::{Plan, Scenario};
@@ -93,7 +94,7 @@ impl<N: Exact> Finder<N> {
         ensures finder { IsFinder set.now self.new }
         ensures counted { NeverFell L.ops L.wides ledger.old ledger.new }
     {
-        let task = plan_task(alloc, forms, set, form, plan);
+        let task = plan_task(alloc, Elaborated { forms, set }, form, plan);
         self.search(alloc, set, task, ledger)
     }
 
@@ -120,7 +121,7 @@ impl<N: Exact> Finder<N> {
         ensures finder { IsFinder set.now self.new }
         ensures counted { NeverFell L.ops L.wides ledger.old ledger.new }
     {
-        let task = step_task(alloc, forms, set, form, step);
+        let task = step_task(alloc, Elaborated { forms, set }, form, step);
         self.search(alloc, set, task, ledger)
     }
 

@@ -13,11 +13,10 @@ use crate::cost::{costs, part};
 use crate::refusal::place;
 use crate::vector::{cleared, plan_vector, step_vector};
 use rob_cert::Stop;
+use rob_dualize::Elaborated;
 use rob_dualize::stop::wide_at;
-use rob_elab::Forms;
 use rob_model::{Plan, Spot, Where};
 use rob_number::{Exact, List, Memory};
-use rob_sets::SetForm;
 use rob_sets::clearing::denominator;
 use rob_sets::error::Stop as Refusal;
 use std::alloc::Global;
@@ -42,21 +41,21 @@ pub struct Task {
 /// The search for a form at a plan with its bound.
 pub fn plan_task<N: Exact>(
     alloc: Global,
-    forms: &Forms,
-    set: &SetForm,
+    model: Elaborated,
     form: u32,
     plan: &Plan<N>,
 ) -> Result<Task, Stop>
-    requires model { AreElaborated N.limit forms.now set.now }
-    requires form_in { form < length forms.now.matrices }
-    requires size { length plan.now.columns ≡ forms.now.columns }
-    ensures fits { IfOk result (λ task. FitsSet N.limit set.now.columns task) }
-    ensures task { (m : RobustModel) → IsForms m forms.now → IsSetForm m set.now → MatchResult result
+    requires model { AreElaborated N.limit model.forms.now model.set.now }
+    requires form_in { form < length model.forms.now.matrices }
+    requires size { length plan.now.columns ≡ model.forms.now.columns }
+    ensures fits { IfOk result (λ task. FitsSet N.limit model.entry.set.now.columns task) }
+    ensures task { (m : RobustModel) → IsForms m model.entry.forms.now → IsSetForm m model.entry.set.now
+        → MatchResult result
         (IsTaskOf m false form (plan_of N.value plan.now))
         (HasSearchCause N.limit m false form (plan_of N.value plan.now)) }
 {
     match plan_vector(alloc, plan) {
-        Ok(vector) => task_at(alloc, forms, set, form, false, vector.items()),
+        Ok(vector) => task_at(alloc, model, form, false, vector.items()),
         Err(Memory) => Err(Stop::Memory),
     }
 }
@@ -64,21 +63,21 @@ pub fn plan_task<N: Exact>(
 /// The search for a form at a direction with its bound.
 pub fn step_task<N: Exact>(
     alloc: Global,
-    forms: &Forms,
-    set: &SetForm,
+    model: Elaborated,
     form: u32,
     step: &[N],
 ) -> Result<Task, Stop>
-    requires model { AreElaborated N.limit forms.now set.now }
-    requires form_in { form < length forms.now.matrices }
-    requires size { length step.now ≡ suc forms.now.columns }
-    ensures fits { IfOk result (λ task. FitsSet N.limit set.now.columns task) }
-    ensures task { (m : RobustModel) → IsForms m forms.now → IsSetForm m set.now → MatchResult result
+    requires model { AreElaborated N.limit model.forms.now model.set.now }
+    requires form_in { form < length model.forms.now.matrices }
+    requires size { length step.now ≡ suc model.forms.now.columns }
+    ensures fits { IfOk result (λ task. FitsSet N.limit model.entry.set.now.columns task) }
+    ensures task { (m : RobustModel) → IsForms m model.entry.forms.now → IsSetForm m model.entry.set.now
+        → MatchResult result
         (IsTaskOf m true form (step_of N.value step.now))
         (HasSearchCause N.limit m true form (step_of N.value step.now)) }
 {
     match step_vector(alloc, step) {
-        Ok(vector) => task_at(alloc, forms, set, form, true, vector.items()),
+        Ok(vector) => task_at(alloc, model, form, true, vector.items()),
         Err(Memory) => Err(Stop::Memory),
     }
 }
@@ -86,17 +85,17 @@ pub fn step_task<N: Exact>(
 /// The search for a form at a vector, which is a plan's or, by step, a direction's.
 fn task_at<N: Exact>(
     alloc: Global,
-    forms: &Forms,
-    set: &SetForm,
+    model: Elaborated,
     form: u32,
     by_step: bool,
     vector: &[N],
 ) -> Result<Task, Stop>
-    requires model { AreElaborated N.limit forms.now set.now }
-    requires form_in { form < length forms.now.matrices }
-    requires size { length vector.now ≡ suc (suc forms.now.columns) }
-    ensures fits { IfOk result (λ task. FitsSet N.limit set.now.columns task) }
-    ensures task { (m : RobustModel) → IsForms m forms.now → IsSetForm m set.now → MatchResult result
+    requires model { AreElaborated N.limit model.forms.now model.set.now }
+    requires form_in { form < length model.forms.now.matrices }
+    requires size { length vector.now ≡ suc (suc model.forms.now.columns) }
+    ensures fits { IfOk result (λ task. FitsSet N.limit model.entry.set.now.columns task) }
+    ensures task { (m : RobustModel) → IsForms m model.entry.forms.now → IsSetForm m model.entry.set.now
+        → MatchResult result
         (IsTaskOf m by_step form (map N.value vector.now))
         (HasSearchCause N.limit m by_step form (map N.value vector.now)) }
 {
@@ -109,15 +108,15 @@ fn task_at<N: Exact>(
         Err(Refusal::Wide) => return Err(wide_at(alloc, Spot::Clearing(place(by_step)))),
         Err(Refusal::Memory) => return Err(Stop::Memory),
     };
-    let constant = match part::<N>(forms, form as usize, 0, whole.items()) {
+    let constant = match part::<N>(model.forms, form as usize, 0, whole.items()) {
         Some(constant) => constant,
         None => return Err(wide_at(alloc, Spot::Sum(Where::Cost(form), 0))),
     };
-    match costs::<N>(alloc, forms, set.columns, form, whole.items()) {
+    match costs::<N>(alloc, model.forms, model.set.columns, form, whole.items()) {
         Ok(cost) => Ok(Task {
             form,
             by_step,
-            params: forms.params,
+            params: model.forms.params,
             common: common as i64,
             constant,
             cost,

@@ -10,8 +10,8 @@ use Rattle.rob_worst.proofs.task.plan_task.Goals as goal
 pub task_at-requires-clause-size : goal.task_at-requires-clause-size
 task_at-requires-clause-size g c =
     let value = g.N.Exact.value in
-    count_back value c.items.result.now (plan_of value c.args.plan.now) (suc (suc c.args.forms.now.columns)) (ap (map value) c.items.ensures.list ∙ c.in-Ok.ensures.vector)
-    (plan_count value c.args.plan.now c.args.forms.now.columns c.requires.size)
+    count_back value c.items.result.now (plan_of value c.args.plan.now) (suc (suc c.args.model.forms.now.columns)) (ap (map value) c.items.ensures.list ∙ c.in-Ok.ensures.vector)
+    (plan_count value c.args.plan.now c.args.model.forms.now.columns c.requires.size)
 
 pub returns-in-Ok-clause-task : goal.returns-in-Ok-clause-task
 returns-in-Ok-clause-task g c = λ m f s.

@@ -22,18 +22,18 @@ use Rattle.rob_worst.proofs.task.task_at.Goals as goal
 
 pub part-requires : goal.part-requires
 part-requires g c = record {
-  sound = forms_sound c.args.forms.now c.args.set.now (elaborated_weaker 4611686018427387903 c.args.forms.now c.args.set.now g.met.N.Exact.limit_high c.requires.model);
+  sound = forms_sound c.args.model.forms.now c.args.model.set.now (elaborated_weaker 4611686018427387903 c.args.model.forms.now c.args.model.set.now g.met.N.Exact.limit_high c.requires.model);
   form_in = c.requires.form_in;
   row_in = omega arith;
-  size = cleared_count g.N.Exact.value c.args.vector.now c.in-Some.common c.items.result.now (suc (suc c.args.forms.now.columns)) (c.items.ensures.list ∙ c.in-Ok.ensures.cleared) c.requires.size;
+  size = cleared_count g.N.Exact.value c.args.vector.now c.in-Some.common c.items.result.now (suc (suc c.args.model.forms.now.columns)) (c.items.ensures.list ∙ c.in-Ok.ensures.cleared) c.requires.size;
   fits = subst (λ (xs : List ℤ). Each (λ a. nat_abs a ≤ g.N.Exact.limit) xs) (sym c.items.ensures.list) c.in-Ok.ensures.fits;
 }
 
 pub costs-requires : goal.costs-requires
 costs-requires g c = record {
-  sound = forms_sound c.args.forms.now c.args.set.now (elaborated_weaker 4611686018427387903 c.args.forms.now c.args.set.now g.met.N.Exact.limit_high c.requires.model);
+  sound = forms_sound c.args.model.forms.now c.args.model.set.now (elaborated_weaker 4611686018427387903 c.args.model.forms.now c.args.model.set.now g.met.N.Exact.limit_high c.requires.model);
   form_in = c.requires.form_in;
-  size = cleared_count g.N.Exact.value c.args.vector.now c.in-Some.common c.items-2.result.now (suc (suc c.args.forms.now.columns)) (c.items-2.ensures.list ∙ c.in-Ok.ensures.cleared) c.requires.size;
+  size = cleared_count g.N.Exact.value c.args.vector.now c.in-Some.common c.items-2.result.now (suc (suc c.args.model.forms.now.columns)) (c.items-2.ensures.list ∙ c.in-Ok.ensures.cleared) c.requires.size;
   fits = subst (λ (xs : List ℤ). Each (λ a. nat_abs a ≤ g.N.Exact.limit) xs) (sym c.items-2.ensures.list) c.in-Ok.ensures.fits;
 }
 
@@ -49,23 +49,23 @@ pub returns-in-None-part-clause-task : goal.returns-in-None-part-clause-task
 returns-in-None-part-clause-task g c = λ m f s.
     let z : List Fraction = map g.N.Exact.value c.args.vector.now in
     let is : c.items.result.now ≡ wholes z = c.items.ensures.list ∙ c.in-Ok.ensures.cleared ∙ ap (λ d. map (whole_at d) z) c.in-Some.ensures.least.0 in
-    constant_cause g.N.Exact.limit m c.args.by_step c.args.form z c.args.forms.now f c.wide_at-in-None-part.result c.wide_at-in-None-part.ensures.stop
-    (subst (λ (xs : List ℤ). IsWidePart c.args.forms.now c.args.form g.N.Exact.limit 0 xs) is c.in-None-part.ensures.number)
+    constant_cause g.N.Exact.limit m c.args.by_step c.args.form z c.args.model.forms.now f c.wide_at-in-None-part.result c.wide_at-in-None-part.ensures.stop
+    (subst (λ (xs : List ℤ). IsWidePart c.args.model.forms.now c.args.form g.N.Exact.limit 0 xs) is c.in-None-part.ensures.number)
 
 pub returns-in-Ok-costs-clause-fits : goal.returns-in-Ok-costs-clause-fits
 returns-in-Ok-costs-clause-fits g c =
     let n : nat_abs c.in-Some-part.constant ≤ 2 ^ 62 - 1 = omega (arith, c.in-Some-part.ensures.number.1, g.met.N.Exact.limit_high) in
     let d : to_z w64 c.in-Some.common ≡ pos c.in-Some.common = common_seen g.N.Exact.limit c.in-Some.common g.met.N.Exact.limit_high c.in-Some.ensures.least.1 in
-    fits_set g.N.Exact.limit c.args.set.now.columns c.args.forms.now c.items-2.result.now
+    fits_set g.N.Exact.limit c.args.model.set.now.columns c.args.model.forms.now c.items-2.result.now
     (record {
       form = c.args.form;
       by_step = c.args.by_step;
-      params = c.args.forms.now.params;
+      params = c.args.model.forms.now.params;
       common = to_z w64 c.in-Some.common;
       constant = to_z w64 (of_z w64 c.in-Some-part.constant);
       cost = c.in-Ok-costs.cost;
     })
-    (parameters_low c.args.forms.now c.args.set.now c.requires.model)
+    (parameters_low c.args.model.forms.now c.args.model.set.now c.requires.model)
     c.in-Ok-costs.ensures.costs c.in-Ok-costs.ensures.within
     (subst (λ v. nat_abs v ≤ g.N.Exact.limit) (sym d) c.in-Some.ensures.least.1)
     (subst (λ v. nat_abs v ≤ g.N.Exact.limit) (sym (held c.in-Some-part.constant n)) c.in-Some-part.ensures.number.1)
@@ -81,14 +81,14 @@ returns-in-Ok-costs-clause-task g c = λ m f s.
       step = refl;
       parameters = f.params;
       common = common_seen g.N.Exact.limit c.in-Some.common g.met.N.Exact.limit_high c.in-Some.ensures.least.1 ∙ ap pos c.in-Some.ensures.least.0;
-      constant = constant_told m c.args.forms.now f c.args.form z c.items.result.now first (to_z w64 (of_z w64 c.in-Some-part.constant))
+      constant = constant_told m c.args.model.forms.now f c.args.form z c.items.result.now first (to_z w64 (of_z w64 c.in-Some-part.constant))
           (held c.in-Some-part.constant n ∙ c.in-Some-part.ensures.number.0);
-      costs = costs_told m c.args.forms.now f c.args.form z c.items-2.result.now second c.args.set.now.columns s.columns c.in-Ok-costs.cost c.in-Ok-costs.ensures.costs;
+      costs = costs_told m c.args.model.forms.now f c.args.form z c.items-2.result.now second c.args.model.set.now.columns s.columns c.in-Ok-costs.cost c.in-Ok-costs.ensures.costs;
     }
 
 pub returns-clause-task : goal.returns-clause-task
 returns-clause-task g c = λ m f s.
     let z : List Fraction = map g.N.Exact.value c.args.vector.now in
     let is : c.items-2.result.now ≡ wholes z = c.items-2.ensures.list ∙ c.in-Ok.ensures.cleared ∙ ap (λ d. map (whole_at d) z) c.in-Some.ensures.least.0 in
-    costs_cause g.N.Exact.limit m c.args.by_step c.args.form z c.args.forms.now f c.in-Err.stop
-    (subst (λ (xs : List ℤ). StopsAtPart c.args.forms.now c.args.form g.N.Exact.limit xs c.in-Err.stop) is c.in-Err.ensures.costs)
+    costs_cause g.N.Exact.limit m c.args.by_step c.args.form z c.args.model.forms.now f c.in-Err.stop
+    (subst (λ (xs : List ℤ). StopsAtPart c.args.model.forms.now c.args.form g.N.Exact.limit xs c.in-Err.stop) is c.in-Err.ensures.costs)
