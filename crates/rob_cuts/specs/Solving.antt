@@ -16,6 +16,8 @@ use Rattle.rob_cert.specs.declared.ending.Stop.{Stop}
 use Rattle.rob_cert.specs.declared.ending.Stop.TheVariants.{EmptySet, Wide, Memory}
 use Rattle.rob_cert.specs.declared.trace.Round.{Round as Told}
 use Rattle.rob_dualize.specs.Solving.{HasScenario, IsLastScenario, TellsEmpty}
+use Rattle.rob_dualize.specs.Wholes.{counterpart_in, IsFew}
+use Rattle.rob_dualize.specs.declared.elaborated.Elaborated.{Elaborated}
 use Rattle.rob_runs.specs.Readings.{IsReadOff}
 use Rattle.rob_runs.specs.Runs.{Round, IsRun, trace_cuts, IsFinished}
 use Rattle.rob_runs.specs.Spots.{RunSpot, set_row, IsWideInRun}
@@ -26,6 +28,12 @@ use Rattle.rob_cuts.specs.Rounds.{round_told, RoundFits}
 pub record AreOfModel (limit : ℕ) (forms : Forms) (set : SetForm) : Type 0 where
   pub elaborated : AreElaborated limit forms set
   pub is_model : IsModel elaborated.model
+
+-- they are so, and the rows and columns of their counterpart are as few as a solver takes
+pub record FitsRoute (limit : ℕ) (model : Elaborated) : Type 0 where
+  pub of_model : AreOfModel limit model.forms.now model.set.now
+  pub open of_model use *
+  pub few : IsFew (counterpart_in model)
 
 -- the rounds are a run, which is finished; the certificate is read off there, proves, and has its shape
 pub record IsSolution (m : RobustModel) (c : Certificate) (told : List Told) : Type 0 where

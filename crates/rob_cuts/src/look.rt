@@ -10,22 +10,20 @@ ghost use Rattle.rob_sets.specs.SetForm.{IsSetForm};
 ghost use Rattle.rob_simplex.specs.Solvers.{HasPoint, HasRay};
 ghost use Rattle.rob_simplex.specs.Solutions.{point_of, ray_of};
 ghost use Rattle.rob_dualize.specs.Solving.{CountsStop};
-ghost use Rattle.rob_dualize.specs.Wholes.{counterpart_of, IsFew};
 ghost use Rattle.rob_runs.specs.Runs.{plan_at, direction_at};
 ghost use Rattle.rob_worst.specs.Finders.{IsFinder};
 ghost use Rattle.rob_cuts.specs.Looks.{IsPlanLook, IsStepLook};
 ghost use Rattle.rob_cuts.specs.Scans.{IsScanStopped};
-ghost use Rattle.rob_cuts.specs.Solving.{AreOfModel};
+ghost use Rattle.rob_cuts.specs.Solving.{FitsRoute};
 
 use crate::cut::Cut;
 use crate::kept::Kept;
 use crate::reading::{direction, plan};
 use crate::scan::{Scan, Target, scan_forms};
 use rob_cert::Stop;
-use rob_elab::Forms;
+use rob_dualize::Elaborated;
 use rob_model::Plan;
 use rob_number::{Exact, Ledger, List, Memory};
-use rob_sets::SetForm;
 use rob_solver::Solver;
 use rob_worst::Finder;
 use std::alloc::Global;
@@ -51,32 +49,30 @@ pub enum StepLook<N> {
 /// Looks at the plan of the solver's point.
 pub fn look_at_plan<N: Exact, L: Ledger>(
     alloc: Global,
-    forms: &Forms,
-    set: &SetForm,
+    model: Elaborated,
     finder: &mut Finder<N>,
     solver: &Solver<N>,
     ledger: &mut L,
 ) -> Result<PlanLook<N>, Stop>
-    requires model { AreOfModel N.limit forms.now set.now }
-    requires few { IsFew (counterpart_of forms.now set.now) }
-    requires finder { IsFinder set.now finder.old }
+    requires model { FitsRoute N.limit model }
+    requires finder { IsFinder model.set.now finder.old }
     requires point { HasPoint solver.now }
-    requires columns { suc forms.now.columns + suc forms.now.columns ≡ solver.now.columns }
-    requires one { (j : ℕ) → j ≤ forms.now.columns
+    requires columns { suc model.forms.now.columns + suc model.forms.now.columns ≡ solver.now.columns }
+    requires one { (j : ℕ) → j ≤ model.forms.now.columns
         → OneIsZero (point_of solver.now (plus j)) (point_of solver.now (minus j)) }
-    ensures look { (m : RobustModel) → IsModel m → IsForms m forms.now → IsSetForm m set.now
+    ensures look { (m : RobustModel) → IsModel m → IsForms m model.entry.forms.now → IsSetForm m model.entry.set.now
         → MatchResult result (IsPlanLook N.limit m N.value (point_of solver.now))
         (IsScanStopped N.limit m false (plan_at m (point_of solver.now))) }
-    ensures finder { IsFinder set.now finder.new }
+    ensures finder { IsFinder model.entry.set.now finder.new }
     ensures wides { MatchResult result (λ _. L.wides ledger.new ≡ L.wides ledger.old)
         (CountsStop (L.wides ledger.old) (L.wides ledger.new)) }
     ensures counted { NeverFell L.ops L.wides ledger.old ledger.new }
 {
-    let plan = match plan(alloc, solver, forms.columns) {
+    let plan = match plan(alloc, solver, model.forms.columns) {
         Ok(plan) => plan,
         Err(Memory) => return Err(Stop::Memory),
     };
-    match scan_forms(alloc, forms, set, finder, Target::Plan(&plan), ledger) {
+    match scan_forms(alloc, model, finder, Target::Plan(&plan), ledger) {
         Ok(Scan::Broken(cut)) => Ok(PlanLook::Broken(cut)),
         Ok(Scan::Kept(kept)) => Ok(PlanLook::Kept(plan, kept)),
         Err(stop) => Err(stop),
@@ -86,39 +82,30 @@ pub fn look_at_plan<N: Exact, L: Ledger>(
 /// Looks at the direction of the solver's ray.
 pub fn look_at_step<N: Exact, L: Ledger>(
     alloc: Global,
-    forms: &Forms,
-    set: &SetForm,
+    model: Elaborated,
     finder: &mut Finder<N>,
     solver: &Solver<N>,
     ledger: &mut L,
 ) -> Result<StepLook<N>, Stop>
-    requires model { AreOfModel N.limit forms.now set.now }
-    requires few { IsFew (counterpart_of forms.now set.now) }
-    requires finder { IsFinder set.now finder.old }
+    requires model { FitsRoute N.limit model }
+    requires finder { IsFinder model.set.now finder.old }
     requires ray { HasRay solver.now }
-    requires columns { suc forms.now.columns + suc forms.now.columns ≡ solver.now.columns }
-    requires one { (j : ℕ) → j ≤ forms.now.columns
+    requires columns { suc model.forms.now.columns + suc model.forms.now.columns ≡ solver.now.columns }
+    requires one { (j : ℕ) → j ≤ model.forms.now.columns
         → OneIsZero (ray_of solver.now (plus j)) (ray_of solver.now (minus j)) }
-    ensures look { (m : RobustModel) → IsModel m → IsForms m forms.now → IsSetForm m set.now
+    ensures look { (m : RobustModel) → IsModel m → IsForms m model.entry.forms.now → IsSetForm m model.entry.set.now
         → MatchResult result (IsStepLook N.limit m N.value (ray_of solver.now))
         (IsScanStopped N.limit m true (direction_at m (ray_of solver.now))) }
-    ensures finder { IsFinder set.now finder.new }
+    ensures finder { IsFinder model.entry.set.now finder.new }
     ensures wides { MatchResult result (λ _. L.wides ledger.new ≡ L.wides ledger.old)
         (CountsStop (L.wides ledger.old) (L.wides ledger.new)) }
     ensures counted { NeverFell L.ops L.wides ledger.old ledger.new }
 {
-    let step = match direction(alloc, solver, forms.columns) {
+    let step = match direction(alloc, solver, model.forms.columns) {
         Ok(step) => step,
         Err(Memory) => return Err(Stop::Memory),
     };
-    match scan_forms(
-        alloc,
-        forms,
-        set,
-        finder,
-        Target::Step(step.items()),
-        ledger,
-    ) {
+    match scan_forms(alloc, model, finder, Target::Step(step.items()), ledger) {
         Ok(Scan::Broken(cut)) => Ok(StepLook::Broken(cut)),
         Ok(Scan::Kept(kept)) => Ok(StepLook::Kept(step, kept)),
         Err(stop) => Err(stop),

@@ -20,7 +20,6 @@ ghost use Rattle.rob_simplex.specs.Solutions.{dual_of, weights_of};
 ghost use Rattle.rob_solver.specs.Solving.{IsSolved, IsStopped, IsCausedDeep, CountsSolving};
 ghost use Rattle.rob_dualize.specs.Ending.{HasEnded};
 ghost use Rattle.rob_dualize.specs.Solving.{CountsStop};
-ghost use Rattle.rob_dualize.specs.Wholes.{counterpart_of, IsFew};
 ghost use Rattle.rob_dualize.specs.SetSolving.{IsFewSet};
 ghost use Rattle.rob_worst.specs.Finders.{IsFinder};
 ghost use Rattle.rob_cuts.specs.Certificates.{optimal_with, infeasible_with, items_told};
@@ -28,7 +27,7 @@ ghost use Rattle.rob_cuts.specs.Covered.{covered_plan};
 ghost use Rattle.rob_cuts.specs.Made.{cut_made};
 ghost use Rattle.rob_cuts.specs.Rounds.{round_told, RoundFits};
 ghost use Rattle.rob_cuts.specs.Runs.{IsRunSoFar};
-ghost use Rattle.rob_cuts.specs.Solving.{AreOfModel};
+ghost use Rattle.rob_cuts.specs.Solving.{FitsRoute};
 ghost use Rattle.rob_cuts.specs.Stops.{IsRefused, HasFewRows};
 ghost use Rattle.rob_cuts.specs.Outcomes.{IsOutcome, IsWideNext, IsEndWith};
 ghost use Rattle.rob_cuts.specs.declared.round.Outcome.TheVariants as Leads;
@@ -41,13 +40,13 @@ use crate::run::Run;
 use crate::step::whole_step;
 use crate::stop::wide;
 use rob_cert::{Cert, Round, Stop};
+use rob_dualize::Elaborated;
 use rob_dualize::stop::{or_stop, position, wide as wide_row};
 use rob_dualize::told::basis;
 use rob_elab::Forms;
 use rob_model::{Plan, Program, Spot, Where};
 use rob_number::{Exact, Ledger, List, LpKind, Memory};
 use rob_rows::Lp;
-use rob_sets::SetForm;
 use rob_sets::error::Stop as Refusal;
 use rob_solver::{Solved, Solver, Stopped, solve};
 use rob_worst::Finder;
@@ -66,19 +65,17 @@ pub enum Outcome<N> {
 /// The next round.
 pub fn next_round<N: Exact, L: Ledger>(
     alloc: Global,
-    forms: &Forms,
-    set: &SetForm,
+    model: Elaborated,
     finder: &mut Finder<N>,
     run: &Run,
     ledger: &mut L,
 ) -> Result<Outcome<N>, Stop>
-    requires model { AreOfModel N.limit forms.now set.now }
-    requires few { IsFew (counterpart_of forms.now set.now) }
-    requires finder { IsFinder set.now finder.old }
-    requires run { IsRunSoFar N.limit forms.now set.now run.now }
-    ensures outcome { (m : RobustModel) → IsModel m → IsForms m forms.now → IsSetForm m set.now
+    requires model { FitsRoute N.limit model }
+    requires finder { IsFinder model.set.now finder.old }
+    requires run { IsRunSoFar N.limit model.forms.now model.set.now run.now }
+    ensures outcome { (m : RobustModel) → IsModel m → IsForms m model.entry.forms.now → IsSetForm m model.entry.set.now
         → MatchResult result (IsOutcome N.value N.limit m run.now.rounds) (IsWideNext N.limit m run.now.rounds) }
-    ensures finder { IsFinder set.now finder.new }
+    ensures finder { IsFinder model.entry.set.now finder.new }
     ensures wides { MatchResult result (λ _. L.wides ledger.new ≡ L.wides ledger.old)
         (CountsStop (L.wides ledger.old) (L.wides ledger.new)) }
     ensures counted { NeverFell L.ops L.wides ledger.old ledger.new }
@@ -93,9 +90,9 @@ pub fn next_round<N: Exact, L: Ledger>(
     };
     let solver = &solved.solver;
     match solved.kind {
-        LpKind::Optimal => best(alloc, forms, set, finder, run, solver, ledger),
-        LpKind::Infeasible => or_stop(without_plan(alloc, forms, finder, run, solver)),
-        LpKind::Unbounded => boundless(alloc, forms, set, finder, run, solver, ledger),
+        LpKind::Optimal => best(alloc, model, finder, run, solver, ledger),
+        LpKind::Infeasible => or_stop(without_plan(alloc, model.forms, finder, run, solver)),
+        LpKind::Unbounded => boundless(alloc, model, finder, run, solver, ledger),
     }
 }
 
@@ -122,30 +119,28 @@ fn solve_master<N: Exact, L: Ledger>(
 /// The master has a best plan: that is cut off, or is the optimum.
 fn best<N: Exact, L: Ledger>(
     alloc: Global,
-    forms: &Forms,
-    set: &SetForm,
+    model: Elaborated,
     finder: &mut Finder<N>,
     run: &Run,
     solver: &Solver<N>,
     ledger: &mut L,
 ) -> Result<Outcome<N>, Stop>
-    requires model { AreOfModel N.limit forms.now set.now }
-    requires few { IsFew (counterpart_of forms.now set.now) }
-    requires finder { IsFinder set.now finder.old }
-    requires run { IsRunSoFar N.limit forms.now set.now run.now }
+    requires model { FitsRoute N.limit model }
+    requires finder { IsFinder model.set.now finder.old }
+    requires run { IsRunSoFar N.limit model.forms.now model.set.now run.now }
     requires few_rows { positions solver.now < 2 ^ 31 }
     requires ended { HasEnded (program_of run.now.master) kinds.Optimal solver.now }
-    ensures outcome { (m : RobustModel) → IsModel m → IsForms m forms.now → IsSetForm m set.now
+    ensures outcome { (m : RobustModel) → IsModel m → IsForms m model.entry.forms.now → IsSetForm m model.entry.set.now
         → MatchResult result (IsOutcome N.value N.limit m run.now.rounds) (IsWideNext N.limit m run.now.rounds) }
-    ensures finder { IsFinder set.now finder.new }
+    ensures finder { IsFinder model.entry.set.now finder.new }
     ensures wides { MatchResult result (λ _. L.wides ledger.new ≡ L.wides ledger.old)
         (CountsStop (L.wides ledger.old) (L.wides ledger.new)) }
     ensures counted { NeverFell L.ops L.wides ledger.old ledger.new }
 {
-    match look_at_plan(alloc, forms, set, finder, solver, ledger) {
+    match look_at_plan(alloc, model, finder, solver, ledger) {
         Ok(PlanLook::Broken(cut)) => or_stop(best_round(alloc, run, solver, cut)),
         Ok(PlanLook::Kept(plan, kept)) => {
-            or_stop(optimum(alloc, forms, finder, run, solver, plan, kept))
+            or_stop(optimum(alloc, model.forms, finder, run, solver, plan, kept))
         }
         Err(stop) => Err(stop),
     }
@@ -154,39 +149,37 @@ fn best<N: Exact, L: Ledger>(
 /// The master has no best plan: its direction is cut off, or its plan is, or the model is unbounded.
 fn boundless<N: Exact, L: Ledger>(
     alloc: Global,
-    forms: &Forms,
-    set: &SetForm,
+    model: Elaborated,
     finder: &mut Finder<N>,
     run: &Run,
     solver: &Solver<N>,
     ledger: &mut L,
 ) -> Result<Outcome<N>, Stop>
-    requires model { AreOfModel N.limit forms.now set.now }
-    requires few { IsFew (counterpart_of forms.now set.now) }
-    requires finder { IsFinder set.now finder.old }
-    requires run { IsRunSoFar N.limit forms.now set.now run.now }
+    requires model { FitsRoute N.limit model }
+    requires finder { IsFinder model.set.now finder.old }
+    requires run { IsRunSoFar N.limit model.forms.now model.set.now run.now }
     requires few_rows { positions solver.now < 2 ^ 31 }
     requires ended { HasEnded (program_of run.now.master) kinds.Unbounded solver.now }
-    ensures outcome { (m : RobustModel) → IsModel m → IsForms m forms.now → IsSetForm m set.now
+    ensures outcome { (m : RobustModel) → IsModel m → IsForms m model.entry.forms.now → IsSetForm m model.entry.set.now
         → MatchResult result (IsOutcome N.value N.limit m run.now.rounds) (IsWideNext N.limit m run.now.rounds) }
-    ensures finder { IsFinder set.now finder.new }
+    ensures finder { IsFinder model.entry.set.now finder.new }
     ensures wides { MatchResult result (λ _. L.wides ledger.new ≡ L.wides ledger.old)
         (CountsStop (L.wides ledger.old) (L.wides ledger.new)) }
     ensures counted { NeverFell L.ops L.wides ledger.old ledger.new }
 {
-    let (step, held) = match look_at_step(alloc, forms, set, finder, solver, ledger) {
+    let (step, held) = match look_at_step(alloc, model, finder, solver, ledger) {
         Ok(StepLook::Broken(cut)) => return or_stop(boundless_round(alloc, run, solver, true, cut)),
         Ok(StepLook::Kept(step, held)) => (step, held),
         Err(stop) => return Err(stop),
     };
-    let (plan, kept) = match look_at_plan(alloc, forms, set, finder, solver, ledger) {
+    let (plan, kept) = match look_at_plan(alloc, model, finder, solver, ledger) {
         Ok(PlanLook::Broken(cut)) => return or_stop(boundless_round(
             alloc, run, solver, false, cut,
         )),
         Ok(PlanLook::Kept(plan, kept)) => (plan, kept),
         Err(stop) => return Err(stop),
     };
-    let step = match whole_step(alloc, step.items(), held.scale, forms.columns) {
+    let step = match whole_step(alloc, step.items(), held.scale, model.forms.columns) {
         Ok(step) => step,
         Err(refusal) => {
             let stop = unclear(alloc, refusal);
@@ -194,7 +187,7 @@ fn boundless<N: Exact, L: Ledger>(
             return Err(stop);
         }
     };
-    match finder.inside(alloc, forms) {
+    match finder.inside(alloc, model.forms) {
         Ok(inside) => Ok(Outcome::End(unbounded(alloc, plan, kept, step, held, inside))),
         Err(Memory) => Err(Stop::Memory),
     }

@@ -20,6 +20,7 @@ use crate::master::{append_cut, without_cuts};
 use crate::round::{Outcome, next_round};
 use crate::run::Run;
 use rob_cert::{Cert, Round, Stop, Trace};
+use rob_dualize::Elaborated;
 use rob_elab::Forms;
 use rob_number::{Exact, Ledger, List, Memory};
 use rob_sets::SetForm;
@@ -65,7 +66,7 @@ pub fn solve_cuts<N: Exact, L: Ledger>(
         Err(Memory) => return Err(Stop::Memory),
     };
     'rounds: loop {
-        match next_round(alloc, forms, set, &mut finder, &run, ledger) {
+        match next_round(alloc, Elaborated { forms, set }, &mut finder, &run, ledger) {
             Ok(Outcome::End(cert)) => return Ok((cert, Trace { rounds: run.rounds })),
             Ok(Outcome::Cut(round)) => {
                 if let Err(stop) = go_on::<N>(alloc, forms, round, &mut run) {

@@ -20,11 +20,10 @@ use crate::cut::{Cut, ray_cut, scenario_cut};
 use crate::items::append_covers;
 use crate::kept::{Kept, is_kept};
 use rob_cert::{Cover, Stop, Worst};
+use rob_dualize::Elaborated;
 use rob_dualize::told::whole;
-use rob_elab::Forms;
 use rob_model::Plan;
 use rob_number::{Exact, Ledger, List, Memory};
-use rob_sets::SetForm;
 use rob_worst::Finder;
 use rob_worst::refusal::count;
 use std::alloc::Global;
@@ -56,29 +55,28 @@ enum Verdict<N> {
 /// Tries the forms in order.
 pub fn scan_forms<N: Exact, L: Ledger>(
     alloc: Global,
-    forms: &Forms,
-    set: &SetForm,
+    model: Elaborated,
     finder: &mut Finder<N>,
     target: Target<N>,
     ledger: &mut L,
 ) -> Result<Scan<N>, Stop>
-    requires model { AreOfModel N.limit forms.now set.now }
-    requires few { IsFewSet set.now }
-    requires few_forms { length forms.now.matrices < 2 ^ 32 }
-    requires finder { IsFinder set.now finder.old }
-    requires target { FitsTarget forms.now.columns target }
-    ensures scanned { (m : RobustModel) → IsModel m → IsForms m forms.now → IsSetForm m set.now
+    requires model { AreOfModel N.limit model.forms.now model.set.now }
+    requires few { IsFewSet model.set.now }
+    requires few_forms { length model.forms.now.matrices < 2 ^ 32 }
+    requires finder { IsFinder model.set.now finder.old }
+    requires target { FitsTarget model.forms.now.columns target }
+    ensures scanned { (m : RobustModel) → IsModel m → IsForms m model.entry.forms.now → IsSetForm m model.entry.set.now
         → MatchResult result (IsScanned N.limit m N.value (vector_of N.value target.entry))
         (IsScanStopped N.limit m (by_step_of target.entry) (vector_of N.value target.entry)) }
-    ensures finder { IsFinder set.now finder.new }
+    ensures finder { IsFinder model.entry.set.now finder.new }
     ensures wides { MatchResult result (λ _. L.wides ledger.new ≡ L.wides ledger.old)
         (CountsStop (L.wides ledger.old) (L.wides ledger.new)) }
     ensures counted { NeverFell L.ops L.wides ledger.old ledger.new }
 {
     let mut scale = whole(1);
     let mut covers = List::new(alloc);
-    for form in 0..forms.matrices.items().len() as u32 {
-        let worst = match search(alloc, forms, set, finder, form, target, ledger) {
+    for form in 0..model.forms.matrices.items().len() as u32 {
+        let worst = match search(alloc, model, finder, form, target, ledger) {
             Ok(worst) => worst,
             Err(stop) => return Err(stop),
         };
@@ -97,28 +95,27 @@ pub fn scan_forms<N: Exact, L: Ledger>(
 /// The worst case of a form.
 fn search<N: Exact, L: Ledger>(
     alloc: Global,
-    forms: &Forms,
-    set: &SetForm,
+    model: Elaborated,
     finder: &mut Finder<N>,
     form: u32,
     target: Target<N>,
     ledger: &mut L,
 ) -> Result<Worst<N>, Stop>
-    requires model { AreElaborated N.limit forms.now set.now }
-    requires few { IsFewSet set.now }
-    requires finder { IsFinder set.now finder.old }
-    requires form_in { form < length forms.now.matrices }
-    requires target { FitsTarget forms.now.columns target }
-    ensures answer { (m : RobustModel) → IsModel m → IsForms m forms.now → IsSetForm m set.now
+    requires model { AreElaborated N.limit model.forms.now model.set.now }
+    requires few { IsFewSet model.set.now }
+    requires finder { IsFinder model.set.now finder.old }
+    requires form_in { form < length model.forms.now.matrices }
+    requires target { FitsTarget model.forms.now.columns target }
+    ensures answer { (m : RobustModel) → IsModel m → IsForms m model.entry.forms.now → IsSetForm m model.entry.set.now
         → Searches N.value N.limit m (by_step_of target.entry) form (vector_of N.value target.entry)
         (L.wides ledger.old) (L.wides ledger.new) result }
     ensures within { IfOk result (HasConstantWithin N.limit) }
-    ensures finder { IsFinder set.now finder.new }
+    ensures finder { IsFinder model.entry.set.now finder.new }
     ensures counted { NeverFell L.ops L.wides ledger.old ledger.new }
 {
     match target {
-        Target::Plan(plan) => finder.at_plan(alloc, forms, set, form, plan, ledger),
-        Target::Step(step) => finder.at_step(alloc, forms, set, form, step, ledger),
+        Target::Plan(plan) => finder.at_plan(alloc, model.forms, model.set, form, plan, ledger),
+        Target::Step(step) => finder.at_step(alloc, model.forms, model.set, form, step, ledger),
     }
 }
 

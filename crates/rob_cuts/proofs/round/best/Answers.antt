@@ -18,18 +18,17 @@ look_at_plan-requires g c =
     let e = c.requires.model.elaborated in
     record {
       model = c.requires.model;
-      few = c.requires.few;
       finder = c.requires.finder;
       point = c.requires.ended.answered.1;
-      columns = columns_are_pairs e.model c.args.forms.now e.are_forms c.args.run.now.rounds c.args.run.now.master c.requires.run.master c.args.solver.now kind.Optimal c.requires.ended;
-      one = best_one e.model c.args.forms.now e.are_forms c.args.run.now.rounds c.args.run.now.master c.requires.run.master c.args.solver.now c.requires.ended;
+      columns = columns_are_pairs e.model c.args.model.forms.now e.are_forms c.args.run.now.rounds c.args.run.now.master c.requires.run.master c.args.solver.now kind.Optimal c.requires.ended;
+      one = best_one e.model c.args.model.forms.now e.are_forms c.args.run.now.rounds c.args.run.now.master c.requires.run.master c.args.solver.now c.requires.ended;
     }
 
 pub best_round-requires : goal.best_round-requires
 best_round-requires g c =
     let e = c.requires.model.elaborated in
     record {
-      rows = rounds_are_rows e.model c.args.forms.now e.are_forms c.args.run.now.rounds c.args.run.now.master c.requires.run.master c.args.solver.now kind.Optimal c.requires.ended;
+      rows = rounds_are_rows e.model c.args.model.forms.now e.are_forms c.args.run.now.rounds c.args.run.now.master c.requires.run.master c.args.solver.now kind.Optimal c.requires.ended;
       few = c.requires.few_rows;
       within =
           (subst (λ (l : PlanLook g.row.N.Denot). IsPlanLook g.N.Exact.limit e.model g.N.Exact.value (point_of c.args.solver.now) l) c.in-Ok-Broken.field-0-is
@@ -40,17 +39,17 @@ pub optimum-requires : goal.optimum-requires
 optimum-requires g c =
     let e = c.requires.model.elaborated in
     record {
-      few = few_forms c.args.forms.now c.args.set.now e c.requires.few;
-      finder = (c.args.set.now, e, set_of_few c.args.forms.now c.args.set.now e c.requires.few, c.look_at_plan.ensures.finder);
+      few = few_forms c.args.model.forms.now c.args.model.set.now e c.requires.model.few;
+      finder = (c.args.model.set.now, e, set_of_few c.args.model.forms.now c.args.model.set.now e c.requires.model.few, c.look_at_plan.ensures.finder);
       optimum = c.requires.ended.answered.0;
-      rows = rounds_are_rows e.model c.args.forms.now e.are_forms c.args.run.now.rounds c.args.run.now.master c.requires.run.master c.args.solver.now kind.Optimal c.requires.ended;
+      rows = rounds_are_rows e.model c.args.model.forms.now e.are_forms c.args.run.now.rounds c.args.run.now.master c.requires.run.master c.args.solver.now kind.Optimal c.requires.ended;
       few_rows = c.requires.few_rows;
       fits = c.requires.run.fits;
     }
 
 pub returns-in-Ok-Broken-clause-outcome : goal.returns-in-Ok-Broken-clause-outcome
 returns-in-Ok-Broken-clause-outcome g c = λ m model f st.
-    best_cut_off g.N.Exact.value g.N.Exact.limit m c.args.forms.now f c.args.run.now.rounds c.args.run.now.master c.requires.run.master c.args.solver.now c.requires.ended c.in-Ok-Broken.cut
+    best_cut_off g.N.Exact.value g.N.Exact.limit m c.args.model.forms.now f c.args.run.now.rounds c.args.run.now.master c.requires.run.master c.args.solver.now c.requires.ended c.in-Ok-Broken.cut
     (subst (λ (l : PlanLook g.row.N.Denot). IsPlanLook g.N.Exact.limit m g.N.Exact.value (point_of c.args.solver.now) l) c.in-Ok-Broken.field-0-is
     (c.in-Ok-Broken.ensures.look m model f st))
     c.best_round.result c.best_round.ensures.round c.or_stop.result c.or_stop.ensures.answer
@@ -62,10 +61,10 @@ returns-in-Ok-Broken-clause-wides g c =
 pub returns-in-Ok-Kept-clause-outcome : goal.returns-in-Ok-Kept-clause-outcome
 returns-in-Ok-Kept-clause-outcome g c = λ m model f st.
     let e = c.requires.model.elaborated in
-    let rows = rounds_are_rows e.model c.args.forms.now e.are_forms c.args.run.now.rounds c.args.run.now.master c.requires.run.master c.args.solver.now kind.Optimal c.requires.ended in
+    let rows = rounds_are_rows e.model c.args.model.forms.now e.are_forms c.args.run.now.rounds c.args.run.now.master c.requires.run.master c.args.solver.now kind.Optimal c.requires.ended in
     let few : length c.args.run.now.rounds < 2 ^ 32 = omega (arith, rows, c.requires.few_rows) in
-    optimum_out g.N.Exact.value g.N.Exact.limit m c.args.forms.now f c.args.run.now.rounds c.args.run.now.master c.requires.run.master c.args.solver.now
-    model (c.requires.run.tells m model f st) few c.args.set.now st c.look_at_plan.new.finder c.look_at_plan.ensures.finder c.requires.ended c.in-Ok-Kept.plan c.in-Ok-Kept.kept
+    optimum_out g.N.Exact.value g.N.Exact.limit m c.args.model.forms.now f c.args.run.now.rounds c.args.run.now.master c.requires.run.master c.args.solver.now
+    model (c.requires.run.tells m model f st) few c.args.model.set.now st c.look_at_plan.new.finder c.look_at_plan.ensures.finder c.requires.ended c.in-Ok-Kept.plan c.in-Ok-Kept.kept
     (subst (λ (l : PlanLook g.row.N.Denot). IsPlanLook g.N.Exact.limit m g.N.Exact.value (point_of c.args.solver.now) l) c.in-Ok-Kept.field-0-is
     (c.in-Ok-Kept.ensures.look m model f st))
     c.optimum.result c.optimum.ensures.end c.or_stop-in-Ok-Kept.result c.or_stop-in-Ok-Kept.ensures.answer
@@ -77,5 +76,5 @@ returns-in-Ok-Kept-clause-wides g c =
 pub returns-in-Err-clause-outcome : goal.returns-in-Err-clause-outcome
 returns-in-Err-clause-outcome g c = λ m model f st.
     scan_stopped g.N.Exact.limit m (cuts_told c.args.run.now.rounds) false (plan_at m (point_of c.args.solver.now))
-    (best_looks m c.args.forms.now f c.args.run.now.rounds c.args.run.now.master c.requires.run.master c.args.solver.now c.requires.ended)
+    (best_looks m c.args.model.forms.now f c.args.run.now.rounds c.args.run.now.master c.requires.run.master c.args.solver.now c.requires.ended)
     c.in-Err.stop (c.in-Err.ensures.look m model f st)

@@ -22,14 +22,13 @@ use Rattle.rob_cuts.proofs.round.next_round.Goals as goal
 
 pub solve_master-requires : goal.solve_master-requires
 solve_master-requires g c = record {
-  shaped = master_shaped c.args.forms.now (cuts_told c.args.run.now.rounds) c.args.run.now.master c.requires.run.master;
+  shaped = master_shaped c.args.model.forms.now (cuts_told c.args.run.now.rounds) c.args.run.now.master c.requires.run.master;
   within = c.requires.run.within;
 }
 
 pub best-requires : goal.best-requires
 best-requires g c = record {
   model = c.requires.model;
-  few = c.requires.few;
   finder = c.requires.finder;
   run = c.requires.run;
   few_rows = c.in-Ok.ensures.few;
@@ -39,7 +38,6 @@ best-requires g c = record {
 pub boundless-requires : goal.boundless-requires
 boundless-requires g c = record {
   model = c.requires.model;
-  few = c.requires.few;
   finder = c.requires.finder;
   run = c.requires.run;
   few_rows = c.in-Ok.ensures.few;
@@ -52,10 +50,10 @@ without_plan-requires g c =
     let ended : HasEnded (program_of c.args.run.now.master) kind.Infeasible c.in-Ok.solved.solver =
     ended_so g.row.N.Denot c.args.run.now.master c.in-Ok.solved.solver c.in-Ok.solved.kind kind.Infeasible c.in-Ok.ensures.solved c.in-Infeasible.is in
     record {
-      few = few_forms c.args.forms.now c.args.set.now e c.requires.few;
-      finder = (c.args.set.now, e, set_of_few c.args.forms.now c.args.set.now e c.requires.few, c.requires.finder);
+      few = few_forms c.args.model.forms.now c.args.model.set.now e c.requires.model.few;
+      finder = (c.args.model.set.now, e, set_of_few c.args.model.forms.now c.args.model.set.now e c.requires.model.few, c.requires.finder);
       weights = ended.answered;
-      rows = rounds_are_rows e.model c.args.forms.now e.are_forms c.args.run.now.rounds c.args.run.now.master c.requires.run.master c.in-Ok.solved.solver kind.Infeasible ended;
+      rows = rounds_are_rows e.model c.args.model.forms.now e.are_forms c.args.run.now.rounds c.args.run.now.master c.requires.run.master c.in-Ok.solved.solver kind.Infeasible ended;
       few_rows = c.in-Ok.ensures.few;
       fits = c.requires.run.fits;
     }
@@ -74,10 +72,10 @@ pub returns-in-Infeasible-clause-outcome : goal.returns-in-Infeasible-clause-out
 returns-in-Infeasible-clause-outcome g c = λ m model f st.
     let ended : HasEnded (program_of c.args.run.now.master) kind.Infeasible c.in-Ok.solved.solver =
     ended_so g.row.N.Denot c.args.run.now.master c.in-Ok.solved.solver c.in-Ok.solved.kind kind.Infeasible c.in-Ok.ensures.solved c.in-Infeasible.is in
-    let rows = rounds_are_rows m c.args.forms.now f c.args.run.now.rounds c.args.run.now.master c.requires.run.master c.in-Ok.solved.solver kind.Infeasible ended in
+    let rows = rounds_are_rows m c.args.model.forms.now f c.args.run.now.rounds c.args.run.now.master c.requires.run.master c.in-Ok.solved.solver kind.Infeasible ended in
     let few : length c.args.run.now.rounds < 2 ^ 32 = omega (arith, rows, c.in-Ok.ensures.few) in
-    infeasible_out g.N.Exact.value g.N.Exact.limit m c.args.forms.now f c.args.run.now.rounds c.args.run.now.master c.requires.run.master c.in-Ok.solved.solver
-    model (c.requires.run.tells m model f st) few c.args.set.now st c.args.finder.now c.requires.finder ended
+    infeasible_out g.N.Exact.value g.N.Exact.limit m c.args.model.forms.now f c.args.run.now.rounds c.args.run.now.master c.requires.run.master c.in-Ok.solved.solver
+    model (c.requires.run.tells m model f st) few c.args.model.set.now st c.args.finder.now c.requires.finder ended
     c.without_plan.result c.without_plan.ensures.end c.or_stop.result c.or_stop.ensures.answer
 
 pub returns-in-Infeasible-clause-wides : goal.returns-in-Infeasible-clause-wides
@@ -89,7 +87,7 @@ overflow_cast-rows g c =
     let e = c.requires.model.elaborated in
     let h = subst (IsStopped g.N.Exact.limit (program_of c.args.run.now.master)) c.in-Err-Wide.field-0-is c.in-Err-Wide.ensures.stopped in
     let few : positions c.in-Err-Wide.solver < 2 ^ 31 = subst HasFewRows c.in-Err-Wide.field-0-is c.in-Err-Wide.ensures.few in
-    let rows = rounds_made e.model c.args.forms.now e.are_forms c.args.run.now.rounds c.args.run.now.master c.requires.run.master c.in-Err-Wide.solver h.0 in
+    let rows = rounds_made e.model c.args.model.forms.now e.are_forms c.args.run.now.rounds c.args.run.now.master c.requires.run.master c.in-Err-Wide.solver h.0 in
     omega (arith, ap length c.items.ensures.list, rows)
 
 pub wide-requires : goal.wide-requires
@@ -97,7 +95,7 @@ wide-requires g c =
     let e = c.requires.model.elaborated in
     let h = subst (IsStopped g.N.Exact.limit (program_of c.args.run.now.master)) c.in-Err-Wide.field-0-is c.in-Err-Wide.ensures.stopped in
     record {
-      positions = ap length c.items.ensures.list ∙ rounds_made e.model c.args.forms.now e.are_forms c.args.run.now.rounds c.args.run.now.master c.requires.run.master c.in-Err-Wide.solver h.0;
+      positions = ap length c.items.ensures.list ∙ rounds_made e.model c.args.model.forms.now e.are_forms c.args.run.now.rounds c.args.run.now.master c.requires.run.master c.in-Err-Wide.solver h.0;
     }
 
 pub returns-in-Err-Wide-clause-outcome : goal.returns-in-Err-Wide-clause-outcome
@@ -107,9 +105,9 @@ returns-in-Err-Wide-clause-outcome g c = λ m model f st.
     let limit = g.N.Exact.limit in
     let wide = subst (IsStopped limit (program_of run.master)) c.in-Err-Wide.field-0-is c.in-Err-Wide.ensures.stopped in
     let caused = subst (IsCausedDeep limit (program_of run.master)) c.in-Err-Wide.field-0-is c.in-Err-Wide.ensures.caused in
-    let refused = refused_master m c.args.forms.now f run.rounds run.master c.requires.run.master s limit
+    let refused = refused_master m c.args.model.forms.now f run.rounds run.master c.requires.run.master s limit
     c.in-Err-Wide.stop wide.0 wide.1 caused in
-    master_stops m c.args.forms.now f run.rounds run.master c.requires.run.master s limit c.position.result
+    master_stops m c.args.model.forms.now f run.rounds run.master c.requires.run.master s limit c.position.result
     (subst (IsRefusedAt limit (master_over m (cuts_told run.rounds)) s.basis) (sym c.position.ensures.position) refused)
     c.wide.result c.wide.ensures.stop
 

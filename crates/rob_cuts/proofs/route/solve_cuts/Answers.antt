@@ -40,7 +40,11 @@ rounds-init g c = record {
 }
 
 pub next_round-requires : goal.next_round-requires
-next_round-requires g c = record { model = c.requires.model; few = c.requires.few; finder = c.rounds.invariant.finder; run = c.rounds.invariant.state }
+next_round-requires g c = record {
+  model = record { of_model = c.requires.model; few = c.requires.few };
+  finder = c.rounds.invariant.finder;
+  run = c.rounds.invariant.state;
+}
 
 pub go_on-requires : goal.go_on-requires
 go_on-requires g c =

@@ -29,7 +29,7 @@ pub returns-in-Err-clause-scanned : goal.returns-in-Err-clause-scanned
 returns-in-Err-clause-scanned g c = λ m model f st.
     let some : c.loop-form.form < length (matrices m) = omega (arith, c.loop-form-test.true, ap length c.items.ensures.list, ap length f.matrices) in
     search_stops m model g.N.Exact.value (vector_of g.N.Exact.value c.args.target)
-    (target_count g.N.Exact.value c.args.target c.args.forms.now.columns c.requires.target ∙ ap (λ n. suc (suc n)) f.columns) c.loop-form.form some
+    (target_count g.N.Exact.value c.args.target c.args.model.forms.now.columns c.requires.target ∙ ap (λ n. suc (suc n)) f.columns) c.loop-form.form some
     c.loop-form.scale c.loop-form.covers (c.loop-form.invariant.kept m model f st) g.N.Exact.limit (by_step_of c.args.target) c.in-Err.stop
     (c.in-Err.ensures.answer m model f st).stopped
 
@@ -44,9 +44,9 @@ judge-requires g c =
     let e = c.requires.model.elaborated in
     let some : c.loop-form.form < length (matrices e.model) = omega (arith, c.loop-form-test.true, ap length c.items.ensures.list, ap length e.are_forms.matrices) in
     record {
-      amounts = tells_few g.N.Exact.value e.model c.requires.model.is_model c.args.set.now e.is_set c.requires.few c.loop-form.form some
+      amounts = tells_few g.N.Exact.value e.model c.requires.model.is_model c.args.model.set.now e.is_set c.requires.few c.loop-form.form some
           (vector_of g.N.Exact.value c.args.target)
-          (target_count g.N.Exact.value c.args.target c.args.forms.now.columns c.requires.target ∙ ap (λ n. suc (suc n)) e.are_forms.columns)
+          (target_count g.N.Exact.value c.args.target c.args.model.forms.now.columns c.requires.target ∙ ap (λ n. suc (suc n)) e.are_forms.columns)
           c.in-Ok.worst (c.in-Ok.ensures.answer e.model c.requires.model.is_model e.are_forms e.is_set).found;
       constant = c.in-Ok.ensures.within;
     }
@@ -58,7 +58,7 @@ loop-form-preserved g c =
       finder = c.search.ensures.finder;
       kept = λ m model f st.
           let some : c.loop-form.form < length (matrices m) = omega (arith, c.loop-form-test.true, ap length c.items.ensures.list, ap length f.matrices) in
-          let size = target_count g.N.Exact.value c.args.target c.args.forms.now.columns c.requires.target ∙ ap (λ n. suc (suc n)) f.columns in
+          let size = target_count g.N.Exact.value c.args.target c.args.model.forms.now.columns c.requires.target ∙ ap (λ n. suc (suc n)) f.columns in
           judged_more m model g.N.Exact.value (vector_of g.N.Exact.value c.args.target) size c.loop-form.form some
           c.loop-form.scale c.loop-form.covers (c.loop-form.invariant.kept m model f st) g.N.Exact.limit c.in-Ok-Kept.common c.judge.new.covers
           (subst (λ (v : Verdict g.row.N.Denot). IsJudged g.N.Exact.limit m g.N.Exact.value c.loop-form.form (vector_of g.N.Exact.value c.args.target) c.loop-form.covers c.judge.new.covers v)
@@ -74,7 +74,7 @@ loop-form-preserved g c =
 pub returns-in-Ok-Broken-clause-scanned : goal.returns-in-Ok-Broken-clause-scanned
 returns-in-Ok-Broken-clause-scanned g c = λ m model f st.
     let some : c.loop-form.form < length (matrices m) = omega (arith, c.loop-form-test.true, ap length c.items.ensures.list, ap length f.matrices) in
-    let size = target_count g.N.Exact.value c.args.target c.args.forms.now.columns c.requires.target ∙ ap (λ n. suc (suc n)) f.columns in
+    let size = target_count g.N.Exact.value c.args.target c.args.model.forms.now.columns c.requires.target ∙ ap (λ n. suc (suc n)) f.columns in
     broken_first m model g.N.Exact.value (vector_of g.N.Exact.value c.args.target) size c.loop-form.form some
     c.loop-form.scale c.loop-form.covers (c.loop-form.invariant.kept m model f st) g.N.Exact.limit c.judge.new.covers c.in-Ok-Broken.cut
     (subst (λ (v : Verdict g.row.N.Denot). IsJudged g.N.Exact.limit m g.N.Exact.value c.loop-form.form (vector_of g.N.Exact.value c.args.target) c.loop-form.covers c.judge.new.covers v)
@@ -89,7 +89,7 @@ returns-in-Ok-Broken-clause-wides g c =
 pub returns-in-Err-judge-clause-scanned : goal.returns-in-Err-judge-clause-scanned
 returns-in-Err-judge-clause-scanned g c = λ m model f st.
     let some : c.loop-form.form < length (matrices m) = omega (arith, c.loop-form-test.true, ap length c.items.ensures.list, ap length f.matrices) in
-    let size = target_count g.N.Exact.value c.args.target c.args.forms.now.columns c.requires.target ∙ ap (λ n. suc (suc n)) f.columns in
+    let size = target_count g.N.Exact.value c.args.target c.args.model.forms.now.columns c.requires.target ∙ ap (λ n. suc (suc n)) f.columns in
     cut_stops m model g.N.Exact.value (vector_of g.N.Exact.value c.args.target) size c.loop-form.form some
     c.loop-form.scale c.loop-form.covers (c.loop-form.invariant.kept m model f st) g.N.Exact.limit (by_step_of c.args.target) c.in-Err-judge.stop
     (c.in-Err-judge.ensures.judged m model some (vector_of g.N.Exact.value c.args.target) size (c.in-Ok.ensures.answer m model f st).found)

@@ -5,10 +5,10 @@ use Rattle.rob_worst.specs.Finding.{Searches}
 use Rattle.rob_cuts.proofs.scan.search.Goals as goal
 
 pub at_plan-requires-clause-size : goal.at_plan-requires-clause-size
-at_plan-requires-clause-size g c = subst (FitsTarget c.args.forms.now.columns) c.in-Plan.is c.requires.target
+at_plan-requires-clause-size g c = subst (FitsTarget c.args.model.forms.now.columns) c.in-Plan.is c.requires.target
 
 pub at_step-requires-clause-size : goal.at_step-requires-clause-size
-at_step-requires-clause-size g c = subst (FitsTarget c.args.forms.now.columns) c.in-Step.is c.requires.target
+at_step-requires-clause-size g c = subst (FitsTarget c.args.model.forms.now.columns) c.in-Step.is c.requires.target
 
 pub returns-in-Plan-clause-answer : goal.returns-in-Plan-clause-answer
 returns-in-Plan-clause-answer g c = λ m model f st.
