@@ -143,7 +143,7 @@ module _ (limit : ℕ) (P Q : Program) (same : AreSame P Q) (s : Solver) (i : �
       }
 
 -- ---- a refusal
-pub stopped_row : (limit : ℕ) (P : Program) (stop : LpStop) (s : Solver) → HasStopped limit P stop s
+stopped_row : (limit : ℕ) (P : Program) (stop : LpStop) (s : Solver) → HasStopped limit P stop s
     → HasWideRow limit P (columns_of s.basis) (position_of stop)
 stopped_row limit P (At i) s h = h.1
 

@@ -45,7 +45,8 @@ use Rattle.rob_counterpart.proofs.ScenarioLemmas.{set_weights, basis_admitted}
 use Rattle.rob_counterpart.proofs.TabulateLemmas.{tabulate-same}
 use Rattle.rob_dualize.specs.Ending.{HasEnded, HasLastPoint, IsWideStop, StopsAt}
 use Rattle.rob_dualize.specs.Refusals.{IsRefusedAt}
-use Rattle.rob_dualize.specs.Solving.{IsLastScenario, IsSolution, IsShownEmpty, IsWideOnPath, HasCause, CountsStop, Finds, IsNarrowModel, IsNotWide, Solves}
+use Rattle.rob_dualize.specs.SetSolving.{Finds, HasSetCause}
+use Rattle.rob_dualize.specs.Solving.{IsLastScenario, IsSolution, IsShownEmpty, IsWideOnPath, HasCause, CountsStop, IsNarrowModel, IsNotWide, Solves}
 use Rattle.rob_dualize.proofs.EndingLemmas.{infeasible_end}
 use Rattle.rob_dualize.proofs.TabulateLemmas.{map-tabulate}
 
@@ -182,5 +183,5 @@ module _ (m : RobustModel) (model : IsModel m) (s : Solver) where
 
 -- ---- what is found of scenarios
 module _ {N : Type 0} (value : N → Fraction) (limit : ℕ) (m : RobustModel) where
-  pub not_found : (before now : ℕ) (stop : Stop) → HasCause limit m stop → CountsStop before now stop → Finds value limit m before now (Err stop)
+  pub not_found : (before now : ℕ) (stop : Stop) → HasSetCause limit m stop → CountsStop before now stop → Finds value limit m before now (Err stop)
   not_found before now stop h k = record { found = tt; stopped = h; counted = k }

@@ -10,7 +10,7 @@ use Rattle.rob_simplex.specs.Dictionaries.{Table, columns_of}
 use Rattle.rob_simplex.specs.PathEnds.{AreWeights, EndsWide}
 use Rattle.rob_solver.specs.Depths.{deep_limit}
 
--- the list is the whole basis, a column for each row of the program; it is on the path, and the row of that position is
+-- the list is the whole basis, a column for each row of the program; it is on the path, and a row of that position is
 -- wide there
 pub record TellsWideRow (limit : ℕ) (P : Program) (basis : List ℕ) (i : ℕ) : Type 0 where
   pub whole : length basis ≡ P.m
@@ -36,8 +36,9 @@ pub record TellsWideWeight (limit : ℕ) (P : Program) (basis : List ℕ) (p : �
   pub inside : row < P.m
   pub wide : limit < nat_abs (at weights row)
 
--- why a program is refused for the row of that position: an entry is over the limit of deep rows, 2^126 - 1, at that
--- basis on the program's path; or the row tells such a number; or such a weight
+-- why a program is refused for the row of that position: an entry of a row of that position, as `HasWideRow` has rows,
+-- is over the limit of deep rows, 2^126 - 1, at that basis on the program's path; or the row tells such a number; or
+-- such a weight
 abbrev pub IsRefusedRow : ℕ → Program → List ℕ → ℕ → Type 0
 IsRefusedRow limit P basis p =
     TellsWideRow deep_limit P basis p ⊎ (TellsWideNumber limit P basis p ⊎ TellsWideWeight limit P basis p)

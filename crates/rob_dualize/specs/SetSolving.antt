@@ -1,13 +1,17 @@
 -- The program of an uncertainty set, solved: a solver that stands at its last basis, which has a scenario; or why there
 -- is none.
-use Rattle.std.specs.Prelude.{◌≡◌, ℕ, ◌+◌, ◌^◌, ◌<◌, [], length, ⊤}
+use Rattle.std.specs.Prelude.{◌≡◌, ℕ, ◌+◌, ◌^◌, ◌<◌, [], length, Result, MatchResult, IfOk, IfErr, ⊤}
+use Rattle.rob_algebra.specs.Fraction.{Fraction}
 use Rattle.rob_linear.specs.Programs.{Program}
 use Rattle.rob_meaning.specs.RobustModel.{RobustModel}
+use Rattle.rob_meaning.specs.UncertaintySet.{Admits}
 use Rattle.rob_counterpart.specs.Counterpart.{set_program}
 use Rattle.rob_counterpart.specs.SetPrograms.{set_of}
 use Rattle.rob_model.specs.declared.place.Spot.{Spot}
 use Rattle.rob_model.specs.declared.place.Spot.TheVariants as spot
 use Rattle.rob_model.specs.declared.place.Program.TheVariants as program
+use Rattle.rob_model.specs.declared.plan.Scenario.{Scenario}
+use Rattle.rob_model.specs.View.{scenario_of}
 use Rattle.rob_sets.specs.SetForm.{IsSetForm, SetFits}
 use Rattle.rob_sets.specs.SetProgram.{robust_set}
 use Rattle.rob_sets.specs.declared.set_form.SetForm.{SetForm}
@@ -17,7 +21,7 @@ use Rattle.rob_cert.specs.declared.ending.Stop.{Stop}
 use Rattle.rob_cert.specs.declared.ending.Stop.TheVariants.{EmptySet, Wide, Memory}
 use Rattle.rob_dualize.specs.Ending.{HasLastPoint}
 use Rattle.rob_dualize.specs.Refusals.{IsRefusedAt}
-use Rattle.rob_dualize.specs.Solving.{TellsEmpty}
+use Rattle.rob_dualize.specs.Solving.{CountsStop, IsLastScenario, TellsEmpty}
 
 -- the program of the set
 abbrev pub program_of_set : SetForm → Program
@@ -51,3 +55,10 @@ abbrev pub HasSetCause : ℕ → RobustModel → Stop → Type 0
 HasSetCause limit m (EmptySet weights) = TellsEmpty limit m weights
 HasSetCause limit m (Wide place trace) = IsWideInSet limit m place × (trace.rounds ≡ [])
 HasSetCause limit m Memory = ⊤
+
+-- an admitted scenario at the last basis of the set's program, or a stop with its cause; and what was counted
+pub record Finds {N : Type 0} (value : N → Fraction) (limit : ℕ) (m : RobustModel) (before now : ℕ)
+    (result : Result (Scenario N) Stop) : Type 0 where
+  pub found : IfOk result (λ s. Admits m (scenario_of value s) × IsLastScenario m (scenario_of value s))
+  pub stopped : IfErr result (HasSetCause limit m)
+  pub counted : MatchResult result (λ _. now ≡ before) (CountsStop before now)

@@ -22,8 +22,6 @@ use Rattle.rob_counterpart.specs.ReadCertificates.{scenario_read, weights_read, 
 use Rattle.rob_model.specs.declared.place.Spot.{Spot}
 use Rattle.rob_model.specs.declared.place.Spot.TheVariants as spot
 use Rattle.rob_model.specs.declared.place.Program.TheVariants as program
-use Rattle.rob_model.specs.declared.plan.Scenario.{Scenario}
-use Rattle.rob_model.specs.View.{scenario_of}
 use Rattle.rob_number.specs.Counts.{raised}
 use Rattle.rob_cert.specs.Shape.{HasShape}
 use Rattle.rob_cert.specs.View.{certificate_of}
@@ -108,13 +106,6 @@ abbrev pub CountsStop : ℕ → ℕ → Stop → Type 0
 CountsStop before now (EmptySet weights) = now ≡ before
 CountsStop before now (Wide place trace) = now ≡ raised before
 CountsStop before now Memory = before ≤ now
-
--- an admitted scenario at the last basis of the set's program, or a stop with its cause; and what was counted
-pub record Finds {N : Type 0} (value : N → Fraction) (limit : ℕ) (m : RobustModel) (before now : ℕ)
-    (result : Result (Scenario N) Stop) : Type 0 where
-  pub found : IfOk result (λ s. Admits m (scenario_of value s) × IsLastScenario m (scenario_of value s))
-  pub stopped : IfErr result (HasCause limit m)
-  pub counted : MatchResult result (λ _. now ≡ before) (CountsStop before now)
 
 -- the rows of neither program can be wide
 pub record IsNarrowModel (limit : ℕ) (m : RobustModel) : Type 0 where

@@ -5,7 +5,7 @@ ghost use Rattle.rob_meaning.specs.WellFormed.{IsModel};
 ghost use Rattle.rob_number.specs.Counts.{NeverFell};
 ghost use Rattle.rob_sets.specs.SetForm.{IsSetForm};
 ghost use Rattle.rob_elab.specs.Forms.{IsForms};
-ghost use Rattle.rob_dualize.specs.Solving.{Finds};
+ghost use Rattle.rob_dualize.specs.SetSolving.{Finds};
 ghost use Rattle.rob_dualize.specs.Wholes.{FitsSolver};
 
 use crate::elaborated::Elaborated;

@@ -49,8 +49,8 @@ pub record TellsWideOwnRow (limit : ℕ) (P : Program) (basis : List ℕ) (p : �
   pub wide : IsOwnWideAt limit P (columns_of basis) p
 
 -- why a search is refused for the row of that position. It goes on from the last basis of the set's program, so has no
--- first phase: an entry of its own row is over the limit of deep rows, 2^126 - 1, at that basis on the path of the
--- search's program; or the row tells a number over the limit
+-- first phase: an entry of its own row, or of a stage of the objective's, is over the limit of deep rows, 2^126 - 1, at
+-- that basis on the path of the search's program; or the row is the first that tells a number over the limit
 abbrev pub IsRefusedSearch : ℕ → Program → List ℕ → ℕ → Type 0
 IsRefusedSearch limit P basis p = TellsWideOwnRow deep_limit P basis p ⊎ TellsWideNumber limit P basis p
 

@@ -46,8 +46,8 @@ pub struct Finder<N: Exact> {
 
 impl<N: Exact> Finder<N> {
     /// Solves the set's program. `EmptySet` comes only where no scenario is admitted, with the weights of the set rows
-    /// that show it; `Wide` only where a row of a basis on the program's path has a number over the limit; `Memory`
-    /// where memory is refused.
+    /// that show it; `Wide` only where a row of a basis on the program's path has a number over the limit, for which
+    /// the program is refused; `Memory` where memory is refused.
     pub fn new<L: Ledger>(alloc: Global, set: &SetForm, ledger: &mut L) -> Result<Finder<N>, Stop>
         requires model { IsSetOfModel N.limit set.now }
         requires few { IsFewSet set.now }
@@ -70,9 +70,9 @@ impl<N: Exact> Finder<N> {
 
     /// The worst scenario of a form at a plan with its bound. `Wide` comes only where a number on the way is over the
     /// limit: the plan's least common denominator or a number of the plan times it, a prefix of a sum that makes the
-    /// search's costs, or a number of a row on the search's path. `form` counts from 0, and the plan has a number for
-    /// each decision column; `forms` and `set` are those of one model, the set that of `new`. `Memory` comes where
-    /// memory is refused, `EmptySet` never; after each answer the finder can search again.
+    /// search's costs, or a number of a row on the search's path for which the search is refused. `form` counts from 0,
+    /// and the plan has a number for each decision column; `forms` and `set` are those of one model, the set that of
+    /// `new`. `Memory` comes where memory is refused, `EmptySet` never; after each answer the finder can search again.
     pub fn at_plan<L: Ledger>(
         &mut self,
         alloc: Global,

@@ -12,6 +12,7 @@ use Rattle.rob_dualize.specs.Refusals.{IsRefusedAt}
 use Rattle.rob_dualize.specs.Wholes.{counterpart_of}
 use Rattle.rob_dualize.proofs.EndingLemmas.{solution}
 use Rattle.rob_dualize.proofs.MakingLemmas.{has_ended, counterpart_ended, counterpart_few, counterpart_refused, read_same}
+use Rattle.rob_dualize.proofs.SetLemmas.{set_cause}
 use Rattle.rob_dualize.proofs.SolvingLemmas.{stopped_with, answered, wide_in_counterpart, wide_counted}
 use Rattle.rob_dualize.proofs.route.solve_dual.Goals as goal
 
@@ -24,7 +25,8 @@ solve_counterpart-requires g c = record { model = record { elaborated = c.requir
 pub returns-in-Err-clause-solves : goal.returns-in-Err-clause-solves
 returns-in-Err-clause-solves g c = λ m model f st.
     stopped_with g.N.Exact.value g.N.Exact.limit m (g.L.Ledger.wides c.args.ledger.now) (g.L.Ledger.wides c.scenario.new.ledger) c.in-Err.stop
-    (c.in-Err.ensures.found m model f st).stopped (c.in-Err.ensures.found m model f st).counted
+    (set_cause g.N.Exact.limit m c.in-Err.stop (c.in-Err.ensures.found m model f st).stopped)
+    (c.in-Err.ensures.found m model f st).counted
 
 pub returns-in-Ok-solve_counterpart-clause-solves : goal.returns-in-Ok-solve_counterpart-clause-solves
 returns-in-Ok-solve_counterpart-clause-solves g c = λ m model f st.

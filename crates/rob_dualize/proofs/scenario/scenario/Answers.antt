@@ -5,7 +5,7 @@ use Rattle.rob_counterpart.specs.ReadCertificates.{scenario_read}
 use Rattle.rob_counterpart.specs.ReadNumbers.{differences}
 use Rattle.rob_dualize.specs.Solving.{IsLastScenario}
 use Rattle.rob_dualize.proofs.MakingLemmas.{parameters_low, set_of_few, set_of_one}
-use Rattle.rob_dualize.proofs.SetLemmas.{set_cause, solved_pairs, solved_scenario}
+use Rattle.rob_dualize.proofs.SetLemmas.{solved_pairs, solved_scenario}
 use Rattle.rob_dualize.proofs.SolvingLemmas.{not_found}
 use Rattle.rob_dualize.proofs.scenario.scenario.Goals as goal
 
@@ -18,7 +18,7 @@ solved_set-requires g c = record {
 pub returns-in-Err-clause-found : goal.returns-in-Err-clause-found
 returns-in-Err-clause-found g c = λ m model f st.
     not_found g.N.Exact.value g.N.Exact.limit m (g.L.Ledger.wides c.args.ledger.now) (g.L.Ledger.wides c.solved_set.new.ledger) c.in-Err.stop
-    (set_cause g.N.Exact.limit m c.in-Err.stop (c.in-Err.ensures.stopped m model st)) c.in-Err.ensures.wides
+    (c.in-Err.ensures.stopped m model st) c.in-Err.ensures.wides
 
 pub parameters-requires-clause-pairs : goal.parameters-requires-clause-pairs
 parameters-requires-clause-pairs g c = λ k l.
