@@ -23,7 +23,8 @@ use Rattle.rob_runs.proofs.RunCertificates.{length-plan}
 use Rattle.rob_runs.proofs.ShapeLemmas.{covers_in, covers_in_order, items_in, items_in_order, items_count}
 use Rattle.rob_algebra.specs.Lists.{length-scale}
 use Rattle.rob_algebra.specs.FractionLaws.{ℚ_ring}
-use Rattle.rob_cuts.specs.Certificates.{CoveredPlan, optimal_with, infeasible_with, unbounded_with, items_told}
+use Rattle.rob_dualize.specs.Ending.{infeasible_with}
+use Rattle.rob_cuts.specs.Certificates.{CoveredPlan, optimal_with, unbounded_with, items_told}
 use Rattle.rob_cuts.specs.Rounds.{cuts_told, TellsRun}
 use Rattle.rob_cuts.specs.Outcomes.{IsEnd}
 use Rattle.rob_cuts.proofs.RunLemmas.{are_cuts_told, items_are, length-cuts}

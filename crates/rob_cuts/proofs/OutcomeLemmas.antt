@@ -28,7 +28,7 @@ use Rattle.rob_sets.specs.Stops.{StopsFor}
 use Rattle.rob_sets.specs.declared.error.Stop.{Stop as Refusal}
 use Rattle.rob_simplex.specs.Solvers.{Solver, column_of}
 use Rattle.rob_simplex.specs.Solutions.{point_of, dual_of, ray_of, weights_of}
-use Rattle.rob_dualize.specs.Ending.{HasEnded}
+use Rattle.rob_dualize.specs.Ending.{HasEnded, infeasible_with}
 use Rattle.rob_dualize.specs.Solving.{IsLastScenario}
 use Rattle.rob_runs.specs.Readings.{AreKept, covers_of_amounts, cleared_by}
 use Rattle.rob_runs.specs.Runs.{plan_at, direction_at, best, boundless}
@@ -40,7 +40,7 @@ use Rattle.rob_cuts.specs.declared.look.PlanLook.TheVariants as of_plan
 use Rattle.rob_cuts.specs.declared.look.StepLook.TheVariants as of_step
 use Rattle.rob_cuts.specs.declared.round.Outcome.{Outcome}
 use Rattle.rob_cuts.specs.declared.round.Outcome.TheVariants as outcome
-use Rattle.rob_cuts.specs.Certificates.{optimal_with, infeasible_with, unbounded_with, items_told}
+use Rattle.rob_cuts.specs.Certificates.{optimal_with, unbounded_with, items_told}
 use Rattle.rob_cuts.specs.Covered.{covered_plan}
 use Rattle.rob_cuts.specs.Looks.{IsPlanLook, IsStepLook}
 use Rattle.rob_cuts.specs.Made.{cut_made}

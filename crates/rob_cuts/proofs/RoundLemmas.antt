@@ -22,7 +22,7 @@ use Rattle.rob_simplex.specs.Solvers.{Solver, column_of, positions}
 use Rattle.rob_simplex.specs.Solutions.{point_of, dual_of, ray_of, weights_of}
 use Rattle.rob_counterpart.specs.ReadCertificates.{plan_read, bound_read, weight_of}
 use Rattle.rob_counterpart.specs.Splitting.{plus, minus, OneIsZero}
-use Rattle.rob_dualize.specs.Ending.{HasEnded, StopsAt, position_of}
+use Rattle.rob_dualize.specs.Ending.{HasEnded, StopsAt, position_of, infeasible_with}
 use Rattle.rob_dualize.specs.Refusals.{IsRefusedAt}
 use Rattle.rob_model.specs.declared.place.Program.TheVariants.{Master}
 use Rattle.rob_simplex.specs.Endings.{HasSolved, HasAnswered, HasStopped}
@@ -39,7 +39,7 @@ use Rattle.rob_runs.specs.Runs.{plan_at, direction_at, best, boundless, KeepsFor
 use Rattle.rob_runs.specs.Spots.{LooksAt}
 use Rattle.rob_runs.proofs.FoundLemmas.{found_keeps}
 use Rattle.rob_runs.proofs.RunCertificates.{length-direction_at}
-use Rattle.rob_cuts.specs.Certificates.{CoveredPlan, optimal_with, infeasible_with, unbounded_with, items_told}
+use Rattle.rob_cuts.specs.Certificates.{CoveredPlan, optimal_with, unbounded_with, items_told}
 use Rattle.rob_cuts.specs.Master.{IsMasterList}
 use Rattle.rob_cuts.specs.Rounds.{round_told, cut_of, cuts_told, CutFits, TellsRun}
 use Rattle.rob_cuts.specs.Outcomes.{IsEnd, IsNext, IsWideNext}

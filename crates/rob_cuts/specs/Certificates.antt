@@ -1,8 +1,8 @@
 -- The certificates of the three endings of a run, by their parts.
 use Rattle.std.specs.Prelude.{ℕ, List, [], length}
 use Rattle.rob_algebra.specs.Fraction.{Fraction}
-use Rattle.rob_meaning.specs.Certificates.{optimal, infeasible, unbounded, Cover, Item, Certificate}
-use Rattle.rob_meaning.specs.Places.{0ℚ, 1ℚ}
+use Rattle.rob_meaning.specs.Certificates.{optimal, unbounded, Cover, Item, Certificate}
+use Rattle.rob_meaning.specs.Places.{0ℚ}
 use Rattle.rob_cert.specs.declared.trace.Round.{Round}
 use Rattle.rob_runs.specs.Readings.{by_form}
 use Rattle.rob_cuts.specs.Items.{weighted_cuts}
@@ -26,21 +26,6 @@ optimal_with inside p items = record {
   step = [];
   step_bound = 0ℚ;
   covers = p.covers;
-  holds = [];
-  items = items;
-}
-
--- infeasible: items alone
-abbrev pub infeasible_with : List Fraction → List Item → Certificate
-infeasible_with inside items = record {
-  status = infeasible;
-  value = 0ℚ;
-  scale = 1ℚ;
-  inside = inside;
-  plan = [];
-  step = [];
-  step_bound = 0ℚ;
-  covers = [];
   holds = [];
   items = items;
 }

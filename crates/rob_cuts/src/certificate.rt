@@ -7,13 +7,15 @@ ghost use Rattle.rob_model.specs.View.{scenario_of};
 ghost use Rattle.rob_cert.specs.View.{certificate_of, cover_of};
 ghost use Rattle.rob_simplex.specs.Solvers.{positions, HasOptimum, HasWeights};
 ghost use Rattle.rob_simplex.specs.Solutions.{dual_of, weights_of};
-ghost use Rattle.rob_cuts.specs.Certificates.{optimal_with, infeasible_with, unbounded_with, items_told};
+ghost use Rattle.rob_dualize.specs.Ending.{infeasible_with};
+ghost use Rattle.rob_cuts.specs.Certificates.{optimal_with, unbounded_with, items_told};
 ghost use Rattle.rob_cuts.specs.Covered.{covered_plan};
 ghost use Rattle.rob_cuts.specs.Rounds.{RoundFits};
 
 use crate::items::items;
 use crate::kept::Kept;
 use rob_cert::{Cert, Round, Status};
+use rob_dualize::infeasible::with_items;
 use rob_dualize::told::{dual_values, exact_weights, whole};
 use rob_model::{Plan, Scenario};
 use rob_number::{Exact, List, Memory};
@@ -72,18 +74,7 @@ pub fn infeasible<N: Exact>(
 {
     let weights = exact_weights(alloc, solver, rounds.len() as u32)?;
     let items = items(alloc, forms, rounds, weights.items())?;
-    Ok(Cert {
-        status: Status::Infeasible,
-        value: whole(0),
-        scale: whole(1),
-        inside,
-        plan: List::new(alloc),
-        step: List::new(alloc),
-        step_bound: whole(0),
-        covers: List::new(alloc),
-        holds: List::new(alloc),
-        items,
-    })
+    Ok(with_items(alloc, inside, items))
 }
 
 /// Unbounded: the plan with its covers, and the direction in whole numbers with its own.

@@ -9,6 +9,7 @@ ghost use Rattle.rob_dualize.specs.Wholes.{wholes_in, counterpart_in, IsFew};
 
 use crate::counterpart::{program_columns, program_rows};
 use crate::elaborated::Elaborated;
+use crate::infeasible::with_items;
 use crate::reading::{covers, items, pair_difference, pair_differences};
 use crate::told::{dual_values, exact_weights, point, ray, whole};
 use rob_cert::{Cert, Status};
@@ -86,18 +87,7 @@ fn infeasible<N: Exact>(
 {
     let weights = exact_weights(alloc, solver, program_rows(model) as u32)?;
     let items = items(alloc, model, weights.items())?;
-    Ok(Cert {
-        status: Status::Infeasible,
-        value: whole(0),
-        scale: whole(1),
-        inside,
-        plan: List::new(alloc),
-        step: List::new(alloc),
-        step_bound: whole(0),
-        covers: List::new(alloc),
-        holds: List::new(alloc),
-        items,
-    })
+    Ok(with_items(alloc, inside, items))
 }
 
 /// Unbounded: the plan and the covers are those of the point, the direction and the holds those of the ray.

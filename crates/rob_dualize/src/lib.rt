@@ -7,6 +7,7 @@ mod certificate;
 mod counterpart;
 pub mod elaborated;
 pub mod entries;
+pub mod infeasible;
 pub mod laws;
 mod model;
 pub mod reading;

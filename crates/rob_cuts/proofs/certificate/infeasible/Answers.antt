@@ -1,10 +1,10 @@
 use Rattle.std.proofs.Common.{map, length, ap, ◌∙◌}
 use Rattle.rob_algebra.specs.Fraction.{of_int}
-use Rattle.rob_cert.specs.View.{cover_of}
-use Rattle.rob_meaning.specs.Certificates.{infeasible}
+use Rattle.rob_model.specs.View.{scenario_of}
 use Rattle.rob_meaning.specs.Places.{at}
 use Rattle.rob_simplex.specs.Solutions.{weights_of}
-use Rattle.rob_dualize.proofs.CertificateLemmas.{count_told, parts_same}
+use Rattle.rob_dualize.specs.Ending.{infeasible_with}
+use Rattle.rob_dualize.proofs.CertificateLemmas.{count_told}
 use Rattle.rob_dualize.proofs.ReadingLemmas.{told_at}
 use Rattle.rob_cuts.proofs.ItemLemmas.{items_told-same}
 use Rattle.rob_cuts.proofs.certificate.infeasible.Goals as goal
@@ -18,14 +18,8 @@ pub returns : goal.returns
 returns g c =
     let value = g.N.Exact.value in
     record {
-      certificate = parts_same infeasible _ _ _ _ _ _ _ _ _ _ _ _ _ _ _ _ _
-          c.whole.ensures.value
-          c.whole-2.ensures.value
-          (ap (map value) c.new.ensures.empty)
-          (ap (map value) c.new-2.ensures.empty)
-          c.whole-3.ensures.value
-          (ap (map (cover_of value)) c.new-3.ensures.empty)
-          (ap (map (cover_of value)) c.new-4.ensures.empty)
+      certificate = c.with_items.ensures.certificate
+          ∙ ap (infeasible_with (scenario_of value c.args.inside))
           (c.in_ok-items.ensures.items
           ∙ items_told-same c.args.forms c.args.rounds.now (at (map g.N.Exact.value c.items.result.now)) (λ q. of_int (weights_of c.args.solver.now q))
           (λ q l. told_at value c.items.result.now (length c.args.rounds.now) (λ q. of_int (weights_of c.args.solver.now q))

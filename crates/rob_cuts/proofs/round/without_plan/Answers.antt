@@ -4,7 +4,8 @@ use Rattle.rob_meaning.specs.Places.{Each}
 use Rattle.rob_model.specs.View.{scenario_of}
 use Rattle.rob_cert.specs.declared.trace.Round.{Round as Told}
 use Rattle.rob_simplex.specs.Solutions.{weights_of}
-use Rattle.rob_cuts.specs.Certificates.{infeasible_with, items_told}
+use Rattle.rob_dualize.specs.Ending.{infeasible_with}
+use Rattle.rob_cuts.specs.Certificates.{items_told}
 use Rattle.rob_cuts.specs.Rounds.{RoundFits}
 use Rattle.rob_cuts.proofs.round.without_plan.Goals as goal
 

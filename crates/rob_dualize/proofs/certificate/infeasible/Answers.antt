@@ -1,14 +1,14 @@
 use Rattle.std.proofs.Common.{◌≡◌, map, ap, ◌∙◌, arith}
 use Rattle.rob_algebra.specs.Fraction.{of_int}
-use Rattle.rob_cert.specs.View.{cover_of}
-use Rattle.rob_meaning.specs.Certificates.{infeasible}
+use Rattle.rob_model.specs.View.{scenario_of}
 use Rattle.rob_number.specs.declared.lp_kind.LpKind.TheVariants as kind
 use Rattle.rob_simplex.specs.Solvers.{positions}
 use Rattle.rob_simplex.specs.Solutions.{weights_of}
 use Rattle.rob_counterpart.specs.RobustProgram.{RobustProgram}
 use Rattle.rob_counterpart.specs.Reform.{reform}
+use Rattle.rob_dualize.specs.Ending.{infeasible_with}
 use Rattle.rob_dualize.specs.Wholes.{wholes}
-use Rattle.rob_dualize.proofs.CertificateLemmas.{rows_told, infeasible_rows, count_told, rows_kept, items_read, parts_same}
+use Rattle.rob_dualize.proofs.CertificateLemmas.{rows_told, infeasible_rows, count_told, rows_kept, items_read}
 use Rattle.rob_dualize.proofs.certificate.infeasible.Goals as goal
 
 pub exact_weights-requires-clause-inside : goal.exact_weights-requires-clause-inside
@@ -32,13 +32,7 @@ returns g c =
     let value = g.N.Exact.value in
     let d : RobustProgram = wholes c.args.model.forms.now c.args.model.set.now in
     record {
-      certificate = parts_same infeasible _ _ _ _ _ _ _ _ _ _ _ _ _ _ _ _ _
-          c.whole.ensures.value
-          c.whole-2.ensures.value
-          (ap (map value) c.new.ensures.empty)
-          (ap (map value) c.new-2.ensures.empty)
-          c.whole-3.ensures.value
-          (ap (map (cover_of value)) c.new-3.ensures.empty)
-          (ap (map (cover_of value)) c.new-4.ensures.empty)
+      certificate = c.with_items.ensures.certificate
+          ∙ ap (infeasible_with (scenario_of value c.args.inside))
           (c.in_ok-items.ensures.items ∙ items_read value c.items.result.now c.program_rows.result (λ i. of_int (weights_of c.args.solver.now i)) (ap (map value) c.items.ensures.list ∙ c.in_ok-weights.ensures.numbers) d c.program_rows.ensures.count c.requires.parameters);
     }
