@@ -1,19 +1,15 @@
 //! What a search tells, read off the solver's last dictionary.
 
-ghost use Rattle.std.specs.Prelude.{◌≡◌, ◌<◌, ◌≤◌, ◌+◌, ◌^◌, ℕ, Bool, List, map, length, IfOk};
-ghost use Rattle.rob_algebra.specs.Fraction.{Fraction};
-ghost use Rattle.rob_meaning.specs.Forms.{matrices, form_columns};
-ghost use Rattle.rob_meaning.specs.RobustModel.{RobustModel};
+ghost use Rattle.std.specs.Prelude.{◌≡◌, ◌<◌, ◌≤◌, ◌+◌, ◌^◌, ℕ, map, IfOk};
 ghost use Rattle.rob_counterpart.specs.ReadNumbers.{differences};
 ghost use Rattle.rob_counterpart.specs.Splitting.{plus, minus, OneIsZero};
 ghost use Rattle.rob_number.specs.declared.lp_kind.LpKind.TheVariants as kinds;
-ghost use Rattle.rob_sets.specs.SetForm.{IsSetForm};
 ghost use Rattle.rob_simplex.specs.Solvers.{HasRay};
 ghost use Rattle.rob_simplex.specs.Solutions.{ray_of};
 ghost use Rattle.rob_dualize.specs.SetSolving.{program_of_set, IsFewSet};
-ghost use Rattle.rob_worst.specs.Finders.{HasSearched};
-ghost use Rattle.rob_worst.specs.Finding.{HasConstantWithin, Tells};
-ghost use Rattle.rob_worst.specs.Tasks.{FitsSet, IsTaskOf};
+ghost use Rattle.rob_worst.specs.Finders.{HasSearched, TellsTask};
+ghost use Rattle.rob_worst.specs.Finding.{HasConstantWithin};
+ghost use Rattle.rob_worst.specs.Tasks.{FitsSet};
 
 use crate::task::Task;
 use rob_cert::Worst;
@@ -37,9 +33,7 @@ pub fn told<N: Exact>(
     requires few { IsFewSet set.now }
     requires task { FitsSet N.limit set.now.columns task.now }
     requires searched { HasSearched (program_of_set set.now) task.now.cost kind solver.now }
-    ensures told { IfOk result (λ worst. (m : RobustModel) → IsSetForm m set.now
-        → (step : Bool) (i : ℕ) → i < length (matrices m) → (z : List Fraction) → length z ≡ form_columns m
-        → IsTaskOf m step i z task.now → Tells N.value m i z worst) }
+    ensures told { IfOk result (TellsTask N.value set.now task.now) }
     ensures within { IfOk result (HasConstantWithin N.limit) }
 {
     match kind {
@@ -58,9 +52,7 @@ fn greatest<N: Exact>(
     requires few { IsFewSet set.now }
     requires task { FitsSet N.limit set.now.columns task.now }
     requires searched { HasSearched (program_of_set set.now) task.now.cost kinds.Optimal solver.now }
-    ensures told { IfOk result (λ worst. (m : RobustModel) → IsSetForm m set.now
-        → (step : Bool) (i : ℕ) → i < length (matrices m) → (z : List Fraction) → length z ≡ form_columns m
-        → IsTaskOf m step i z task.now → Tells N.value m i z worst) }
+    ensures told { IfOk result (TellsTask N.value set.now task.now) }
     ensures within { IfOk result (HasConstantWithin N.limit) }
 {
     let rows = set.rows.items().len() as u32;
@@ -87,9 +79,7 @@ fn along<N: Exact>(
     requires few { IsFewSet set.now }
     requires task { FitsSet N.limit set.now.columns task.now }
     requires searched { HasSearched (program_of_set set.now) task.now.cost kinds.Unbounded solver.now }
-    ensures told { IfOk result (λ worst. (m : RobustModel) → IsSetForm m set.now
-        → (step : Bool) (i : ℕ) → i < length (matrices m) → (z : List Fraction) → length z ≡ form_columns m
-        → IsTaskOf m step i z task.now → Tells N.value m i z worst) }
+    ensures told { IfOk result (TellsTask N.value set.now task.now) }
     ensures within { IfOk result (HasConstantWithin N.limit) }
 {
     let rows = set.rows.items().len() as u32;
