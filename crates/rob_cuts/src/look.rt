@@ -9,7 +9,7 @@ ghost use Rattle.rob_number.specs.Counts.{NeverFell};
 ghost use Rattle.rob_sets.specs.SetForm.{IsSetForm};
 ghost use Rattle.rob_simplex.specs.Solvers.{HasPoint, HasRay};
 ghost use Rattle.rob_simplex.specs.Solutions.{point_of, ray_of};
-ghost use Rattle.rob_dualize.specs.Solving.{CountsStop};
+ghost use Rattle.rob_dualize.specs.Solving.{CountsAnswer};
 ghost use Rattle.rob_runs.specs.Runs.{plan_at, direction_at};
 ghost use Rattle.rob_worst.specs.Finders.{IsFinder};
 ghost use Rattle.rob_cuts.specs.Looks.{IsPlanLook, IsStepLook};
@@ -64,8 +64,7 @@ pub fn look_at_plan<N: Exact, L: Ledger>(
         → MatchResult result (IsPlanLook N.limit m N.value (point_of solver.now))
         (IsScanStopped N.limit m false (plan_at m (point_of solver.now))) }
     ensures finder { IsFinder model.entry.set.now finder.new }
-    ensures wides { MatchResult result (λ _. L.wides ledger.new ≡ L.wides ledger.old)
-        (CountsStop (L.wides ledger.old) (L.wides ledger.new)) }
+    ensures wides { CountsAnswer (L.wides ledger.old) (L.wides ledger.new) result }
     ensures counted { NeverFell L.ops L.wides ledger.old ledger.new }
 {
     let plan = match plan(alloc, solver, model.forms.columns) {
@@ -97,8 +96,7 @@ pub fn look_at_step<N: Exact, L: Ledger>(
         → MatchResult result (IsStepLook N.limit m N.value (ray_of solver.now))
         (IsScanStopped N.limit m true (direction_at m (ray_of solver.now))) }
     ensures finder { IsFinder model.entry.set.now finder.new }
-    ensures wides { MatchResult result (λ _. L.wides ledger.new ≡ L.wides ledger.old)
-        (CountsStop (L.wides ledger.old) (L.wides ledger.new)) }
+    ensures wides { CountsAnswer (L.wides ledger.old) (L.wides ledger.new) result }
     ensures counted { NeverFell L.ops L.wides ledger.old ledger.new }
 {
     let step = match direction(alloc, solver, model.forms.columns) {

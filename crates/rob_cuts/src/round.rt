@@ -19,7 +19,7 @@ ghost use Rattle.rob_simplex.specs.Solvers.{positions, column_of, HasOptimum, Ha
 ghost use Rattle.rob_simplex.specs.Solutions.{dual_of, weights_of};
 ghost use Rattle.rob_solver.specs.Solving.{IsSolved, IsStopped, IsCausedDeep, CountsSolving};
 ghost use Rattle.rob_dualize.specs.Ending.{HasEnded, infeasible_with};
-ghost use Rattle.rob_dualize.specs.Solving.{CountsStop};
+ghost use Rattle.rob_dualize.specs.Solving.{CountsAnswer};
 ghost use Rattle.rob_dualize.specs.SetSolving.{IsFewSet};
 ghost use Rattle.rob_worst.specs.Finders.{IsFinder};
 ghost use Rattle.rob_cuts.specs.Certificates.{optimal_with, items_told};
@@ -76,8 +76,7 @@ pub fn next_round<N: Exact, L: Ledger>(
     ensures outcome { (m : RobustModel) → IsModel m → IsForms m model.entry.forms.now → IsSetForm m model.entry.set.now
         → MatchResult result (IsOutcome N.value N.limit m run.now.rounds) (IsWideNext N.limit m run.now.rounds) }
     ensures finder { IsFinder model.entry.set.now finder.new }
-    ensures wides { MatchResult result (λ _. L.wides ledger.new ≡ L.wides ledger.old)
-        (CountsStop (L.wides ledger.old) (L.wides ledger.new)) }
+    ensures wides { CountsAnswer (L.wides ledger.old) (L.wides ledger.new) result }
     ensures counted { NeverFell L.ops L.wides ledger.old ledger.new }
 {
     let solved = match solve_master::<N, L>(alloc, &run.master, ledger) {
@@ -133,8 +132,7 @@ fn best<N: Exact, L: Ledger>(
     ensures outcome { (m : RobustModel) → IsModel m → IsForms m model.entry.forms.now → IsSetForm m model.entry.set.now
         → MatchResult result (IsOutcome N.value N.limit m run.now.rounds) (IsWideNext N.limit m run.now.rounds) }
     ensures finder { IsFinder model.entry.set.now finder.new }
-    ensures wides { MatchResult result (λ _. L.wides ledger.new ≡ L.wides ledger.old)
-        (CountsStop (L.wides ledger.old) (L.wides ledger.new)) }
+    ensures wides { CountsAnswer (L.wides ledger.old) (L.wides ledger.new) result }
     ensures counted { NeverFell L.ops L.wides ledger.old ledger.new }
 {
     match look_at_plan(alloc, model, finder, solver, ledger) {
@@ -163,8 +161,7 @@ fn boundless<N: Exact, L: Ledger>(
     ensures outcome { (m : RobustModel) → IsModel m → IsForms m model.entry.forms.now → IsSetForm m model.entry.set.now
         → MatchResult result (IsOutcome N.value N.limit m run.now.rounds) (IsWideNext N.limit m run.now.rounds) }
     ensures finder { IsFinder model.entry.set.now finder.new }
-    ensures wides { MatchResult result (λ _. L.wides ledger.new ≡ L.wides ledger.old)
-        (CountsStop (L.wides ledger.old) (L.wides ledger.new)) }
+    ensures wides { CountsAnswer (L.wides ledger.old) (L.wides ledger.new) result }
     ensures counted { NeverFell L.ops L.wides ledger.old ledger.new }
 {
     let (step, held) = match look_at_step(alloc, model, finder, solver, ledger) {

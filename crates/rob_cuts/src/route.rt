@@ -8,7 +8,7 @@ ghost use Rattle.rob_number.specs.Counts.{NeverFell};
 ghost use Rattle.rob_sets.specs.SetForm.{IsSetForm};
 ghost use Rattle.rob_cert.specs.View.{certificate_of};
 ghost use Rattle.rob_elab.specs.Forms.{IsForms};
-ghost use Rattle.rob_dualize.specs.Solving.{CountsStop};
+ghost use Rattle.rob_dualize.specs.Solving.{CountsAnswer};
 ghost use Rattle.rob_dualize.specs.Wholes.{counterpart_of, IsFew, AreSound};
 ghost use Rattle.rob_rows.specs.LinearPrograms.{HasNumbersWithin};
 ghost use Rattle.rob_cuts.specs.Master.{IsMasterList, AddsCut};
@@ -53,8 +53,7 @@ pub fn solve_cuts<N: Exact, L: Ledger>(
         → HasCause N.limit m stop) }
     // No number of a told round's cut is over the limit.
     ensures fits { MatchResult result (λ answer. Each (RoundFits N.limit) answer.1.rounds) (StopFits N.limit) }
-    ensures wides { MatchResult result (λ _. L.wides ledger.new ≡ L.wides ledger.old)
-        (CountsStop (L.wides ledger.old) (L.wides ledger.new)) }
+    ensures wides { CountsAnswer (L.wides ledger.old) (L.wides ledger.new) result }
     ensures counted { NeverFell L.ops L.wides ledger.old ledger.new }
 {
     let mut finder = match Finder::<N>::new(alloc, set, ledger) {

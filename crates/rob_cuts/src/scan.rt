@@ -9,7 +9,7 @@ ghost use Rattle.rob_elab.specs.Elaborated.{AreElaborated};
 ghost use Rattle.rob_elab.specs.Forms.{IsForms};
 ghost use Rattle.rob_number.specs.Counts.{NeverFell};
 ghost use Rattle.rob_sets.specs.SetForm.{IsSetForm};
-ghost use Rattle.rob_dualize.specs.Solving.{CountsStop};
+ghost use Rattle.rob_dualize.specs.Solving.{CountsAnswer};
 ghost use Rattle.rob_dualize.specs.SetSolving.{IsFewSet};
 ghost use Rattle.rob_worst.specs.Finders.{IsFinder};
 ghost use Rattle.rob_worst.specs.Finding.{HasConstantWithin, Tells, Searches};
@@ -69,8 +69,7 @@ pub fn scan_forms<N: Exact, L: Ledger>(
         → MatchResult result (IsScanned N.limit m N.value (vector_of N.value target.entry))
         (IsScanStopped N.limit m (by_step_of target.entry) (vector_of N.value target.entry)) }
     ensures finder { IsFinder model.entry.set.now finder.new }
-    ensures wides { MatchResult result (λ _. L.wides ledger.new ≡ L.wides ledger.old)
-        (CountsStop (L.wides ledger.old) (L.wides ledger.new)) }
+    ensures wides { CountsAnswer (L.wides ledger.old) (L.wides ledger.new) result }
     ensures counted { NeverFell L.ops L.wides ledger.old ledger.new }
 {
     let mut scale = whole(1);

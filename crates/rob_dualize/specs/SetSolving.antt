@@ -1,6 +1,6 @@
 -- The program of an uncertainty set, solved: a solver that stands at its last basis, which has a scenario; or why there
 -- is none.
-use Rattle.std.specs.Prelude.{◌≡◌, ℕ, ◌+◌, ◌^◌, ◌<◌, [], length, Result, MatchResult, IfOk, IfErr, ⊤}
+use Rattle.std.specs.Prelude.{◌≡◌, ℕ, ◌+◌, ◌^◌, ◌<◌, [], length, Result, IfOk, IfErr, ⊤}
 use Rattle.rob_algebra.specs.Fraction.{Fraction}
 use Rattle.rob_linear.specs.Programs.{Program}
 use Rattle.rob_meaning.specs.RobustModel.{RobustModel}
@@ -21,7 +21,7 @@ use Rattle.rob_cert.specs.declared.ending.Stop.{Stop}
 use Rattle.rob_cert.specs.declared.ending.Stop.TheVariants.{EmptySet, Wide, Memory}
 use Rattle.rob_dualize.specs.Ending.{HasLastPoint}
 use Rattle.rob_dualize.specs.Refusals.{IsRefusedAt}
-use Rattle.rob_dualize.specs.Solving.{CountsStop, IsLastScenario, TellsEmpty}
+use Rattle.rob_dualize.specs.Solving.{CountsAnswer, IsLastScenario, TellsEmpty}
 
 -- the program of the set
 abbrev pub program_of_set : SetForm → Program
@@ -61,4 +61,4 @@ pub record Finds {N : Type 0} (value : N → Fraction) (limit : ℕ) (m : Robust
     (result : Result (Scenario N) Stop) : Type 0 where
   pub found : IfOk result (λ s. Admits m (scenario_of value s) × IsLastScenario m (scenario_of value s))
   pub stopped : IfErr result (HasSetCause limit m)
-  pub counted : MatchResult result (λ _. now ≡ before) (CountsStop before now)
+  pub counted : CountsAnswer before now result

@@ -107,6 +107,10 @@ CountsStop before now (EmptySet weights) = now ≡ before
 CountsStop before now (Wide place trace) = now ≡ raised before
 CountsStop before now Memory = before ≤ now
 
+-- what an answer has: a refusal so, and else nothing was wide
+abbrev pub CountsAnswer : {T : Type 0} → ℕ → ℕ → Result T Stop → Type 0
+CountsAnswer before now result = MatchResult result (λ _. now ≡ before) (CountsStop before now)
+
 -- the rows of neither program can be wide
 pub record IsNarrowModel (limit : ℕ) (m : RobustModel) : Type 0 where
   pub set : IsNarrow limit (set_program m)
@@ -124,4 +128,4 @@ pub record Solves {N : Type 0} (value : N → Fraction) (limit : ℕ) (m : Robus
   pub stopped : IfErr result (HasCause limit m)
   -- a narrow model isn't refused for a wide row
   pub narrow : IsNarrowModel limit m → IfErr result IsNotWide
-  pub counted : MatchResult result (λ _. now ≡ before) (CountsStop before now)
+  pub counted : CountsAnswer before now result

@@ -1,6 +1,6 @@
 //! The program of an uncertainty set, solved.
 
-ghost use Rattle.std.specs.Prelude.{◌≡◌, ◌<◌, ◌≤◌, ◌+◌, ◌^◌, ℕ, map, IfOk, IfErr, MatchResult};
+ghost use Rattle.std.specs.Prelude.{◌≡◌, ◌<◌, ◌≤◌, ◌+◌, ◌^◌, ℕ, map, IfOk, IfErr};
 ghost use Rattle.rob_meaning.specs.RobustModel.{RobustModel};
 ghost use Rattle.rob_meaning.specs.WellFormed.{IsModel};
 ghost use Rattle.rob_counterpart.specs.ReadNumbers.{differences};
@@ -12,7 +12,7 @@ ghost use Rattle.rob_simplex.specs.Solutions.{point_of, weights_of};
 ghost use Rattle.rob_solver.specs.Solving.{CountsSolving};
 ghost use Rattle.rob_dualize.specs.Ending.{IsMadeAs, IsSolvedAs, IsStoppedAs, TellsWeights};
 ghost use Rattle.rob_dualize.specs.SetSolving.{program_of_set, HasSetCause, IsFewSet, IsSetOfModel, IsSolved};
-ghost use Rattle.rob_dualize.specs.Solving.{CountsStop};
+ghost use Rattle.rob_dualize.specs.Solving.{CountsAnswer};
 
 use crate::reading::pair_differences;
 use crate::stop::{position, wide};
@@ -35,8 +35,7 @@ pub fn solved_set<N: Exact, L: Ledger>(
     requires few { IsFewSet set.now }
     ensures solved { IfOk result (λ solver. IsSolved (program_of_set set.now) solver) }
     ensures stopped { (m : RobustModel) → IsModel m → IsSetForm m set.now → IfErr result (HasSetCause N.limit m) }
-    ensures wides { MatchResult result (λ _. L.wides ledger.new ≡ L.wides ledger.old)
-        (CountsStop (L.wides ledger.old) (L.wides ledger.new)) }
+    ensures wides { CountsAnswer (L.wides ledger.old) (L.wides ledger.new) result }
     ensures counted { NeverFell L.ops L.wides ledger.old ledger.new }
 {
     let rows = set.rows.items().len() as u32;

@@ -1,7 +1,7 @@
 -- What a search for the worst case of a form answers: the greatest value with a scenario that has it and amounts that
 -- show it, or a ray along which there is none; or why it has no answer.
 -- Bertsimas, Dunning, Lubin, Reformulation versus cutting-planes for robust optimization (2016).
-use Rattle.std.specs.Prelude.{◌≡◌, ◌⊎◌, ◌≤◌, ℕ, nat_abs, Bool, true, false, List, [], length, map, Result, MatchResult, IfOk, IfErr, ⊤}
+use Rattle.std.specs.Prelude.{◌≡◌, ◌⊎◌, ◌≤◌, ℕ, nat_abs, Bool, true, false, List, [], length, map, Result, IfOk, IfErr, ⊤}
 use Rattle.rob_algebra.specs.Fraction.{Fraction, of_int}
 use Rattle.rob_linear.specs.Paths.{Reached}
 use Rattle.rob_linear.specs.Programs.{Program}
@@ -23,7 +23,7 @@ use Rattle.rob_cert.specs.declared.ending.Worst.{Worst}
 use Rattle.rob_cert.specs.declared.ending.Worst.TheVariants.{At, Along}
 use Rattle.rob_dualize.specs.Refusals.{TellsWideNumber}
 use Rattle.rob_dualize.specs.SetSolving.{HasSetCause}
-use Rattle.rob_dualize.specs.Solving.{CountsStop, HasScenario}
+use Rattle.rob_dualize.specs.Solving.{CountsAnswer, HasScenario}
 
 -- ---- the answer
 
@@ -83,11 +83,11 @@ pub record Searches {N : Type 0} (value : N → Fraction) (limit : ℕ) (m : Rob
     (z : List Fraction) (before now : ℕ) (result : Result (Worst N) Stop) : Type 0 where
   pub found : IfOk result (Tells value m i z)
   pub stopped : IfErr result (HasSearchCause limit m by_step i z)
-  pub counted : MatchResult result (λ _. now ≡ before) (CountsStop before now)
+  pub counted : CountsAnswer before now result
 
 -- the same where the set's program is solved first
 pub record FindsWorst {N : Type 0} (value : N → Fraction) (limit : ℕ) (m : RobustModel) (by_step : Bool) (i : ℕ)
     (z : List Fraction) (before now : ℕ) (result : Result (Worst N) Stop) : Type 0 where
   pub found : IfOk result (λ worst. HasScenario m × Tells value m i z worst)
   pub stopped : IfErr result (HasCause limit m by_step i z)
-  pub counted : MatchResult result (λ _. now ≡ before) (CountsStop before now)
+  pub counted : CountsAnswer before now result

@@ -12,7 +12,7 @@ ghost use Rattle.rob_sets.specs.SetForm.{IsSetForm};
 ghost use Rattle.rob_sets.specs.declared.set_form.SetForm.{SetForm as SetRows};
 ghost use Rattle.rob_elab.specs.Elaborated.{AreElaborated};
 ghost use Rattle.rob_elab.specs.Forms.{IsForms};
-ghost use Rattle.rob_dualize.specs.Solving.{CountsStop, HasScenario, IsLastScenario};
+ghost use Rattle.rob_dualize.specs.Solving.{CountsAnswer, HasScenario, IsLastScenario};
 ghost use Rattle.rob_dualize.specs.SetSolving.{IsSetOfModel, IsFewSet};
 ghost use Rattle.rob_worst.specs.Finders.{IsFinder};
 ghost use Rattle.rob_dualize.specs.SetSolving.{HasSetCause};
@@ -54,8 +54,7 @@ impl<N: Exact> Finder<N> {
         ensures finder { IfOk result (λ finder. IsFinder set.now finder) }
         ensures answer { (m : RobustModel) → IsModel m → IsSetForm m set.now
             → MatchResult result (λ _. HasScenario m) (HasSetCause N.limit m) }
-        ensures wides { MatchResult result (λ _. L.wides ledger.new ≡ L.wides ledger.old)
-            (CountsStop (L.wides ledger.old) (L.wides ledger.new)) }
+        ensures wides { CountsAnswer (L.wides ledger.old) (L.wides ledger.new) result }
         ensures counted { NeverFell L.ops L.wides ledger.old ledger.new }
     {
         let solved = match solved_set::<N, L>(alloc, set, ledger) {
