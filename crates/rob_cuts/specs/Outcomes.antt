@@ -1,5 +1,5 @@
 -- What a round leads to.
-use Rattle.std.specs.Prelude.{◌≡◌, ℕ, List, length, ⊤}
+use Rattle.std.specs.Prelude.{◌≡◌, ℕ, List, length, Result, MatchResult, ⊤}
 use Rattle.rob_algebra.specs.Fraction.{Fraction}
 use Rattle.rob_meaning.specs.Certificates.{Certificate}
 use Rattle.rob_meaning.specs.RobustModel.{RobustModel}
@@ -9,6 +9,7 @@ use Rattle.rob_cert.specs.View.{certificate_of}
 use Rattle.rob_cert.specs.declared.trace.Round.{Round as Told}
 use Rattle.rob_cert.specs.declared.ending.Stop.{Stop}
 use Rattle.rob_dualize.specs.Solving.{IsLastScenario}
+use Rattle.rob_dualize.specs.declared.elaborated.Elaborated.{Elaborated}
 use Rattle.rob_runs.specs.Cuts.{Cut}
 use Rattle.rob_runs.specs.Readings.{IsReadOff}
 use Rattle.rob_runs.specs.Runs.{Round, IsRound}
@@ -59,6 +60,12 @@ IsWideNext limit m rounds stop =
 abbrev pub IsOutcome : {N : Type 0} → (N → Fraction) → ℕ → RobustModel → List Told → Outcome N → Type 0
 IsOutcome value limit m rounds (outcome.Cut round) = IsNext limit m rounds round
 IsOutcome value limit m rounds (outcome.End cert) = IsEnd m (cuts_told rounds) (certificate_of value cert)
+
+-- what the round behind these rounds leads to, of each model whose forms and set rows these are
+abbrev pub LeadsOn : {N : Type 0} → (N → Fraction) → ℕ → Elaborated → List Told → Result (Outcome N) Stop → Type 0
+LeadsOn value limit model rounds result =
+    (m : RobustModel) → IsModel m → IsForms m model.forms.now → IsSetForm m model.set.now
+    → MatchResult result (IsOutcome value limit m rounds) (IsWideNext limit m rounds)
 
 -- the scenario is admitted, and that of the last basis of the set's program
 abbrev pub IsInside : {N : Type 0} → Forms → Finder N → List Fraction → Type 0

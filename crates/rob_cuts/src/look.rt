@@ -1,6 +1,6 @@
 //! The plan and the direction of a solved master, and whether all forms are kept there.
 
-ghost use Rattle.std.specs.Prelude.{◌≡◌, ◌≤◌, ◌<◌, ◌+◌, ◌^◌, ℕ, true, false, suc, MatchResult};
+ghost use Rattle.std.specs.Prelude.{◌≡◌, ◌≤◌, ◌<◌, ◌+◌, ℕ, true, false, suc, MatchResult};
 ghost use Rattle.rob_counterpart.specs.Splitting.{OneIsZero, plus, minus};
 ghost use Rattle.rob_elab.specs.Forms.{IsForms};
 ghost use Rattle.rob_meaning.specs.RobustModel.{RobustModel};

@@ -3,17 +3,13 @@
 ghost use Rattle.std.specs.Prelude.{◌≡◌, ◌≤◌, ◌<◌, ◌^◌, false, nat_abs, length, IfOk, IfErr, MatchResult};
 ghost use Rattle.rob_algebra.specs.Fraction.{of_int};
 ghost use Rattle.rob_elab.specs.Elaborated.{AreElaborated};
-ghost use Rattle.rob_elab.specs.Forms.{IsForms};
 ghost use Rattle.rob_meaning.specs.Places.{Each};
-ghost use Rattle.rob_meaning.specs.RobustModel.{RobustModel};
-ghost use Rattle.rob_meaning.specs.WellFormed.{IsModel};
 ghost use Rattle.rob_model.specs.declared.place.Spot.TheVariants.{Clearing};
 ghost use Rattle.rob_model.specs.declared.place.Where.TheVariants as of;
 ghost use Rattle.rob_number.specs.Counts.{NeverFell};
 ghost use Rattle.rob_number.specs.declared.lp_kind.LpKind.TheVariants as kinds;
 ghost use Rattle.rob_rows.specs.LinearPrograms.{program_of, IsShaped, HasNumbersWithin};
 ghost use Rattle.rob_runs.specs.Runs.{best as with_best, boundless as without_best};
-ghost use Rattle.rob_sets.specs.SetForm.{IsSetForm};
 ghost use Rattle.rob_sets.specs.declared.set_form.SetForm.{SetForm as SetRows};
 ghost use Rattle.rob_simplex.specs.Solvers.{positions, column_of, HasOptimum, HasRay, HasWeights};
 ghost use Rattle.rob_simplex.specs.Solutions.{dual_of, weights_of};
@@ -29,7 +25,7 @@ ghost use Rattle.rob_cuts.specs.Rounds.{round_told, RoundFits};
 ghost use Rattle.rob_cuts.specs.Runs.{IsRunSoFar};
 ghost use Rattle.rob_cuts.specs.Solving.{FitsRoute};
 ghost use Rattle.rob_cuts.specs.Stops.{IsRefused, HasFewRows};
-ghost use Rattle.rob_cuts.specs.Outcomes.{IsOutcome, IsWideNext, IsEndWith};
+ghost use Rattle.rob_cuts.specs.Outcomes.{LeadsOn, IsEndWith};
 ghost use Rattle.rob_cuts.specs.declared.round.Outcome.TheVariants as Leads;
 
 use crate::certificate::{infeasible, optimal, unbounded};
@@ -73,8 +69,7 @@ pub fn next_round<N: Exact, L: Ledger>(
     requires model { FitsRoute N.limit model }
     requires finder { IsFinder model.set.now finder.old }
     requires run { IsRunSoFar N.limit model.forms.now model.set.now run.now }
-    ensures outcome { (m : RobustModel) → IsModel m → IsForms m model.entry.forms.now → IsSetForm m model.entry.set.now
-        → MatchResult result (IsOutcome N.value N.limit m run.now.rounds) (IsWideNext N.limit m run.now.rounds) }
+    ensures outcome { LeadsOn N.value N.limit model.entry run.now.rounds result }
     ensures finder { IsFinder model.entry.set.now finder.new }
     ensures wides { CountsAnswer (L.wides ledger.old) (L.wides ledger.new) result }
     ensures counted { NeverFell L.ops L.wides ledger.old ledger.new }
@@ -129,8 +124,7 @@ fn best<N: Exact, L: Ledger>(
     requires run { IsRunSoFar N.limit model.forms.now model.set.now run.now }
     requires few_rows { positions solver.now < 2 ^ 31 }
     requires ended { HasEnded (program_of run.now.master) kinds.Optimal solver.now }
-    ensures outcome { (m : RobustModel) → IsModel m → IsForms m model.entry.forms.now → IsSetForm m model.entry.set.now
-        → MatchResult result (IsOutcome N.value N.limit m run.now.rounds) (IsWideNext N.limit m run.now.rounds) }
+    ensures outcome { LeadsOn N.value N.limit model.entry run.now.rounds result }
     ensures finder { IsFinder model.entry.set.now finder.new }
     ensures wides { CountsAnswer (L.wides ledger.old) (L.wides ledger.new) result }
     ensures counted { NeverFell L.ops L.wides ledger.old ledger.new }
@@ -158,8 +152,7 @@ fn boundless<N: Exact, L: Ledger>(
     requires run { IsRunSoFar N.limit model.forms.now model.set.now run.now }
     requires few_rows { positions solver.now < 2 ^ 31 }
     requires ended { HasEnded (program_of run.now.master) kinds.Unbounded solver.now }
-    ensures outcome { (m : RobustModel) → IsModel m → IsForms m model.entry.forms.now → IsSetForm m model.entry.set.now
-        → MatchResult result (IsOutcome N.value N.limit m run.now.rounds) (IsWideNext N.limit m run.now.rounds) }
+    ensures outcome { LeadsOn N.value N.limit model.entry run.now.rounds result }
     ensures finder { IsFinder model.entry.set.now finder.new }
     ensures wides { CountsAnswer (L.wides ledger.old) (L.wides ledger.new) result }
     ensures counted { NeverFell L.ops L.wides ledger.old ledger.new }
