@@ -9,6 +9,7 @@ use Rattle.rob_cert.specs.View.{certificate_of}
 use Rattle.rob_cert.specs.declared.trace.Round.{Round as Told}
 use Rattle.rob_cert.specs.declared.ending.Stop.{Stop}
 use Rattle.rob_dualize.specs.Solving.{IsLastScenario}
+use Rattle.rob_dualize.specs.Wholes.{OfEachModel}
 use Rattle.rob_dualize.specs.declared.elaborated.Elaborated.{Elaborated}
 use Rattle.rob_runs.specs.Cuts.{Cut}
 use Rattle.rob_runs.specs.Readings.{IsReadOff}
@@ -64,8 +65,8 @@ IsOutcome value limit m rounds (outcome.End cert) = IsEnd m (cuts_told rounds) (
 -- what the round behind these rounds leads to, of each model whose forms and set rows these are
 abbrev pub LeadsOn : {N : Type 0} → (N → Fraction) → ℕ → Elaborated → List Told → Result (Outcome N) Stop → Type 0
 LeadsOn value limit model rounds result =
-    (m : RobustModel) → IsModel m → IsForms m model.forms.now → IsSetForm m model.set.now
-    → MatchResult result (IsOutcome value limit m rounds) (IsWideNext limit m rounds)
+    OfEachModel model.forms.now model.set.now
+    (λ m. MatchResult result (IsOutcome value limit m rounds) (IsWideNext limit m rounds))
 
 -- the scenario is admitted, and that of the last basis of the set's program
 abbrev pub IsInside : {N : Type 0} → Forms → Finder N → List Fraction → Type 0

@@ -2,14 +2,11 @@
 
 ghost use Rattle.std.specs.Prelude.{◌≡◌, ◌≤◌, ◌<◌, ◌+◌, ℕ, true, false, suc, MatchResult};
 ghost use Rattle.rob_counterpart.specs.Splitting.{OneIsZero, plus, minus};
-ghost use Rattle.rob_elab.specs.Forms.{IsForms};
-ghost use Rattle.rob_meaning.specs.RobustModel.{RobustModel};
-ghost use Rattle.rob_meaning.specs.WellFormed.{IsModel};
 ghost use Rattle.rob_number.specs.Counts.{NeverFell};
-ghost use Rattle.rob_sets.specs.SetForm.{IsSetForm};
 ghost use Rattle.rob_simplex.specs.Solvers.{HasPoint, HasRay};
 ghost use Rattle.rob_simplex.specs.Solutions.{point_of, ray_of};
 ghost use Rattle.rob_dualize.specs.Solving.{CountsAnswer};
+ghost use Rattle.rob_dualize.specs.Wholes.{OfEachModel};
 ghost use Rattle.rob_runs.specs.Runs.{plan_at, direction_at};
 ghost use Rattle.rob_worst.specs.Finders.{IsFinder};
 ghost use Rattle.rob_cuts.specs.Looks.{IsPlanLook, IsStepLook};
@@ -60,9 +57,9 @@ pub fn look_at_plan<N: Exact, L: Ledger>(
     requires columns { suc model.forms.now.columns + suc model.forms.now.columns ≡ solver.now.columns }
     requires one { (j : ℕ) → j ≤ model.forms.now.columns
         → OneIsZero (point_of solver.now (plus j)) (point_of solver.now (minus j)) }
-    ensures look { (m : RobustModel) → IsModel m → IsForms m model.entry.forms.now → IsSetForm m model.entry.set.now
-        → MatchResult result (IsPlanLook N.limit m N.value (point_of solver.now))
-        (IsScanStopped N.limit m false (plan_at m (point_of solver.now))) }
+    ensures look { OfEachModel model.entry.forms.now model.entry.set.now
+        (λ m. MatchResult result (IsPlanLook N.limit m N.value (point_of solver.now))
+        (IsScanStopped N.limit m false (plan_at m (point_of solver.now)))) }
     ensures finder { IsFinder model.entry.set.now finder.new }
     ensures wides { CountsAnswer (L.wides ledger.old) (L.wides ledger.new) result }
     ensures counted { NeverFell L.ops L.wides ledger.old ledger.new }
@@ -92,9 +89,9 @@ pub fn look_at_step<N: Exact, L: Ledger>(
     requires columns { suc model.forms.now.columns + suc model.forms.now.columns ≡ solver.now.columns }
     requires one { (j : ℕ) → j ≤ model.forms.now.columns
         → OneIsZero (ray_of solver.now (plus j)) (ray_of solver.now (minus j)) }
-    ensures look { (m : RobustModel) → IsModel m → IsForms m model.entry.forms.now → IsSetForm m model.entry.set.now
-        → MatchResult result (IsStepLook N.limit m N.value (ray_of solver.now))
-        (IsScanStopped N.limit m true (direction_at m (ray_of solver.now))) }
+    ensures look { OfEachModel model.entry.forms.now model.entry.set.now
+        (λ m. MatchResult result (IsStepLook N.limit m N.value (ray_of solver.now))
+        (IsScanStopped N.limit m true (direction_at m (ray_of solver.now)))) }
     ensures finder { IsFinder model.entry.set.now finder.new }
     ensures wides { CountsAnswer (L.wides ledger.old) (L.wides ledger.new) result }
     ensures counted { NeverFell L.ops L.wides ledger.old ledger.new }

@@ -6,11 +6,10 @@ ghost use Rattle.rob_meaning.specs.RobustModel.{RobustModel};
 ghost use Rattle.rob_algebra.specs.Fraction.{Fraction};
 ghost use Rattle.rob_meaning.specs.WellFormed.{IsModel};
 ghost use Rattle.rob_elab.specs.Elaborated.{AreElaborated};
-ghost use Rattle.rob_elab.specs.Forms.{IsForms};
 ghost use Rattle.rob_number.specs.Counts.{NeverFell};
-ghost use Rattle.rob_sets.specs.SetForm.{IsSetForm};
 ghost use Rattle.rob_dualize.specs.Solving.{CountsAnswer};
 ghost use Rattle.rob_dualize.specs.SetSolving.{IsFewSet};
+ghost use Rattle.rob_dualize.specs.Wholes.{OfEachModel};
 ghost use Rattle.rob_worst.specs.Finders.{IsFinder};
 ghost use Rattle.rob_worst.specs.Finding.{HasConstantWithin, Tells, Searches};
 ghost use Rattle.rob_cuts.specs.Solving.{AreOfModel};
@@ -65,9 +64,9 @@ pub fn scan_forms<N: Exact, L: Ledger>(
     requires few_forms { length model.forms.now.matrices < 2 ^ 32 }
     requires finder { IsFinder model.set.now finder.old }
     requires target { FitsTarget model.forms.now.columns target }
-    ensures scanned { (m : RobustModel) → IsModel m → IsForms m model.entry.forms.now → IsSetForm m model.entry.set.now
-        → MatchResult result (IsScanned N.limit m N.value (vector_of N.value target.entry))
-        (IsScanStopped N.limit m (by_step_of target.entry) (vector_of N.value target.entry)) }
+    ensures scanned { OfEachModel model.entry.forms.now model.entry.set.now
+        (λ m. MatchResult result (IsScanned N.limit m N.value (vector_of N.value target.entry))
+        (IsScanStopped N.limit m (by_step_of target.entry) (vector_of N.value target.entry))) }
     ensures finder { IsFinder model.entry.set.now finder.new }
     ensures wides { CountsAnswer (L.wides ledger.old) (L.wides ledger.new) result }
     ensures counted { NeverFell L.ops L.wides ledger.old ledger.new }
@@ -105,9 +104,9 @@ fn search<N: Exact, L: Ledger>(
     requires finder { IsFinder model.set.now finder.old }
     requires form_in { form < length model.forms.now.matrices }
     requires target { FitsTarget model.forms.now.columns target }
-    ensures answer { (m : RobustModel) → IsModel m → IsForms m model.entry.forms.now → IsSetForm m model.entry.set.now
-        → Searches N.value N.limit m (by_step_of target.entry) form (vector_of N.value target.entry)
-        (L.wides ledger.old) (L.wides ledger.new) result }
+    ensures answer { OfEachModel model.entry.forms.now model.entry.set.now
+        (λ m. Searches N.value N.limit m (by_step_of target.entry) form (vector_of N.value target.entry)
+        (L.wides ledger.old) (L.wides ledger.new) result) }
     ensures within { IfOk result (HasConstantWithin N.limit) }
     ensures finder { IsFinder model.entry.set.now finder.new }
     ensures counted { NeverFell L.ops L.wides ledger.old ledger.new }

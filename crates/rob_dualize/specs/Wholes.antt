@@ -3,10 +3,14 @@ use Rattle.std.specs.Prelude.{◌≡◌, ℕ, suc, ◌+◌, ◌-◌, ◌^◌, �
 use Rattle.rob_linear.specs.Vectors.{at}
 use Rattle.rob_linear.specs.Programs.{Program}
 use Rattle.rob_meaning.specs.Forms.{matrix_at}
+use Rattle.rob_meaning.specs.RobustModel.{RobustModel}
+use Rattle.rob_meaning.specs.WellFormed.{IsModel}
 use Rattle.rob_model.specs.View.{sense_of}
+use Rattle.rob_sets.specs.SetForm.{IsSetForm}
 use Rattle.rob_sets.specs.SetProgram.{left_sides, right_sides}
 use Rattle.rob_sets.specs.declared.set_form.SetForm.{SetForm}
 use Rattle.rob_elab.specs.Elaborated.{AreElaborated}
+use Rattle.rob_elab.specs.Forms.{IsForms}
 use Rattle.rob_elab.specs.declared.forms.Forms.{Forms}
 use Rattle.rob_counterpart.specs.RobustProgram.{RobustProgram}
 use Rattle.rob_counterpart.specs.Counterpart.{cell, sign_of}
@@ -42,6 +46,10 @@ counterpart_in model = reform (wholes_in model)
 -- what column k of it counts in what is maximised, whatever the set: so it does in each master
 abbrev pub cost_of : Forms → ℕ → ℤ
 cost_of forms = tau_cost (wholes forms (record { columns = 0; rows = [] }))
+
+-- it is so of each model whose forms and set rows these are
+abbrev pub OfEachModel : Forms → SetForm → (RobustModel → Type 0) → Type 0
+OfEachModel forms set P = (m : RobustModel) → IsModel m → IsForms m forms → IsSetForm m set → P m
 
 -- the program's rows and columns together are as few as a solver takes
 abbrev pub IsFew : Program → Type 0

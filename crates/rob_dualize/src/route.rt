@@ -1,16 +1,12 @@
 //! The route: the set's program first, then the counterpart.
 
-ghost use Rattle.std.specs.Prelude.{◌≡◌, ℕ, IfOk, IfErr};
-ghost use Rattle.rob_meaning.specs.RobustModel.{RobustModel};
-ghost use Rattle.rob_meaning.specs.WellFormed.{IsModel};
+ghost use Rattle.std.specs.Prelude.{IfOk, IfErr};
 ghost use Rattle.rob_number.specs.Counts.{NeverFell};
-ghost use Rattle.rob_sets.specs.SetForm.{IsSetForm};
 ghost use Rattle.rob_elab.specs.Elaborated.{AreElaborated};
-ghost use Rattle.rob_elab.specs.Forms.{IsForms};
 ghost use Rattle.rob_solver.specs.Solving.{CountsSolving};
 ghost use Rattle.rob_dualize.specs.Ending.{IsSolvedAs, IsStoppedAs};
 ghost use Rattle.rob_dualize.specs.Solving.{Solves};
-ghost use Rattle.rob_dualize.specs.Wholes.{counterpart_in, counterpart_of, FitsSolver, IsFew};
+ghost use Rattle.rob_dualize.specs.Wholes.{counterpart_in, counterpart_of, FitsSolver, IsFew, OfEachModel};
 
 use crate::certificate::certificate;
 use crate::counterpart::program_rows;
@@ -39,8 +35,8 @@ pub fn solve_dual<N: Exact, L: Ledger>(
 ) -> Result<Cert<N>, Stop>
     requires model { AreElaborated N.limit forms.now set.now }
     requires few { IsFew (counterpart_of forms.now set.now) }
-    ensures solves { (m : RobustModel) → IsModel m → IsForms m forms.now → IsSetForm m set.now
-        → Solves N.value N.limit m (L.wides ledger.old) (L.wides ledger.new) result }
+    ensures solves { OfEachModel forms.now set.now
+        (λ m. Solves N.value N.limit m (L.wides ledger.old) (L.wides ledger.new) result) }
     ensures counted { NeverFell L.ops L.wides ledger.old ledger.new }
 {
     let model = Elaborated { forms, set };

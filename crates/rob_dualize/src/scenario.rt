@@ -1,12 +1,8 @@
 //! A scenario that is admitted, or weights that show that there is none.
 
-ghost use Rattle.rob_meaning.specs.RobustModel.{RobustModel};
-ghost use Rattle.rob_meaning.specs.WellFormed.{IsModel};
 ghost use Rattle.rob_number.specs.Counts.{NeverFell};
-ghost use Rattle.rob_sets.specs.SetForm.{IsSetForm};
-ghost use Rattle.rob_elab.specs.Forms.{IsForms};
 ghost use Rattle.rob_dualize.specs.SetSolving.{Finds};
-ghost use Rattle.rob_dualize.specs.Wholes.{FitsSolver};
+ghost use Rattle.rob_dualize.specs.Wholes.{FitsSolver, OfEachModel};
 
 use crate::elaborated::Elaborated;
 use crate::set_program::{parameters, solved_set};
@@ -24,8 +20,8 @@ pub fn scenario<N: Exact, L: Ledger>(
     ledger: &mut L,
 ) -> Result<Scenario<N>, Stop>
     requires model { FitsSolver N.limit model }
-    ensures found { (m : RobustModel) → IsModel m → IsForms m model.entry.forms.now → IsSetForm m model.entry.set.now
-        → Finds N.value N.limit m (L.wides ledger.old) (L.wides ledger.new) result }
+    ensures found { OfEachModel model.entry.forms.now model.entry.set.now
+        (λ m. Finds N.value N.limit m (L.wides ledger.old) (L.wides ledger.new) result) }
     ensures counted { NeverFell L.ops L.wides ledger.old ledger.new }
 {
     let solver = match solved_set::<N, L>(alloc, model.set, ledger) {

@@ -1,13 +1,10 @@
 //! A single search: a new finder, and one call on it.
 
 ghost use Rattle.std.specs.Prelude.{◌≡◌, ◌<◌, suc, true, false, length, IfOk};
-ghost use Rattle.rob_meaning.specs.RobustModel.{RobustModel};
-ghost use Rattle.rob_meaning.specs.WellFormed.{IsModel};
 ghost use Rattle.rob_number.specs.Counts.{NeverFell};
-ghost use Rattle.rob_sets.specs.SetForm.{IsSetForm};
 ghost use Rattle.rob_elab.specs.Elaborated.{AreElaborated};
-ghost use Rattle.rob_elab.specs.Forms.{IsForms};
 ghost use Rattle.rob_dualize.specs.SetSolving.{IsFewSet};
+ghost use Rattle.rob_dualize.specs.Wholes.{OfEachModel};
 ghost use Rattle.rob_worst.specs.Finding.{FindsWorst, HasConstantWithin};
 ghost use Rattle.rob_worst.specs.Vectors.{plan_of, step_of};
 
@@ -36,9 +33,9 @@ pub fn worst<N: Exact, L: Ledger>(
     requires few { IsFewSet set.now }
     requires form_in { form < length forms.now.matrices }
     requires size { length plan.now.columns ≡ forms.now.columns }
-    ensures answer { (m : RobustModel) → IsModel m → IsForms m forms.now → IsSetForm m set.now
-        → FindsWorst N.value N.limit m false form (plan_of N.value plan.now)
-        (L.wides ledger.old) (L.wides ledger.new) result }
+    ensures answer { OfEachModel forms.now set.now
+        (λ m. FindsWorst N.value N.limit m false form (plan_of N.value plan.now)
+        (L.wides ledger.old) (L.wides ledger.new) result) }
     ensures within { IfOk result (HasConstantWithin N.limit) }
     ensures counted { NeverFell L.ops L.wides ledger.old ledger.new }
 {
@@ -63,9 +60,9 @@ pub fn worst_step<N: Exact, L: Ledger>(
     requires few { IsFewSet set.now }
     requires form_in { form < length forms.now.matrices }
     requires size { length step.now ≡ suc forms.now.columns }
-    ensures answer { (m : RobustModel) → IsModel m → IsForms m forms.now → IsSetForm m set.now
-        → FindsWorst N.value N.limit m true form (step_of N.value step.now)
-        (L.wides ledger.old) (L.wides ledger.new) result }
+    ensures answer { OfEachModel forms.now set.now
+        (λ m. FindsWorst N.value N.limit m true form (step_of N.value step.now)
+        (L.wides ledger.old) (L.wides ledger.new) result) }
     ensures within { IfOk result (HasConstantWithin N.limit) }
     ensures counted { NeverFell L.ops L.wides ledger.old ledger.new }
 {
