@@ -10,7 +10,7 @@ use Rattle.rob_model.specs.declared.place.Spot.{Spot}
 use Rattle.rob_model.specs.declared.place.Spot.TheVariants.{Clearing}
 use Rattle.rob_model.specs.declared.place.Where.TheVariants as of
 use Rattle.rob_cert.specs.declared.ending.Stop.{Stop}
-use Rattle.rob_cert.specs.declared.ending.Stop.TheVariants.{Wide}
+use Rattle.rob_dualize.specs.Ending.{IsWideStop}
 use Rattle.rob_runs.specs.Cuts.{wholes}
 use Rattle.rob_runs.specs.Spots.{SomeWide}
 use Rattle.rob_sets.specs.FirstWide.{Some_of}
@@ -23,7 +23,7 @@ use Rattle.rob_cuts.specs.Stops.{StopsWith, IsInClearing, IsRefused}
 use Rattle.rob_cuts.proofs.RayLemmas.{wide_at_denominator}
 
 -- ---- stops
-pub stop_at : (P : Spot → Type 0) (place : Spot) (stop : Stop) → stop ≡ Wide place (record { rounds = [] }) → P place → StopsWith P stop
+pub stop_at : (P : Spot → Type 0) (place : Spot) (stop : Stop) → IsWideStop place stop → P place → StopsWith P stop
 stop_at P place stop e p = subst (StopsWith P) (sym e) p
 
 pub refused_at : (P : Spot → Type 0) (place : Spot) (cause : Type 0) → (cause → P place) → (r : Refusal) → StopsFor cause r → (stop : Stop) → IsRefused place r stop

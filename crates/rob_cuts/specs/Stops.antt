@@ -10,6 +10,7 @@ use Rattle.rob_solver.specs.declared.solving.Stopped.{Stopped}
 use Rattle.rob_solver.specs.declared.solving.Stopped.TheVariants as unsolved
 use Rattle.rob_cert.specs.declared.ending.Stop.{Stop}
 use Rattle.rob_cert.specs.declared.ending.Stop.TheVariants.{EmptySet, Wide, Memory}
+use Rattle.rob_dualize.specs.Ending.{IsWideStop}
 use Rattle.rob_runs.specs.Cuts.{Cut}
 use Rattle.rob_runs.specs.Spots.{HasWidePrefix, SomeWide}
 use Rattle.rob_sets.specs.declared.error.Stop.{Stop as Refusal}
@@ -34,7 +35,7 @@ IsInClearing limit c place = (place ≡ Clearing (of.Cut c.form)) × SomeWide li
 
 -- the stop is at the place where a number was wide, and for memory where that was refused
 abbrev pub IsRefused : Spot → Refusal → Stop → Type 0
-IsRefused place refusal.Wide stop = stop ≡ Wide place (record { rounds = [] })
+IsRefused place refusal.Wide stop = IsWideStop place stop
 IsRefused place refusal.Memory stop = stop ≡ Memory
 
 -- the stop with the rounds before it

@@ -8,8 +8,8 @@ ghost use Rattle.rob_cuts.specs.Rounds.{CutFits, scenario_cut_of, ray_cut_of};
 ghost use Rattle.rob_cuts.specs.Stops.{StopsWith, IsInClearing, IsRefused};
 
 use crate::clearing::clear_ray;
-use crate::stop::wide;
 use rob_cert::Stop;
+use rob_dualize::stop::wide_at;
 use rob_model::{Spot, Where};
 use rob_number::{Exact, List};
 use rob_sets::clearing::denominator;
@@ -35,7 +35,7 @@ pub fn scenario_cut<N: Exact>(alloc: Global, form: u32, scenario: &[N]) -> Resul
         (StopsWith (IsInClearing N.limit (scenario_cut_of form (map N.value scenario.now)))) }
 {
     let Some(base) = denominator(scenario) else {
-        return Err(wide(alloc, Spot::Clearing(Where::Cut(form))));
+        return Err(wide_at(alloc, Spot::Clearing(Where::Cut(form))));
     };
     match cleared(alloc, scenario, base) {
         Ok(vector) => Ok(Cut {
@@ -68,7 +68,7 @@ fn refused(alloc: Global, form: u32, refusal: Refusal) -> Stop
     ensures stop { IsRefused (Clearing (of.Cut form)) refusal result }
 {
     match refusal {
-        Refusal::Wide => wide(alloc, Spot::Clearing(Where::Cut(form))),
+        Refusal::Wide => wide_at(alloc, Spot::Clearing(Where::Cut(form))),
         Refusal::Memory => Stop::Memory,
     }
 }

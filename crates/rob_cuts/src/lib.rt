@@ -16,6 +16,5 @@ mod route;
 mod run;
 mod scan;
 mod step;
-mod stop;
 
 pub use route::solve_cuts;

@@ -9,10 +9,9 @@ ghost use Rattle.rob_cuts.specs.Rounds.{cut_of, CutFits};
 ghost use Rattle.rob_cuts.specs.Stops.{StopsWith, IsInSum};
 
 use crate::numbers::number;
-use crate::stop::wide;
 use rob_cert::{Round, Stop};
 use rob_dualize::entries::cost_number;
-use rob_dualize::stop::or_stop;
+use rob_dualize::stop::{or_stop, wide_at};
 use rob_elab::Forms;
 use rob_model::{Spot, Where};
 use rob_number::{Exact, List, Memory};
@@ -51,7 +50,7 @@ pub fn append_cut<N: Exact>(
     ensures stopped { IfErr result (StopsWith (IsInSum N.limit forms.now (cut_of round.now))) }
 {
     let Some(constant) = number::<N>(forms, round, 0) else {
-        return Err(wide(alloc, Spot::Sum(Where::Cut(round.form), 0)));
+        return Err(wide_at(alloc, Spot::Sum(Where::Cut(round.form), 0)));
     };
     match row::<N>(alloc, forms, round) {
         Ok(row) => or_stop(push_row(master, row, constant)),
@@ -72,7 +71,7 @@ fn row<N: Exact>(alloc: Global, forms: &Forms, round: &Round) -> Result<List<i64
     let mut row = List::new(alloc);
     for j in 0..forms.columns as usize + 1 {
         let Some(number) = number::<N>(forms, round, j + 1) else {
-            return Err(wide(alloc, Spot::Sum(Where::Cut(round.form), j as u32 + 1)));
+            return Err(wide_at(alloc, Spot::Sum(Where::Cut(round.form), j as u32 + 1)));
         };
         push_pair(&mut row, number)?;
     }

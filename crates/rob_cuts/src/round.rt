@@ -34,10 +34,9 @@ use crate::kept::Kept;
 use crate::look::{PlanLook, StepLook, look_at_plan, look_at_step};
 use crate::run::Run;
 use crate::step::whole_step;
-use crate::stop::wide;
 use rob_cert::{Cert, Round, Stop};
 use rob_dualize::Elaborated;
-use rob_dualize::stop::{or_stop, position, wide as wide_row};
+use rob_dualize::stop::{or_stop, position, wide, wide_at};
 use rob_dualize::told::basis;
 use rob_elab::Forms;
 use rob_model::{Plan, Program, Spot, Where};
@@ -78,7 +77,7 @@ pub fn next_round<N: Exact, L: Ledger>(
         Ok(solved) => solved,
         Err(Stopped::Wide(solver, stop)) => {
             let rows = run.rounds.items().len() as u32;
-            return Err(wide_row(alloc, &solver, Program::Master, rows, position(stop)));
+            return Err(wide(alloc, &solver, Program::Master, rows, position(stop)));
         }
         Err(Stopped::Memory) => return Err(Stop::Memory),
     };
@@ -188,7 +187,7 @@ fn unclear(alloc: Global, refusal: Refusal) -> Stop
     ensures stop { IsRefused (Clearing of.Move) refusal result }
 {
     match refusal {
-        Refusal::Wide => wide(alloc, Spot::Clearing(Where::Move)),
+        Refusal::Wide => wide_at(alloc, Spot::Clearing(Where::Move)),
         Refusal::Memory => Stop::Memory,
     }
 }

@@ -1,5 +1,5 @@
 -- What is answered of one model, from what its steps answer.
-use Rattle.std.proofs.Common.{◌≡◌, ℕ, ◌+◌, ◌-◌, ◌^◌, ◌≤◌, min, max, arith, sym, subst, inl, inr, Result, Ok, Err}
+use Rattle.std.proofs.Common.{◌≡◌, ℕ, ◌+◌, ◌-◌, ◌^◌, ◌≤◌, min, max, arith, refl, sym, subst, inl, inr, Result, Ok, Err}
 use Rattle.std.specs.Prelude.{MatchResult, IfErr}
 use Rattle.rob_meaning.specs.RobustModel.{RobustModel}
 use Rattle.rob_model.specs.declared.place.Spot.{Spot}
@@ -18,9 +18,7 @@ use Rattle.rob_elab.proofs.WrittenLemmas.{rose_wider}
 -- ---- why a model has no certificate
 module _ (limit : ℕ) (m : RobustModel) where
   wide_there : (spot : Spot) (stop : Stop) → IsWideIn limit m spot → IsWideStop spot stop → HasModelCause limit m stop
-  wide_there spot (EmptySet weights) wide h = absurd h
-  wide_there spot (Wide place trace) wide h = (subst (IsWideIn limit m) (sym h.0) wide, h.1)
-  wide_there spot Memory wide h = absurd h
+  wide_there spot stop wide h = subst (HasModelCause limit m) (sym h) (wide, refl)
 
   -- a number of its set rows and forms is wide, first; or memory is refused
   pub refused_written : (e : ElabErr) (stop : Stop) → writing.HasCause limit m (judged m) e → IsRefusal e stop

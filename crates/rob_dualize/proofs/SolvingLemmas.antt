@@ -57,9 +57,8 @@ rises n = omega arith
 -- the stop names a row of the basis
 pub stops_at : (basis columns : List ℕ) (program : Named) (i : ℕ) (stop : Stop) → columns ≡ basis → IsWideStop (spot.Dictionary program columns i) stop
     → StopsAt basis program i stop
-stops_at basis columns program i (EmptySet weights) e h = absurd h
-stops_at basis columns program i (Wide place trace) e h = (h.0 ∙ ap (λ b. spot.Dictionary program b i) e, h.1)
-stops_at basis columns program i Memory e h = tt
+stops_at basis columns program i stop e h =
+    subst (StopsAt basis program i) (sym h) (ap (λ b. spot.Dictionary program b i) e, refl)
 
 module _ (limit : ℕ) (m : RobustModel) where
   pub wide_in_counterpart : (basis : List ℕ) (i : ℕ) (stop : Stop) (scenario : List Fraction) → Admits m scenario → IsRefusedAt limit (counterpart m) basis i

@@ -96,9 +96,7 @@ position_of (At i) = i
 
 -- the stop names the spot, and no rounds
 abbrev pub IsWideStop : Spot → Stop → Type 0
-IsWideStop spot (EmptySet weights) = ⊥
-IsWideStop spot (Wide place trace) = (place ≡ spot) × (trace.rounds ≡ [])
-IsWideStop spot Memory = ⊥
+IsWideStop spot stop = stop ≡ Wide spot (record { rounds = [] })
 
 -- the stop names that program, that basis and that position, and no rounds; or memory was refused
 abbrev pub StopsAt : List ℕ → Named → ℕ → Stop → Type 0

@@ -1,5 +1,5 @@
 -- The numbers of a form at a whole vector, summed column by column, are the costs of its search.
-use Rattle.std.proofs.Common.{◌≡◌, ℕ, suc, ◌+◌, ◌-◌, ◌^◌, ◌<◌, ◌≤◌, List, [], ◌∷◌, ◌++◌, length, sym, ap, ap₂, ◌∙◌, subst, arith, inl, inr, to_z, of_z, w64, get_or}
+use Rattle.std.proofs.Common.{◌≡◌, ℕ, suc, ◌+◌, ◌-◌, ◌^◌, ◌<◌, ◌≤◌, List, [], ◌∷◌, ◌++◌, length, refl, sym, ap, ap₂, ◌∙◌, subst, arith, inl, inr, to_z, of_z, w64, get_or}
 use Rattle.std.proofs.lemmas.Bool.{cases_lt}
 use Rattle.std.proofs.lemmas.Int.{ints}
 use lib.IntN.{ℤ, pos, neg_ℤ, nat_abs, ◌+ℤ◌, ◌*ℤ◌}
@@ -26,7 +26,6 @@ use Rattle.std.specs.Prelude.{Option, Some, None, MatchOption}
 use Rattle.rob_model.specs.declared.place.Spot.TheVariants.{Sum}
 use Rattle.rob_model.specs.declared.place.Where.TheVariants.{Cost}
 use Rattle.rob_cert.specs.declared.ending.Stop.{Stop}
-use Rattle.rob_cert.specs.declared.ending.Stop.TheVariants.{EmptySet, Wide, Memory}
 use Rattle.rob_worst.specs.Costs.{product_at, part_at, column_part, IsWidePart, StopsAtPart}
 use Rattle.rob_dualize.specs.Ending.{IsWideStop}
 
@@ -66,9 +65,7 @@ module _ (forms : Forms) (i : ℕ) (whole : List ℤ) where
 
   -- the stop at a part
   pub part_stop : (limit k : ℕ) (stop : Stop) → k ≤ forms.params → IsWideStop (Sum (Cost i) k) stop → IsWidePart forms i limit k whole → StopsAtPart forms i limit whole stop
-  part_stop limit k (EmptySet weights) l h w = absurd h
-  part_stop limit k (Wide place trace) l h w = ((k, l, h.0, w), h.1)
-  part_stop limit k Memory l h w = absurd h
+  part_stop limit k stop l h w = subst (StopsAtPart forms i limit whole) (sym h) ((k, l, refl, w), refl)
 
   -- one column more
   pub costs_next : (c : ℕ) (list new : List ℤ) (v : ℤ) → list ≡ in_pairs (tabulate c (column_part forms i whole)) → v ≡ column_part forms i whole c → new ≡ list ++ v ∷ (neg_ℤ v ∷ [])

@@ -29,9 +29,7 @@ some_at limit d (q ∷ qs) (inr w) = let r : SomeWide limit (map (whole_at d) qs
 
 module _ (limit : ℕ) (m : RobustModel) (by_step : Bool) (i : ℕ) (z : List Fraction) where
   pub named_cause : (place : Spot) (stop : Stop) → IsWideStop place stop → IsWideAt limit m by_step i z place → HasSearchCause limit m by_step i z stop
-  named_cause place (EmptySet weights) h w = absurd h
-  named_cause place (Wide other trace) h w = (subst (IsWideAt limit m by_step i z) (sym h.0) w, h.1)
-  named_cause place Memory h w = absurd h
+  named_cause place stop h w = subst (HasSearchCause limit m by_step i z) (sym h) (w, refl)
 
   -- ---- clearing
   clearing_spot : (step : Bool) → step ≡ by_step → IsWideCleared limit z → IsWideAt limit m by_step i z (spot.Clearing (place_for step))

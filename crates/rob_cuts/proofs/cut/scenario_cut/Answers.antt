@@ -14,7 +14,7 @@ use Rattle.rob_cuts.proofs.cut.scenario_cut.Goals as goal
 pub returns-in_default-clause-stopped : goal.returns-in_default-clause-stopped
 returns-in_default-clause-stopped g c =
     let qs = map g.N.Exact.value c.args.scenario.now in
-    stop_at (IsInClearing g.N.Exact.limit (scenario_cut_of c.args.form qs)) (Clearing (of.Cut c.args.form)) c.wide.result c.wide.ensures.stop
+    stop_at (IsInClearing g.N.Exact.limit (scenario_cut_of c.args.form qs)) (Clearing (of.Cut c.args.form)) c.wide_at.result c.wide_at.ensures.stop
     (wide_base g.N.Exact.limit c.args.form qs c.in_default.ensures.least)
 
 pub returns-in-Ok-clause-cut : goal.returns-in-Ok-clause-cut
