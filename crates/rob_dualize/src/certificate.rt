@@ -1,11 +1,11 @@
 //! The certificate that is read off an ending of the counterpart.
 
-ghost use Rattle.std.specs.Prelude.{◌≡◌, ◌≤◌, IfOk};
+ghost use Rattle.std.specs.Prelude.{◌≡◌, IfOk};
 ghost use Rattle.rob_model.specs.View.{scenario_of};
 ghost use Rattle.rob_number.specs.declared.lp_kind.LpKind.TheVariants as kind;
 ghost use Rattle.rob_cert.specs.View.{certificate_of};
 ghost use Rattle.rob_dualize.specs.Ending.{HasEnded, read_from};
-ghost use Rattle.rob_dualize.specs.Wholes.{wholes_in, counterpart_in, IsFew};
+ghost use Rattle.rob_dualize.specs.Wholes.{wholes_in, counterpart_in, FitsSolver};
 
 use crate::counterpart::{program_columns, program_rows};
 use crate::elaborated::Elaborated;
@@ -26,8 +26,7 @@ pub fn certificate<N: Exact>(
     kind: LpKind,
     inside: Scenario<N>,
 ) -> Result<Cert<N>, Memory>
-    requires few { IsFew (counterpart_in model) }
-    requires parameters { model.forms.now.params ≤ model.set.now.columns }
+    requires model { FitsSolver N.limit model }
     requires ended { HasEnded (counterpart_in model) kind solver.now }
     ensures certificate { IfOk result (λ cert. certificate_of N.value cert
         ≡ read_from (wholes_in model.entry) (scenario_of N.value inside) kind solver.now) }
@@ -46,8 +45,7 @@ fn optimal<N: Exact>(
     solver: &Solver<N>,
     inside: Scenario<N>,
 ) -> Result<Cert<N>, Memory>
-    requires few { IsFew (counterpart_in model) }
-    requires parameters { model.forms.now.params ≤ model.set.now.columns }
+    requires model { FitsSolver N.limit model }
     requires ended { HasEnded (counterpart_in model) kind.Optimal solver.now }
     ensures certificate { IfOk result (λ cert. certificate_of N.value cert
         ≡ read_from (wholes_in model.entry) (scenario_of N.value inside) kind.Optimal solver.now) }
@@ -79,8 +77,7 @@ fn infeasible<N: Exact>(
     solver: &Solver<N>,
     inside: Scenario<N>,
 ) -> Result<Cert<N>, Memory>
-    requires few { IsFew (counterpart_in model) }
-    requires parameters { model.forms.now.params ≤ model.set.now.columns }
+    requires model { FitsSolver N.limit model }
     requires ended { HasEnded (counterpart_in model) kind.Infeasible solver.now }
     ensures certificate { IfOk result (λ cert. certificate_of N.value cert
         ≡ read_from (wholes_in model.entry) (scenario_of N.value inside) kind.Infeasible solver.now) }
@@ -97,7 +94,7 @@ fn unbounded<N: Exact>(
     solver: &Solver<N>,
     inside: Scenario<N>,
 ) -> Result<Cert<N>, Memory>
-    requires few { IsFew (counterpart_in model) }
+    requires model { FitsSolver N.limit model }
     requires ended { HasEnded (counterpart_in model) kind.Unbounded solver.now }
     ensures certificate { IfOk result (λ cert. certificate_of N.value cert
         ≡ read_from (wholes_in model.entry) (scenario_of N.value inside) kind.Unbounded solver.now) }

@@ -1,7 +1,7 @@
 //! Plans, covers and items, read off the numbers of an ending. The columns of a pair, and a pair of equating rows,
 //! count as the difference of their numbers.
 
-ghost use Rattle.std.specs.Prelude.{◌≡◌, ◌<◌, ◌≤◌, ◌+◌, ◌*◌, ◌^◌, ◌++◌, ℕ, suc, map, length, IfOk, IsTrue, ◌↔◌};
+ghost use Rattle.std.specs.Prelude.{◌≡◌, ◌<◌, ◌≤◌, ◌+◌, ◌*◌, ◌++◌, suc, map, length, IfOk};
 ghost use Rattle.std.specs.Bool.{Decides};
 ghost use Rattle.rob_algebra.specs.Fraction.{◌-ℚ◌};
 ghost use Rattle.rob_meaning.specs.Places.{0ℚ};
@@ -10,7 +10,7 @@ ghost use Rattle.rob_counterpart.specs.Splitting.{difference as difference_of, O
 ghost use Rattle.rob_counterpart.specs.Reform.{pairs};
 ghost use Rattle.rob_dualize.specs.Numbers.{told, KeepPairs, KeepRows};
 ghost use Rattle.rob_counterpart.specs.ReadNumbers.{differences, covers_at, covers_to, vector_at, items_to, all_zero, covers_kept};
-ghost use Rattle.rob_dualize.specs.Wholes.{wholes_in, counterpart_in, IsFew};
+ghost use Rattle.rob_dualize.specs.Wholes.{wholes_in, counterpart_in, FitsSolver, IsFew};
 
 use crate::elaborated::Elaborated;
 use crate::told::whole;
@@ -106,8 +106,7 @@ pub fn items<N: Exact>(
     model: Elaborated,
     numbers: &[N],
 ) -> Result<List<Item<N>>, Memory>
-    requires few { IsFew (counterpart_in model) }
-    requires parameters { model.forms.now.params ≤ model.set.now.columns }
+    requires model { FitsSolver N.limit model }
     requires numbers { length numbers.now ≡ (counterpart_in model).m }
     requires pairs { KeepRows N.value (wholes_in model) numbers.now }
     ensures items { IfOk result (λ list. map (item_of N.value) list
@@ -138,8 +137,7 @@ fn vector<N: Exact>(
     numbers: &[N],
     i: usize,
 ) -> Result<List<N>, Memory>
-    requires few { IsFew (counterpart_in model) }
-    requires parameters { model.forms.now.params ≤ model.set.now.columns }
+    requires model { FitsSolver N.limit model }
     requires numbers { length numbers.now ≡ (counterpart_in model).m }
     requires pairs { KeepRows N.value (wholes_in model) numbers.now }
     requires form_in { i < length model.forms.now.matrices }

@@ -8,6 +8,7 @@ use Rattle.rob_counterpart.specs.RobustProgram.{RobustProgram}
 use Rattle.rob_counterpart.specs.Reform.{reform}
 use Rattle.rob_dualize.specs.Ending.{infeasible_with}
 use Rattle.rob_dualize.specs.Wholes.{wholes}
+use Rattle.rob_dualize.proofs.MakingLemmas.{parameters_low}
 use Rattle.rob_dualize.proofs.CertificateLemmas.{rows_told, infeasible_rows, count_told, rows_kept, items_read}
 use Rattle.rob_dualize.proofs.certificate.infeasible.Goals as goal
 
@@ -34,5 +35,5 @@ returns g c =
     record {
       certificate = c.with_items.ensures.certificate
           ∙ ap (infeasible_with (scenario_of value c.args.inside))
-          (c.in_ok-items.ensures.items ∙ items_read value c.items.result.now c.program_rows.result (λ i. of_int (weights_of c.args.solver.now i)) (ap (map value) c.items.ensures.list ∙ c.in_ok-weights.ensures.numbers) d c.program_rows.ensures.count c.requires.parameters);
+          (c.in_ok-items.ensures.items ∙ items_read value c.items.result.now c.program_rows.result (λ i. of_int (weights_of c.args.solver.now i)) (ap (map value) c.items.ensures.list ∙ c.in_ok-weights.ensures.numbers) d c.program_rows.ensures.count (parameters_low c.args.model.forms.now c.args.model.set.now c.requires.model.elaborated));
     }

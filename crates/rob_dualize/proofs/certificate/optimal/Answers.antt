@@ -7,6 +7,7 @@ use Rattle.rob_simplex.specs.Solutions.{point_of, dual_of}
 use Rattle.rob_counterpart.specs.RobustProgram.{RobustProgram}
 use Rattle.rob_counterpart.specs.Reform.{reform}
 use Rattle.rob_dualize.specs.Wholes.{wholes}
+use Rattle.rob_dualize.proofs.MakingLemmas.{parameters_low}
 use Rattle.rob_dualize.proofs.CertificateLemmas.{rows_told, columns_told, optimal_pairs, optimal_rows, count_told, pair_told, pairs_told, rows_kept, difference_read, differences_read, covers_read, items_read, parts_same}
 use Rattle.rob_dualize.proofs.certificate.optimal.Goals as goal
 
@@ -73,5 +74,5 @@ returns g c =
           c.whole-2.ensures.value
           (c.in_ok-covers.ensures.covers ∙ covers_read value c.items-2.result.now c.program_columns.result (point_of c.args.solver.now) (ap (map value) c.items-2.ensures.list ∙ c.in_ok-x.ensures.numbers) d c.program_columns.ensures.count)
           (ap (map (cover_of value)) c.new-2.ensures.empty)
-          (c.in_ok-items.ensures.items ∙ items_read value c.items-3.result.now c.program_rows.result (dual_of c.args.solver.now) (ap (map value) c.items-3.ensures.list ∙ c.in_ok-y.ensures.numbers) d c.program_rows.ensures.count c.requires.parameters);
+          (c.in_ok-items.ensures.items ∙ items_read value c.items-3.result.now c.program_rows.result (dual_of c.args.solver.now) (ap (map value) c.items-3.ensures.list ∙ c.in_ok-y.ensures.numbers) d c.program_rows.ensures.count (parameters_low c.args.model.forms.now c.args.model.set.now c.requires.model.elaborated));
     }

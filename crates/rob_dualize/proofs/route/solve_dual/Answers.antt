@@ -22,6 +22,9 @@ scenario-requires g c = record { model = record { elaborated = c.requires.model;
 pub solve_counterpart-requires : goal.solve_counterpart-requires
 solve_counterpart-requires g c = record { model = record { elaborated = c.requires.model; few = c.requires.few } }
 
+pub certificate-requires-clause-model : goal.certificate-requires-clause-model
+certificate-requires-clause-model g c = record { elaborated = c.requires.model; few = c.requires.few }
+
 pub returns-in-Err-clause-solves : goal.returns-in-Err-clause-solves
 returns-in-Err-clause-solves g c = λ m model f st.
     stopped_with g.N.Exact.value g.N.Exact.limit m (g.L.Ledger.wides c.args.ledger.now) (g.L.Ledger.wides c.scenario.new.ledger) c.in-Err.stop
