@@ -1,6 +1,6 @@
 //! The forms in order at the master's plan or direction: the first that is broken there, or what covers them all.
 
-ghost use Rattle.std.specs.Prelude.{◌≡◌, ◌<◌, ◌^◌, List, length, IfOk, MatchResult};
+ghost use Rattle.std.specs.Prelude.{◌≡◌, ◌<◌, List, length, IfOk, MatchResult};
 ghost use Rattle.rob_meaning.specs.Forms.{form_columns, matrices};
 ghost use Rattle.rob_meaning.specs.RobustModel.{RobustModel};
 ghost use Rattle.rob_algebra.specs.Fraction.{Fraction};
@@ -12,7 +12,7 @@ ghost use Rattle.rob_dualize.specs.SetSolving.{IsFewSet};
 ghost use Rattle.rob_dualize.specs.Wholes.{OfEachModel};
 ghost use Rattle.rob_worst.specs.Finders.{IsFinder};
 ghost use Rattle.rob_worst.specs.Finding.{HasConstantWithin, Tells, Searches};
-ghost use Rattle.rob_cuts.specs.Solving.{AreOfModel};
+ghost use Rattle.rob_cuts.specs.Solving.{FitsRoute};
 ghost use Rattle.rob_cuts.specs.Scans.{vector_of, by_step_of, FitsTarget, TellsFew, verdict_of, IsJudged, IsStoppedAt, IsScanned, IsScanStopped};
 
 use crate::cut::{Cut, ray_cut, scenario_cut};
@@ -59,9 +59,7 @@ pub fn scan_forms<N: Exact, L: Ledger>(
     target: Target<N>,
     ledger: &mut L,
 ) -> Result<Scan<N>, Stop>
-    requires model { AreOfModel N.limit model.forms.now model.set.now }
-    requires few { IsFewSet model.set.now }
-    requires few_forms { length model.forms.now.matrices < 2 ^ 32 }
+    requires model { FitsRoute N.limit model }
     requires finder { IsFinder model.set.now finder.old }
     requires target { FitsTarget model.forms.now.columns target }
     ensures scanned { OfEachModel model.entry.forms.now model.entry.set.now
@@ -71,9 +69,10 @@ pub fn scan_forms<N: Exact, L: Ledger>(
     ensures wides { CountsAnswer (L.wides ledger.old) (L.wides ledger.new) result }
     ensures counted { NeverFell L.ops L.wides ledger.old ledger.new }
 {
+    let count = model.forms.matrices.items().len() as u32;
     let mut scale = whole(1);
     let mut covers = List::new(alloc);
-    for form in 0..model.forms.matrices.items().len() as u32 {
+    for form in 0..count {
         let worst = match search(alloc, model, finder, form, target, ledger) {
             Ok(worst) => worst,
             Err(stop) => return Err(stop),

@@ -4,21 +4,11 @@ use Rattle.rob_worst.specs.Vectors.{step_of}
 use Rattle.rob_cuts.specs.Scans.{IsScanned}
 use Rattle.rob_cuts.specs.declared.scan.Scan.{Scan}
 use Rattle.rob_cuts.proofs.LookLemmas.{step_broken, step_kept, step_stopped, step_count}
-use Rattle.rob_dualize.proofs.MakingLemmas.{set_of_few}
-use Rattle.rob_cuts.proofs.RouteLemmas.{few_forms, few_pairs}
+use Rattle.rob_cuts.proofs.RouteLemmas.{few_pairs}
 use Rattle.rob_cuts.proofs.look.look_at_step.Goals as goal
 
 pub direction-requires-clause-few : goal.direction-requires-clause-few
 direction-requires-clause-few g c = omega (arith, c.requires.columns, few_pairs c.args.model.forms.now c.args.model.set.now c.requires.model.elaborated c.requires.model.few)
-
-pub scan_forms-requires-clause-model : goal.scan_forms-requires-clause-model
-scan_forms-requires-clause-model g c = c.requires.model.of_model
-
-pub scan_forms-requires-clause-few : goal.scan_forms-requires-clause-few
-scan_forms-requires-clause-few g c = set_of_few c.args.model.forms.now c.args.model.set.now c.requires.model.elaborated c.requires.model.few
-
-pub scan_forms-requires-clause-few_forms : goal.scan_forms-requires-clause-few_forms
-scan_forms-requires-clause-few_forms g c = few_forms c.args.model.forms.now c.args.model.set.now c.requires.model.elaborated c.requires.model.few
 
 pub scan_forms-requires-clause-target : goal.scan_forms-requires-clause-target
 scan_forms-requires-clause-target g c =

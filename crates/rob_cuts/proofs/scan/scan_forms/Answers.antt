@@ -3,7 +3,9 @@ use Rattle.rob_meaning.specs.Forms.{matrices}
 use Rattle.rob_dualize.specs.Solving.{CountsStop}
 use Rattle.rob_cuts.specs.Scans.{vector_of, by_step_of, IsJudged}
 use Rattle.rob_cuts.specs.declared.scan.Verdict.{Verdict}
+use Rattle.rob_dualize.proofs.MakingLemmas.{set_of_few}
 use Rattle.rob_cuts.proofs.JudgeLemmas.{tells_few}
+use Rattle.rob_cuts.proofs.RouteLemmas.{few_forms}
 use Rattle.rob_cuts.proofs.ScanLemmas.{target_count, kept_none, judged_more, broken_first, search_stops, cut_stops, all_kept}
 use Rattle.rob_cuts.proofs.SolvingLemmas.{counts_rise}
 use Rattle.rob_cuts.proofs.scan.scan_forms.Goals as goal
@@ -16,10 +18,14 @@ loop-form-init g c = record {
   counted = record { ops = omega arith; wides = omega arith };
 }
 
+pub overflow_cast-count : goal.overflow_cast-count
+overflow_cast-count g c =
+    omega (arith, ap length c.items.ensures.list, few_forms c.args.model.forms.now c.args.model.set.now c.requires.model.elaborated c.requires.model.few)
+
 pub search-requires : goal.search-requires
 search-requires g c = record {
   model = c.requires.model.elaborated;
-  few = c.requires.few;
+  few = set_of_few c.args.model.forms.now c.args.model.set.now c.requires.model.elaborated c.requires.model.few;
   finder = c.loop-form.invariant.finder;
   form_in = omega (arith, c.loop-form-test.true, ap length c.items.ensures.list);
   target = c.requires.target;
@@ -44,7 +50,8 @@ judge-requires g c =
     let e = c.requires.model.elaborated in
     let some : c.loop-form.form < length (matrices e.model) = omega (arith, c.loop-form-test.true, ap length c.items.ensures.list, ap length e.are_forms.matrices) in
     record {
-      amounts = tells_few g.N.Exact.value e.model c.requires.model.is_model c.args.model.set.now e.is_set c.requires.few c.loop-form.form some
+      amounts = tells_few g.N.Exact.value e.model c.requires.model.is_model c.args.model.set.now e.is_set
+          (set_of_few c.args.model.forms.now c.args.model.set.now e c.requires.model.few) c.loop-form.form some
           (vector_of g.N.Exact.value c.args.target)
           (target_count g.N.Exact.value c.args.target c.args.model.forms.now.columns c.requires.target ∙ ap (λ n. suc (suc n)) e.are_forms.columns)
           c.in-Ok.worst (c.in-Ok.ensures.answer e.model c.requires.model.is_model e.are_forms e.is_set).found;
