@@ -1,7 +1,6 @@
 //! The plan and the direction of a solved master, and whether all forms are kept there.
 
-ghost use Rattle.std.specs.Prelude.{◌≡◌, ◌≤◌, ◌<◌, ◌+◌, ℕ, true, false, suc, MatchResult};
-ghost use Rattle.rob_counterpart.specs.Splitting.{OneIsZero, plus, minus};
+ghost use Rattle.std.specs.Prelude.{◌<◌, true, false, MatchResult};
 ghost use Rattle.rob_number.specs.Counts.{NeverFell};
 ghost use Rattle.rob_simplex.specs.Solvers.{HasPoint, HasRay};
 ghost use Rattle.rob_simplex.specs.Solutions.{point_of, ray_of};
@@ -9,7 +8,7 @@ ghost use Rattle.rob_dualize.specs.Solving.{CountsAnswer};
 ghost use Rattle.rob_dualize.specs.Wholes.{OfEachModel};
 ghost use Rattle.rob_runs.specs.Runs.{plan_at, direction_at};
 ghost use Rattle.rob_worst.specs.Finders.{IsFinder};
-ghost use Rattle.rob_cuts.specs.Looks.{IsPlanLook, IsStepLook};
+ghost use Rattle.rob_cuts.specs.Looks.{IsInPairs, IsPlanLook, IsStepLook};
 ghost use Rattle.rob_cuts.specs.Scans.{IsScanStopped};
 ghost use Rattle.rob_cuts.specs.Solving.{FitsRoute};
 
@@ -54,9 +53,7 @@ pub fn look_at_plan<N: Exact, L: Ledger>(
     requires model { FitsRoute N.limit model }
     requires finder { IsFinder model.set.now finder.old }
     requires point { HasPoint solver.now }
-    requires columns { suc model.forms.now.columns + suc model.forms.now.columns ≡ solver.now.columns }
-    requires one { (j : ℕ) → j ≤ model.forms.now.columns
-        → OneIsZero (point_of solver.now (plus j)) (point_of solver.now (minus j)) }
+    requires pairs { IsInPairs model.forms.now.columns solver.now.columns (point_of solver.now) }
     ensures look { OfEachModel model.entry.forms.now model.entry.set.now
         (λ m. MatchResult result (IsPlanLook N.limit m N.value (point_of solver.now))
         (IsScanStopped N.limit m false (plan_at m (point_of solver.now)))) }
@@ -86,9 +83,7 @@ pub fn look_at_step<N: Exact, L: Ledger>(
     requires model { FitsRoute N.limit model }
     requires finder { IsFinder model.set.now finder.old }
     requires ray { HasRay solver.now }
-    requires columns { suc model.forms.now.columns + suc model.forms.now.columns ≡ solver.now.columns }
-    requires one { (j : ℕ) → j ≤ model.forms.now.columns
-        → OneIsZero (ray_of solver.now (plus j)) (ray_of solver.now (minus j)) }
+    requires pairs { IsInPairs model.forms.now.columns solver.now.columns (ray_of solver.now) }
     ensures look { OfEachModel model.entry.forms.now model.entry.set.now
         (λ m. MatchResult result (IsStepLook N.limit m N.value (ray_of solver.now))
         (IsScanStopped N.limit m true (direction_at m (ray_of solver.now)))) }

@@ -1,11 +1,12 @@
 //! The plan and the direction of a master, read off its solver. The columns of a pair count as the difference of their
 //! numbers.
 
-ghost use Rattle.std.specs.Prelude.{◌≡◌, ◌≤◌, ◌<◌, ◌+◌, ◌^◌, ℕ, suc, map, IfOk};
+ghost use Rattle.std.specs.Prelude.{◌≡◌, ◌<◌, ◌+◌, ◌^◌, suc, map, IfOk};
 ghost use Rattle.rob_counterpart.specs.ReadNumbers.{differences};
 ghost use Rattle.rob_counterpart.specs.Splitting.{difference as difference_of, OneIsZero, plus, minus};
 ghost use Rattle.rob_simplex.specs.Solvers.{HasPoint, HasRay};
 ghost use Rattle.rob_simplex.specs.Solutions.{point_of, ray_of};
+ghost use Rattle.rob_cuts.specs.Looks.{IsInPairs};
 
 use rob_dualize::reading::difference;
 use rob_model::Plan;
@@ -38,9 +39,8 @@ fn ray_difference<N: Exact>(solver: &Solver<N>, j: u32) -> N
 /// The plan of the point: a number for each decision column, and the bound behind them.
 pub fn plan<N: Exact>(alloc: Global, solver: &Solver<N>, decisions: u32) -> Result<Plan<N>, Memory>
     requires point { HasPoint solver.now }
-    requires inside { suc decisions + suc decisions ≡ solver.now.columns }
+    requires pairs { IsInPairs decisions solver.now.columns (point_of solver.now) }
     requires few { solver.now.columns < 2 ^ 31 }
-    requires one { (j : ℕ) → j ≤ decisions → OneIsZero (point_of solver.now (plus j)) (point_of solver.now (minus j)) }
     ensures columns { IfOk result (λ plan. map N.value plan.columns ≡ differences decisions (point_of solver.now)) }
     ensures bound { IfOk result (λ plan. N.value plan.bound ≡ difference_of (point_of solver.now) decisions) }
 {
@@ -59,9 +59,8 @@ pub fn direction<N: Exact>(
     decisions: u32,
 ) -> Result<List<N>, Memory>
     requires ray { HasRay solver.now }
-    requires inside { suc decisions + suc decisions ≡ solver.now.columns }
+    requires pairs { IsInPairs decisions solver.now.columns (ray_of solver.now) }
     requires few { solver.now.columns < 2 ^ 31 }
-    requires one { (j : ℕ) → j ≤ decisions → OneIsZero (ray_of solver.now (plus j)) (ray_of solver.now (minus j)) }
     ensures numbers { IfOk result (λ list. map N.value list ≡ differences (suc decisions) (ray_of solver.now)) }
 {
     let mut numbers = List::new(alloc);

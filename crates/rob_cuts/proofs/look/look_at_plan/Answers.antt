@@ -8,7 +8,7 @@ use Rattle.rob_cuts.proofs.RouteLemmas.{few_pairs}
 use Rattle.rob_cuts.proofs.look.look_at_plan.Goals as goal
 
 pub plan-requires-clause-few : goal.plan-requires-clause-few
-plan-requires-clause-few g c = omega (arith, c.requires.columns, few_pairs c.args.model.forms.now c.args.model.set.now c.requires.model.elaborated c.requires.model.few)
+plan-requires-clause-few g c = omega (arith, c.requires.pairs.count, few_pairs c.args.model.forms.now c.args.model.set.now c.requires.model.elaborated c.requires.model.few)
 
 pub scan_forms-requires-clause-target : goal.scan_forms-requires-clause-target
 scan_forms-requires-clause-target g c =

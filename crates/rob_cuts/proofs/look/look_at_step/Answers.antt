@@ -8,7 +8,7 @@ use Rattle.rob_cuts.proofs.RouteLemmas.{few_pairs}
 use Rattle.rob_cuts.proofs.look.look_at_step.Goals as goal
 
 pub direction-requires-clause-few : goal.direction-requires-clause-few
-direction-requires-clause-few g c = omega (arith, c.requires.columns, few_pairs c.args.model.forms.now c.args.model.set.now c.requires.model.elaborated c.requires.model.few)
+direction-requires-clause-few g c = omega (arith, c.requires.pairs.count, few_pairs c.args.model.forms.now c.args.model.set.now c.requires.model.elaborated c.requires.model.few)
 
 pub scan_forms-requires-clause-target : goal.scan_forms-requires-clause-target
 scan_forms-requires-clause-target g c =

@@ -11,7 +11,7 @@ loop-j-preserved g c =
     c.loop-j.invariant c.in_ok-push.ensures.appended c.ray_difference.ensures.value
 
 pub ray_difference-requires-clause-one : goal.ray_difference-requires-clause-one
-ray_difference-requires-clause-one g c = c.requires.one c.loop-j.j (omega (arith, c.loop-j-test.true))
+ray_difference-requires-clause-one g c = c.requires.pairs.one c.loop-j.j (omega (arith, c.loop-j-test.true))
 
 pub returns : goal.returns
 returns g c =

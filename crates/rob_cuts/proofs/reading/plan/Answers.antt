@@ -10,4 +10,4 @@ loop-j-preserved g c =
     c.loop-j.invariant c.in_ok-push.ensures.appended c.point_difference.ensures.value
 
 pub point_difference-requires-clause-one : goal.point_difference-requires-clause-one
-point_difference-requires-clause-one g c = c.requires.one c.loop-j.j (omega (arith, c.loop-j-test.true))
+point_difference-requires-clause-one g c = c.requires.pairs.one c.loop-j.j (omega (arith, c.loop-j-test.true))

@@ -20,8 +20,10 @@ look_at_plan-requires g c =
       model = c.requires.model;
       finder = c.requires.finder;
       point = c.requires.ended.answered.1;
-      columns = columns_are_pairs e.model c.args.model.forms.now e.are_forms c.args.run.now.rounds c.args.run.now.master c.requires.run.master c.args.solver.now kind.Optimal c.requires.ended;
-      one = best_one e.model c.args.model.forms.now e.are_forms c.args.run.now.rounds c.args.run.now.master c.requires.run.master c.args.solver.now c.requires.ended;
+      pairs = record {
+        count = columns_are_pairs e.model c.args.model.forms.now e.are_forms c.args.run.now.rounds c.args.run.now.master c.requires.run.master c.args.solver.now kind.Optimal c.requires.ended;
+        one = best_one e.model c.args.model.forms.now e.are_forms c.args.run.now.rounds c.args.run.now.master c.requires.run.master c.args.solver.now c.requires.ended;
+      };
     }
 
 pub best_round-requires : goal.best_round-requires

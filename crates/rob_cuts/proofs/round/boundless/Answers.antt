@@ -23,8 +23,10 @@ look_at_step-requires g c =
       model = c.requires.model;
       finder = c.requires.finder;
       ray = c.requires.ended.answered.0;
-      columns = columns_are_pairs e.model c.args.model.forms.now e.are_forms c.args.run.now.rounds c.args.run.now.master c.requires.run.master c.args.solver.now kind.Unbounded c.requires.ended;
-      one = direction_one e.model c.args.model.forms.now e.are_forms c.args.run.now.rounds c.args.run.now.master c.requires.run.master c.args.solver.now c.requires.ended;
+      pairs = record {
+        count = columns_are_pairs e.model c.args.model.forms.now e.are_forms c.args.run.now.rounds c.args.run.now.master c.requires.run.master c.args.solver.now kind.Unbounded c.requires.ended;
+        one = direction_one e.model c.args.model.forms.now e.are_forms c.args.run.now.rounds c.args.run.now.master c.requires.run.master c.args.solver.now c.requires.ended;
+      };
     }
 
 pub look_at_plan-requires : goal.look_at_plan-requires
@@ -34,8 +36,10 @@ look_at_plan-requires g c =
       model = c.requires.model;
       finder = c.look_at_step.ensures.finder;
       point = c.requires.ended.answered.1;
-      columns = columns_are_pairs e.model c.args.model.forms.now e.are_forms c.args.run.now.rounds c.args.run.now.master c.requires.run.master c.args.solver.now kind.Unbounded c.requires.ended;
-      one = boundless_one e.model c.args.model.forms.now e.are_forms c.args.run.now.rounds c.args.run.now.master c.requires.run.master c.args.solver.now c.requires.ended;
+      pairs = record {
+        count = columns_are_pairs e.model c.args.model.forms.now e.are_forms c.args.run.now.rounds c.args.run.now.master c.requires.run.master c.args.solver.now kind.Unbounded c.requires.ended;
+        one = boundless_one e.model c.args.model.forms.now e.are_forms c.args.run.now.rounds c.args.run.now.master c.requires.run.master c.args.solver.now c.requires.ended;
+      };
     }
 
 pub boundless_round-requires-clause-within : goal.boundless_round-requires-clause-within
