@@ -1,13 +1,18 @@
 -- What a round leads to.
-use Rattle.std.specs.Prelude.{◌≡◌, ℕ, List, length, Result, MatchResult, ⊤}
+use Rattle.std.specs.Prelude.{◌≡◌, ℕ, ◌<◌, ◌^◌, List, length, Result, MatchResult, ⊤}
 use Rattle.rob_algebra.specs.Fraction.{Fraction}
 use Rattle.rob_meaning.specs.Certificates.{Certificate}
 use Rattle.rob_meaning.specs.RobustModel.{RobustModel}
 use Rattle.rob_meaning.specs.UncertaintySet.{Admits}
+use Rattle.rob_number.specs.declared.lp_kind.LpKind.{LpKind}
+use Rattle.rob_rows.specs.LinearPrograms.{program_of}
+use Rattle.rob_rows.specs.declared.program.Lp.{Lp}
+use Rattle.rob_simplex.specs.Solvers.{Solver, positions}
 use Rattle.rob_cert.specs.Shape.{HasShape}
 use Rattle.rob_cert.specs.View.{certificate_of}
 use Rattle.rob_cert.specs.declared.trace.Round.{Round as Told}
 use Rattle.rob_cert.specs.declared.ending.Stop.{Stop}
+use Rattle.rob_dualize.specs.Ending.{HasEnded}
 use Rattle.rob_dualize.specs.Solving.{IsLastScenario}
 use Rattle.rob_dualize.specs.Wholes.{OfEachModel}
 use Rattle.rob_dualize.specs.declared.elaborated.Elaborated.{Elaborated}
@@ -27,6 +32,11 @@ use Rattle.rob_cuts.specs.declared.round.Outcome.TheVariants as outcome
 use Rattle.rob_cuts.specs.Places.{spot_told, IsRefusedAfter}
 use Rattle.rob_cuts.specs.Rounds.{round_told, cut_of, cuts_told, CutFits}
 use Rattle.rob_cuts.specs.Stops.{StopsWith}
+
+-- the solver's answer is true of the master, and it has few positions
+pub record EndsMaster (master : Lp) (kind : LpKind) (s : Solver) : Type 0 where
+  pub answer : HasEnded (program_of master) kind s
+  pub few : positions s < 2 ^ 31
 
 -- the certificate is read off where the run over these cuts is finished, and has its shape
 pub record IsEnd (m : RobustModel) (cuts : List Cut) (c : Certificate) : Type 0 where

@@ -14,7 +14,7 @@ ghost use Rattle.rob_sets.specs.declared.set_form.SetForm.{SetForm as SetRows};
 ghost use Rattle.rob_simplex.specs.Solvers.{positions, column_of, HasOptimum, HasRay, HasWeights};
 ghost use Rattle.rob_simplex.specs.Solutions.{dual_of, weights_of};
 ghost use Rattle.rob_solver.specs.Solving.{IsSolved, IsStopped, IsCausedDeep, CountsSolving};
-ghost use Rattle.rob_dualize.specs.Ending.{HasEnded, infeasible_with};
+ghost use Rattle.rob_dualize.specs.Ending.{infeasible_with};
 ghost use Rattle.rob_dualize.specs.Solving.{CountsAnswer};
 ghost use Rattle.rob_dualize.specs.SetSolving.{IsFewSet};
 ghost use Rattle.rob_worst.specs.Finders.{IsFinder};
@@ -25,7 +25,7 @@ ghost use Rattle.rob_cuts.specs.Rounds.{round_told, RoundFits};
 ghost use Rattle.rob_cuts.specs.Runs.{IsRunSoFar};
 ghost use Rattle.rob_cuts.specs.Solving.{FitsRoute};
 ghost use Rattle.rob_cuts.specs.Stops.{IsRefused, HasFewRows};
-ghost use Rattle.rob_cuts.specs.Outcomes.{LeadsOn, IsEndWith};
+ghost use Rattle.rob_cuts.specs.Outcomes.{EndsMaster, LeadsOn, IsEndWith};
 ghost use Rattle.rob_cuts.specs.declared.round.Outcome.TheVariants as Leads;
 
 use crate::certificate::{infeasible, optimal, unbounded};
@@ -121,8 +121,7 @@ fn best<N: Exact, L: Ledger>(
     requires model { FitsRoute N.limit model }
     requires finder { IsFinder model.set.now finder.old }
     requires run { IsRunSoFar N.limit model.forms.now model.set.now run.now }
-    requires few_rows { positions solver.now < 2 ^ 31 }
-    requires ended { HasEnded (program_of run.now.master) kinds.Optimal solver.now }
+    requires ended { EndsMaster run.now.master kinds.Optimal solver.now }
     ensures outcome { LeadsOn N.value N.limit model.entry run.now.rounds result }
     ensures finder { IsFinder model.entry.set.now finder.new }
     ensures wides { CountsAnswer (L.wides ledger.old) (L.wides ledger.new) result }
@@ -149,8 +148,7 @@ fn boundless<N: Exact, L: Ledger>(
     requires model { FitsRoute N.limit model }
     requires finder { IsFinder model.set.now finder.old }
     requires run { IsRunSoFar N.limit model.forms.now model.set.now run.now }
-    requires few_rows { positions solver.now < 2 ^ 31 }
-    requires ended { HasEnded (program_of run.now.master) kinds.Unbounded solver.now }
+    requires ended { EndsMaster run.now.master kinds.Unbounded solver.now }
     ensures outcome { LeadsOn N.value N.limit model.entry run.now.rounds result }
     ensures finder { IsFinder model.entry.set.now finder.new }
     ensures wides { CountsAnswer (L.wides ledger.old) (L.wides ledger.new) result }

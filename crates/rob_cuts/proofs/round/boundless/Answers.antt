@@ -22,10 +22,10 @@ look_at_step-requires g c =
     record {
       model = c.requires.model;
       finder = c.requires.finder;
-      ray = c.requires.ended.answered.0;
+      ray = c.requires.ended.answer.answered.0;
       pairs = record {
-        count = columns_are_pairs e.model c.args.model.forms.now e.are_forms c.args.run.now.rounds c.args.run.now.master c.requires.run.master c.args.solver.now kind.Unbounded c.requires.ended;
-        one = direction_one e.model c.args.model.forms.now e.are_forms c.args.run.now.rounds c.args.run.now.master c.requires.run.master c.args.solver.now c.requires.ended;
+        count = columns_are_pairs e.model c.args.model.forms.now e.are_forms c.args.run.now.rounds c.args.run.now.master c.requires.run.master c.args.solver.now kind.Unbounded c.requires.ended.answer;
+        one = direction_one e.model c.args.model.forms.now e.are_forms c.args.run.now.rounds c.args.run.now.master c.requires.run.master c.args.solver.now c.requires.ended.answer;
       };
     }
 
@@ -35,10 +35,10 @@ look_at_plan-requires g c =
     record {
       model = c.requires.model;
       finder = c.look_at_step.ensures.finder;
-      point = c.requires.ended.answered.1;
+      point = c.requires.ended.answer.answered.1;
       pairs = record {
-        count = columns_are_pairs e.model c.args.model.forms.now e.are_forms c.args.run.now.rounds c.args.run.now.master c.requires.run.master c.args.solver.now kind.Unbounded c.requires.ended;
-        one = boundless_one e.model c.args.model.forms.now e.are_forms c.args.run.now.rounds c.args.run.now.master c.requires.run.master c.args.solver.now c.requires.ended;
+        count = columns_are_pairs e.model c.args.model.forms.now e.are_forms c.args.run.now.rounds c.args.run.now.master c.requires.run.master c.args.solver.now kind.Unbounded c.requires.ended.answer;
+        one = boundless_one e.model c.args.model.forms.now e.are_forms c.args.run.now.rounds c.args.run.now.master c.requires.run.master c.args.solver.now c.requires.ended.answer;
       };
     }
 
@@ -71,14 +71,14 @@ inside-requires g c =
 
 pub returns-in-Ok-Broken-clause-outcome : goal.returns-in-Ok-Broken-clause-outcome
 returns-in-Ok-Broken-clause-outcome g c = λ m model f st.
-    step_cut_off g.N.Exact.value g.N.Exact.limit m c.args.model.forms.now f c.args.run.now.rounds c.args.run.now.master c.requires.run.master c.args.solver.now c.requires.ended c.in-Ok-Broken.cut
+    step_cut_off g.N.Exact.value g.N.Exact.limit m c.args.model.forms.now f c.args.run.now.rounds c.args.run.now.master c.requires.run.master c.args.solver.now c.requires.ended.answer c.in-Ok-Broken.cut
     (subst (λ (l : StepLook g.row.N.Denot). IsStepLook g.N.Exact.limit m g.N.Exact.value (ray_of c.args.solver.now) l) c.in-Ok-Broken.field-0-is
     (c.in-Ok-Broken.ensures.look m model f st))
     c.boundless_round.result c.boundless_round.ensures.round c.or_stop.result c.or_stop.ensures.answer
 
 pub returns-in-Ok-Broken-look_at_plan-clause-outcome : goal.returns-in-Ok-Broken-look_at_plan-clause-outcome
 returns-in-Ok-Broken-look_at_plan-clause-outcome g c = λ m model f st.
-    point_cut_off g.N.Exact.value g.N.Exact.limit m c.args.model.forms.now f c.args.run.now.rounds c.args.run.now.master c.requires.run.master c.args.solver.now c.requires.ended
+    point_cut_off g.N.Exact.value g.N.Exact.limit m c.args.model.forms.now f c.args.run.now.rounds c.args.run.now.master c.requires.run.master c.args.solver.now c.requires.ended.answer
     model c.in-Ok-Kept.step c.in-Ok-Kept.held
     (subst (λ (l : StepLook g.row.N.Denot). IsStepLook g.N.Exact.limit m g.N.Exact.value (ray_of c.args.solver.now) l) c.in-Ok-Kept.field-0-is
     (c.in-Ok-Kept.ensures.look m model f st))
@@ -91,7 +91,7 @@ returns-in-Ok-Broken-look_at_plan-clause-outcome g c = λ m model f st.
 pub returns-in-Err-clause-outcome : goal.returns-in-Err-clause-outcome
 returns-in-Err-clause-outcome g c = λ m model f st.
     scan_stopped g.N.Exact.limit m (cuts_told c.args.run.now.rounds) true (direction_at m (ray_of c.args.solver.now))
-    (step_looks m c.args.model.forms.now f c.args.run.now.rounds c.args.run.now.master c.requires.run.master c.args.solver.now c.requires.ended)
+    (step_looks m c.args.model.forms.now f c.args.run.now.rounds c.args.run.now.master c.requires.run.master c.args.solver.now c.requires.ended.answer)
     c.in-Err.stop (c.in-Err.ensures.look m model f st)
 
 pub returns-in-Err-look_at_plan-clause-outcome : goal.returns-in-Err-look_at_plan-clause-outcome
@@ -100,12 +100,12 @@ returns-in-Err-look_at_plan-clause-outcome g c = λ m model f st.
     subst (λ (l : StepLook g.row.N.Denot). IsStepLook g.N.Exact.limit m g.N.Exact.value (ray_of c.args.solver.now) l) c.in-Ok-Kept.field-0-is
     (c.in-Ok-Kept.ensures.look m model f st) in
     scan_stopped g.N.Exact.limit m (cuts_told c.args.run.now.rounds) false (plan_at m (point_of c.args.solver.now))
-    (point_looks m c.args.model.forms.now f c.args.run.now.rounds c.args.run.now.master c.requires.run.master c.args.solver.now c.requires.ended model away.1.0 away.1.1)
+    (point_looks m c.args.model.forms.now f c.args.run.now.rounds c.args.run.now.master c.requires.run.master c.args.solver.now c.requires.ended.answer model away.1.0 away.1.1)
     c.in-Err-look_at_plan.stop (c.in-Err-look_at_plan.ensures.look m model f st)
 
 pub returns-in-Err-whole_step-clause-outcome : goal.returns-in-Err-whole_step-clause-outcome
 returns-in-Err-whole_step-clause-outcome g c = λ m model f st.
-    step_refused g.N.Exact.value g.N.Exact.limit m c.args.model.forms.now f c.args.run.now.rounds c.args.run.now.master c.requires.run.master c.args.solver.now c.requires.ended
+    step_refused g.N.Exact.value g.N.Exact.limit m c.args.model.forms.now f c.args.run.now.rounds c.args.run.now.master c.requires.run.master c.args.solver.now c.requires.ended.answer
     c.in-Ok-Kept.step c.in-Ok-Kept.held
     (subst (λ (l : StepLook g.row.N.Denot). IsStepLook g.N.Exact.limit m g.N.Exact.value (ray_of c.args.solver.now) l) c.in-Ok-Kept.field-0-is
     (c.in-Ok-Kept.ensures.look m model f st))
@@ -115,12 +115,12 @@ pub returns-in-Ok-inside-clause-outcome : goal.returns-in-Ok-inside-clause-outco
 returns-in-Ok-inside-clause-outcome g c = λ m model f st.
     let value = g.N.Exact.value in
     let e = c.requires.model.elaborated in
-    let rows = rounds_are_rows e.model c.args.model.forms.now e.are_forms c.args.run.now.rounds c.args.run.now.master c.requires.run.master c.args.solver.now kind.Unbounded c.requires.ended in
-    let few : length c.args.run.now.rounds < 2 ^ 32 = omega (arith, rows, c.requires.few_rows) in
+    let rows = rounds_are_rows e.model c.args.model.forms.now e.are_forms c.args.run.now.rounds c.args.run.now.master c.requires.run.master c.args.solver.now kind.Unbounded c.requires.ended.answer in
+    let few : length c.args.run.now.rounds < 2 ^ 32 = omega (arith, rows, c.requires.ended.few) in
     let found = c.in-Ok-inside.ensures.scenario m c.args.model.set.now model f st c.look_at_plan.ensures.finder in
     subst (IsEnd m (cuts_told c.args.run.now.rounds)) (sym c.unbounded.ensures.certificate)
     (unbounded_out value g.N.Exact.limit m c.args.model.forms.now f c.args.run.now.rounds c.args.run.now.master c.requires.run.master c.args.solver.now
-    model (c.requires.run.tells m model f st) few c.args.model.set.now st c.look_at_plan.new.finder c.look_at_plan.ensures.finder c.requires.ended c.in-Ok-Kept.step c.in-Ok-Kept.held
+    model (c.requires.run.tells m model f st) few c.args.model.set.now st c.look_at_plan.new.finder c.look_at_plan.ensures.finder c.requires.ended.answer c.in-Ok-Kept.step c.in-Ok-Kept.held
     (subst (λ (l : StepLook g.row.N.Denot). IsStepLook g.N.Exact.limit m g.N.Exact.value (ray_of c.args.solver.now) l) c.in-Ok-Kept.field-0-is
     (c.in-Ok-Kept.ensures.look m model f st))
     c.in-Ok-Kept-look_at_plan.plan c.in-Ok-Kept-look_at_plan.kept

@@ -31,8 +31,10 @@ best-requires g c = record {
   model = c.requires.model;
   finder = c.requires.finder;
   run = c.requires.run;
-  few_rows = c.in-Ok.ensures.few;
-  ended = ended_so g.row.N.Denot c.args.run.now.master c.in-Ok.solved.solver c.in-Ok.solved.kind kind.Optimal c.in-Ok.ensures.solved c.in-Optimal.is;
+  ended = record {
+    answer = ended_so g.row.N.Denot c.args.run.now.master c.in-Ok.solved.solver c.in-Ok.solved.kind kind.Optimal c.in-Ok.ensures.solved c.in-Optimal.is;
+    few = c.in-Ok.ensures.few;
+  };
 }
 
 pub boundless-requires : goal.boundless-requires
@@ -40,8 +42,10 @@ boundless-requires g c = record {
   model = c.requires.model;
   finder = c.requires.finder;
   run = c.requires.run;
-  few_rows = c.in-Ok.ensures.few;
-  ended = ended_so g.row.N.Denot c.args.run.now.master c.in-Ok.solved.solver c.in-Ok.solved.kind kind.Unbounded c.in-Ok.ensures.solved c.in-Unbounded.is;
+  ended = record {
+    answer = ended_so g.row.N.Denot c.args.run.now.master c.in-Ok.solved.solver c.in-Ok.solved.kind kind.Unbounded c.in-Ok.ensures.solved c.in-Unbounded.is;
+    few = c.in-Ok.ensures.few;
+  };
 }
 
 pub without_plan-requires : goal.without_plan-requires
