@@ -93,9 +93,9 @@ fn go_on<N: Exact>(alloc: Global, forms: &Forms, round: Round, run: &mut Run) ->
     ensures added { IfOk result (λ _. AddsCut forms.now (cut_of round) run.old.master run.new.master) }
     ensures within { IfOk result
         (λ _. HasNumbersWithin N.limit run.old.master → HasNumbersWithin N.limit run.new.master) }
-    ensures rounds { IfOk result (λ _. run.new.rounds ≡ run.old.rounds ++ round ∷ []) }
+    ensures rounds { MatchResult result (λ _. run.new.rounds ≡ run.old.rounds ++ round ∷ [])
+        (λ _. run.new.rounds ≡ run.old.rounds) }
     ensures stopped { IfErr result (StopsWith (IsInSum N.limit forms.now (cut_of round))) }
-    ensures unchanged { IfErr result (λ _. run.new.rounds ≡ run.old.rounds) }
 {
     if let Err(stop) = append_cut::<N>(alloc, forms, &round, &mut run.master) {
         return Err(stop);

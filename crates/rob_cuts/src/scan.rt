@@ -5,10 +5,8 @@ ghost use Rattle.rob_meaning.specs.Forms.{form_columns, matrices};
 ghost use Rattle.rob_meaning.specs.RobustModel.{RobustModel};
 ghost use Rattle.rob_algebra.specs.Fraction.{Fraction};
 ghost use Rattle.rob_meaning.specs.WellFormed.{IsModel};
-ghost use Rattle.rob_elab.specs.Elaborated.{AreElaborated};
 ghost use Rattle.rob_number.specs.Counts.{NeverFell};
 ghost use Rattle.rob_dualize.specs.Solving.{CountsAnswer};
-ghost use Rattle.rob_dualize.specs.SetSolving.{IsFewSet};
 ghost use Rattle.rob_dualize.specs.Wholes.{OfEachModel};
 ghost use Rattle.rob_worst.specs.Finders.{IsFinder};
 ghost use Rattle.rob_worst.specs.Finding.{HasConstantWithin, Tells, Searches};
@@ -98,8 +96,7 @@ fn search<N: Exact, L: Ledger>(
     target: Target<N>,
     ledger: &mut L,
 ) -> Result<Worst<N>, Stop>
-    requires model { AreElaborated N.limit model.forms.now model.set.now }
-    requires few { IsFewSet model.set.now }
+    requires model { FitsRoute N.limit model }
     requires finder { IsFinder model.set.now finder.old }
     requires form_in { form < length model.forms.now.matrices }
     requires target { FitsTarget model.forms.now.columns target }

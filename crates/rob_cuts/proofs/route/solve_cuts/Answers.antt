@@ -106,13 +106,13 @@ pub returns-in-Err-go_on-clause-stopped : goal.returns-in-Err-go_on-clause-stopp
 returns-in-Err-go_on-clause-stopped g c = λ m model f st.
     let next : IsNext g.N.Exact.limit m c.rounds.run.rounds c.in-Ok-Cut.round =
     subst (λ (o : Outcome g.row.N.Denot). IsOutcome g.N.Exact.value g.N.Exact.limit m c.rounds.run.rounds o) c.in-Ok-Cut.field-0-is (c.in-Ok-Cut.ensures.outcome m model f st) in
-    subst (HasCause g.N.Exact.limit m) (sym (c.after.ensures.stop ∙ ap (stop_after c.in-Err-go_on.stop) c.in-Err-go_on.ensures.unchanged))
+    subst (HasCause g.N.Exact.limit m) (sym (c.after.ensures.stop ∙ ap (stop_after c.in-Err-go_on.stop) c.in-Err-go_on.ensures.rounds))
     (cause_is m c.rounds.run.rounds (c.rounds.invariant.state.tells m model f st) g.N.Exact.limit c.in-Err-go_on.stop (c.in-Ok.ensures.answer m model st)
     (stops_also _ _ (sum_place g.N.Exact.limit m c.args.forms.now f c.rounds.run.rounds c.in-Ok-Cut.round next) c.in-Err-go_on.stop c.in-Err-go_on.ensures.stopped))
 
 pub returns-in-Err-go_on-clause-fits : goal.returns-in-Err-go_on-clause-fits
 returns-in-Err-go_on-clause-fits g c =
-    subst (StopFits g.N.Exact.limit) (sym (c.after.ensures.stop ∙ ap (stop_after c.in-Err-go_on.stop) c.in-Err-go_on.ensures.unchanged))
+    subst (StopFits g.N.Exact.limit) (sym (c.after.ensures.stop ∙ ap (stop_after c.in-Err-go_on.stop) c.in-Err-go_on.ensures.rounds))
     (fits_after g.N.Exact.limit c.in-Err-go_on.stop c.rounds.run.rounds c.rounds.invariant.state.fits)
 
 pub returns-in-Err-go_on-clause-wides : goal.returns-in-Err-go_on-clause-wides

@@ -24,8 +24,7 @@ overflow_cast-count g c =
 
 pub search-requires : goal.search-requires
 search-requires g c = record {
-  model = c.requires.model.elaborated;
-  few = set_of_few c.args.model.forms.now c.args.model.set.now c.requires.model.elaborated c.requires.model.few;
+  model = c.requires.model;
   finder = c.loop-form.invariant.finder;
   form_in = omega (arith, c.loop-form-test.true, ap length c.items.ensures.list);
   target = c.requires.target;
