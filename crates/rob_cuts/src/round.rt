@@ -174,10 +174,8 @@ fn boundless<N: Exact, L: Ledger>(
             return Err(stop);
         }
     };
-    match finder.inside(alloc, model.forms) {
-        Ok(inside) => Ok(Outcome::End(unbounded(alloc, plan, kept, step, held, inside))),
-        Err(Memory) => Err(Stop::Memory),
-    }
+    let inside = finder.inside(alloc, model.forms)?;
+    Ok(Outcome::End(unbounded(alloc, plan, kept, step, held, inside)))
 }
 
 /// The stop where a cleared number of the direction is wide, or memory was refused.

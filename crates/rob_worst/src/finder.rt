@@ -58,14 +58,9 @@ impl<N: Exact> Finder<N> {
         ensures wides { CountsAnswer (L.wides ledger.old) (L.wides ledger.new) result }
         ensures counted { NeverFell L.ops L.wides ledger.old ledger.new }
     {
-        let solved = match solved_set::<N, L>(alloc, set, ledger) {
-            Ok(solved) => solved,
-            Err(stop) => return Err(stop),
-        };
-        match alike_set(alloc, set, &solved) {
-            Ok(search) => Ok(Finder { solved, search }),
-            Err(Memory) => Err(Stop::Memory),
-        }
+        let solved = solved_set::<N, L>(alloc, set, ledger)?;
+        let search = alike_set(alloc, set, &solved)?;
+        Ok(Finder { solved, search })
     }
 
     /// The worst scenario of a form at a plan with its bound. `Wide` comes only where a number on the way is over the

@@ -47,10 +47,7 @@ pub fn go_on<N: Exact, L: Ledger>(
     ensures counted { CountsRows L.ops L.wides ledger.old ledger.new }
 {
     match solver.resume(task.cost.items(), ledger) {
-        Ok(kind) => match told(alloc, set, task, kind, solver) {
-            Ok(worst) => Ok(Ok(worst)),
-            Err(Memory) => Err(Memory),
-        },
+        Ok(kind) => Ok(Ok(told(alloc, set, task, kind, solver)?)),
         Err(stop) => Ok(Err(stop)),
     }
 }
@@ -83,10 +80,7 @@ pub fn go_deeper<N: Exact, L: Ledger>(
     if solved.is_deep() {
         return Err(refused(alloc, set, task, search, stop, ledger));
     }
-    let mut deep = match solved.deepened(alloc) {
-        Ok(deep) => deep,
-        Err(Memory) => return Err(Stop::Memory),
-    };
+    let mut deep = solved.deepened(alloc)?;
     match go_on(alloc, set, task, &mut deep, ledger) {
         Ok(Ok(worst)) => Ok(worst),
         Ok(Err(stop)) => Err(refused(alloc, set, task, &deep, stop, ledger)),

@@ -16,7 +16,7 @@ use rob_cert::Stop;
 use rob_dualize::Elaborated;
 use rob_dualize::stop::wide_at;
 use rob_model::{Plan, Spot, Where};
-use rob_number::{Exact, List, Memory};
+use rob_number::{Exact, List};
 use rob_sets::clearing::denominator;
 use rob_sets::error::Stop as Refusal;
 use std::alloc::Global;
@@ -54,10 +54,8 @@ pub fn plan_task<N: Exact>(
         (IsTaskOf m false form (plan_of N.value plan.now))
         (HasSearchCause N.limit m false form (plan_of N.value plan.now)) }
 {
-    match plan_vector(alloc, plan) {
-        Ok(vector) => task_at(alloc, model, form, false, vector.items()),
-        Err(Memory) => Err(Stop::Memory),
-    }
+    let vector = plan_vector(alloc, plan)?;
+    task_at(alloc, model, form, false, vector.items())
 }
 
 /// The search for a form at a direction with its bound.
@@ -76,10 +74,8 @@ pub fn step_task<N: Exact>(
         (IsTaskOf m true form (step_of N.value step.now))
         (HasSearchCause N.limit m true form (step_of N.value step.now)) }
 {
-    match step_vector(alloc, step) {
-        Ok(vector) => task_at(alloc, model, form, true, vector.items()),
-        Err(Memory) => Err(Stop::Memory),
-    }
+    let vector = step_vector(alloc, step)?;
+    task_at(alloc, model, form, true, vector.items())
 }
 
 /// The search for a form at a vector, which is a plan's or, by step, a direction's.

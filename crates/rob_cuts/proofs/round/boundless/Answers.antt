@@ -111,13 +111,13 @@ returns-in-Err-whole_step-clause-outcome g c = λ m model f st.
     (c.in-Ok-Kept.ensures.look m model f st))
     c.items.result.now c.items.ensures.list g.met.N.Exact.limit_low c.in-Err-whole_step.refusal c.in-Err-whole_step.ensures.wide c.unclear-stop.result c.unclear-stop.ensures.stop
 
-pub returns-in-Ok-inside-clause-outcome : goal.returns-in-Ok-inside-clause-outcome
-returns-in-Ok-inside-clause-outcome g c = λ m model f st.
+pub returns-clause-outcome : goal.returns-clause-outcome
+returns-clause-outcome g c = λ m model f st.
     let value = g.N.Exact.value in
     let e = c.requires.model.elaborated in
     let rows = rounds_are_rows e.model c.args.model.forms.now e.are_forms c.args.run.now.rounds c.args.run.now.master c.requires.run.master c.args.solver.now kind.Unbounded c.requires.ended.answer in
     let few : length c.args.run.now.rounds < 2 ^ 32 = omega (arith, rows, c.requires.ended.few) in
-    let found = c.in-Ok-inside.ensures.scenario m c.args.model.set.now model f st c.look_at_plan.ensures.finder in
+    let found = c.in_ok-inside.ensures.scenario m c.args.model.set.now model f st c.look_at_plan.ensures.finder in
     subst (IsEnd m (cuts_told c.args.run.now.rounds)) (sym c.unbounded.ensures.certificate)
     (unbounded_out value g.N.Exact.limit m c.args.model.forms.now f c.args.run.now.rounds c.args.run.now.master c.requires.run.master c.args.solver.now
     model (c.requires.run.tells m model f st) few c.args.model.set.now st c.look_at_plan.new.finder c.look_at_plan.ensures.finder c.requires.ended.answer c.in-Ok-Kept.step c.in-Ok-Kept.held
@@ -127,4 +127,4 @@ returns-in-Ok-inside-clause-outcome g c = λ m model f st.
     (subst (λ (l : PlanLook g.row.N.Denot). IsPlanLook g.N.Exact.limit m g.N.Exact.value (point_of c.args.solver.now) l) c.in-Ok-Kept-look_at_plan.field-0-is
     (c.in-Ok-Kept-look_at_plan.ensures.look m model f st))
     c.in-Ok.step c.items.result.now c.items.ensures.list c.in-Ok.ensures.columns c.in-Ok.ensures.bound
-    (scenario_of value c.in-Ok-inside.inside) found.0 found.1)
+    (scenario_of value c.in_ok-inside.inside) found.0 found.1)

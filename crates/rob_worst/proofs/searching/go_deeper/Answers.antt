@@ -18,7 +18,7 @@ pub deepened-requires-clause-weightless : goal.deepened-requires-clause-weightle
 deepened-requires-clause-weightless g c = weightless (program_of_set c.args.set.now) c.args.solved.now c.requires.solved
 
 pub go_on-requires-clause-solved : goal.go_on-requires-clause-solved
-go_on-requires-clause-solved g c = taken_over (program_of_set c.args.set.now) _ c.args.solved.now c.in-Ok.deep c.in-Ok.ensures.stands c.requires.solved
+go_on-requires-clause-solved g c = taken_over (program_of_set c.args.set.now) _ c.args.solved.now c.in_ok-deep.deep c.in_ok-deep.ensures.stands c.requires.solved
 
 pub returns-in-Ok-Ok-clause-answer : goal.returns-in-Ok-Ok-clause-answer
 returns-in-Ok-Ok-clause-answer g c = λ m is step i some z size t.
@@ -37,7 +37,7 @@ returns-in-Ok-Err-clause-answer g c = λ m is step i some z size t.
     (subst (λ b. CountsStop b (g.L.Ledger.wides c.refused-in-Ok-Err.new.ledger) c.refused-in-Ok-Err.result) c.go_on.ensures.counted.wides c.refused-in-Ok-Err.ensures.wides)
 
 pub refused-requires-in-Ok-Err-clause-depth : goal.refused-requires-in-Ok-Err-clause-depth
-refused-requires-in-Ok-Err-clause-depth g c = c.go_on.ensures.limit ∙ ap (λ (t : Table). t.limit) c.in-Ok.ensures.stands.dictionary
+refused-requires-in-Ok-Err-clause-depth g c = c.go_on.ensures.limit ∙ ap (λ (t : Table). t.limit) c.in_ok-deep.ensures.stands.dictionary
 
 pub refused-requires-clause-depth : goal.refused-requires-clause-depth
 refused-requires-clause-depth g c = c.requires.depth ∙ OnTrue_at c.if-is_deep.true c.is_deep.ensures.deep
