@@ -67,10 +67,10 @@ pub fn scan_forms<N: Exact, L: Ledger>(
     ensures wides { CountsAnswer (L.wides ledger.old) (L.wides ledger.new) result }
     ensures counted { NeverFell L.ops L.wides ledger.old ledger.new }
 {
-    let count = model.forms.matrices.items().len() as u32;
+    let forms = model.forms.matrices.items().len() as u32;
     let mut scale = whole(1);
     let mut covers = List::new(alloc);
-    for form in 0..count {
+    for form in 0..forms {
         let worst = match search(alloc, model, finder, form, target, ledger) {
             Ok(worst) => worst,
             Err(stop) => return Err(stop),

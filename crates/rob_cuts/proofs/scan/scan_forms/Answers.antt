@@ -18,8 +18,8 @@ loop-form-init g c = record {
   counted = record { ops = omega arith; wides = omega arith };
 }
 
-pub overflow_cast-count : goal.overflow_cast-count
-overflow_cast-count g c =
+pub overflow_cast-forms : goal.overflow_cast-forms
+overflow_cast-forms g c =
     omega (arith, ap length c.items.ensures.list, few_forms c.args.model.forms.now c.args.model.set.now c.requires.model.elaborated c.requires.model.few)
 
 pub search-requires : goal.search-requires
