@@ -46,7 +46,7 @@ pub fn solve_dual<N: Exact, L: Ledger>(
     };
     let rows = program_rows(model) as u32;
     match solve_counterpart::<N, L>(alloc, model, ledger) {
-        Ok(Solved { solver, kind }) => { or_stop(certificate(alloc, model, &solver, kind, inside)) }
+        Ok(Solved { solver, kind }) => or_stop(certificate(alloc, model, &solver, kind, inside)),
         Err(Stopped::Wide(solver, stop)) => {
             Err(wide(alloc, &solver, Program::Reform, rows, position(stop)))
         }
