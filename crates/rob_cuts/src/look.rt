@@ -19,7 +19,7 @@ use crate::scan::{Scan, Target, scan_forms};
 use rob_cert::Stop;
 use rob_dualize::Elaborated;
 use rob_model::Plan;
-use rob_number::{Exact, Ledger, List, Memory};
+use rob_number::{Exact, Ledger, List};
 use rob_solver::Solver;
 use rob_worst::Finder;
 use std::alloc::Global;
@@ -61,10 +61,7 @@ pub fn look_at_plan<N: Exact, L: Ledger>(
     ensures wides { CountsAnswer (L.wides ledger.old) (L.wides ledger.new) result }
     ensures counted { NeverFell L.ops L.wides ledger.old ledger.new }
 {
-    let plan = match plan(alloc, solver, model.forms.columns) {
-        Ok(plan) => plan,
-        Err(Memory) => return Err(Stop::Memory),
-    };
+    let plan = plan(alloc, solver, model.forms.columns)?;
     match scan_forms(alloc, model, finder, Target::Plan(&plan), ledger) {
         Ok(Scan::Broken(cut)) => Ok(PlanLook::Broken(cut)),
         Ok(Scan::Kept(kept)) => Ok(PlanLook::Kept(plan, kept)),
@@ -91,10 +88,7 @@ pub fn look_at_step<N: Exact, L: Ledger>(
     ensures wides { CountsAnswer (L.wides ledger.old) (L.wides ledger.new) result }
     ensures counted { NeverFell L.ops L.wides ledger.old ledger.new }
 {
-    let step = match direction(alloc, solver, model.forms.columns) {
-        Ok(step) => step,
-        Err(Memory) => return Err(Stop::Memory),
-    };
+    let step = direction(alloc, solver, model.forms.columns)?;
     match scan_forms(alloc, model, finder, Target::Step(step.items()), ledger) {
         Ok(Scan::Broken(cut)) => Ok(StepLook::Broken(cut)),
         Ok(Scan::Kept(kept)) => Ok(StepLook::Kept(step, kept)),

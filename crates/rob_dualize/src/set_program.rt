@@ -64,10 +64,7 @@ fn solve_set<N: Exact, L: Ledger>(
     ensures stopped { IfErr result (IsStoppedAs N.limit (program_of_set set.now)) }
     ensures counted { CountsSolving L.ops L.wides ledger.old ledger.new result }
 {
-    let lp = match set_lp(alloc, set) {
-        Ok(lp) => lp,
-        Err(Memory) => return Err(Stopped::Memory),
-    };
+    let lp = set_lp(alloc, set)?;
     solve(alloc, &lp, ledger)
 }
 

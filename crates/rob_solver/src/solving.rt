@@ -6,7 +6,7 @@ ghost use Rattle.rob_rows.specs.LinearPrograms.{HasNumbersWithin, program_of};
 ghost use Rattle.rob_simplex.specs.Counting.{CountsRows};
 ghost use Rattle.rob_simplex.specs.Solvers.{StandsAs};
 ghost use Rattle.rob_number.specs.Counts.{raised};
-ghost use Rattle.rob_solver.specs.declared.solving.Stopped.TheVariants.{Wide};
+ghost use Rattle.rob_solver.specs.declared.solving.Stopped.TheVariants.{Memory as OutOfMemory, Wide};
 ghost use Rattle.rob_solver.specs.Depths.{deep_limit};
 ghost use Rattle.rob_solver.specs.Solving.{IsSolved, IsStopped, IsCausedDeep, IsBegun, ComesTo, CountsSolving};
 
@@ -30,6 +30,14 @@ pub enum Stopped<N: Exact> {
     Wide(Solver<N>, LpStop),
     /// Memory was refused.
     Memory,
+}
+
+impl<N: Exact> From<Memory> for Stopped<N> {
+    ghost from_gives = { λ _ stopped. stopped ≡ OutOfMemory };
+
+    fn from(_memory: Memory) -> Stopped<N> {
+        Stopped::Memory
+    }
 }
 
 /// What narrow rows come to.
@@ -107,10 +115,7 @@ fn go_on<N: Exact, L: Ledger>(
     ensures caused { (P : Program) → IsBegun P narrow → IfErr result (IsCausedDeep N.limit P) }
     ensures counted { CountsSolving L.ops L.wides ledger.old ledger.new result }
 {
-    let mut deep = match deepened(alloc, narrow) {
-        Ok(deep) => deep,
-        Err(Memory) => return Err(Stopped::Memory),
-    };
+    let mut deep = deepened(alloc, narrow)?;
     match deep.go_on(ledger) {
         Ok(kind) => Ok(Solved { solver: deep, kind }),
         Err(stop) => Err(refused(deep, stop, ledger)),
@@ -131,10 +136,7 @@ fn solve_deep<N: Exact, R: Rows, L: Ledger>(
     ensures caused { IfErr result (IsCausedDeep N.limit (program_of (R.lp source.now))) }
     ensures counted { CountsSolving L.ops L.wides ledger.old ledger.new result }
 {
-    let mut deep = match Solver::deep(alloc, source) {
-        Ok(deep) => deep,
-        Err(Memory) => return Err(Stopped::Memory),
-    };
+    let mut deep = Solver::deep(alloc, source)?;
     match deep.solve(ledger) {
         Ok(kind) => Ok(Solved { solver: deep, kind }),
         Err(stop) => Err(refused(deep, stop, ledger)),

@@ -14,19 +14,19 @@ pub set_lp-requires-clause-fits : goal.set_lp-requires-clause-fits
 set_lp-requires-clause-fits g c = fits_weaker g.N.Exact.limit 4611686018427387903 c.args.set.now.rows g.met.N.Exact.limit_high c.requires.model.fits
 
 pub solve-requires-clause-few : goal.solve-requires-clause-few
-solve-requires-clause-few g c = set_is_few c.args.set.now c.in-Ok.lp c.in-Ok.ensures.program c.requires.few
+solve-requires-clause-few g c = set_is_few c.args.set.now c.in_ok-lp.lp c.in_ok-lp.ensures.program c.requires.few
 
 pub solve-requires-clause-numbers : goal.solve-requires-clause-numbers
-solve-requires-clause-numbers g c = c.in-Ok.ensures.within g.N.Exact.limit c.requires.model.fits
+solve-requires-clause-numbers g c = c.in_ok-lp.ensures.within g.N.Exact.limit c.requires.model.fits
 
 pub returns-clause-solved : goal.returns-clause-solved
 returns-clause-solved g c =
-    ok_weaker (IsSolved (program_of c.in-Ok.lp)) (IsSolvedAs (program_of_set c.args.set.now))
-    (λ s h. record { program = program_of c.in-Ok.lp; same = set_made c.args.set.now c.in-Ok.lp c.in-Ok.ensures.program; answer = h })
+    ok_weaker (IsSolved (program_of c.in_ok-lp.lp)) (IsSolvedAs (program_of_set c.args.set.now))
+    (λ s h. record { program = program_of c.in_ok-lp.lp; same = set_made c.args.set.now c.in_ok-lp.lp c.in_ok-lp.ensures.program; answer = h })
     c.solve.result c.solve.ensures.solved
 
 pub returns-clause-stopped : goal.returns-clause-stopped
 returns-clause-stopped g c =
-    has_stopped g.N.Exact.limit (program_of c.in-Ok.lp) (program_of_set c.args.set.now)
-    (set_made c.args.set.now c.in-Ok.lp c.in-Ok.ensures.program) c.solve.result c.solve.ensures.stopped
+    has_stopped g.N.Exact.limit (program_of c.in_ok-lp.lp) (program_of_set c.args.set.now)
+    (set_made c.args.set.now c.in_ok-lp.lp c.in_ok-lp.ensures.program) c.solve.result c.solve.ensures.stopped
     c.solve.ensures.caused
