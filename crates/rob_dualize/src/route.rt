@@ -40,10 +40,7 @@ pub fn solve_dual<N: Exact, L: Ledger>(
     ensures counted { NeverFell L.ops L.wides ledger.old ledger.new }
 {
     let model = Elaborated { forms, set };
-    let inside = match scenario(alloc, model, ledger) {
-        Ok(inside) => inside,
-        Err(stop) => return Err(stop),
-    };
+    let inside = scenario(alloc, model, ledger)?;
     let rows = program_rows(model) as u32;
     match solve_counterpart::<N, L>(alloc, model, ledger) {
         Ok(Solved { solver, kind }) => or_stop(certificate(alloc, model, &solver, kind, inside)),

@@ -8,7 +8,7 @@ use crate::elaborated::Elaborated;
 use crate::set_program::{parameters, solved_set};
 use rob_cert::Stop;
 use rob_model::Scenario;
-use rob_number::{Exact, Ledger, Memory};
+use rob_number::{Exact, Ledger};
 use std::alloc::Global;
 
 /// A scenario of the set: the parameters of the basic solution of the last basis of the set's program. Else the Farkas
@@ -24,12 +24,7 @@ pub fn scenario<N: Exact, L: Ledger>(
         (λ m. Finds N.value N.limit m (L.wides ledger.old) (L.wides ledger.new) result) }
     ensures counted { NeverFell L.ops L.wides ledger.old ledger.new }
 {
-    let solver = match solved_set::<N, L>(alloc, model.set, ledger) {
-        Ok(solver) => solver,
-        Err(stop) => return Err(stop),
-    };
-    match parameters(alloc, &solver, model.forms.params) {
-        Ok(values) => Ok(Scenario { values }),
-        Err(Memory) => Err(Stop::Memory),
-    }
+    let solver = solved_set::<N, L>(alloc, model.set, ledger)?;
+    let values = parameters(alloc, &solver, model.forms.params)?;
+    Ok(Scenario { values })
 }

@@ -83,10 +83,7 @@ fn at_limit<N: Exact, L: Ledger>(
         (model_with (robust N.value model.now) n (N.value limit)) number) }
     ensures counted { CountsSweep L.ops L.wides ledger.old ledger.new result }
 {
-    let changed = match with_budget(alloc, model, n, limit) {
-        Ok(changed) => changed,
-        Err(stop) => return Err(stop),
-    };
+    let changed = with_budget(alloc, model, n, limit)?;
     match answer(alloc, &changed, ledger) {
         Ok(answer) => Ok(answer),
         Err(ElabErr::Wide(spot)) => Err(SweepStop::Wide(number, spot)),

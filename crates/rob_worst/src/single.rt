@@ -39,10 +39,7 @@ pub fn worst<N: Exact, L: Ledger>(
     ensures within { IfOk result (HasConstantWithin N.limit) }
     ensures counted { NeverFell L.ops L.wides ledger.old ledger.new }
 {
-    let mut finder = match Finder::<N>::new(alloc, set, ledger) {
-        Ok(finder) => finder,
-        Err(stop) => return Err(stop),
-    };
+    let mut finder = Finder::<N>::new(alloc, set, ledger)?;
     finder.at_plan(alloc, forms, set, form, plan, ledger)
 }
 
@@ -66,9 +63,6 @@ pub fn worst_step<N: Exact, L: Ledger>(
     ensures within { IfOk result (HasConstantWithin N.limit) }
     ensures counted { NeverFell L.ops L.wides ledger.old ledger.new }
 {
-    let mut finder = match Finder::<N>::new(alloc, set, ledger) {
-        Ok(finder) => finder,
-        Err(stop) => return Err(stop),
-    };
+    let mut finder = Finder::<N>::new(alloc, set, ledger)?;
     finder.at_step(alloc, forms, set, form, step, ledger)
 }

@@ -108,15 +108,13 @@ fn task_at<N: Exact>(
         Some(constant) => constant,
         None => return Err(wide_at(alloc, Spot::Sum(Where::Cost(form), 0))),
     };
-    match costs::<N>(alloc, model.forms, model.set.columns, form, whole.items()) {
-        Ok(cost) => Ok(Task {
-            form,
-            by_step,
-            params: model.forms.params,
-            common: common as i64,
-            constant,
-            cost,
-        }),
-        Err(stop) => Err(stop),
-    }
+    let cost = costs::<N>(alloc, model.forms, model.set.columns, form, whole.items())?;
+    Ok(Task {
+        form,
+        by_step,
+        params: model.forms.params,
+        common: common as i64,
+        constant,
+        cost,
+    })
 }

@@ -1,4 +1,5 @@
 use Rattle.std.proofs.Common.{ℕ, ◌≡◌, ◌∙◌, sym, ap, subst}
+use Rattle.std.proofs.lemmas.Result.{err_from_is_err_and}
 use Rattle.std.specs.Prelude.{IfOk}
 use Rattle.rob_meaning.specs.Certificates.{Certificate}
 use Rattle.rob_counterpart.specs.Counterpart.{counterpart, robust_of}
@@ -25,39 +26,42 @@ solve_counterpart-requires g c = record { model = record { elaborated = c.requir
 pub certificate-requires-clause-model : goal.certificate-requires-clause-model
 certificate-requires-clause-model g c = record { elaborated = c.requires.model; few = c.requires.few }
 
-pub returns-in-Err-clause-solves : goal.returns-in-Err-clause-solves
-returns-in-Err-clause-solves g c = λ m model f st.
-    stopped_with g.N.Exact.value g.N.Exact.limit m (g.L.Ledger.wides c.args.ledger.now) (g.L.Ledger.wides c.scenario.new.ledger) c.in-Err.stop
-    (set_cause g.N.Exact.limit m c.in-Err.stop (c.in-Err.ensures.found m model f st).stopped)
-    (c.in-Err.ensures.found m model f st).counted
+pub returns-in_err-inside-clause-solves : goal.returns-in_err-inside-clause-solves
+returns-in_err-inside-clause-solves g c =
+    let p = err_from_is_err_and c.from_residual.result c.from_residual.ensures.1 in
+    rw (p.1, p.2) (λ m model f st.
+    let found = c.in_err-inside.ensures.found m model f st in
+    stopped_with g.N.Exact.value g.N.Exact.limit m (g.L.Ledger.wides c.args.ledger.now)
+    (g.L.Ledger.wides c.scenario.new.ledger) c.in_err-inside.field-0.0
+    (set_cause g.N.Exact.limit m c.in_err-inside.field-0.0 found.stopped) found.counted)
 
-pub returns-in-Ok-solve_counterpart-clause-solves : goal.returns-in-Ok-solve_counterpart-clause-solves
-returns-in-Ok-solve_counterpart-clause-solves g c = λ m model f st.
+pub returns-in-Ok-clause-solves : goal.returns-in-Ok-clause-solves
+returns-in-Ok-clause-solves g c = λ m model f st.
     let value = g.N.Exact.value in
-    let s = c.in-Ok-solve_counterpart.field-0.solver in
-    let kind = c.in-Ok-solve_counterpart.field-0.kind in
-    let inside = scenario_of g.N.Exact.value c.in-Ok.inside in
-    let found = (c.in-Ok.ensures.found m model f st).found in
-    let ended : HasEnded (counterpart_of c.args.forms.now c.args.set.now) kind s = has_ended g.row.N.Denot (counterpart_of c.args.forms.now c.args.set.now) s kind c.in-Ok-solve_counterpart.ensures.solved in
+    let s = c.in-Ok.field-0.solver in
+    let kind = c.in-Ok.field-0.kind in
+    let inside = scenario_of g.N.Exact.value c.in_ok-inside.inside in
+    let found = (c.in_ok-inside.ensures.found m model f st).found in
+    let ended : HasEnded (counterpart_of c.args.forms.now c.args.set.now) kind s = has_ended g.row.N.Denot (counterpart_of c.args.forms.now c.args.set.now) s kind c.in-Ok.ensures.solved in
     answered value g.N.Exact.limit m (g.L.Ledger.wides c.args.ledger.now) (g.L.Ledger.wides c.solve_counterpart.new.ledger)
     (read_from (robust_of m) inside kind s)
     (solution m model (counterpart_few c.args.forms.now c.args.set.now m f st c.requires.few) inside found.0 found.1 s kind
     (counterpart_ended c.args.forms.now c.args.set.now m f st kind s ended))
-    (c.in-Ok-solve_counterpart.ensures.counted.wides ∙ (c.in-Ok.ensures.found m model f st).counted)
+    (c.in-Ok.ensures.counted.wides ∙ (c.in_ok-inside.ensures.found m model f st).counted)
     c.certificate.result
     (subst (λ (q : Certificate). IfOk c.certificate.result (λ cert. certificate_of value cert ≡ q)) (read_same c.args.forms.now c.args.set.now m f st inside kind s) c.certificate.ensures.certificate)
     c.or_stop.result c.or_stop.ensures.answer
 
 pub returns-in-Err-Wide-clause-solves : goal.returns-in-Err-Wide-clause-solves
 returns-in-Err-Wide-clause-solves g c = λ m model f st.
-    let found = c.in-Ok.ensures.found m model f st in
+    let found = c.in_ok-inside.ensures.found m model f st in
     let s = c.in-Err-Wide.solver in
     let h : IsStoppedAt g.N.Exact.limit (counterpart_of c.args.forms.now c.args.set.now) s c.in-Err-Wide.stop =
     subst (IsStoppedAs g.N.Exact.limit (counterpart_of c.args.forms.now c.args.set.now)) c.in-Err-Wide.field-0-is c.in-Err-Wide.ensures.stopped in
     let counted : g.L.Ledger.wides c.solve_counterpart.new.ledger ≡ raised (g.L.Ledger.wides c.scenario.new.ledger) =
     subst (CountsStopped (g.L.Ledger.wides c.scenario.new.ledger) (g.L.Ledger.wides c.solve_counterpart.new.ledger)) c.in-Err-Wide.field-0-is c.in-Err-Wide.ensures.counted.wides in
     stopped_with g.N.Exact.value g.N.Exact.limit m (g.L.Ledger.wides c.args.ledger.now) (g.L.Ledger.wides c.solve_counterpart.new.ledger) c.wide.result
-    (wide_in_counterpart g.N.Exact.limit m s.basis c.position.result c.wide.result (scenario_of g.N.Exact.value c.in-Ok.inside) found.found.0
+    (wide_in_counterpart g.N.Exact.limit m s.basis c.position.result c.wide.result (scenario_of g.N.Exact.value c.in_ok-inside.inside) found.found.0
     (subst (λ (i : ℕ). IsRefusedAt g.N.Exact.limit (counterpart m) s.basis i) (sym c.position.ensures.position)
     (counterpart_refused c.args.forms.now c.args.set.now m f st g.N.Exact.limit s c.in-Err-Wide.stop h))
     c.wide.ensures.stop)

@@ -1,4 +1,5 @@
 use Rattle.std.proofs.Common.{◌≡◌, ◌≤◌, ◌-◌, ◌^◌, suc, map, refl, ap, ◌∙◌, subst, sym, arith, to_z, of_z, w64, List}
+use Rattle.std.proofs.lemmas.Result.{err_from_is_err_and}
 use lib.IntN.{ℤ, pos, nat_abs}
 use Rattle.rob_algebra.specs.Fraction.{Fraction}
 use Rattle.rob_algebra.specs.Width.{IsWideWhole}
@@ -52,8 +53,8 @@ returns-in-None-part-clause-task g c = λ m f s.
     constant_cause g.N.Exact.limit m c.args.by_step c.args.form z c.args.model.forms.now f c.wide_at-in-None-part.result c.wide_at-in-None-part.ensures.stop
     (subst (λ (xs : List ℤ). IsWidePart c.args.model.forms.now c.args.form g.N.Exact.limit 0 xs) is c.in-None-part.ensures.number)
 
-pub returns-in-Ok-costs-clause-fits : goal.returns-in-Ok-costs-clause-fits
-returns-in-Ok-costs-clause-fits g c =
+pub returns-clause-fits : goal.returns-clause-fits
+returns-clause-fits g c =
     let n : nat_abs c.in-Some-part.constant ≤ 2 ^ 62 - 1 = omega (arith, c.in-Some-part.ensures.number.1, g.met.N.Exact.limit_high) in
     let d : to_z w64 c.in-Some.common ≡ pos c.in-Some.common = common_seen g.N.Exact.limit c.in-Some.common g.met.N.Exact.limit_high c.in-Some.ensures.least.1 in
     fits_set g.N.Exact.limit c.args.model.set.now.columns c.args.model.forms.now c.items-2.result.now
@@ -63,15 +64,15 @@ returns-in-Ok-costs-clause-fits g c =
       params = c.args.model.forms.now.params;
       common = to_z w64 c.in-Some.common;
       constant = to_z w64 (of_z w64 c.in-Some-part.constant);
-      cost = c.in-Ok-costs.cost;
+      cost = c.in_ok-cost.cost;
     })
     (parameters_low c.args.model.forms.now c.args.model.set.now c.requires.model)
-    c.in-Ok-costs.ensures.costs c.in-Ok-costs.ensures.within
+    c.in_ok-cost.ensures.costs c.in_ok-cost.ensures.within
     (subst (λ v. nat_abs v ≤ g.N.Exact.limit) (sym d) c.in-Some.ensures.least.1)
     (subst (λ v. nat_abs v ≤ g.N.Exact.limit) (sym (held c.in-Some-part.constant n)) c.in-Some-part.ensures.number.1)
 
-pub returns-in-Ok-costs-clause-task : goal.returns-in-Ok-costs-clause-task
-returns-in-Ok-costs-clause-task g c = λ m f s.
+pub returns-clause-task : goal.returns-clause-task
+returns-clause-task g c = λ m f s.
     let z : List Fraction = map g.N.Exact.value c.args.vector.now in
     let n : nat_abs c.in-Some-part.constant ≤ 2 ^ 62 - 1 = omega (arith, c.in-Some-part.ensures.number.1, g.met.N.Exact.limit_high) in
     let first : c.items.result.now ≡ wholes z = c.items.ensures.list ∙ c.in-Ok.ensures.cleared ∙ ap (λ d. map (whole_at d) z) c.in-Some.ensures.least.0 in
@@ -83,12 +84,14 @@ returns-in-Ok-costs-clause-task g c = λ m f s.
       common = common_seen g.N.Exact.limit c.in-Some.common g.met.N.Exact.limit_high c.in-Some.ensures.least.1 ∙ ap pos c.in-Some.ensures.least.0;
       constant = constant_told m c.args.model.forms.now f c.args.form z c.items.result.now first (to_z w64 (of_z w64 c.in-Some-part.constant))
           (held c.in-Some-part.constant n ∙ c.in-Some-part.ensures.number.0);
-      costs = costs_told m c.args.model.forms.now f c.args.form z c.items-2.result.now second c.args.model.set.now.columns s.columns c.in-Ok-costs.cost c.in-Ok-costs.ensures.costs;
+      costs = costs_told m c.args.model.forms.now f c.args.form z c.items-2.result.now second c.args.model.set.now.columns s.columns c.in_ok-cost.cost c.in_ok-cost.ensures.costs;
     }
 
-pub returns-clause-task : goal.returns-clause-task
-returns-clause-task g c = λ m f s.
+pub returns-in_err-cost-clause-task : goal.returns-in_err-cost-clause-task
+returns-in_err-cost-clause-task g c =
+    let p = err_from_is_err_and c.from_residual.result c.from_residual.ensures.1 in
+    rw (p.1, p.2) (λ m f s.
     let z : List Fraction = map g.N.Exact.value c.args.vector.now in
     let is : c.items-2.result.now ≡ wholes z = c.items-2.ensures.list ∙ c.in-Ok.ensures.cleared ∙ ap (λ d. map (whole_at d) z) c.in-Some.ensures.least.0 in
-    costs_cause g.N.Exact.limit m c.args.by_step c.args.form z c.args.model.forms.now f c.in-Err.stop
-    (subst (λ (xs : List ℤ). StopsAtPart c.args.model.forms.now c.args.form g.N.Exact.limit xs c.in-Err.stop) is c.in-Err.ensures.costs)
+    costs_cause g.N.Exact.limit m c.args.by_step c.args.form z c.args.model.forms.now f c.in_err-cost.field-0.0
+    (subst (λ (xs : List ℤ). StopsAtPart c.args.model.forms.now c.args.form g.N.Exact.limit xs c.in_err-cost.field-0.0) is c.in_err-cost.ensures.costs))
