@@ -36,15 +36,18 @@ module _ (m : RobustModel) where
   -- ---- shapes
   covers_shape : (amounts : ℕ → List Fraction) → AreCoversOf m (covers_of_amounts m amounts)
   covers_shape amounts = record {
-    each = each_map (λ (c : Cover). (c.form < length (matrices m)) × (c.set_row < length (set_rows m)) × (c.amount ≢ 0ℚ)) (IsCoverOf m)
+    each = each_map (λ (c : Cover). (c.form < length (matrices m)) × (c.set_row < length (set_rows m))
+        × (c.amount ≢ 0ℚ)) (IsCoverOf m)
         (λ c h. record { form = subst (λ n. c.form < n) forms_count h.0; set_row = h.1; amount = h.2 })
         (covers_of_amounts m amounts) (covers_in m amounts);
     ordered = covers_in_order m amounts;
   }
 
-  items_shape : (cuts : List Cut) (weight : ℕ → Fraction) → Each (IsCut m) cuts → length cuts < 2 ^ 32 → AreItemsOf m (run_items m cuts weight)
+  items_shape : (cuts : List Cut) (weight : ℕ → Fraction) → Each (IsCut m) cuts → length cuts < 2 ^ 32
+      → AreItemsOf m (run_items m cuts weight)
   items_shape cuts weight h few = record {
-    each = each_map (λ (i : Item). (i.form < length (matrices m)) × (length i.vector ≡ length m.parameters)) (IsItemOf m)
+    each = each_map (λ (i : Item). (i.form < length (matrices m)) × (length i.vector ≡ length m.parameters))
+        (IsItemOf m)
         (λ i k. record { form = subst (λ n. i.form < n) forms_count k.0; numbers = k.1 })
         (run_items m cuts weight) (items_in m cuts weight h);
     ordered = items_in_order m cuts weight;
@@ -57,7 +60,8 @@ module _ (m : RobustModel) where
   no_items : AreItemsOf m []
   no_items = record { each = tt; ordered = tt; few = omega arith }
 
-  gives : (covers : List Cover) (amounts : ℕ → List Fraction) → covers ≡ covers_of_amounts m amounts → GivesAmounts m amounts covers
+  gives : (covers : List Cover) (amounts : ℕ → List Fraction) → covers ≡ covers_of_amounts m amounts
+      → GivesAmounts m amounts covers
   gives covers amounts e = subst (GivesAmounts m amounts) (sym e) (covers_give_amounts m amounts)
 
   -- a plan that is covered where the point x is
@@ -74,8 +78,10 @@ module _ (m : RobustModel) where
     few_cuts = let e : length (cuts_told rounds) ≡ length rounds = length-cuts rounds in omega arith
 
     -- ---- optimal
-    optimal_at : (basis : List ℕ) (x y : ℕ → Fraction) (amounts : ℕ → List Fraction) (p : CoveredPlan) → MasterIsOptimal m (cuts_told rounds) basis x y
-        → IsCoveredAt x amounts p → IsEnd m (cuts_told rounds) (optimal_with inside p (run_items m (cuts_told rounds) y))
+    optimal_at : (basis : List ℕ) (x y : ℕ → Fraction) (amounts : ℕ → List Fraction) (p : CoveredPlan)
+        → MasterIsOptimal m (cuts_told rounds) basis x y
+        → IsCoveredAt x amounts p → IsEnd m (cuts_told rounds)
+        (optimal_with inside p (run_items m (cuts_told rounds) y))
     optimal_at basis x y amounts p o k = record {
       basis = basis;
       read = record {
@@ -110,7 +116,8 @@ module _ (m : RobustModel) where
         (sym (items_are m rounds t y y (λ q l. refl))) (optimal_at basis x y amounts p o k)
 
     -- ---- infeasible
-    pub infeasible_end_is : (basis : List ℕ) (rows : Matrix) (weight : ℕ → Fraction) → MasterIsInfeasible m (cuts_told rounds) basis rows
+    pub infeasible_end_is : (basis : List ℕ) (rows : Matrix) (weight : ℕ → Fraction)
+        → MasterIsInfeasible m (cuts_told rounds) basis rows
         → ((q : ℕ) → q < length rounds → weight q ≡ weight_of (master_over m (cuts_told rounds)) rows q)
         → IsEnd m (cuts_told rounds) (infeasible_with inside (items_told (length (matrices m)) rounds weight))
     infeasible_end_is basis rows weight o h =
@@ -121,19 +128,30 @@ module _ (m : RobustModel) where
           read = record { rows = rows; master = o; status = refl; scale_is = refl; items = refl };
           shape = record {
             inside = admitted.numbers;
-            parts = record { value = refl; scale = refl; plan = refl; step = refl; step_bound = refl; covers = refl; holds = refl };
+            parts = record {
+              value = refl;
+              scale = refl;
+              plan = refl;
+              step = refl;
+              step_bound = refl;
+              covers = refl;
+              holds = refl;
+            };
             covers = no_covers;
             holds = no_covers;
-            items = items_shape (cuts_told rounds) (weight_of (master_over m (cuts_told rounds)) rows) (are_cuts_told m rounds t) few_cuts;
+            items = items_shape (cuts_told rounds) (weight_of (master_over m (cuts_told rounds)) rows)
+                (are_cuts_told m rounds t) few_cuts;
           };
           admitted = admitted;
           inside = last;
         })
 
     -- ---- unbounded
-    pub unbounded_end_is : (basis : List ℕ) (column : ℕ) (x r : ℕ → Fraction) (amounts step_amounts : ℕ → List Fraction) (p : CoveredPlan)
+    pub unbounded_end_is : (basis : List ℕ) (column : ℕ) (x r : ℕ → Fraction)
+        (amounts step_amounts : ℕ → List Fraction) (p : CoveredPlan)
         (step : List Fraction) (step_bound : Fraction) (holds : List Cover)
-        → MasterIsUnbounded m (cuts_told rounds) basis column x r → IsCoveredAt x amounts p → AreKept m (direction_at m r) step_amounts
+        → MasterIsUnbounded m (cuts_told rounds) basis column x r → IsCoveredAt x amounts p
+        → AreKept m (direction_at m r) step_amounts
         → holds ≡ covers_of_amounts m step_amounts → step ≡ scale (cleared_by (direction_at m r)) (plan_read m r)
         → step_bound ≡ cleared_by (direction_at m r) *ℚ bound_read m r
         → IsEnd m (cuts_told rounds) (unbounded_with inside p step step_bound holds)

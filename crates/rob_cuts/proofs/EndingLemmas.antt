@@ -19,7 +19,8 @@ use Rattle.rob_runs.specs.Cuts.{Cut, master_over}
 use Rattle.rob_runs.specs.Runs.{MasterIsOptimal, MasterIsUnbounded, MasterIsInfeasible}
 
 module _ (m : RobustModel) (cuts : List Cut) (s : Solver) where
-  pub optimal_master : HasEnded (master_over m cuts) kind.Optimal s → MasterIsOptimal m cuts s.basis (point_of s) (dual_of s)
+  pub optimal_master : HasEnded (master_over m cuts) kind.Optimal s
+      → MasterIsOptimal m cuts s.basis (point_of s) (dual_of s)
   optimal_master h =
       let o : IsOptimumOf h.program s = h.solved in
       record {
@@ -47,7 +48,8 @@ module _ (m : RobustModel) (cuts : List Cut) (s : Solver) where
       × ((q : ℕ) → q < length cuts → of_int (weights_of s q) ≡ weight_of (master_over m cuts) rows q)
   infeasible_master h =
       let o : HasWeightsFor h.program s = h.solved in
-      let en : (rows : Matrix) × InfeasibleEnding (master_over m cuts) (own_of (auxiliary_of (master_over m cuts)) (columns_of s.basis)) rows
+      let en : (rows : Matrix) × InfeasibleEnding (master_over m cuts)
+      (own_of (auxiliary_of (master_over m cuts)) (columns_of s.basis)) rows
       × ((t : ℕ) → t < (master_over m cuts).m → of_int (weights_of s t) ≡ weight_of (master_over m cuts) rows t) =
       infeasible_end (master_over m cuts) s h in (
         en.0,

@@ -19,7 +19,8 @@ use Rattle.rob_counterpart.proofs.KeptLemmas.{covers_kept-append}
 
 -- ---- covers
 -- a set row more
-pub covers_more : (before all now : List Cover) (g : ℕ → Cover) (r : ℕ) (x : Cover) → all ≡ before ++ covers_kept (tabulate r g)
+pub covers_more : (before all now : List Cover) (g : ℕ → Cover) (r : ℕ) (x : Cover)
+    → all ≡ before ++ covers_kept (tabulate r g)
     → now ≡ all ++ covers_kept (x ∷ []) → x ≡ g r → now ≡ before ++ covers_kept (tabulate (r + 1) g)
 covers_more before all now g r x h e is =
     e
@@ -30,33 +31,43 @@ covers_more before all now g r x h e is =
 
 -- ---- items
 -- the cut of the round at a place
-pub numbered_told : (rounds : List Told) (q : ℕ) (r : Told) → q < length rounds → r ≡ get_or rounds q r → cut_of_number (cuts_told rounds) q ≡ cut_of r
+pub numbered_told : (rounds : List Told) (q : ℕ) (r : Told) → q < length rounds → r ≡ get_or rounds q r
+    → cut_of_number (cuts_told rounds) q ≡ cut_of r
 numbered_told [] q r l e = absurd (omega arith)
 numbered_told (x ∷ rounds) zero r l e = ap cut_of (sym e)
 numbered_told (x ∷ rounds) (suc q) r l e = numbered_told rounds q r (omega arith) e
 
 -- a round more
 pub items_more : (form : ℕ) (cuts : List Cut) (weight : ℕ → Fraction) (before all now : List Item) (q : ℕ) (x : Item)
-    → all ≡ before ++ of_form form (weighted_cuts cuts weight q) → now ≡ all ++ of_form form (weighted_kept (x ∷ [])) → x ≡ item_of_cut cuts weight q
+    → all ≡ before ++ of_form form (weighted_cuts cuts weight q) → now ≡ all ++ of_form form (weighted_kept (x ∷ []))
+    → x ≡ item_of_cut cuts weight q
     → now ≡ before ++ of_form form (weighted_cuts cuts weight (q + 1))
 items_more form cuts weight before all now q x h e is =
     e
     ∙ ap₂ (λ (xs : List Item) (y : Item). xs ++ of_form form (weighted_kept (y ∷ []))) h is
-    ∙ append_assoc before (of_form form (weighted_cuts cuts weight q)) (of_form form (weighted_kept (item_of_cut cuts weight q ∷ [])))
+    ∙ append_assoc before (of_form form (weighted_cuts cuts weight q))
+    (of_form form (weighted_kept (item_of_cut cuts weight q ∷ [])))
     ∙ ap (λ (ys : List Item). before ++ ys)
     (sym (of_form-append form (weighted_cuts cuts weight q) (weighted_kept (item_of_cut cuts weight q ∷ [])))
     ∙ ap (of_form form) (sym (weighted_kept-more q (item_of_cut cuts weight)))
     ∙ ap (λ n. of_form form (weighted_cuts cuts weight n)) (sym (add-one q)))
 
 -- the item of the round at a place
-pub item_at : (rounds : List Told) (weight : ℕ → Fraction) (q : ℕ) (r : Told) (w : Fraction) → q < length rounds → r ≡ get_or rounds q r → weight q ≡ w
+pub item_at : (rounds : List Told) (weight : ℕ → Fraction) (q : ℕ) (r : Told) (w : Fraction) → q < length rounds
+    → r ≡ get_or rounds q r → weight q ≡ w
     → item_told r w ≡ item_of_cut (cuts_told rounds) weight q
 item_at rounds weight q r w l e ew =
     ap (λ (v : Fraction). item_told r v) (sym ew)
-    ∙ ap (λ (c : Cut). record { form = c.form; weight = weight q; base = of_int c.base; vector = map of_int c.vector }) (sym (numbered_told rounds q r l e))
+    ∙ ap (λ (c : Cut). record {
+      form = c.form;
+      weight = weight q;
+      base = of_int c.base;
+      vector = map of_int c.vector;
+    }) (sym (numbered_told rounds q r l e))
 
 -- only the weights of the rounds count
-pub items_told-same : (forms : ℕ) (rounds : List Told) (weight other : ℕ → Fraction) → ((q : ℕ) → q < length rounds → weight q ≡ other q)
+pub items_told-same : (forms : ℕ) (rounds : List Told) (weight other : ℕ → Fraction)
+    → ((q : ℕ) → q < length rounds → weight q ≡ other q)
     → by_form forms (weighted_cuts (cuts_told rounds) weight (length rounds)) ≡ items_told forms rounds other
 items_told-same forms rounds weight other h =
     ap (λ (items : List Item). by_form forms (weighted_kept items))

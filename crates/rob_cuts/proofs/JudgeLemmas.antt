@@ -45,12 +45,14 @@ over_zero x h = elim (le_total_ℚ x 0ℚ) [ inl l ↦ absurd (h l) | inr l ↦ 
 under_zero : (x : Fraction) → ((0ℚ <ℚ x) → ⊥) → x ≤ℚ 0ℚ
 under_zero x h = elim (le_total_ℚ x 0ℚ) [ inl l ↦ l | inr l ↦ absurd (h l) ]
 
-module _ (m : RobustModel) (model : IsModel m) (i : ℕ) (some : i < length (matrices m)) (z : List Fraction) (size : length z ≡ form_columns m) where
+module _ (m : RobustModel) (model : IsModel m) (i : ℕ) (some : i < length (matrices m)) (z : List Fraction)
+    (size : length z ≡ form_columns m) where
   module _ (common peak constant : Fraction) (scenario : List Fraction) (basis : List ℕ) (amounts : List Fraction)
       (t : TellsWorst m i z common peak constant scenario basis amounts) where
     -- the peak and the constant part are the form's sum at the scenario, as often as the denominator says
     sum_is : peak +ℚ constant ≡ cleared_by z *ℚ form_at m i 1ℚ scenario z
-    sum_is = ap₂ (λ a b. a +ℚ b) t.peak_is t.constant_is ∙ found_value m model i some z size basis scenario amounts t.found
+    sum_is = ap₂ (λ a b. a +ℚ b) t.peak_is t.constant_is ∙ found_value m model i some z size basis scenario amounts
+        t.found
 
     pub kept_at : (peak +ℚ constant) ≤ℚ 0ℚ → IsKept m z i amounts
     kept_at h = record {
@@ -65,7 +67,14 @@ module _ (m : RobustModel) (model : IsModel m) (i : ℕ) (some : i < length (mat
     pub broken_at : (((peak +ℚ constant) ≤ℚ 0ℚ) → ⊥) → CutsOffFirst m z (scenario_cut_of i scenario)
     broken_at h first =
         scenario_cuts_off m model z size (scenario_cut_of i scenario) some first
-        (record { basis = basis; scenario = scenario; amounts = amounts; found = t.found; base_is = refl; vector_is = refl })
+        (record {
+          basis = basis;
+          scenario = scenario;
+          amounts = amounts;
+          found = t.found;
+          base_is = refl;
+          vector_is = refl;
+        })
         (over_pos_out (cleared_by z) (form_at m i 1ℚ scenario z) (factor_pos z)
         (subst (λ v. 0ℚ <ℚ v) sum_is (over_zero (peak +ℚ constant) h)))
 
@@ -85,8 +94,10 @@ module _ (m : RobustModel) (model : IsModel m) (i : ℕ) (some : i < length (mat
     ray_count = ap length t.ray_is ∙ length-tabulate (length m.parameters) (difference t.move)
 
 -- the amounts that a search tells are as few as the set rows
-pub tells_few : {N : Type 0} (value : N → Fraction) (m : RobustModel) (model : IsModel m) (set : SetForm) (is : IsSetForm m set) (few : IsFewSet set) (i : ℕ)
-    (some : i < length (matrices m)) (z : List Fraction) (size : length z ≡ form_columns m) (w : Worst N) → Tells value m i z w → TellsFew w
+pub tells_few : {N : Type 0} (value : N → Fraction) (m : RobustModel) (model : IsModel m) (set : SetForm)
+    (is : IsSetForm m set) (few : IsFewSet set) (i : ℕ)
+    (some : i < length (matrices m)) (z : List Fraction) (size : length z ≡ form_columns m) (w : Worst N)
+    → Tells value m i z w → TellsFew w
 tells_few value m model set is few i some z size (At scale peak constant scenario basis amounts) t =
     let n : length (map value amounts) ≡ length amounts = length-map amounts value in
     let k : length (map value amounts) ≡ length (set_rows m) = amounts_count m model i some z size _ _ _ _ _ _ t in
@@ -95,8 +106,10 @@ tells_few value m model set is few i some z size (At scale peak constant scenari
 tells_few value m model set is few i some z size (Along ray basis column) t = tt
 
 -- the verdict of a cut that cuts z off
-pub cut_judged : {N : Type 0} (limit : ℕ) (m : RobustModel) (value : N → Fraction) (f : ℕ) (z : List Fraction) (before now : List (TheCover N)) (c : Cut) (n : ℕ)
-    → c.form ≡ f → CutsOffFirst m z c → n ≡ length m.parameters → (r : Result Made Stop) → IfOk r (λ cut. cut_made cut ≡ c)
+pub cut_judged : {N : Type 0} (limit : ℕ) (m : RobustModel) (value : N → Fraction) (f : ℕ) (z : List Fraction)
+    (before now : List (TheCover N)) (c : Cut) (n : ℕ)
+    → c.form ≡ f → CutsOffFirst m z c → n ≡ length m.parameters → (r : Result Made Stop)
+    → IfOk r (λ cut. cut_made cut ≡ c)
     → IfOk r (λ cut. CutFits limit n (cut_made cut)) → IfErr r (StopsWith (IsInClearing limit c))
     → MatchResult (verdict_of r) (IsJudged limit m value f z before now) (IsStoppedAt limit m f z)
 cut_judged limit m value f z before now c n ef off en (Ok cut) is fits stop = (
@@ -109,21 +122,26 @@ cut_judged limit m value f z before now c n ef off en (Err stop) is fits h =
     (λ place w. (c, ef, w.0 ∙ ap (λ (i : ℕ). Clearing (of.Cut i)) ef, off, w.1)) stop h
 
 -- ---- the verdicts
-module _ {N : Type 0} (limit : ℕ) (m : RobustModel) (value : N → Fraction) (model : IsModel m) (i : ℕ) (some : i < length (matrices m)) (z : List Fraction)
+module _ {N : Type 0} (limit : ℕ) (m : RobustModel) (value : N → Fraction) (model : IsModel m) (i : ℕ)
+    (some : i < length (matrices m)) (z : List Fraction)
     (size : length z ≡ form_columns m) (before now : List (TheCover N)) where
   module _ (common peak constant : Fraction) (scenario : List Fraction) (basis : List ℕ) (amounts : List Fraction)
       (t : TellsWorst m i z common peak constant scenario basis amounts) where
-    pub broken_judged : (numbers : List N) → map value numbers ≡ scenario → (((peak +ℚ constant) ≤ℚ 0ℚ) → ⊥) → (r : Result Made Stop)
-        → IfOk r (λ cut. cut_made cut ≡ scenario_cut_of i (map value numbers)) → IfOk r (λ cut. CutFits limit (length numbers) (cut_made cut))
+    pub broken_judged : (numbers : List N) → map value numbers ≡ scenario → (((peak +ℚ constant) ≤ℚ 0ℚ) → ⊥)
+        → (r : Result Made Stop)
+        → IfOk r (λ cut. cut_made cut ≡ scenario_cut_of i (map value numbers))
+        → IfOk r (λ cut. CutFits limit (length numbers) (cut_made cut))
         → IfErr r (StopsWith (IsInClearing limit (scenario_cut_of i (map value numbers))))
         → MatchResult (verdict_of r) (IsJudged limit m value i z before now) (IsStoppedAt limit m i z)
     broken_judged numbers e h r =
         cut_judged limit m value i z before now (scenario_cut_of i (map value numbers)) (length numbers) refl
         (subst (λ (xs : List Fraction). CutsOffFirst m z (scenario_cut_of i xs)) (sym e)
         (broken_at m model i some z size common peak constant scenario basis amounts t h))
-        (sym (length-map numbers value) ∙ ap length e ∙ scenario_count m model i some z size common peak constant scenario basis amounts t) r
+        (sym (length-map numbers value) ∙ ap length e ∙ scenario_count m model i some z size common peak constant
+        scenario basis amounts t) r
 
-    pub kept_judged : (numbers : List N) → map value numbers ≡ amounts → (peak +ℚ constant) ≤ℚ 0ℚ → (scale : N) → value scale ≡ common
+    pub kept_judged : (numbers : List N) → map value numbers ≡ amounts → (peak +ℚ constant) ≤ℚ 0ℚ → (scale : N)
+        → value scale ≡ common
         → map (cover_of value) now ≡ map (cover_of value) before ++ covers_of_form i (map value numbers)
         → IsJudged limit m value i z before now (verdict.Kept scale)
     kept_judged numbers e h scale es ec = (
@@ -135,7 +153,8 @@ module _ {N : Type 0} (limit : ℕ) (m : RobustModel) (value : N → Fraction) (
 
   module _ (basis : List ℕ) (column : ℕ) (ray : List Fraction) (t : FindsRay m i z basis column ray) where
     pub ray_judged : (numbers : List N) → map value numbers ≡ ray → (r : Result Made Stop)
-        → IfOk r (λ cut. cut_made cut ≡ ray_cut_of i (map value numbers)) → IfOk r (λ cut. CutFits limit (length numbers) (cut_made cut))
+        → IfOk r (λ cut. cut_made cut ≡ ray_cut_of i (map value numbers))
+        → IfOk r (λ cut. CutFits limit (length numbers) (cut_made cut))
         → IfErr r (StopsWith (IsInClearing limit (ray_cut_of i (map value numbers))))
         → MatchResult (verdict_of r) (IsJudged limit m value i z before now) (IsStoppedAt limit m i z)
     ray_judged numbers e r =
@@ -145,8 +164,11 @@ module _ {N : Type 0} (limit : ℕ) (m : RobustModel) (value : N → Fraction) (
         (sym (length-map numbers value) ∙ ap length e ∙ ray_count m model i some z size basis column ray t) r
 
 -- the answer that a verdict is
-pub verdict_told : {N : Type 0} (limit : ℕ) (m : RobustModel) (value : N → Fraction) (f : ℕ) (z : List Fraction) (before now : List (TheCover N)) (r : Result Made Stop)
-    (answer : Result (Verdict N) Stop) → answer ≡ verdict_of r → MatchResult (verdict_of r) (IsJudged limit m value f z before now) (IsStoppedAt limit m f z)
+pub verdict_told : {N : Type 0} (limit : ℕ) (m : RobustModel) (value : N → Fraction) (f : ℕ) (z : List Fraction)
+    (before now : List (TheCover N)) (r : Result Made Stop)
+    (answer : Result (Verdict N) Stop) → answer ≡ verdict_of r
+    → MatchResult (verdict_of r) (IsJudged limit m value f z before now) (IsStoppedAt limit m f z)
     → MatchResult answer (IsJudged limit m value f z before now) (IsStoppedAt limit m f z)
 verdict_told {N} limit m value f z before now r answer e h =
-    subst (λ (a : Result (Verdict N) Stop). MatchResult a (IsJudged limit m value f z before now) (IsStoppedAt limit m f z)) (sym e) h
+    subst (λ (a : Result (Verdict N) Stop). MatchResult a (IsJudged limit m value f z before now)
+    (IsStoppedAt limit m f z)) (sym e) h

@@ -12,17 +12,20 @@ module _ (x : Fraction) (n v : ℤ) (e : v ≡ x.num +ℤ (n *ℤ pos x.den)) wh
   pair = is_add (is_self x) (is_int n)
 
   numerator_is : ((x.num *ℤ pos 1) +ℤ (n *ℤ pos x.den)) *ℤ pos 1 ≡ v
-  numerator_is = mul-one ((x.num *ℤ pos 1) +ℤ (n *ℤ pos x.den)) ∙ ap (λ z. z +ℤ (n *ℤ pos x.den)) (mul-one x.num) ∙ sym e
+  numerator_is = mul-one ((x.num *ℤ pos 1) +ℤ (n *ℤ pos x.den)) ∙ ap (λ z. z +ℤ (n *ℤ pos x.den)) (mul-one x.num)
+      ∙ sym e
 
   pub sum_at_most : v ≤ℤ pos 0 → (x +ℚ of_int n) ≤ℚ 0ℚ
   sum_at_most h =
       is_le_in pair (is_int (pos 0))
-      (subst (λ z. (((x.num *ℤ pos 1) +ℤ (n *ℤ pos x.den)) *ℤ pos 1) ≤ℤ z) (sym (zero-mul (pos (x.den * 1)))) (subst (λ z. z ≤ℤ pos 0) (sym numerator_is) h))
+      (subst (λ z. (((x.num *ℤ pos 1) +ℤ (n *ℤ pos x.den)) *ℤ pos 1) ≤ℤ z) (sym (zero-mul (pos (x.den * 1))))
+      (subst (λ z. z ≤ℤ pos 0) (sym numerator_is) h))
 
   pub at_most_sum : (x +ℚ of_int n) ≤ℚ 0ℚ → v ≤ℤ pos 0
   at_most_sum h =
       subst (λ z. z ≤ℤ pos 0) numerator_is
-      (subst (λ z. (((x.num *ℤ pos 1) +ℤ (n *ℤ pos x.den)) *ℤ pos 1) ≤ℤ z) (zero-mul (pos (x.den * 1))) (is_le_out pair (is_int (pos 0)) h))
+      (subst (λ z. (((x.num *ℤ pos 1) +ℤ (n *ℤ pos x.den)) *ℤ pos 1) ≤ℤ z) (zero-mul (pos (x.den * 1)))
+      (is_le_out pair (is_int (pos 0)) h))
 
 test_yes : (v w : ℤ) → le_z v w ≡ true → v ≤ℤ w
 test_yes v w e = record { le = subst (λ (b : Bool). T b) (sym e) tt }
@@ -35,7 +38,8 @@ test_again v w h = by (le_z v w) h.le
     by false t = absurd t
 
 -- the test of the sum's numerator
-pub kept_test : (x : Fraction) (n v seen : ℤ) → v ≡ x.num +ℤ (n *ℤ pos x.den) → seen ≡ v → Decides (le_z seen (pos 0)) ((x +ℚ of_int n) ≤ℚ 0ℚ)
+pub kept_test : (x : Fraction) (n v seen : ℤ) → v ≡ x.num +ℤ (n *ℤ pos x.den) → seen ≡ v
+    → Decides (le_z seen (pos 0)) ((x +ℚ of_int n) ≤ℚ 0ℚ)
 kept_test x n v seen e s = (
   λ t. sum_at_most x n v e (subst (λ z. z ≤ℤ pos 0) s (test_yes seen (pos 0) t)),
   λ h. test_again seen (pos 0) (subst (λ z. z ≤ℤ pos 0) (sym s) (at_most_sum x n v e h)),

@@ -40,16 +40,19 @@ use Rattle.rob_cuts.specs.Scans.{IsScanned, IsScanStopped}
 use Rattle.rob_cuts.specs.Steps.{SomeWideProduct}
 
 module _ (m : RobustModel) {N : Type 0} (value : N → Fraction) where
-  pub plan_is : (plan : Plan N) (x : ℕ → Fraction) → map value plan.columns ≡ plan_read m x → value plan.bound ≡ bound_read m x
+  pub plan_is : (plan : Plan N) (x : ℕ → Fraction) → map value plan.columns ≡ plan_read m x
+      → value plan.bound ≡ bound_read m x
       → plan_of value plan ≡ plan_at m x
   plan_is plan x ec eb = ap₂ (λ (columns : List Fraction) (bound : Fraction). plan_vector 1ℚ columns bound) ec eb
 
-  pub step_is : (step : List N) (r : ℕ → Fraction) → map value step ≡ differences (suc (column_count m)) r → step_of value step ≡ direction_at m r
+  pub step_is : (step : List N) (r : ℕ → Fraction) → map value step ≡ differences (suc (column_count m)) r
+      → step_of value step ≡ direction_at m r
   step_is step r e = ap (λ (numbers : List Fraction). 0ℚ ∷ numbers) (e ∙ tabulate-more (column_count m) (difference r))
 
 -- ---- what the scan finds at the plan that was read, and at the direction
 module _ (limit : ℕ) (m : RobustModel) {N : Type 0} (value : N → Fraction) (forms : Forms) (f : IsForms m forms) where
-  module _ (plan : Plan N) (x : ℕ → Fraction) (ec : map value plan.columns ≡ differences forms.columns x) (eb : value plan.bound ≡ difference x forms.columns) where
+  module _ (plan : Plan N) (x : ℕ → Fraction) (ec : map value plan.columns ≡ differences forms.columns x)
+      (eb : value plan.bound ≡ difference x forms.columns) where
     columns_read : map value plan.columns ≡ plan_read m x
     columns_read = ec ∙ ap (λ (n : ℕ). differences n x) f.columns
 
@@ -59,17 +62,26 @@ module _ (limit : ℕ) (m : RobustModel) {N : Type 0} (value : N → Fraction) (
     plan_vector_is : plan_of value plan ≡ plan_at m x
     plan_vector_is = plan_is m value plan x columns_read bound_read_off
 
-    pub plan_broken : (cut : Made) → IsScanned limit m value (plan_of value plan) (found.Broken cut) → IsPlanLook limit m value x (of_plan.Broken cut)
+    pub plan_broken : (cut : Made) → IsScanned limit m value (plan_of value plan) (found.Broken cut)
+        → IsPlanLook limit m value x (of_plan.Broken cut)
     plan_broken cut h = subst (λ (z : List Fraction). IsScanned limit m value z (found.Broken cut)) plan_vector_is h
 
-    pub plan_kept : (kept : Kept N) → IsScanned limit m value (plan_of value plan) (found.Kept kept) → IsPlanLook limit m value x (of_plan.Kept plan kept)
-    plan_kept kept h = (columns_read, bound_read_off, subst (λ (z : List Fraction). IsScanned limit m value z (found.Kept kept)) plan_vector_is h)
+    pub plan_kept : (kept : Kept N) → IsScanned limit m value (plan_of value plan) (found.Kept kept)
+        → IsPlanLook limit m value x (of_plan.Kept plan kept)
+    plan_kept kept h = (
+      columns_read,
+      bound_read_off,
+      subst (λ (z : List Fraction). IsScanned limit m value z
+          (found.Kept kept)) plan_vector_is h,
+    )
 
-    pub plan_stopped : (stop : Stop) → IsScanStopped limit m false (plan_of value plan) stop → IsScanStopped limit m false (plan_at m x) stop
+    pub plan_stopped : (stop : Stop) → IsScanStopped limit m false (plan_of value plan) stop
+        → IsScanStopped limit m false (plan_at m x) stop
     plan_stopped stop h = subst (λ (z : List Fraction). IsScanStopped limit m false z stop) plan_vector_is h
 
     pub plan_columns_count : length plan.columns ≡ forms.columns
-    plan_columns_count = sym (length-map plan.columns value) ∙ ap length ec ∙ length-tabulate forms.columns (difference x)
+    plan_columns_count = sym (length-map plan.columns value) ∙ ap length ec
+        ∙ length-tabulate forms.columns (difference x)
 
   module _ (step : List N) (r : ℕ → Fraction) (e : map value step ≡ differences (suc forms.columns) r) where
     numbers_read : map value step ≡ differences (suc (column_count m)) r
@@ -78,31 +90,37 @@ module _ (limit : ℕ) (m : RobustModel) {N : Type 0} (value : N → Fraction) (
     step_vector_is : step_of value step ≡ direction_at m r
     step_vector_is = step_is m value step r numbers_read
 
-    pub step_broken : (cut : Made) → IsScanned limit m value (step_of value step) (found.Broken cut) → IsStepLook limit m value r (of_step.Broken cut)
+    pub step_broken : (cut : Made) → IsScanned limit m value (step_of value step) (found.Broken cut)
+        → IsStepLook limit m value r (of_step.Broken cut)
     step_broken cut h = subst (λ (z : List Fraction). IsScanned limit m value z (found.Broken cut)) step_vector_is h
 
-    pub step_kept : (numbers : List N) → numbers ≡ step → (kept : Kept N) → IsScanned limit m value (step_of value step) (found.Kept kept)
+    pub step_kept : (numbers : List N) → numbers ≡ step → (kept : Kept N)
+        → IsScanned limit m value (step_of value step) (found.Kept kept)
         → IsStepLook limit m value r (of_step.Kept numbers kept)
     step_kept numbers same kept h = (
       ap (map value) same ∙ numbers_read,
       subst (λ (z : List Fraction). IsScanned limit m value z (found.Kept kept)) step_vector_is h,
     )
 
-    pub step_stopped : (stop : Stop) → IsScanStopped limit m true (step_of value step) stop → IsScanStopped limit m true (direction_at m r) stop
+    pub step_stopped : (stop : Stop) → IsScanStopped limit m true (step_of value step) stop
+        → IsScanStopped limit m true (direction_at m r) stop
     step_stopped stop h = subst (λ (z : List Fraction). IsScanStopped limit m true z stop) step_vector_is h
 
     pub step_count : length step ≡ suc forms.columns
     step_count = sym (length-map step value) ∙ ap length e ∙ length-tabulate (suc forms.columns) (difference r)
 
 -- a direction that was looked at has a number for each decision column, and one for the bound
-pub look_count : {N : Type 0} (value : N → Fraction) (m : RobustModel) (forms : Forms) → IsForms m forms → (numbers : List N) (r : ℕ → Fraction)
+pub look_count : {N : Type 0} (value : N → Fraction) (m : RobustModel) (forms : Forms) → IsForms m forms
+    → (numbers : List N) (r : ℕ → Fraction)
     → map value numbers ≡ differences (suc (column_count m)) r → length numbers ≡ suc forms.columns
 look_count value m forms f numbers r e =
-    sym (length-map numbers value) ∙ ap length e ∙ length-tabulate (suc (column_count m)) (difference r) ∙ ap (λ (n : ℕ). suc n) (sym f.columns)
+    sym (length-map numbers value) ∙ ap length e ∙ length-tabulate (suc (column_count m)) (difference r)
+    ∙ ap (λ (n : ℕ). suc n) (sym f.columns)
 
 -- ---- of each pair one number is 0
 module _ (m : RobustModel) (cuts : List Cut) where
-  pub best_pairs : (basis : List ℕ) (x y : ℕ → Fraction) → MasterIsOptimal m cuts basis x y → (j : ℕ) → j ≤ column_count m
+  pub best_pairs : (basis : List ℕ) (x y : ℕ → Fraction) → MasterIsOptimal m cuts basis x y → (j : ℕ)
+      → j ≤ column_count m
       → OneIsZero (x (plus j)) (x (minus j))
   best_pairs basis x y o j l =
       point_opposite (master_over m cuts) (plus j) (minus j)
@@ -135,11 +153,13 @@ at-ints (z ∷ zs) zero l = refl
 at-ints (z ∷ zs) (suc k) l = at-ints zs k (omega arith)
 
 -- a product that is wide is a cleared number that is
-pub wide_cleared : (limit : ℕ) (z : List Fraction) (k : ℕ) → 1 ≤ limit → k < length z → IsWide limit (cleared_by z *ℚ at z k) → IsWideCleared limit z
+pub wide_cleared : (limit : ℕ) (z : List Fraction) (k : ℕ) → 1 ≤ limit → k < length z
+    → IsWide limit (cleared_by z *ℚ at z k) → IsWideCleared limit z
 wide_cleared limit z k one l w =
     let n : length (wholes z) ≡ length z = length-wholes z in
     let e : cleared_by z *ℚ at z k ≡ of_int (V.at (wholes z) k) =
-    sym (at-scale (cleared_by z) z k l) ∙ ap (λ (v : List Fraction). at v k) (sym (wholes-scale z)) ∙ at-ints (wholes z) k (omega arith) in
+    sym (at-scale (cleared_by z) z k l) ∙ ap (λ (v : List Fraction). at v k) (sym (wholes-scale z))
+    ∙ at-ints (wholes z) k (omega arith) in
     inr (k, omega arith, size (V.at (wholes z) k) (subst (IsWide limit) e w))
   where
     size : (v : ℤ) → IsWide limit (of_int v) → limit < nat_abs v
@@ -147,22 +167,27 @@ wide_cleared limit z k one l w =
     size v (inr h) = let p : (of_int v).den ≡ 1 = (of_int-parts v).1 in absurd (omega arith)
 
 -- ---- a direction in whole numbers
-module _ (m : RobustModel) (r : ℕ → Fraction) (c : Fraction) (numbers : List Fraction) (e : numbers ≡ differences (suc (column_count m)) r) where
+module _ (m : RobustModel) (r : ℕ → Fraction) (c : Fraction) (numbers : List Fraction)
+    (e : numbers ≡ differences (suc (column_count m)) r) where
   number_at_place : (j : ℕ) → j < suc (column_count m) → c *ℚ at numbers j ≡ c *ℚ difference r j
-  number_at_place j l = ap (λ v. c *ℚ v) (ap (λ (xs : List Fraction). at xs j) e ∙ at-tabulate (suc (column_count m)) (difference r) j l)
+  number_at_place j l = ap (λ v. c *ℚ v) (ap (λ (xs : List Fraction). at xs j) e
+      ∙ at-tabulate (suc (column_count m)) (difference r) j l)
 
   pub step_columns : tabulate (column_count m) (λ j. c *ℚ at numbers j) ≡ scale c (plan_read m r)
   step_columns =
-      tabulate-same (column_count m) (λ j. c *ℚ at numbers j) (λ j. c *ℚ difference r j) (λ j l. number_at_place j (omega arith))
+      tabulate-same (column_count m) (λ j. c *ℚ at numbers j) (λ j. c *ℚ difference r j)
+      (λ j l. number_at_place j (omega arith))
       ∙ sym (scale-tabulate c (column_count m) (difference r))
 
   pub step_bound_is : c *ℚ at numbers (column_count m) ≡ c *ℚ bound_read m r
   step_bound_is = number_at_place (column_count m) (omega arith)
 
   -- a product that is wide is a cleared number of the direction
-  pub step_wide : (limit : ℕ) → 1 ≤ limit → c ≡ cleared_by (direction_at m r) → SomeWideProduct limit c numbers → IsWideCleared limit (direction_at m r)
+  pub step_wide : (limit : ℕ) → 1 ≤ limit → c ≡ cleared_by (direction_at m r) → SomeWideProduct limit c numbers
+      → IsWideCleared limit (direction_at m r)
   step_wide limit one ec w =
-      let z : direction_at m r ≡ 0ℚ ∷ numbers = sym (ap (λ (xs : List Fraction). 0ℚ ∷ xs) (e ∙ tabulate-more (column_count m) (difference r))) in
+      let z : direction_at m r ≡ 0ℚ ∷ numbers = sym (ap (λ (xs : List Fraction). 0ℚ ∷ xs)
+      (e ∙ tabulate-more (column_count m) (difference r))) in
       subst (IsWideCleared limit) (sym z)
       (wide_cleared limit (0ℚ ∷ numbers) (suc w.0) one (let l : w.0 < length numbers = w.1 in omega arith)
       (subst (λ (v : Fraction). IsWide limit (v *ℚ at numbers w.0)) (ec ∙ ap cleared_by z) w.2))

@@ -39,8 +39,10 @@ item-map f (x ∷ xs) (suc k) d e l = item-map f xs k d e (omega arith)
 pub cut_added : (forms : Forms) (cuts : List Cut) (c : Cut) (before now : Lp)
     → IsMasterList forms cuts before → AddsCut forms c before now → IsMasterList forms (cuts ++ c ∷ []) now
 cut_added forms cuts c before now h a = record {
-  a = a.a ∙ ap (λ (rows : List (List ℤ)). rows ++ cut_row forms c ∷ []) h.a ∙ sym (map-append (cut_row forms) cuts (c ∷ []));
-  b = a.b ∙ ap (λ (rights : List ℤ). rights ++ cut_right forms c ∷ []) h.b ∙ sym (map-append (cut_right forms) cuts (c ∷ []));
+  a = a.a ∙ ap (λ (rows : List (List ℤ)). rows ++ cut_row forms c ∷ []) h.a
+      ∙ sym (map-append (cut_row forms) cuts (c ∷ []));
+  b = a.b ∙ ap (λ (rights : List ℤ). rights ++ cut_right forms c ∷ []) h.b
+      ∙ sym (map-append (cut_right forms) cuts (c ∷ []));
   c = a.c ∙ h.c;
 }
 
@@ -71,10 +73,12 @@ module _ (forms : Forms) (cuts : List Cut) (lp : Lp) (h : IsMasterList forms cut
   module _ (m : RobustModel) (f : IsForms m forms) where
     number_same : (c : Cut) (j : ℕ) → cut_number forms c j ≡ sum_to (form_rows m) (cut_term m c j)
     number_same c j =
-        ap₂ (λ (all : List (List (List ℤ))) (n : ℕ). sum_to (suc n) (λ k. cell (matrix_at all c.form) k j *ℤ at (c.base ∷ c.vector) k))
+        ap₂ (λ (all : List (List (List ℤ))) (n : ℕ). sum_to (suc n)
+        (λ k. cell (matrix_at all c.form) k j *ℤ at (c.base ∷ c.vector) k))
         f.matrices f.params
 
-    number_is_entry : (q j : ℕ) → cut_number forms (cut_of_number cuts q) j ≡ entry_of_cut (robust_of m) (cuts_of cuts) q j
+    number_is_entry : (q j : ℕ) → cut_number forms (cut_of_number cuts q) j
+        ≡ entry_of_cut (robust_of m) (cuts_of cuts) q j
     number_is_entry q j = number_same (cut_of_number cuts q) j ∙ cut_is_master_entry m cuts q j
 
     pairs_same : plan_pairs forms ≡ pairs (robust_of m)
@@ -110,22 +114,28 @@ one_within limit v h zero d l = h
 one_within limit v h (suc k) d l = absurd (omega arith)
 
 -- a row more
-pub within_more : (limit : ℕ) (before now : Lp) (row : List ℤ) (right : ℤ) → now.a ≡ before.a ++ row ∷ [] → now.b ≡ before.b ++ right ∷ []
-    → now.c ≡ before.c → IsWithin limit row → nat_abs right ≤ limit → HasNumbersWithin limit before → HasNumbersWithin limit now
+pub within_more : (limit : ℕ) (before now : Lp) (row : List ℤ) (right : ℤ) → now.a ≡ before.a ++ row ∷ []
+    → now.b ≡ before.b ++ right ∷ []
+    → now.c ≡ before.c → IsWithin limit row → nat_abs right ≤ limit → HasNumbersWithin limit before
+    → HasNumbersWithin limit now
 within_more limit before now row right ea eb ec hr hb h = record {
-  a = subst (λ (rows : List (List ℤ)). (k : ℕ) (d : List ℤ) → k < length rows → IsWithin limit (slice_index_or rows k d)) (sym ea)
+  a = subst (λ (rows : List (List ℤ)). (k : ℕ) (d : List ℤ) → k < length rows
+      → IsWithin limit (slice_index_or rows k d)) (sym ea)
       (All-append (λ (r : List ℤ). IsWithin limit r) before.a (row ∷ []) h.a (one_row row hr));
-  b = subst (IsWithin limit) (sym eb) (All-append (λ (v : ℤ). nat_abs v ≤ limit) before.b (right ∷ []) h.b (one_within limit right hb));
+  b = subst (IsWithin limit) (sym eb) (All-append (λ (v : ℤ). nat_abs v ≤ limit) before.b (right ∷ []) h.b
+      (one_within limit right hb));
   c = subst (IsWithin limit) (sym ec) h.c;
 }
   where
-    one_row : (r : List ℤ) → IsWithin limit r → (k : ℕ) (d : List ℤ) → k < 1 → IsWithin limit (slice_index_or (r ∷ []) k d)
+    one_row : (r : List ℤ) → IsWithin limit r → (k : ℕ) (d : List ℤ) → k < 1
+        → IsWithin limit (slice_index_or (r ∷ []) k d)
     one_row r hr zero d l = hr
     one_row r hr (suc k) d l = absurd (omega arith)
 
 -- a row that was appended, or not for want of memory
 pub append_within : (limit : ℕ) (before now : Lp) (row : List ℤ) (right : ℤ) (pushed : Result (Unit {0}) NoMemory)
-    → IfOk pushed (λ _. now.a ≡ before.a ++ row ∷ []) → IfOk pushed (λ _. now.b ≡ before.b ++ right ∷ []) → now.c ≡ before.c → IsWithin limit row → nat_abs right ≤ limit
+    → IfOk pushed (λ _. now.a ≡ before.a ++ row ∷ []) → IfOk pushed (λ _. now.b ≡ before.b ++ right ∷ [])
+    → now.c ≡ before.c → IsWithin limit row → nat_abs right ≤ limit
     → (result : Result (Unit {0}) Stop) → MatchResult result (λ x. pushed ≡ Ok x) (λ stop. stop ≡ Memory)
     → IfOk result (λ _. HasNumbersWithin limit before → HasNumbersWithin limit now)
 append_within limit before now row right pushed ea eb ec hr hb (Ok x) is =

@@ -27,17 +27,21 @@ use Rattle.rob_dualize.proofs.Soundness.{at_small}
 use Rattle.rob_sets.proofs.SetProgramLemmas.{negated_within}
 
 -- a term more
-pub sum_more : (f : Vector) (k : ℕ) (sum a b next : ℤ) → sum ≡ sum_to k f → a *ℤ b ≡ f k → next ≡ sum +ℤ (a *ℤ b) → next ≡ sum_to (k + 1) f
+pub sum_more : (f : Vector) (k : ℕ) (sum a b next : ℤ) → sum ≡ sum_to k f → a *ℤ b ≡ f k → next ≡ sum +ℤ (a *ℤ b)
+    → next ≡ sum_to (k + 1) f
 sum_more f k sum a b next h e is = is ∙ ap₂ (λ x y. x +ℤ y) h e ∙ ap (λ n. sum_to n f) (sym (add-one k))
 
 -- a prefix with it that is wide
-pub prefix_wide : (limit n : ℕ) (f : Vector) (k : ℕ) (sum a b : ℤ) → k < n → sum ≡ sum_to k f → a *ℤ b ≡ f k → IsWideWhole limit (sum +ℤ (a *ℤ b))
+pub prefix_wide : (limit n : ℕ) (f : Vector) (k : ℕ) (sum a b : ℤ) → k < n → sum ≡ sum_to k f → a *ℤ b ≡ f k
+    → IsWideWhole limit (sum +ℤ (a *ℤ b))
     → HasWidePrefix limit n f
 prefix_wide limit n f k sum a b l h e w = (suc k, omega arith, subst (IsWideWhole limit) (ap₂ (λ x y. x +ℤ y) h e) w)
 
 -- a pair more
-pub pair_more : (forms : Forms) (c : Cut) (j : ℕ) (row now : List ℤ) (number : ℤ) → row ≡ tabulate (j + j) (cut_entry forms c)
-    → number ≡ cut_number forms c (j + 1) → now ≡ row ++ number ∷ (neg_ℤ number ∷ []) → now ≡ tabulate ((j + 1) + (j + 1)) (cut_entry forms c)
+pub pair_more : (forms : Forms) (c : Cut) (j : ℕ) (row now : List ℤ) (number : ℤ)
+    → row ≡ tabulate (j + j) (cut_entry forms c)
+    → number ≡ cut_number forms c (j + 1) → now ≡ row ++ number ∷ (neg_ℤ number ∷ [])
+    → now ≡ tabulate ((j + 1) + (j + 1)) (cut_entry forms c)
 pair_more forms c j row now number h e is =
     let n : (j + 1) + (j + 1) ≡ ((j + j) + 1) + 1 = omega arith in
     let s : (j + j) + 1 ≡ suc (j + j) = omega arith in
@@ -47,21 +51,25 @@ pair_more forms c j row now number h e is =
     ∙ ap (cut_number forms c) (sym t) ∙ sym e in
     let odd : cut_entry forms c ((j + j) + 1) ≡ neg_ℤ number =
     ap (cut_entry forms c) s ∙ turned_odd j (cut_number forms c (suc (suc (j + j) / 2)))
-    ∙ ap (λ v. neg_ℤ (cut_number forms c (suc v))) (half_odd j) ∙ ap (λ v. neg_ℤ (cut_number forms c v)) (sym t) ∙ ap neg_ℤ (sym e) in
+    ∙ ap (λ v. neg_ℤ (cut_number forms c (suc v))) (half_odd j) ∙ ap (λ v. neg_ℤ (cut_number forms c v)) (sym t)
+    ∙ ap neg_ℤ (sym e) in
     is
     ∙ ap₂ (λ (xs ys : List ℤ). xs ++ ys) h (ap₂ (λ (x y : ℤ). x ∷ (y ∷ [])) (sym even) (sym odd))
-    ∙ sym (append_assoc (tabulate (j + j) (cut_entry forms c)) (cut_entry forms c (j + j) ∷ []) (cut_entry forms c ((j + j) + 1) ∷ []))
+    ∙ sym (append_assoc (tabulate (j + j) (cut_entry forms c)) (cut_entry forms c (j + j) ∷ [])
+    (cut_entry forms c ((j + j) + 1) ∷ []))
     ∙ ap (λ (xs : List ℤ). xs ++ cut_entry forms c ((j + j) + 1) ∷ []) (sym (tabulate-more (j + j) (cut_entry forms c)))
     ∙ sym (tabulate-more ((j + j) + 1) (cut_entry forms c))
     ∙ ap (λ v. tabulate v (cut_entry forms c)) (sym n)
 
 -- ---- sizes
 -- what the form is taken with is within the limit
-pub multiplier_small : (limit n : ℕ) (c : Cut) → CutFits limit n c → (k : ℕ) → nat_abs (at (c.base ∷ c.vector) k) ≤ limit
+pub multiplier_small : (limit n : ℕ) (c : Cut) → CutFits limit n c → (k : ℕ)
+    → nat_abs (at (c.base ∷ c.vector) k) ≤ limit
 multiplier_small limit n c h = at_small limit (c.base ∷ c.vector) (h.base, h.vector)
 
 -- a row and a pair more
-pub within_pair : (limit : ℕ) (row now : List ℤ) (number : ℤ) → IsWithin limit row → nat_abs number ≤ limit → now ≡ row ++ number ∷ (neg_ℤ number ∷ [])
+pub within_pair : (limit : ℕ) (row now : List ℤ) (number : ℤ) → IsWithin limit row → nat_abs number ≤ limit
+    → now ≡ row ++ number ∷ (neg_ℤ number ∷ [])
     → IsWithin limit now
 within_pair limit row now number h small e =
     subst (IsWithin limit) (sym e) (All-append (λ (v : ℤ). nat_abs v ≤ limit) row (number ∷ (neg_ℤ number ∷ [])) h two)
@@ -79,20 +87,25 @@ sense_small maximise = omega arith
 cost_small : (limit : ℕ) → 1 ≤ limit → (forms : Forms) (k : ℕ) → nat_abs (cost_of forms k) ≤ limit
 cost_small limit one forms k =
     by (nat_eq (k / 2) forms.columns)
-    (turned_small limit k (sign_of (sense_of forms.sense)) (let h : nat_abs (sign_of (sense_of forms.sense)) ≤ 1 = sense_small (sense_of forms.sense) in omega arith))
+    (turned_small limit k (sign_of (sense_of forms.sense)) (let h : nat_abs (sign_of (sense_of forms.sense)) ≤ 1 =
+    sense_small (sense_of forms.sense) in omega arith))
   where
-    by : (t : Bool) → nat_abs (turned k (sign_of (sense_of forms.sense))) ≤ limit → nat_abs (cond t (turned k (sign_of (sense_of forms.sense))) (pos 0)) ≤ limit
+    by : (t : Bool) → nat_abs (turned k (sign_of (sense_of forms.sense))) ≤ limit
+        → nat_abs (cond t (turned k (sign_of (sense_of forms.sense))) (pos 0)) ≤ limit
     by true h = h
     by false h = omega arith
 
 -- the numbers of a master without cuts
-pub costs_within : (limit : ℕ) → 1 ≤ limit → (forms : Forms) (n : ℕ) (a : List (List ℤ)) (b c : List ℤ) → a ≡ [] → b ≡ [] → c ≡ tabulate n (cost_of forms)
+pub costs_within : (limit : ℕ) → 1 ≤ limit → (forms : Forms) (n : ℕ) (a : List (List ℤ)) (b c : List ℤ) → a ≡ []
+    → b ≡ [] → c ≡ tabulate n (cost_of forms)
     → HasNumbersWithin limit (record { a = a; b = b; c = c })
 costs_within limit one forms n a b c ea eb ec = record {
-  a = subst (λ (rows : List (List ℤ)). All (λ (row : List ℤ). IsWithin limit row) rows) (sym ea) (λ k d l. absurd (omega arith));
+  a = subst (λ (rows : List (List ℤ)). All (λ (row : List ℤ). IsWithin limit row) rows) (sym ea)
+      (λ k d l. absurd (omega arith));
   b = subst (IsWithin limit) (sym eb) (λ k d l. absurd (omega arith));
   c = subst (IsWithin limit) (sym ec)
       (λ k d l. subst (λ (v : ℤ). nat_abs v ≤ limit)
-      (sym (item-tabulate n (cost_of forms) k d (let e : length (tabulate n (cost_of forms)) ≡ n = length-tabulate n (cost_of forms) in omega arith)))
+      (sym (item-tabulate n (cost_of forms) k d (let e : length (tabulate n (cost_of forms)) ≡ n =
+      length-tabulate n (cost_of forms) in omega arith)))
       (cost_small limit one forms k));
 }

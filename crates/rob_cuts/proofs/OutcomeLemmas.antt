@@ -58,100 +58,146 @@ use Rattle.rob_cuts.proofs.StopLemmas.{IsWideThere, step_place}
 
 module _ {N : Type 0} (value : N → Fraction) (limit : ℕ) (m : RobustModel) (rounds : List Told) where
   -- a further round
-  pub leads_on : (round : Told) → IsNext limit m rounds round → (t : Outcome N) → t ≡ outcome.Cut round → IsOutcome value limit m rounds t
+  pub leads_on : (round : Told) → IsNext limit m rounds round → (t : Outcome N) → t ≡ outcome.Cut round
+      → IsOutcome value limit m rounds t
   leads_on round next t e = subst (IsOutcome value limit m rounds) (sym e) next
 
-  pub answer_leads_on : (round : Told) → IsNext limit m rounds round → (answer : Result (Outcome N) NoMemory) → IfOk answer (λ t. t ≡ outcome.Cut round)
+  pub answer_leads_on : (round : Told) → IsNext limit m rounds round → (answer : Result (Outcome N) NoMemory)
+      → IfOk answer (λ t. t ≡ outcome.Cut round)
       → IfOk answer (IsOutcome value limit m rounds)
   answer_leads_on round next (Ok t) e = leads_on round next t e
   answer_leads_on round next (Err stop) e = e
 
   -- the end
-  module _ (model : IsModel m) (forms : Forms) (f : IsForms m forms) (set : SetForm) (st : IsSetForm m set) (finder : Finder N) (is : IsFinder set finder)
+  module _ (model : IsModel m) (forms : Forms) (f : IsForms m forms) (set : SetForm) (st : IsSetForm m set)
+      (finder : Finder N) (is : IsFinder set finder)
       (made : List Fraction → Certificate)
-      (end : (inside : List Fraction) → Admits m inside → IsLastScenario m inside → IsEnd m (cuts_told rounds) (made inside)) where
+      (end : (inside : List Fraction) → Admits m inside → IsLastScenario m inside
+      → IsEnd m (cuts_told rounds) (made inside)) where
     pub leads_out : (t : Outcome N) → IsEndWith value forms finder made t → IsOutcome value limit m rounds t
     leads_out (outcome.Cut round) h = absurd h
     leads_out (outcome.End cert) h =
         let found = h.1 m set model f st is in
         subst (IsEnd m (cuts_told rounds)) (sym h.2) (end h.0 found.0 found.1)
 
-    pub answer_leads_out : (answer : Result (Outcome N) NoMemory) → IfOk answer (IsEndWith value forms finder made) → IfOk answer (IsOutcome value limit m rounds)
+    pub answer_leads_out : (answer : Result (Outcome N) NoMemory) → IfOk answer (IsEndWith value forms finder made)
+        → IfOk answer (IsOutcome value limit m rounds)
     answer_leads_out (Ok t) h = leads_out t h
     answer_leads_out (Err stop) h = h
 
   -- want of memory as a stop
-  pub leads_or_stops : (answer : Result (Outcome N) NoMemory) → IfOk answer (IsOutcome value limit m rounds) → (result : Result (Outcome N) Stop)
-      → MatchResult result (λ x. answer ≡ Ok x) (λ stop. stop ≡ Memory) → MatchResult result (IsOutcome value limit m rounds) (IsWideNext limit m rounds)
-  leads_or_stops answer h result is = or_stopped (IsOutcome value limit m rounds) (IsWideNext limit m rounds) tt answer h result is
+  pub leads_or_stops : (answer : Result (Outcome N) NoMemory) → IfOk answer (IsOutcome value limit m rounds)
+      → (result : Result (Outcome N) Stop)
+      → MatchResult result (λ x. answer ≡ Ok x) (λ stop. stop ≡ Memory)
+      → MatchResult result (IsOutcome value limit m rounds) (IsWideNext limit m rounds)
+  leads_or_stops answer h result is = or_stopped (IsOutcome value limit m rounds) (IsWideNext limit m rounds) tt
+      answer h result is
 
 -- a plan that was looked at, with its covers
-pub covered_at : {N : Type 0} (value : N → Fraction) (m : RobustModel) (x : ℕ → Fraction) (amounts : ℕ → List Fraction) (plan : Plan N) (kept : Kept N)
+pub covered_at : {N : Type 0} (value : N → Fraction) (m : RobustModel) (x : ℕ → Fraction)
+    (amounts : ℕ → List Fraction) (plan : Plan N) (kept : Kept N)
     → map value plan.columns ≡ plan_read m x → value plan.bound ≡ bound_read m x → AreKept m (plan_at m x) amounts
     → map (cover_of value) kept.covers ≡ covers_of_amounts m amounts → value kept.scale ≡ cleared_by (plan_at m x)
     → IsCoveredAt m x amounts (covered_plan value plan kept)
-covered_at value m x amounts plan kept ep eb h ec es = record { kept = h; plan = ep; bound = eb; scale_is = es; covers = ec }
+covered_at value m x amounts plan kept ep eb h ec es = record
+    { kept = h; plan = ep; bound = eb; scale_is = es; covers = ec }
 
 -- ---- what follows the ending of a master
-module _ {N : Type 0} (value : N → Fraction) (limit : ℕ) (m : RobustModel) (forms : Forms) (f : IsForms m forms) (rounds : List Told) (master : Lp)
+module _ {N : Type 0} (value : N → Fraction) (limit : ℕ) (m : RobustModel) (forms : Forms) (f : IsForms m forms)
+    (rounds : List Told) (master : Lp)
     (list : IsMasterList forms (cuts_told rounds) master) (s : Solver) where
   -- ---- a further round
   abbrev IsAnswer : Told → Result (Outcome N) NoMemory → Type 0
   IsAnswer round answer = IfOk answer (λ t. t ≡ outcome.Cut round)
 
-  further : (round : Told) → IsNext limit m rounds round → (answer : Result (Outcome N) NoMemory) → IsAnswer round answer → (result : Result (Outcome N) Stop)
-      → MatchResult result (λ x. answer ≡ Ok x) (λ stop. stop ≡ Memory) → MatchResult result (IsOutcome value limit m rounds) (IsWideNext limit m rounds)
-  further round next answer is result e = leads_or_stops value limit m rounds answer (answer_leads_on value limit m rounds round next answer is) result e
+  further : (round : Told) → IsNext limit m rounds round → (answer : Result (Outcome N) NoMemory)
+      → IsAnswer round answer → (result : Result (Outcome N) Stop)
+      → MatchResult result (λ x. answer ≡ Ok x) (λ stop. stop ≡ Memory)
+      → MatchResult result (IsOutcome value limit m rounds) (IsWideNext limit m rounds)
+  further round next answer is result e = leads_or_stops value limit m rounds answer
+      (answer_leads_on value limit m rounds round next answer is) result e
 
   -- a best plan is cut off
-  pub best_cut_off : HasEnded (program_of master) kind.Optimal s → (cut : Made) → IsPlanLook limit m value (point_of s) (of_plan.Broken cut)
+  pub best_cut_off : HasEnded (program_of master) kind.Optimal s → (cut : Made)
+      → IsPlanLook limit m value (point_of s) (of_plan.Broken cut)
       → (answer : Result (Outcome N) NoMemory)
-      → IfOk answer (λ t. t ≡ outcome.Cut (round_told (record { kind = best; by_step = false; basis = s.basis; cut = cut_made cut })))
+      → IfOk answer (λ t. t ≡ outcome.Cut (round_told (record
+      { kind = best; by_step = false; basis = s.basis; cut = cut_made cut })))
       → (result : Result (Outcome N) Stop) → MatchResult result (λ x. answer ≡ Ok x) (λ stop. stop ≡ Memory)
       → MatchResult result (IsOutcome value limit m rounds) (IsWideNext limit m rounds)
   best_cut_off h cut look answer is result e =
       further (round_told (record { kind = best; by_step = false; basis = s.basis; cut = cut_made cut }))
       (best_next m forms f rounds master list s h limit (cut_made cut) look.0 look.1
-      (round_told (record { kind = best; by_step = false; basis = s.basis; cut = cut_made cut })) refl) answer is result e
+      (round_told (record { kind = best; by_step = false; basis = s.basis; cut = cut_made cut })) refl) answer is
+      result e
 
   -- a direction is
-  pub step_cut_off : HasEnded (program_of master) kind.Unbounded s → (cut : Made) → IsStepLook limit m value (ray_of s) (of_step.Broken cut)
+  pub step_cut_off : HasEnded (program_of master) kind.Unbounded s → (cut : Made)
+      → IsStepLook limit m value (ray_of s) (of_step.Broken cut)
       → (answer : Result (Outcome N) NoMemory)
-      → IfOk answer (λ t. t ≡ outcome.Cut (round_told (record { kind = boundless (column_of s.state); by_step = true; basis = s.basis; cut = cut_made cut })))
+      → IfOk answer (λ t. t ≡ outcome.Cut (round_told (record
+      { kind = boundless (column_of s.state); by_step = true; basis = s.basis; cut = cut_made cut })))
       → (result : Result (Outcome N) Stop) → MatchResult result (λ x. answer ≡ Ok x) (λ stop. stop ≡ Memory)
       → MatchResult result (IsOutcome value limit m rounds) (IsWideNext limit m rounds)
   step_cut_off h cut look answer is result e =
-      further (round_told (record { kind = boundless (column_of s.state); by_step = true; basis = s.basis; cut = cut_made cut }))
+      further (round_told (record {
+        kind = boundless (column_of s.state);
+        by_step = true;
+        basis = s.basis;
+        cut = cut_made cut;
+      }))
       (step_next m forms f rounds master list s h limit (cut_made cut) look.0 look.1
-      (round_told (record { kind = boundless (column_of s.state); by_step = true; basis = s.basis; cut = cut_made cut })) refl) answer is result e
+      (round_told (record {
+        kind = boundless (column_of s.state);
+        by_step = true;
+        basis = s.basis;
+        cut = cut_made cut;
+      })) refl) answer is result e
 
   -- a plan is, whose direction keeps all forms
   pub point_cut_off : (h : HasEnded (program_of master) kind.Unbounded s) → IsModel m → (step : List N) (held : Kept N)
-      → IsStepLook limit m value (ray_of s) (of_step.Kept step held) → (cut : Made) → IsPlanLook limit m value (point_of s) (of_plan.Broken cut)
+      → IsStepLook limit m value (ray_of s) (of_step.Kept step held) → (cut : Made)
+      → IsPlanLook limit m value (point_of s) (of_plan.Broken cut)
       → (answer : Result (Outcome N) NoMemory)
-      → IfOk answer (λ t. t ≡ outcome.Cut (round_told (record { kind = boundless (column_of s.state); by_step = false; basis = s.basis; cut = cut_made cut })))
+      → IfOk answer (λ t. t ≡ outcome.Cut (round_told (record
+      { kind = boundless (column_of s.state); by_step = false; basis = s.basis; cut = cut_made cut })))
       → (result : Result (Outcome N) Stop) → MatchResult result (λ x. answer ≡ Ok x) (λ stop. stop ≡ Memory)
       → MatchResult result (IsOutcome value limit m rounds) (IsWideNext limit m rounds)
   point_cut_off h model step held kept cut look answer is result e =
-      further (round_told (record { kind = boundless (column_of s.state); by_step = false; basis = s.basis; cut = cut_made cut }))
+      further (round_told (record {
+        kind = boundless (column_of s.state);
+        by_step = false;
+        basis = s.basis;
+        cut = cut_made cut;
+      }))
       (point_next m forms f rounds master list s h model kept.1.0 kept.1.1 limit (cut_made cut) look.0 look.1
-      (round_told (record { kind = boundless (column_of s.state); by_step = false; basis = s.basis; cut = cut_made cut })) refl) answer is result e
+      (round_told (record {
+        kind = boundless (column_of s.state);
+        by_step = false;
+        basis = s.basis;
+        cut = cut_made cut;
+      })) refl) answer is result e
 
   -- ---- the end
-  module _ (model : IsModel m) (t : TellsRun m rounds) (few : length rounds < 2 ^ 32) (set : SetForm) (st : IsSetForm m set) (finder : Finder N) (is : IsFinder set finder) where
+  module _ (model : IsModel m) (t : TellsRun m rounds) (few : length rounds < 2 ^ 32) (set : SetForm)
+      (st : IsSetForm m set) (finder : Finder N) (is : IsFinder set finder) where
     -- the optimum
-    pub optimum_out : HasEnded (program_of master) kind.Optimal s → (plan : Plan N) (kept : Kept N) → IsPlanLook limit m value (point_of s) (of_plan.Kept plan kept)
+    pub optimum_out : HasEnded (program_of master) kind.Optimal s → (plan : Plan N) (kept : Kept N)
+        → IsPlanLook limit m value (point_of s) (of_plan.Kept plan kept)
         → (answer : Result (Outcome N) NoMemory)
         → IfOk answer (IsEndWith value forms finder
-        (λ inside. optimal_with inside (covered_plan value plan kept) (items_told (length forms.matrices) rounds (dual_of s))))
+        (λ inside. optimal_with inside (covered_plan value plan kept)
+        (items_told (length forms.matrices) rounds (dual_of s))))
         → (result : Result (Outcome N) Stop) → MatchResult result (λ x. answer ≡ Ok x) (λ stop. stop ≡ Memory)
         → MatchResult result (IsOutcome value limit m rounds) (IsWideNext limit m rounds)
     optimum_out h plan kept look answer ended result e =
         leads_or_stops value limit m rounds answer
         (answer_leads_out value limit m rounds model forms f set st finder is
-        (λ inside. optimal_with inside (covered_plan value plan kept) (items_told (length forms.matrices) rounds (dual_of s)))
+        (λ inside. optimal_with inside (covered_plan value plan kept)
+        (items_told (length forms.matrices) rounds (dual_of s)))
         (λ inside admitted last.
-        subst (λ (n : ℕ). IsEnd m (cuts_told rounds) (optimal_with inside (covered_plan value plan kept) (items_told n rounds (dual_of s)))) (sym (ap length f.matrices))
+        subst (λ (n : ℕ). IsEnd m (cuts_told rounds) (optimal_with inside (covered_plan value plan kept)
+        (items_told n rounds (dual_of s)))) (sym (ap length f.matrices))
         (best_end m forms f rounds master list s h t few inside admitted last look.2.0 (covered_plan value plan kept)
         (covered_at value m (point_of s) look.2.0 plan kept look.0 look.1 look.2.1 look.2.2 look.2.3)))
         answer ended)
@@ -159,7 +205,8 @@ module _ {N : Type 0} (value : N → Fraction) (limit : ℕ) (m : RobustModel) (
 
     -- no plan keeps the cuts
     pub infeasible_out : HasEnded (program_of master) kind.Infeasible s → (answer : Result (Outcome N) NoMemory)
-        → IfOk answer (IsEndWith value forms finder (λ inside. infeasible_with inside (items_told (length forms.matrices) rounds (λ q. of_int (weights_of s q)))))
+        → IfOk answer (IsEndWith value forms finder (λ inside. infeasible_with inside
+        (items_told (length forms.matrices) rounds (λ q. of_int (weights_of s q)))))
         → (result : Result (Outcome N) Stop) → MatchResult result (λ x. answer ≡ Ok x) (λ stop. stop ≡ Memory)
         → MatchResult result (IsOutcome value limit m rounds) (IsWideNext limit m rounds)
     infeasible_out h answer ended result e =
@@ -167,35 +214,47 @@ module _ {N : Type 0} (value : N → Fraction) (limit : ℕ) (m : RobustModel) (
         (answer_leads_out value limit m rounds model forms f set st finder is
         (λ inside. infeasible_with inside (items_told (length forms.matrices) rounds (λ q. of_int (weights_of s q))))
         (λ inside admitted last.
-        subst (λ (n : ℕ). IsEnd m (cuts_told rounds) (infeasible_with inside (items_told n rounds (λ q. of_int (weights_of s q))))) (sym (ap length f.matrices))
+        subst (λ (n : ℕ). IsEnd m (cuts_told rounds) (infeasible_with inside
+        (items_told n rounds (λ q. of_int (weights_of s q))))) (sym (ap length f.matrices))
         (empty_end m forms f rounds master list s h t few inside admitted last))
         answer ended)
         result e
 
     -- the model is unbounded
-    pub unbounded_out : HasEnded (program_of master) kind.Unbounded s → (numbers : List N) (held : Kept N) → IsStepLook limit m value (ray_of s) (of_step.Kept numbers held)
-        → (plan : Plan N) (kept : Kept N) → IsPlanLook limit m value (point_of s) (of_plan.Kept plan kept) → (step : Plan N) (items : List N) → items ≡ numbers
+    pub unbounded_out : HasEnded (program_of master) kind.Unbounded s → (numbers : List N) (held : Kept N)
+        → IsStepLook limit m value (ray_of s) (of_step.Kept numbers held)
+        → (plan : Plan N) (kept : Kept N) → IsPlanLook limit m value (point_of s) (of_plan.Kept plan kept)
+        → (step : Plan N) (items : List N) → items ≡ numbers
         → map value step.columns ≡ tabulate forms.columns (λ j. value held.scale *ℚ at (map value items) j)
         → value step.bound ≡ value held.scale *ℚ at (map value items) forms.columns
         → (inside : List Fraction) → Admits m inside → IsLastScenario m inside
-        → IsEnd m (cuts_told rounds) (unbounded_with inside (covered_plan value plan kept) (map value step.columns) (value step.bound) (map (cover_of value) held.covers))
+        → IsEnd m (cuts_told rounds) (unbounded_with inside (covered_plan value plan kept) (map value step.columns)
+        (value step.bound) (map (cover_of value) held.covers))
     unbounded_out h numbers held away plan kept look step items same ec eb inside admitted last =
         let read = ap (map value) same ∙ away.0 in
-        boundless_end m forms f rounds master list s h model away.1.0 away.1.1 t few inside admitted last look.2.0 (covered_plan value plan kept) (map value step.columns)
+        boundless_end m forms f rounds master list s h model away.1.0 away.1.1 t few inside admitted last look.2.0
+        (covered_plan value plan kept) (map value step.columns)
         (value step.bound) (map (cover_of value) held.covers)
         (covered_at value m (point_of s) look.2.0 plan kept look.0 look.1 look.2.1 look.2.2 look.2.3)
         away.1.2
-        (ec ∙ ap (λ (n : ℕ). tabulate n (λ j. value held.scale *ℚ at (map value items) j)) f.columns ∙ step_columns m (ray_of s) (value held.scale) (map value items) read
+        (ec ∙ ap (λ (n : ℕ). tabulate n (λ j. value held.scale *ℚ at (map value items) j)) f.columns
+        ∙ step_columns m (ray_of s) (value held.scale) (map value items) read
         ∙ ap (λ (c : Fraction). scale c (plan_read m (ray_of s))) away.1.3)
-        (eb ∙ ap (λ (n : ℕ). value held.scale *ℚ at (map value items) n) f.columns ∙ step_bound_is m (ray_of s) (value held.scale) (map value items) read
+        (eb ∙ ap (λ (n : ℕ). value held.scale *ℚ at (map value items) n) f.columns
+        ∙ step_bound_is m (ray_of s) (value held.scale) (map value items) read
         ∙ ap (λ (c : Fraction). c *ℚ bound_read m (ray_of s)) away.1.3)
 
   -- a number of the direction is wide where it is made whole
-  pub step_refused : HasEnded (program_of master) kind.Unbounded s → (numbers : List N) (held : Kept N) → IsStepLook limit m value (ray_of s) (of_step.Kept numbers held)
-      → (items : List N) → items ≡ numbers → 1 ≤ limit → (refusal : Refusal) → StopsFor (SomeWideProduct limit (value held.scale) (map value items)) refusal
+  pub step_refused : HasEnded (program_of master) kind.Unbounded s → (numbers : List N) (held : Kept N)
+      → IsStepLook limit m value (ray_of s) (of_step.Kept numbers held)
+      → (items : List N) → items ≡ numbers → 1 ≤ limit → (refusal : Refusal)
+      → StopsFor (SomeWideProduct limit (value held.scale) (map value items)) refusal
       → (stop : Stop) → IsRefused (spot.Clearing of.Move) refusal stop → IsWideNext limit m rounds stop
   step_refused h numbers held away items same one refusal wide stop e =
-      refused_at (IsWideThere limit m (cuts_told rounds)) (spot.Clearing of.Move) (SomeWideProduct limit (value held.scale) (map value items))
-      (λ w. step_place limit m (cuts_told rounds) (spot.Clearing of.Move) (direction_at m (ray_of s)) (step_looks m forms f rounds master list s h)
-      (step_wide m (ray_of s) (value held.scale) (map value items) (ap (map value) same ∙ away.0) limit one away.1.3 w) refl)
+      refused_at (IsWideThere limit m (cuts_told rounds)) (spot.Clearing of.Move)
+      (SomeWideProduct limit (value held.scale) (map value items))
+      (λ w. step_place limit m (cuts_told rounds) (spot.Clearing of.Move) (direction_at m (ray_of s))
+      (step_looks m forms f rounds master list s h)
+      (step_wide m (ray_of s) (value held.scale) (map value items) (ap (map value) same ∙ away.0) limit one away.1.3
+      w) refl)
       refusal wide stop e

@@ -19,7 +19,8 @@ use Rattle.rob_sets.specs.FirstWide.{Some_of}
 use Rattle.rob_worst.proofs.StopLemmas.{some_at}
 
 -- all numbers are 0, or some is not
-zero_or_some : (qs : List Fraction) → Each (λ (q : Fraction). q ≡ 0ℚ) qs ⊎ ((k : ℕ) × (k < length qs) × ((at qs k).num ≢ pos 0))
+zero_or_some : (qs : List Fraction) → Each (λ (q : Fraction). q ≡ 0ℚ) qs
+    ⊎ ((k : ℕ) × (k < length qs) × ((at qs k).num ≢ pos 0))
 zero_or_some [] = inl tt
 zero_or_some (q ∷ qs) = by (eq_ℚ q 0ℚ) (eq_ℚ-decides q 0ℚ).0 (eq_ℚ-decides q 0ℚ).1 (zero_or_some qs)
   where
@@ -55,7 +56,8 @@ denominator_wide limit qs small one wide =
       | inr n ↦ at_place n.0 n.1 n.2
     ]
   where
-    small_at : (xs : List Fraction) → Each (λ (q : Fraction). q.den ≤ limit) xs → (k : ℕ) → k < length xs → (at xs k).den ≤ limit
+    small_at : (xs : List Fraction) → Each (λ (q : Fraction). q.den ≤ limit) xs → (k : ℕ) → k < length xs
+        → (at xs k).den ≤ limit
     small_at [] h k l = absurd (omega arith)
     small_at (x ∷ xs) h zero l = h.0
     small_at (x ∷ xs) h (suc k) l = small_at xs h.1 k (omega arith)
@@ -71,8 +73,10 @@ denominator_wide limit qs small one wide =
               omega arith),
         )
 
-pub wide_at_denominator : (limit d : ℕ) (qs : List Fraction) → d ≡ denominator qs → Some_of (λ q. IsWideWhole limit (whole_at d q)) qs → SomeWide limit (wholes qs)
-wide_at_denominator limit d qs e w = some_at limit (denominator qs) qs (subst (λ (n : ℕ). Some_of (λ q. IsWideWhole limit (whole_at n q)) qs) e w)
+pub wide_at_denominator : (limit d : ℕ) (qs : List Fraction) → d ≡ denominator qs
+    → Some_of (λ q. IsWideWhole limit (whole_at d q)) qs → SomeWide limit (wholes qs)
+wide_at_denominator limit d qs e w = some_at limit (denominator qs) qs
+    (subst (λ (n : ℕ). Some_of (λ q. IsWideWhole limit (whole_at n q)) qs) e w)
 
 -- the denominators of exact numbers
 pub each_den : {N : Type 0} (value : N → Fraction) (limit : ℕ) → ((x : N) → (value x).den ≤ limit) → (xs : List N)

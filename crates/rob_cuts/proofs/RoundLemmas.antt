@@ -57,7 +57,8 @@ module _ (m : RobustModel) (forms : Forms) (f : IsForms m forms) (rounds : List 
   pub ended_as : (k : LpKind) → HasEnded (program_of master) k s → HasEnded (master_over m (cuts_told rounds)) k s
   ended_as k h = record {
     program = h.program;
-    same = same_trans h.program (program_of master) (master_over m (cuts_told rounds)) h.same (master_same forms (cuts_told rounds) master list m f);
+    same = same_trans h.program (program_of master) (master_over m (cuts_told rounds)) h.same
+        (master_same forms (cuts_told rounds) master list m f);
     rows = h.rows;
     columns = h.columns;
     solved = h.solved;
@@ -70,7 +71,8 @@ module _ (m : RobustModel) (forms : Forms) (f : IsForms m forms) (rounds : List 
   pub rounds_made : length master.b ≡ positions s → length rounds ≡ positions s
   rounds_made h = sym (length-cuts rounds) ∙ sym (rights_count forms (cuts_told rounds) master list) ∙ h
 
-  pub columns_are_pairs : (k : LpKind) → HasEnded (program_of master) k s → suc forms.columns + suc forms.columns ≡ s.columns
+  pub columns_are_pairs : (k : LpKind) → HasEnded (program_of master) k s
+      → suc forms.columns + suc forms.columns ≡ s.columns
   columns_are_pairs k h =
       let e = ended_as k h in
       ap (λ (n : ℕ). suc n + suc n) f.columns ∙ sym e.same.width ∙ e.columns
@@ -104,7 +106,8 @@ module _ (m : RobustModel) (forms : Forms) (f : IsForms m forms) (rounds : List 
     best_looks = inl (record { basis = s.basis; x = point_of s; y = dual_of s; master = best_master; is = refl })
 
     pub best_next : (limit : ℕ) (c : Cut) → CutsOff m (plan_at m (point_of s)) c → CutFits limit (length m.parameters) c
-        → (round : Told) → round ≡ round_told (record { kind = best; by_step = false; basis = s.basis; cut = c }) → IsNext limit m rounds round
+        → (round : Told) → round ≡ round_told (record { kind = best; by_step = false; basis = s.basis; cut = c })
+        → IsNext limit m rounds round
     best_next limit c o fits round e = record {
       next = record { kind = best; by_step = false; basis = s.basis; cut = c };
       is_round = (point_of s, dual_of s, best_master, o);
@@ -112,7 +115,8 @@ module _ (m : RobustModel) (forms : Forms) (f : IsForms m forms) (rounds : List 
       fits = subst (λ (r : Told). CutFits limit (length m.parameters) (cut_of r)) (sym e) fits;
     }
 
-    pub best_end : TellsRun m rounds → length rounds < 2 ^ 32 → (inside : List Fraction) → Admits m inside → IsLastScenario m inside
+    pub best_end : TellsRun m rounds → length rounds < 2 ^ 32 → (inside : List Fraction) → Admits m inside
+        → IsLastScenario m inside
         → (amounts : ℕ → List Fraction) (p : CoveredPlan) → IsCoveredAt m (point_of s) amounts p
         → IsEnd m (cuts_told rounds) (optimal_with inside p (items_told (length (matrices m)) rounds (dual_of s)))
     best_end t few inside admitted last amounts p k =
@@ -120,14 +124,18 @@ module _ (m : RobustModel) (forms : Forms) (f : IsForms m forms) (rounds : List 
 
   -- ---- without any plan
   module _ (h : HasEnded (program_of master) kind.Infeasible s) where
-    pub empty_end : TellsRun m rounds → length rounds < 2 ^ 32 → (inside : List Fraction) → Admits m inside → IsLastScenario m inside
-        → IsEnd m (cuts_told rounds) (infeasible_with inside (items_told (length (matrices m)) rounds (λ q. of_int (weights_of s q))))
+    pub empty_end : TellsRun m rounds → length rounds < 2 ^ 32 → (inside : List Fraction) → Admits m inside
+        → IsLastScenario m inside
+        → IsEnd m (cuts_told rounds) (infeasible_with inside
+        (items_told (length (matrices m)) rounds (λ q. of_int (weights_of s q))))
     empty_end t few inside admitted last =
         let o : (rows : Matrix) × MasterIsInfeasible m (cuts_told rounds) s.basis rows
-        × ((q : ℕ) → q < length (cuts_told rounds) → of_int (weights_of s q) ≡ weight_of (master_over m (cuts_told rounds)) rows q) =
+        × ((q : ℕ) → q < length (cuts_told rounds) → of_int (weights_of s q)
+        ≡ weight_of (master_over m (cuts_told rounds)) rows q) =
         infeasible_master m (cuts_told rounds) s (ended_as kind.Infeasible h) in
         let n : length (cuts_told rounds) ≡ length rounds = length-cuts rounds in
-        infeasible_end_is m rounds t few inside admitted last s.basis o.0 (λ q. of_int (weights_of s q)) o.1 (λ q l. o.2 q (omega arith))
+        infeasible_end_is m rounds t few inside admitted last s.basis o.0 (λ q. of_int (weights_of s q)) o.1
+        (λ q l. o.2 q (omega arith))
 
   -- ---- without a best plan
   module _ (h : HasEnded (program_of master) kind.Unbounded s) where
@@ -137,18 +145,33 @@ module _ (m : RobustModel) (forms : Forms) (f : IsForms m forms) (rounds : List 
     pub boundless_one : (j : ℕ) → j ≤ forms.columns → OneIsZero (point_of s (plus j)) (point_of s (minus j))
     boundless_one j l =
         let e : forms.columns ≡ column_count m = f.columns in
-        boundless_pairs m (cuts_told rounds) s.basis (column_of s.state) (point_of s) (ray_of s) boundless_master j (omega arith)
+        boundless_pairs m (cuts_told rounds) s.basis (column_of s.state) (point_of s) (ray_of s) boundless_master j
+        (omega arith)
 
     pub direction_one : (j : ℕ) → j ≤ forms.columns → OneIsZero (ray_of s (plus j)) (ray_of s (minus j))
     direction_one j l =
         let e : forms.columns ≡ column_count m = f.columns in
-        direction_pairs m (cuts_told rounds) s.basis (column_of s.state) (point_of s) (ray_of s) boundless_master j (omega arith)
+        direction_pairs m (cuts_told rounds) s.basis (column_of s.state) (point_of s) (ray_of s) boundless_master j
+        (omega arith)
 
     pub step_looks : LooksAt m (cuts_told rounds) true (direction_at m (ray_of s))
-    step_looks = record { basis = s.basis; column = column_of s.state; x = point_of s; r = ray_of s; master = boundless_master; is = refl }
+    step_looks = record {
+      basis = s.basis;
+      column = column_of s.state;
+      x = point_of s;
+      r = ray_of s;
+      master = boundless_master;
+      is = refl;
+    }
 
-    pub step_next : (limit : ℕ) (c : Cut) → CutsOff m (direction_at m (ray_of s)) c → CutFits limit (length m.parameters) c → (round : Told)
-        → round ≡ round_told (record { kind = boundless (column_of s.state); by_step = true; basis = s.basis; cut = c }) → IsNext limit m rounds round
+    pub step_next : (limit : ℕ) (c : Cut) → CutsOff m (direction_at m (ray_of s)) c
+        → CutFits limit (length m.parameters) c → (round : Told)
+        → round ≡ round_told (record {
+          kind = boundless (column_of s.state);
+          by_step = true;
+          basis = s.basis;
+          cut = c;
+        }) → IsNext limit m rounds round
     step_next limit c o fits round e = record {
       next = record { kind = boundless (column_of s.state); by_step = true; basis = s.basis; cut = c };
       is_round = (point_of s, ray_of s, boundless_master, o);
@@ -157,7 +180,8 @@ module _ (m : RobustModel) (forms : Forms) (f : IsForms m forms) (rounds : List 
     }
 
     -- where the direction keeps all forms
-    module _ (model : IsModel m) (step_amounts : ℕ → List Fraction) (held : AreKept m (direction_at m (ray_of s)) step_amounts) where
+    module _ (model : IsModel m) (step_amounts : ℕ → List Fraction)
+        (held : AreKept m (direction_at m (ray_of s)) step_amounts) where
       direction_keeps_all : KeepsForms m (direction_at m (ray_of s))
       direction_keeps_all i l =
           found_keeps m model i l (direction_at m (ray_of s)) (length-direction_at m (ray_of s))
@@ -174,8 +198,14 @@ module _ (m : RobustModel) (forms : Forms) (f : IsForms m forms) (rounds : List 
         is = refl;
       })
 
-      pub point_next : (limit : ℕ) (c : Cut) → CutsOff m (plan_at m (point_of s)) c → CutFits limit (length m.parameters) c → (round : Told)
-          → round ≡ round_told (record { kind = boundless (column_of s.state); by_step = false; basis = s.basis; cut = c }) → IsNext limit m rounds round
+      pub point_next : (limit : ℕ) (c : Cut) → CutsOff m (plan_at m (point_of s)) c
+          → CutFits limit (length m.parameters) c → (round : Told)
+          → round ≡ round_told (record {
+            kind = boundless (column_of s.state);
+            by_step = false;
+            basis = s.basis;
+            cut = c;
+          }) → IsNext limit m rounds round
       point_next limit c o fits round e = record {
         next = record { kind = boundless (column_of s.state); by_step = false; basis = s.basis; cut = c };
         is_round = (point_of s, ray_of s, boundless_master, direction_keeps_all, o);
@@ -183,18 +213,24 @@ module _ (m : RobustModel) (forms : Forms) (f : IsForms m forms) (rounds : List 
         fits = subst (λ (r : Told). CutFits limit (length m.parameters) (cut_of r)) (sym e) fits;
       }
 
-      pub boundless_end : TellsRun m rounds → length rounds < 2 ^ 32 → (inside : List Fraction) → Admits m inside → IsLastScenario m inside
-          → (amounts : ℕ → List Fraction) (p : CoveredPlan) (step : List Fraction) (step_bound : Fraction) (holds : List Cover)
+      pub boundless_end : TellsRun m rounds → length rounds < 2 ^ 32 → (inside : List Fraction) → Admits m inside
+          → IsLastScenario m inside
+          → (amounts : ℕ → List Fraction) (p : CoveredPlan) (step : List Fraction) (step_bound : Fraction)
+          (holds : List Cover)
           → IsCoveredAt m (point_of s) amounts p
-          → holds ≡ covers_of_amounts m step_amounts → step ≡ scale (cleared_by (direction_at m (ray_of s))) (plan_read m (ray_of s))
+          → holds ≡ covers_of_amounts m step_amounts → step ≡ scale (cleared_by (direction_at m (ray_of s)))
+          (plan_read m (ray_of s))
           → step_bound ≡ cleared_by (direction_at m (ray_of s)) *ℚ bound_read m (ray_of s)
           → IsEnd m (cuts_told rounds) (unbounded_with inside p step step_bound holds)
       boundless_end t few inside admitted last amounts p step step_bound holds k hh hs hb =
-          unbounded_end_is m rounds t few inside admitted last s.basis (column_of s.state) (point_of s) (ray_of s) amounts step_amounts p step step_bound holds
+          unbounded_end_is m rounds t few inside admitted last s.basis (column_of s.state) (point_of s) (ray_of s)
+          amounts step_amounts p step step_bound holds
           boundless_master k held hh hs hb
 
 -- ---- how a program that was solved has ended
-pub ended_so : (N : Type 0) (lp : Lp) (solver : Solver) (k named : LpKind) → IsSolved {N = N} (program_of lp) (record { solver = solver; kind = k }) → k ≡ named → HasEnded (program_of lp) named solver
+pub ended_so : (N : Type 0) (lp : Lp) (solver : Solver) (k named : LpKind)
+    → IsSolved {N = N} (program_of lp) (record { solver = solver; kind = k }) → k ≡ named
+    → HasEnded (program_of lp) named solver
 ended_so N lp solver k named h e = record {
   program = program_of lp;
   same = record { height = refl; width = refl; rows = λ q k ql kl. refl; rights = λ q ql. refl; costs = λ k kl. refl };
@@ -204,7 +240,8 @@ ended_so N lp solver k named h e = record {
   answered = subst (λ (j : LpKind). HasAnswered j solver) e h.answered;
 }
 
-pub few_rows : {N : Type 0} (limit : ℕ) (lp : Lp) (r : Result (Solved N) (Stopped N)) → length lp.b < 2 ^ 31 → IfOk r (IsSolved (program_of lp)) → IfErr r (IsStopped limit (program_of lp))
+pub few_rows : {N : Type 0} (limit : ℕ) (lp : Lp) (r : Result (Solved N) (Stopped N)) → length lp.b < 2 ^ 31
+    → IfOk r (IsSolved (program_of lp)) → IfErr r (IsStopped limit (program_of lp))
     → MatchResult r (λ solved. positions solved.solver < 2 ^ 31) HasFewRows
 few_rows limit lp (Ok solved) l h k = subst (λ (n : ℕ). n < 2 ^ 31) h.rows l
 few_rows limit lp (Err (unsolved.Wide solver stop)) l h k = subst (λ (n : ℕ). n < 2 ^ 31) k.0 l

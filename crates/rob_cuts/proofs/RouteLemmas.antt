@@ -35,21 +35,27 @@ state_none limit forms set run one list within e = record {
 }
 
 -- a round more
-pub state_more : (limit : ℕ) (forms : Forms) (set : SetForm) (before now : Run) (round : Told) → IsRunSoFar limit forms set before
-    → AddsCut forms (cut_of round) before.master now.master → HasNumbersWithin limit now.master → now.rounds ≡ before.rounds ++ round ∷ [] → RoundFits limit round
-    → ((m : RobustModel) → IsModel m → IsForms m forms → IsSetForm m set → IsNext limit m before.rounds round) → IsRunSoFar limit forms set now
+pub state_more : (limit : ℕ) (forms : Forms) (set : SetForm) (before now : Run) (round : Told)
+    → IsRunSoFar limit forms set before
+    → AddsCut forms (cut_of round) before.master now.master → HasNumbersWithin limit now.master
+    → now.rounds ≡ before.rounds ++ round ∷ [] → RoundFits limit round
+    → ((m : RobustModel) → IsModel m → IsForms m forms → IsSetForm m set → IsNext limit m before.rounds round)
+    → IsRunSoFar limit forms set now
 state_more limit forms set before now round s adds within e fits next = record {
-  master = subst (λ (cs : List Cut). IsMasterList forms cs now.master) (sym (ap cuts_told e ∙ cuts-more before.rounds round))
+  master = subst (λ (cs : List Cut). IsMasterList forms cs now.master)
+      (sym (ap cuts_told e ∙ cuts-more before.rounds round))
       (cut_added forms (cuts_told before.rounds) (cut_of round) before.master now.master s.master adds);
   within = within;
-  fits = subst (λ (rounds : List Told). Each (RoundFits limit) rounds) (sym e) (each_push (RoundFits limit) before.rounds round s.fits fits);
+  fits = subst (λ (rounds : List Told). Each (RoundFits limit) rounds) (sym e)
+      (each_push (RoundFits limit) before.rounds round s.fits fits);
   tells = λ m model f st. let n = next m model f st in
       subst (λ (rounds : List Told). TellsRun m rounds) (sym e)
       (tells_more m before.rounds (s.tells m model f st) n.next round n.is_round n.told);
 }
 
 -- so less rounds are left
-pub rounds_left : (limit : ℕ) (forms : Forms) (set : SetForm) (before now : Run) (round : Told) → now.rounds ≡ before.rounds ++ round ∷ []
+pub rounds_left : (limit : ℕ) (forms : Forms) (set : SetForm) (before now : Run) (round : Told)
+    → now.rounds ≡ before.rounds ++ round ∷ []
     → IsRunSoFar limit forms set now → (m : RobustModel) → IsModel m → IsForms m forms → IsSetForm m set
     → round_limit forms set - length now.rounds < round_limit forms set - length before.rounds
 rounds_left limit forms set before now round e s m model f st =
@@ -63,12 +69,14 @@ rounds_left limit forms set before now round e s m model f st =
     less a n b e l = omega arith
 
 -- ---- the round that comes next
-module _ (limit : ℕ) (m : RobustModel) (model : IsModel m) (forms : Forms) (f : IsForms m forms) (set : SetForm) (st : IsSetForm m set) (run : Run)
+module _ (limit : ℕ) (m : RobustModel) (model : IsModel m) (forms : Forms) (f : IsForms m forms) (set : SetForm)
+    (st : IsSetForm m set) (run : Run)
     (s : IsRunSoFar limit forms set run) (round : Told) (next : IsNext limit m run.rounds round) where
   -- its form exists
   pub next_form_in : round.form < length forms.matrices
   next_form_in =
-      subst (λ (n : ℕ). round.form < n) (sym (ap length f.matrices)) (next_form m run.rounds (s.tells m model f st) next.next round next.is_round next.told)
+      subst (λ (n : ℕ). round.form < n) (sym (ap length f.matrices))
+      (next_form m run.rounds (s.tells m model f st) next.next round next.is_round next.told)
 
   -- its cut has a number for each parameter, none of them over the limit
   pub next_fits : CutFits limit forms.params (cut_of round)
@@ -78,7 +86,8 @@ module _ (limit : ℕ) (m : RobustModel) (model : IsModel m) (forms : Forms) (f 
   next_alone = fits_alone limit (length m.parameters) round next.fits
 
 -- ---- sizes
-module _ {limit : ℕ} (forms : Forms) (set : SetForm) (one : AreElaborated limit forms set) (few : IsFew (counterpart_of forms set)) where
+module _ {limit : ℕ} (forms : Forms) (set : SetForm) (one : AreElaborated limit forms set)
+    (few : IsFew (counterpart_of forms set)) where
   pub few_columns : forms.columns < 2 ^ 31
   few_columns = omega (arith, few)
 
@@ -87,5 +96,6 @@ module _ {limit : ℕ} (forms : Forms) (set : SetForm) (one : AreElaborated limi
 
   pub few_forms : length forms.matrices < 2 ^ 32
   few_forms =
-      let h : length forms.matrices ≤ length forms.matrices * block (wholes forms set) = le-mul_of_pos_right (length forms.matrices) (omega arith) in
+      let h : length forms.matrices ≤ length forms.matrices * block (wholes forms set) =
+      le-mul_of_pos_right (length forms.matrices) (omega arith) in
       omega (arith, few)

@@ -49,7 +49,8 @@ module _ (m : RobustModel) (rounds : List Told) (t : TellsRun m rounds) where
   are_cuts_told = subst (λ (cs : List Cut). Each (IsCut m) cs) (sym trace_is) (run_cuts m t.trace t.run)
 
   -- a round more
-  pub tells_more : (r : Round) (round : Told) → IsRound m (cuts_told rounds) r → round ≡ round_told r → TellsRun m (rounds ++ round ∷ [])
+  pub tells_more : (r : Round) (round : Told) → IsRound m (cuts_told rounds) r → round ≡ round_told r
+      → TellsRun m (rounds ++ round ∷ [])
   tells_more r round next e = record {
     trace = t.trace ++ r ∷ [];
     run = run_more m t.trace r t.run (subst (λ (cs : List Cut). IsRound m cs r) trace_is next);
@@ -68,8 +69,10 @@ module _ (m : RobustModel) (rounds : List Told) (t : TellsRun m rounds) where
       same (x ∷ xs) = ap suc (same xs)
 
   -- the form of the next round's cut exists
-  pub next_form : (r : Round) (round : Told) → IsRound m (cuts_told rounds) r → round ≡ round_told r → round.form < length (matrices m)
-  next_form r round next e = subst (λ (x : Told). x.form < length (matrices m)) (sym e) (round_cut m (cuts_told rounds) r next).form_in
+  pub next_form : (r : Round) (round : Told) → IsRound m (cuts_told rounds) r → round ≡ round_told r
+      → round.form < length (matrices m)
+  next_form r round next e = subst (λ (x : Told). x.form < length (matrices m)) (sym e)
+      (round_cut m (cuts_told rounds) r next).form_in
 
   -- the items are the run's
   pub items_are : (weight other : ℕ → Fraction) → ((q : ℕ) → q < length rounds → weight q ≡ other q)
@@ -77,16 +80,23 @@ module _ (m : RobustModel) (rounds : List Told) (t : TellsRun m rounds) where
   items_are weight other h =
       ap (λ (items : List Item). by_form (length (matrices m)) (weighted_kept items))
       (ap (λ n. tabulate n (item_of_cut (cuts_told rounds) weight)) (sym (length-cuts rounds))
-      ∙ tabulate-same (length (cuts_told rounds)) (item_of_cut (cuts_told rounds) weight) (cut_item m (cuts_of (cuts_told rounds)) other)
+      ∙ tabulate-same (length (cuts_told rounds)) (item_of_cut (cuts_told rounds) weight)
+      (cut_item m (cuts_of (cuts_told rounds)) other)
       (λ q l.
       let e : length (cuts_told rounds) ≡ length rounds = length-cuts rounds in
       ap₂ (λ (w : Fraction) (v : List Fraction).
-      record { form = (cut_of_number (cuts_told rounds) q).form; weight = w; base = of_int (cut_of_number (cuts_told rounds) q).base; vector = v })
+      record {
+        form = (cut_of_number (cuts_told rounds) q).form;
+        weight = w;
+        base = of_int (cut_of_number (cuts_told rounds) q).base;
+        vector = v;
+      })
       (h q (omega arith))
       (vector_numbered m (cuts_told rounds) q (each_numbered (IsCut m) (cuts_told rounds) are_cuts_told q l))))
 
 -- ---- how many rounds there can be
-pub limit_is : (m : RobustModel) (forms : Forms) (set : SetForm) → IsForms m forms → IsSetForm m set → round_limit forms set ≡ basic_cut_limit m
+pub limit_is : (m : RobustModel) (forms : Forms) (set : SetForm) → IsForms m forms → IsSetForm m set
+    → round_limit forms set ≡ basic_cut_limit m
 limit_is m forms set f st =
     let fs : length forms.matrices ≡ length (matrices m) = ap length f.matrices in
     let rows : length set.rows ≡ length (set_rows m) = ap length st.rows ∙ length-map (set_rows m) (cleared_row m) in

@@ -45,7 +45,8 @@ at_own amounts n new = by (nat_eq n n) (same n n refl)
     by true e = refl
     by false e = cc
 
-at_other : (amounts : ℕ → List Fraction) (n : ℕ) (new : List Fraction) (i : ℕ) → i < n → with_form amounts n new i ≡ amounts i
+at_other : (amounts : ℕ → List Fraction) (n : ℕ) (new : List Fraction) (i : ℕ) → i < n
+    → with_form amounts n new i ≡ amounts i
 at_other amounts n new i l = by (nat_eq i n) (differ i n l)
   where
     differ : (i n : ℕ) → i < n → nat_eq i n ≡ false
@@ -55,10 +56,12 @@ at_other amounts n new i l = by (nat_eq i n) (differ i n l)
     by true e = cc
     by false e = refl
 
-amounts_count : (m : RobustModel) (z : List Fraction) (i : ℕ) (amounts : List Fraction) → IsKept m z i amounts → length amounts ≡ length (set_rows m)
+amounts_count : (m : RobustModel) (z : List Fraction) (i : ℕ) (amounts : List Fraction) → IsKept m z i amounts
+    → length amounts ≡ length (set_rows m)
 amounts_count m z i amounts k = ap length k.found.amounts_are ∙ length-tabulate (length (set_rows m)) k.found.duals
 
-own_covers : (m : RobustModel) (i : ℕ) (amounts : ℕ → List Fraction) (new : List Fraction) → amounts i ≡ new → length new ≡ length (set_rows m)
+own_covers : (m : RobustModel) (i : ℕ) (amounts : ℕ → List Fraction) (new : List Fraction) → amounts i ≡ new
+    → length new ≡ length (set_rows m)
     → covers_of_form i new ≡ covers_kept (form_covers m amounts i)
 own_covers m i amounts new e n =
     ap (λ (k : ℕ). covers_kept (tabulate k (cover_of_amount i new))) n
@@ -66,8 +69,10 @@ own_covers m i amounts new e n =
 
 module _ (m : RobustModel) {N : Type 0} (value : N → Fraction) (z : List Fraction) where
   -- a form more
-  pub kept_more : (n : ℕ) (before scale : N) (covers now : List (TheCover N)) (amounts : List Fraction) → KeptUpTo m value z n before covers
-      → IsKept m z n amounts → map (cover_of value) now ≡ map (cover_of value) covers ++ covers_of_form n amounts → value scale ≡ cleared_by z
+  pub kept_more : (n : ℕ) (before scale : N) (covers now : List (TheCover N)) (amounts : List Fraction)
+      → KeptUpTo m value z n before covers
+      → IsKept m z n amounts → map (cover_of value) now ≡ map (cover_of value) covers ++ covers_of_form n amounts
+      → value scale ≡ cleared_by z
       → KeptUpTo m value z (n + 1) scale now
   kept_more n before scale covers now amounts h k e s =
       let next : n + 1 ≡ suc n = omega arith in
@@ -76,8 +81,10 @@ module _ (m : RobustModel) {N : Type 0} (value : N → Fraction) (z : List Fract
         kept = λ i l. by i (below i n (omega arith));
         covers_are = e
             ∙ ap₂ (λ (xs ys : List Cover). xs ++ ys)
-            (h.covers_are ∙ covers_up_to-same m n h.amounts (with_form h.amounts n amounts) (λ i l. sym (at_other h.amounts n amounts i l)))
-            (own_covers m n (with_form h.amounts n amounts) amounts (at_own h.amounts n amounts) (amounts_count m z n amounts k))
+            (h.covers_are ∙ covers_up_to-same m n h.amounts (with_form h.amounts n amounts)
+            (λ i l. sym (at_other h.amounts n amounts i l)))
+            (own_covers m n (with_form h.amounts n amounts) amounts (at_own h.amounts n amounts)
+            (amounts_count m z n amounts k))
             ∙ sym (covers_up_to-more m n (with_form h.amounts n amounts))
             ∙ ap (λ (v : ℕ). covers_up_to m v (with_form h.amounts n amounts)) (sym next);
         scale_is = λ l. s;
@@ -105,46 +112,58 @@ module _ (m : RobustModel) {N : Type 0} (value : N → Fraction) (z : List Fract
   }
 
   -- the forms so far are kept in every scenario
-  pub keeps_first : IsModel m → length z ≡ form_columns m → (n : ℕ) (scale : N) (covers : List (TheCover N)) → n ≤ length (matrices m)
+  pub keeps_first : IsModel m → length z ≡ form_columns m → (n : ℕ) (scale : N) (covers : List (TheCover N))
+      → n ≤ length (matrices m)
       → KeptUpTo m value z n scale covers → (i : ℕ) → i < n → KeepsForm m z i
   keeps_first model size n scale covers few h i l =
-      found_keeps m model i (omega arith) z size (h.kept i l).basis (h.kept i l).scenario (h.amounts i) (h.kept i l).found (h.kept i l).kept
+      found_keeps m model i (omega arith) z size (h.kept i l).basis (h.kept i l).scenario (h.amounts i)
+      (h.kept i l).found (h.kept i l).kept
 
 -- ---- what is looked at has a number for each column of a form
-pub target_count : {N : Type 0} (value : N → Fraction) (target : Target N) (n : ℕ) → FitsTarget n target → length (vector_of value target) ≡ suc (suc n)
+pub target_count : {N : Type 0} (value : N → Fraction) (target : Target N) (n : ℕ) → FitsTarget n target
+    → length (vector_of value target) ≡ suc (suc n)
 target_count value (Plan plan) n e = plan_count value plan.now n e
 target_count value (Step step) n e = step_count value step.now n e
 
 -- ---- a form that the scan comes to
-module _ (m : RobustModel) (model : IsModel m) {N : Type 0} (value : N → Fraction) (z : List Fraction) (size : length z ≡ form_columns m)
-    (n : ℕ) (some : n < length (matrices m)) (scale : N) (covers : List (TheCover N)) (h : KeptUpTo m value z n scale covers) where
+module _ (m : RobustModel) (model : IsModel m) {N : Type 0} (value : N → Fraction) (z : List Fraction)
+    (size : length z ≡ form_columns m)
+    (n : ℕ) (some : n < length (matrices m)) (scale : N) (covers : List (TheCover N))
+    (h : KeptUpTo m value z n scale covers) where
   pub comes_to : ComesTo m z n
   comes_to = record { form_in = some; first = keeps_first m value z model size n scale covers (omega (arith, some)) h }
 
   -- it is the first that is broken
-  pub broken_first : (limit : ℕ) (now : List (TheCover N)) (cut : Made) → IsJudged limit m value n z covers now (verdict.Broken cut)
+  pub broken_first : (limit : ℕ) (now : List (TheCover N)) (cut : Made)
+      → IsJudged limit m value n z covers now (verdict.Broken cut)
       → IsScanned limit m value z (found.Broken cut)
   broken_first limit now cut j = (j.1 (λ i l. comes_to.first i (let e : cut.form ≡ n = j.0 in omega arith)), j.2)
 
   -- it is kept too
-  pub judged_more : (limit : ℕ) (common : N) (now : List (TheCover N)) → IsJudged limit m value n z covers now (verdict.Kept common)
+  pub judged_more : (limit : ℕ) (common : N) (now : List (TheCover N))
+      → IsJudged limit m value n z covers now (verdict.Kept common)
       → KeptUpTo m value z (n + 1) common now
   judged_more limit common now j = kept_more m value z n scale common covers now j.0 h j.1 j.2 j.3
 
   -- its search stops the scan, or the clearing of its cut does
-  pub search_stops : (limit : ℕ) (by_step : Bool) (stop : Stop) → HasSearchCause limit m by_step n z stop → IsScanStopped limit m by_step z stop
+  pub search_stops : (limit : ℕ) (by_step : Bool) (stop : Stop) → HasSearchCause limit m by_step n z stop
+      → IsScanStopped limit m by_step z stop
   search_stops limit by_step (EmptySet weights) w = w
   search_stops limit by_step (Wide place trace) w = (n, comes_to, inl w.0)
   search_stops limit by_step Memory w = tt
 
-  pub cut_stops : (limit : ℕ) (by_step : Bool) (stop : Stop) → IsStoppedAt limit m n z stop → IsScanStopped limit m by_step z stop
+  pub cut_stops : (limit : ℕ) (by_step : Bool) (stop : Stop) → IsStoppedAt limit m n z stop
+      → IsScanStopped limit m by_step z stop
   cut_stops limit by_step stop w =
-      stops_also (IsWideCut limit m n z) (λ place. (f : ℕ) × ComesTo m z f × (IsWideAt limit m by_step f z place ⊎ IsWideCut limit m f z place))
+      stops_also (IsWideCut limit m n z) (λ place. (f : ℕ) × ComesTo m z f
+      × (IsWideAt limit m by_step f z place ⊎ IsWideCut limit m f z place))
       (λ place v. (n, comes_to, inr v)) stop w
 
 -- all forms are kept
-pub all_kept : (limit : ℕ) (m : RobustModel) {N : Type 0} (value : N → Fraction) (z : List Fraction) (n : ℕ) (scale : N) (covers : List (TheCover N))
-    → n ≡ length (matrices m) → KeptUpTo m value z n scale covers → IsScanned limit m value z (found.Kept (record { scale = scale; covers = covers }))
+pub all_kept : (limit : ℕ) (m : RobustModel) {N : Type 0} (value : N → Fraction) (z : List Fraction) (n : ℕ)
+    (scale : N) (covers : List (TheCover N))
+    → n ≡ length (matrices m) → KeptUpTo m value z n scale covers
+    → IsScanned limit m value z (found.Kept (record { scale = scale; covers = covers }))
 all_kept limit m value z n scale covers e h = (
   h.amounts,
   λ i l. h.kept i (omega (arith, l, e)),

@@ -31,13 +31,17 @@ use Rattle.rob_cuts.proofs.RunLemmas.{trace_is}
 use Rattle.rob_cuts.proofs.StopLemmas.{IsWideThere}
 
 -- ---- want of memory as a stop
-pub or_stopped : {T : Type 0} (P : T → Type 0) (Q : Stop → Type 0) → Q Memory → (answer : Result T NoMemory) → IfOk answer P
-    → (result : Result T Stop) → MatchResult result (λ x. answer ≡ Ok x) (λ stop. stop ≡ Memory) → MatchResult result P Q
+pub or_stopped : {T : Type 0} (P : T → Type 0) (Q : Stop → Type 0) → Q Memory → (answer : Result T NoMemory)
+    → IfOk answer P
+    → (result : Result T Stop) → MatchResult result (λ x. answer ≡ Ok x) (λ stop. stop ≡ Memory)
+    → MatchResult result P Q
 or_stopped {T} P Q q answer h (Ok x) is = subst (λ (r : Result T NoMemory). IfOk r P) is h
 or_stopped P Q q answer h (Err stop) is = subst Q (sym is) q
 
-pub counts_stopped : {T : Type 0} (before now : ℕ) → now ≡ before → (answer : Result T NoMemory) (result : Result T Stop)
-    → MatchResult result (λ x. answer ≡ Ok x) (λ stop. stop ≡ Memory) → MatchResult result (λ _. now ≡ before) (CountsStop before now)
+pub counts_stopped : {T : Type 0} (before now : ℕ) → now ≡ before
+    → (answer : Result T NoMemory) (result : Result T Stop)
+    → MatchResult result (λ x. answer ≡ Ok x) (λ stop. stop ≡ Memory)
+    → MatchResult result (λ _. now ≡ before) (CountsStop before now)
 counts_stopped before now e answer (Ok x) is = e
 counts_stopped before now e answer (Err stop) is = subst (CountsStop before now) (sym is) (omega arith)
 
@@ -66,7 +70,8 @@ set_fits limit m (Wide place trace) h = subst (λ (rounds : List Told). Each (Ro
 set_fits limit m Memory h = tt
 
 -- ---- rounds
-after_set : (m : RobustModel) (trace : List Round) (spot : RunSpot) → IsOfRound spot → HasScenario m → ComesAfterSet m trace spot
+after_set : (m : RobustModel) (trace : List Round) (spot : RunSpot) → IsOfRound spot → HasScenario m
+    → ComesAfterSet m trace spot
 after_set m trace (set_row basis i) o n = absurd o
 after_set m trace (master_row basis i) o n = n
 after_set m trace (search_row by_step f basis i) o n = n
@@ -76,14 +81,19 @@ after_set m trace (cut_clearing f) o n = n
 after_set m trace (cut_sum f j) o n = n
 
 module _ (m : RobustModel) (rounds : List Told) (t : TellsRun m rounds) where
-  pub cause_is : (limit : ℕ) (stop : Stop) → HasScenario m → StopsWith (IsWideThere limit m (cuts_told rounds)) stop → HasCause limit m (stop_after stop rounds)
+  pub cause_is : (limit : ℕ) (stop : Stop) → HasScenario m → StopsWith (IsWideThere limit m (cuts_told rounds)) stop
+      → HasCause limit m (stop_after stop rounds)
   cause_is limit (EmptySet weights) n h = absurd h
   cause_is limit (Wide place trace) n h = record {
     trace = t.trace;
     rounds = t.told;
     spot = h.0;
     place_is = h.2;
-    wide = record { run = t.run; wide = subst (λ (cs : List Cut). IsWideAfter limit m cs h.0) (trace_is m rounds t) h.3 };
+    wide = record {
+      run = t.run;
+      wide = subst (λ (cs : List Cut). IsWideAfter limit m cs h.0) (trace_is m rounds t)
+          h.3;
+    };
     refused = subst (λ (cs : List Cut). IsRefusedAfter limit m cs h.0) (trace_is m rounds t) h.4;
     after = after_set m t.trace h.0 h.1 n;
   }
@@ -91,7 +101,8 @@ module _ (m : RobustModel) (rounds : List Told) (t : TellsRun m rounds) where
 
   pub solution_is : IsModel m → (c : Certificate) → IsEnd m (cuts_told rounds) c → IsSolution m c rounds
   solution_is model c e =
-      let read : IsReadOff m (trace_cuts t.trace) e.basis c = subst (λ (cs : List Cut). IsReadOff m cs e.basis c) (trace_is m rounds t) e.read in
+      let read : IsReadOff m (trace_cuts t.trace) e.basis c =
+      subst (λ (cs : List Cut). IsReadOff m cs e.basis c) (trace_is m rounds t) e.read in
       record {
         trace = t.trace;
         run = t.run;
@@ -105,12 +116,14 @@ module _ (m : RobustModel) (rounds : List Told) (t : TellsRun m rounds) where
       }
 
 -- the rounds behind a stop fit, as those before it do
-pub fits_after : (limit : ℕ) (stop : Stop) (rounds : List Told) → Each (RoundFits limit) rounds → StopFits limit (stop_after stop rounds)
+pub fits_after : (limit : ℕ) (stop : Stop) (rounds : List Told) → Each (RoundFits limit) rounds
+    → StopFits limit (stop_after stop rounds)
 fits_after limit (EmptySet weights) rounds h = tt
 fits_after limit (Wide place trace) rounds h = h
 fits_after limit Memory rounds h = tt
 
-pub counts_after : (before now : ℕ) (stop : Stop) (rounds : List Told) → CountsStop before now stop → CountsStop before now (stop_after stop rounds)
+pub counts_after : (before now : ℕ) (stop : Stop) (rounds : List Told) → CountsStop before now stop
+    → CountsStop before now (stop_after stop rounds)
 counts_after before now (EmptySet weights) rounds h = h
 counts_after before now (Wide place trace) rounds h = h
 counts_after before now Memory rounds h = h

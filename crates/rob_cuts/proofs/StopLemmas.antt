@@ -29,7 +29,8 @@ use Rattle.rob_cuts.specs.Stops.{StopsWith, IsInSum}
 use Rattle.rob_cuts.specs.Outcomes.{IsOfRound, IsNext}
 
 -- where a place is of one kind, it is of another
-pub stops_also : (P Q : Spot → Type 0) → ((place : Spot) → P place → Q place) → (stop : Stop) → StopsWith P stop → StopsWith Q stop
+pub stops_also : (P Q : Spot → Type 0) → ((place : Spot) → P place → Q place) → (stop : Stop) → StopsWith P stop
+    → StopsWith Q stop
 stops_also P Q f (EmptySet weights) h = h
 stops_also P Q f (Wide place trace) h = f place h
 stops_also P Q f Memory h = tt
@@ -84,8 +85,14 @@ module _ (limit : ℕ) (m : RobustModel) (cuts : List Cut) where
     )
 
     search_place : (f : ℕ) → ComesTo m z f → (place : Spot) → IsWideAt limit m by_step f z place → IsWideThere place
-    search_place f comes (spot.Dictionary (program.SearchPlan g) basis p) w =
-        (search_row false g basis p, tt, refl, row_wide false f g basis p comes w.0, row_refused false f g basis p comes w)
+    search_place f comes (spot.Dictionary (program.SearchPlan g) basis p) w = (
+      search_row false g basis p,
+      tt,
+      refl,
+      row_wide false f g basis p comes w.0,
+      row_refused false f g basis p
+          comes w,
+    )
     search_place f comes (spot.Dictionary (program.SearchMove g) basis p) w =
         (search_row true g basis p, tt, refl, row_wide true f g basis p comes w.0, row_refused true f g basis p comes w)
     search_place f comes (spot.Clearing of.Plan) w =
@@ -96,7 +103,14 @@ module _ (limit : ℕ) (m : RobustModel) (cuts : List Cut) where
       cost g k,
       tt,
       refl,
-      (by_step, z, looks, subst (ComesTo m z) (sym w.0) comes, subst (λ (i : ℕ). IsWideCost limit m i k z) (sym w.0) w.1),
+      (
+        by_step,
+        z,
+        looks,
+        subst (ComesTo m z) (sym w.0) comes,
+        subst (λ (i : ℕ). IsWideCost limit m i k z) (sym w.0)
+            w.1,
+      ),
       tt,
     )
     search_place f comes other w = absurd w
@@ -104,7 +118,8 @@ module _ (limit : ℕ) (m : RobustModel) (cuts : List Cut) where
     -- of a cut
     cut_place : (f : ℕ) → ComesTo m z f → (place : Spot) → IsWideCut limit m f z place → IsWideThere place
     cut_place f comes place w =
-        let round = looks_round m cuts by_step z looks w.0 (w.3 (λ h l. comes.first h (let e : w.0.form ≡ f = w.1 in omega arith))) in (
+        let round = looks_round m cuts by_step z looks w.0 (w.3
+        (λ h l. comes.first h (let e : w.0.form ≡ f = w.1 in omega arith))) in (
           cut_clearing f,
           tt,
           w.2,
@@ -117,17 +132,20 @@ module _ (limit : ℕ) (m : RobustModel) (cuts : List Cut) where
           tt,
         )
 
-    scan_place : (place : Spot) → (f : ℕ) × ComesTo m z f × (IsWideAt limit m by_step f z place ⊎ IsWideCut limit m f z place) → IsWideThere place
+    scan_place : (place : Spot) → (f : ℕ) × ComesTo m z f × (IsWideAt limit m by_step f z place
+        ⊎ IsWideCut limit m f z place) → IsWideThere place
     scan_place place (f, comes, inl w) = search_place f comes place w
     scan_place place (f, comes, inr w) = cut_place f comes place w
 
     -- of a scan
     pub scan_stopped : (stop : Stop) → IsScanStopped limit m by_step z stop → StopsWith IsWideThere stop
     scan_stopped stop h =
-        stops_also (λ place. (f : ℕ) × ComesTo m z f × (IsWideAt limit m by_step f z place ⊎ IsWideCut limit m f z place)) IsWideThere scan_place stop h
+        stops_also (λ place. (f : ℕ) × ComesTo m z f × (IsWideAt limit m by_step f z place
+        ⊎ IsWideCut limit m f z place)) IsWideThere scan_place stop h
 
   -- of the direction that is cleared
-  pub step_place : (place : Spot) (z : List Fraction) → LooksAt m cuts true z → IsWideCleared limit z → place ≡ spot.Clearing of.Move → IsWideThere place
+  pub step_place : (place : Spot) (z : List Fraction) → LooksAt m cuts true z → IsWideCleared limit z
+      → place ≡ spot.Clearing of.Move → IsWideThere place
   step_place place z looks w e = (clearing true, tt, e, (z, looks, w), tt)
 
   -- of the master
@@ -137,12 +155,15 @@ module _ (limit : ℕ) (m : RobustModel) (cuts : List Cut) where
   master_place place basis i w r e = (master_row basis i, tt, e, w, r)
 
 -- ---- of a cut's sums
-product_same : (m : RobustModel) (forms : Forms) → IsForms m forms → (c : Cut) (j : ℕ) → cut_product forms c j ≡ cut_term m c j
+product_same : (m : RobustModel) (forms : Forms) → IsForms m forms → (c : Cut) (j : ℕ)
+    → cut_product forms c j ≡ cut_term m c j
 product_same m forms f c j =
-    ap {B = ℕ → ℤ} (λ (all : List (List (List ℤ))) (k : ℕ). cell (matrix_at all c.form) k j *ℤ at (c.base ∷ c.vector) k) f.matrices
+    ap {B = ℕ → ℤ} (λ (all : List (List (List ℤ))) (k : ℕ). cell (matrix_at all c.form) k j *ℤ at (c.base ∷ c.vector)
+    k) f.matrices
 
 pub sum_place : (limit : ℕ) (m : RobustModel) (forms : Forms) → IsForms m forms → (rounds : List Told) (round : Told)
-    → IsNext limit m rounds round → (place : Spot) → IsInSum limit forms (cut_of round) place → IsWideThere limit m (cuts_told rounds) place
+    → IsNext limit m rounds round → (place : Spot) → IsInSum limit forms (cut_of round) place
+    → IsWideThere limit m (cuts_told rounds) place
 sum_place limit m forms f rounds round next place w =
     let e : cut_of round ≡ next.next.cut = ap cut_of next.told in
     let columns : suc (suc forms.columns) ≡ form_columns m = ap (λ (n : ℕ). suc (suc n)) f.columns in

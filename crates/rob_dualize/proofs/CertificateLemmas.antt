@@ -42,64 +42,89 @@ module _ (d : RobustProgram) (s : Solver) where
   abbrev own : Columns
   own = own_of (system_of (reform d)) (columns_of s.basis)
 
-  pub optimal_pairs : HasEnded (reform d) kind.Optimal s → (j : ℕ) → j ≤ d.decisions → OneIsZero (point_of s (plus j)) (point_of s (minus j))
-  optimal_pairs h = point_one d (reform d) (reform_is d) own (entries s) (point_of s) (dual_of s) (optimal_end (reform d) s h)
+  pub optimal_pairs : HasEnded (reform d) kind.Optimal s → (j : ℕ) → j ≤ d.decisions
+      → OneIsZero (point_of s (plus j)) (point_of s (minus j))
+  optimal_pairs h = point_one d (reform d) (reform_is d) own (entries s) (point_of s) (dual_of s)
+      (optimal_end (reform d) s h)
 
-  pub optimal_rows : HasEnded (reform d) kind.Optimal s → (i c : ℕ) → i < d.forms → c < d.set_columns → OneIsZero (dual_of s (negative_row d i c)) (dual_of s (positive_row d i c))
-  optimal_rows h i c il cl = swapped (dual_one d (reform d) (reform_is d) own (entries s) (point_of s) (dual_of s) (optimal_end (reform d) s h) i c il cl)
+  pub optimal_rows : HasEnded (reform d) kind.Optimal s → (i c : ℕ) → i < d.forms → c < d.set_columns
+      → OneIsZero (dual_of s (negative_row d i c)) (dual_of s (positive_row d i c))
+  optimal_rows h i c il cl = swapped (dual_one d (reform d) (reform_is d) own (entries s) (point_of s) (dual_of s)
+      (optimal_end (reform d) s h) i c il cl)
 
-  pub unbounded_pairs : HasEnded (reform d) kind.Unbounded s → (j : ℕ) → j ≤ d.decisions → OneIsZero (point_of s (plus j)) (point_of s (minus j))
-  unbounded_pairs h = unbounded_point_one d (reform d) (reform_is d) own (entries s) (column_of s.state) (point_of s) (ray_of s) (unbounded_end (reform d) s h)
+  pub unbounded_pairs : HasEnded (reform d) kind.Unbounded s → (j : ℕ) → j ≤ d.decisions
+      → OneIsZero (point_of s (plus j)) (point_of s (minus j))
+  unbounded_pairs h = unbounded_point_one d (reform d) (reform_is d) own (entries s) (column_of s.state) (point_of s)
+      (ray_of s) (unbounded_end (reform d) s h)
 
-  pub direction_pairs : HasEnded (reform d) kind.Unbounded s → (j : ℕ) → j ≤ d.decisions → OneIsZero (ray_of s (plus j)) (ray_of s (minus j))
-  direction_pairs h = move_one d (reform d) (reform_is d) own (entries s) (column_of s.state) (point_of s) (ray_of s) (unbounded_end (reform d) s h)
+  pub direction_pairs : HasEnded (reform d) kind.Unbounded s → (j : ℕ) → j ≤ d.decisions
+      → OneIsZero (ray_of s (plus j)) (ray_of s (minus j))
+  direction_pairs h = move_one d (reform d) (reform_is d) own (entries s) (column_of s.state) (point_of s) (ray_of s)
+      (unbounded_end (reform d) s h)
 
   pub infeasible_rows : HasEnded (reform d) kind.Infeasible s → (i c : ℕ) → i < d.forms → c < d.set_columns
       → OneIsZero (of_int (weights_of s (negative_row d i c))) (of_int (weights_of s (positive_row d i c)))
   infeasible_rows h i c il cl =
-      let en : (rows : Matrix) × InfeasibleEnding (reform d) (own_of (auxiliary_of (reform d)) (columns_of s.basis)) rows
-      × ((t : ℕ) → t < (reform d).m → of_int (weights_of s t) ≡ weight_of (reform d) rows t) = infeasible_end (reform d) s h in
-      let one = swapped (weight_one d (reform d) (reform_is d) (own_of (auxiliary_of (reform d)) (columns_of s.basis)) en.0 en.1 i c il cl) in
+      let en : (rows : Matrix) × InfeasibleEnding (reform d) (own_of (auxiliary_of (reform d)) (columns_of s.basis))
+      rows
+      × ((t : ℕ) → t < (reform d).m → of_int (weights_of s t) ≡ weight_of (reform d) rows t) =
+      infeasible_end (reform d) s h in
+      let one = swapped (weight_one d (reform d) (reform_is d) (own_of (auxiliary_of (reform d)) (columns_of s.basis))
+      en.0 en.1 i c il cl) in
       let low = en.2 (positive_row d i c) (block_in d.forms (block d) i (c + c) il (omega arith)) in
       let high = en.2 (negative_row d i c) (block_in d.forms (block d) i (suc (c + c)) il (omega arith)) in
-      subst (λ b. OneIsZero (of_int (weights_of s (negative_row d i c))) b) (sym low) (subst (λ a. OneIsZero a (weight_of (reform d) en.0 (positive_row d i c))) (sym high) one)
+      subst (λ b. OneIsZero (of_int (weights_of s (negative_row d i c))) b) (sym low)
+      (subst (λ a. OneIsZero a (weight_of (reform d) en.0 (positive_row d i c))) (sym high) one)
 
 -- ---- numbers in a list
-module _ {N : Type 0} (value : N → Fraction) (numbers : List N) (n : ℕ) (f : ℕ → Fraction) (h : map value numbers ≡ tabulate n f) where
+module _ {N : Type 0} (value : N → Fraction) (numbers : List N) (n : ℕ) (f : ℕ → Fraction)
+    (h : map value numbers ≡ tabulate n f) where
   pub count_told : length numbers ≡ n
   count_told = sym (length-map numbers value) ∙ ap length h ∙ length-tabulate n f
 
   one_at : (a b : ℕ) → a < n → b < n → OneIsZero (f a) (f b) → OneIsZero (told value numbers a) (told value numbers b)
   one_at a b al bl one =
-      subst (λ y. OneIsZero (told value numbers a) y) (sym (told_at value numbers n f h b bl)) (subst (λ x. OneIsZero x (f b)) (sym (told_at value numbers n f h a al)) one)
+      subst (λ y. OneIsZero (told value numbers a) y) (sym (told_at value numbers n f h b bl))
+      (subst (λ x. OneIsZero x (f b)) (sym (told_at value numbers n f h a al)) one)
 
-  pub pair_told : (j : ℕ) → suc (j + j) < n → OneIsZero (f (plus j)) (f (minus j)) → OneIsZero (told value numbers (plus j)) (told value numbers (minus j))
+  pub pair_told : (j : ℕ) → suc (j + j) < n → OneIsZero (f (plus j)) (f (minus j))
+      → OneIsZero (told value numbers (plus j)) (told value numbers (minus j))
   pair_told j l one = one_at (plus j) (minus j) (omega arith) l one
 
-  pub pairs_told : (count : ℕ) → count + count ≤ n → ((j : ℕ) → j < count → OneIsZero (f (plus j)) (f (minus j))) → KeepPairs value numbers count
+  pub pairs_told : (count : ℕ) → count + count ≤ n → ((j : ℕ) → j < count → OneIsZero (f (plus j)) (f (minus j)))
+      → KeepPairs value numbers count
   pairs_told count l one j jl = pair_told j (omega arith) (one j jl)
 
-  pub rows_kept : (d : RobustProgram) → n ≡ d.forms * block d → ((i c : ℕ) → i < d.forms → c < d.set_columns → OneIsZero (f (negative_row d i c)) (f (positive_row d i c)))
+  pub rows_kept : (d : RobustProgram) → n ≡ d.forms * block d
+      → ((i c : ℕ) → i < d.forms → c < d.set_columns → OneIsZero (f (negative_row d i c)) (f (positive_row d i c)))
       → KeepRows value d numbers
   rows_kept d e one i c il cl =
       let low = block_in d.forms (block d) i (c + c) il (omega arith) in
       let high = block_in d.forms (block d) i (suc (c + c)) il (omega arith) in
-      one_at (negative_row d i c) (positive_row d i c) (subst (λ k. negative_row d i c < k) (sym e) high) (subst (λ k. positive_row d i c < k) (sym e) low) (one i c il cl)
+      one_at (negative_row d i c) (positive_row d i c) (subst (λ k. negative_row d i c < k) (sym e) high)
+      (subst (λ k. positive_row d i c < k) (sym e) low) (one i c il cl)
 
   pub difference_read : (j : ℕ) → suc (j + j) < n → difference (told value numbers) j ≡ difference f j
-  difference_read j l = ap₂ (λ a b. a -ℚ b) (told_at value numbers n f h (plus j) (omega arith)) (told_at value numbers n f h (minus j) l)
+  difference_read j l = ap₂ (λ a b. a -ℚ b) (told_at value numbers n f h (plus j) (omega arith))
+      (told_at value numbers n f h (minus j) l)
 
   pub differences_read : (count : ℕ) → count + count ≤ n → differences count (told value numbers) ≡ differences count f
-  differences_read count l = differences_same count (told value numbers) f (λ k kl. told_at value numbers n f h k (omega arith))
+  differences_read count l = differences_same count (told value numbers) f
+      (λ k kl. told_at value numbers n f h k (omega arith))
 
-  pub covers_read : (d : RobustProgram) → n ≡ pairs d + (d.forms * d.set_rows) → covers_to d d.forms (told value numbers) ≡ covers_to d d.forms f
-  covers_read d e = covers_same d (told value numbers) f d.forms (omega arith) (λ k kl. told_at value numbers n f h k (subst (λ t. k < t) (sym e) kl))
+  pub covers_read : (d : RobustProgram) → n ≡ pairs d + (d.forms * d.set_rows)
+      → covers_to d d.forms (told value numbers) ≡ covers_to d d.forms f
+  covers_read d e = covers_same d (told value numbers) f d.forms (omega arith)
+      (λ k kl. told_at value numbers n f h k (subst (λ t. k < t) (sym e) kl))
 
-  pub items_read : (d : RobustProgram) → n ≡ d.forms * block d → d.parameters ≤ d.set_columns → items_to d d.forms (told value numbers) ≡ items_to d d.forms f
-  items_read d e pl = items_same d (told value numbers) f d.forms (omega arith) pl (λ k kl. told_at value numbers n f h k (subst (λ t. k < t) (sym e) kl))
+  pub items_read : (d : RobustProgram) → n ≡ d.forms * block d → d.parameters ≤ d.set_columns
+      → items_to d d.forms (told value numbers) ≡ items_to d d.forms f
+  items_read d e pl = items_same d (told value numbers) f d.forms (omega arith) pl
+      (λ k kl. told_at value numbers n f h k (subst (λ t. k < t) (sym e) kl))
 
 -- ---- certificates part by part
-abbrev pub parts : Status → Fraction → Fraction → List Fraction → List Fraction → List Fraction → Fraction → List Cover → List Cover → List Item → Certificate
+abbrev pub parts : Status → Fraction → Fraction → List Fraction → List Fraction → List Fraction → Fraction
+    → List Cover → List Cover → List Item → Certificate
 parts status value scale inside plan step bound covers holds items = record {
   status = status;
   value = value;
@@ -113,8 +138,10 @@ parts status value scale inside plan step bound covers holds items = record {
   items = items;
 }
 
-pub parts_same : (status : Status) (v v' s s' : Fraction) (u p p' t t' : List Fraction) (b b' : Fraction) (cs cs' hs hs' : List Cover) (xs xs' : List Item)
-    → v ≡ v' → s ≡ s' → p ≡ p' → t ≡ t' → b ≡ b' → cs ≡ cs' → hs ≡ hs' → xs ≡ xs' → parts status v s u p t b cs hs xs ≡ parts status v' s' u p' t' b' cs' hs' xs'
+pub parts_same : (status : Status) (v v' s s' : Fraction) (u p p' t t' : List Fraction) (b b' : Fraction)
+    (cs cs' hs hs' : List Cover) (xs xs' : List Item)
+    → v ≡ v' → s ≡ s' → p ≡ p' → t ≡ t' → b ≡ b' → cs ≡ cs' → hs ≡ hs' → xs ≡ xs'
+    → parts status v s u p t b cs hs xs ≡ parts status v' s' u p' t' b' cs' hs' xs'
 parts_same status v v' s s' u p p' t t' b b' cs cs' hs hs' xs xs' ev es ep et eb ec eh ei =
     ap₂ (λ x y. parts status x y u p t b cs hs xs) ev es
     ∙ ap₂ (λ x y. parts status v' s' u x y b cs hs xs) ep et

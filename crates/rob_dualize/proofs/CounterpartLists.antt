@@ -41,20 +41,28 @@ module _ (P : Program) (lp : Lp) (h : IsListed P lp) where
   listed_same = record {
     height = rights;
     width = costs;
-    rows = λ t k tl kl. ap (λ row. at row k) (row_at t [] (let e : length lp.b ≡ P.m = rights in omega arith)) ∙ item-tabulate P.n (P.a t) k (pos 0) (let e : length lp.c ≡ P.n = costs in omega arith);
-    rights = λ t l. ap (λ xs. at xs t) h.b ∙ item-tabulate P.m P.b t (pos 0) (let e : length lp.b ≡ P.m = rights in omega arith);
-    costs = λ k l. ap (λ xs. at xs k) h.c ∙ item-tabulate P.n P.c k (pos 0) (let e : length lp.c ≡ P.n = costs in omega arith);
+    rows = λ t k tl kl. ap (λ row. at row k) (row_at t [] (let e : length lp.b ≡ P.m = rights in omega arith))
+        ∙ item-tabulate P.n (P.a t) k (pos 0) (let e : length lp.c ≡ P.n = costs in omega arith);
+    rights = λ t l. ap (λ xs. at xs t) h.b ∙ item-tabulate P.m P.b t (pos 0)
+        (let e : length lp.b ≡ P.m = rights in omega arith);
+    costs = λ k l. ap (λ xs. at xs k) h.c ∙ item-tabulate P.n P.c k (pos 0)
+        (let e : length lp.c ≡ P.n = costs in omega arith);
   }
 
-  pub listed_within : (limit : ℕ) → ((t k : ℕ) → nat_abs (P.a t k) ≤ limit) → ((t : ℕ) → nat_abs (P.b t) ≤ limit) → ((k : ℕ) → nat_abs (P.c k) ≤ limit)
+  pub listed_within : (limit : ℕ) → ((t k : ℕ) → nat_abs (P.a t k) ≤ limit) → ((t : ℕ) → nat_abs (P.b t) ≤ limit)
+      → ((k : ℕ) → nat_abs (P.c k) ≤ limit)
       → HasNumbersWithin limit lp
   listed_within limit ha hb hc = record {
     a = λ t d l k e kl.
-        let r : slice_index_or lp.a t d ≡ tabulate P.n (P.a t) = row_at t d (let q : length lp.a ≡ P.m = rows in omega arith) in
+        let r : slice_index_or lp.a t d ≡ tabulate P.n (P.a t) =
+        row_at t d (let q : length lp.a ≡ P.m = rows in omega arith) in
         let n : length (slice_index_or lp.a t d) ≡ P.n = ap length r ∙ length-tabulate P.n (P.a t) in
-        subst (λ (v : ℤ). nat_abs v ≤ limit) (sym (ap (λ row. slice_index_or row k e) r ∙ item-tabulate P.n (P.a t) k e (omega arith))) (ha t k);
-    b = λ t d l. subst (λ (v : ℤ). nat_abs v ≤ limit) (sym (ap (λ xs. slice_index_or xs t d) h.b ∙ item-tabulate P.m P.b t d (let q : length lp.b ≡ P.m = rights in omega arith))) (hb t);
-    c = λ k d l. subst (λ (v : ℤ). nat_abs v ≤ limit) (sym (ap (λ xs. slice_index_or xs k d) h.c ∙ item-tabulate P.n P.c k d (let q : length lp.c ≡ P.n = costs in omega arith))) (hc k);
+        subst (λ (v : ℤ). nat_abs v ≤ limit) (sym (ap (λ row. slice_index_or row k e) r
+        ∙ item-tabulate P.n (P.a t) k e (omega arith))) (ha t k);
+    b = λ t d l. subst (λ (v : ℤ). nat_abs v ≤ limit) (sym (ap (λ xs. slice_index_or xs t d) h.b
+        ∙ item-tabulate P.m P.b t d (let q : length lp.b ≡ P.m = rights in omega arith))) (hb t);
+    c = λ k d l. subst (λ (v : ℤ). nat_abs v ≤ limit) (sym (ap (λ xs. slice_index_or xs k d) h.c
+        ∙ item-tabulate P.n P.c k d (let q : length lp.c ≡ P.n = costs in omega arith))) (hc k);
   }
 
 -- ---- sizes of the numbers
@@ -65,56 +73,72 @@ cond_small limit false v w hv hw = hw
 pub turned_small : (limit k : ℕ) (v : ℤ) → nat_abs v ≤ limit → nat_abs (turned k v) ≤ limit
 turned_small limit k v h = cond_small limit (eqb (k % 2) 0) v (neg_ℤ v) h (negated_within limit v h)
 
-module _ (d : RobustProgram) (limit : ℕ) (forms : (i k j : ℕ) → nat_abs (d.form i k j) ≤ limit) (left : (r c : ℕ) → nat_abs (d.left r c) ≤ limit)
+module _ (d : RobustProgram) (limit : ℕ) (forms : (i k j : ℕ) → nat_abs (d.form i k j) ≤ limit)
+    (left : (r c : ℕ) → nat_abs (d.left r c) ≤ limit)
     (right : (r : ℕ) → nat_abs (d.right r) ≤ limit) (sense : nat_abs d.sense ≤ limit) where
   entry_small : (i c j : ℕ) → nat_abs (entry d i c j) ≤ limit
-  entry_small i c j = cond_small limit (ltb c d.parameters) (d.form i (suc c) j) (pos 0) (forms i (suc c) j) (omega arith)
+  entry_small i c j = cond_small limit (ltb c d.parameters) (d.form i (suc c) j) (pos 0) (forms i (suc c) j)
+      (omega arith)
 
   plan_small : (i p j : ℕ) → nat_abs (plan_entry d i p j) ≤ limit
   plan_small i p j =
-      cond_small limit (ltb p (d.set_columns + d.set_columns)) (turned p (neg_ℤ (entry d i (p / 2) (suc j)))) (d.form i 0 (suc j))
-      (turned_small limit p (neg_ℤ (entry d i (p / 2) (suc j))) (negated_within limit (entry d i (p / 2) (suc j)) (entry_small i (p / 2) (suc j)))) (forms i 0 (suc j))
+      cond_small limit (ltb p (d.set_columns + d.set_columns)) (turned p (neg_ℤ (entry d i (p / 2) (suc j))))
+      (d.form i 0 (suc j))
+      (turned_small limit p (neg_ℤ (entry d i (p / 2) (suc j)))
+      (negated_within limit (entry d i (p / 2) (suc j)) (entry_small i (p / 2) (suc j)))) (forms i 0 (suc j))
 
   multiplier_small : (p r : ℕ) → nat_abs (multiplier_entry d p r) ≤ limit
   multiplier_small p r =
-      cond_small limit (ltb p (d.set_columns + d.set_columns)) (turned p (d.left r (p / 2))) (d.right r) (turned_small limit p (d.left r (p / 2)) (left r (p / 2))) (right r)
+      cond_small limit (ltb p (d.set_columns + d.set_columns)) (turned p (d.left r (p / 2))) (d.right r)
+      (turned_small limit p (d.left r (p / 2)) (left r (p / 2))) (right r)
 
   row_small : (i p k : ℕ) → nat_abs (row_entry d i p k) ≤ limit
   row_small i p k =
-      cond_small limit (ltb k (pairs d)) (turned k (plan_entry d i p (k / 2))) (cond (eqb ((k - pairs d) / d.set_rows) i) (multiplier_entry d p ((k - pairs d) % d.set_rows)) (pos 0))
+      cond_small limit (ltb k (pairs d)) (turned k (plan_entry d i p (k / 2)))
+      (cond (eqb ((k - pairs d) / d.set_rows) i) (multiplier_entry d p ((k - pairs d) % d.set_rows)) (pos 0))
       (turned_small limit k (plan_entry d i p (k / 2)) (plan_small i p (k / 2)))
-      (cond_small limit (eqb ((k - pairs d) / d.set_rows) i) (multiplier_entry d p ((k - pairs d) % d.set_rows)) (pos 0) (multiplier_small p ((k - pairs d) % d.set_rows)) (omega arith))
+      (cond_small limit (eqb ((k - pairs d) / d.set_rows) i) (multiplier_entry d p ((k - pairs d) % d.set_rows))
+      (pos 0) (multiplier_small p ((k - pairs d) % d.set_rows)) (omega arith))
 
   right_small : (i p : ℕ) → nat_abs (right_entry d i p) ≤ limit
   right_small i p =
       cond_small limit (ltb p (d.set_columns + d.set_columns)) (turned p (entry d i (p / 2) 0)) (neg_ℤ (d.form i 0 0))
-      (turned_small limit p (entry d i (p / 2) 0) (entry_small i (p / 2) 0)) (negated_within limit (d.form i 0 0) (forms i 0 0))
+      (turned_small limit p (entry d i (p / 2) 0) (entry_small i (p / 2) 0))
+      (negated_within limit (d.form i 0 0) (forms i 0 0))
 
   cost_small : (k : ℕ) → nat_abs (tau_cost d k) ≤ limit
-  cost_small k = cond_small limit (eqb (k / 2) d.decisions) (turned k d.sense) (pos 0) (turned_small limit k d.sense sense) (omega arith)
+  cost_small k = cond_small limit (eqb (k / 2) d.decisions) (turned k d.sense) (pos 0)
+      (turned_small limit k d.sense sense) (omega arith)
 
   pub reform_within : (lp : Lp) → IsListed (reform d) lp → HasNumbersWithin limit lp
-  reform_within lp h = listed_within (reform d) lp h limit (λ t k. row_small (t / block d) (t % block d) k) (λ t. right_small (t / block d) (t % block d)) cost_small
+  reform_within lp h = listed_within (reform d) lp h limit (λ t k. row_small (t / block d) (t % block d) k)
+      (λ t. right_small (t / block d) (t % block d)) cost_small
 
 -- ---- a row by its columns
 behind_plan : (d : RobustProgram) (i p k : ℕ) → pairs d ≤ k
-    → row_entry d i p k ≡ cond (eqb ((k - pairs d) / d.set_rows) i) (multiplier_entry d p ((k - pairs d) % d.set_rows)) (pos 0)
-behind_plan d i p k l = where_not_less k (pairs d) (turned k (plan_entry d i p (k / 2))) (cond (eqb ((k - pairs d) / d.set_rows) i) (multiplier_entry d p ((k - pairs d) % d.set_rows)) (pos 0)) l
+    → row_entry d i p k ≡ cond (eqb ((k - pairs d) / d.set_rows) i)
+    (multiplier_entry d p ((k - pairs d) % d.set_rows)) (pos 0)
+behind_plan d i p k l = where_not_less k (pairs d) (turned k (plan_entry d i p (k / 2)))
+    (cond (eqb ((k - pairs d) / d.set_rows) i) (multiplier_entry d p ((k - pairs d) % d.set_rows)) (pos 0)) l
 
-pub in_multipliers : (d : RobustProgram) (i p k : ℕ) → pairs d + (i * d.set_rows) ≤ k → k < (pairs d + (i * d.set_rows)) + d.set_rows
+pub in_multipliers : (d : RobustProgram) (i p k : ℕ) → pairs d + (i * d.set_rows) ≤ k
+    → k < (pairs d + (i * d.set_rows)) + d.set_rows
     → row_entry d i p k ≡ multiplier_entry d p (k - (pairs d + (i * d.set_rows)))
 in_multipliers d i p k low high =
     let r : ℕ = k - (pairs d + (i * d.set_rows)) in
     let e : k - pairs d ≡ (i * d.set_rows) + (k - (pairs d + (i * d.set_rows))) = omega arith in
     let l : k - (pairs d + (i * d.set_rows)) < d.set_rows = omega arith in
     behind_plan d i p k (omega arith)
-    ∙ where_same ((k - pairs d) / d.set_rows) i (multiplier_entry d p ((k - pairs d) % d.set_rows)) (pos 0) (ap (λ v. v / d.set_rows) e ∙ div-mul-add i d.set_rows (k - (pairs d + (i * d.set_rows))) l)
-    ∙ ap (multiplier_entry d p) (ap (λ v. v % d.set_rows) e ∙ mod-mul-add i d.set_rows (k - (pairs d + (i * d.set_rows))) l)
+    ∙ where_same ((k - pairs d) / d.set_rows) i (multiplier_entry d p ((k - pairs d) % d.set_rows)) (pos 0)
+    (ap (λ v. v / d.set_rows) e ∙ div-mul-add i d.set_rows (k - (pairs d + (i * d.set_rows))) l)
+    ∙ ap (multiplier_entry d p) (ap (λ v. v % d.set_rows) e ∙ mod-mul-add i d.set_rows
+    (k - (pairs d + (i * d.set_rows))) l)
 
 pub outside_multipliers : (d : RobustProgram) (i p k : ℕ) → pairs d ≤ k → k < pairs d + (d.forms * d.set_rows)
     → (k < pairs d + (i * d.set_rows)) ⊎ ((pairs d + (i * d.set_rows)) + d.set_rows ≤ k) → row_entry d i p k ≡ pos 0
 outside_multipliers d i p k low high out =
-    let g : (h : ℕ) × (r : ℕ) × (h < d.forms) × (r < d.set_rows) × (k - pairs d ≡ (h * d.set_rows) + r) = at_block d.forms d.set_rows (k - pairs d) (omega arith) in
+    let g : (h : ℕ) × (r : ℕ) × (h < d.forms) × (r < d.set_rows) × (k - pairs d ≡ (h * d.set_rows) + r) =
+    at_block d.forms d.set_rows (k - pairs d) (omega arith) in
     let e : k - pairs d ≡ (g.0 * d.set_rows) + g.1 = g.4 in
     let l : g.1 < d.set_rows = g.3 in
     let other : ((k - pairs d) / d.set_rows) ≢ i = (λ f.

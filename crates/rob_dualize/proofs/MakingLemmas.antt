@@ -58,18 +58,24 @@ module _ {limit : ℕ} (forms : Forms) (set : SetForm) (one : AreElaborated limi
   -- its program has as few rows and columns
   pub set_of_few : IsFew (counterpart_of forms set) → IsFewSet set
   set_of_few few =
-      let u : block (wholes forms set) ≤ length forms.matrices * block (wholes forms set) = one_block (length forms.matrices) (block (wholes forms set)) some_form in
-      let v : length set.rows ≤ length forms.matrices * length set.rows = one_block (length forms.matrices) (length set.rows) some_form in
+      let u : block (wholes forms set) ≤ length forms.matrices * block (wholes forms set) =
+      one_block (length forms.matrices) (block (wholes forms set)) some_form in
+      let v : length set.rows ≤ length forms.matrices * length set.rows =
+      one_block (length forms.matrices) (length set.rows) some_form in
       omega (arith, few)
 
 -- of each pair of the set's point one number is 0
-pub set_pairs : (d : RobustProgram) (s : Solver) → HasLastPoint (set_of d) s → (c : ℕ) → c < d.set_columns → OneIsZero (point_of s (plus c)) (point_of s (minus c))
+pub set_pairs : (d : RobustProgram) (s : Solver) → HasLastPoint (set_of d) s → (c : ℕ) → c < d.set_columns
+    → OneIsZero (point_of s (plus c)) (point_of s (minus c))
 set_pairs d s h c l =
-    point_opposite (set_of d) (plus c) (minus c) (set_pair d (λ k. pos 0) (set_of d) (over_set_is d (λ k. pos 0)) (cost_is d (λ k. pos 0)) c l)
-    (own_of (system_of (set_of d)) (columns_of s.basis)) (entries s) (last_basis (set_of d) s h) (point_of s) (last_point (set_of d) s h)
+    point_opposite (set_of d) (plus c) (minus c) (set_pair d (λ k. pos 0) (set_of d) (over_set_is d (λ k. pos 0))
+    (cost_is d (λ k. pos 0)) c l)
+    (own_of (system_of (set_of d)) (columns_of s.basis)) (entries s) (last_basis (set_of d) s h) (point_of s)
+    (last_point (set_of d) s h)
 
 -- ---- the answer of a solver
-pub has_ended : (N : Type 0) (Q : Program) (solver : Solver) (kind : LpKind) → IsSolvedAs {N = N} Q (record { solver = solver; kind = kind }) → HasEnded Q kind solver
+pub has_ended : (N : Type 0) (Q : Program) (solver : Solver) (kind : LpKind)
+    → IsSolvedAs {N = N} Q (record { solver = solver; kind = kind }) → HasEnded Q kind solver
 has_ended N Q solver kind h = record {
   program = h.program;
   same = h.same;
@@ -96,13 +102,15 @@ module _ (forms : Forms) (set : SetForm) (m : RobustModel) (f : IsForms m forms)
   same_wholes : wholes forms set ≡ robust_of m
   same_wholes = wholes_are m forms set f st
 
-  pub counterpart_ended : (k : LpKind) (s : Solver) → HasEnded (counterpart_of forms set) k s → HasEnded (counterpart m) k s
+  pub counterpart_ended : (k : LpKind) (s : Solver) → HasEnded (counterpart_of forms set) k s
+      → HasEnded (counterpart m) k s
   counterpart_ended k s = subst (λ (q : RobustProgram). HasEnded (reform q) k s) same_wholes
 
   pub counterpart_few : IsFew (counterpart_of forms set) → IsFew (counterpart m)
   counterpart_few = subst (λ (q : RobustProgram). IsFew (reform q)) same_wholes
 
-  pub read_same : (inside : List Fraction) (k : LpKind) (s : Solver) → read_from (wholes forms set) inside k s ≡ read_from (robust_of m) inside k s
+  pub read_same : (inside : List Fraction) (k : LpKind) (s : Solver)
+      → read_from (wholes forms set) inside k s ≡ read_from (robust_of m) inside k s
   read_same inside k s = ap (λ (q : RobustProgram). read_from q inside k s) same_wholes
 
   pub counterpart_refused : (limit : ℕ) (now : Solver) (stop : LpStop)

@@ -31,7 +31,8 @@ module _ (limit : ℕ) (m : RobustModel) where
   stop_of_route (Wide spot trace) w h = (inr (w, h.0), h.1)
   stop_of_route Memory w h = tt
 
-  pub cause_of_route : {T : Type 0} (r : Result T Stop) → IsWritten limit m → IfErr r (HasCause limit m) → IfErr r (HasModelCause limit m)
+  pub cause_of_route : {T : Type 0} (r : Result T Stop) → IsWritten limit m → IfErr r (HasCause limit m)
+      → IfErr r (HasModelCause limit m)
   cause_of_route (Ok x) w h = tt
   cause_of_route (Err stop) w h = stop_of_route stop w h
 
@@ -43,7 +44,8 @@ module _ (before between now : ℕ) (least : before ≤ between) where
       let g : max before (min (before + 1) (2 ^ 64 - 1)) ≤ now = omega arith in
       g
 
-  pub refused_counted_behind : (e : ElabErr) (stop : Stop) → writing.RoseIfWide between now e → IsRefusal e stop → RoseIfStopped before now stop
+  pub refused_counted_behind : (e : ElabErr) (stop : Stop) → writing.RoseIfWide between now e → IsRefusal e stop
+      → RoseIfStopped before now stop
   refused_counted_behind e (EmptySet weights) rose is = tt
   refused_counted_behind (refused.Wide spot) (Wide place trace) rose is = rose_wider before between now least rose
   refused_counted_behind refused.Memory (Wide place trace) rose is = cc
@@ -54,7 +56,8 @@ module _ (before between now : ℕ) (least : before ≤ between) where
   stop_counted_behind (Wide spot trace) h = rose_raised h
   stop_counted_behind Memory h = tt
 
-  pub route_counted_behind : {T : Type 0} (r : Result T Stop) → MatchResult r (λ _. now ≡ between) (CountsStop between now)
+  pub route_counted_behind : {T : Type 0} (r : Result T Stop)
+      → MatchResult r (λ _. now ≡ between) (CountsStop between now)
       → IfErr r (RoseIfStopped before now)
   route_counted_behind (Ok x) h = tt
   route_counted_behind (Err stop) h = stop_counted_behind stop h

@@ -46,7 +46,8 @@ numbers_sized a lp s h =
           let width : length (get_or lp.a k d) ≡ length lp.c = s.columns k d kl in
           entry_within a (get_or lp.a k d)
           (λ j jl.
-          subst (λ row. unsigned_abs (at row j) ≤ a) (get_or_default lp.a k [] d kl) (h.left k j (omega arith) (omega arith)));
+          subst (λ row. unsigned_abs (at row j) ≤ a) (get_or_default lp.a k [] d kl)
+          (h.left k j (omega arith) (omega arith)));
       b = entry_within a lp.b h.right;
       c = entry_within a lp.c h.cost;
     }
@@ -64,7 +65,8 @@ sized_same a P Q s h =
     let height : P.m ≡ Q.m = s.height in
     let width : P.n ≡ Q.n = s.width in
     record {
-      left = λ i j il jl. subst (λ v. unsigned_abs v ≤ a) (s.rows i j (omega arith) (omega arith)) (h.left i j (omega arith) (omega arith));
+      left = λ i j il jl. subst (λ v. unsigned_abs v ≤ a) (s.rows i j (omega arith) (omega arith))
+          (h.left i j (omega arith) (omega arith));
       right = λ i l. subst (λ v. unsigned_abs v ≤ a) (s.rights i (omega arith)) (h.right i (omega arith));
       cost = λ j l. subst (λ v. unsigned_abs v ≤ a) (s.costs j (omega arith)) (h.cost j (omega arith));
     }
@@ -76,7 +78,8 @@ greatest_same a P Q s g = record {
   least = λ h p o. g.least h p (sized_same h Q P (same_back P Q s) o);
 }
 
-pub told_same : (limit : ℕ) (P Q : Program) (told : RowBound) → AreSame P Q → TellsBound limit P told → TellsBound limit Q told
+pub told_same : (limit : ℕ) (P Q : Program) (told : RowBound) → AreSame P Q → TellsBound limit P told
+    → TellsBound limit Q told
 told_same limit P Q told s h = record {
   rows = h.rows ∙ s.height;
   greatest = greatest_same told.greatest P Q s h.greatest;
@@ -109,18 +112,25 @@ told_of limit most a rows lp answer e s g r h = record {
 }
 
 -- ---- narrow programs
-pub narrow_of_bound : (limit : ℕ) (P : Program) (told : RowBound) → TellsBound limit P told → told.bound ≢ None → IsNarrow limit P
+pub narrow_of_bound : (limit : ℕ) (P : Program) (told : RowBound) → TellsBound limit P told → told.bound ≢ None
+    → IsNarrow limit P
 narrow_of_bound limit P told h some =
     elim (cases_lt limit (row_bound P.m told.greatest)) [
       | inl l ↦ absurd (some (h.bound ∙ up_to_high limit (row_bound P.m told.greatest) l))
-      | inr l ↦ record { size = told.greatest; positive = h.greatest.positive; sized = h.greatest.sized; bound = omega arith }
+      | inr l ↦ record {
+        size = told.greatest;
+        positive = h.greatest.positive;
+        sized = h.greatest.sized;
+        bound = omega arith;
+      }
     ]
 
 -- greater numbers have no smaller bound
 row_bound_up : (m a b : ℕ) → a ≤ b → row_bound m a ≤ row_bound m b
 row_bound_up m a b l = pow-le-pow_left (mul-le-mul_left (suc m) l) (suc m)
 
-pub bound_of_narrow : (limit : ℕ) (P : Program) (told : RowBound) → TellsBound limit P told → IsNarrow limit P → told.bound ≢ None
+pub bound_of_narrow : (limit : ℕ) (P : Program) (told : RowBound) → TellsBound limit P told → IsNarrow limit P
+    → told.bound ≢ None
 bound_of_narrow limit P told h n none =
     let size : told.greatest ≤ n.size = h.greatest.least n.size n.positive n.sized in
     let up : row_bound P.m told.greatest ≤ row_bound P.m n.size = row_bound_up P.m told.greatest n.size size in
@@ -130,7 +140,8 @@ bound_of_narrow limit P told h n none =
     cc
 
 -- ---- the two programs of a model
-pub both_narrow : (limit : ℕ) (m : RobustModel) (told : ModelBounds) → TellsBounds limit m told → AreBothWithin told ↔ IsNarrowModel limit m
+pub both_narrow : (limit : ℕ) (m : RobustModel) (told : ModelBounds) → TellsBounds limit m told
+    → AreBothWithin told ↔ IsNarrowModel limit m
 both_narrow limit m told h = (
   λ both. record {
     set = narrow_of_bound limit (set_program m) told.set h.set both.0;
@@ -148,5 +159,6 @@ pub told_of_model : (limit : ℕ) (m : RobustModel) (forms : Forms) (set : SetFo
     → TellsBounds limit m (record { set = of_set; counterpart = of_counterpart })
 told_of_model limit m forms set f st of_set of_counterpart h k = record {
   set = told_same limit (program_of_set set) (set_program m) of_set (set_same m set st) h;
-  counterpart = subst (λ (q : RobustProgram). TellsBound limit (reform q) of_counterpart) (wholes_are m forms set f st) k;
+  counterpart = subst (λ (q : RobustProgram). TellsBound limit (reform q) of_counterpart)
+      (wholes_are m forms set f st) k;
 }

@@ -56,11 +56,17 @@ same_trans P Q R h k =
 
 -- ---- the program that is made
 -- numbers within a limit are within a greater one
-numbers_weaker : (limit bigger : ℕ) (xs : List ℤ) → limit ≤ bigger → Each (λ a. nat_abs a ≤ limit) xs → Each (λ a. nat_abs a ≤ bigger) xs
+numbers_weaker : (limit bigger : ℕ) (xs : List ℤ) → limit ≤ bigger → Each (λ a. nat_abs a ≤ limit) xs
+    → Each (λ a. nat_abs a ≤ bigger) xs
 numbers_weaker limit bigger [] l h = tt
-numbers_weaker limit bigger (x ∷ xs) l h = (let k : nat_abs x ≤ limit = h.0 in omega arith, numbers_weaker limit bigger xs l h.1)
+numbers_weaker limit bigger (x ∷ xs) l h = (
+  let k : nat_abs x ≤ limit = h.0 in
+      omega arith,
+  numbers_weaker limit bigger xs l h.1,
+)
 
-pub fits_weaker : (limit bigger : ℕ) (rows : List SetRow) → limit ≤ bigger → Each (RowFits limit) rows → Each (RowFits bigger) rows
+pub fits_weaker : (limit bigger : ℕ) (rows : List SetRow) → limit ≤ bigger → Each (RowFits limit) rows
+    → Each (RowFits bigger) rows
 fits_weaker limit bigger [] l h = tt
 fits_weaker limit bigger (x ∷ rows) l h = (
   record {
@@ -70,18 +76,21 @@ fits_weaker limit bigger (x ∷ rows) l h = (
   fits_weaker limit bigger rows l h.1,
 )
 
-pub set_is_few : (set : SetForm) (lp : Lp) → IsOverRobust (robust_set set) (program_of lp) → IsFewSet set → length lp.c + length lp.b < 2 ^ 31
+pub set_is_few : (set : SetForm) (lp : Lp) → IsOverRobust (robust_set set) (program_of lp) → IsFewSet set
+    → length lp.c + length lp.b < 2 ^ 31
 set_is_few set lp h few =
     let b : length lp.b ≡ length set.rows = h.over_set.height in
     let c : length lp.c ≡ set.columns + set.columns = h.over_set.width in
     omega arith
 
-pub set_made : (set : SetForm) (lp : Lp) → IsOverRobust (robust_set set) (program_of lp) → AreSame (program_of lp) (program_of_set set)
+pub set_made : (set : SetForm) (lp : Lp) → IsOverRobust (robust_set set) (program_of lp)
+    → AreSame (program_of lp) (program_of_set set)
 set_made set lp h = over_set_same (robust_set set) (λ c. pos 0) (program_of lp) h.over_set h.cost
 
 -- ---- its solver
 module _ (N : Type 0) (Q : Program) (now : Solver) where
-  pub solved_at_optimum : (k : LpKind) → k ≡ kind.Optimal → IsSolvedAs {N = N} Q (record { solver = now; kind = k }) → IsSolved Q now
+  pub solved_at_optimum : (k : LpKind) → k ≡ kind.Optimal → IsSolvedAs {N = N} Q (record { solver = now; kind = k })
+      → IsSolved Q now
   solved_at_optimum k e h =
       let o : IsOptimumOf h.program now = subst (λ (t : LpKind). HasSolved h.program t now) e h.answer.answer in
       let a : HasAnswered kind.Optimal now = subst (λ (t : LpKind). HasAnswered t now) e h.answer.answered in
@@ -92,7 +101,8 @@ module _ (N : Type 0) (Q : Program) (now : Solver) where
         columns = h.answer.columns;
       }
 
-  pub solved_at_ray : (k : LpKind) → k ≡ kind.Unbounded → IsSolvedAs {N = N} Q (record { solver = now; kind = k }) → IsSolved Q now
+  pub solved_at_ray : (k : LpKind) → k ≡ kind.Unbounded → IsSolvedAs {N = N} Q (record { solver = now; kind = k })
+      → IsSolved Q now
   solved_at_ray k e h =
       let o : IsRayOf h.program now = subst (λ (t : LpKind). HasSolved h.program t now) e h.answer.answer in
       let a : HasAnswered kind.Unbounded now = subst (λ (t : LpKind). HasAnswered t now) e h.answer.answered in
@@ -104,9 +114,12 @@ module _ (N : Type 0) (Q : Program) (now : Solver) where
       }
 
 -- an answer of a solver that was made of the set's program
-pub answer_of_set : (N : Type 0) (set : SetForm) (lp : Lp) → IsOverRobust (robust_set set) (program_of lp) → (made now : Solver) → IsMadeFor (program_of lp) made
-    → now.columns ≡ made.columns → positions now ≡ positions made → (k : LpKind) → HasSolved (program_of lp) k now → HasAnswered k now
-    → (HasPoint now → CanResume (program_of lp) now) → IsSolvedAs {N = N} (program_of_set set) (record { solver = now; kind = k })
+pub answer_of_set : (N : Type 0) (set : SetForm) (lp : Lp) → IsOverRobust (robust_set set) (program_of lp)
+    → (made now : Solver) → IsMadeFor (program_of lp) made
+    → now.columns ≡ made.columns → positions now ≡ positions made → (k : LpKind) → HasSolved (program_of lp) k now
+    → HasAnswered k now
+    → (HasPoint now → CanResume (program_of lp) now) → IsSolvedAs {N = N} (program_of_set set)
+    (record { solver = now; kind = k })
 answer_of_set N set lp over made now m columns rows k s a r = record {
   program = program_of lp;
   same = set_made set lp over;
@@ -114,13 +127,15 @@ answer_of_set N set lp over made now m columns rows k s a r = record {
 }
 
 -- of each pair of the point of the set's program one number is 0
-pub solved_pairs : (set : SetForm) (s : Solver) → HasLastPoint (program_of_set set) s → (c : ℕ) → c < set.columns → OneIsZero (point_of s (plus c)) (point_of s (minus c))
+pub solved_pairs : (set : SetForm) (s : Solver) → HasLastPoint (program_of_set set) s → (c : ℕ) → c < set.columns
+    → OneIsZero (point_of s (plus c)) (point_of s (minus c))
 solved_pairs set s h c l = set_pairs (robust_set set) s h c l
 
 -- ---- of a model
 module _ (m : RobustModel) (set : SetForm) (is : IsSetForm m set) where
   pub set_same : AreSame (program_of_set set) (set_program m)
-  set_same = same_program m set is (program_of_set set) (record { over_set = over_set_is (robust_set set) (λ c. pos 0); cost = cost_is (robust_set set) (λ c. pos 0) })
+  set_same = same_program m set is (program_of_set set) (record
+      { over_set = over_set_is (robust_set set) (λ c. pos 0); cost = cost_is (robust_set set) (λ c. pos 0) })
 
   pub of_model : (P : Program) → AreSame P (program_of_set set) → AreSame P (set_program m)
   of_model P h = same_trans P (program_of_set set) (set_program m) h set_same
@@ -129,16 +144,32 @@ module _ (m : RobustModel) (set : SetForm) (is : IsSetForm m set) where
   rows_count = ap length is.rows ∙ length-map (set_rows m) (cleared_row m)
 
   pub last_of_model : (s : Solver) → HasLastPoint (program_of_set set) s → HasLastPoint (set_program m) s
-  last_of_model s h = record { program = h.program; same = of_model h.program h.same; point = h.point; feasible = h.feasible }
+  last_of_model s h = record {
+    program = h.program;
+    same = of_model h.program h.same;
+    point = h.point;
+    feasible = h.feasible;
+  }
 
-  pub solved_scenario : IsModel m → (s : Solver) → IsSolved (program_of_set set) s → Admits m (scenario_read m (point_of s)) × IsLastScenario m (scenario_read m (point_of s))
+  pub solved_scenario : IsModel m → (s : Solver) → IsSolved (program_of_set set) s
+      → Admits m (scenario_read m (point_of s)) × IsLastScenario m (scenario_read m (point_of s))
   solved_scenario model s h = scenario_found m model s (last_of_model s h.last)
 
   -- ---- refusals
-  ended_of_model : (s : Solver) → HasEnded (program_of_set set) kind.Infeasible s → HasEnded (set_program m) kind.Infeasible s
-  ended_of_model s h = record { program = h.program; same = of_model h.program h.same; rows = h.rows; columns = h.columns; solved = h.solved; answered = h.answered }
+  ended_of_model : (s : Solver) → HasEnded (program_of_set set) kind.Infeasible s
+      → HasEnded (set_program m) kind.Infeasible s
+  ended_of_model s h = record {
+    program = h.program;
+    same = of_model h.program h.same;
+    rows = h.rows;
+    columns = h.columns;
+    solved = h.solved;
+    answered = h.answered;
+  }
 
-  pub empty_cause : (limit : ℕ) → IsModel m → (s : Solver) → HasEnded (program_of_set set) kind.Infeasible s → (n : ℕ) (stop : Stop) → n ≡ length set.rows → TellsWeights limit n (weights_of s) stop → HasSetCause limit m stop
+  pub empty_cause : (limit : ℕ) → IsModel m → (s : Solver) → HasEnded (program_of_set set) kind.Infeasible s
+      → (n : ℕ) (stop : Stop) → n ≡ length set.rows → TellsWeights limit n (weights_of s) stop
+      → HasSetCause limit m stop
   empty_cause limit model s h n (EmptySet weights) e w = record {
     shown = weights_told m model s (ended_of_model s h) weights n w.0 (e ∙ rows_count);
     fits = w.1;
@@ -146,13 +177,15 @@ module _ (m : RobustModel) (set : SetForm) (is : IsSetForm m set) where
   empty_cause limit model s h n (Wide place trace) e w = absurd w
   empty_cause limit model s h n Memory e w = tt
 
-  wide_cause : (limit : ℕ) (stop : Stop) (basis : List ℕ) (p : ℕ) → StopsAt basis named.Set p stop → IsRefusedAt limit (set_program m) basis p → HasSetCause limit m stop
+  wide_cause : (limit : ℕ) (stop : Stop) (basis : List ℕ) (p : ℕ) → StopsAt basis named.Set p stop
+      → IsRefusedAt limit (set_program m) basis p → HasSetCause limit m stop
   wide_cause limit (EmptySet weights) basis p h w = absurd h
   wide_cause limit (Wide place trace) basis p h w = (subst (IsWideInSet limit m) (sym h.0) w, h.1)
   wide_cause limit Memory basis p h w = tt
 
   pub stopped_cause : (limit : ℕ) (now : Solver) (lp_stop : LpStop) → IsStoppedAt limit (program_of_set set) now lp_stop
-      → (p : ℕ) → p ≡ position_of lp_stop → (stop : Stop) → StopsAt now.basis named.Set p stop → HasSetCause limit m stop
+      → (p : ℕ) → p ≡ position_of lp_stop → (stop : Stop) → StopsAt now.basis named.Set p stop
+      → HasSetCause limit m stop
   stopped_cause limit now lp_stop h p e stop at =
       wide_cause limit stop now.basis p at
       (subst (λ (k : ℕ). IsRefusedAt limit (set_program m) now.basis k) (sym e)
@@ -162,7 +195,8 @@ pub memory_set_cause : (limit : ℕ) (m : RobustModel) (stop : Stop) → stop �
 memory_set_cause limit m stop e = subst (HasSetCause limit m) (sym e) tt
 
 -- ---- counts
-pub weights_counted : (limit before now n : ℕ) (s : Solver) (stop : Stop) → now ≡ before → TellsWeights limit n (weights_of s) stop → CountsStop before now stop
+pub weights_counted : (limit before now n : ℕ) (s : Solver) (stop : Stop) → now ≡ before
+    → TellsWeights limit n (weights_of s) stop → CountsStop before now stop
 weights_counted limit before now n s (EmptySet weights) e h = e
 weights_counted limit before now n s (Wide place trace) e h = absurd h
 weights_counted limit before now n s Memory e h = omega arith

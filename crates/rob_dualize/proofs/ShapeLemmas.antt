@@ -33,7 +33,8 @@ items_few : (is : List Item) → length (items_kept is) ≤ length is
 items_few [] = omega arith
 items_few (i ∷ is) = by (all_zero (i.base ∷ i.vector)) (items_few is)
   where
-    by : (v : Bool) → length (items_kept is) ≤ length is → length (if v then items_kept is else i ∷ items_kept is) ≤ suc (length is)
+    by : (v : Bool) → length (items_kept is) ≤ length is → length (if v then items_kept is else i ∷ items_kept is) ≤
+        suc (length is)
     by true h = omega arith
     by false h = omega arith
 
@@ -43,7 +44,8 @@ module _ (d : RobustProgram) (x : ℕ → Fraction) where
   covers_inside n =
       kept_each (λ (c : Cover). (c.form < n) × (c.set_row < d.set_rows)) (concat (tabulate n (covers_at d x)))
       (each_concat (λ (c : Cover). (c.form < n) × (c.set_row < d.set_rows)) n (covers_at d x)
-      (λ i l. each_tabulate (λ (c : Cover). (c.form < n) × (c.set_row < d.set_rows)) d.set_rows (cover_at d x i) (λ r rl. (l, rl))))
+      (λ i l. each_tabulate (λ (c : Cover). (c.form < n) × (c.set_row < d.set_rows)) d.set_rows (cover_at d x i)
+      (λ r rl. (l, rl))))
 
   pub covers_nonzero : (n : ℕ) → Each (λ (c : Cover). c.amount ≢ 0ℚ) (covers_to d n x)
   covers_nonzero n = kept_nonzero (concat (tabulate n (covers_at d x)))
@@ -51,21 +53,26 @@ module _ (d : RobustProgram) (x : ℕ → Fraction) where
   pub covers_ordered : (n : ℕ) → InOrder IsBefore (covers_to d n x)
   covers_ordered n =
       kept_ordered (concat (tabulate n (covers_at d x)))
-      (ordered_concat n (covers_at d x) (λ i l. ordered_tabulate IsBefore d.set_rows (cover_at d x i) (λ j k jk kl. inr (refl, jk)))
+      (ordered_concat n (covers_at d x) (λ i l. ordered_tabulate IsBefore d.set_rows (cover_at d x i)
+      (λ j k jk kl. inr (refl, jk)))
       (λ j k jk kl. each_tabulate (λ c. Each (IsBefore c) (covers_at d x k)) d.set_rows (cover_at d x j)
       (λ r rl. each_tabulate (IsBefore (cover_at d x j r)) d.set_rows (cover_at d x k) (λ q ql. inl jk))))
 
   pub items_inside : (n : ℕ) → Each (λ (i : Item). (i.form < n) × (length i.vector ≡ d.parameters)) (items_to d n x)
   items_inside n =
       items_each (λ (i : Item). (i.form < n) × (length i.vector ≡ d.parameters)) (tabulate n (item_at d x))
-      (each_tabulate (λ (i : Item). (i.form < n) × (length i.vector ≡ d.parameters)) n (item_at d x) (λ i l. (l, vector_length i)))
+      (each_tabulate (λ (i : Item). (i.form < n) × (length i.vector ≡ d.parameters)) n (item_at d x)
+      (λ i l. (l, vector_length i)))
     where
       vector_length : (i : ℕ) → length (vector_at d x i) ≡ d.parameters
       vector_length i = length-tabulate d.parameters (λ c. x (negative_row d i c) -ℚ x (positive_row d i c))
 
   pub items_in_order : (n : ℕ) → InOrder (λ (a b : Item). a.form ≤ b.form) (items_to d n x)
   items_in_order n =
-      items_ordered (λ (a b : Item). a.form ≤ b.form) (tabulate n (item_at d x)) (ordered_tabulate (λ (a b : Item). a.form ≤ b.form) n (item_at d x) (λ j k jk kl. omega arith))
+      items_ordered (λ (a b : Item). a.form ≤ b.form) (tabulate n (item_at d x))
+      (ordered_tabulate (λ (a b : Item). a.form ≤ b.form) n (item_at d x) (λ j k jk kl. omega arith))
 
   pub items_count : (n : ℕ) → length (items_to d n x) ≤ n
-  items_count n = let e : length (tabulate n (item_at d x)) ≡ n = length-tabulate n (item_at d x) in let f : length (items_kept (tabulate n (item_at d x))) ≤ length (tabulate n (item_at d x)) = items_few (tabulate n (item_at d x)) in omega arith
+  items_count n = let e : length (tabulate n (item_at d x)) ≡ n = length-tabulate n (item_at d x) in
+      let f : length (items_kept (tabulate n (item_at d x))) ≤ length (tabulate n (item_at d x)) =
+      items_few (tabulate n (item_at d x)) in omega arith

@@ -24,7 +24,8 @@ times_low a k b l =
     let f : k * b ≡ (a + (k - a)) * b = ap (λ v. v * b) e in
     omega arith
 
-pub few_within_limits : (m : RobustModel) (all : Forms) (set : SetForm) → IsWithinLimits m → IsForms m all → IsSetForm m set → IsFew (counterpart_of all set)
+pub few_within_limits : (m : RobustModel) (all : Forms) (set : SetForm) → IsWithinLimits m → IsForms m all
+    → IsSetForm m set → IsFew (counterpart_of all set)
 few_within_limits m all set limits f st =
     let n : length all.matrices ≡ length (forms m) = ap length f.matrices ∙ length-map (forms m) (matrix_of m) in
     let some : length all.matrices ≤ 5000 = omega (arith, kind_few m limits Form, length-form_names m) in
@@ -32,6 +33,8 @@ few_within_limits m all set limits f st =
     let rows : length set.rows ≤ 5000 = omega (arith, kind_few m limits SetRow, length-set_row_names m) in
     let columns : set.columns ≤ 160 = omega (arith, st.columns, limits.parameters, limits.members) in
     let decisions : all.columns ≤ 600 = omega (arith, f.columns, limits.columns) in
-    let u : length all.matrices * length set.rows ≤ 5000 * length set.rows = times_low (length all.matrices) 5000 (length set.rows) some in
-    let v : length all.matrices * block (wholes all set) ≤ 5000 * block (wholes all set) = times_low (length all.matrices) 5000 (block (wholes all set)) some in
+    let u : length all.matrices * length set.rows ≤ 5000 * length set.rows =
+    times_low (length all.matrices) 5000 (length set.rows) some in
+    let v : length all.matrices * block (wholes all set) ≤ 5000 * block (wholes all set) =
+    times_low (length all.matrices) 5000 (block (wholes all set)) some in
     omega arith

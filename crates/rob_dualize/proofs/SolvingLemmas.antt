@@ -55,19 +55,26 @@ rises n = omega arith
 
 -- ---- a wide row
 -- the stop names a row of the basis
-pub stops_at : (basis columns : List ℕ) (program : Named) (i : ℕ) (stop : Stop) → columns ≡ basis → IsWideStop (spot.Dictionary program columns i) stop
+pub stops_at : (basis columns : List ℕ) (program : Named) (i : ℕ) (stop : Stop) → columns ≡ basis
+    → IsWideStop (spot.Dictionary program columns i) stop
     → StopsAt basis program i stop
 stops_at basis columns program i stop e h =
     subst (StopsAt basis program i) (sym h) (ap (λ b. spot.Dictionary program b i) e, refl)
 
 module _ (limit : ℕ) (m : RobustModel) where
-  pub wide_in_counterpart : (basis : List ℕ) (i : ℕ) (stop : Stop) (scenario : List Fraction) → Admits m scenario → IsRefusedAt limit (counterpart m) basis i
+  pub wide_in_counterpart : (basis : List ℕ) (i : ℕ) (stop : Stop) (scenario : List Fraction) → Admits m scenario
+      → IsRefusedAt limit (counterpart m) basis i
       → StopsAt basis named.Reform i stop → HasCause limit m stop
   wide_in_counterpart basis i (EmptySet weights) u a w h = absurd h
-  wide_in_counterpart basis i (Wide place trace) u a w h = (subst (λ (p : Spot). IsWideOnPath limit m p) (sym h.0) ((u, a), w), h.1)
+  wide_in_counterpart basis i (Wide place trace) u a w h = (
+    subst (λ (p : Spot). IsWideOnPath limit m p) (sym h.0)
+        ((u, a), w),
+    h.1,
+  )
   wide_in_counterpart basis i Memory u a w h = tt
 
-pub wide_counted : (before now : ℕ) (basis : List ℕ) (program : Named) (i : ℕ) (stop : Stop) → now ≡ raised before → StopsAt basis program i stop → CountsStop before now stop
+pub wide_counted : (before now : ℕ) (basis : List ℕ) (program : Named) (i : ℕ) (stop : Stop) → now ≡ raised before
+    → StopsAt basis program i stop → CountsStop before now stop
 wide_counted before now basis program i (EmptySet weights) e h = absurd h
 wide_counted before now basis program i (Wide place trace) e h = e
 wide_counted before now basis program i Memory e h = subst (λ n. before ≤ n) (sym e) (rises before)
@@ -83,11 +90,14 @@ refused_cause limit m stop e = subst (HasCause limit m) (sym e) tt
 
 -- ---- narrow models
 pub narrow_spot : (limit : ℕ) (m : RobustModel) (place : Spot) → IsNarrowModel limit m → ¬ (IsWideOnPath limit m place)
-narrow_spot limit m (spot.Dictionary named.Set basis i) n w = narrow_path limit (set_program m) n.set (columns_of basis) i w.0.row
-narrow_spot limit m (spot.Dictionary named.Reform basis i) n w = narrow_path limit (counterpart m) n.counterpart (columns_of basis) i w.1.0.row
+narrow_spot limit m (spot.Dictionary named.Set basis i) n w =
+    narrow_path limit (set_program m) n.set (columns_of basis) i w.0.row
+narrow_spot limit m (spot.Dictionary named.Reform basis i) n w =
+    narrow_path limit (counterpart m) n.counterpart (columns_of basis) i w.1.0.row
 narrow_spot limit m other n w = absurd w
 
-pub narrow_stop : (limit : ℕ) (m : RobustModel) (stop : Stop) → HasCause limit m stop → IsNarrowModel limit m → IsNotWide stop
+pub narrow_stop : (limit : ℕ) (m : RobustModel) (stop : Stop) → HasCause limit m stop → IsNarrowModel limit m
+    → IsNotWide stop
 narrow_stop limit m (EmptySet weights) h n = tt
 narrow_stop limit m (Wide place trace) h n = narrow_spot limit m place n h.0
 narrow_stop limit m Memory h n = tt
@@ -101,7 +111,8 @@ narrow_same limit P Q s n =
       size = n.size;
       positive = n.positive;
       sized = record {
-        left = λ i j il jl. subst (λ v. unsigned_abs v ≤ n.size) (s.rows i j (omega arith) (omega arith)) (n.sized.left i j (omega arith) (omega arith));
+        left = λ i j il jl. subst (λ v. unsigned_abs v ≤ n.size) (s.rows i j (omega arith) (omega arith))
+            (n.sized.left i j (omega arith) (omega arith));
         right = λ i l. subst (λ v. unsigned_abs v ≤ n.size) (s.rights i (omega arith)) (n.sized.right i (omega arith));
         cost = λ j l. subst (λ v. unsigned_abs v ≤ n.size) (s.costs j (omega arith)) (n.sized.cost j (omega arith));
       };
@@ -110,18 +121,23 @@ narrow_same limit P Q s n =
 
 -- ---- the certificate
 module _ {N : Type 0} (value : N → Fraction) (limit : ℕ) (m : RobustModel) (before now : ℕ) where
-  pub stopped_with : (stop : Stop) → HasCause limit m stop → CountsStop before now stop → Solves value limit m before now (Err stop)
+  pub stopped_with : (stop : Stop) → HasCause limit m stop → CountsStop before now stop
+      → Solves value limit m before now (Err stop)
   stopped_with stop h k = record { solved = tt; stopped = h; narrow = narrow_stop limit m stop h; counted = k }
 
-  pub answered : (c : Certificate) → IsSolution m c → now ≡ before → (answer : Result (Cert N) NoMemory) → IfOk answer (λ cert. certificate_of value cert ≡ c)
-      → (result : Result (Cert N) Stop) → MatchResult result (λ x. answer ≡ Ok x) (λ stop. stop ≡ Memory) → Solves value limit m before now result
+  pub answered : (c : Certificate) → IsSolution m c → now ≡ before → (answer : Result (Cert N) NoMemory)
+      → IfOk answer (λ cert. certificate_of value cert ≡ c)
+      → (result : Result (Cert N) Stop) → MatchResult result (λ x. answer ≡ Ok x) (λ stop. stop ≡ Memory)
+      → Solves value limit m before now result
   answered c s e answer h (Ok x) is = record {
-    solved = subst (IsSolution m) (sym (subst (λ (r : Result (Cert N) NoMemory). IfOk r (λ cert. certificate_of value cert ≡ c)) is h)) s;
+    solved = subst (IsSolution m) (sym (subst (λ (r : Result (Cert N) NoMemory). IfOk r
+        (λ cert. certificate_of value cert ≡ c)) is h)) s;
     stopped = tt;
     narrow = λ n. tt;
     counted = e;
   }
-  answered c s e answer h (Err stop) is = stopped_with stop (refused_cause limit m stop is) (refused_counted before now stop (omega arith) is)
+  answered c s e answer h (Err stop) is = stopped_with stop (refused_cause limit m stop is)
+      (refused_counted before now stop (omega arith) is)
 
 -- ---- the scenario
 module _ (Q : Program) (s : Solver) (h : HasLastPoint Q s) where
@@ -135,10 +151,12 @@ module _ (Q : Program) (s : Solver) (h : HasLastPoint Q s) where
   last_feasible = subst (λ (S : System). Feasible S (entries s)) systems h.feasible
 
   pub last_point : IsBasicPoint (system_of Q) (own_of (system_of Q) (columns_of s.basis)) (entries s) (point_of s)
-  last_point = subst (λ (S : System). IsBasicPoint S (own_of S (columns_of s.basis)) (entries s) (point_of s)) systems h.point.basic
+  last_point = subst (λ (S : System). IsBasicPoint S (own_of S (columns_of s.basis)) (entries s) (point_of s)) systems
+      h.point.basic
 
 module _ (m : RobustModel) (model : IsModel m) (s : Solver) where
-  pub scenario_found : HasLastPoint (set_program m) s → Admits m (scenario_read m (point_of s)) × IsLastScenario m (scenario_read m (point_of s))
+  pub scenario_found : HasLastPoint (set_program m) s → Admits m (scenario_read m (point_of s))
+      × IsLastScenario m (scenario_read m (point_of s))
   scenario_found h = (
     basis_admitted m model (own_of (system_of (set_program m)) (columns_of s.basis)) (entries s) (point_of s)
         (last_basis (set_program m) s h) (last_feasible (set_program m) s h) (last_point (set_program m) s h),
@@ -153,11 +171,14 @@ module _ (m : RobustModel) (model : IsModel m) (s : Solver) where
     },
   )
 
-  weights_shown : HasEnded (set_program m) kind.Infeasible s → IsShownEmpty m (tabulate (length (set_rows m)) (λ i. of_int (weights_of s i)))
+  weights_shown : HasEnded (set_program m) kind.Infeasible s
+      → IsShownEmpty m (tabulate (length (set_rows m)) (λ i. of_int (weights_of s i)))
   weights_shown h =
       let o : HasWeightsFor h.program s = h.solved in
-      let en : (rows : Matrix) × InfeasibleEnding (set_program m) (own_of (auxiliary_of (set_program m)) (columns_of s.basis)) rows
-      × ((t : ℕ) → t < (set_program m).m → of_int (weights_of s t) ≡ weight_of (set_program m) rows t) = infeasible_end (set_program m) s h in
+      let en : (rows : Matrix) × InfeasibleEnding (set_program m)
+      (own_of (auxiliary_of (set_program m)) (columns_of s.basis)) rows
+      × ((t : ℕ) → t < (set_program m).m → of_int (weights_of s t) ≡ weight_of (set_program m) rows t) =
+      infeasible_end (set_program m) s h in
       let e : tabulate (length (set_rows m)) (λ i. of_int (weights_of s i)) ≡ weights_read m en.0 =
       tabulate-same (length (set_rows m)) (λ i. of_int (weights_of s i)) (weight_of (set_program m) en.0) en.2 in
       let shown = set_weights m (own_of (auxiliary_of (set_program m)) (columns_of s.basis)) en.0 en.1 in
@@ -176,11 +197,14 @@ module _ (m : RobustModel) (model : IsModel m) (s : Solver) where
         weights_are = refl;
       })
 
-  pub weights_told : HasEnded (set_program m) kind.Infeasible s → (weights : List ℤ) (n : ℕ) → weights ≡ tabulate n (weights_of s) → n ≡ length (set_rows m) → IsShownEmpty m (map of_int weights)
+  pub weights_told : HasEnded (set_program m) kind.Infeasible s → (weights : List ℤ) (n : ℕ)
+      → weights ≡ tabulate n (weights_of s) → n ≡ length (set_rows m) → IsShownEmpty m (map of_int weights)
   weights_told h weights n e l =
-      subst (IsShownEmpty m) (sym (ap (map of_int) (e ∙ ap (λ k. tabulate k (weights_of s)) l) ∙ map-tabulate of_int (length (set_rows m)) (weights_of s))) (weights_shown h)
+      subst (IsShownEmpty m) (sym (ap (map of_int) (e ∙ ap (λ k. tabulate k (weights_of s)) l)
+      ∙ map-tabulate of_int (length (set_rows m)) (weights_of s))) (weights_shown h)
 
 -- ---- what is found of scenarios
 module _ {N : Type 0} (value : N → Fraction) (limit : ℕ) (m : RobustModel) where
-  pub not_found : (before now : ℕ) (stop : Stop) → HasSetCause limit m stop → CountsStop before now stop → Finds value limit m before now (Err stop)
+  pub not_found : (before now : ℕ) (stop : Stop) → HasSetCause limit m stop → CountsStop before now stop
+      → Finds value limit m before now (Err stop)
   not_found before now stop h k = record { found = tt; stopped = h; counted = k }

@@ -31,7 +31,8 @@ use Rattle.rob_sets.proofs.SetProgramLemmas.{left_sides-cleared, right_sides-cle
 
 -- ---- the model's numbers
 -- a robust program, from its parts
-abbrev program : (forms parameters decisions set_rows set_columns : ℕ) (all : List (List (List ℤ))) (left : List (List ℤ)) (right : List ℤ) (sense : ℤ) → RobustProgram
+abbrev program : (forms parameters decisions set_rows set_columns : ℕ) (all : List (List (List ℤ)))
+    (left : List (List ℤ)) (right : List ℤ) (sense : ℤ) → RobustProgram
 program forms parameters decisions set_rows set_columns all left right sense = record {
   forms = forms;
   parameters = parameters;
@@ -44,25 +45,36 @@ program forms parameters decisions set_rows set_columns all left right sense = r
   sense = sense;
 }
 
-pub wholes_are : (m : RobustModel) (forms : Forms) (set : SetForm) → IsForms m forms → IsSetForm m set → wholes forms set ≡ robust_of m
+pub wholes_are : (m : RobustModel) (forms : Forms) (set : SetForm) → IsForms m forms → IsSetForm m set
+    → wholes forms set ≡ robust_of m
 wholes_are m forms set f s =
     let ml : length forms.matrices ≡ length (matrices m) = ap length f.matrices in
     let sl : length set.rows ≡ length (set_rows m) = ap length s.rows ∙ length-map (set_rows m) (cleared_row m) in
-    let l : left_sides set.rows ≡ map (whole_row m) (set_rows m) = ap left_sides s.rows ∙ left_sides-cleared m (set_rows m) in
-    let r : right_sides set.rows ≡ map (whole_limit m) (set_rows m) = ap right_sides s.rows ∙ right_sides-cleared m (set_rows m) in
-    ap₂ (λ v w. program v w forms.columns (length set.rows) set.columns forms.matrices (left_sides set.rows) (right_sides set.rows) (sign_of (sense_of forms.sense))) ml f.params
-    ∙ ap₂ (λ v w. program (length (matrices m)) (length m.parameters) v w set.columns forms.matrices (left_sides set.rows) (right_sides set.rows) (sign_of (sense_of forms.sense))) f.columns sl
-    ∙ ap₂ (λ v w. program (length (matrices m)) (length m.parameters) (column_count m) (length (set_rows m)) v w (left_sides set.rows) (right_sides set.rows) (sign_of (sense_of forms.sense))) s.columns f.matrices
-    ∙ ap₂ (λ v w. program (length (matrices m)) (length m.parameters) (column_count m) (length (set_rows m)) (set_column_count m) (matrices m) v w (sign_of (sense_of forms.sense))) l r
-    ∙ ap (λ v. program (length (matrices m)) (length m.parameters) (column_count m) (length (set_rows m)) (set_column_count m) (matrices m) (map (whole_row m) (set_rows m)) (map (whole_limit m) (set_rows m)) (sign_of v)) f.sense
+    let l : left_sides set.rows ≡ map (whole_row m) (set_rows m) =
+    ap left_sides s.rows ∙ left_sides-cleared m (set_rows m) in
+    let r : right_sides set.rows ≡ map (whole_limit m) (set_rows m) =
+    ap right_sides s.rows ∙ right_sides-cleared m (set_rows m) in
+    ap₂ (λ v w. program v w forms.columns (length set.rows) set.columns forms.matrices (left_sides set.rows)
+    (right_sides set.rows) (sign_of (sense_of forms.sense))) ml f.params
+    ∙ ap₂ (λ v w. program (length (matrices m)) (length m.parameters) v w set.columns forms.matrices
+    (left_sides set.rows) (right_sides set.rows) (sign_of (sense_of forms.sense))) f.columns sl
+    ∙ ap₂ (λ v w. program (length (matrices m)) (length m.parameters) (column_count m) (length (set_rows m)) v w
+    (left_sides set.rows) (right_sides set.rows) (sign_of (sense_of forms.sense))) s.columns f.matrices
+    ∙ ap₂ (λ v w. program (length (matrices m)) (length m.parameters) (column_count m) (length (set_rows m))
+    (set_column_count m) (matrices m) v w (sign_of (sense_of forms.sense))) l r
+    ∙ ap (λ v. program (length (matrices m)) (length m.parameters) (column_count m) (length (set_rows m))
+    (set_column_count m) (matrices m) (map (whole_row m) (set_rows m)) (map (whole_limit m) (set_rows m)) (sign_of v))
+    f.sense
 
 -- ---- lengths
-row_length : (n : ℕ) (rows : List (List ℤ)) (k : ℕ) → Rows ℚ_ring n (fractions rows) → k < length rows → length (slice_index_or rows k []) ≡ n
+row_length : (n : ℕ) (rows : List (List ℤ)) (k : ℕ) → Rows ℚ_ring n (fractions rows) → k < length rows
+    → length (slice_index_or rows k []) ≡ n
 row_length n [] k h l = absurd (omega arith)
 row_length n (row ∷ rows) zero h l = sym (length-map row of_int) ∙ h.0
 row_length n (row ∷ rows) (suc k) h l = row_length n rows k h.1 (omega arith)
 
-row_width : (m : RobustModel) (n : ℕ) (rows : List meaning.SetRow) (r : ℕ) → Rows ℚ_ring n (map (λ (row : meaning.SetRow). map of_int (whole_row m row)) rows) → r < length rows
+row_width : (m : RobustModel) (n : ℕ) (rows : List meaning.SetRow) (r : ℕ)
+    → Rows ℚ_ring n (map (λ (row : meaning.SetRow). map of_int (whole_row m row)) rows) → r < length rows
     → length (slice_index_or (map (whole_row m) rows) r []) ≡ n
 row_width m n [] r h l = absurd (omega arith)
 row_width m n (x ∷ rows) zero h l = sym (length-map (whole_row m x) of_int) ∙ h.0
@@ -79,7 +91,8 @@ cell_small limit [] h k j = omega arith
 cell_small limit (row ∷ rows) h zero j = at_small limit row h.0 j
 cell_small limit (row ∷ rows) h (suc k) j = cell_small limit rows h.1 k j
 
-form_small : (limit : ℕ) (all : List (List (List ℤ))) → Each (MatrixFits limit) all → (i k j : ℕ) → nat_abs (cell (matrix_at all i) k j) ≤ limit
+form_small : (limit : ℕ) (all : List (List (List ℤ))) → Each (MatrixFits limit) all → (i k j : ℕ)
+    → nat_abs (cell (matrix_at all i) k j) ≤ limit
 form_small limit [] h i k j = omega arith
 form_small limit (a ∷ all) h zero k j = cell_small limit a h.0 k j
 form_small limit (a ∷ all) h (suc i) k j = form_small limit all h.1 i k j
@@ -106,23 +119,28 @@ module _ (forms : Forms) (set : SetForm) (one : AreElaborated (2 ^ 62 - 1) forms
       let e : forms.matrices ≡ matrices one.model = one.are_forms.matrices in
       let height : (i : ℕ) → i < length forms.matrices → length (matrix_at forms.matrices i) ≡ suc forms.params =
       (λ i l. ap (λ all. length (matrix_at all i)) e
-      ∙ sym (length-map (matrix_at (matrices one.model) i) (map of_int)) ∙ matrix_height one.model i (subst (λ (all : List (List (List ℤ))). i < length all) e l)
+      ∙ sym (length-map (matrix_at (matrices one.model) i) (map of_int))
+      ∙ matrix_height one.model i (subst (λ (all : List (List (List ℤ))). i < length all) e l)
       ∙ ap suc (sym one.are_forms.params)) in
       record {
         rows = height;
         columns = λ i k l kl. ap (λ all. length (slice_index_or (matrix_at all i) k [])) e
             ∙ row_length (form_columns one.model) (matrix_at (matrices one.model) i) k (matrix_rows one.model i)
-            (let g : length (matrix_at forms.matrices i) ≡ suc forms.params = height i l in subst (λ (all : List (List (List ℤ))). k < length (matrix_at all i)) e (omega arith))
+            (let g : length (matrix_at forms.matrices i) ≡ suc forms.params = height i l in
+            subst (λ (all : List (List (List ℤ))). k < length (matrix_at all i)) e (omega arith))
             ∙ ap (λ n. suc (suc n)) (sym one.are_forms.columns);
         small = form_fits (2 ^ 62 - 1) forms set one.forms_fit one.set_fits;
       }
 
   pub set_sound : IsSound set
   set_sound =
-      let l : left_sides set.rows ≡ map (whole_row one.model) (set_rows one.model) = ap left_sides one.is_set.rows ∙ left_sides-cleared one.model (set_rows one.model) in
+      let l : left_sides set.rows ≡ map (whole_row one.model) (set_rows one.model) =
+      ap left_sides one.is_set.rows ∙ left_sides-cleared one.model (set_rows one.model) in
       record {
         columns = λ r rl. ap (λ rows. length (slice_index_or rows r [])) l
-            ∙ row_width one.model (set_column_count one.model) (set_rows one.model) r (set_shape one.model) (let e : length set.rows ≡ length (set_rows one.model) = ap length one.is_set.rows ∙ length-map (set_rows one.model) (cleared_row one.model) in omega arith)
+            ∙ row_width one.model (set_column_count one.model) (set_rows one.model) r (set_shape one.model)
+            (let e : length set.rows ≡ length (set_rows one.model) =
+            ap length one.is_set.rows ∙ length-map (set_rows one.model) (cleared_row one.model) in omega arith)
             ∙ sym one.is_set.columns;
         small_left = left_fits (2 ^ 62 - 1) forms set one.forms_fit one.set_fits;
         small_right = right_fits (2 ^ 62 - 1) forms set one.forms_fit one.set_fits;
@@ -136,7 +154,8 @@ sense_small limit forms l = by (sense_of forms.sense)
     by maximise = l
 
 -- numbers within a limit are within a greater one
-pub elaborated_weaker : {limit : ℕ} (bigger : ℕ) (forms : Forms) (set : SetForm) → limit ≤ bigger → AreElaborated limit forms set → AreElaborated bigger forms set
+pub elaborated_weaker : {limit : ℕ} (bigger : ℕ) (forms : Forms) (set : SetForm) → limit ≤ bigger
+    → AreElaborated limit forms set → AreElaborated bigger forms set
 elaborated_weaker {limit} bigger forms set l h = record {
   model = h.model;
   elaborated = record {
@@ -161,7 +180,13 @@ elaborated_weaker {limit} bigger forms set l h = record {
 
     rows_weaker : (xs : List SetRow) → Each (RowFits limit) xs → Each (RowFits bigger) xs
     rows_weaker [] h = tt
-    rows_weaker (x ∷ xs) h = (record { coefficients = numbers_weaker x.g h.0.coefficients; right_side = let p : nat_abs x.h ≤ limit = h.0.right_side in omega arith }, rows_weaker xs h.1)
+    rows_weaker (x ∷ xs) h = (
+      record {
+        coefficients = numbers_weaker x.g h.0.coefficients;
+        right_side = let p : nat_abs x.h ≤ limit = h.0.right_side in omega arith;
+      },
+      rows_weaker xs h.1,
+    )
 
 -- the counterpart of a model in whole numbers can be told, where it is as few as a solver takes
 pub can_be_told : (limit : ℕ) (forms : Forms) (set : SetForm) → limit ≤ 4611686018427387903

@@ -21,11 +21,14 @@ pub listed_is : (P : Program) → IsListed P (listed P)
 listed_is P = record { a = refl; b = refl; c = refl }
 
 -- a list of this length whose numbers are given
-pub written_out : (xs : List ℤ) (n : ℕ) (f : ℕ → ℤ) → length xs ≡ n → ((k : ℕ) → k < n → at xs k ≡ f k) → xs ≡ tabulate n f
-written_out xs n f e h = is_tabulated xs f (λ k d l. get_or_default xs k d (pos 0) l ∙ h k (omega (arith, e))) ∙ ap (λ (m : ℕ). tabulate m f) e
+pub written_out : (xs : List ℤ) (n : ℕ) (f : ℕ → ℤ) → length xs ≡ n → ((k : ℕ) → k < n → at xs k ≡ f k)
+    → xs ≡ tabulate n f
+written_out xs n f e h = is_tabulated xs f (λ k d l. get_or_default xs k d (pos 0) l ∙ h k (omega (arith, e)))
+    ∙ ap (λ (m : ℕ). tabulate m f) e
 
 -- one number more, behind those from `low` on
-pub written_next : (low : ℕ) (xs : List ℤ) (k : ℕ) (v : ℤ) (f : ℕ → ℤ) → k < length xs → v ≡ f k → ((j : ℕ) → low ≤ j → j < k → at xs j ≡ f j)
+pub written_next : (low : ℕ) (xs : List ℤ) (k : ℕ) (v : ℤ) (f : ℕ → ℤ) → k < length xs → v ≡ f k
+    → ((j : ℕ) → low ≤ j → j < k → at xs j ≡ f j)
     → (j : ℕ) → low ≤ j → j < k + 1 → at (set xs k v) j ≡ f j
 written_next low xs k v f kl e h j a l = elim (cases_eq j k) [
   | inl s ↦ ap (at (set xs k v)) s ∙ get_or-set_same xs k v (pos 0) kl ∙ e ∙ ap f (sym s)
@@ -38,18 +41,21 @@ unwritten xs k v j d = get_or-set_other xs k j v (pos 0) d
 
 module _ (d : RobustProgram) (i p : ℕ) (l : i < d.forms) (zeros plan all : List ℤ) (n : length all ≡ (reform d).n)
     (is_zero : (k : ℕ) → k < (reform d).n → at zeros k ≡ pos 0)
-    (in_plan : (k : ℕ) → k < pairs d → at plan k ≡ row_entry d i p k) (behind : (k : ℕ) → pairs d ≤ k → at plan k ≡ at zeros k)
+    (in_plan : (k : ℕ) → k < pairs d → at plan k ≡ row_entry d i p k)
+    (behind : (k : ℕ) → pairs d ≤ k → at plan k ≡ at zeros k)
     (own : (k : ℕ) → multiplier d i 0 ≤ k → k < multiplier d i d.set_rows → at all k ≡ row_entry d i p k)
     (others : (k : ℕ) → (k < multiplier d i 0) ⊎ (multiplier d i d.set_rows ≤ k) → at all k ≡ at plan k) where
   number_is : (k : ℕ) → k < (reform d).n → at all k ≡ row_entry d i p k
   number_is k kl = elim (cases_lt k (multiplier d i 0)) [
     | inl a ↦ elim (cases_lt k (pairs d)) [
       | inl b ↦ others k (inl a) ∙ in_plan k b
-      | inr b ↦ others k (inl a) ∙ behind k b ∙ is_zero k kl ∙ sym (zero_before d i l (pairs d) d.set_rows refl refl p k b (omega arith))
+      | inr b ↦ others k (inl a) ∙ behind k b ∙ is_zero k kl
+          ∙ sym (zero_before d i l (pairs d) d.set_rows refl refl p k b (omega arith))
     ]
     | inr a ↦ elim (cases_lt k (multiplier d i d.set_rows)) [
       | inl b ↦ own k a b
-      | inr b ↦ others k (inr b) ∙ behind k (omega arith) ∙ is_zero k kl ∙ sym (zero_behind d i l (pairs d) d.set_rows refl refl p k (omega arith) kl)
+      | inr b ↦ others k (inr b) ∙ behind k (omega arith) ∙ is_zero k kl
+          ∙ sym (zero_behind d i l (pairs d) d.set_rows refl refl p k (omega arith) kl)
     ]
   ]
 
@@ -69,14 +75,17 @@ module _ (d : RobustProgram) (t size : ℕ) (e : size ≡ block d) (told : t < l
 
   pub form_in : t / size < d.forms
   form_in =
-      let g : (h : ℕ) × (r : ℕ) × (h < d.forms) × (r < block d) × (t ≡ (h * block d) + r) = at_block d.forms (block d) t inside in
+      let g : (h : ℕ) × (r : ℕ) × (h < d.forms) × (r < block d) × (t ≡ (h * block d) + r) =
+      at_block d.forms (block d) t inside in
       let q : t / size ≡ g.0 = ap₂ (λ (x y : ℕ). x / y) g.4 e ∙ div-mul-add g.0 (block d) g.1 g.3 in
       subst (λ (h : ℕ). h < d.forms) (sym q) g.2
 
-  pub told_row : (numbers : List ℤ) → numbers ≡ tabulate (reform d).n (row_entry d (t / size) (t % size)) → numbers ≡ slice_index_or (listed (reform d)).a t []
+  pub told_row : (numbers : List ℤ) → numbers ≡ tabulate (reform d).n (row_entry d (t / size) (t % size))
+      → numbers ≡ slice_index_or (listed (reform d)).a t []
   told_row numbers h =
       h ∙ ap (λ (v : ℕ). tabulate (reform d).n (row_entry d (t / v) (t % v))) e
       ∙ sym (item-tabulate (reform d).m (λ s. tabulate (reform d).n ((reform d).a s)) t [] inside)
 
   pub told_right : (right : ℤ) → right ≡ right_entry d (t / size) (t % size) → right ≡ at (listed (reform d)).b t
-  told_right right h = h ∙ ap (λ (v : ℕ). right_entry d (t / v) (t % v)) e ∙ sym (item-tabulate (reform d).m (reform d).b t (pos 0) inside)
+  told_right right h = h ∙ ap (λ (v : ℕ). right_entry d (t / v) (t % v)) e
+      ∙ sym (item-tabulate (reform d).m (reform d).b t (pos 0) inside)

@@ -30,7 +30,8 @@ use Rattle.rob_worst.specs.Costs.{product_at, part_at, column_part, IsWidePart, 
 use Rattle.rob_dualize.specs.Ending.{IsWideStop}
 
 -- a number of a list within a limit, as the machine holds it
-pub held_small : (limit : ℕ) (xs : List ℤ) (j : ℕ) → limit ≤ 2 ^ 62 - 1 → Each (λ a. nat_abs a ≤ limit) xs → j < length xs → nat_abs (get_or xs j (pos 0)) ≤ 2 ^ 62 - 1
+pub held_small : (limit : ℕ) (xs : List ℤ) (j : ℕ) → limit ≤ 2 ^ 62 - 1 → Each (λ a. nat_abs a ≤ limit) xs
+    → j < length xs → nat_abs (get_or xs j (pos 0)) ≤ 2 ^ 62 - 1
 held_small limit xs j high h l =
     let k : nat_abs (get_or xs j (pos 0)) ≤ limit = each_at (λ a. nat_abs a ≤ limit) xs h j (pos 0) l in
     omega arith
@@ -40,12 +41,15 @@ held v l = seen v (omega arith)
 
 module _ (forms : Forms) (i : ℕ) (whole : List ℤ) where
   -- one product more
-  pub sum_next : (k j : ℕ) (sum a b z : ℤ) → sum ≡ sum_to j (product_at forms i k whole) → a ≡ cell (matrix_at forms.matrices i) k j → b ≡ at whole j → z ≡ sum +ℤ (a *ℤ b)
+  pub sum_next : (k j : ℕ) (sum a b z : ℤ) → sum ≡ sum_to j (product_at forms i k whole)
+      → a ≡ cell (matrix_at forms.matrices i) k j → b ≡ at whole j → z ≡ sum +ℤ (a *ℤ b)
       → z ≡ sum_to (j + 1) (product_at forms i k whole)
   sum_next k j sum a b z s ae be e =
-      e ∙ ap₂ ◌+ℤ◌ s (ap₂ ◌*ℤ◌ ae be) ∙ ap (λ n. sum_to n (product_at forms i k whole)) (let n : suc j ≡ j + 1 = omega arith in n)
+      e ∙ ap₂ ◌+ℤ◌ s (ap₂ ◌*ℤ◌ ae be) ∙ ap (λ n. sum_to n (product_at forms i k whole))
+      (let n : suc j ≡ j + 1 = omega arith in n)
 
-  pub prefix_wide : (limit k j : ℕ) (sum a b : ℤ) → j < suc (suc forms.columns) → sum ≡ sum_to j (product_at forms i k whole) → a ≡ cell (matrix_at forms.matrices i) k j → b ≡ at whole j
+  pub prefix_wide : (limit k j : ℕ) (sum a b : ℤ) → j < suc (suc forms.columns)
+      → sum ≡ sum_to j (product_at forms i k whole) → a ≡ cell (matrix_at forms.matrices i) k j → b ≡ at whole j
       → limit < nat_abs (sum +ℤ (a *ℤ b)) → IsWidePart forms i limit k whole
   prefix_wide limit k j sum a b l s ae be w =
       (suc j, omega arith, subst (λ v. limit < nat_abs v) (ap₂ ◌+ℤ◌ s (ap₂ ◌*ℤ◌ ae be)) w)
@@ -59,40 +63,50 @@ module _ (forms : Forms) (i : ℕ) (whole : List ℤ) where
 
   pub told_inside : (limit c k : ℕ) → c < forms.params → k ≡ suc c → (r : Option ℤ)
       → MatchOption r (IsWidePart forms i limit k whole) (λ v. (v ≡ part_at forms i k whole) × (nat_abs v ≤ limit))
-      → MatchOption r ((c < forms.params) × IsWidePart forms i limit (suc c) whole) (λ v. (v ≡ column_part forms i whole c) × (nat_abs v ≤ limit))
+      → MatchOption r ((c < forms.params) × IsWidePart forms i limit (suc c) whole)
+      (λ v. (v ≡ column_part forms i whole c) × (nat_abs v ≤ limit))
   told_inside limit c k l e None h = (l, subst (λ n. IsWidePart forms i limit n whole) e h)
   told_inside limit c k l e (Some v) h = (h.0 ∙ ap (λ n. part_at forms i n whole) e ∙ sym (column_inside c l), h.1)
 
   -- the stop at a part
-  pub part_stop : (limit k : ℕ) (stop : Stop) → k ≤ forms.params → IsWideStop (Sum (Cost i) k) stop → IsWidePart forms i limit k whole → StopsAtPart forms i limit whole stop
+  pub part_stop : (limit k : ℕ) (stop : Stop) → k ≤ forms.params → IsWideStop (Sum (Cost i) k) stop
+      → IsWidePart forms i limit k whole → StopsAtPart forms i limit whole stop
   part_stop limit k stop l h w = subst (StopsAtPart forms i limit whole) (sym h) ((k, l, refl, w), refl)
 
   -- one column more
-  pub costs_next : (c : ℕ) (list new : List ℤ) (v : ℤ) → list ≡ in_pairs (tabulate c (column_part forms i whole)) → v ≡ column_part forms i whole c → new ≡ list ++ v ∷ (neg_ℤ v ∷ [])
+  pub costs_next : (c : ℕ) (list new : List ℤ) (v : ℤ) → list ≡ in_pairs (tabulate c (column_part forms i whole))
+      → v ≡ column_part forms i whole c → new ≡ list ++ v ∷ (neg_ℤ v ∷ [])
       → new ≡ in_pairs (tabulate (c + 1) (column_part forms i whole))
   costs_next c list new v h e is =
       is ∙ ap₂ (λ (xs : List ℤ) (x : ℤ). xs ++ x ∷ (neg_ℤ x ∷ [])) h e
       ∙ sym (in_pairs-push (tabulate c (column_part forms i whole)) (column_part forms i whole c))
       ∙ ap in_pairs (sym (tabulate-more c (column_part forms i whole)))
 
-pub pair_within : (limit : ℕ) (list new : List ℤ) (v : ℤ) → Each (λ a. nat_abs a ≤ limit) list → nat_abs v ≤ limit → new ≡ list ++ v ∷ (neg_ℤ v ∷ []) → Each (λ a. nat_abs a ≤ limit) new
+pub pair_within : (limit : ℕ) (list new : List ℤ) (v : ℤ) → Each (λ a. nat_abs a ≤ limit) list → nat_abs v ≤ limit
+    → new ≡ list ++ v ∷ (neg_ℤ v ∷ []) → Each (λ a. nat_abs a ≤ limit) new
 pair_within limit list new v h l e =
     let n : nat_abs (neg_ℤ v) ≤ limit = omega (arith, ints) in
-    subst (λ (xs : List ℤ). Each (λ a. nat_abs a ≤ limit) xs) (sym e) (each_append (λ a. nat_abs a ≤ limit) list (v ∷ (neg_ℤ v ∷ [])) h (l, (n, tt)))
+    subst (λ (xs : List ℤ). Each (λ a. nat_abs a ≤ limit) xs) (sym e)
+    (each_append (λ a. nat_abs a ≤ limit) list (v ∷ (neg_ℤ v ∷ [])) h (l, (n, tt)))
 
 -- ---- of a model
 module _ (m : RobustModel) (forms : Forms) (f : IsForms m forms) (i : ℕ) (z : List Fraction) where
   pub part_same : (k : ℕ) → part_at forms i k (wholes z) ≡ sum_to (form_columns m) (cost_term m i k z)
-  part_same k = ap₂ (λ n all. sum_to (suc (suc n)) (λ j. cell (matrix_at all i) k j *ℤ at (wholes z) j)) f.columns f.matrices
+  part_same k = ap₂ (λ n all. sum_to (suc (suc n)) (λ j. cell (matrix_at all i) k j *ℤ at (wholes z) j)) f.columns
+      f.matrices
 
-  pub part_wide : (limit k : ℕ) → IsWidePart forms i limit k (wholes z) → HasWidePrefix limit (form_columns m) (cost_term m i k z)
+  pub part_wide : (limit k : ℕ) → IsWidePart forms i limit k (wholes z)
+      → HasWidePrefix limit (form_columns m) (cost_term m i k z)
   part_wide limit k w =
       subst (λ (n : ℕ). HasWidePrefix limit (suc (suc n)) (cost_term m i k z)) f.columns
-      (subst (λ (all : List (List (List ℤ))). HasWidePrefix limit (suc (suc forms.columns)) (λ j. cell (matrix_at all i) k j *ℤ at (wholes z) j)) f.matrices w)
+      (subst (λ (all : List (List (List ℤ))). HasWidePrefix limit (suc (suc forms.columns))
+      (λ j. cell (matrix_at all i) k j *ℤ at (wholes z) j)) f.matrices w)
 
   pub column_same : (c : ℕ) → column_part forms i (wholes z) c ≡ number_at (robust_of m) i c (at (wholes z))
   column_same c =
       elim (cases_lt c forms.params) [
-        | inl l ↦ column_inside forms i (wholes z) c l ∙ part_same (suc c) ∙ cost_is_number m i c z (subst (λ n. c < n) f.params l)
-        | inr l ↦ column_outside forms i (wholes z) c l ∙ sym (number_outside (robust_of m) i c (at (wholes z)) (subst (λ n. n ≤ c) f.params l))
+        | inl l ↦ column_inside forms i (wholes z) c l ∙ part_same (suc c)
+            ∙ cost_is_number m i c z (subst (λ n. c < n) f.params l)
+        | inr l ↦ column_outside forms i (wholes z) c l ∙ sym
+            (number_outside (robust_of m) i c (at (wholes z)) (subst (λ n. n ≤ c) f.params l))
       ]

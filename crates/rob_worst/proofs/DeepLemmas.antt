@@ -40,7 +40,8 @@ taken_over Q top s s' a h = record {
     program = h.last.program;
     same = h.last.same;
     point = same_point top s s' a (Last h.last.program) h.last.program h.last.point;
-    feasible = subst (λ (x : Solver). Feasible (system_of h.last.program) (entries x)) (deep_is top s s' a) h.last.feasible;
+    feasible = subst (λ (x : Solver). Feasible (system_of h.last.program) (entries x)) (deep_is top s s' a)
+        h.last.feasible;
   };
   stands = can_resume top s s' a h.last.program h.stands;
   rows = subst (λ (x : Solver). h.last.program.m ≡ positions x) (deep_is top s s' a) h.rows;

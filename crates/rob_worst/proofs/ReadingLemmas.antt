@@ -28,8 +28,12 @@ module _ (set : SetForm) (limit : ℕ) (task : Task) (fits : FitsSet limit set.c
         let n : h.program.n ≡ s.columns = h.columns in
         omega (arith, fits.parameters)
 
-  pub scenario_pairs : HasSearched (program_of_set set) task.cost kind.Optimal s → (c : ℕ) → c < task.params → OneIsZero (point_of s (plus c)) (point_of s (minus c))
-  scenario_pairs h c l = point_pairs (robust_set set) s task.cost (costs_opposite limit set.columns task fits) h c (omega (arith, fits.parameters))
+  pub scenario_pairs : HasSearched (program_of_set set) task.cost kind.Optimal s → (c : ℕ) → c < task.params
+      → OneIsZero (point_of s (plus c)) (point_of s (minus c))
+  scenario_pairs h c l = point_pairs (robust_set set) s task.cost (costs_opposite limit set.columns task fits) h c
+      (omega (arith, fits.parameters))
 
-  pub direction_pairs : HasSearched (program_of_set set) task.cost kind.Unbounded s → (c : ℕ) → c < task.params → OneIsZero (ray_of s (plus c)) (ray_of s (minus c))
-  direction_pairs h c l = ray_pairs (robust_set set) s task.cost (costs_opposite limit set.columns task fits) h c (omega (arith, fits.parameters))
+  pub direction_pairs : HasSearched (program_of_set set) task.cost kind.Unbounded s → (c : ℕ) → c < task.params
+      → OneIsZero (ray_of s (plus c)) (ray_of s (minus c))
+  direction_pairs h c l = ray_pairs (robust_set set) s task.cost (costs_opposite limit set.columns task fits) h c
+      (omega (arith, fits.parameters))

@@ -13,11 +13,13 @@ module _ (limit : ℕ) {N E : Type 0} (value : N → Fraction) where
   quotient_told x (Ok y) e = (ok_tells limit x (value y) e).0
   quotient_told x (Err w) e = tt
 
-  pub quotient_fits : (P : Type 0) → P → (x : Fraction) (r : Result N E) → answer value r ≡ kept limit x → OnOk r (P × Fits limit x)
+  pub quotient_fits : (P : Type 0) → P → (x : Fraction) (r : Result N E) → answer value r ≡ kept limit x
+      → OnOk r (P × Fits limit x)
   quotient_fits P p x (Ok y) e = (p, (ok_tells limit x (value y) e).1)
   quotient_fits P p x (Err w) e = tt
 
-  pub quotient_wide : (P : Type 0) (x : Fraction) (r : Result N E) → answer value r ≡ kept limit x → OnErr r (P ⊎ IsWide limit x)
+  pub quotient_wide : (P : Type 0) (x : Fraction) (r : Result N E) → answer value r ≡ kept limit x
+      → OnErr r (P ⊎ IsWide limit x)
   quotient_wide P x (Ok y) e = tt
   quotient_wide P x (Err w) e = inr (err_tells limit x e)
 

@@ -29,7 +29,8 @@ use Rattle.rob_worst.proofs.CostLemmas.{part_same, column_same}
 
 -- ---- a task fits the set
 pub fits_set : (limit columns : ℕ) (forms : Forms) (whole : List ℤ) (task : Task) → task.params ≤ columns
-    → task.cost ≡ in_pairs (tabulate columns (column_part forms task.form whole)) → Each (λ a. nat_abs a ≤ limit) task.cost → nat_abs task.common ≤ limit → nat_abs task.constant ≤ limit
+    → task.cost ≡ in_pairs (tabulate columns (column_part forms task.form whole))
+    → Each (λ a. nat_abs a ≤ limit) task.cost → nat_abs task.common ≤ limit → nat_abs task.constant ≤ limit
     → FitsSet limit columns task
 fits_set limit columns forms whole task p e w c d = record {
   parameters = p;
@@ -55,21 +56,26 @@ module _ (limit columns : ℕ) (task : Task) (h : FitsSet limit columns task) wh
 pub common_seen : (limit n : ℕ) → limit ≤ 2 ^ 62 - 1 → n ≤ limit → to_z w64 n ≡ pos n
 common_seen limit n high l = natural_seen n (omega arith)
 
-module _ (m : RobustModel) (forms : Forms) (f : IsForms m forms) (i : ℕ) (z : List Fraction) (whole : List ℤ) (is : whole ≡ wholes z) where
+module _ (m : RobustModel) (forms : Forms) (f : IsForms m forms) (i : ℕ) (z : List Fraction) (whole : List ℤ)
+    (is : whole ≡ wholes z) where
   pub constant_told : (v : ℤ) → v ≡ part_at forms i 0 whole → v ≡ sum_to (form_columns m) (cost_term m i 0 z)
   constant_told v e = e ∙ ap (part_at forms i 0) is ∙ part_same m forms f i z 0
 
-  module _ (columns : ℕ) (wide : columns ≡ set_column_count m) (cost : List ℤ) (e : cost ≡ in_pairs (tabulate columns (column_part forms i whole))) where
+  module _ (columns : ℕ) (wide : columns ≡ set_column_count m) (cost : List ℤ)
+      (e : cost ≡ in_pairs (tabulate columns (column_part forms i whole))) where
     abbrev numbers : Vector
     numbers = λ c. number_at (robust_of m) i c (at (wholes z))
 
     number_told : (c : ℕ) → c < set_column_count m → at (tabulate columns (column_part forms i whole)) c ≡ numbers c
     number_told c l =
-        item-tabulate columns (column_part forms i whole) c (pos 0) (omega arith) ∙ ap (λ (xs : List ℤ). column_part forms i xs c) is
+        item-tabulate columns (column_part forms i whole) c (pos 0) (omega arith)
+        ∙ ap (λ (xs : List ℤ). column_part forms i xs c) is
         ∙ column_same m forms f i z c
 
     pub costs_told : HasCost (robust_of m) numbers (with_cost (set_program m) (at cost))
     costs_told = record {
-      cost_plus = λ c l. ap (λ (xs : List ℤ). at xs (plus c)) e ∙ at-plus (tabulate columns (column_part forms i whole)) c ∙ number_told c l;
-      cost_minus = λ c l. ap (λ (xs : List ℤ). at xs (minus c)) e ∙ at-minus (tabulate columns (column_part forms i whole)) c ∙ ap neg_ℤ (number_told c l);
+      cost_plus = λ c l. ap (λ (xs : List ℤ). at xs (plus c)) e
+          ∙ at-plus (tabulate columns (column_part forms i whole)) c ∙ number_told c l;
+      cost_minus = λ c l. ap (λ (xs : List ℤ). at xs (minus c)) e
+          ∙ at-minus (tabulate columns (column_part forms i whole)) c ∙ ap neg_ℤ (number_told c l);
     }

@@ -11,7 +11,8 @@ use Rattle.rob_cuts.proofs.certificate.infeasible.Goals as goal
 
 pub items-requires-2-clause-weights : goal.items-requires-2-clause-weights
 items-requires-2-clause-weights g c =
-    count_told g.N.Exact.value c.items.result.now (length c.args.rounds.now) (λ q. of_int (weights_of c.args.solver.now q))
+    count_told g.N.Exact.value c.items.result.now (length c.args.rounds.now)
+    (λ q. of_int (weights_of c.args.solver.now q))
     (ap (map g.N.Exact.value) c.items.ensures.list ∙ c.in_ok-weights.ensures.numbers)
 
 pub returns : goal.returns
@@ -21,7 +22,9 @@ returns g c =
       certificate = c.with_items.ensures.certificate
           ∙ ap (infeasible_with (scenario_of value c.args.inside))
           (c.in_ok-items.ensures.items
-          ∙ items_told-same c.args.forms c.args.rounds.now (at (map g.N.Exact.value c.items.result.now)) (λ q. of_int (weights_of c.args.solver.now q))
-          (λ q l. told_at value c.items.result.now (length c.args.rounds.now) (λ q. of_int (weights_of c.args.solver.now q))
+          ∙ items_told-same c.args.forms c.args.rounds.now (at (map g.N.Exact.value c.items.result.now))
+          (λ q. of_int (weights_of c.args.solver.now q))
+          (λ q l. told_at value c.items.result.now (length c.args.rounds.now)
+          (λ q. of_int (weights_of c.args.solver.now q))
           (ap (map value) c.items.ensures.list ∙ c.in_ok-weights.ensures.numbers) q l));
     }

@@ -10,7 +10,8 @@ use Rattle.rob_cuts.proofs.certificate.optimal.Goals as goal
 
 pub items-requires-2-clause-weights : goal.items-requires-2-clause-weights
 items-requires-2-clause-weights g c =
-    count_told g.N.Exact.value c.items.result.now (length c.args.rounds.now) (dual_of c.args.solver.now) (ap (map g.N.Exact.value) c.items.ensures.list ∙ c.in_ok-weights.ensures.numbers)
+    count_told g.N.Exact.value c.items.result.now (length c.args.rounds.now) (dual_of c.args.solver.now)
+    (ap (map g.N.Exact.value) c.items.ensures.list ∙ c.in_ok-weights.ensures.numbers)
 
 pub returns : goal.returns
 returns g c =
@@ -25,6 +26,8 @@ returns g c =
           refl
           (ap (map (cover_of value)) c.new-2.ensures.empty)
           (c.in_ok-items.ensures.items
-          ∙ items_told-same c.args.forms c.args.rounds.now (at (map g.N.Exact.value c.items.result.now)) (dual_of c.args.solver.now)
-          (λ q l. told_at value c.items.result.now (length c.args.rounds.now) (dual_of c.args.solver.now) (ap (map value) c.items.ensures.list ∙ c.in_ok-weights.ensures.numbers) q l));
+          ∙ items_told-same c.args.forms c.args.rounds.now (at (map g.N.Exact.value c.items.result.now))
+          (dual_of c.args.solver.now)
+          (λ q l. told_at value c.items.result.now (length c.args.rounds.now) (dual_of c.args.solver.now)
+          (ap (map value) c.items.ensures.list ∙ c.in_ok-weights.ensures.numbers) q l));
     }

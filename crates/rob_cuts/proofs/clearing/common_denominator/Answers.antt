@@ -11,7 +11,8 @@ returns-in-None g c =
     let den = cast_back c.den.result (value c.q-item.result).den c.den.ensures.denominator
     (omega (arith, (g.met.N.Exact.fits c.q-item.result).den_fits, g.met.N.Exact.limit_high)) in
     record {
-      least = common_wide value [] c.args.ray.now c.loop-q.q-index c.q-item.result c.loop-q.least (2 ^ 124) c.loop-q-test.true c.q-item.is
+      least = common_wide value [] c.args.ray.now c.loop-q.q-index c.q-item.result c.loop-q.least (2 ^ 124)
+          c.loop-q-test.true c.q-item.is
           c.loop-q.invariant.least (omega (arith, ap (λ n. lcm n c.loop-q.least) den, c.in-None.ensures.multiple));
     }
 
@@ -22,8 +23,14 @@ loop-q-preserved g c =
     (omega (arith, (g.met.N.Exact.fits c.q-item.result).den_fits, g.met.N.Exact.limit_high)) in
     let is = c.in-Some.ensures.multiple.0 ∙ ap (λ n. lcm n c.loop-q.least) den in
     record {
-      least = common_more value [] c.args.ray.now c.loop-q.q-index c.q-item.result c.loop-q.least c.in-Some.multiple c.loop-q-test.true c.q-item.is
+      least = common_more value [] c.args.ray.now c.loop-q.q-index c.q-item.result c.loop-q.least c.in-Some.multiple
+          c.loop-q-test.true c.q-item.is
           c.loop-q.invariant.least is;
-      positive = omega (arith, is, lcm_pos (value c.q-item.result).den c.loop-q.least (den_pos (value c.q-item.result)) c.loop-q.invariant.positive);
+      positive = omega (
+        arith,
+        is,
+        lcm_pos (value c.q-item.result).den c.loop-q.least
+            (den_pos (value c.q-item.result)) c.loop-q.invariant.positive,
+      );
       small = c.in-Some.ensures.multiple.1;
     }

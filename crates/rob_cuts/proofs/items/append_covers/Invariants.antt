@@ -9,4 +9,5 @@ use Rattle.rob_cuts.proofs.items.append_covers.Given as goal
 abbrev pub invariant-loop-r : goal.invariant-loop-r
 invariant-loop-r g l =
     map (cover_of g.N.Exact.value) l.covers
-    ≡ map (cover_of g.N.Exact.value) l.fn.covers ++ covers_kept (tabulate l.r (cover_of_amount l.form (map g.N.Exact.value l.amounts)))
+    ≡ map (cover_of g.N.Exact.value) l.fn.covers ++ covers_kept
+    (tabulate l.r (cover_of_amount l.form (map g.N.Exact.value l.amounts)))

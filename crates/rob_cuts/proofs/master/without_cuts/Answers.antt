@@ -6,9 +6,12 @@ use Rattle.rob_cuts.proofs.master.without_cuts.Goals as goal
 
 pub loop-k-preserved : goal.loop-k-preserved
 loop-k-preserved c =
-    list_more c.loop-k.c c.push.new.self _ c.loop-k.k (cost_of c.args.forms.now) c.loop-k.invariant c.in_ok-push.ensures.appended
-    (seen_same c.cost_number.result (cost_of c.args.forms.now c.loop-k.k) c.cost_number.ensures.number c.cost_number.ensures.small)
+    list_more c.loop-k.c c.push.new.self _ c.loop-k.k (cost_of c.args.forms.now) c.loop-k.invariant
+    c.in_ok-push.ensures.appended
+    (seen_same c.cost_number.result (cost_of c.args.forms.now c.loop-k.k) c.cost_number.ensures.number
+    c.cost_number.ensures.small)
 
 pub returns-clause-within : goal.returns-clause-within
 returns-clause-within c = λ limit one.
-    costs_within limit one c.args.forms.now c.loop-k.k c.new-a.result c.new-b.result c.loop-k.c c.new-a.ensures.empty c.new-b.ensures.empty c.loop-k.invariant
+    costs_within limit one c.args.forms.now c.loop-k.k c.new-a.result c.new-b.result c.loop-k.c c.new-a.ensures.empty
+    c.new-b.ensures.empty c.loop-k.invariant

@@ -7,7 +7,8 @@ use Rattle.rob_cuts.proofs.reading.direction.Goals as goal
 
 pub loop-j-preserved : goal.loop-j-preserved
 loop-j-preserved g c =
-    row_more g.N.Exact.value c.loop-j.numbers c.push.new.self c.ray_difference.result c.loop-j.j (difference (ray_of c.args.solver.now))
+    row_more g.N.Exact.value c.loop-j.numbers c.push.new.self c.ray_difference.result c.loop-j.j
+    (difference (ray_of c.args.solver.now))
     c.loop-j.invariant c.in_ok-push.ensures.appended c.ray_difference.ensures.value
 
 pub ray_difference-requires-clause-one : goal.ray_difference-requires-clause-one

@@ -19,5 +19,6 @@ returns g c = record {
     base = base;
     vector = c.args.cut.vector;
   }))
-      c.in_ok-basis.ensures.basis (seen_within g.N.Exact.limit c.args.cut.base g.met.N.Exact.limit_high c.requires.within);
+      c.in_ok-basis.ensures.basis (seen_within g.N.Exact.limit c.args.cut.base g.met.N.Exact.limit_high
+      c.requires.within);
 }

@@ -23,7 +23,8 @@ returns g c =
     } in
     let read = to_z w64 (of_z w64 c.args.cut.base) in
     record {
-      round = ap₂ (λ (basis : List ℕ) (column : ℕ). outcome.Cut (told basis column read)) c.in_ok-basis.ensures.basis c.column.ensures.column
+      round = ap₂ (λ (basis : List ℕ) (column : ℕ). outcome.Cut (told basis column read)) c.in_ok-basis.ensures.basis
+          c.column.ensures.column
           ∙ ap (λ (base : ℤ). outcome.Cut (told c.args.solver.now.basis (column_of c.args.solver.now.state) base))
           (seen_within g.N.Exact.limit c.args.cut.base g.met.N.Exact.limit_high c.requires.within);
     }

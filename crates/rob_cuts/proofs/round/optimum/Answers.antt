@@ -13,7 +13,8 @@ optimal-requires g c = record {
   optimum = c.requires.optimum;
   rows = ap length c.items-2.ensures.list ∙ c.requires.rows;
   few = c.requires.few_rows;
-  fits = subst (λ (rounds : List Told). Each (RoundFits g.N.Exact.limit) rounds) (sym c.items-2.ensures.list) c.requires.fits;
+  fits = subst (λ (rounds : List Told). Each (RoundFits g.N.Exact.limit) rounds) (sym c.items-2.ensures.list)
+      c.requires.fits;
 }
 
 pub returns : goal.returns
@@ -25,7 +26,8 @@ returns g c =
         λ m set model f st is. c.in_ok-inside.ensures.scenario m set model f st is,
         c.in_ok-cert.ensures.certificate
             ∙ ap₂ (λ (n : ℕ) (rounds : List Told).
-            optimal_with (scenario_of value c.in_ok-inside.inside) (covered_plan value c.args.plan c.args.kept) (items_told n rounds (dual_of c.args.solver.now)))
+            optimal_with (scenario_of value c.in_ok-inside.inside) (covered_plan value c.args.plan c.args.kept)
+            (items_told n rounds (dual_of c.args.solver.now)))
             (ap length c.items.ensures.list) c.items-2.ensures.list,
       );
     }

@@ -14,7 +14,8 @@ infeasible-requires g c = record {
   weights = c.requires.weights;
   rows = ap length c.items-2.ensures.list ∙ c.requires.rows;
   few = c.requires.few_rows;
-  fits = subst (λ (rounds : List Told). Each (RoundFits g.N.Exact.limit) rounds) (sym c.items-2.ensures.list) c.requires.fits;
+  fits = subst (λ (rounds : List Told). Each (RoundFits g.N.Exact.limit) rounds) (sym c.items-2.ensures.list)
+      c.requires.fits;
 }
 
 pub returns : goal.returns
@@ -26,7 +27,8 @@ returns g c =
         λ m set model f st is. c.in_ok-inside.ensures.scenario m set model f st is,
         c.in_ok-cert.ensures.certificate
             ∙ ap₂ (λ (n : ℕ) (rounds : List Told).
-            infeasible_with (scenario_of value c.in_ok-inside.inside) (items_told n rounds (λ q. of_int (weights_of c.args.solver.now q))))
+            infeasible_with (scenario_of value c.in_ok-inside.inside)
+            (items_told n rounds (λ q. of_int (weights_of c.args.solver.now q))))
             (ap length c.items.ensures.list) c.items-2.ensures.list,
       );
     }

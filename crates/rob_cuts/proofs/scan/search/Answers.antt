@@ -27,10 +27,14 @@ at_step-requires-clause-size g c = subst (FitsTarget c.args.model.forms.now.colu
 
 pub returns-in-Plan-clause-answer : goal.returns-in-Plan-clause-answer
 returns-in-Plan-clause-answer g c = λ m model f st.
-    subst (λ (t : Target g.row.N.Denot). Searches g.N.Exact.value g.N.Exact.limit m (by_step_of t) c.args.form (vector_of g.N.Exact.value t)
-    (g.L.Ledger.wides c.args.ledger.now) (g.L.Ledger.wides c.at_plan.new.ledger) c.at_plan.result) (sym c.in-Plan.is) (c.at_plan.ensures.answer m model f st)
+    subst (λ (t : Target g.row.N.Denot). Searches g.N.Exact.value g.N.Exact.limit m (by_step_of t) c.args.form
+    (vector_of g.N.Exact.value t)
+    (g.L.Ledger.wides c.args.ledger.now) (g.L.Ledger.wides c.at_plan.new.ledger) c.at_plan.result) (sym c.in-Plan.is)
+    (c.at_plan.ensures.answer m model f st)
 
 pub returns-in-Step-clause-answer : goal.returns-in-Step-clause-answer
 returns-in-Step-clause-answer g c = λ m model f st.
-    subst (λ (t : Target g.row.N.Denot). Searches g.N.Exact.value g.N.Exact.limit m (by_step_of t) c.args.form (vector_of g.N.Exact.value t)
-    (g.L.Ledger.wides c.args.ledger.now) (g.L.Ledger.wides c.at_step.new.ledger) c.at_step.result) (sym c.in-Step.is) (c.at_step.ensures.answer m model f st)
+    subst (λ (t : Target g.row.N.Denot). Searches g.N.Exact.value g.N.Exact.limit m (by_step_of t) c.args.form
+    (vector_of g.N.Exact.value t)
+    (g.L.Ledger.wides c.args.ledger.now) (g.L.Ledger.wides c.at_step.new.ledger) c.at_step.result) (sym c.in-Step.is)
+    (c.at_step.ensures.answer m model f st)

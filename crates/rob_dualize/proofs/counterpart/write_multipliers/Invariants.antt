@@ -7,6 +7,8 @@ use Rattle.rob_dualize.proofs.counterpart.write_multipliers.Given as goal
 
 abbrev pub invariant-loop-k : goal.invariant-loop-k
 invariant-loop-k l = record {
-  written : (j : ℕ) → multiplier (wholes l.fn.model.forms.now l.fn.model.set.now) l.fn.i 0 ≤ j → j < l.k → at l.numbers j ≡ row_entry (wholes l.fn.model.forms.now l.fn.model.set.now) l.fn.i l.fn.p j;
-  others : (j : ℕ) → (j < multiplier (wholes l.fn.model.forms.now l.fn.model.set.now) l.fn.i 0) ⊎ (l.k ≤ j) → at l.numbers j ≡ at l.fn.numbers j;
+  written : (j : ℕ) → multiplier (wholes l.fn.model.forms.now l.fn.model.set.now) l.fn.i 0 ≤ j → j < l.k
+      → at l.numbers j ≡ row_entry (wholes l.fn.model.forms.now l.fn.model.set.now) l.fn.i l.fn.p j;
+  others : (j : ℕ) → (j < multiplier (wholes l.fn.model.forms.now l.fn.model.set.now) l.fn.i 0) ⊎ (l.k ≤ j)
+      → at l.numbers j ≡ at l.fn.numbers j;
 }

@@ -7,6 +7,7 @@ use Rattle.rob_dualize.proofs.counterpart.write_plan.Given as goal
 
 abbrev pub invariant-loop-k : goal.invariant-loop-k
 invariant-loop-k l = record {
-  written : (j : ℕ) → j < l.k → at l.numbers j ≡ row_entry (wholes l.fn.model.forms.now l.fn.model.set.now) l.fn.i l.fn.p j;
+  written : (j : ℕ) → j < l.k → at l.numbers j ≡ row_entry (wholes l.fn.model.forms.now l.fn.model.set.now) l.fn.i
+      l.fn.p j;
   others : (j : ℕ) → l.k ≤ j → at l.numbers j ≡ at l.fn.numbers j;
 }

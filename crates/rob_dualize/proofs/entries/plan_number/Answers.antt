@@ -11,7 +11,8 @@ pub overflow_add-j : goal.overflow_add-j
 overflow_add-j c = let l : c.args.j + 1 < 2 ^ 32 = omega (arith, c.requires.few, c.requires.column_in) in search rules
 
 pub overflow_add-j-else-p-model : goal.overflow_add-j-else-p-model
-overflow_add-j-else-p-model c = let l : c.args.j + 1 < 2 ^ 32 = omega (arith, c.requires.few, c.requires.column_in) in search rules
+overflow_add-j-else-p-model c = let l : c.args.j + 1 < 2 ^ 32 = omega (arith, c.requires.few, c.requires.column_in) in
+    search rules
 
 pub returns-then-p-model-clause-number : goal.returns-then-p-model-clause-number
 returns-then-p-model-clause-number c =
@@ -19,6 +20,8 @@ returns-then-p-model-clause-number c =
     let d : RobustProgram = wholes c.args.model.forms.now c.args.model.set.now in
     seen_same c.turned.result (plan_entry d c.args.i c.args.p c.args.j)
     (c.turned.ensures.number
-    ∙ plan_row d c.args.i c.args.p c.args.j (to_z w64 (of_z w64 (pos 0 -ℤ to_z w64 (of_z w64 c.entry.result)))) (omega (arith, c.if-p-model.true))
-    (negated_seen c.entry.result (omega (arith, c.entry.ensures.small)) ∙ ap neg_ℤ (c.entry.ensures.number ∙ ap (entry d c.args.i (c.args.p / 2)) n)))
+    ∙ plan_row d c.args.i c.args.p c.args.j (to_z w64 (of_z w64 (pos 0 -ℤ to_z w64 (of_z w64 c.entry.result))))
+    (omega (arith, c.if-p-model.true))
+    (negated_seen c.entry.result (omega (arith, c.entry.ensures.small))
+    ∙ ap neg_ℤ (c.entry.ensures.number ∙ ap (entry d c.args.i (c.args.p / 2)) n)))
     c.turned.ensures.small

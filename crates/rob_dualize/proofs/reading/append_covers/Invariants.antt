@@ -10,4 +10,5 @@ use Rattle.rob_dualize.proofs.reading.append_covers.Given as goal
 abbrev pub invariant-loop-r : goal.invariant-loop-r
 invariant-loop-r g l =
     map (cover_of g.N.Exact.value) l.all
-    ≡ map (cover_of g.N.Exact.value) l.fn.all ++ covers_kept (tabulate l.r (cover_at (wholes l.model.forms.now l.model.set.now) (told g.N.Exact.value l.numbers) l.i))
+    ≡ map (cover_of g.N.Exact.value) l.fn.all ++ covers_kept
+    (tabulate l.r (cover_at (wholes l.model.forms.now l.model.set.now) (told g.N.Exact.value l.numbers) l.i))

@@ -10,4 +10,5 @@ pub loop-i-preserved : goal.loop-i-preserved
 loop-i-preserved g c =
     let d = wholes c.args.model.forms.now c.args.model.set.now in
     let x = told g.N.Exact.value c.args.numbers.now in
-    c.in_ok-append_covers.ensures.covers ∙ ap (λ (xs : List Cover). xs ++ covers_kept (covers_at d x c.loop-i.i)) c.loop-i.invariant ∙ sym (covers_next d c.loop-i.i x)
+    c.in_ok-append_covers.ensures.covers ∙ ap (λ (xs : List Cover). xs ++ covers_kept (covers_at d x c.loop-i.i))
+    c.loop-i.invariant ∙ sym (covers_next d c.loop-i.i x)

@@ -7,4 +7,5 @@ use Rattle.rob_dualize.proofs.reading.items.Given as goal
 
 -- the items of the forms so far
 abbrev pub invariant-loop-i : goal.invariant-loop-i
-invariant-loop-i g l = map (item_of g.N.Exact.value) l.all ≡ items_to (wholes l.model.forms.now l.model.set.now) l.i (told g.N.Exact.value l.numbers)
+invariant-loop-i g l = map (item_of g.N.Exact.value) l.all ≡ items_to (wholes l.model.forms.now l.model.set.now) l.i
+    (told g.N.Exact.value l.numbers)

@@ -12,5 +12,6 @@ pair_difference-requires-clause-one g c = c.requires.pairs c.loop-j.j c.loop-j-t
 
 pub loop-j-preserved : goal.loop-j-preserved
 loop-j-preserved g c =
-    row_more g.N.Exact.value c.loop-j.plan c.push.new.self c.pair_difference.result c.loop-j.j (difference (told g.N.Exact.value c.args.numbers.now)) c.loop-j.invariant c.in_ok-push.ensures.appended
+    row_more g.N.Exact.value c.loop-j.plan c.push.new.self c.pair_difference.result c.loop-j.j
+    (difference (told g.N.Exact.value c.args.numbers.now)) c.loop-j.invariant c.in_ok-push.ensures.appended
     c.pair_difference.ensures.difference

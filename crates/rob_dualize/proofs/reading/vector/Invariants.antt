@@ -10,4 +10,5 @@ use Rattle.rob_dualize.proofs.reading.vector.Given as goal
 abbrev pub invariant-loop-c : goal.invariant-loop-c
 invariant-loop-c g l =
     map g.N.Exact.value l.vector
-    ≡ tabulate l.c (λ k. told g.N.Exact.value l.numbers (negative_row (wholes l.model.forms.now l.model.set.now) l.i k) -ℚ told g.N.Exact.value l.numbers (positive_row (wholes l.model.forms.now l.model.set.now) l.i k))
+    ≡ tabulate l.c (λ k. told g.N.Exact.value l.numbers (negative_row (wholes l.model.forms.now l.model.set.now) l.i
+    k) -ℚ told g.N.Exact.value l.numbers (positive_row (wholes l.model.forms.now l.model.set.now) l.i k))

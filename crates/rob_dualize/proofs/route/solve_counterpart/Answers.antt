@@ -14,7 +14,8 @@ use Rattle.rob_dualize.proofs.route.solve_counterpart.Goals as goal
 
 pub solve-requires-clause-ready : goal.solve-requires-clause-ready
 solve-requires-clause-ready g c =
-    can_be_told g.N.Exact.limit c.args.model.forms.now c.args.model.set.now g.met.N.Exact.limit_high c.requires.model.elaborated
+    can_be_told g.N.Exact.limit c.args.model.forms.now c.args.model.set.now g.met.N.Exact.limit_high
+    c.requires.model.elaborated
     c.requires.model.few
 
 pub solve-requires-clause-few : goal.solve-requires-clause-few
@@ -30,13 +31,17 @@ solve-requires-clause-numbers g c =
     let h = c.requires.model.elaborated.forms_fit in
     let k = c.requires.model.elaborated.set_fits in
     let Q : Program = counterpart_of c.args.model.forms.now c.args.model.set.now in
-    reform_within (wholes c.args.model.forms.now c.args.model.set.now) limit (form_fits limit c.args.model.forms.now c.args.model.set.now h k) (left_fits limit c.args.model.forms.now c.args.model.set.now h k)
-    (right_fits limit c.args.model.forms.now c.args.model.set.now h k) (sense_small limit c.args.model.forms.now g.met.N.Exact.limit_low) (listed Q) (listed_is Q)
+    reform_within (wholes c.args.model.forms.now c.args.model.set.now) limit
+    (form_fits limit c.args.model.forms.now c.args.model.set.now h k)
+    (left_fits limit c.args.model.forms.now c.args.model.set.now h k)
+    (right_fits limit c.args.model.forms.now c.args.model.set.now h k)
+    (sense_small limit c.args.model.forms.now g.met.N.Exact.limit_low) (listed Q) (listed_is Q)
 
 pub returns-clause-solved : goal.returns-clause-solved
 returns-clause-solved g c =
     let Q : Program = counterpart_of c.args.model.forms.now c.args.model.set.now in
-    ok_weaker (IsSolved (program_of (listed Q))) (IsSolvedAs Q) (λ s h. record { program = program_of (listed Q); same = listed_same Q (listed Q) (listed_is Q); answer = h })
+    ok_weaker (IsSolved (program_of (listed Q))) (IsSolvedAs Q)
+    (λ s h. record { program = program_of (listed Q); same = listed_same Q (listed Q) (listed_is Q); answer = h })
     c.solve.result c.solve.ensures.solved
 
 pub returns-clause-stopped : goal.returns-clause-stopped

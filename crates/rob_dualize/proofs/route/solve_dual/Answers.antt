@@ -42,14 +42,18 @@ returns-in-Ok-clause-solves g c = λ m model f st.
     let kind = c.in-Ok.field-0.kind in
     let inside = scenario_of g.N.Exact.value c.in_ok-inside.inside in
     let found = (c.in_ok-inside.ensures.found m model f st).found in
-    let ended : HasEnded (counterpart_of c.args.forms.now c.args.set.now) kind s = has_ended g.row.N.Denot (counterpart_of c.args.forms.now c.args.set.now) s kind c.in-Ok.ensures.solved in
-    answered value g.N.Exact.limit m (g.L.Ledger.wides c.args.ledger.now) (g.L.Ledger.wides c.solve_counterpart.new.ledger)
+    let ended : HasEnded (counterpart_of c.args.forms.now c.args.set.now) kind s =
+    has_ended g.row.N.Denot (counterpart_of c.args.forms.now c.args.set.now) s kind c.in-Ok.ensures.solved in
+    answered value g.N.Exact.limit m (g.L.Ledger.wides c.args.ledger.now)
+    (g.L.Ledger.wides c.solve_counterpart.new.ledger)
     (read_from (robust_of m) inside kind s)
-    (solution m model (counterpart_few c.args.forms.now c.args.set.now m f st c.requires.few) inside found.0 found.1 s kind
+    (solution m model (counterpart_few c.args.forms.now c.args.set.now m f st c.requires.few) inside found.0 found.1 s
+    kind
     (counterpart_ended c.args.forms.now c.args.set.now m f st kind s ended))
     (c.in-Ok.ensures.counted.wides ∙ (c.in_ok-inside.ensures.found m model f st).counted)
     c.certificate.result
-    (subst (λ (q : Certificate). IfOk c.certificate.result (λ cert. certificate_of value cert ≡ q)) (read_same c.args.forms.now c.args.set.now m f st inside kind s) c.certificate.ensures.certificate)
+    (subst (λ (q : Certificate). IfOk c.certificate.result (λ cert. certificate_of value cert ≡ q))
+    (read_same c.args.forms.now c.args.set.now m f st inside kind s) c.certificate.ensures.certificate)
     c.or_stop.result c.or_stop.ensures.answer
 
 pub returns-in-Err-Wide-clause-solves : goal.returns-in-Err-Wide-clause-solves
@@ -57,13 +61,18 @@ returns-in-Err-Wide-clause-solves g c = λ m model f st.
     let found = c.in_ok-inside.ensures.found m model f st in
     let s = c.in-Err-Wide.solver in
     let h : IsStoppedAt g.N.Exact.limit (counterpart_of c.args.forms.now c.args.set.now) s c.in-Err-Wide.stop =
-    subst (IsStoppedAs g.N.Exact.limit (counterpart_of c.args.forms.now c.args.set.now)) c.in-Err-Wide.field-0-is c.in-Err-Wide.ensures.stopped in
+    subst (IsStoppedAs g.N.Exact.limit (counterpart_of c.args.forms.now c.args.set.now)) c.in-Err-Wide.field-0-is
+    c.in-Err-Wide.ensures.stopped in
     let counted : g.L.Ledger.wides c.solve_counterpart.new.ledger ≡ raised (g.L.Ledger.wides c.scenario.new.ledger) =
-    subst (CountsStopped (g.L.Ledger.wides c.scenario.new.ledger) (g.L.Ledger.wides c.solve_counterpart.new.ledger)) c.in-Err-Wide.field-0-is c.in-Err-Wide.ensures.counted.wides in
-    stopped_with g.N.Exact.value g.N.Exact.limit m (g.L.Ledger.wides c.args.ledger.now) (g.L.Ledger.wides c.solve_counterpart.new.ledger) c.wide.result
-    (wide_in_counterpart g.N.Exact.limit m s.basis c.position.result c.wide.result (scenario_of g.N.Exact.value c.in_ok-inside.inside) found.found.0
+    subst (CountsStopped (g.L.Ledger.wides c.scenario.new.ledger) (g.L.Ledger.wides c.solve_counterpart.new.ledger))
+    c.in-Err-Wide.field-0-is c.in-Err-Wide.ensures.counted.wides in
+    stopped_with g.N.Exact.value g.N.Exact.limit m (g.L.Ledger.wides c.args.ledger.now)
+    (g.L.Ledger.wides c.solve_counterpart.new.ledger) c.wide.result
+    (wide_in_counterpart g.N.Exact.limit m s.basis c.position.result c.wide.result
+    (scenario_of g.N.Exact.value c.in_ok-inside.inside) found.found.0
     (subst (λ (i : ℕ). IsRefusedAt g.N.Exact.limit (counterpart m) s.basis i) (sym c.position.ensures.position)
     (counterpart_refused c.args.forms.now c.args.set.now m f st g.N.Exact.limit s c.in-Err-Wide.stop h))
     c.wide.ensures.stop)
-    (wide_counted (g.L.Ledger.wides c.args.ledger.now) (g.L.Ledger.wides c.solve_counterpart.new.ledger) s.basis named.Reform c.position.result c.wide.result
+    (wide_counted (g.L.Ledger.wides c.args.ledger.now) (g.L.Ledger.wides c.solve_counterpart.new.ledger) s.basis
+    named.Reform c.position.result c.wide.result
     (counted ∙ ap raised found.counted) c.wide.ensures.stop)

@@ -11,7 +11,8 @@ pub set_lp-requires-clause-whole : goal.set_lp-requires-clause-whole
 set_lp-requires-clause-whole g c = has_whole_rows c.requires.model.model c.args.set.now c.requires.model.is_set
 
 pub set_lp-requires-clause-fits : goal.set_lp-requires-clause-fits
-set_lp-requires-clause-fits g c = fits_weaker g.N.Exact.limit 4611686018427387903 c.args.set.now.rows g.met.N.Exact.limit_high c.requires.model.fits
+set_lp-requires-clause-fits g c = fits_weaker g.N.Exact.limit 4611686018427387903 c.args.set.now.rows
+    g.met.N.Exact.limit_high c.requires.model.fits
 
 pub alike-requires-clause-few : goal.alike-requires-clause-few
 alike-requires-clause-few g c = set_is_few c.args.set.now c.in_ok-lp.lp c.in_ok-lp.ensures.program c.requires.few
@@ -21,6 +22,12 @@ alike-requires-clause-numbers g c = c.in_ok-lp.ensures.within g.N.Exact.limit c.
 
 pub returns-clause-made : goal.returns-clause-made
 returns-clause-made g c =
-    ok_weaker (λ (s : Solver). IsMadeFor (program_of c.in_ok-lp.lp) s) (λ (s : Solver). IsMadeAs (program_of_set c.args.set.now) s)
-    (λ s h. record { program = program_of c.in_ok-lp.lp; same = set_made c.args.set.now c.in_ok-lp.lp c.in_ok-lp.ensures.program; made = h })
+    ok_weaker (λ (s : Solver). IsMadeFor (program_of c.in_ok-lp.lp) s)
+    (λ (s : Solver). IsMadeAs (program_of_set c.args.set.now) s)
+    (λ s h. record {
+      program = program_of c.in_ok-lp.lp;
+      same = set_made c.args.set.now c.in_ok-lp.lp
+          c.in_ok-lp.ensures.program;
+      made = h;
+    })
     c.alike.result c.alike.ensures.made

@@ -8,11 +8,15 @@ use Rattle.rob_dualize.proofs.told.exact_weights.Goals as goal
 
 pub whole-requires : goal.whole-requires
 whole-requires g c = record {
-  within = subst (λ (v : ℤ). nat_abs v ≤ g.N.Exact.limit) (sym (seen_same c.farkas.result c.farkas.result refl (omega (arith, c.farkas.ensures.within, g.met.N.Exact.limit_high)))) c.farkas.ensures.within;
+  within = subst (λ (v : ℤ). nat_abs v ≤ g.N.Exact.limit) (sym
+      (seen_same c.farkas.result c.farkas.result refl (omega
+      (arith, c.farkas.ensures.within, g.met.N.Exact.limit_high)))) c.farkas.ensures.within;
 }
 
 pub loop-i-preserved : goal.loop-i-preserved
 loop-i-preserved g c =
-    row_more g.N.Exact.value c.loop-i.numbers c.push.new.self c.whole.result c.loop-i.i (λ i. of_int (weights_of c.args.solver.now i)) c.loop-i.invariant c.in_ok-push.ensures.appended
+    row_more g.N.Exact.value c.loop-i.numbers c.push.new.self c.whole.result c.loop-i.i
+    (λ i. of_int (weights_of c.args.solver.now i)) c.loop-i.invariant c.in_ok-push.ensures.appended
     (c.whole.ensures.value
-    ∙ ap of_int (seen_same c.farkas.result (weights_of c.args.solver.now c.loop-i.i) c.farkas.ensures.weight (omega (arith, c.farkas.ensures.within, g.met.N.Exact.limit_high))))
+    ∙ ap of_int (seen_same c.farkas.result (weights_of c.args.solver.now c.loop-i.i) c.farkas.ensures.weight
+    (omega (arith, c.farkas.ensures.within, g.met.N.Exact.limit_high))))

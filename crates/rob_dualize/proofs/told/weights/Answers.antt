@@ -6,10 +6,13 @@ use Rattle.rob_dualize.proofs.told.weights.Goals as goal
 
 pub loop-i-preserved : goal.loop-i-preserved
 loop-i-preserved g c =
-    let seen = seen_same c.farkas.result c.farkas.result refl (omega (arith, c.farkas.ensures.within, g.met.N.Exact.limit_high)) in
+    let seen = seen_same c.farkas.result c.farkas.result refl
+    (omega (arith, c.farkas.ensures.within, g.met.N.Exact.limit_high)) in
     record {
-      told = list_more c.loop-i.numbers c.push.new.self _ c.loop-i.i (weights_of c.args.solver.now) c.loop-i.invariant.told c.in_ok-push.ensures.appended
+      told = list_more c.loop-i.numbers c.push.new.self _ c.loop-i.i (weights_of c.args.solver.now)
+          c.loop-i.invariant.told c.in_ok-push.ensures.appended
           (seen ∙ c.farkas.ensures.weight);
-      within = within_more g.N.Exact.limit c.loop-i.numbers c.push.new.self _ c.loop-i.invariant.within c.in_ok-push.ensures.appended
+      within = within_more g.N.Exact.limit c.loop-i.numbers c.push.new.self _ c.loop-i.invariant.within
+          c.in_ok-push.ensures.appended
           (subst (λ (v : ℤ). nat_abs v ≤ g.N.Exact.limit) (sym seen) c.farkas.ensures.within);
     }

@@ -5,4 +5,5 @@ use Rattle.rob_worst.specs.Finders.{HasSearched}
 use Rattle.rob_worst.proofs.reading.told.Goals as goal
 
 pub greatest-requires-clause-searched : goal.greatest-requires-clause-searched
-greatest-requires-clause-searched g c = subst (λ (k : LpKind). HasSearched (program_of_set c.args.set.now) c.args.task.now.cost k c.args.solver.now) c.in-Optimal.is c.requires.searched
+greatest-requires-clause-searched g c = subst (λ (k : LpKind). HasSearched (program_of_set c.args.set.now)
+    c.args.task.now.cost k c.args.solver.now) c.in-Optimal.is c.requires.searched

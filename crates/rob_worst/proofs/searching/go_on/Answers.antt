@@ -12,21 +12,27 @@ use Rattle.rob_worst.proofs.searching.go_on.Goals as goal
 pub resume-requires-clause-size : goal.resume-requires-clause-size
 resume-requires-clause-size g c =
     let h : IsSolved (program_of_set c.args.set.now) c.args.solver.now = c.requires.solved in
-    ap length c.items.ensures.list ∙ costs_count g.N.Exact.limit c.args.set.now.columns c.args.task.now c.requires.task ∙ sym h.last.same.width ∙ h.columns
+    ap length c.items.ensures.list ∙ costs_count g.N.Exact.limit c.args.set.now.columns c.args.task.now
+    c.requires.task ∙ sym h.last.same.width ∙ h.columns
 
 pub told-requires-clause-searched : goal.told-requires-clause-searched
 told-requires-clause-searched g c =
     let h : IsSolved (program_of_set c.args.set.now) c.args.solver.now = c.requires.solved in
-    searched (program_of_set c.args.set.now) c.args.solver.now h c.args.solver.now c.resume.new.self refl c.resume.ensures.positions c.resume.ensures.columns c.args.task.now.cost c.in-Ok.kind
-    (subst (λ (xs : List ℤ). HasResumed (with_cost h.last.program (at xs)) (columns_of c.args.solver.now.basis) c.in-Ok.kind c.resume.new.self) c.items.ensures.list
+    searched (program_of_set c.args.set.now) c.args.solver.now h c.args.solver.now c.resume.new.self refl
+    c.resume.ensures.positions c.resume.ensures.columns c.args.task.now.cost c.in-Ok.kind
+    (subst (λ (xs : List ℤ). HasResumed (with_cost h.last.program (at xs)) (columns_of c.args.solver.now.basis)
+    c.in-Ok.kind c.resume.new.self) c.items.ensures.list
     (c.in-Ok.ensures.resumed h.last.program h.stands))
     c.in-Ok.ensures.answered
 
 pub returns-in-Err-clause-told : goal.returns-in-Err-clause-told
 returns-in-Err-clause-told g c =
     let h : IsSolved (program_of_set c.args.set.now) c.args.solver.now = c.requires.solved in
-    stopped_search (program_of_set c.args.set.now) c.args.solver.now h c.args.solver.now c.resume.new.self refl c.resume.ensures.positions c.resume.ensures.columns g.N.Exact.limit c.args.task.now.cost c.in-Err.stop
-    (subst (λ (xs : List ℤ). HasStoppedFrom g.N.Exact.limit (with_cost h.last.program (at xs)) (columns_of c.args.solver.now.basis) c.in-Err.stop c.resume.new.self) c.items.ensures.list
+    stopped_search (program_of_set c.args.set.now) c.args.solver.now h c.args.solver.now c.resume.new.self refl
+    c.resume.ensures.positions c.resume.ensures.columns g.N.Exact.limit c.args.task.now.cost c.in-Err.stop
+    (subst (λ (xs : List ℤ). HasStoppedFrom g.N.Exact.limit (with_cost h.last.program (at xs))
+    (columns_of c.args.solver.now.basis) c.in-Err.stop c.resume.new.self) c.items.ensures.list
     (c.in-Err.ensures.resumed h.last.program h.stands))
-    (subst (λ (xs : List ℤ). IsCausedFrom g.N.Exact.limit (with_cost h.last.program (at xs)) (columns_of c.args.solver.now.basis) c.in-Err.stop c.resume.new.self) c.items.ensures.list
+    (subst (λ (xs : List ℤ). IsCausedFrom g.N.Exact.limit (with_cost h.last.program (at xs))
+    (columns_of c.args.solver.now.basis) c.in-Err.stop c.resume.new.self) c.items.ensures.list
     (c.in-Err.ensures.caused h.last.program h.stands))

@@ -10,7 +10,8 @@ use Rattle.rob_worst.proofs.finder.Finder.inside.Goals as goal
 
 pub parameters-requires-clause-pairs : goal.parameters-requires-clause-pairs
 parameters-requires-clause-pairs g c = λ k l.
-    solved_pairs c.requires.finder.0 c.args.self.now.solved c.requires.finder.3.solved.last k (omega (arith, parameters_low c.args.forms.now c.requires.finder.0 c.requires.finder.1))
+    solved_pairs c.requires.finder.0 c.args.self.now.solved c.requires.finder.3.solved.last k
+    (omega (arith, parameters_low c.args.forms.now c.requires.finder.0 c.requires.finder.1))
 
 pub returns : goal.returns
 returns g c = record {

@@ -8,11 +8,16 @@ use Rattle.rob_worst.proofs.finder.Finder.new.Goals as goal
 pub returns-clause-finder : goal.returns-clause-finder
 returns-clause-finder g c = record {
   solved = c.in_ok-solved.ensures.solved;
-  search_rows = same_rows (program_of_set c.args.set.now) c.in_ok-solved.solved c.in_ok-search.search c.in_ok-solved.ensures.solved c.in_ok-search.ensures.made;
-  search_columns = same_columns (program_of_set c.args.set.now) c.in_ok-solved.solved c.in_ok-search.search c.in_ok-solved.ensures.solved c.in_ok-search.ensures.made;
+  search_rows = same_rows (program_of_set c.args.set.now) c.in_ok-solved.solved c.in_ok-search.search
+      c.in_ok-solved.ensures.solved c.in_ok-search.ensures.made;
+  search_columns = same_columns (program_of_set c.args.set.now) c.in_ok-solved.solved c.in_ok-search.search
+      c.in_ok-solved.ensures.solved c.in_ok-search.ensures.made;
   search_limit = c.in_ok-search.ensures.limit;
 }
 
 pub returns-clause-answer : goal.returns-clause-answer
-returns-clause-answer g c = λ m model s.
-    (scenario_read m (point_of c.in_ok-solved.solved), (solved_scenario m c.args.set.now s model c.in_ok-solved.solved c.in_ok-solved.ensures.solved).0)
+returns-clause-answer g c = λ m model s. (
+  scenario_read m (point_of c.in_ok-solved.solved),
+  (solved_scenario m c.args.set.now s model c.in_ok-solved.solved
+      c.in_ok-solved.ensures.solved).0,
+)
