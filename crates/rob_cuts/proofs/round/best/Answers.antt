@@ -44,15 +44,10 @@ best_round-requires g c =
 pub optimum-requires : goal.optimum-requires
 optimum-requires g c =
     let e = c.requires.model.elaborated in
+    let few_set = set_of_few c.args.model.forms.now c.args.model.set.now e c.requires.model.few in
     record {
       few = few_forms c.args.model.forms.now c.args.model.set.now e c.requires.model.few;
-      finder = (
-        c.args.model.set.now,
-        e,
-        set_of_few c.args.model.forms.now c.args.model.set.now e
-            c.requires.model.few,
-        c.look_at_plan.ensures.finder,
-      );
+      finder = (c.args.model.set.now, e, few_set, c.look_at_plan.ensures.finder);
       optimum = c.requires.ended.answer.answered.0;
       rows = rounds_are_rows e.model c.args.model.forms.now e.are_forms c.args.run.now.rounds c.args.run.now.master
           c.requires.run.master c.args.solver.now kind.Optimal c.requires.ended.answer;
