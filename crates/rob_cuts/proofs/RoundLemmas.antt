@@ -89,7 +89,7 @@ module _ (m : RobustModel) (forms : Forms) (f : IsForms m forms) (rounds : List 
       → StopsAt s.basis Master i stop → IsWideNext limit m rounds stop
   master_stops limit i r (EmptySet weights) h = absurd h
   master_stops limit i r (Wide place trace) h =
-      master_place limit m (cuts_told rounds) place s.basis i (record { whole = r.0.whole; row = r.0.row }) r.1 h.0
+      master_place limit m (cuts_told rounds) place s.basis i r.0 r.1 h.0
   master_stops limit i r Memory h = tt
 
   -- ---- with a best plan

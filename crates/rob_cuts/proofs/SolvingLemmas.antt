@@ -56,7 +56,7 @@ set_cause limit m (Wide place trace) h = by place h.0
       rounds = h.1;
       spot = set_row basis p;
       place_is = refl;
-      wide = record { run = tt; wide = record { whole = w.0.whole; row = w.0.row } };
+      wide = record { run = tt; wide = w.0 };
       refused = w.1;
       after = refl;
     }

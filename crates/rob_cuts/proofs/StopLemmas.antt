@@ -15,11 +15,12 @@ use Rattle.rob_cert.specs.declared.trace.Round.{Round as Told}
 use Rattle.rob_elab.specs.Forms.{IsForms}
 use Rattle.rob_elab.specs.declared.forms.Forms.{Forms}
 use Rattle.rob_counterpart.specs.Counterpart.{cell}
+use Rattle.rob_linear.specs.WideRows.{TellsWideRow}
 use Rattle.rob_dualize.specs.Refusals.{IsRefusedRow}
 use Rattle.rob_runs.specs.Cuts.{Cut, master_over}
 use Rattle.rob_runs.specs.Runs.{Round, boundless, best, IsRound, CutsOff}
 use Rattle.rob_runs.specs.Searches.{search_at}
-use Rattle.rob_runs.specs.Spots.{RunSpot, master_row, search_row, clearing, cost, cut_clearing, cut_sum, LooksAt, ComesTo, SomeWide, IsWideCleared, IsWideCost, HasWidePrefix, TellsWideRow, IsWideAfter, IsWideSearch, cut_term}
+use Rattle.rob_runs.specs.Spots.{RunSpot, master_row, search_row, clearing, cost, cut_clearing, cut_sum, LooksAt, ComesTo, SomeWide, IsWideCleared, IsWideCost, HasWidePrefix, IsWideAfter, IsWideSearch, cut_term}
 use Rattle.rob_worst.specs.Finding.{IsRefusedSearch, IsWideAt}
 use Rattle.rob_cuts.specs.Master.{cut_product}
 use Rattle.rob_cuts.specs.Places.{spot_told, IsRefusedAfter}

@@ -11,7 +11,7 @@ use Rattle.rob_linear.specs.Programs.{Program, system_of, auxiliary_of}
 use Rattle.rob_linear.specs.Systems.{System, IsPrimitive}
 use Rattle.rob_linear.specs.Turns.{own_of}
 use Rattle.rob_linear.specs.Vectors.{Columns}
-use Rattle.rob_linear.specs.WideRows.{HasWideRow}
+use Rattle.rob_linear.specs.WideRows.{HasWideRow, TellsWideRow}
 use Rattle.rob_linear.proofs.LastBases.{last_ends}
 use Rattle.rob_linear.proofs.Optimality.{farkas, optimal_ending, unbounded_ending}
 use Rattle.rob_linear.proofs.Truths.{infeasible}
@@ -31,7 +31,7 @@ use Rattle.rob_simplex.specs.Solvers.{Solver, positions}
 use Rattle.rob_solver.specs.Depths.{deep_limit}
 use Rattle.rob_solver.specs.Solving.{IsCausedBy}
 use Rattle.rob_dualize.specs.Ending.{position_of}
-use Rattle.rob_dualize.specs.Refusals.{TellsWideRow, TellsWideNumber, TellsWideWeight, IsRefusedRow, IsRefusedAt}
+use Rattle.rob_dualize.specs.Refusals.{TellsWideNumber, TellsWideWeight, IsRefusedRow, IsRefusedAt}
 
 -- ---- the dictionary of a last basis
 module _ (P Q : Program) (same : AreSame P Q) (t : Table) where

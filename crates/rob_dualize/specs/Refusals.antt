@@ -5,16 +5,10 @@ use Rattle.rob_linear.specs.Vectors.{at}
 use Rattle.rob_linear.specs.Systems.{IsPrimitive}
 use Rattle.rob_linear.specs.Programs.{Program}
 use Rattle.rob_linear.specs.Paths.{Last}
-use Rattle.rob_linear.specs.WideRows.{HasWideRow}
+use Rattle.rob_linear.specs.WideRows.{TellsWideRow}
 use Rattle.rob_simplex.specs.Dictionaries.{Table, columns_of}
 use Rattle.rob_simplex.specs.PathEnds.{AreWeights, EndsWide}
 use Rattle.rob_solver.specs.Depths.{deep_limit}
-
--- the list is the whole basis, a column for each row of the program; it is on the path, and a row of that position is
--- wide there
-pub record TellsWideRow (limit : ℕ) (P : Program) (basis : List ℕ) (i : ℕ) : Type 0 where
-  pub whole : length basis ≡ P.m
-  pub row : HasWideRow limit P (columns_of basis) i
 
 -- the list is the last basis of the program's path, and the row of that position is the first that tells a number there
 -- over the limit: of the basic solution or of the direction; or, at the objective's position, the value or a dual value

@@ -23,6 +23,10 @@ sum_to (suc n) f = sum_to n f +ℤ f n
 abbrev pub dot : ℕ → Vector → Vector → ℤ
 dot n f x = sum_to n (λ j. f j *ℤ x j)
 
+-- the columns of a list, by position
+abbrev pub columns_of : List ℕ → Columns
+columns_of basis i = slice_index_or basis i 0
+
 -- the entries of a list
 abbrev pub at : List ℤ → ℕ → ℤ
 at r k = slice_index_or r k (pos 0)

@@ -1,8 +1,8 @@
 -- Rows of a basis on the path with a number over the limit. A position's row is
 -- one, so no other rows could have been kept.
-use Rattle.std.specs.Prelude.{◌≡◌, ℕ, ◌<◌, ◌≤◌, ◌⊎◌, pos, ◌<ℤ◌}
+use Rattle.std.specs.Prelude.{◌≡◌, ℕ, ◌<◌, ◌≤◌, ◌⊎◌, pos, ◌<ℤ◌, List, length}
 use Rattle.std.specs.Int.RustNames.{unsigned_abs}
-use Rattle.rob_linear.specs.Vectors.{Columns, Vector}
+use Rattle.rob_linear.specs.Vectors.{Columns, Vector, columns_of}
 use Rattle.rob_linear.specs.Systems.{System, right, RowOf}
 use Rattle.rob_linear.specs.Programs.{Program, system_of, auxiliary_of, kept_of}
 use Rattle.rob_linear.specs.Turns.{own_of}
@@ -45,6 +45,12 @@ IsWideAt limit P basis i =
 pub record HasWideRow (limit : ℕ) (P : Program) (basis : Columns) (i : ℕ) : Type 0 where
   pub reached : Reached P basis
   pub wide : IsWideAt limit P basis i
+
+-- the list is the whole basis, a column for each row of the program; it is on the path, and a row of that position is
+-- wide there
+pub record TellsWideRow (limit : ℕ) (P : Program) (basis : List ℕ) (i : ℕ) : Type 0 where
+  pub whole : length basis ≡ P.m
+  pub row : HasWideRow limit P (columns_of basis) i
 
 -- the same without the auxiliary form: the program's own row, or of the objective's position a stage
 abbrev pub IsOwnWideAt : ℕ → Program → Columns → ℕ → Type 0

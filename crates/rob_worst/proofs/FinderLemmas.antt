@@ -26,7 +26,7 @@ use Rattle.rob_cert.specs.declared.ending.Stop.{Stop}
 use Rattle.rob_cert.specs.declared.ending.Worst.{Worst}
 use Rattle.rob_cert.specs.declared.ending.Worst.TheVariants.{At, Along}
 use Rattle.rob_runs.specs.Searches.{FindsScenario, FindsRay, search_at}
-use Rattle.rob_runs.specs.Spots.{TellsWideRow}
+use Rattle.rob_linear.specs.WideRows.{TellsWideRow}
 use Rattle.rob_runs.proofs.ResumeLemmas.{own_without}
 use Rattle.rob_runs.proofs.SumLemmas.{constant_is_sum}
 use Rattle.rob_sets.specs.SetForm.{IsSetForm}

@@ -39,7 +39,7 @@ use Rattle.rob_counterpart.proofs.SplitLemmas.{AreOpposite, point_opposite, move
 use Rattle.rob_counterpart.proofs.TabulateLemmas.{tabulate-same}
 use Rattle.rob_runs.specs.Cuts.{wholes}
 use Rattle.rob_runs.specs.Searches.{search_at, FindsScenario, FindsRay}
-use Rattle.rob_runs.specs.Spots.{TellsWideRow}
+use Rattle.rob_linear.specs.WideRows.{TellsWideRow}
 use Rattle.rob_runs.proofs.FinderLemmas.{finder_same, finder_last, finder_wide}
 use Rattle.rob_dualize.specs.Ending.{position_of}
 use Rattle.rob_worst.specs.Finders.{HasSearched}

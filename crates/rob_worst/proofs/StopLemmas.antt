@@ -14,7 +14,8 @@ use Rattle.rob_elab.specs.Forms.{IsForms}
 use Rattle.rob_elab.specs.declared.forms.Forms.{Forms}
 use Rattle.rob_runs.specs.Cuts.{wholes}
 use Rattle.rob_runs.specs.Searches.{search_at}
-use Rattle.rob_runs.specs.Spots.{SomeWide, IsWideCleared, TellsWideRow}
+use Rattle.rob_linear.specs.WideRows.{TellsWideRow}
+use Rattle.rob_runs.specs.Spots.{SomeWide, IsWideCleared}
 use Rattle.rob_sets.specs.FirstWide.{Some_of}
 use Rattle.rob_worst.specs.Costs.{IsWidePart, StopsAtPart}
 use Rattle.rob_worst.specs.Finding.{IsRefusedSearch, IsWideAt, HasSearchCause}
