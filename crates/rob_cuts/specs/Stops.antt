@@ -1,5 +1,5 @@
 -- Why a step of the route stops: memory was refused, or a number at a place is wide.
-use Rattle.std.specs.Prelude.{◌≡◌, ℕ, suc, ◌<◌, ◌^◌, List, [], ◌∷◌, ⊤}
+use Rattle.std.specs.Prelude.{◌≡◌, ℕ, suc, ◌<◌, ◌^◌, List, ◌∷◌, ⊤}
 use Rattle.rob_model.specs.declared.place.Spot.{Spot}
 use Rattle.rob_model.specs.declared.place.Spot.TheVariants.{Clearing, Sum}
 use Rattle.rob_model.specs.declared.place.Where.TheVariants as of
