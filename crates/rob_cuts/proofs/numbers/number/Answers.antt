@@ -30,8 +30,8 @@ returns-in-None g c =
 pub loop-k-preserved : goal.loop-k-preserved
 loop-k-preserved g c =
     let f = cut_product c.args.forms.now (cut_of c.args.round.now) c.args.j in
-    let seen = seen_same c.in-Some.next c.in-Some.next refl (omega
-    (arith, c.in-Some.ensures.sum.1, g.met.N.Exact.limit_high)) in
+    let seen = seen_same c.in-Some.next c.in-Some.next refl
+    (omega (arith, c.in-Some.ensures.sum.1, g.met.N.Exact.limit_high)) in
     record {
       sum = seen ∙ sum_more f c.loop-k.k _ (to_z w64 (of_z w64 c.form_number-entry.result))
           (to_z w64 (of_z w64 c.multiplier.result)) c.in-Some.next c.loop-k.invariant.sum

@@ -38,8 +38,8 @@ search-requires g c = record {
 
 pub returns-in-Err-clause-scanned : goal.returns-in-Err-clause-scanned
 returns-in-Err-clause-scanned g c = λ m model f st.
-    let some : c.loop-form.form < length (matrices m) = omega
-    (arith, c.loop-form-test.true, ap length c.items.ensures.list, ap length f.matrices) in
+    let some : c.loop-form.form < length (matrices m) =
+    omega (arith, c.loop-form-test.true, ap length c.items.ensures.list, ap length f.matrices) in
     search_stops m model g.N.Exact.value (vector_of g.N.Exact.value c.args.target)
     (target_count g.N.Exact.value c.args.target c.args.model.forms.now.columns c.requires.target
     ∙ ap (λ n. suc (suc n)) f.columns) c.loop-form.form some
@@ -96,8 +96,8 @@ loop-form-preserved g c =
 
 pub returns-in-Ok-Broken-clause-scanned : goal.returns-in-Ok-Broken-clause-scanned
 returns-in-Ok-Broken-clause-scanned g c = λ m model f st.
-    let some : c.loop-form.form < length (matrices m) = omega
-    (arith, c.loop-form-test.true, ap length c.items.ensures.list, ap length f.matrices) in
+    let some : c.loop-form.form < length (matrices m) =
+    omega (arith, c.loop-form-test.true, ap length c.items.ensures.list, ap length f.matrices) in
     let size = target_count g.N.Exact.value c.args.target c.args.model.forms.now.columns c.requires.target
     ∙ ap (λ n. suc (suc n)) f.columns in
     broken_first m model g.N.Exact.value (vector_of g.N.Exact.value c.args.target) size c.loop-form.form some
@@ -117,8 +117,8 @@ returns-in-Ok-Broken-clause-wides g c =
 
 pub returns-in-Err-judge-clause-scanned : goal.returns-in-Err-judge-clause-scanned
 returns-in-Err-judge-clause-scanned g c = λ m model f st.
-    let some : c.loop-form.form < length (matrices m) = omega
-    (arith, c.loop-form-test.true, ap length c.items.ensures.list, ap length f.matrices) in
+    let some : c.loop-form.form < length (matrices m) =
+    omega (arith, c.loop-form-test.true, ap length c.items.ensures.list, ap length f.matrices) in
     let size = target_count g.N.Exact.value c.args.target c.args.model.forms.now.columns c.requires.target
     ∙ ap (λ n. suc (suc n)) f.columns in
     cut_stops m model g.N.Exact.value (vector_of g.N.Exact.value c.args.target) size c.loop-form.form some

@@ -25,8 +25,8 @@ loop-k-preserved c =
     (length c.args.model.forms.now.matrices * length c.args.model.set.now.rows) =
     own_within (wholes c.args.model.forms.now c.args.model.set.now) c.args.i c.requires.form_in
     (pairs (wholes c.args.model.forms.now c.args.model.set.now)) (length c.args.model.set.now.rows) refl refl in
-    let inside : c.loop-k.k < length c.loop-k.numbers = omega
-    (arith, own, count, product, c.loop-k.auto.numbers, c.requires.size, c.loop-k-test.true) in
+    let inside : c.loop-k.k < length c.loop-k.numbers =
+    omega (arith, own, count, product, c.loop-k.auto.numbers, c.requires.size, c.loop-k-test.true) in
     record {
       written = λ j a l. written_next (multiplier (wholes c.args.model.forms.now c.args.model.set.now) c.args.i 0)
           c.loop-k.numbers c.loop-k.k v f inside e c.loop-k.invariant.written j a l;

@@ -13,8 +13,8 @@ loop-k-preserved c =
     c.args.i c.args.p c.loop-k.k =
     seen_same c.row_number.result (row_entry (wholes c.args.model.forms.now c.args.model.set.now) c.args.i c.args.p
     c.loop-k.k) c.row_number.ensures.number c.row_number.ensures.small in
-    let inside : c.loop-k.k < length c.loop-k.numbers = omega
-    (arith, c.loop-k.auto.numbers, c.requires.size, c.loop-k-test.true) in
+    let inside : c.loop-k.k < length c.loop-k.numbers =
+    omega (arith, c.loop-k.auto.numbers, c.requires.size, c.loop-k-test.true) in
     record {
       written = λ j l. written_next 0 c.loop-k.numbers c.loop-k.k v f inside e
           (λ j a l. c.loop-k.invariant.written j l) j (omega arith) l;

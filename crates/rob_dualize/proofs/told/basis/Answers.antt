@@ -10,6 +10,6 @@ loop-i-preserved g c =
 
 pub returns : goal.returns
 returns g c =
-    let n : c.loop-i.i ≡ length c.args.solver.now.basis = omega
-    (arith, c.loop-i-test.false, c.loop-i.auto.i-end, c.requires.positions) in
+    let n : c.loop-i.i ≡ length c.args.solver.now.basis =
+    omega (arith, c.loop-i-test.false, c.loop-i.auto.i-end, c.requires.positions) in
     record { basis = all_columns c.args.solver.now.basis c.loop-i.columns c.loop-i.i n c.loop-i.invariant }

@@ -9,8 +9,8 @@ use Rattle.rob_dualize.proofs.told.exact_weights.Goals as goal
 pub whole-requires : goal.whole-requires
 whole-requires g c = record {
   within = subst (λ (v : ℤ). nat_abs v ≤ g.N.Exact.limit) (sym
-      (seen_same c.farkas.result c.farkas.result refl (omega
-      (arith, c.farkas.ensures.within, g.met.N.Exact.limit_high)))) c.farkas.ensures.within;
+      (seen_same c.farkas.result c.farkas.result refl
+      (omega (arith, c.farkas.ensures.within, g.met.N.Exact.limit_high)))) c.farkas.ensures.within;
 }
 
 pub loop-i-preserved : goal.loop-i-preserved

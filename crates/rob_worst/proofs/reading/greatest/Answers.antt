@@ -40,10 +40,10 @@ value-requires g c = record { optimum = c.requires.searched.answered.0 }
 
 pub returns-clause-told : goal.returns-clause-told
 returns-clause-told g c =
-    let d : nat_abs c.args.task.now.common ≤ 2 ^ 62 - 1 = omega
-    (arith, c.requires.task.common_within, g.met.N.Exact.limit_high) in
-    let k : nat_abs c.args.task.now.constant ≤ 2 ^ 62 - 1 = omega
-    (arith, c.requires.task.constant_within, g.met.N.Exact.limit_high) in
+    let d : nat_abs c.args.task.now.common ≤ 2 ^ 62 - 1 =
+    omega (arith, c.requires.task.common_within, g.met.N.Exact.limit_high) in
+    let k : nat_abs c.args.task.now.constant ≤ 2 ^ 62 - 1 =
+    omega (arith, c.requires.task.constant_within, g.met.N.Exact.limit_high) in
     λ m is step i some z size t. greatest_told g.N.Exact.value m c.args.set.now is step i some z size c.args.task.now
     t c.args.solver.now c.requires.searched c.whole.result c.value.result
     (to_z w64 (of_z w64 c.args.task.now.constant)) c.in_ok-values.values c.in_ok-basis.basis
@@ -54,6 +54,6 @@ returns-clause-told g c =
 
 pub returns-clause-within : goal.returns-clause-within
 returns-clause-within g c =
-    let k : nat_abs c.args.task.now.constant ≤ 2 ^ 62 - 1 = omega
-    (arith, c.requires.task.constant_within, g.met.N.Exact.limit_high) in
+    let k : nat_abs c.args.task.now.constant ≤ 2 ^ 62 - 1 =
+    omega (arith, c.requires.task.constant_within, g.met.N.Exact.limit_high) in
     subst (λ v. nat_abs v ≤ g.N.Exact.limit) (sym (held c.args.task.now.constant k)) c.requires.task.constant_within

@@ -68,8 +68,8 @@ returns-in-None-part-clause-task g c = λ m f s.
 
 pub returns-clause-fits : goal.returns-clause-fits
 returns-clause-fits g c =
-    let n : nat_abs c.in-Some-part.constant ≤ 2 ^ 62 - 1 = omega
-    (arith, c.in-Some-part.ensures.number.1, g.met.N.Exact.limit_high) in
+    let n : nat_abs c.in-Some-part.constant ≤ 2 ^ 62 - 1 =
+    omega (arith, c.in-Some-part.ensures.number.1, g.met.N.Exact.limit_high) in
     let d : to_z w64 c.in-Some.common ≡ pos c.in-Some.common =
     common_seen g.N.Exact.limit c.in-Some.common g.met.N.Exact.limit_high c.in-Some.ensures.least.1 in
     fits_set g.N.Exact.limit c.args.model.set.now.columns c.args.model.forms.now c.items-2.result.now
@@ -89,8 +89,8 @@ returns-clause-fits g c =
 pub returns-clause-task : goal.returns-clause-task
 returns-clause-task g c = λ m f s.
     let z : List Fraction = map g.N.Exact.value c.args.vector.now in
-    let n : nat_abs c.in-Some-part.constant ≤ 2 ^ 62 - 1 = omega
-    (arith, c.in-Some-part.ensures.number.1, g.met.N.Exact.limit_high) in
+    let n : nat_abs c.in-Some-part.constant ≤ 2 ^ 62 - 1 =
+    omega (arith, c.in-Some-part.ensures.number.1, g.met.N.Exact.limit_high) in
     let first : c.items.result.now ≡ wholes z = c.items.ensures.list ∙ c.in-Ok.ensures.cleared
     ∙ ap (λ d. map (whole_at d) z) c.in-Some.ensures.least.0 in
     let second : c.items-2.result.now ≡ wholes z = c.items-2.ensures.list ∙ c.in-Ok.ensures.cleared
