@@ -24,7 +24,8 @@ use Rattle.rob_tree.specs.declared.error.TreeStop.{TreeStop}
 use Rattle.rob_tree.specs.declared.error.TreeStop.TheVariants as ungrown
 use Rattle.rob_top.specs.Answers.{whole_fault_text}
 use Rattle.rob_top.specs.Branched.{IsBranched, IsPrintedTree, no_ranges, no_variables}
-use Rattle.rob_top.specs.Calls.{Call, Count, IsBranching, count}
+use Rattle.rob_top.specs.Calls.{Call, Count, count}
+use Rattle.rob_top.specs.Commands.{IsBranching}
 use Rattle.rob_top.specs.Files.{word_of}
 use Rattle.rob_top.specs.Headline.{Means}
 use Rattle.rob_top.specs.Inputs.{AreVariables}

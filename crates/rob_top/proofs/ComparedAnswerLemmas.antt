@@ -8,7 +8,8 @@ use Rattle.rob_top.proofs.CommandLemmas.{two_verbs}
 use Rattle.rob_top.proofs.ComingLemmas.{Comes}
 use Rattle.rob_top.proofs.GeneratedLemmas.{number_decides}
 use Rattle.rob_top.proofs.NumberCourseLemmas.{NumberCourse, compares, writes_model}
-use Rattle.rob_top.specs.Calls.{Call, Known, limit_of, reads_model}
+use Rattle.rob_top.specs.Calls.{Call, Known, limit_of}
+use Rattle.rob_top.specs.Commands.{reads_model}
 use Rattle.rob_top.specs.Compared.{AsksFor}
 use Rattle.rob_top.specs.ComparedEnds.{IsComparedAnswer, MustEndCompared}
 use Rattle.rob_top.specs.Endings.{IsUnput}

@@ -42,7 +42,8 @@ use Rattle.rob_top.proofs.WorstAnswerLemmas.{unnamed_decides, unplanned_decides,
 use Rattle.rob_top.proofs.TreeAnswerLemmas.{accepted_tree, breaking_decides, judged_tree, proved_tree, tree_broken_decides, tree_verdict_decides, unproved_tree}
 use Rattle.rob_top.proofs.SplitAnswerLemmas.{split_ends}
 use Rattle.rob_top.proofs.SweepAnswerLemmas.{limit_decides, limit_rule_decides, narrow_sweep_decides, sweep_decides, sweep_rule_decides}
-use Rattle.rob_top.specs.Calls.{Call, IsBranching, IsSolving, Known, Output, known_call, limit_of}
+use Rattle.rob_top.specs.Calls.{Call, Known, Output, known_call, limit_of}
+use Rattle.rob_top.specs.Commands.{IsBranching, IsSolving}
 use Rattle.rob_top.specs.Completeness.{IsComplete, MustEnd}
 use Rattle.rob_top.specs.Endings.{EndsAs, IsEmptyAnswer, IsEmptyWholeAnswer, IsNarrowBelow, IsOutside, IsProvedAnswer, IsSolveAnswer, IsSweepAnswer, IsTreeAnswer, IsUnput, IsWholeAnswer, IsWorstAnswer, NamesWideSought}
 use Rattle.rob_top.specs.Headline.{Ends, Means}

@@ -4,7 +4,8 @@ use Rattle.rob_number.specs.declared.memory.Memory.{Memory as Want}
 use Rattle.rob_top.proofs.CommandLemmas.{two_verbs}
 use Rattle.rob_top.proofs.NumberCourseLemmas.{NumberCourse, compares, number_course_at, writes_model}
 use Rattle.rob_top.proofs.StageLemmas.{Stage, absent, answers_number, broken, failed, number_here, number_names_none, number_none_absent, over, read, stage_of, wanting, wordless}
-use Rattle.rob_top.specs.Calls.{Call, Count, Known, reads_model}
+use Rattle.rob_top.specs.Calls.{Call, Count, Known}
+use Rattle.rob_top.specs.Commands.{reads_model}
 use Rattle.rob_top.specs.ComparedWork.{AnswersNumber}
 use Rattle.rob_top.specs.Headline.{Means}
 use Rattle.rob_top.specs.Ways.{generated}

@@ -3,9 +3,11 @@ use Rattle.std.proofs.Common.{◌≡◌, ◌||◌, ℕ, Bool, true, false, not, 
 use Rattle.std.specs.Prelude.{if◌then◌else◌}
 use denote.Enum.Bare.{same_true, sameb}
 use Rattle.rob_meaning.specs.RobustModel.{RobustModel}
+use Rattle.rob_top.proofs.CommandLemmas.{branching_is, is_branching_work}
 use Rattle.rob_top.proofs.OwnLemmas.{has_kind, second_of}
 use Rattle.rob_top.specs.Branched.{BreaksWhole, no_ranges, no_variables}
-use Rattle.rob_top.specs.Calls.{Call, IsBranching, branches}
+use Rattle.rob_top.specs.Calls.{Call}
+use Rattle.rob_top.specs.Commands.{IsBranching, work_of}
 use Rattle.rob_top.specs.Files.{word_of}
 use Rattle.rob_top.specs.Inputs.{TellsNames}
 use Rattle.rob_words.proofs.EachValue.{each_value}
@@ -33,17 +35,17 @@ word_kind kind (other ∷ kinds) (word ∷ words) w e = by (sameb the_type other
 
 -- such a command grows a tree, or checks one
 abbrev is_either : Verb → Bool
-is_either v = not (has_kind Names (own_of v)) || (branches v || sameb verb_type v CheckTree)
+is_either v = not (has_kind Names (own_of v)) || (is_branching_work (work_of v) || sameb verb_type v CheckTree)
 
 names_verb : (verb : Verb) → has_kind Names (own_of verb) ≡ true → IsBranching verb ⊎ (verb ≡ CheckTree)
 names_verb verb h =
-    by (branches verb) refl
-    (second_of (not (has_kind Names (own_of verb))) (branches verb || sameb verb_type verb CheckTree)
+    by (is_branching_work (work_of verb)) refl
+    (second_of (not (has_kind Names (own_of verb))) (is_branching_work (work_of verb) || sameb verb_type verb CheckTree)
     (each_value enum is_either refl verb) (ap not h))
   where
-    by : (b : Bool) → branches verb ≡ b → (b || sameb verb_type verb CheckTree) ≡ true
+    by : (b : Bool) → is_branching_work (work_of verb) ≡ b → (b || sameb verb_type verb CheckTree) ≡ true
         → IsBranching verb ⊎ (verb ≡ CheckTree)
-    by true e k = inl e
+    by true e k = inl (branching_is (work_of verb) e)
     by false e k = inr (same_true verb_type tt verb CheckTree k)
 
 telling_verb : (line : Line) (names : List Word) → TellsNames line names → IsBranching line.verb

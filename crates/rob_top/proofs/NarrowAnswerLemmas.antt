@@ -1,5 +1,5 @@
 -- The answer of `narrow`, and the answers of `solve` and `prove` for a narrow model.
-use Rattle.std.proofs.Common.{◌≡◌, ◌≢◌, pos, ◌&&◌, ◌↔◌, ◌⊎◌, ℕ, ◌++◌, true, List, Option, Some, None, Result, Ok, Err, IfOk, codes, inl, inr, refl, sym, ◌∙◌, ap₂, subst}
+use Rattle.std.proofs.Common.{◌≡◌, ◌≢◌, pos, ◌&&◌, ◌↔◌, ◌⊎◌, ℕ, ◌++◌, true, List, Option, Some, None, Result, Ok, Err, IfOk, codes, inl, inr, refl, sym, ◌∙◌, ap, ap₂, subst}
 use Rattle.std.specs.Prelude.{is_some}
 use Rattle.rob_algebra.specs.Fraction.{Fraction, of_int}
 use Rattle.rob_counterpart.proofs.CompletenessLemmas.{some_status}
@@ -22,10 +22,10 @@ use Rattle.rob_model.specs.declared.place.Spot.{Spot}
 use Rattle.rob_model.specs.declared.place.Spot.TheVariants.{Dictionary}
 use Rattle.rob_number.specs.declared.memory.Memory.{Memory as Want}
 use Rattle.rob_report.specs.NarrowText.{bound_line, narrow_line}
-use Rattle.rob_top.proofs.CommandLemmas.{narrow_no_branch, narrow_no_sweep, narrow_not_check, narrow_not_replay, narrow_not_tree, narrow_not_worst, solves_no_narrow, narrow_no_split}
-use Rattle.rob_top.proofs.CourseLemmas.{Course, bounds, branching, checking_tree, finds, judges, lacks_plan, prints, refuses, replays, searches, shows_empty, sweeping, wide_number, wide_row, splitting}
-use Rattle.rob_top.proofs.TrueAnswerLemmas.{course_of, first_of_two, lacking_verb, no_first}
+use Rattle.rob_top.proofs.TrueAnswerLemmas.{first_of_two, formed_course}
 use Rattle.rob_top.specs.Calls.{Call, Count, Known}
+use Rattle.rob_top.specs.Commands as works
+use Rattle.rob_top.specs.Commands.{work_of}
 use Rattle.rob_top.specs.Endings.{IsEmptyAnswer, IsShownAnswer, IsSolveAnswer}
 use Rattle.rob_top.specs.Headline.{Means}
 use Rattle.rob_top.specs.Inputs.{HasForms}
@@ -111,24 +111,10 @@ pub narrow_decides : (call : Call) (known : Known call.source) (line : Line) (m 
     → (ended : Ended) (text : List ℕ) → Means call ended text → (ended ≡ Printed)
     ⊎ ((ended ≡ ReadFault) ⊎ (ended ≡ Memory))
 narrow_decides call known line m has is ended text means =
-    first_of_two by (course_of call known line m has.model ended text means)
+    first_of_two by (formed_course call known line m has works.narrowing (ap work_of is) ended text means)
   where
-    by : Course call line m ended → ended ≡ Printed
-    by (finds status v u inside forms solves holds e) = absurd (solves_no_narrow line.verb is solves)
-    by (shows_empty weights forms solves shown e) = absurd (solves_no_narrow line.verb is solves)
-    by (prints forms rows e) = e
-    by (judges c h e) = absurd (narrow_not_check line.verb is h.file.is_check)
-    by (refuses bytes rule number h breach e) = absurd (narrow_not_check line.verb is h.is_check)
-    by (wide_number spot makes h e) = absurd (no_first call known line m has spot h)
-    by (wide_row spot forms solves wide e) = absurd (solves_no_narrow line.verb is solves)
-    by (replays c bytes rows h file e) = absurd (narrow_not_replay line.verb is h.certificate.file.is_replay)
-    by (lacks_plan rule number h e) = absurd (narrow_not_replay line.verb is (lacking_verb call line m rule number h))
-    by (branching took course) = absurd (narrow_no_branch line.verb is took)
-    by (searches worst course) = absurd (narrow_not_worst line.verb is worst)
-    by (checking_tree took course) = absurd (narrow_not_tree line.verb is took)
-    by (sweeping took course) = absurd (narrow_no_sweep line.verb is took)
-    by (splitting took course) = absurd (narrow_no_split line.verb is took)
-    by (bounds forms too e) = e
+    by : HasForms call line m × (ended ≡ Printed) → ended ≡ Printed
+    by printed = printed.1
 
 -- ---- `solve` and `prove` of a narrow model
 module _ (limit : ℕ) (m : RobustModel) (narrow : IsNarrowModel limit m) where

@@ -10,7 +10,8 @@ use Rattle.rob_model.specs.declared.place.Spot.{Spot}
 use Rattle.rob_report.specs.NarrowText.{narrow_line}
 use Rattle.rob_sets.specs.FirstWide.{NothingWide}
 use Rattle.rob_syntax.specs.Symbols.{first_of}
-use Rattle.rob_top.specs.Calls.{Call, IsSolving, Known, known_call, limit_of}
+use Rattle.rob_top.specs.Calls.{Call, Known, known_call, limit_of}
+use Rattle.rob_top.specs.Commands.{IsSolving}
 use Rattle.rob_top.specs.Completeness.{MustEnd}
 use Rattle.rob_top.specs.Endings.{EndsAs, IsShownAnswer}
 use Rattle.rob_top.specs.Inputs.{HasForms, HasModel}

@@ -2,7 +2,9 @@
 use Rattle.std.proofs.Common.{◌≡◌, ◌||◌, ℕ, Bool, true, false, not, refl, sym, ◌∙◌, ap, subst, arith, List, [], ◌∷◌, length, Option, Some, None, Vec, Global, map, rules, string_bytes, inl, inr, ◌⊎◌}
 use Rattle.std.specs.Prelude.{if◌then◌else◌, option_map}
 use denote.Enum.Bare.{same_true, sameb}
-use Rattle.rob_top.specs.Calls.{Call, IsBranching, IsOnModel, branches, reads_model}
+use Rattle.rob_top.proofs.CommandLemmas.{is_branching_work}
+use Rattle.rob_top.specs.Calls.{Call}
+use Rattle.rob_top.specs.Commands.{IsBranching, IsOnModel, Work, reads_model, work_of}
 use Rattle.rob_top.specs.Files.{HasFile, Request, file_of, files_of, first_or, later, most_of, request_of, requests, word_of}
 use Rattle.rob_top.specs.Replies.{HasTexts, text_of, with_text}
 use Rattle.rob_top.specs.declared.files.Texts.{Texts}
@@ -40,11 +42,12 @@ has_model verb reads =
 
 -- one that grows a tree has a list of names
 abbrev is_naming : Verb → Bool
-is_naming v = not (branches v) || has_kind Names (own_of v)
+is_naming v = not (is_branching_work (work_of v)) || has_kind Names (own_of v)
 
 pub has_names : (verb : Verb) → IsBranching verb → has_kind Names (own_of verb) ≡ true
 has_names verb is =
-    second_of (not (branches verb)) (has_kind Names (own_of verb)) (each_value enum is_naming refl verb) (ap not is)
+    second_of (not (is_branching_work (work_of verb))) (has_kind Names (own_of verb)) (each_value enum is_naming refl verb)
+    (ap (λ (w : Work). not (is_branching_work w)) is)
 
 -- `worst` has the name of a form
 pub has_form : (verb : Verb) → verb ≡ Worst → has_kind Form (own_of verb) ≡ true

@@ -4,7 +4,6 @@ use Rattle.rob_meaning.specs.Certificates.{Certificate, Status, infeasible}
 use Rattle.rob_meaning.specs.Places.{Each}
 use Rattle.rob_meaning.specs.RobustModel.{RobustModel}
 use Rattle.rob_replay.specs.Replayed.{ShowsBound}
-use Rattle.rob_top.proofs.CommandLemmas.{check_not_replay, replay_not_worst}
 use Rattle.rob_top.proofs.CompletenessLemmas.{printed_fits, printed_text}
 use Rattle.rob_top.proofs.CourseLemmas.{unplanned_verb}
 use Rattle.rob_top.proofs.KnownInputs.{known_again, scenarios_known}
@@ -13,6 +12,8 @@ use Rattle.rob_top.proofs.ReplayAnswerLemmas.{no_breach, one_certificate, proved
 use Rattle.rob_top.proofs.SoughtLemmas.{forms_unplanned}
 use Rattle.rob_top.proofs.StageLemmas.{lacking_model, one_model_read}
 use Rattle.rob_top.specs.Calls.{Call, Known, known_call}
+use Rattle.rob_top.specs.Commands as works
+use Rattle.rob_top.specs.Commands.{Work, work_of}
 use Rattle.rob_top.specs.Headline.{Means}
 use Rattle.rob_top.specs.Inputs.{HasModel, HasReplayCertificate, HasReplayFile, HasScenarioFile}
 use Rattle.rob_top.specs.Replayed.{IsReplayed, LacksPlan, planless, unread}
@@ -21,7 +22,7 @@ use Rattle.rob_top.specs.Ways.{not_checked, not_replayed, not_searched}
 use Rattle.rob_top.specs.declared.ended.Ended.TheVariants.{Cert}
 use Rattle.rob_words.proofs.Spellings.{one_line}
 use Rattle.rob_words.specs.Commands.{Line, IsSpelled}
-use Rattle.rob_words.specs.declared.verb.Verb.TheVariants.{Check, Prove, Worst}
+use Rattle.rob_words.specs.declared.verb.Verb.TheVariants.{Prove}
 
 module _ (proving replaying : Call) (status : Status) (text : List ℕ) (solved : IsSolved proving status text)
     (is_prove : solved.line.verb ≡ Prove) (known : Known replaying.source) (line : Line)
@@ -47,6 +48,11 @@ module _ (proving replaying : Call) (status : Status) (text : List ℕ) (solved 
 
   model_here : (l : Line) (m : RobustModel) → HasModel told l m → m ≡ solved.m
   model_here l m has = one_model_read told l line m solved.m told_source has file.model
+
+  -- so its work is to replay, and no other
+  work_here : (w : Work) (l : Line) → IsSpelled told.words l → work_of l.verb ≡ w → works.replaying ≡ w
+  work_here w l spelled is =
+      sym (ap work_of file.is_replay) ∙ ap (λ (k : Line). work_of k.verb) (sym (line_here l spelled)) ∙ is
 
   -- so is the certificate that it read
   certificate_here : (l : Line) (m : RobustModel) (c : Certificate) → HasReplayCertificate told l m c → c ≡ solved.c
@@ -96,14 +102,11 @@ module _ (proving replaying : Call) (status : Status) (text : List ℕ) (solved 
     where
       by : Means told (Cert rule number) shown → SaysInfeasible rule number
       by (not_checked h) =
-          absurd
-          (check_not_replay line.verb
-          (subst (λ (l : Line). l.verb ≡ Check) (line_here h.line h.file.forms.model.spelled) h.file.is_check)
-          file.is_replay)
+          absurd (let no : works.replaying ≡ works.checking =
+          work_here works.checking h.line h.file.forms.model.spelled (ap work_of h.file.is_check) in cc)
       by (not_replayed h) = lack_says rule number (lacks_here rule number h.line h.m h.lacks)
       by (not_searched h) =
           let forms = forms_unplanned told h.line h.m rule number h.gives_none in
-          absurd
-          (replay_not_worst line.verb file.is_replay
-          (subst (λ (l : Line). l.verb ≡ Worst) (line_here h.line forms.model.spelled)
-          (unplanned_verb told h.line h.m rule number h.gives_none)))
+          absurd (let no : works.replaying ≡ works.searching =
+          work_here works.searching h.line forms.model.spelled
+          (ap work_of (unplanned_verb told h.line h.m rule number h.gives_none)) in cc)

@@ -2,15 +2,16 @@
 use Rattle.std.proofs.Common.{◌≡◌, ℕ, List, sym, ◌∙◌, ap, subst}
 use Rattle.rob_meaning.specs.Certificates.{Certificate, Status, infeasible}
 use Rattle.rob_meaning.specs.RobustModel.{RobustModel}
-use Rattle.rob_top.proofs.CommandLemmas.{check_not_worst, replay_not_worst}
 use Rattle.rob_top.proofs.CompletenessLemmas.{printed_fits, printed_text}
+use Rattle.rob_top.proofs.CourseLemmas.{lacking_verb}
 use Rattle.rob_top.proofs.KnownInputs.{known_again, sought_known}
 use Rattle.rob_top.proofs.KnownLemmas.{means_known}
 use Rattle.rob_top.proofs.SoughtLemmas.{forms_unplanned}
 use Rattle.rob_top.proofs.StageLemmas.{lacking_model, one_model_read}
-use Rattle.rob_top.proofs.TrueAnswerLemmas.{lacking_verb}
 use Rattle.rob_top.proofs.WorstAnswerLemmas.{no_breach, one_certificate, proved_keeps}
 use Rattle.rob_top.specs.Calls.{Call, Known, known_call}
+use Rattle.rob_top.specs.Commands as works
+use Rattle.rob_top.specs.Commands.{Work, work_of}
 use Rattle.rob_top.specs.Headline.{Means}
 use Rattle.rob_top.specs.Inputs.{HasModel, HasSought, HasWorstCertificate, HasWorstFile}
 use Rattle.rob_top.specs.Searched.{GivesNoPlan, IsSearched, ShowsKept, certificate_vector, claims_none, misread}
@@ -19,7 +20,7 @@ use Rattle.rob_top.specs.Ways.{not_checked, not_replayed, not_searched}
 use Rattle.rob_top.specs.declared.ended.Ended.TheVariants.{Cert}
 use Rattle.rob_words.proofs.Spellings.{one_line}
 use Rattle.rob_words.specs.Commands.{Line, IsSpelled}
-use Rattle.rob_words.specs.declared.verb.Verb.TheVariants.{Check, Prove, Replay}
+use Rattle.rob_words.specs.declared.verb.Verb.TheVariants.{Prove}
 
 module _ (proving searching : Call) (status : Status) (text : List ℕ) (solved : IsSolved proving status text)
     (is_prove : solved.line.verb ≡ Prove) (known : Known searching.source) (line : Line)
@@ -45,6 +46,11 @@ module _ (proving searching : Call) (status : Status) (text : List ℕ) (solved 
 
   model_here : (l : Line) (m : RobustModel) → HasModel told l m → m ≡ solved.m
   model_here l m has = one_model_read told l line m solved.m told_source has file.forms.model
+
+  -- so its work is to search, and no other
+  work_here : (w : Work) (l : Line) → IsSpelled told.words l → work_of l.verb ≡ w → works.searching ≡ w
+  work_here w l spelled is =
+      sym (ap work_of file.is_worst) ∙ ap (λ (k : Line). work_of k.verb) (sym (line_here l spelled)) ∙ is
 
   -- so is the certificate that it read
   certificate_here : (l : Line) (m : RobustModel) (c : Certificate) → HasWorstCertificate told l m c → c ≡ solved.c
@@ -93,14 +99,10 @@ module _ (proving searching : Call) (status : Status) (text : List ℕ) (solved 
     where
       by : Means told (Cert rule number) shown → SaysInfeasible rule number
       by (not_checked h) =
-          absurd
-          (check_not_worst line.verb
-          (subst (λ (l : Line). l.verb ≡ Check) (line_here h.line h.file.forms.model.spelled) h.file.is_check)
-          file.is_worst)
+          absurd (let no : works.searching ≡ works.checking =
+          work_here works.checking h.line h.file.forms.model.spelled (ap work_of h.file.is_check) in cc)
       by (not_replayed h) =
-          absurd
-          (replay_not_worst line.verb
-          (subst (λ (l : Line). l.verb ≡ Replay)
-          (line_here h.line (lacking_model told h.line h.m rule number h.lacks).spelled)
-          (lacking_verb told h.line h.m rule number h.lacks)) file.is_worst)
+          absurd (let no : works.searching ≡ works.replaying =
+          work_here works.replaying h.line (lacking_model told h.line h.m rule number h.lacks).spelled
+          (ap work_of (lacking_verb told h.line h.m rule number h.lacks)) in cc)
       by (not_searched h) = none_says rule number (gives_here rule number h.line h.m h.gives_none)

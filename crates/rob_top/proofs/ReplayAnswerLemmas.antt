@@ -1,5 +1,5 @@
 -- Which answer has to come at `replay`, where what is known of the files decides.
-use Rattle.std.proofs.Common.{◌≡◌, ℕ, ◌≤◌, List, sym, ◌∙◌, ap, subst, ◌⊎◌}
+use Rattle.std.proofs.Common.{◌≡◌, ℕ, ◌≤◌, List, refl, sym, ◌∙◌, ap, subst, ◌⊎◌}
 use Rattle.rob_cert.specs.Causes.{HasCause}
 use Rattle.rob_cert.specs.Reading.{start}
 use Rattle.rob_cert.specs.Spelling.{naming_of}
@@ -19,13 +19,14 @@ use Rattle.rob_replay.proofs.OneFileLemmas.{one_file}
 use Rattle.rob_replay.specs.Files.{IsFile}
 use Rattle.rob_replay.specs.Outcome.{outcome}
 use Rattle.rob_replay.specs.Replayed.{ShowsBound}
-use Rattle.rob_top.proofs.CommandLemmas.{check_not_replay, narrow_not_replay, replay_no_branch, replay_no_sweep, replay_not_tree, replay_not_worst, replays_alone, rows_not_replay, solves_no_replay, replay_no_split}
-use Rattle.rob_top.proofs.CourseLemmas.{Course, bounds, branching, checking_tree, finds, judges, lacks_plan, prints, refuses, replays, searches, shows_empty, sweeping, wide_number, wide_row, splitting}
+use Rattle.rob_top.proofs.CourseLemmas.{ReplayCourse, lacking_verb, lacks_plan, replays}
 use Rattle.rob_top.proofs.SolvingLemmas.{proved_bound}
 use Rattle.rob_top.proofs.StageLemmas.{file_once, lacking_model}
-use Rattle.rob_top.proofs.TrueAnswerLemmas.{course_of, first_of_two, in_words, lacking_verb, most, named, well}
+use Rattle.rob_top.proofs.TrueAnswerLemmas.{first_of_two, in_words, most, named, unformed_course, well}
 use Rattle.rob_top.proofs.WorkLemmas.{limit_is}
 use Rattle.rob_top.specs.Calls.{Call, Known, limit_of}
+use Rattle.rob_top.specs.Commands as works
+use Rattle.rob_top.specs.Commands.{work_of}
 use Rattle.rob_top.specs.Headline.{Means}
 use Rattle.rob_top.specs.Inputs.{HasModel, HasReplayCertificate, HasReplayFile, HasScenarioFile}
 use Rattle.rob_top.specs.Replayed.{IsReplayed, LacksPlan, planless, replay_ended, unread}
@@ -34,7 +35,6 @@ use Rattle.rob_top.specs.declared.ended.Ended.TheVariants.{Cert, ReadFault, Memo
 use Rattle.rob_words.specs.Commands.{Line}
 use Rattle.rob_words.specs.Values.{bits_of}
 use Rattle.rob_words.specs.declared.verb.Own.TheVariants as own
-use Rattle.rob_words.specs.declared.verb.Verb.TheVariants.{Replay}
 
 module _ (call : Call) (known : Known call.source) (line : Line) (m : RobustModel) where
   same_file : (bytes other : List ℕ) → HasReplayFile call line m bytes → HasReplayFile call line m other → bytes ≡ other
@@ -112,55 +112,27 @@ module _ (call : Call) (known : Known call.source) (line : Line) (m : RobustMode
       → (ended : Ended) (text : List ℕ) → Means call ended text
       → (ended ≡ replay_ended (outcome (limit_of line) m c.plan rows)) ⊎ ((ended ≡ ReadFault) ⊎ (ended ≡ Memory))
   replay_decides c bytes rows has file ended text means =
-      first_of_two by (course_of call known line m has.certificate.file.model ended text means)
+      first_of_two by
+      (unformed_course call known line m has.certificate.file.model works.replaying refl
+      (ap work_of has.certificate.file.is_replay) ended text means)
     where
-      here : line.verb ≡ Replay
-      here = has.certificate.file.is_replay
-
-      by : Course call line m ended → ended ≡ replay_ended (outcome (limit_of line) m c.plan rows)
-      by (finds status v u inside forms solves holds e) = absurd (solves_no_replay line.verb here solves)
-      by (shows_empty weights forms solves shown e) = absurd (solves_no_replay line.verb here solves)
-      by (prints forms is e) = absurd (rows_not_replay line.verb is here)
-      by (judges d h e) = absurd (check_not_replay line.verb h.file.is_check here)
-      by (refuses list rule number h breach e) = absurd (check_not_replay line.verb h.is_check here)
-      by (wide_number spot makes h e) = absurd (replays_alone line.verb here makes)
-      by (wide_row spot forms solves wide e) = absurd (solves_no_replay line.verb here solves)
+      by : ReplayCourse call line m ended → ended ≡ replay_ended (outcome (limit_of line) m c.plan rows)
       by (replays d list others h other e) = e ∙ same_records c d bytes list rows others has h file other
       by (lacks_plan rule number h e) = absurd (lacks_no_plan rule number c bytes h has)
-      by (branching is course) = absurd (replay_no_branch line.verb here is)
-      by (searches is course) = absurd (replay_not_worst line.verb here is)
-      by (checking_tree is course) = absurd (replay_not_tree line.verb here is)
-      by (sweeping is course) = absurd (replay_no_sweep line.verb here is)
-      by (splitting is course) = absurd (replay_no_split line.verb here is)
-      by (bounds forms is e) = absurd (narrow_not_replay line.verb is here)
 
   pub planless_decides : (rule number : ℕ) → LacksPlan call line m rule number
       → (ended : Ended) (text : List ℕ) → Means call ended text
       → (ended ≡ Cert rule number) ⊎ ((ended ≡ ReadFault) ⊎ (ended ≡ Memory))
   planless_decides rule number has ended text means =
-      first_of_two by (course_of call known line m (lacking_model call line m rule number has) ended text means)
+      first_of_two by
+      (unformed_course call known line m (lacking_model call line m rule number has) works.replaying refl
+      (ap work_of (lacking_verb call line m rule number has)) ended text means)
     where
-      here : line.verb ≡ Replay
-      here = lacking_verb call line m rule number has
-
-      by : Course call line m ended → ended ≡ Cert rule number
-      by (finds status v u inside forms solves holds e) = absurd (solves_no_replay line.verb here solves)
-      by (shows_empty weights forms solves shown e) = absurd (solves_no_replay line.verb here solves)
-      by (prints forms is e) = absurd (rows_not_replay line.verb is here)
-      by (judges d h e) = absurd (check_not_replay line.verb h.file.is_check here)
-      by (refuses list r n h breach e) = absurd (check_not_replay line.verb h.is_check here)
-      by (wide_number spot makes h e) = absurd (replays_alone line.verb here makes)
-      by (wide_row spot forms solves wide e) = absurd (solves_no_replay line.verb here solves)
+      by : ReplayCourse call line m ended → ended ≡ Cert rule number
       by (replays d list others h other e) = absurd (lacks_no_plan rule number d list has h)
       by (lacks_plan r n h e) =
           let one = one_lack rule number r n has h in
           e ∙ ap (λ k. Cert k n) one.0 ∙ ap (λ k. Cert rule k) one.1
-      by (branching is course) = absurd (replay_no_branch line.verb here is)
-      by (searches is course) = absurd (replay_not_worst line.verb here is)
-      by (checking_tree is course) = absurd (replay_not_tree line.verb here is)
-      by (sweeping is course) = absurd (replay_no_sweep line.verb here is)
-      by (splitting is course) = absurd (replay_no_split line.verb here is)
-      by (bounds forms is e) = absurd (narrow_not_replay line.verb is here)
 
 -- ---- the plan of a certificate that proves has its bound, and each inside line of its table shows it
 pub model_read : (call : Call) (line : Line) (m : RobustModel) → HasModel call line m → IsModel m

@@ -45,7 +45,8 @@ use Rattle.rob_report.specs.Report.{report_of}
 use Rattle.rob_report.specs.Spots.{too_wide_line}
 use Rattle.rob_sets.specs.SetForm.{IsSetForm, cleared_row}
 use Rattle.rob_sets.specs.declared.set_form.SetForm.{SetForm}
-use Rattle.rob_top.specs.Calls.{Call, Count, count, IsSolving, limit_of}
+use Rattle.rob_top.specs.Calls.{Call, Count, count, limit_of}
+use Rattle.rob_top.specs.Commands.{IsSolving}
 use Rattle.rob_top.specs.Headline.{Means}
 use Rattle.rob_top.specs.Inputs.{HasForms}
 use Rattle.rob_top.specs.Replies.{Replies}

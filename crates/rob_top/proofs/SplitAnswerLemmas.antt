@@ -14,18 +14,19 @@ use Rattle.rob_pieces.specs.SplitModel.{split_model}
 use Rattle.rob_sets.specs.FirstWide.{IsFirstWide}
 use Rattle.rob_top.proofs.BeforeLemmas.{before_it}
 use Rattle.rob_top.proofs.ComingLemmas.{Comes, comes_ends, ends_in}
-use Rattle.rob_top.proofs.CommandLemmas.{branches_no_split, check_no_split, makes_no_split, narrow_no_split, replay_no_split, rows_no_split, solves_no_split, sweeps_no_split, tree_no_split, two_verbs, worst_no_split}
-use Rattle.rob_top.proofs.CourseLemmas.{Course, bounds, branching, checking_tree, finds, judges, lacks_plan, prints, refuses, replays, searches, shows_empty, splitting, sweeping, wide_number, wide_row}
+use Rattle.rob_top.proofs.CommandLemmas.{two_verbs}
 use Rattle.rob_top.proofs.CutTellingLemmas.{cuts_at_once, cuts_inside}
 use Rattle.rob_top.proofs.NarrowAnswerLemmas.{has_status}
 use Rattle.rob_top.proofs.SplitCourseLemmas.{SplitCourse, breaks_cells, cells_model, cells_splits, finds_pieces, shows_empty_cell, wide_cell, writes_split}
 use Rattle.rob_top.proofs.SplittingLemmas.{admits_each, each_admits, split_model_is, status_over_pieces}
-use Rattle.rob_top.proofs.TrueAnswerLemmas.{course_of, first_of_two, lacking_verb, named, well}
+use Rattle.rob_top.proofs.TrueAnswerLemmas.{first_of_two, named, unformed_course, well}
 use Rattle.rob_top.specs.Calls.{Call, Known, limit_of}
 use Rattle.rob_top.specs.Endings.{EndsAs}
 use Rattle.rob_top.specs.Headline.{Means}
 use Rattle.rob_top.specs.Inputs.{HasModel}
-use Rattle.rob_top.specs.Split.{AreCutsAt, BreaksCells, EachCellAdmits, HasCuts, HasCutWord, HasSplit, HasStatusOverPieces, IsSplitting, named_set, no_parameter, of_split}
+use Rattle.rob_top.specs.Split.{AreCutsAt, BreaksCells, EachCellAdmits, HasCuts, HasCutWord, HasSplit, HasStatusOverPieces, named_set, no_parameter, of_split}
+use Rattle.rob_top.specs.Commands as works
+use Rattle.rob_top.specs.Commands.{IsSplitting}
 use Rattle.rob_top.specs.SplitEnds.{IsCellsAnswer, IsEmptyCellsAnswer, IsNarrowSplit, MustEndSplit}
 use Rattle.rob_top.specs.Work.{ended_of}
 use Rattle.rob_top.specs.declared.ended.Ended.{Ended}
@@ -78,24 +79,7 @@ module _ (call : Call) (known : Known call.source) (line : Line) (m : RobustMode
   -- the command cuts, so that stands behind its answer
   split_course : HasModel call line m → IsSplitting line.verb → (ended : Ended) (text : List ℕ) → Means call ended text
       → SplitCourse call line m ended ⊎ ((ended ≡ ReadFault) ⊎ (ended ≡ Memory))
-  split_course has is ended text means = first_of_two by (course_of call known line m has ended text means)
-    where
-      by : Course call line m ended → SplitCourse call line m ended
-      by (finds status v u inside forms solves holds e) = absurd (solves_no_split line.verb solves is)
-      by (shows_empty weights forms solves shown e) = absurd (solves_no_split line.verb solves is)
-      by (prints forms rows e) = absurd (rows_no_split line.verb rows is)
-      by (judges c h e) = absurd (check_no_split line.verb h.file.is_check is)
-      by (refuses bytes rule number h breach e) = absurd (check_no_split line.verb h.is_check is)
-      by (wide_number spot makes h e) = absurd (makes_no_split line.verb makes is)
-      by (wide_row spot forms solves wide e) = absurd (solves_no_split line.verb solves is)
-      by (replays c bytes rows h file e) = absurd (replay_no_split line.verb h.certificate.file.is_replay is)
-      by (lacks_plan rule number h e) = absurd (replay_no_split line.verb (lacking_verb call line m rule number h) is)
-      by (branching too course) = absurd (branches_no_split line.verb too is)
-      by (searches worst course) = absurd (worst_no_split line.verb worst is)
-      by (checking_tree too course) = absurd (tree_no_split line.verb too is)
-      by (bounds forms narrow e) = absurd (narrow_no_split line.verb narrow is)
-      by (sweeping too course) = absurd (sweeps_no_split line.verb too is)
-      by (splitting too course) = course
+  split_course has is = unformed_course call known line m has works.splitting refl is
 
   -- ---- the words tell one list of cuts
   word_once : (a b : Word) → HasCutWord call line m a → HasCutWord call line m b → a ≡ b

@@ -10,7 +10,8 @@ use Rattle.rob_pieces.specs.Cuts.{Cut}
 use Rattle.rob_pieces.specs.SplitModel.{split_model}
 use Rattle.rob_top.specs.Calls.{Call, limit_of}
 use Rattle.rob_top.specs.Inputs.{HasModel}
-use Rattle.rob_top.specs.Split.{BreaksCells, EachCellAdmits, HasSplit, HasStatusOverPieces, IsEmptyCell, IsPieced, IsSplitText, IsSplitting, IsWideSplit, named_set, no_parameter, of_split}
+use Rattle.rob_top.specs.Split.{BreaksCells, EachCellAdmits, HasSplit, HasStatusOverPieces, IsEmptyCell, IsPieced, IsSplitText, IsWideSplit, named_set, no_parameter, of_split}
+use Rattle.rob_top.specs.Commands.{IsSplitting}
 use Rattle.rob_top.specs.Work.{ended_of}
 use Rattle.rob_top.specs.declared.ended.Ended.{Ended}
 use Rattle.rob_top.specs.declared.ended.Ended.TheVariants.{Printed, EmptySet, TooWide, Cells as CellsRule}

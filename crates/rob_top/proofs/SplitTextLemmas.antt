@@ -19,18 +19,19 @@ use Rattle.rob_sets.specs.FirstWide.{NothingWide}
 use Rattle.rob_split_text.proofs.ReadableSplits.{negated_fits}
 use Rattle.rob_split_text.proofs.SplitReading.{split_text_few, split_text_reads}
 use Rattle.rob_split_text.specs.SplitTexts.{HasFewTokens, HaveFittingLevels}
-use Rattle.rob_top.proofs.CommandLemmas.{solves_no_branch, solves_no_check, solves_no_narrow, solves_no_replay, solves_no_rows, solves_no_split, solves_no_sweep, solves_no_tree, solves_no_worst}
 use Rattle.rob_top.proofs.CompletenessLemmas.{proved_then_checked}
-use Rattle.rob_top.proofs.CourseLemmas.{Course, bounds, branching, checking_tree, finds, judges, lacks_plan, prints, refuses, replays, searches, shows_empty, splitting, sweeping, wide_number, wide_row}
+use Rattle.rob_top.proofs.CourseLemmas.{Course, SolveCourse, does, finds, same_work, shows_empty, wide_number, wide_row}
 use Rattle.rob_top.proofs.CutTellingLemmas.{cuts_inside}
 use Rattle.rob_top.proofs.KnownInputs.{known_again, model_known}
 use Rattle.rob_top.proofs.KnownLemmas.{means_known}
 use Rattle.rob_top.proofs.NarrowAnswerLemmas.{has_status}
 use Rattle.rob_top.proofs.SplittingLemmas.{admits_each, kind_kept, split_model_is, status_over_pieces}
 use Rattle.rob_top.proofs.StageLemmas.{broken_here, file_once, one_model_read}
-use Rattle.rob_top.proofs.TrueAnswerLemmas.{course_of, lacking_verb}
+use Rattle.rob_top.proofs.TrueAnswerLemmas.{course_of}
 use Rattle.rob_top.proofs.WorkLemmas.{limit_is}
-use Rattle.rob_top.specs.Calls.{Call, IsSolving, Known, known_call, limit_of}
+use Rattle.rob_top.specs.Calls.{Call, Known, known_call, limit_of}
+use Rattle.rob_top.specs.Commands as works
+use Rattle.rob_top.specs.Commands.{IsSolving}
 use Rattle.rob_top.specs.Files.{HasFile}
 use Rattle.rob_top.specs.Completeness.{MustEnd}
 use Rattle.rob_top.specs.Endings.{EndsAs, IsProvedAnswer}
@@ -214,26 +215,17 @@ module _ (printing : Call) (text : List ℕ) (split : IsSplitText printing text)
           all (course_of told (known_again known) line s taken_model ended shown
           (means_known later known ended shown means))
         where
-          by : Course told line s ended → IsAnswer ended
-          by (finds status v u inside forms is holds e) =
+          of_work : SolveCourse told line s ended → IsAnswer ended
+          of_work (finds status v u inside forms holds e) =
               answer_is ended (ended_of status) e (status_answer status v (over_pieces status v holds))
-          by (shows_empty weights forms is shown e) =
+          of_work (shows_empty weights forms shown e) =
               answer_is ended (EmptySet weights) e (λ each. let w =
               admits_each m model split.cuts keeps are each in shown.empty w.0 w.1)
-          by (prints forms is e) = absurd (solves_no_rows line.verb is solves)
-          by (judges c h e) = absurd (solves_no_check line.verb h.file.is_check solves)
-          by (refuses bytes rule number h breach e) = absurd (solves_no_check line.verb h.is_check solves)
+          of_work (wide_row spot forms wide e) = answer_is ended (TooWide spot) e (inr wide)
+
+          by : Course told line s ended → IsAnswer ended
           by (wide_number spot makes h e) = answer_is ended (TooWide spot) e (inl h)
-          by (wide_row spot forms is wide e) = answer_is ended (TooWide spot) e (inr wide)
-          by (replays c bytes rows h file e) = absurd (solves_no_replay line.verb h.certificate.file.is_replay solves)
-          by (lacks_plan rule number h e) =
-              absurd (solves_no_replay line.verb (lacking_verb told line s rule number h) solves)
-          by (branching is course) = absurd (solves_no_branch line.verb solves is)
-          by (searches is course) = absurd (solves_no_worst line.verb is solves)
-          by (checking_tree is course) = absurd (solves_no_tree line.verb is solves)
-          by (sweeping is course) = absurd (solves_no_sweep line.verb solves is)
-          by (splitting is course) = absurd (solves_no_split line.verb solves is)
-          by (bounds forms is e) = absurd (solves_no_narrow line.verb is solves)
+          by (does w is course) = of_work (same_work told line s ended w works.solving is solves course)
 
           all : Course told line s ended ⊎ ((ended ≡ ReadFault) ⊎ (ended ≡ Memory)) → IsAnswer ended
           all (inl course) = by course

@@ -26,6 +26,7 @@ use Rattle.rob_pieces.specs.Cuts.{AreCuts, Cut, cell_count}
 use Rattle.rob_pieces.specs.SplitModel.{split_model}
 use Rattle.rob_report.specs.Report.{report_of}
 use Rattle.rob_top.proofs.BoxPathLemmas.{spot_in}
+use Rattle.rob_top.proofs.CommandLemmas.{is_splitting_work}
 use Rattle.rob_top.proofs.CourseLemmas.{inside_admitted}
 use Rattle.rob_top.proofs.OwnLemmas.{has_kind, second_of, word_there}
 use Rattle.rob_top.proofs.RouteLemmas.{no_rounds}
@@ -37,7 +38,8 @@ use Rattle.rob_top.specs.Headline.{Means}
 use Rattle.rob_top.specs.Inputs.{HasModel}
 use Rattle.rob_top.specs.WorkStops.{IsStopOf, RepliesStop}
 use Rattle.rob_top.specs.Replies.{Replies}
-use Rattle.rob_top.specs.Split.{AreCutsAt, EachCellAdmits, HasCuts, HasCutWord, HasSplit, HasStatusOverPieces, IsPieceKept, IsPieced, IsSplitting, TellsCuts, cells_fault_text, cells_line, named_set, no_parameter, of_split, splits}
+use Rattle.rob_top.specs.Split.{AreCutsAt, EachCellAdmits, HasCuts, HasCutWord, HasSplit, HasStatusOverPieces, IsPieceKept, IsPieced, TellsCuts, cells_fault_text, cells_line, named_set, no_parameter, of_split}
+use Rattle.rob_top.specs.Commands.{IsSplitting, Work, work_of}
 use Rattle.rob_top.specs.SplitWork.{AnswersCutWord, AnswersCuts, RepliesPieces, RepliesSplit}
 use Rattle.rob_top.specs.Ways.{in_cells, in_split, pieced, split_written}
 use Rattle.rob_top.specs.Work.{AnswersWords, IsCallAt, ended_of}
@@ -89,21 +91,22 @@ cut_list limit wides verb call line m word at has told =
 
 -- a command that cuts has a word of cuts
 abbrev tells_cuts : Verb → Bool
-tells_cuts v = not (splits v) || has_kind Cuts (own_of v)
+tells_cuts v = not (is_splitting_work (work_of v)) || has_kind Cuts (own_of v)
 
 pub cuts_there : (verb : Verb) → IsSplitting verb → has_kind Cuts (own_of verb) ≡ true
 cuts_there verb is =
-    second_of (not (splits verb)) (has_kind Cuts (own_of verb)) (each_value enum tells_cuts refl verb) (ap not is)
+    second_of (not (is_splitting_work (work_of verb))) (has_kind Cuts (own_of verb)) (each_value enum tells_cuts refl verb)
+    (ap (λ (w : Work). not (is_splitting_work w)) is)
 
 -- it is `cells` or `celltext`
 abbrev is_either : Verb → Bool
-is_either v = not (splits v) || (sameb verb_type v Cells || sameb verb_type v CellText)
+is_either v = not (is_splitting_work (work_of v)) || (sameb verb_type v Cells || sameb verb_type v CellText)
 
 either_verb : (verb : Verb) → IsSplitting verb → (verb ≡ Cells) ⊎ (verb ≡ CellText)
 either_verb verb is =
     by (sameb verb_type verb Cells) refl
-    (second_of (not (splits verb)) (sameb verb_type verb Cells || sameb verb_type verb CellText)
-    (each_value enum is_either refl verb) (ap not is))
+    (second_of (not (is_splitting_work (work_of verb))) (sameb verb_type verb Cells || sameb verb_type verb CellText)
+    (each_value enum is_either refl verb) (ap (λ (w : Work). not (is_splitting_work w)) is))
   where
     by : (b : Bool) → sameb verb_type verb Cells ≡ b → (b || sameb verb_type verb CellText) ≡ true
         → (verb ≡ Cells) ⊎ (verb ≡ CellText)

@@ -13,14 +13,16 @@ use Rattle.rob_rules.specs.Texts.{Breaks}
 use Rattle.rob_parse.proofs.Building.OneModel.{not_both, one_model}
 use Rattle.rob_rules.proofs.OneText.{one_break}
 use Rattle.rob_model.specs.declared.place.Spot.{Spot}
-use Rattle.rob_top.proofs.CourseLemmas.{Course, accepted_course, branched_course, cert_course, empty_branched_course, empty_course, limited_course, no_sweep_course, no_tree_course, empty_sought_course, no_row_course, no_whole_course, priced_course, rejected_course, lacking_course, narrowed_course, replayed_course, rows_course, scenarios_course, searched_course, solved_course, wide_budget_course, tree_accepted_course, tree_rejected_course, unplanned_course, wide_course, wide_leaf_course, wide_node_course, splitting, wide_way_course}
+use Rattle.rob_top.proofs.CourseLemmas.{Course, accepted_course, branched_course, cert_course, empty_branched_course, empty_course, limited_course, no_sweep_course, no_tree_course, empty_sought_course, no_row_course, no_whole_course, priced_course, rejected_course, lacking_course, narrowed_course, replayed_course, rows_course, scenarios_course, searched_course, solved_course, wide_budget_course, tree_accepted_course, tree_rejected_course, unplanned_course, wide_course, wide_leaf_course, wide_node_course, wide_way_course, does}
 use Rattle.rob_top.proofs.FilesLemmas.{empty_split}
 use Rattle.rob_top.proofs.OwnLemmas.{number_no_file, number_no_files}
 use Rattle.rob_top.proofs.NumberCourseLemmas.{NumberCourse, compared_course, wide_compared_course, writes_model}
 use Rattle.rob_top.proofs.SoughtLemmas.{forms_sought, forms_unnamed, forms_unplanned}
 use Rattle.rob_top.specs.Branched.{BreaksWhole, no_ranges, no_variables}
 use Rattle.rob_top.proofs.SplitCourseLemmas.{breaks_cells, cells_model, cells_splits, empty_cell_course, pieced_course, wide_split_course, written_course}
-use Rattle.rob_top.specs.Calls.{Call, Known, by_fetches, by_files, limit_of, reads_model}
+use Rattle.rob_top.specs.Calls.{Call, Known, by_fetches, by_files, limit_of}
+use Rattle.rob_top.specs.Commands as works
+use Rattle.rob_top.specs.Commands.{reads_model}
 use Rattle.rob_top.specs.Files.{Came, HasFile, IsFirstAbsent, IsFound, NamesFile, Request, answer_to, requests}
 use Rattle.rob_top.specs.Headline.{Means}
 use Rattle.rob_top.specs.Inputs.{HasModel}
@@ -76,17 +78,17 @@ stage_of call Optimal text (solved h) = read h.line h.m h.forms.model (solved_co
 stage_of call Optimal text (branched h) = read h.line h.m h.has.named.model (branched_course call optimal text h)
 stage_of call Optimal text (pieced h) =
     read h.line h.m h.has.has_cuts.has_word.model
-    (splitting h.has.has_cuts.has_word.is_splitting (pieced_course call optimal text h))
+    (does works.splitting h.has.has_cuts.has_word.is_splitting (pieced_course call optimal text h))
 stage_of call Infeasible text (solved h) = read h.line h.m h.forms.model (solved_course call infeasible text h)
 stage_of call Infeasible text (branched h) = read h.line h.m h.has.named.model (branched_course call infeasible text h)
 stage_of call Infeasible text (pieced h) =
     read h.line h.m h.has.has_cuts.has_word.model
-    (splitting h.has.has_cuts.has_word.is_splitting (pieced_course call infeasible text h))
+    (does works.splitting h.has.has_cuts.has_word.is_splitting (pieced_course call infeasible text h))
 stage_of call Unbounded text (solved h) = read h.line h.m h.forms.model (solved_course call unbounded text h)
 stage_of call Unbounded text (branched h) = read h.line h.m h.has.named.model (branched_course call unbounded text h)
 stage_of call Unbounded text (pieced h) =
     read h.line h.m h.has.has_cuts.has_word.model
-    (splitting h.has.has_cuts.has_word.is_splitting (pieced_course call unbounded text h))
+    (does works.splitting h.has.has_cuts.has_word.is_splitting (pieced_course call unbounded text h))
 stage_of call Printed text (rows h) = read h.line h.m h.forms.model (rows_course call text h)
 stage_of call Printed text (replayed h) = read h.line h.m h.has.certificate.file.model (replayed_course call text h)
 stage_of call Printed text (generated h) =
@@ -100,7 +102,7 @@ stage_of call Printed text (limited h) = read h.line h.m h.has.model (limited_co
 stage_of call Printed text (narrowed h) = read h.line h.m h.forms.model (narrowed_course call text h)
 stage_of call Printed text (split_written h) =
     read h.line h.m h.has.has_cuts.has_word.model
-    (splitting h.has.has_cuts.has_word.is_splitting (written_course call text h))
+    (does works.splitting h.has.has_cuts.has_word.is_splitting (written_course call text h))
 stage_of call Accepted text (a_certificate h) = read h.line h.m h.read.file.forms.model (accepted_course call text h)
 stage_of call Accepted text (a_tree h) =
     read h.line h.m h.read.file.variables.named.model (tree_accepted_course call text h)
@@ -117,7 +119,7 @@ stage_of call (EmptySet weights) text (while_branching h) =
     read h.line h.m h.has.named.model (empty_branched_course call weights text h)
 stage_of call (EmptySet weights) text (in_cells h) =
     read h.line h.m h.has.has_cuts.has_word.model
-    (splitting h.has.has_cuts.has_word.is_splitting (empty_cell_course call weights text h))
+    (does works.splitting h.has.has_cuts.has_word.is_splitting (empty_cell_course call weights text h))
 stage_of call (EmptySet weights) text (while_searching h) =
     read h.line h.m (forms_sought call h.line h.m h.c h.form h.has).model (empty_sought_course call weights text h)
 stage_of call (WideNode path spot) text (while_growing h) =
@@ -129,7 +131,7 @@ stage_of call (Sweep rule) text h =
     read h.line h.m (sweeping_model call h.line h.m rule h.breaks) (no_sweep_course call rule text h)
 stage_of call (Cells rule) text h =
     read h.line h.m (cells_model call h.line h.m rule h.breaks)
-    (splitting (cells_splits call h.line h.m rule h.breaks) (breaks_cells rule h.breaks refl))
+    (does works.splitting (cells_splits call h.line h.m rule h.breaks) (breaks_cells rule h.breaks refl))
 stage_of call (Whole rule) text h =
     read h.line h.m (breaking_model call h.line h.m rule h.breaks) (no_whole_course call rule text h)
 stage_of call (Tree rule number) text h =
@@ -139,7 +141,7 @@ stage_of call (TooWide spot) text (in_model h) =
 stage_of call (TooWide spot) text (on_way h) = read h.line h.m h.forms.model (wide_way_course call spot text h)
 stage_of call (TooWide spot) text (in_split h) =
     read h.line h.m h.has.has_cuts.has_word.model
-    (splitting h.has.has_cuts.has_word.is_splitting (wide_split_course call spot text h))
+    (does works.splitting h.has.has_cuts.has_word.is_splitting (wide_split_course call spot text h))
 stage_of call (TooWide spot) text (in_summary h) =
     answers_number h.line h.asks.spelled (ap reads_model h.asks.is_gen) (wide_compared_course call spot text h)
 stage_of call (Cert rule number) text (not_checked h) =

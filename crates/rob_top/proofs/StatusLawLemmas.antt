@@ -1,6 +1,6 @@
 -- A model has one status, and none where no scenario is admitted: what two answers say of each other, of one call, or
 -- of two calls of `solve` and `prove` on one model, or on the same bytes.
-use Rattle.std.proofs.Common.{◌≡◌, ◌∙◌, ℕ, ℤ, List, subst, sym}
+use Rattle.std.proofs.Common.{◌≡◌, ◌∙◌, ℕ, ℤ, List, ap, subst, sym}
 use Rattle.rob_algebra.specs.Fraction.{Fraction}
 use Rattle.rob_meaning.proofs.StatusLemmas.{one_optimum}
 use Rattle.rob_meaning.specs.Certificates.{Status, optimal, infeasible, unbounded}
@@ -11,20 +11,21 @@ use Rattle.rob_parse.proofs.Building.OneModel.{model_alike}
 use Rattle.rob_parse.specs.Modelled.{ReadsModel}
 use Rattle.rob_pieces.specs.Cuts.{Cut}
 use Rattle.rob_reach.specs.WholeStatus.{HasWholeStatus}
-use Rattle.rob_top.proofs.CommandLemmas.{solves_no_branch, solves_no_split, solves_no_worst}
 use Rattle.rob_top.proofs.CourseLemmas.{grown_admits, inside_admitted}
 use Rattle.rob_top.proofs.KnownInputs.{known_again, model_known}
 use Rattle.rob_top.proofs.SplitAnswerLemmas.{cells_decides, same_piece_status}
 use Rattle.rob_top.proofs.StageLemmas.{file_once, read_here, same_status}
 use Rattle.rob_top.proofs.TrueAnswerLemmas.{solve_decides}
 use Rattle.rob_top.proofs.WholeAnswerLemmas.{same_whole_status, whole_decides}
-use Rattle.rob_top.specs.Calls.{Call, IsBranching, IsSolving, Known, known_call, limit_of}
+use Rattle.rob_top.specs.Calls.{Call, Known, known_call, limit_of}
+use Rattle.rob_top.specs.Commands as works
+use Rattle.rob_top.specs.Commands.{IsBranching, IsSolving, IsSplitting, Work, work_of}
 use Rattle.rob_top.specs.Endings.{IsSolveAnswer, IsWholeAnswer}
 use Rattle.rob_top.specs.Headline.{Means}
 use Rattle.rob_top.specs.Inputs.{HasModel, HasModelText}
 use Rattle.rob_top.specs.Solved.{IsEmptySet, IsSolved}
 use Rattle.rob_top.specs.Ways.{FindsEmpty, FindsStatus, branched, in_cells, pieced, solved, while_branching, while_searching, while_solving}
-use Rattle.rob_top.specs.Split.{HasStatusOverPieces, IsSplitting}
+use Rattle.rob_top.specs.Split.{HasStatusOverPieces}
 use Rattle.rob_top.specs.SplitEnds.{IsCellsAnswer}
 use Rattle.rob_top.specs.Work.{ended_of}
 use Rattle.rob_top.specs.declared.ended.Ended.TheVariants.{EmptySet}
@@ -133,18 +134,19 @@ module _ (call : Call) (known : Known call.source) (line : Line) (bytes : List �
       in
       subst (λ (b : List ℕ). ReadsModel (limit_of line) b m) same told.reads
 
-  -- no other command answers
+  -- its work is to solve it, and no other
+  work_here : (w : Work) (l : Line) (m : RobustModel) → HasModel call l m → work_of l.verb ≡ w → works.solving ≡ w
+  work_here w l m h is = sym solves ∙ ap (λ (k : Line). work_of k.verb) (sym (this_line l m h)) ∙ is
+
   no_branch : (l : Line) (m : RobustModel) → HasModel call l m → IsBranching l.verb → ⊥
-  no_branch l m h is =
-      solves_no_branch line.verb solves (subst (λ (k : Line). IsBranching k.verb) (this_line l m h) is)
+  no_branch l m h is = let no : works.solving ≡ works.branching = work_here works.branching l m h is in cc
 
   no_split : (l : Line) (m : RobustModel) → HasModel call l m → IsSplitting l.verb → ⊥
-  no_split l m h is =
-      solves_no_split line.verb solves (subst (λ (k : Line). IsSplitting k.verb) (this_line l m h) is)
+  no_split l m h is = let no : works.solving ≡ works.splitting = work_here works.splitting l m h is in cc
 
   no_search : (l : Line) (m : RobustModel) → HasModel call l m → l.verb ≡ Worst → ⊥
   no_search l m h is =
-      solves_no_worst line.verb (subst (λ (k : Line). k.verb ≡ Worst) (this_line l m h) is) solves
+      let no : works.solving ≡ works.searching = work_here works.searching l m h (ap work_of is) in cc
 
   certified : (status : Status) (text : List ℕ) → Means call (ended_of status) text → IsSolved call status text
   certified status text means = by (status_by call status text means)

@@ -8,14 +8,16 @@ use Rattle.rob_model.specs.declared.place.Spot.{Spot}
 use Rattle.rob_reach.specs.Sweeps.{IsBudgetAt, with_budget}
 use Rattle.rob_sweep.specs.Answering.{AreWritten}
 use Rattle.rob_sweep.specs.Stops.{BreaksRule, IsWideAtLimit, KeepsRules}
-use Rattle.rob_top.proofs.CommandLemmas.{branches_no_sweep, check_no_sweep, makes_no_sweep, narrow_no_sweep, replay_no_sweep, rows_no_sweep, solves_no_sweep, tree_no_sweep, two_verbs, worst_no_sweep, sweeps_no_split}
-use Rattle.rob_top.proofs.CourseLemmas.{Course, SweepCourse, bounds, branching, breaks_rule, checking_tree, finds, judges, lacks_plan, prices, prints, refuses, replays, searches, shows_empty, sweeping, wide_limit, wide_number, wide_row, writes_limit, splitting}
-use Rattle.rob_top.proofs.TrueAnswerLemmas.{course_of, first_of_two, lacking_verb}
+use Rattle.rob_top.proofs.CommandLemmas.{two_verbs}
+use Rattle.rob_top.proofs.CourseLemmas.{SweepCourse, breaks_rule, prices, wide_limit, writes_limit}
+use Rattle.rob_top.proofs.TrueAnswerLemmas.{first_of_two, unformed_course}
 use Rattle.rob_top.specs.Calls.{Call, Known, limit_of}
 use Rattle.rob_top.specs.Endings.{IsNarrowAt, IsSweepAnswer}
 use Rattle.rob_top.specs.Headline.{Means}
 use Rattle.rob_top.specs.Inputs.{HasModel}
-use Rattle.rob_top.specs.Swept.{BreaksSweep, HasLimit, HasSweep, IsSweeping, TellsLimits, TellsStatement, at_limit, at_limits, limit_value}
+use Rattle.rob_top.specs.Swept.{BreaksSweep, HasLimit, HasSweep, TellsLimits, TellsStatement, at_limit, at_limits, limit_value}
+use Rattle.rob_top.specs.Commands as works
+use Rattle.rob_top.specs.Commands.{IsSweeping, work_of}
 use Rattle.rob_top.specs.declared.ended.Ended.{Ended}
 use Rattle.rob_top.specs.declared.ended.Ended.TheVariants.{Printed, WideBudget, Sweep, ReadFault, Memory}
 use Rattle.rob_words.specs.Commands.{Line}
@@ -65,29 +67,12 @@ module _ (call : Call) (known : Known call.source) (line : Line) (m : RobustMode
   -- the command sweeps, so that stands behind its answer
   sweep_course : HasModel call line m → IsSweeping line.verb → (ended : Ended) (text : List ℕ) → Means call ended text
       → SweepCourse call line m ended ⊎ ((ended ≡ ReadFault) ⊎ (ended ≡ Memory))
-  sweep_course has is ended text means = first_of_two by (course_of call known line m has ended text means)
-    where
-      by : Course call line m ended → SweepCourse call line m ended
-      by (finds status v u inside forms solves holds e) = absurd (solves_no_sweep line.verb solves is)
-      by (shows_empty weights forms solves shown e) = absurd (solves_no_sweep line.verb solves is)
-      by (prints forms rows e) = absurd (rows_no_sweep line.verb rows is)
-      by (judges c h e) = absurd (check_no_sweep line.verb h.file.is_check is)
-      by (refuses bytes rule number h breach e) = absurd (check_no_sweep line.verb h.is_check is)
-      by (wide_number spot makes h e) = absurd (makes_no_sweep line.verb makes is)
-      by (wide_row spot forms solves wide e) = absurd (solves_no_sweep line.verb solves is)
-      by (replays c bytes rows h file e) = absurd (replay_no_sweep line.verb h.certificate.file.is_replay is)
-      by (lacks_plan rule number h e) = absurd (replay_no_sweep line.verb (lacking_verb call line m rule number h) is)
-      by (branching too course) = absurd (branches_no_sweep line.verb too is)
-      by (searches worst course) = absurd (worst_no_sweep line.verb worst is)
-      by (checking_tree too course) = absurd (tree_no_sweep line.verb too is)
-      by (bounds forms narrow e) = absurd (narrow_no_sweep line.verb narrow is)
-      by (sweeping too course) = course
-      by (splitting too course) = absurd (sweeps_no_split line.verb is too)
+  sweep_course has is = unformed_course call known line m has works.sweeping refl is
 
   -- ---- `sweep`
   module _ (n : ℕ) (gs : List Fraction) (has : HasSweep call line m n gs) where
     sweeps_here : IsSweeping line.verb
-    sweeps_here = subst (λ (v : Verb). IsSweeping v) (sym has.is_sweep) refl
+    sweeps_here = ap work_of has.is_sweep
 
     -- it has these statement and limits alone
     moved : (P : ℕ → List Fraction → Type 0) (k : ℕ) (hs : List Fraction) → HasSweep call line m k hs → P k hs → P n gs
@@ -161,7 +146,7 @@ module _ (call : Call) (known : Known call.source) (line : Line) (m : RobustMode
   -- ---- `sweeptext`
   module _ (n : ℕ) (g : Fraction) (has : HasLimit call line m n g) where
     writes_here : IsSweeping line.verb
-    writes_here = subst (λ (v : Verb). IsSweeping v) (sym has.is_text) refl
+    writes_here = ap work_of has.is_text
 
     no_sweep_here : (k : ℕ) (hs : List Fraction) → HasSweep call line m k hs → ⊥
     no_sweep_here k hs other = two_sweeps line.verb other.is_sweep has.is_text

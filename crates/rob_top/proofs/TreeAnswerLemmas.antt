@@ -1,5 +1,5 @@
 -- Which answer has to come at `checktree`, where what is known of the files decides.
-use Rattle.std.proofs.Common.{◌≡◌, ℕ, List, inl, inr, ◌∙◌, ap, subst, ◌⊎◌}
+use Rattle.std.proofs.Common.{◌≡◌, ℕ, List, inl, inr, refl, ◌∙◌, ap, subst, ◌⊎◌}
 use Rattle.rob_branch.proofs.OneSpotLemmas.{at_place, passed_narrow}
 use Rattle.rob_branch.specs.Verdicts.{IsAccepted, IsPassed, IsWideInLeaf, NoneWide}
 use Rattle.rob_meaning.specs.RobustModel.{RobustModel}
@@ -11,16 +11,16 @@ use Rattle.rob_tree.specs.Reading.{Breaks, TreeFits}
 use Rattle.rob_tree.specs.TreeText.{IsTextOfTree}
 use Rattle.rob_tree.specs.Shape.{HasTreeShape}
 use Rattle.rob_top.proofs.BranchingLemmas.{kept_bounds}
-use Rattle.rob_top.proofs.CommandLemmas.{check_not_tree, makes_no_tree, narrow_not_tree, replay_not_tree, rows_not_tree, solves_no_tree, tree_no_branch, tree_no_sweep, worst_not_tree, tree_no_split}
-use Rattle.rob_top.proofs.CourseLemmas.{Course, bounds as bounds_model, branching, checking_tree, finds, judges, lacks_plan, prints, refuses, replays, searches, shows_empty, sweeping, wide_number, wide_row, splitting}
 use Rattle.rob_top.proofs.NamingLemmas.{breaking_verb}
 use Rattle.rob_top.proofs.StageLemmas.{file_once}
 use Rattle.rob_top.proofs.TreeCheckLemmas.{rejected_not}
 use Rattle.rob_top.proofs.TreeCourseLemmas.{TreeCourse, breaks_names, breaks_text, judges_tree}
-use Rattle.rob_top.proofs.TrueAnswerLemmas.{course_of, first_of_two, in_words, lacking_verb, most, named, well}
+use Rattle.rob_top.proofs.TrueAnswerLemmas.{first_of_two, in_words, most, named, unformed_course, well}
 use Rattle.rob_top.proofs.WholeAnswerLemmas.{branching_decides, model_of, no_break, one_rule, whole_once}
 use Rattle.rob_top.specs.Branched.{BreaksWhole}
-use Rattle.rob_top.specs.Calls.{Call, IsBranching, Known, limit_of}
+use Rattle.rob_top.specs.Calls.{Call, Known, limit_of}
+use Rattle.rob_top.specs.Commands as works
+use Rattle.rob_top.specs.Commands.{IsBranching, work_of}
 use Rattle.rob_top.specs.Endings.{EndsAs, IsOutside, IsTreeAnswer, NamesFault, NamesWidth}
 use Rattle.rob_top.specs.Headline.{Means}
 use Rattle.rob_top.specs.Inputs.{HasModel}
@@ -35,24 +35,7 @@ module _ (call : Call) (known : Known call.source) (line : Line) (m : RobustMode
   -- the command checks a tree, so that stands behind its answer
   tree_course : HasModel call line m → line.verb ≡ CheckTree → (ended : Ended) (text : List ℕ) → Means call ended text
       → TreeCourse call line m ended ⊎ ((ended ≡ ReadFault) ⊎ (ended ≡ Memory))
-  tree_course has is ended text means = first_of_two by (course_of call known line m has ended text means)
-    where
-      by : Course call line m ended → TreeCourse call line m ended
-      by (finds status v u inside forms solves holds e) = absurd (solves_no_tree line.verb is solves)
-      by (shows_empty weights forms solves shown e) = absurd (solves_no_tree line.verb is solves)
-      by (prints forms rows e) = absurd (rows_not_tree line.verb rows is)
-      by (judges c h e) = absurd (check_not_tree line.verb h.file.is_check is)
-      by (refuses bytes rule number h breach e) = absurd (check_not_tree line.verb h.is_check is)
-      by (wide_number spot makes h e) = absurd (makes_no_tree line.verb is makes)
-      by (wide_row spot forms solves wide e) = absurd (solves_no_tree line.verb is solves)
-      by (replays c bytes rows h file e) = absurd (replay_not_tree line.verb h.certificate.file.is_replay is)
-      by (lacks_plan rule number h e) = absurd (replay_not_tree line.verb (lacking_verb call line m rule number h) is)
-      by (branching too course) = absurd (tree_no_branch line.verb is too)
-      by (searches worst course) = absurd (worst_not_tree line.verb worst is)
-      by (sweeping too course) = absurd (tree_no_sweep line.verb is too)
-      by (splitting too course) = absurd (tree_no_split line.verb is too)
-      by (bounds_model forms narrow e) = absurd (narrow_not_tree line.verb narrow is)
-      by (checking_tree too course) = course
+  tree_course has is = unformed_course call known line m has works.tree_checking refl (ap work_of is)
 
   -- ---- a broken rule of the named variables
   tree_rule_decides : (rule : ℕ) → line.verb ≡ CheckTree → BreaksWhole call line m rule

@@ -1,6 +1,6 @@
 -- Which answer has to come, where what is known of the files decides and all of them come: the model's text decides;
 -- then the first wide number; and then the command.
-use Rattle.std.proofs.Common.{◌≡◌, ℕ, ◌-◌, ◌^◌, ◌≤◌, List, ◌++◌, refl, sym, ◌∙◌, ap, subst, inl, inr, ◌⊎◌}
+use Rattle.std.proofs.Common.{◌≡◌, ℕ, ◌-◌, ◌^◌, ◌≤◌, false, List, refl, sym, ◌∙◌, ap, subst, inl, inr, ◌⊎◌}
 use Rattle.rob_algebra.specs.Fraction.{Fraction}
 use Rattle.rob_cert.specs.Apart.{IsNamedInWords}
 use Rattle.rob_cert.specs.Causes.{HasCause}
@@ -29,16 +29,17 @@ use Rattle.rob_branch.proofs.OneSpotLemmas.{first_once, none_first}
 use Rattle.rob_cert.proofs.OneBreach.{one_cause}
 use Rattle.rob_top.proofs.AbsentAnswerLemmas.{no_missing, no_too_long}
 use Rattle.rob_top.proofs.CertificateNameLemmas.{named_in_words}
-use Rattle.rob_top.proofs.CommandLemmas.{check_no_branch, check_no_sweep, check_not_replay, check_not_tree, check_not_worst, makes_no_branch, narrow_not_check, narrow_not_rows, makes_no_sweep, makes_no_tree, not_rows, replays_alone, rows_no_branch, rows_no_sweep, rows_not_replay, rows_not_tree, rows_not_worst, solves_no_branch, solves_no_sweep, solves_no_check, solves_no_narrow, solves_no_replay, solves_no_rows, solves_no_tree, solves_no_worst, check_no_split, makes_no_split, rows_no_split, solves_no_split}
-use Rattle.rob_top.proofs.CourseLemmas.{Course, bounds, branching, checking_tree, course_at, finds, judges, lacks_plan, prints, refuses, replays, searches, shows_empty, sweeping, wide_number, wide_row, worst_forms, splitting}
+use Rattle.rob_top.proofs.CommandLemmas.{makes_none}
+use Rattle.rob_top.proofs.CourseLemmas.{CheckCourse, Course, SolveCourse, WorkCourse, course_at, does, finds, forms_of, judges, refuses, same_work, shows_empty, wide_number, wide_row}
 use Rattle.rob_top.proofs.RouteLemmas.{empty_on_way}
 use Rattle.rob_top.proofs.StageLemmas.{Stage, absent, answers_number, broken, broken_here, failed, file_once, none_absent, number_here, one_model_read, over, read, same_status, stage_of, wanting, wordless}
 use Rattle.rob_top.proofs.WorkLemmas.{limit_is}
-use Rattle.rob_top.specs.Calls.{Call, IsElaborating, IsSolving, Known, limit_of}
+use Rattle.rob_top.specs.Calls.{Call, Known, limit_of}
+use Rattle.rob_top.specs.Commands as works
+use Rattle.rob_top.specs.Commands.{IsElaborating, IsSolving, Work, makes_forms, work_of}
 use Rattle.rob_top.specs.Files.{HasFile}
 use Rattle.rob_top.specs.Headline.{Means}
 use Rattle.rob_top.specs.Inputs.{HasCertificate, HasCertificateFile, HasForms, HasModel}
-use Rattle.rob_top.specs.Replayed.{LacksPlan, planless, unread}
 use Rattle.rob_top.specs.Endings.{IsEmptyAnswer, IsSolveAnswer}
 use Rattle.rob_top.specs.Routes.{IsWideOnWay}
 use Rattle.rob_top.specs.Work.{ended_of, verdict_ended}
@@ -47,15 +48,9 @@ use Rattle.rob_top.specs.declared.ended.Ended.TheVariants.{Printed, EmptySet, To
 use Rattle.rob_words.specs.Commands.{Line}
 use Rattle.rob_words.specs.Values.{bits_of}
 use Rattle.rob_words.specs.declared.verb.Own.TheVariants as own
-use Rattle.rob_words.specs.declared.verb.Verb.TheVariants.{Rows, Replay}
+use Rattle.rob_words.specs.declared.verb.Verb.TheVariants.{Rows}
 use Rattle.rob_words.proofs.Spellings.{one_line}
 use Rattle.rob_elab.specs.Written.{judged}
-
--- a certificate that gives no plan stands in the words of `replay`
-pub lacking_verb : (call : Call) (line : Line) (m : RobustModel) (rule number : ℕ)
-    → LacksPlan call line m rule number → line.verb ≡ Replay
-lacking_verb call line m rule number (unread bytes h breach) = h.is_replay
-lacking_verb call line m rule number (planless c h is r n) = h.file.is_replay
 
 -- ---- answers
 pub first_of_two : {A B C : Type 0} → (A → B) → A ⊎ C → B ⊎ C
@@ -101,55 +96,47 @@ module _ (call : Call) (known : Known call.source) where
         → (ended ≡ TooWide spot) ⊎ ((ended ≡ ReadFault) ⊎ (ended ≡ Memory))
     wide_decides has makes spot first ended text means = first_of_two by (course_of has ended text means)
       where
-        no_forms : HasForms call line m → ⊥
-        no_forms forms = none_first (limit_of line) m (judged m) spot forms.none_wide first
-
         by : Course call line m ended → ended ≡ TooWide spot
-        by (finds status v u inside forms solves holds e) = absurd (no_forms forms)
-        by (shows_empty weights forms solves shown e) = absurd (no_forms forms)
-        by (prints forms is e) = absurd (no_forms forms)
-        by (judges c h e) = absurd (no_forms h.file.forms)
-        by (refuses bytes rule number h breach e) = absurd (no_forms h.forms)
         by (wide_number other made h e) =
             e ∙ ap (λ (s : Spot). TooWide s)
             (first_once (limit_of line) m (judged m) other spot h first)
-        by (wide_row other forms solves wide e) = absurd (no_forms forms)
-        by (replays c bytes rows h file e) = absurd (replays_alone line.verb h.certificate.file.is_replay makes)
-        by (lacks_plan rule number h e) =
-            absurd (replays_alone line.verb (lacking_verb call line m rule number h) makes)
-        by (branching is course) = absurd (makes_no_branch line.verb makes is)
-        by (searches is course) = absurd (no_forms (worst_forms call line m ended course))
-        by (checking_tree is course) = absurd (makes_no_tree line.verb is makes)
-        by (sweeping is course) = absurd (makes_no_sweep line.verb makes is)
-        by (splitting is course) = absurd (makes_no_split line.verb makes is)
-        by (bounds forms is e) = absurd (no_forms forms)
+        by (does w is course) =
+            let forms = forms_of call line m ended w (ap makes_forms (sym is) ∙ makes) course in
+            absurd (none_first (limit_of line) m (judged m) spot forms.none_wide first)
 
     -- ---- none is
     pub no_first : HasForms call line m → (spot : Spot)
         → IsFirstWide (limit_of line) m (judged m) spot → ⊥
     no_first forms spot first = none_first (limit_of line) m (judged m) spot forms.none_wide first
 
+    -- so what stands behind the answer stands behind one of the command's work
+    pub formed_course : HasForms call line m → (w : Work) → work_of line.verb ≡ w
+        → (ended : Ended) (text : List ℕ) → Means call ended text
+        → WorkCourse w call line m ended ⊎ ((ended ≡ ReadFault) ⊎ (ended ≡ Memory))
+    formed_course has w is ended text means = first_of_two by (course_of has.model ended text means)
+      where
+        by : Course call line m ended → WorkCourse w call line m ended
+        by (wide_number spot makes h e) = absurd (no_first has spot h)
+        by (does v here course) = same_work call line m ended v w here is course
+
+    -- and so where the command makes none
+    pub unformed_course : HasModel call line m → (w : Work) → makes_forms w ≡ false → work_of line.verb ≡ w
+        → (ended : Ended) (text : List ℕ) → Means call ended text
+        → WorkCourse w call line m ended ⊎ ((ended ≡ ReadFault) ⊎ (ended ≡ Memory))
+    unformed_course has w none is ended text means = first_of_two by (course_of has ended text means)
+      where
+        by : Course call line m ended → WorkCourse w call line m ended
+        by (wide_number spot makes h e) = absurd (makes_none w line.verb none is makes)
+        by (does v here course) = same_work call line m ended v w here is course
+
+    -- ---- `rows`
     pub rows_decide : HasForms call line m → line.verb ≡ Rows → (ended : Ended) (text : List ℕ) → Means call ended text
         → (ended ≡ Printed) ⊎ ((ended ≡ ReadFault) ⊎ (ended ≡ Memory))
-    rows_decide has is_rows ended text means = first_of_two by (course_of has.model ended text means)
+    rows_decide has is_rows ended text means =
+        first_of_two by (formed_course has works.rows (ap work_of is_rows) ended text means)
       where
-        by : Course call line m ended → ended ≡ Printed
-        by (finds status v u inside forms solves holds e) = absurd (solves_no_rows line.verb is_rows solves)
-        by (shows_empty weights forms solves shown e) = absurd (solves_no_rows line.verb is_rows solves)
-        by (prints forms is e) = e
-        by (judges c h e) = absurd (not_rows line.verb is_rows h.file.is_check)
-        by (refuses bytes rule number h breach e) = absurd (not_rows line.verb is_rows h.is_check)
-        by (wide_number spot makes h e) = absurd (no_first has spot h)
-        by (wide_row spot forms solves wide e) = absurd (solves_no_rows line.verb is_rows solves)
-        by (replays c bytes rows h file e) = absurd (rows_not_replay line.verb is_rows h.certificate.file.is_replay)
-        by (lacks_plan rule number h e) =
-            absurd (rows_not_replay line.verb is_rows (lacking_verb call line m rule number h))
-        by (branching took course) = absurd (rows_no_branch line.verb is_rows took)
-        by (searches is course) = absurd (rows_not_worst line.verb is_rows is)
-        by (checking_tree took course) = absurd (rows_not_tree line.verb is_rows took)
-        by (sweeping took course) = absurd (rows_no_sweep line.verb is_rows took)
-        by (splitting took course) = absurd (rows_no_split line.verb is_rows took)
-        by (bounds forms is e) = absurd (narrow_not_rows line.verb is is_rows)
+        by : HasForms call line m × (ended ≡ Printed) → ended ≡ Printed
+        by printed = printed.1
 
     -- ---- `solve` and `prove`
     status_answer : (status : Status) (v : Fraction) → HasStatus m status v
@@ -164,28 +151,15 @@ module _ (call : Call) (known : Known call.source) where
 
     pub solve_decides : HasForms call line m → IsSolving line.verb → (ended : Ended) (text : List ℕ)
         → Means call ended text → IsSolveAnswer line.way (limit_of line) m ended
-    solve_decides has is_solving ended text means = all (course_of has.model ended text means)
+    solve_decides has is_solving ended text means = all (formed_course has works.solving is_solving ended text means)
       where
-        by : Course call line m ended → IsSolveAnswer line.way (limit_of line) m ended
-        by (finds status v u inside forms solves holds e) =
+        by : SolveCourse call line m ended → IsSolveAnswer line.way (limit_of line) m ended
+        by (finds status v u inside forms holds e) =
             answer_is ended (ended_of status) e (status_answer status v holds)
-        by (shows_empty weights forms solves shown e) = answer_is ended (EmptySet weights) e shown.empty
-        by (prints forms is e) = absurd (solves_no_rows line.verb is is_solving)
-        by (judges c h e) = absurd (solves_no_check line.verb h.file.is_check is_solving)
-        by (refuses bytes rule number h breach e) = absurd (solves_no_check line.verb h.is_check is_solving)
-        by (wide_number spot makes h e) = absurd (no_first has spot h)
-        by (wide_row spot forms solves wide e) = answer_is ended (TooWide spot) e wide
-        by (replays c bytes rows h file e) = absurd (solves_no_replay line.verb h.certificate.file.is_replay is_solving)
-        by (lacks_plan rule number h e) =
-            absurd (solves_no_replay line.verb (lacking_verb call line m rule number h) is_solving)
-        by (branching is course) = absurd (solves_no_branch line.verb is_solving is)
-        by (searches is course) = absurd (solves_no_worst line.verb is is_solving)
-        by (checking_tree is course) = absurd (solves_no_tree line.verb is is_solving)
-        by (sweeping is course) = absurd (solves_no_sweep line.verb is_solving is)
-        by (splitting is course) = absurd (solves_no_split line.verb is_solving is)
-        by (bounds forms is e) = absurd (solves_no_narrow line.verb is is_solving)
+        by (shows_empty weights forms shown e) = answer_is ended (EmptySet weights) e shown.empty
+        by (wide_row spot forms wide e) = answer_is ended (TooWide spot) e wide
 
-        all : Course call line m ended ⊎ ((ended ≡ ReadFault) ⊎ (ended ≡ Memory))
+        all : SolveCourse call line m ended ⊎ ((ended ≡ ReadFault) ⊎ (ended ≡ Memory))
             → IsSolveAnswer line.way (limit_of line) m ended
         all (inl course) = by course
         all (inr (inl e)) = answer_is ended ReadFault e (inl refl)
@@ -198,28 +172,16 @@ module _ (call : Call) (known : Known call.source) where
 
     pub empty_decides : HasForms call line m → IsSolving line.verb → IsEmptySet m → (ended : Ended) (text : List ℕ)
         → Means call ended text → IsEmptyAnswer (limit_of line) m ended
-    empty_decides has is_solving none ended text means = all (course_of has.model ended text means)
+    empty_decides has is_solving none ended text means =
+        all (formed_course has works.solving is_solving ended text means)
       where
-        by : Course call line m ended → IsEmptyAnswer (limit_of line) m ended
-        by (finds status v u inside forms solves holds e) = absurd (none u inside)
-        by (shows_empty weights forms solves shown e) = empty_is ended (EmptySet weights) e shown
-        by (prints forms is e) = absurd (solves_no_rows line.verb is is_solving)
-        by (judges c h e) = absurd (solves_no_check line.verb h.file.is_check is_solving)
-        by (refuses bytes rule number h breach e) = absurd (solves_no_check line.verb h.is_check is_solving)
-        by (wide_number spot makes h e) = absurd (no_first has spot h)
-        by (wide_row spot forms solves wide e) =
+        by : SolveCourse call line m ended → IsEmptyAnswer (limit_of line) m ended
+        by (finds status v u inside forms holds e) = absurd (none u inside)
+        by (shows_empty weights forms shown e) = empty_is ended (EmptySet weights) e shown
+        by (wide_row spot forms wide e) =
             empty_is ended (TooWide spot) e (empty_on_way m line.way none (limit_of line) spot wide)
-        by (replays c bytes rows h file e) = absurd (solves_no_replay line.verb h.certificate.file.is_replay is_solving)
-        by (lacks_plan rule number h e) =
-            absurd (solves_no_replay line.verb (lacking_verb call line m rule number h) is_solving)
-        by (branching is course) = absurd (solves_no_branch line.verb is_solving is)
-        by (searches is course) = absurd (solves_no_worst line.verb is is_solving)
-        by (checking_tree is course) = absurd (solves_no_tree line.verb is is_solving)
-        by (sweeping is course) = absurd (solves_no_sweep line.verb is_solving is)
-        by (splitting is course) = absurd (solves_no_split line.verb is_solving is)
-        by (bounds forms is e) = absurd (solves_no_narrow line.verb is is_solving)
 
-        all : Course call line m ended ⊎ ((ended ≡ ReadFault) ⊎ (ended ≡ Memory))
+        all : SolveCourse call line m ended ⊎ ((ended ≡ ReadFault) ⊎ (ended ≡ Memory))
             → IsEmptyAnswer (limit_of line) m ended
         all (inl course) = by course
         all (inr (inl e)) = empty_is ended ReadFault e (inl refl)
@@ -231,26 +193,13 @@ module _ (call : Call) (known : Known call.source) where
         → (ended : Ended) (text : List ℕ) → Means call ended text
         → (ended ≡ ended_of status) ⊎ ((ended ≡ ReadFault) ⊎ (ended ≡ Memory))
     status_decides has is_solving status v true_of u admitted narrow ended text means =
-        first_of_two by (course_of has.model ended text means)
+        first_of_two by (formed_course has works.solving is_solving ended text means)
       where
-        by : Course call line m ended → ended ≡ ended_of status
-        by (finds other w inner inside forms solves holds e) =
+        by : SolveCourse call line m ended → ended ≡ ended_of status
+        by (finds other w inner inside forms holds e) =
             e ∙ ap ended_of (same_status m other status w v holds true_of)
-        by (shows_empty weights forms solves shown e) = absurd (shown.empty u admitted)
-        by (prints forms is e) = absurd (solves_no_rows line.verb is is_solving)
-        by (judges c h e) = absurd (solves_no_check line.verb h.file.is_check is_solving)
-        by (refuses bytes rule number h breach e) = absurd (solves_no_check line.verb h.is_check is_solving)
-        by (wide_number spot makes h e) = absurd (no_first has spot h)
-        by (wide_row spot forms solves wide e) = absurd (narrow spot wide)
-        by (replays c bytes rows h file e) = absurd (solves_no_replay line.verb h.certificate.file.is_replay is_solving)
-        by (lacks_plan rule number h e) =
-            absurd (solves_no_replay line.verb (lacking_verb call line m rule number h) is_solving)
-        by (branching is course) = absurd (solves_no_branch line.verb is_solving is)
-        by (searches is course) = absurd (solves_no_worst line.verb is is_solving)
-        by (checking_tree is course) = absurd (solves_no_tree line.verb is is_solving)
-        by (sweeping is course) = absurd (solves_no_sweep line.verb is_solving is)
-        by (splitting is course) = absurd (solves_no_split line.verb is_solving is)
-        by (bounds forms is e) = absurd (solves_no_narrow line.verb is is_solving)
+        by (shows_empty weights forms shown e) = absurd (shown.empty u admitted)
+        by (wide_row spot forms wide e) = absurd (narrow spot wide)
 
     -- ---- `check`
     same_file : (bytes other : List ℕ) → HasCertificateFile call line m bytes
@@ -293,41 +242,21 @@ module _ (call : Call) (known : Known call.source) where
     pub verdict_decides : (c : Certificate) → HasCertificate call line m c
         → (ended : Ended) (text : List ℕ) → Means call ended text
         → (ended ≡ verdict_ended (verdict_of (limit_of line) m c)) ⊎ ((ended ≡ ReadFault) ⊎ (ended ≡ Memory))
-    verdict_decides c has ended text means = first_of_two by (course_of has.file.forms.model ended text means)
+    verdict_decides c has ended text means =
+        first_of_two by (formed_course has.file.forms works.checking (ap work_of has.file.is_check) ended text means)
       where
-        no_solving : IsSolving line.verb → ⊥
-        no_solving solves = solves_no_check line.verb has.file.is_check solves
-
-        by : Course call line m ended → ended ≡ verdict_ended (verdict_of (limit_of line) m c)
-        by (finds status v u inside forms solves holds e) = absurd (no_solving solves)
-        by (shows_empty weights forms solves shown e) = absurd (no_solving solves)
-        by (prints forms is e) = absurd (not_rows line.verb is has.file.is_check)
+        by : CheckCourse call line m ended → ended ≡ verdict_ended (verdict_of (limit_of line) m c)
         by (judges d h e) =
             e ∙ ap (λ (x : Certificate). verdict_ended (verdict_of (limit_of line) m x)) (one_certificate d c h has)
         by (refuses bytes rule number h breach e) = absurd (no_breach c bytes rule number has h breach)
-        by (wide_number spot makes h e) = absurd (no_first has.file.forms spot h)
-        by (wide_row spot forms solves wide e) = absurd (no_solving solves)
-        by (replays d bytes rows h file e) =
-            absurd (check_not_replay line.verb has.file.is_check h.certificate.file.is_replay)
-        by (lacks_plan rule number h e) =
-            absurd (check_not_replay line.verb has.file.is_check (lacking_verb call line m rule number h))
-        by (branching is course) = absurd (check_no_branch line.verb has.file.is_check is)
-        by (searches is course) = absurd (check_not_worst line.verb has.file.is_check is)
-        by (checking_tree is course) = absurd (check_not_tree line.verb has.file.is_check is)
-        by (sweeping is course) = absurd (check_no_sweep line.verb has.file.is_check is)
-        by (splitting is course) = absurd (check_no_split line.verb has.file.is_check is)
-        by (bounds forms is e) = absurd (narrow_not_check line.verb is has.file.is_check)
 
     pub rule_decides : (bytes : List ℕ) (rule number : ℕ) → HasCertificateFile call line m bytes
         → HasCause (naming_of m) (limit_of line) start bytes 1 (Rule rule number)
         → (ended : Ended) (text : List ℕ) → Means call ended text → (ended ≡ Cert rule number)
         ⊎ ((ended ≡ ReadFault) ⊎ (ended ≡ Memory))
     rule_decides bytes rule number has breaks ended text means =
-        first_of_two by (course_of has.forms.model ended text means)
+        first_of_two by (formed_course has.forms works.checking (ap work_of has.is_check) ended text means)
       where
-        no_solving : IsSolving line.verb → ⊥
-        no_solving solves = solves_no_check line.verb has.is_check solves
-
         is_rule : (other : List ℕ) (r n : ℕ) → HasCertificateFile call line m other
             → HasCause (naming_of m) (limit_of line) start other 1 (Rule r n) → ended ≡ Cert r n
             → ended ≡ Cert rule number
@@ -340,20 +269,6 @@ module _ (call : Call) (known : Known call.source) where
             (in_words has.forms.model) most r n rule number there breaks in
             e ∙ ap (λ k. Cert k n) one.0 ∙ ap (λ k. Cert rule k) one.1
 
-        by : Course call line m ended → ended ≡ Cert rule number
-        by (finds status v u inside forms solves holds e) = absurd (no_solving solves)
-        by (shows_empty weights forms solves shown e) = absurd (no_solving solves)
-        by (prints forms is e) = absurd (not_rows line.verb is has.is_check)
+        by : CheckCourse call line m ended → ended ≡ Cert rule number
         by (judges d h e) = absurd (no_breach d bytes rule number h has breaks)
         by (refuses other r n h breach e) = is_rule other r n h breach e
-        by (wide_number spot makes h e) = absurd (no_first has.forms spot h)
-        by (wide_row spot forms solves wide e) = absurd (no_solving solves)
-        by (replays d list rows h file e) =
-            absurd (check_not_replay line.verb has.is_check h.certificate.file.is_replay)
-        by (lacks_plan r n h e) = absurd (check_not_replay line.verb has.is_check (lacking_verb call line m r n h))
-        by (branching is course) = absurd (check_no_branch line.verb has.is_check is)
-        by (searches is course) = absurd (check_not_worst line.verb has.is_check is)
-        by (checking_tree is course) = absurd (check_not_tree line.verb has.is_check is)
-        by (sweeping is course) = absurd (check_no_sweep line.verb has.is_check is)
-        by (splitting is course) = absurd (check_no_split line.verb has.is_check is)
-        by (bounds forms is e) = absurd (narrow_not_check line.verb is has.is_check)

@@ -17,14 +17,15 @@ use Rattle.rob_reach_ends.proofs.EndingLemmas.{whole_status}
 use Rattle.rob_sets.specs.FirstWide.{IsFirstWide}
 use Rattle.rob_tree.specs.View.{branch_of}
 use Rattle.rob_tree.specs.declared.tree.Branch as declared
-use Rattle.rob_top.proofs.CommandLemmas.{branches_no_sweep, check_no_branch, makes_no_branch, narrow_no_branch, replay_no_branch, rows_no_branch, solves_no_branch, tree_no_branch, worst_no_branch, branches_no_split}
 use Rattle.rob_top.proofs.BeforeLemmas.{before_it}
 use Rattle.rob_top.proofs.BranchingLemmas.{kept_bounds}
-use Rattle.rob_top.proofs.CourseLemmas.{Course, WholeCourse, bounds, branching, breaks, checking_tree, finds, grows, inside_admitted, judges, lacks_plan, prints, refuses, replays, searches, shows_empty, shows_none, sweeping, wide_box, wide_number, wide_row, splitting}
+use Rattle.rob_top.proofs.CourseLemmas.{WholeCourse, breaks, grows, inside_admitted, shows_none, wide_box}
 use Rattle.rob_top.proofs.NumberingLemmas.{one_numbering}
-use Rattle.rob_top.proofs.TrueAnswerLemmas.{course_of, first_of_two, lacking_verb, named, well}
+use Rattle.rob_top.proofs.TrueAnswerLemmas.{first_of_two, named, unformed_course, well}
 use Rattle.rob_top.specs.Branched.{BreaksWhole, no_ranges, no_variables}
-use Rattle.rob_top.specs.Calls.{Call, IsBranching, Known, limit_of}
+use Rattle.rob_top.specs.Calls.{Call, Known, limit_of}
+use Rattle.rob_top.specs.Commands as works
+use Rattle.rob_top.specs.Commands.{IsBranching}
 use Rattle.rob_top.specs.Endings.{IsEmptyWholeAnswer, IsNarrowBelow, IsWholeAnswer}
 use Rattle.rob_top.specs.Headline.{Means}
 use Rattle.rob_top.specs.Inputs.{AreVariables, HasModel, HasVariables, HasWholeVariables, TellsNames}
@@ -105,24 +106,7 @@ module _ (call : Call) (known : Known call.source) (line : Line) (m : RobustMode
   pub whole_course : HasModel call line m → IsBranching line.verb
       → (ended : Ended) (text : List ℕ) → Means call ended text
       → WholeCourse call line m ended ⊎ ((ended ≡ ReadFault) ⊎ (ended ≡ Memory))
-  whole_course has is ended text means = first_of_two by (course_of call known line m has ended text means)
-    where
-      by : Course call line m ended → WholeCourse call line m ended
-      by (finds status v u inside forms solves holds e) = absurd (solves_no_branch line.verb solves is)
-      by (shows_empty weights forms solves shown e) = absurd (solves_no_branch line.verb solves is)
-      by (prints forms rows e) = absurd (rows_no_branch line.verb rows is)
-      by (judges c h e) = absurd (check_no_branch line.verb h.file.is_check is)
-      by (refuses bytes rule number h breach e) = absurd (check_no_branch line.verb h.is_check is)
-      by (wide_number spot makes h e) = absurd (makes_no_branch line.verb makes is)
-      by (wide_row spot forms solves wide e) = absurd (solves_no_branch line.verb solves is)
-      by (replays c bytes rows h file e) = absurd (replay_no_branch line.verb h.certificate.file.is_replay is)
-      by (lacks_plan rule number h e) = absurd (replay_no_branch line.verb (lacking_verb call line m rule number h) is)
-      by (branching too course) = course
-      by (searches worst course) = absurd (worst_no_branch line.verb worst is)
-      by (checking_tree too course) = absurd (tree_no_branch line.verb too is)
-      by (sweeping too course) = absurd (branches_no_sweep line.verb is too)
-      by (splitting too course) = absurd (branches_no_split line.verb is too)
-      by (bounds forms narrow e) = absurd (narrow_no_branch line.verb narrow is)
+  whole_course has is = unformed_course call known line m has works.branching refl is
 
   pub model_of : (rule : ℕ) → BreaksWhole call line m rule → HasModel call line m
   model_of rule (no_variables names has told none e) = has

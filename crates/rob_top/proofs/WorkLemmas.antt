@@ -16,7 +16,8 @@ use Rattle.rob_sets.specs.FirstWide.{HasCause, IsFirstWide, RoseIfWide}
 use Rattle.rob_sets.specs.declared.error.ElabErr.{ElabErr}
 use Rattle.rob_sets.specs.declared.error.ElabErr.TheVariants as refused
 use Rattle.rob_top.specs.Answers.{model_fault_text}
-use Rattle.rob_top.specs.Calls.{Call, Count, IsElaborating, IsOnModel, count, reads_model, WasRaised}
+use Rattle.rob_top.specs.Calls.{Call, Count, count, WasRaised}
+use Rattle.rob_top.specs.Commands.{IsElaborating, IsOnModel, reads_model}
 use Rattle.rob_top.specs.Headline.{Means}
 use Rattle.rob_top.specs.Refused.{elaborating}
 use Rattle.rob_top.specs.Replies.{HasTexts, Replies}

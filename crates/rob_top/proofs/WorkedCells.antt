@@ -27,11 +27,12 @@ use Rattle.rob_top.proofs.SolveAnswers.{IsPiecedOrWide, pieced_or_wide}
 use Rattle.rob_top.proofs.SplittingLemmas.{admits_each, each_admits, split_model_is}
 use Rattle.rob_top.proofs.WorkedCalls.{Comes, one_demand_comes, one_demand_reads, within_by}
 use Rattle.rob_top.specs.Calls.{Call}
+use Rattle.rob_top.specs.Commands.{IsSplitting}
 use Rattle.rob_top.specs.Files.{Came, files_of, request_of, word_of}
 use Rattle.rob_top.specs.Completeness.{MustEnd}
 use Rattle.rob_top.specs.Endings.{EndsAs}
 use Rattle.rob_top.specs.Inputs.{HasModel}
-use Rattle.rob_top.specs.Split.{AreCutsAt, EachCellAdmits, HasCutWord, HasSplit, IsSplitting, level_value}
+use Rattle.rob_top.specs.Split.{AreCutsAt, EachCellAdmits, HasCutWord, HasSplit, level_value}
 use Rattle.rob_top.specs.SplitEnds.{IsEmptyCellsAnswer}
 use Rattle.rob_top.specs.WorkedCalls.{cells_call, model_name}
 use Rattle.rob_top.specs.WorkedModels.{at_13, at_9, greatest}

@@ -20,12 +20,13 @@ use Rattle.rob_replay.specs.Lines as replay
 use Rattle.rob_replay.specs.Lines.{line_outside}
 use Rattle.rob_replay.specs.Outcome.{outcome}
 use Rattle.rob_report.specs.Tables.{table_of}
-use Rattle.rob_top.proofs.CommandLemmas.{narrow_not_replay, replay_not_worst, rows_not_replay, sweep_not_replay, sweeptext_not_replay, text_not_replay, gen_not_replay, replay_no_split}
 use Rattle.rob_top.proofs.OneTable.{lines_are, text_is}
 use Rattle.rob_top.proofs.SoughtLemmas.{forms_sought}
 use Rattle.rob_top.proofs.WorkedCalls.{fits_by, one_demand_reads}
 use Rattle.rob_top.proofs.WorkedChecks.{order_12_fits, order_12_shape}
 use Rattle.rob_top.specs.Calls.{Call, Known, by_files}
+use Rattle.rob_top.specs.Commands as works
+use Rattle.rob_top.specs.Commands.{Work, work_of}
 use Rattle.rob_top.specs.Completeness.{MustEnd}
 use Rattle.rob_top.specs.Endings.{EndsAs}
 use Rattle.rob_top.specs.Headline.{Means}
@@ -200,31 +201,37 @@ pub two_demands_are_printed : (text : List ℕ) → Means (replay_call order_12 
     → text ≡ two_demands_table
 two_demands_are_printed text means = by means
   where
+    -- no other work prints it
+    work_here : (w : Work) (l : Line) → IsSpelled table_call.words l → work_of l.verb ≡ w → works.replaying ≡ w
+    work_here w l spelled is = ap (λ (k : Line). work_of k.verb) (sym (table_line l spelled)) ∙ is
+
     by : Means table_call Printed text → text ≡ two_demands_table
     by (rows h) =
-        absurd (rows_not_replay h.line.verb h.is_rows
-        (ap (λ (l : Line). l.verb) (table_line h.line h.forms.model.spelled)))
+        absurd (let no : works.replaying ≡ works.rows =
+        work_here works.rows h.line h.forms.model.spelled (ap work_of h.is_rows) in cc)
     by (generated h) =
-        absurd (text_not_replay h.line.verb h.is_text (ap (λ (l : Line). l.verb) (table_line h.line h.spelled)))
+        absurd (let no : works.replaying ≡ works.generating =
+        work_here works.generating h.line h.spelled (ap work_of h.is_text) in cc)
     by (compared h) =
-        absurd (gen_not_replay h.line.verb h.asks.is_gen (ap (λ (l : Line). l.verb) (table_line h.line h.asks.spelled)))
+        absurd (let no : works.replaying ≡ works.generating =
+        work_here works.generating h.line h.asks.spelled (ap work_of h.asks.is_gen) in cc)
     by (worst_found h) =
         let forms = forms_sought table_call h.line h.m h.c h.form h.has in
-        let worst = h.has.plan.certificate.file.is_worst in
-        absurd (replay_not_worst h.line.verb (ap (λ (l : Line). l.verb) (table_line h.line forms.model.spelled)) worst)
+        absurd (let no : works.replaying ≡ works.searching =
+        work_here works.searching h.line forms.model.spelled (ap work_of h.has.plan.certificate.file.is_worst) in cc)
     by (priced h) =
-        absurd (sweep_not_replay h.line.verb h.has.is_sweep
-        (ap (λ (l : Line). l.verb) (table_line h.line h.has.model.spelled)))
+        absurd (let no : works.replaying ≡ works.sweeping =
+        work_here works.sweeping h.line h.has.model.spelled (ap work_of h.has.is_sweep) in cc)
     by (limited h) =
-        absurd (sweeptext_not_replay h.line.verb h.has.is_text
-        (ap (λ (l : Line). l.verb) (table_line h.line h.has.model.spelled)))
+        absurd (let no : works.replaying ≡ works.sweeping =
+        work_here works.sweeping h.line h.has.model.spelled (ap work_of h.has.is_text) in cc)
     by (narrowed h) =
-        absurd (narrow_not_replay h.line.verb h.is_narrow
-        (ap (λ (l : Line). l.verb) (table_line h.line h.forms.model.spelled)))
+        absurd (let no : works.replaying ≡ works.narrowing =
+        work_here works.narrowing h.line h.forms.model.spelled (ap work_of h.is_narrow) in cc)
     by (split_written h) =
         let has = h.has.has_cuts.has_word in
-        absurd (replay_no_split h.line.verb
-        (ap (λ (l : Line). l.verb) (table_line h.line has.model.spelled)) has.is_splitting)
+        absurd (let no : works.replaying ≡ works.splitting =
+        work_here works.splitting h.line has.model.spelled has.is_splitting in cc)
     by (replayed h) =
         let has = order_12_on two_demands two_demands_come in
         let known : Known table_call.source = by_files (files_of order_12 two_demands) refl in

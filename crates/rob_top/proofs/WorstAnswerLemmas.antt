@@ -25,8 +25,7 @@ use Rattle.rob_model.proofs.OwnNames.{forms_distinct}
 use Rattle.rob_model.specs.declared.place.Program.TheVariants as programs
 use Rattle.rob_model.specs.declared.place.Spot.{Spot}
 use Rattle.rob_model.specs.declared.place.Spot.TheVariants as spots
-use Rattle.rob_top.proofs.CommandLemmas.{check_not_worst, narrow_not_worst, replay_not_worst, rows_not_worst, solves_no_worst, worst_no_branch, worst_no_sweep, worst_not_tree, worst_no_split}
-use Rattle.rob_top.proofs.CourseLemmas.{Course, WorstCourse, admits_none, bounds, branching, checking_tree, finds, judges, lacks_plan, names_none, plans_none, prints, refuses, replays, searches, shows_empty, shows_worst, sweeping, unplanned_verb, wide_number, wide_row, wide_search, splitting}
+use Rattle.rob_top.proofs.CourseLemmas.{WorstCourse, admits_none, names_none, plans_none, shows_worst, unplanned_verb, wide_search}
 use Rattle.rob_runs.proofs.FoundLemmas.{found_worst}
 use Rattle.rob_runs.proofs.RunCertificates.{length-vector}
 use Rattle.rob_runs.specs.Spots.{IsWideSlack}
@@ -36,9 +35,11 @@ use Rattle.rob_top.proofs.SearchingLemmas.{form_matrix}
 use Rattle.rob_top.proofs.SolvingLemmas.{proved_bound}
 use Rattle.rob_top.proofs.SoughtLemmas.{forms_sought, forms_unnamed, forms_unplanned}
 use Rattle.rob_top.proofs.StageLemmas.{file_once}
-use Rattle.rob_top.proofs.TrueAnswerLemmas.{course_of, first_of_two, in_words, lacking_verb, most, named, no_first, well}
+use Rattle.rob_top.proofs.TrueAnswerLemmas.{first_of_two, formed_course, in_words, most, named, well}
 use Rattle.rob_top.proofs.WorstSlackLemmas.{endless_slack}
 use Rattle.rob_top.specs.Calls.{Call, Known, limit_of}
+use Rattle.rob_top.specs.Commands as works
+use Rattle.rob_top.specs.Commands.{work_of}
 use Rattle.rob_top.specs.Endings.{IsEmptyAnswer, IsWorstAnswer, NamesWideSought}
 use Rattle.rob_top.specs.Headline.{Means}
 use Rattle.rob_top.specs.Inputs.{HasForms, HasModel, HasPlan, HasSought, HasWorstCertificate, HasWorstFile, TellsForm}
@@ -145,24 +146,7 @@ module _ (call : Call) (known : Known call.source) (line : Line) (m : RobustMode
   -- the command is `worst`, so that stands behind its answer
   worst_course : HasForms call line m → line.verb ≡ Worst → (ended : Ended) (text : List ℕ) → Means call ended text
       → WorstCourse call line m ended ⊎ ((ended ≡ ReadFault) ⊎ (ended ≡ Memory))
-  worst_course has here ended text means = first_of_two by (course_of call known line m has.model ended text means)
-    where
-      by : Course call line m ended → WorstCourse call line m ended
-      by (finds status v u inside forms solves holds e) = absurd (solves_no_worst line.verb here solves)
-      by (shows_empty weights forms solves shown e) = absurd (solves_no_worst line.verb here solves)
-      by (prints forms is e) = absurd (rows_not_worst line.verb is here)
-      by (judges d h e) = absurd (check_not_worst line.verb h.file.is_check here)
-      by (refuses list r n h breach e) = absurd (check_not_worst line.verb h.is_check here)
-      by (wide_number spot makes h e) = absurd (no_first call known line m has spot h)
-      by (wide_row spot forms solves wide e) = absurd (solves_no_worst line.verb here solves)
-      by (replays d list others h other e) = absurd (replay_not_worst line.verb h.certificate.file.is_replay here)
-      by (lacks_plan r n h e) = absurd (replay_not_worst line.verb (lacking_verb call line m r n h) here)
-      by (branching is course) = absurd (worst_no_branch line.verb here is)
-      by (searches is course) = course
-      by (checking_tree is course) = absurd (worst_not_tree line.verb here is)
-      by (sweeping is course) = absurd (worst_no_sweep line.verb here is)
-      by (splitting is course) = absurd (worst_no_split line.verb here is)
-      by (bounds forms is e) = absurd (narrow_not_worst line.verb is here)
+  worst_course has here = formed_course call known line m has works.searching (ap work_of here)
 
   pub unplanned_decides : (rule number : ℕ) → GivesNoPlan call line m rule number → (ended : Ended) (text : List ℕ)
       → Means call ended text → (ended ≡ Cert rule number) ⊎ ((ended ≡ ReadFault) ⊎ (ended ≡ Memory))

@@ -24,7 +24,8 @@ use Rattle.rob_tree.specs.TreeText.{tree_text}
 use Rattle.rob_tree.specs.View.{branch_of}
 use Rattle.rob_tree.specs.declared.tree.Branch.{Branch}
 use Rattle.rob_top.specs.Answers.{whole_fault_text, wide_node_text}
-use Rattle.rob_top.specs.Calls.{Call, IsBranching, WasRaised, limit_of}
+use Rattle.rob_top.specs.Calls.{Call, WasRaised, limit_of}
+use Rattle.rob_top.specs.Commands.{IsBranching}
 use Rattle.rob_top.specs.Inputs.{AreVariables, HasModel, HasVariables, HasWholeVariables, TellsNames}
 use Rattle.rob_words.specs.Commands.{Line}
 use Rattle.rob_words.specs.Values.{Word}

@@ -1,15 +1,12 @@
 -- What a call of the program was given, what is known of its files, and what it
--- did to the output; and of which kind its command is.
-use Rattle.std.specs.Prelude.{◌≡◌, ℕ, Bool, true, false, List, length, drop, Option, Some, None}
+-- did to the output.
+use Rattle.std.specs.Prelude.{◌≡◌, ℕ, List, length, drop, Option, Some, None}
 use Rattle.rob_number.specs.Counts.{Rose}
 use Rattle.rob_outside.specs.Fetches.{Fetch}
 use Rattle.rob_outside.specs.Files.{File}
 use Rattle.rob_outside.specs.Puts.{Put}
 use Rattle.rob_words.specs.Commands.{Line}
 use Rattle.rob_words.specs.Values.{Word, greatest_of}
-use Rattle.rob_words.specs.Verbs.{takes_route}
-use Rattle.rob_words.specs.declared.verb.Verb.{Verb}
-use Rattle.rob_words.specs.declared.verb.Verb.TheVariants.{Rows, Solve, Prove, Check, Text, Gen, Whole, Tree, Worst, Narrow}
 
 -- a count before and after the call
 pub record Count : Type 0 where
@@ -82,46 +79,6 @@ output_of before now puts_before puts_now write_faults = record {
   puts_now = puts_now;
   write_faults = write_faults;
 }
-
--- ---- commands
-
--- the command solves a model, by a route
-abbrev pub IsSolving : Verb → Type 0
-IsSolving verb = takes_route verb ≡ true
-
--- the command works on a model that it reads; `text` and `gen` read none
-abbrev pub reads_model : Verb → Bool
-reads_model Text = false
-reads_model Gen = false
-reads_model _ = true
-
--- so it is one that reads a model
-abbrev pub IsOnModel : Verb → Type 0
-IsOnModel verb = reads_model verb ≡ true
-
--- the command grows a branch tree: some variables of its model take whole numbers
-abbrev pub branches : Verb → Bool
-branches Whole = true
-branches Tree = true
-branches _ = false
-
--- so it is `whole` or `tree`
-abbrev pub IsBranching : Verb → Type 0
-IsBranching verb = branches verb ≡ true
-
--- the command makes the set rows and forms of its model as it is written; not those of boxes, or at other limits
-abbrev pub elaborates : Verb → Bool
-elaborates Rows = true
-elaborates Solve = true
-elaborates Prove = true
-elaborates Check = true
-elaborates Worst = true
-elaborates Narrow = true
-elaborates _ = false
-
--- so it is one that makes them
-abbrev pub IsElaborating : Verb → Type 0
-IsElaborating verb = elaborates verb ≡ true
 
 -- the greatest number of a command line's width: 2^62 - 1 where it names no width
 abbrev pub limit_of : Line → ℕ

@@ -29,7 +29,8 @@ use Rattle.rob_sets.specs.FirstWide.{IsFirstWide}
 use Rattle.rob_tree.specs.Reading.{Breaks as BreaksTree}
 use Rattle.rob_sweep.specs.Stops.{BreaksRule, KeepsRules}
 use Rattle.rob_top.specs.Branched.{BreaksWhole}
-use Rattle.rob_top.specs.Calls.{Call, IsBranching, IsElaborating, IsSolving, Known, known_call, limit_of}
+use Rattle.rob_top.specs.Calls.{Call, Known, known_call, limit_of}
+use Rattle.rob_top.specs.Commands.{IsBranching, IsElaborating, IsSolving}
 use Rattle.rob_top.specs.Files.{Came, HasFile, IsFirstAbsent, requests}
 use Rattle.rob_top.specs.Inputs.{HasCertificate, HasCertificateFile, HasForms, HasModel, HasScenarioFile, HasSought, HasWholeVariables}
 use Rattle.rob_top.specs.Replayed.{LacksPlan, replay_ended}

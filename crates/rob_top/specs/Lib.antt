@@ -3,6 +3,7 @@ pub mod Branched
 pub mod Calls
 pub mod Checked
 pub mod Codes
+pub mod Commands
 pub mod Compared
 pub mod ComparedEnds
 pub mod ComparedWork

@@ -15,7 +15,8 @@ use Rattle.rob_meaning.specs.RobustModel.{RobustModel}
 use Rattle.rob_report.specs.Report.{report_of}
 use Rattle.rob_report.specs.Rows.{rows_of}
 use Rattle.rob_report.specs.Spots.{empty_set_lines}
-use Rattle.rob_top.specs.Calls.{Call, IsSolving, limit_of}
+use Rattle.rob_top.specs.Calls.{Call, limit_of}
+use Rattle.rob_top.specs.Commands.{IsSolving}
 use Rattle.rob_top.specs.Inputs.{HasForms}
 use Rattle.rob_top.specs.Routes.{IsFoundBy, with_rounds}
 use Rattle.rob_words.specs.Commands.{Line}

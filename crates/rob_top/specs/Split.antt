@@ -25,6 +25,7 @@ use Rattle.rob_report.specs.Report.{report_of}
 use Rattle.rob_report.specs.Spots.{empty_set_lines, too_wide_line}
 use Rattle.rob_top.specs.Answers.{fault_text}
 use Rattle.rob_top.specs.Calls.{Call, WasRaised, limit_of}
+use Rattle.rob_top.specs.Commands.{IsSplitting}
 use Rattle.rob_top.specs.Files.{word_of}
 use Rattle.rob_top.specs.Inputs.{HasModel}
 use Rattle.rob_top.specs.Swept.{limit_value}
@@ -34,22 +35,11 @@ use Rattle.rob_words.specs.Names.{parts_of}
 use Rattle.rob_words.specs.Values.{Word}
 use Rattle.rob_words.specs.Verbs.{own_of}
 use Rattle.rob_words.specs.declared.verb.Own.TheVariants as own
-use Rattle.rob_words.specs.declared.verb.Verb.{Verb}
 use Rattle.rob_words.specs.declared.verb.Verb.TheVariants.{Cells, CellText}
 use Rattle.rob_write.specs.Canonical.{model_text}
 use Rattle.rob_elab.specs.Written.{IsWritten}
 
 -- ---- what the words tell
-
--- the command cuts the set of its model
-abbrev pub splits : Verb → Bool
-splits Cells = true
-splits CellText = true
-splits _ = false
-
--- so it is `cells` or `celltext`
-abbrev pub IsSplitting : Verb → Type 0
-IsSplitting verb = splits verb ≡ true
 
 -- the number of this size, below 0 where it has a sign
 abbrev pub signed_value : Bool → Fraction → Fraction

@@ -1,5 +1,5 @@
 -- The answers of `sweep` and `sweeptext`: a model at other limits of one of its budgets.
-use Rattle.std.specs.Prelude.{◌≡◌, Bool, true, false, ℕ, pos, List, Some, map}
+use Rattle.std.specs.Prelude.{◌≡◌, ℕ, pos, List, Some, map}
 use Rattle.rob_algebra.specs.Fraction.{Fraction, of_pair}
 use Rattle.rob_algebra.specs.Width.{Fits}
 use Rattle.rob_meaning.specs.Places.{Each}
@@ -20,21 +20,10 @@ use Rattle.rob_words.specs.Names.{parts_of}
 use Rattle.rob_words.specs.Values.{Word}
 use Rattle.rob_words.specs.Verbs.{own_of}
 use Rattle.rob_words.specs.declared.verb.Own.TheVariants as own
-use Rattle.rob_words.specs.declared.verb.Verb.{Verb}
 use Rattle.rob_words.specs.declared.verb.Verb.TheVariants.{Sweep, SweepText}
 use Rattle.rob_write.specs.Canonical.{model_text}
 
 -- ---- what the words tell
-
--- the command works on its model at other limits of a budget
-abbrev pub sweeps : Verb → Bool
-sweeps Sweep = true
-sweeps SweepText = true
-sweeps _ = false
-
--- so it is `sweep` or `sweeptext`
-abbrev pub IsSweeping : Verb → Type 0
-IsSweeping verb = sweeps verb ≡ true
 
 -- the command line's own word that is a statement's number spells this one
 pub record TellsStatement (line : Line) (n : ℕ) : Type 0 where

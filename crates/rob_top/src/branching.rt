@@ -13,7 +13,8 @@ ghost use Rattle.rob_report.specs.Report.{report_of};
 ghost use Rattle.rob_tree.specs.Shape.{HasTreeShape};
 ghost use Rattle.rob_tree.specs.View.{tree_of};
 ghost use Rattle.rob_top.specs.Branched.{IsPlanText, IsPrintedTree, IsReport, IsShownBy, nodes_line};
-ghost use Rattle.rob_top.specs.Calls.{IsBranching, count};
+ghost use Rattle.rob_top.specs.Calls.{count};
+ghost use Rattle.rob_top.specs.Commands.{IsBranching};
 ghost use Rattle.rob_top.specs.Work.{AnswersNames, AnswersVariables, ended_of};
 ghost use Rattle.rob_top.specs.WorkStops.{IsUngrownOf, RepliesUngrown};
 

@@ -2,7 +2,8 @@
 
 ghost use Rattle.std.specs.Prelude.{◌≡◌, ◌≤◌, ◌∷◌, [], IfOk, false};
 ghost use Rattle.rob_gen.specs.Generated.{generated};
-ghost use Rattle.rob_top.specs.Calls.{count, reads_model};
+ghost use Rattle.rob_top.specs.Calls.{count};
+ghost use Rattle.rob_top.specs.Commands.{reads_model};
 ghost use Rattle.rob_top.specs.ComparedWork.{AnswersNumber};
 ghost use Rattle.rob_top.specs.Generated.{TellsNumber};
 ghost use Rattle.rob_top.specs.Replies.{IsRead, Replies};

@@ -5,7 +5,8 @@
 //! by line.
 
 ghost use Rattle.std.specs.Prelude.{◌≡◌, ◌≤◌, IfOk, map, string_bytes};
-ghost use Rattle.rob_top.specs.Calls.{Call, call_of, count, output_of, reads_model as is_reading, source_of};
+ghost use Rattle.rob_top.specs.Calls.{Call, call_of, count, output_of, source_of};
+ghost use Rattle.rob_top.specs.Commands.{reads_model as is_reading};
 ghost use Rattle.rob_top.specs.Files.{Fetches, requests};
 ghost use Rattle.rob_top.specs.Completeness.{IsComplete};
 ghost use Rattle.rob_top.specs.Headline.{Ends, Means};

@@ -5,8 +5,7 @@ use Rattle.rob_top.proofs.ReplayingLemmas.{replay_answers}
 use Rattle.rob_top.proofs.TreeCheckLemmas.{texts_answers}
 use Rattle.rob_top.proofs.SweepingLemmas.{words_answer, words_answer_at}
 use Rattle.rob_words.specs.declared.verb.Verb.TheVariants as verbs
-use Rattle.rob_top.specs.Calls.{branches}
-use Rattle.rob_top.specs.Split.{splits}
+use Rattle.rob_top.specs.Commands.{work_of}
 use Rattle.rob_top.proofs.work.unelaborated.Goals as goal
 
 pub returns-in-Replay-clause-answers : goal.returns-in-Replay-clause-answers
@@ -17,23 +16,23 @@ returns-in-Replay-clause-answers g c =
     c.replay_text.ensures.answers
 
 pub branch_text-requires-clause-branches : goal.branch_text-requires-clause-branches
-branch_text-requires-clause-branches g c = ap branches c.in-Whole.is
+branch_text-requires-clause-branches g c = ap work_of c.in-Whole.is
 
 pub returns-in-Whole-clause-answers : goal.returns-in-Whole-clause-answers
 returns-in-Whole-clause-answers g c =
     names_answer g.N.Exact.limit (robust g.N.Exact.value c.args.model.now) _ c.args.verb c.args.texts.now
     (map string_bytes c.as_slice-words.result.now) c.own_word-names.result.now c.branch_text.result
-    (ap branches c.in-Whole.is) (ap (map string_bytes) c.as_slice-words.ensures.value) c.own_word-names.ensures.word
+    (ap work_of c.in-Whole.is) (ap (map string_bytes) c.as_slice-words.ensures.value) c.own_word-names.ensures.word
     c.branch_text.ensures.answers
 
 pub branch_text-requires-in-Tree-clause-branches : goal.branch_text-requires-in-Tree-clause-branches
-branch_text-requires-in-Tree-clause-branches g c = ap branches c.in-Tree.is
+branch_text-requires-in-Tree-clause-branches g c = ap work_of c.in-Tree.is
 
 pub returns-in-Tree-clause-answers : goal.returns-in-Tree-clause-answers
 returns-in-Tree-clause-answers g c =
     names_answer g.N.Exact.limit (robust g.N.Exact.value c.args.model.now) _ c.args.verb c.args.texts.now
     (map string_bytes c.as_slice-words.result.now) c.own_word-names.result.now c.branch_text-in-Tree.result
-    (ap branches c.in-Tree.is) (ap (map string_bytes) c.as_slice-words.ensures.value) c.own_word-names.ensures.word
+    (ap work_of c.in-Tree.is) (ap (map string_bytes) c.as_slice-words.ensures.value) c.own_word-names.ensures.word
     c.branch_text-in-Tree.ensures.answers
 
 pub returns-in-CheckTree-clause-answers : goal.returns-in-CheckTree-clause-answers
@@ -60,7 +59,7 @@ returns-in-SweepText-clause-answers g c =
     c.limit_words.ensures.answers
 
 pub split_words-requires-clause-splits : goal.split_words-requires-clause-splits
-split_words-requires-clause-splits g c = ap splits c.in-Cells.is
+split_words-requires-clause-splits g c = ap work_of c.in-Cells.is
 
 pub returns-in-Cells-clause-answers : goal.returns-in-Cells-clause-answers
 returns-in-Cells-clause-answers g c =
@@ -70,7 +69,7 @@ returns-in-Cells-clause-answers g c =
     c.split_words.ensures.answers
 
 pub split_words-requires-in-CellText-clause-splits : goal.split_words-requires-in-CellText-clause-splits
-split_words-requires-in-CellText-clause-splits g c = ap splits c.in-CellText.is
+split_words-requires-in-CellText-clause-splits g c = ap work_of c.in-CellText.is
 
 pub returns-in-CellText-clause-answers : goal.returns-in-CellText-clause-answers
 returns-in-CellText-clause-answers g c =
