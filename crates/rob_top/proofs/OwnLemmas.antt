@@ -3,12 +3,13 @@ use Rattle.std.proofs.Common.{◌≡◌, ◌||◌, ℕ, Bool, true, false, not, 
 use Rattle.std.specs.Prelude.{if◌then◌else◌, option_map}
 use denote.Enum.Bare.{same_true, sameb}
 use Rattle.rob_top.proofs.CommandLemmas.{is_branching_work}
-use Rattle.rob_top.specs.Calls.{Call}
+use Rattle.rob_top.specs.Calls.{Call, limit_of}
 use Rattle.rob_top.specs.Commands.{IsBranching, IsOnModel, Work, reads_model, work_of}
 use Rattle.rob_top.specs.Files.{HasFile, Request, file_of, files_of, first_or, later, most_of, request_of, requests, word_of}
 use Rattle.rob_top.specs.Replies.{HasTexts, text_of, with_text}
 use Rattle.rob_top.specs.declared.files.Texts.{Texts}
-use Rattle.rob_words.specs.Commands.{Line}
+use Rattle.rob_words.specs.Commands.{Line, IsSpelled}
+use Rattle.rob_words.specs.Kinds.{AreOfKinds, IsOfKind}
 use Rattle.rob_words.specs.Values.{Word}
 use Rattle.rob_words.specs.Verbs.{own_of}
 use Rattle.rob_words.specs.contracts.verb.Own.{the_type}
@@ -137,6 +138,44 @@ word_there kind (other ∷ kinds) (word ∷ words) count has =
     by true h behind = (word, refl)
     by false h behind = behind h
 
+-- a word of a kind among words of their kinds is one of the kind
+kind_kept : (greatest : ℕ) (kind : Own) (kinds : List Own) (words : List Word) (w : Word)
+    → AreOfKinds greatest kinds words
+    → word_of kind kinds words ≡ Some w → IsOfKind greatest kind w
+kind_kept greatest kind [] words w h e = absurd (let no : None ≡ Some w = e in cc)
+kind_kept greatest kind (other ∷ kinds) [] w h e = absurd (let no : None ≡ Some w = e in cc)
+kind_kept greatest kind (other ∷ kinds) (word ∷ words) w h e =
+    by (sameb the_type other kind) refl e (kind_kept greatest kind kinds words w h.1)
+  where
+    by : (same : Bool) → sameb the_type other kind ≡ same
+        → (if same then Some word else word_of kind kinds words) ≡ Some w
+        → (word_of kind kinds words ≡ Some w → IsOfKind greatest kind w) → IsOfKind greatest kind w
+    by true alike is behind =
+        let same : word ≡ w = cc in
+        subst (λ (x : Word). IsOfKind greatest kind x) same
+        (subst (λ (k : Own). IsOfKind greatest k word) (same_true the_type tt other kind alike) h.0)
+    by false alike is behind = behind is
+
+-- what own words give for a kind, where they have a word of it, is the line's word of that kind
+pub own_told : (call : Call) (line : Line) (verb : Verb) (kind : Own) (words : List Word) (word : Word)
+    → line.verb ≡ verb → IsSpelled call.words line → has_kind kind (own_of line.verb) ≡ true → line.own ≡ words
+    → ((other : Word) → word_of kind (own_of verb) words ≡ Some other → word ≡ other)
+    → word_of kind (own_of line.verb) line.own ≡ Some word
+own_told call line verb kind words word is spelled has own_is told =
+    let there = word_there kind (own_of line.verb) line.own spelled.1.count has in
+    let here : word_of kind (own_of verb) words ≡ Some there.0 =
+    ap (λ (list : List Word). word_of kind (own_of verb) list) (sym own_is)
+    ∙ ap (λ (v : Verb). word_of kind (own_of v) line.own) (sym is) ∙ there.1
+    in
+    there.1 ∙ ap Some (sym (told there.0 here))
+
+-- so it is one of the kind
+pub own_of_kind : (limit : ℕ) (call : Call) (line : Line) (kind : Own) (word : Word) → IsSpelled call.words line
+    → limit_of line ≡ limit → word_of kind (own_of line.verb) line.own ≡ Some word → IsOfKind limit kind word
+own_of_kind limit call line kind word spelled at told =
+    kind_kept limit kind (own_of line.verb) line.own word
+    (subst (λ (l : ℕ). AreOfKinds l (own_of line.verb) line.own) at spelled.1.kinds) told
+
 -- a word that the command's own words give for a kind is the line's
 pub word_came : (call : Call) (line : Line) (texts : Texts) (verb : Verb) (kind : Own) (words : List Word) (word : Word)
     → line.verb ≡ verb
@@ -144,12 +183,7 @@ pub word_came : (call : Call) (line : Line) (texts : Texts) (verb : Verb) (kind 
     → ((other : Word) → word_of kind (own_of verb) words ≡ Some other → word ≡ other)
     → word_of kind (own_of line.verb) line.own ≡ Some word
 word_came call line texts verb kind words word is came has same told =
-    let there = word_there kind (own_of line.verb) line.own came.spelled.1.count has in
-    let here : word_of kind (own_of verb) words ≡ Some there.0 =
-    ap (λ (list : List Word). word_of kind (own_of verb) list) (same ∙ came.words)
-    ∙ ap (λ (v : Verb). word_of kind (own_of v) line.own) (sym is) ∙ there.1
-    in
-    there.1 ∙ ap Some (sym (told there.0 here))
+    own_told call line verb kind words word is came.spelled has (sym (same ∙ came.words)) told
 
 -- the file of a kind that the line names came with the text of that kind
 pub file_came : (call : Call) (line : Line) (texts : Texts) (kind : Own) (most : ℕ) → most_of kind ≡ Some most

@@ -25,7 +25,8 @@ use Rattle.rob_top.proofs.CutTellingLemmas.{cuts_inside}
 use Rattle.rob_top.proofs.KnownInputs.{known_again, model_known}
 use Rattle.rob_top.proofs.KnownLemmas.{means_known}
 use Rattle.rob_top.proofs.NarrowAnswerLemmas.{has_status}
-use Rattle.rob_top.proofs.SplittingLemmas.{admits_each, kind_kept, split_model_is, status_over_pieces}
+use Rattle.rob_top.proofs.OwnLemmas.{own_of_kind}
+use Rattle.rob_top.proofs.SplittingLemmas.{admits_each, split_model_is, status_over_pieces}
 use Rattle.rob_top.proofs.StageLemmas.{broken_here, file_once, one_model_read}
 use Rattle.rob_top.proofs.TrueAnswerLemmas.{course_of}
 use Rattle.rob_top.proofs.WorkLemmas.{limit_is}
@@ -52,7 +53,6 @@ use Rattle.rob_words.specs.Cuts.{IsCut, IsCutList, cut_level, has_sign, unsigned
 use Rattle.rob_words.specs.Limits.{denominator_of, numerator_of}
 use Rattle.rob_words.specs.Names.{AreAll, parts_of}
 use Rattle.rob_words.specs.Values.{Word, bits_of}
-use Rattle.rob_words.specs.Verbs.{own_of}
 use Rattle.rob_words.specs.declared.verb.Own.TheVariants as own
 use Rattle.rob_words.specs.declared.verb.Verb.TheVariants.{Check, Prove}
 use Rattle.rob_words.specs.declared.width.Width.{Width}
@@ -120,7 +120,7 @@ module _ (printing : Call) (text : List ℕ) (split : IsSplitText printing text)
 
   list : IsCutList limit split.has.has_cuts.word
   list =
-      kind_kept limit own.Cuts (own_of split.line.verb) split.line.own split.has.has_cuts.word has.spelled.1.kinds
+      own_of_kind limit printing split.line own.Cuts split.has.has_cuts.word has.spelled refl
       split.has.has_cuts.has_word.told
 
   three : length split.cuts ≤ 3

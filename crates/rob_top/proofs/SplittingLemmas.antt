@@ -1,5 +1,5 @@
 -- The answers of `cells` and `celltext`, from what the words tell and what the work on the split model answers.
-use Rattle.std.proofs.Common.{◌≡◌, ◌≢◌, ◌≤◌, ◌||◌, ◌⊎◌, ℕ, nat_abs, Bool, true, false, not, List, [], ◌∷◌, ◌++◌, length, Option, Some, None, Result, Ok, Err, IfOk, inl, inr, refl, subst, sym, ap, ◌∙◌}
+use Rattle.std.proofs.Common.{◌≡◌, ◌≢◌, ◌≤◌, ◌||◌, ◌⊎◌, ℕ, nat_abs, Bool, true, false, not, List, [], ◌∷◌, ◌++◌, Some, Result, Ok, Err, IfOk, inl, inr, refl, subst, sym, ap, ◌∙◌}
 use Rattle.std.specs.Prelude.{if◌then◌else◌}
 use Rattle.std.proofs.lemmas.List.{length-map}
 use denote.Enum.Bare.{same_true, sameb}
@@ -28,7 +28,7 @@ use Rattle.rob_report.specs.Report.{report_of}
 use Rattle.rob_top.proofs.BoxPathLemmas.{spot_in}
 use Rattle.rob_top.proofs.CommandLemmas.{is_splitting_work}
 use Rattle.rob_top.proofs.CourseLemmas.{inside_admitted}
-use Rattle.rob_top.proofs.OwnLemmas.{has_kind, second_of, word_there}
+use Rattle.rob_top.proofs.OwnLemmas.{has_kind, own_of_kind, own_told, second_of}
 use Rattle.rob_top.proofs.RouteLemmas.{no_rounds}
 use Rattle.rob_top.proofs.SolvingLemmas.{proved_bound}
 use Rattle.rob_top.proofs.WorkLemmas.{call_within, rose_earlier}
@@ -49,14 +49,11 @@ use Rattle.rob_top.specs.declared.reply.Reply.{Reply}
 use Rattle.rob_words.proofs.EachValue.{each_value}
 use Rattle.rob_words.specs.Commands.{Line}
 use Rattle.rob_words.specs.Cuts.{IsCutList}
-use Rattle.rob_words.specs.Kinds.{AreOfKinds, IsOfKind}
 use Rattle.rob_words.specs.Names.{parts_of}
 use Rattle.rob_words.specs.Values.{Word}
 use Rattle.rob_words.specs.Verbs.{own_of}
-use Rattle.rob_words.specs.contracts.verb.Own.{the_type}
 use Rattle.rob_words.specs.contracts.verb.Verb.{enum, the_type as verb_type}
 use Rattle.rob_words.specs.declared.route.Route.TheVariants.{Dual}
-use Rattle.rob_words.specs.declared.verb.Own.{Own}
 use Rattle.rob_words.specs.declared.verb.Own.TheVariants.{Cuts}
 use Rattle.rob_words.specs.declared.verb.Verb.{Verb}
 use Rattle.rob_words.specs.declared.verb.Verb.TheVariants.{Cells, CellText}
@@ -65,29 +62,9 @@ use Rattle.rob_elab.specs.Written.{IsWritten}
 
 -- ---- the word of cuts
 
--- a word of a kind among words of their kinds is one of the kind
-pub kind_kept : (greatest : ℕ) (kind : Own) (kinds : List Own) (words : List Word) (w : Word)
-    → AreOfKinds greatest kinds words
-    → word_of kind kinds words ≡ Some w → IsOfKind greatest kind w
-kind_kept greatest kind [] words w h e = absurd (let no : None ≡ Some w = e in cc)
-kind_kept greatest kind (other ∷ kinds) [] w h e = absurd (let no : None ≡ Some w = e in cc)
-kind_kept greatest kind (other ∷ kinds) (word ∷ words) w h e =
-    by (sameb the_type other kind) refl e (kind_kept greatest kind kinds words w h.1)
-  where
-    by : (same : Bool) → sameb the_type other kind ≡ same
-        → (if same then Some word else word_of kind kinds words) ≡ Some w
-        → (word_of kind kinds words ≡ Some w → IsOfKind greatest kind w) → IsOfKind greatest kind w
-    by true alike is behind =
-        let same : word ≡ w = cc in
-        subst (λ (x : Word). IsOfKind greatest kind x) same
-        (subst (λ (k : Own). IsOfKind greatest k word) (same_true the_type tt other kind alike) h.0)
-    by false alike is behind = behind is
-
 cut_list : (limit : ℕ) (wides : Count) (verb : Verb) (call : Call) (line : Line) (m : RobustModel) (word : Word)
     → IsCallAt limit wides verb call line → HasModel call line m → TellsCuts line word → IsCutList limit word
-cut_list limit wides verb call line m word at has told =
-    subst (λ (l : ℕ). IsCutList l word) at.limit_is
-    (kind_kept (limit_of line) Cuts (own_of line.verb) line.own word has.spelled.1.kinds told)
+cut_list limit wides verb call line m word at has told = own_of_kind limit call line Cuts word has.spelled at.limit_is told
 
 -- a command that cuts has a word of cuts
 abbrev tells_cuts : Verb → Bool
@@ -124,28 +101,14 @@ module _ (limit : ℕ) (m : RobustModel) (verb : Verb) (is : IsSplitting verb) w
       record { model = has; is_splitting = splits_as line.verb verb at.verb_is is; told = told }
 
   -- ---- the command's own words are the line's
-  pub told_words : (wides : Count) (words : List Word) (o : Option Word) (word : Word) (r : Result Reply Want)
-      → o ≡ word_of Cuts (own_of verb) words
-      → o ≡ Some word → IfOk r (AnswersCutWord limit wides m verb word) → IfOk r (AnswersWords limit wides m verb words)
-  told_words wides words o word (Err want) same e h = tt
-  told_words wides words o word (Ok reply) same e h = λ call line at has own_is.
+  pub told_words : (wides : Count) (words : List Word) (word : Word) (r : Result Reply Want)
+      → ((other : Word) → word_of Cuts (own_of verb) words ≡ Some other → word ≡ other)
+      → IfOk r (AnswersCutWord limit wides m verb word) → IfOk r (AnswersWords limit wides m verb words)
+  told_words wides words word (Err want) told h = tt
+  told_words wides words word (Ok reply) told h = λ call line at has own_is.
       h call line at has
-      (ap (λ (v : Verb). word_of Cuts (own_of v) line.own) at.verb_is
-      ∙ ap (λ (ws : List Word). word_of Cuts (own_of verb) ws) own_is
-      ∙ sym same ∙ e)
-
-  pub untold_words : (wides : Count) (words : List Word) (o : Option Word) (r : Result Reply Want)
-      → o ≡ word_of Cuts (own_of verb) words
-      → o ≡ None → IfOk r (AnswersWords limit wides m verb words)
-  untold_words wides words o (Err want) same e = tt
-  untold_words wides words o (Ok reply) same e = λ call line at has own_is.
-      let there = word_there Cuts (own_of verb) words
-      (ap (λ (ws : List Word). length ws) (sym own_is) ∙ has.spelled.1.count
-      ∙ ap (λ (v : Verb). length (own_of v)) at.verb_is)
-      (cuts_there verb is)
-      in
-      let no : None ≡ Some there.0 = sym e ∙ same ∙ there.1 in
-      absurd (let x : ⊥ = cc in x)
+      (own_told call line verb Cuts words word at.verb_is has.spelled
+      (cuts_there line.verb (splits_as line.verb verb at.verb_is is)) own_is told)
 
   -- ---- rules 51 and 52
   pub named_answers : (wides : Count) (word : Word) (r : Result Reply Want) → m.sets ≢ []

@@ -1,5 +1,5 @@
 -- The answers of `sweep` and `sweeptext`, from what the words tell and what the sweep answers.
-use Rattle.std.proofs.Common.{◌≡◌, ◌≤◌, ◌<◌, ◌++◌, ℕ, ◌-◌, suc, List, slice_index_or, [], ◌∷◌, length, map, string_bytes, Some, Result, Ok, Err, IfOk, get_or, inl, inr, refl, subst, sym, ap, ◌∙◌, arith}
+use Rattle.std.proofs.Common.{◌≡◌, ◌≤◌, ◌<◌, ◌++◌, ℕ, ◌-◌, suc, true, List, [], ◌∷◌, length, map, string_bytes, Some, Result, Ok, Err, IfOk, get_or, inl, inr, refl, subst, sym, ap, ◌∙◌, arith}
 use Rattle.std.proofs.lemmas.List.{length-map}
 use Rattle.rob_algebra.specs.Fraction.{Fraction}
 use Rattle.rob_algebra.specs.Width.{Fits}
@@ -33,9 +33,10 @@ use Rattle.rob_top.specs.declared.ended.Ended.TheVariants.{Printed, WideBudget, 
 use Rattle.rob_top.specs.declared.files.Texts.{Texts}
 use Rattle.rob_top.specs.declared.reply.Reply.{Reply}
 use Rattle.rob_top.proofs.BoxPathLemmas.{spot_in}
+use Rattle.rob_top.proofs.OwnLemmas.{has_kind, own_of_kind, own_told}
 use Rattle.rob_top.proofs.WorkLemmas.{call_within, rose_earlier}
 use Rattle.rob_words.specs.Commands.{Line}
-use Rattle.rob_words.specs.Kinds.{AreOfKinds, IsOfKind, IsStatement, number_of}
+use Rattle.rob_words.specs.Kinds.{IsOfKind, number_of}
 use Rattle.rob_words.specs.Names.{parts_of}
 use Rattle.rob_words.specs.Values.{Word}
 use Rattle.rob_words.specs.Verbs.{own_of}
@@ -45,74 +46,23 @@ use Rattle.rob_words.specs.declared.verb.Verb.{Verb}
 use Rattle.rob_words.specs.declared.verb.Verb.TheVariants as verbs
 use Rattle.rob_write.specs.Canonical.{model_text}
 
--- ---- own words: the model's file, the number of a statement, and a word of a kind
-pub record HasThree (greatest : ℕ) (kind : Own) (words : List Word) : Type 0 where
-  pub file : Word
-  pub number : Word
-  pub behind : Word
-  pub words_are : words ≡ file ∷ number ∷ behind ∷ []
-  pub statement : IsStatement number
-  pub of_kind : IsOfKind greatest kind behind
-
-three_words : (greatest : ℕ) (kind : Own) (words : List Word) → length words ≡ 3
-    → AreOfKinds greatest (own.Model ∷ own.Statement ∷ kind ∷ []) words → HasThree greatest kind words
-three_words greatest kind [] count kinds = absurd (omega (arith, count))
-three_words greatest kind (a ∷ []) count kinds = absurd (omega (arith, count))
-three_words greatest kind (a ∷ b ∷ []) count kinds = absurd (omega (arith, count))
-three_words greatest kind (a ∷ b ∷ c ∷ []) count kinds = record {
-  file = a;
-  number = b;
-  behind = c;
-  words_are = refl;
-  statement = kinds.1.0;
-  of_kind = kinds.1.1.0;
-}
-three_words greatest kind (a ∷ b ∷ c ∷ d ∷ words) count kinds = absurd (omega (arith, count))
-
+-- ---- the command's own words are the line's
 module _ (limit : ℕ) (wides : Count) (m : RobustModel) (verb : Verb) (kind : Own)
-    (own_is : own_of verb ≡ own.Model ∷ own.Statement ∷ kind ∷ []) where
-  pub three_of : (call : Call) (line : Line) → IsCallAt limit wides verb call line → HasModel call line m
-      → HasThree limit kind line.own
-  three_of call line at has =
-      let kinds_are : own_of line.verb ≡ own.Model ∷ own.Statement ∷ kind ∷ [] = ap own_of at.verb_is ∙ own_is in
-      let parts = has.spelled.1 in
-      three_words limit kind line.own (parts.count ∙ ap (λ (ks : List Own). length ks) kinds_are)
-      (subst (λ (ks : List Own). AreOfKinds limit ks line.own) kinds_are
-      (subst (λ (l : ℕ). AreOfKinds l (own_of line.verb) line.own) at.limit_is parts.kinds))
+    (there : has_kind kind (own_of verb) ≡ true) (words : List Word) (word : Word)
+    (told : (other : Word) → word_of kind (own_of verb) words ≡ Some other → word ≡ other) where
+  pub word_told : (call : Call) (line : Line) → IsCallAt limit wides verb call line → HasModel call line m
+      → line.own ≡ words → word_of kind (own_of line.verb) line.own ≡ Some word
+  word_told call line at has own_is =
+      own_told call line verb kind words word at.verb_is has.spelled
+      (ap (λ (v : Verb). has_kind kind (own_of v)) at.verb_is ∙ there) own_is told
 
-  -- words that aren't such are those of no call
-  pub no_line_answers : (words : List Word) (r : Result Reply Want) → (HasThree limit kind words → ⊥)
-      → IfOk r (Replies Words words_text)
+  -- words of which one isn't of its kind are those of no call
+  pub no_line_answers : (r : Result Reply Want) → (IsOfKind limit kind word → ⊥) → IfOk r (Replies Words words_text)
       → IfOk r (AnswersWords limit wides m verb words)
-  no_line_answers words (Err want) none is = tt
-  no_line_answers words (Ok reply) none is = λ call line at has same.
-      absurd (none (subst (λ (ws : List Word). HasThree limit kind ws) same (three_of call line at has)))
-
-module _ (limit : ℕ) (kind : Own) (words : List Word) where
-  -- there aren't three
-  pub not_three : (length words ≡ 3 → ⊥) → HasThree limit kind words → ⊥
-  not_three other h = other (ap (λ (ws : List Word). length ws) h.words_are)
-
-  module _ (file number behind : Word) (words_are : words ≡ file ∷ number ∷ behind ∷ []) where
-    pub not_statement : (IsStatement number → ⊥) → HasThree limit kind words → ⊥
-    not_statement none h =
-        let both : file ∷ number ∷ behind ∷ [] ≡ h.file ∷ h.number ∷ h.behind ∷ [] = sym words_are ∙ h.words_are in
-        let same : h.number ≡ number = cc in none (subst IsStatement same h.statement)
-
-    pub not_kind : (IsOfKind limit kind behind → ⊥) → HasThree limit kind words → ⊥
-    not_kind none h =
-        let both : file ∷ number ∷ behind ∷ [] ≡ h.file ∷ h.number ∷ h.behind ∷ [] = sym words_are ∙ h.words_are in
-        let same : h.behind ≡ behind = cc in none (subst (λ (w : Word). IsOfKind limit kind w) same h.of_kind)
-
--- three words, by the second and the third
-pub three_items : {A : Type 0} (f : A → Word) (xs : List A) (b c : Word) (d e : A) → 3 ≤ length xs → length xs < 4
-    → b ≡ f (slice_index_or xs 1 d) → c ≡ f (slice_index_or xs 2 e) → (file : Word) × (map f xs ≡ file ∷ b ∷ c ∷ [])
-three_items f [] b c d e least most is also = absurd (omega (arith, least))
-three_items f (x ∷ []) b c d e least most is also = absurd (omega (arith, least))
-three_items f (x ∷ y ∷ []) b c d e least most is also = absurd (omega (arith, least))
-three_items f (x ∷ y ∷ z ∷ []) b c d e least most is also =
-    let second : b ≡ f y = is in let third : c ≡ f z = also in (f x, cc)
-three_items f (x ∷ y ∷ z ∷ v ∷ xs) b c d e least most is also = absurd (omega (arith, most))
+  no_line_answers (Err want) none is = tt
+  no_line_answers (Ok reply) none is = λ call line at has own_is.
+      absurd (none (own_of_kind limit call line kind word has.spelled at.limit_is
+      (word_told call line at has own_is)))
 
 -- as many answers as limits
 swept_count : (m : RobustModel) (n : ℕ) (gs : List Fraction) (answers : List SweepAnswer) → Swept m n gs answers
@@ -148,14 +98,16 @@ wide_cause limit m n gs s number spot is cause = subst (λ (x : SweepStop). HasC
 -- ---- `sweep`
 module _ (limit : ℕ) (m : RobustModel) where
   -- the words tell the statement and the limits
-  pub sweep_told : (before middle now : ℕ) (words : List Word) (file number behind : Word) (n : ℕ)
+  pub sweep_told : (before middle now : ℕ) (words : List Word) (number behind : Word) (n : ℕ)
       (gs : List Fraction) (r : Result Reply Want)
-      → words ≡ file ∷ number ∷ behind ∷ [] → n ≡ number_of number → gs ≡ map limit_value (parts_of behind)
+      → ((other : Word) → word_of own.Statement (own_of verbs.Sweep) words ≡ Some other → number ≡ other)
+      → ((other : Word) → word_of own.Limits (own_of verbs.Sweep) words ≡ Some other → behind ≡ other)
+      → n ≡ number_of number → gs ≡ map limit_value (parts_of behind)
       → before ≤ middle → IfOk r (AnswersSweep limit (count middle now) m n gs)
       → IfOk r (AnswersWords limit (count before now) m verbs.Sweep words)
-  sweep_told before middle now words file number behind n gs (Err want) words_are n_is gs_are least h = tt
-  sweep_told before middle now words file number behind n gs (Ok reply) words_are n_is gs_are least h =
-      λ call line at has same.
+  sweep_told before middle now words number behind n gs (Err want) first second n_is gs_are least h = tt
+  sweep_told before middle now words number behind n gs (Ok reply) first second n_is gs_are least h =
+      λ call line at has own_is.
       h call line
       (call_within limit (count middle now) (count before now) verbs.Sweep call line
       (rose_earlier before middle now least) at)
@@ -165,24 +117,18 @@ module _ (limit : ℕ) (m : RobustModel) where
         statement =
             record {
               word = number;
-              told = told own.Statement call line at (same ∙ words_are) number refl;
+              told = word_told limit (count before now) m verbs.Sweep own.Statement refl words number first call line
+                  at has own_is;
               spells = n_is;
             };
         limits_are =
             record {
               word = behind;
-              told = told own.Limits call line at (same ∙ words_are) behind refl;
+              told = word_told limit (count before now) m verbs.Sweep own.Limits refl words behind second call line
+                  at has own_is;
               parts = gs_are;
             };
       })
-    where
-      told : (kind : Own) (call : Call) (line : Line) → IsCallAt limit (count before now) verbs.Sweep call line
-          → line.own ≡ file ∷ number ∷ behind ∷ [] → (word : Word)
-          → word_of kind (own_of verbs.Sweep) (file ∷ number ∷ behind ∷ []) ≡ Some word
-          → word_of kind (own_of line.verb) line.own ≡ Some word
-      told kind call line at own_is word e =
-          ap (λ (v : Verb). word_of kind (own_of v) line.own) at.verb_is
-          ∙ ap (λ (ws : List Word). word_of kind (own_of verbs.Sweep) ws) own_is ∙ e
 
   -- the answers are printed
   pub priced_answers : (wides : Count) (n : ℕ) (gs : List Fraction) (answers : List SweepAnswer) (r : Result Reply Want)
@@ -247,12 +193,14 @@ module _ (limit : ℕ) (m : RobustModel) where
   unswept_answers before now n gs s (Ok reply) cause counted is = stop_answers before now n gs s reply cause counted is
 
   -- ---- `sweeptext`
-  pub limit_told : (before now : ℕ) (words : List Word) (file number behind : Word) (n : ℕ)
+  pub limit_told : (before now : ℕ) (words : List Word) (number behind : Word) (n : ℕ)
       (g : Fraction) (r : Result Reply Want)
-      → words ≡ file ∷ number ∷ behind ∷ [] → n ≡ number_of number → g ≡ limit_value behind
+      → ((other : Word) → word_of own.Statement (own_of verbs.SweepText) words ≡ Some other → number ≡ other)
+      → ((other : Word) → word_of own.Limit (own_of verbs.SweepText) words ≡ Some other → behind ≡ other)
+      → n ≡ number_of number → g ≡ limit_value behind
       → IfOk r (RepliesLimit m n g) → IfOk r (AnswersWords limit (count before now) m verbs.SweepText words)
-  limit_told before now words file number behind n g (Err want) words_are n_is g_is h = tt
-  limit_told before now words file number behind n g (Ok reply) words_are n_is g_is h = λ call line at has same.
+  limit_told before now words number behind n g (Err want) first second n_is g_is h = tt
+  limit_told before now words number behind n g (Ok reply) first second n_is g_is h = λ call line at has own_is.
       by call line
       (record {
         model = has;
@@ -260,25 +208,20 @@ module _ (limit : ℕ) (m : RobustModel) where
         statement =
             record {
               word = number;
-              told = told own.Statement call line at (same ∙ words_are) number refl;
+              told = word_told limit (count before now) m verbs.SweepText own.Statement refl words number first call
+                  line at has own_is;
               spells = n_is;
             };
-        limit_is = record {
-          word = behind;
-          told = told own.Limit call line at (same ∙ words_are) behind refl;
-          spells = g_is;
-        };
+        limit_is =
+            record {
+              word = behind;
+              told = word_told limit (count before now) m verbs.SweepText own.Limit refl words behind second call line
+                  at has own_is;
+              spells = g_is;
+            };
       })
       h
     where
-      told : (kind : Own) (call : Call) (line : Line) → IsCallAt limit (count before now) verbs.SweepText call line
-          → line.own ≡ file ∷ number ∷ behind ∷ [] → (word : Word)
-          → word_of kind (own_of verbs.SweepText) (file ∷ number ∷ behind ∷ []) ≡ Some word
-          → word_of kind (own_of line.verb) line.own ≡ Some word
-      told kind call line at own_is word e =
-          ap (λ (v : Verb). word_of kind (own_of v) line.own) at.verb_is
-          ∙ ap (λ (ws : List Word). word_of kind (own_of verbs.SweepText) ws) own_is ∙ e
-
       by : (call : Call) (line : Line) → HasLimit call line m n g → RepliesLimit m n g reply
           → Means call reply.ended reply.text
       by call line has (inl is) =

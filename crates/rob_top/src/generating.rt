@@ -16,12 +16,11 @@ ghost use Rattle.rob_write.specs.Canonical.{model_text};
 
 use crate::comparing::compare_routes;
 use crate::ended::Ended;
-use crate::reply::Reply;
+use crate::reply::{Reply, printed_model};
 use rob_gen::generate;
 use rob_number::{Ledger, Memory};
 use rob_quick::Quick;
 use rob_words::{CommandLine, Verb, number};
-use rob_write::write_model;
 use std::alloc::Global;
 
 /// The answer of a command that reads no model.
@@ -77,9 +76,5 @@ fn print_model<L: Ledger>(alloc: Global, number: u32, ledger: &mut L) -> Result<
     ensures counted { L.wides ledger.old ≤ L.wides ledger.new }
 {
     let model = generate::<Quick<62>, L>(alloc, number, ledger)?;
-    let text = write_model(alloc, &model)?;
-    Ok(Reply {
-        ended: Ended::Printed,
-        text,
-    })
+    printed_model(alloc, &model)
 }

@@ -60,7 +60,7 @@ pub fn own_word(kind: Own, verb: Verb, words: &[String]) -> &str
 }
 
 /// The first own word of the kind.
-pub fn word_of<'a>(kind: Own, kinds: &[Own], words: &'a [String]) -> Option<&'a str>
+fn word_of<'a>(kind: Own, kinds: &[Own], words: &'a [String]) -> Option<&'a str>
     ensures word { option_map (λ word. word.now) result
         ≡ files.word_of kind kinds.now (map string_bytes words.entry.now) }
 {

@@ -12,7 +12,7 @@ ghost use Rattle.rob_top.specs.Replies.{Replies};
 ghost use Rattle.rob_top.specs.Work.{AnswersPlan, AnswersReplay, AnswersScenarios};
 
 use crate::ended::Ended;
-use crate::reply::{Reply, broken_rule, certificate_rule};
+use crate::reply::{Reply, broken_rule, certificate_rule, no_plan};
 use crate::work::too_wide;
 use rob_cert::{Cert, CertErr, Status, read_cert};
 use rob_model::{Model, Plan, Spot};
@@ -57,7 +57,7 @@ fn replay_cert<N: Exact + Drop, L: Ledger>(
     ensures counted { L.wides ledger.old ≤ L.wides ledger.new }
 {
     match cert.status {
-        Status::Infeasible => certificate_rule(alloc, 34, 1),
+        Status::Infeasible => no_plan(alloc),
         Status::Optimal => replay_plan(alloc, model, cert, text, ledger),
         Status::Unbounded => replay_plan(alloc, model, cert, text, ledger),
     }

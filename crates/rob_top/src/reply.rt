@@ -2,13 +2,17 @@
 
 ghost use Rattle.std.specs.Prelude.{◌++◌, IfOk};
 ghost use Rattle.std.specs.Fmt.{decimal};
+ghost use Rattle.rob_model.specs.View.{robust};
 ghost use Rattle.rob_report.specs.Lines.{line as one_line};
 ghost use Rattle.rob_top.specs.Answers.{certificate_fault_text, fault_text, line_fault_text, words_text};
 ghost use Rattle.rob_top.specs.Replies.{Replies};
+ghost use Rattle.rob_write.specs.Canonical.{model_text};
 
 use crate::ended::Ended;
 use itoa::Buffer;
-use rob_number::{Memory, Text};
+use rob_model::Model;
+use rob_number::{Exact, Memory, Text};
+use rob_write::write_model;
 use std::alloc::Global;
 
 /// An answer, and the whole text that is put for it.
@@ -77,4 +81,22 @@ pub fn certificate_rule(alloc: Global, rule: u8, line: u32) -> Result<Reply, Mem
     ensures fault { IfOk result (Replies (Ended.Cert rule line) (certificate_fault_text rule line)) }
 {
     broken_rule(alloc, Ended::Cert(rule, line), b"certificate ", rule, line)
+}
+
+/// The answer for a certificate that claims an infeasible model, so that it has no plan.
+pub fn no_plan(alloc: Global) -> Result<Reply, Memory>
+    ensures fault { IfOk result (Replies (Ended.Cert 34 1) (certificate_fault_text 34 1)) }
+{
+    certificate_rule(alloc, 34, 1)
+}
+
+/// The answer with the canonical text of a model.
+pub fn printed_model<N: Exact>(alloc: Global, model: &Model<N>) -> Result<Reply, Memory>
+    ensures printed { IfOk result (Replies Ended.Printed (model_text (robust N.value model.now))) }
+{
+    let text = write_model(alloc, model)?;
+    Ok(Reply {
+        ended: Ended::Printed,
+        text,
+    })
 }

@@ -19,7 +19,7 @@ ghost use Rattle.rob_worst.specs.Finding.{HasConstantWithin};
 ghost use Rattle.rob_worst.specs.Vectors.{plan_of};
 
 use crate::ended::Ended;
-use crate::reply::{Reply, certificate_rule, fault};
+use crate::reply::{Reply, certificate_rule, fault, no_plan};
 use crate::solving::stopped;
 use crate::work::too_wide;
 use rob_cert::{Cert, CertErr, Status, Worst, read_cert};
@@ -77,7 +77,7 @@ fn search_cert<N: Exact + Drop, L: Ledger>(
     ensures counted { L.wides ledger.old ≤ L.wides ledger.new }
 {
     match cert.status {
-        Status::Infeasible => certificate_rule(alloc, 34, 1),
+        Status::Infeasible => no_plan(alloc),
         Status::Optimal => search_plan(alloc, model, forms, set, cert, name, ledger),
         Status::Unbounded => search_plan(alloc, model, forms, set, cert, name, ledger),
     }

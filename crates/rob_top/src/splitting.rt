@@ -22,10 +22,9 @@ ghost use Rattle.rob_words.specs.Names.{parts_of};
 
 use crate::ended::Ended;
 use crate::limits::fraction;
-use crate::names::word_of;
-use crate::reply::{Reply, broken_words, no_line};
+use crate::names::own_word;
+use crate::reply::{Reply, broken_words, printed_model};
 use crate::solving::{ended_by, stopped};
-use crate::sweeping::written;
 use itoa::Buffer;
 use rob_cells::{CellsErr, Cut, cell_count, cut_model};
 use rob_cert::Cert;
@@ -52,10 +51,8 @@ pub fn split_words<N: Exact + Drop, L: Ledger>(
         (robust N.value model.now) verb (map string_bytes words.now)) }
     ensures counted { L.wides ledger.old ≤ L.wides ledger.new }
 {
-    match word_of(Own::Cuts, verb.own(), words) {
-        Some(word) => at_word(alloc, model, verb, word, ledger),
-        None => no_line(alloc),
-    }
+    let word = own_word(Own::Cuts, verb, words);
+    at_word(alloc, model, verb, word, ledger)
 }
 
 /// The answer for a word of cuts.
@@ -190,7 +187,7 @@ fn on_split<N: Exact + Drop, L: Ledger>(
 {
     match verb {
         Verb::Cells => solved(alloc, model, cells, ledger),
-        Verb::CellText => written(alloc, model),
+        Verb::CellText => printed_model(alloc, model),
         _ => unreachable!(),
     }
 }

@@ -16,18 +16,17 @@ ghost use Rattle.rob_top.specs.Replies.{Replies};
 ghost use Rattle.rob_top.specs.Work.{AnswersSweep, AnswersWords};
 ghost use Rattle.rob_top.specs.WorkStops.{RepliesLimit, RepliesUnswept};
 ghost use Rattle.rob_words.specs.declared.verb.Verb.TheVariants as verbs;
-ghost use Rattle.rob_write.specs.Canonical.{model_text};
 
 use crate::ended::Ended;
 use crate::limits::{limit_of, limits_of};
-use crate::reply::{Reply, broken_words, no_line};
+use crate::names::own_word;
+use crate::reply::{Reply, broken_words, no_line, printed_model};
 use rob_cert::spelling::put_number;
 use rob_model::{Model, Spot};
 use rob_number::{Exact, Ledger, Memory, Text};
 use rob_report::spot_text;
 use rob_sweep::{SweepAnswer, SweepStop, sweep, sweep_text, with_budget};
-use rob_words::statement;
-use rob_write::write_model;
+use rob_words::{Own, Verb, statement};
 use std::alloc::Global;
 
 /// The answer of `sweep` for a command's own words: the model's file, the number of a statement, and limits.
@@ -42,13 +41,12 @@ pub fn sweep_words<N: Exact + Drop, L: Ledger>(
         (robust N.value model.now) verbs.Sweep (map string_bytes words.now)) }
     ensures counted { L.wides ledger.old ≤ L.wides ledger.new }
 {
-    let [_, number, limits] = words else {
+    let number = own_word(Own::Statement, Verb::Sweep, words);
+    let limits = own_word(Own::Limits, Verb::Sweep, words);
+    let Some(n) = statement(number) else {
         return no_line(alloc);
     };
-    let Some(n) = statement(number.as_str()) else {
-        return no_line(alloc);
-    };
-    let told = limits_of(alloc, limits.as_str(), ledger)?;
+    let told = limits_of(alloc, limits, ledger)?;
     match told {
         Some(limits) => at_limits(alloc, model, n, limits.items(), ledger),
         None => no_line(alloc),
@@ -189,13 +187,12 @@ pub fn limit_words<N: Exact, L: Ledger>(
         (robust N.value model.now) verbs.SweepText (map string_bytes words.now)) }
     ensures counted { L.wides ledger.old ≤ L.wides ledger.new }
 {
-    let [_, number, limit] = words else {
+    let number = own_word(Own::Statement, Verb::SweepText, words);
+    let word = own_word(Own::Limit, Verb::SweepText, words);
+    let Some(n) = statement(number) else {
         return no_line(alloc);
     };
-    let Some(n) = statement(number.as_str()) else {
-        return no_line(alloc);
-    };
-    match limit_of(limit.as_str(), ledger) {
+    match limit_of(word, ledger) {
         Some(limit) => limited(alloc, model, n, limit),
         None => no_line(alloc),
     }
@@ -207,20 +204,9 @@ fn limited<N: Exact>(alloc: Global, model: &Model<N>, n: u32, limit: N) -> Resul
     ensures limited { IfOk result (RepliesLimit (robust N.value model.now) n (N.value limit)) }
 {
     match with_budget(alloc, model, n, limit) {
-        Ok(changed) => written(alloc, &changed),
+        Ok(changed) => printed_model(alloc, &changed),
         Err(SweepStop::Rule(rule)) => broken_words(alloc, Ended::Sweep(rule), b"sweep ", rule),
         Err(SweepStop::Memory) => Err(Memory),
         Err(SweepStop::Wide(_, _)) => unreachable!(),
     }
-}
-
-/// The answer with the text of a model.
-pub fn written<N: Exact>(alloc: Global, model: &Model<N>) -> Result<Reply, Memory>
-    ensures written { IfOk result (Replies Ended.Printed (model_text (robust N.value model.now))) }
-{
-    let text = write_model(alloc, model)?;
-    Ok(Reply {
-        ended: Ended::Printed,
-        text,
-    })
 }

@@ -7,8 +7,8 @@ use Rattle.rob_top.proofs.replaying.replay_cert.Goals as goal
 pub returns-in-Infeasible-clause-answers : goal.returns-in-Infeasible-clause-answers
 returns-in-Infeasible-clause-answers g c =
     planless_answers g.N.Exact.limit (robust g.N.Exact.value c.args.model.now)
-    (certificate_of g.N.Exact.value c.args.cert) c.args.text.now _ c.certificate_rule.result
-    (ap status_of c.in-Infeasible.is) c.certificate_rule.ensures.fault
+    (certificate_of g.N.Exact.value c.args.cert) c.args.text.now _ c.no_plan.result
+    (ap status_of c.in-Infeasible.is) c.no_plan.ensures.fault
 
 pub returns-in-Optimal-clause-answers : goal.returns-in-Optimal-clause-answers
 returns-in-Optimal-clause-answers g c =

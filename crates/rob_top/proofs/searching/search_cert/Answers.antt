@@ -21,8 +21,8 @@ search_plan-requires-in-Unbounded-clause-size g c =
 pub returns-in-Infeasible-clause-answers : goal.returns-in-Infeasible-clause-answers
 returns-in-Infeasible-clause-answers g c =
     claims_none_answers g.N.Exact.limit (robust g.N.Exact.value c.args.model.now) c.args.name.now
-    (certificate_of g.N.Exact.value c.args.cert) _ c.certificate_rule.result (ap status_of c.in-Infeasible.is)
-    c.certificate_rule.ensures.fault
+    (certificate_of g.N.Exact.value c.args.cert) _ c.no_plan.result (ap status_of c.in-Infeasible.is)
+    c.no_plan.ensures.fault
 
 pub returns-in-Optimal-clause-answers : goal.returns-in-Optimal-clause-answers
 returns-in-Optimal-clause-answers g c =

@@ -11,5 +11,5 @@ returns-in-Cells-clause-replies g c =
 pub returns-in-CellText-clause-replies : goal.returns-in-CellText-clause-replies
 returns-in-CellText-clause-replies g c =
     text_replies g.N.Exact.limit _ (robust g.N.Exact.value c.args.model.now) c.args.cells c.args.verb
-    c.written.result c.in-CellText.is
-    c.written.ensures.written
+    c.printed_model.result c.in-CellText.is
+    c.printed_model.ensures.printed

@@ -5,6 +5,6 @@ use Rattle.rob_top.proofs.sweeping.limited.Goals as goal
 pub returns-in-Ok : goal.returns-in-Ok
 returns-in-Ok g c = record {
   limited = limit_replies (robust g.N.Exact.value c.args.model.now) (robust g.N.Exact.value c.in-Ok.changed) c.args.n
-      (g.N.Exact.value c.args.limit) c.written.result c.in-Ok.ensures.rule c.in-Ok.ensures.replaced
-      c.written.ensures.written;
+      (g.N.Exact.value c.args.limit) c.printed_model.result c.in-Ok.ensures.rule c.in-Ok.ensures.replaced
+      c.printed_model.ensures.printed;
 }

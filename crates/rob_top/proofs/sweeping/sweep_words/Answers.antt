@@ -6,43 +6,31 @@ use Rattle.rob_words.specs.Names.{parts_of}
 use Rattle.rob_model.specs.View.{robust}
 use Rattle.rob_words.specs.declared.verb.Own.TheVariants as own
 use Rattle.rob_words.specs.declared.verb.Verb.TheVariants as verbs
-use Rattle.rob_top.proofs.SweepingLemmas.{no_line_answers, not_kind, sweep_told, three_items}
+use Rattle.rob_top.proofs.SweepingLemmas.{no_line_answers, sweep_told}
 use Rattle.rob_top.proofs.sweeping.sweep_words.Goals as goal
 
 pub returns-in-Some-told-clause-answers : goal.returns-in-Some-told-clause-answers
 returns-in-Some-told-clause-answers g c =
-    let three =
-    three_items string_bytes c.args.words.now c.as_str.result.now c.as_str-2.result.now _ _
-    c.in-len3.len_at_least c.in-len3.len_below
-    (c.as_str.ensures.value ∙ ap string_bytes c.number-item.is)
-    (c.as_str-2.ensures.value ∙ ap string_bytes c.limits-item.is)
-    in
     sweep_told g.N.Exact.limit (robust g.N.Exact.value c.args.model.now) (g.L.Ledger.wides c.args.ledger.now)
     (g.L.Ledger.wides c.limits_of.new.ledger) (g.L.Ledger.wides c.at_limits.new.ledger)
-    (map string_bytes c.args.words.now) three.0
-    c.as_str.result.now c.as_str-2.result.now c.in-Some.n (map g.N.Exact.value c.items.result.now)
-    c.at_limits.result three.1
+    (map string_bytes c.args.words.now) c.own_word-number.result.now c.own_word-limits.result.now c.in-Some.n
+    (map g.N.Exact.value c.items.result.now)
+    c.at_limits.result c.own_word-number.ensures.word c.own_word-limits.ensures.word
     c.in-Some.ensures.statement.1 (ap (map g.N.Exact.value) c.items.ensures.list
-    ∙ (some_told (IsLimitList g.N.Exact.limit c.as_str-2.result.now → ⊥)
-    (λ limits. (map g.N.Exact.value limits ≡ map limit_value (parts_of c.as_str-2.result.now)) × (length limits ≤ 20))
+    ∙ (some_told (IsLimitList g.N.Exact.limit c.own_word-limits.result.now → ⊥)
+    (λ limits. (map g.N.Exact.value limits ≡ map limit_value (parts_of c.own_word-limits.result.now))
+    × (length limits ≤ 20))
     c.in_ok-told.told c.in-Some-told.limits c.in-Some-told.is c.in_ok-told.ensures.limits).0)
     c.limits_of.ensures.counted
     c.at_limits.ensures.answers
 
 pub returns-in-None-clause-answers : goal.returns-in-None-clause-answers
 returns-in-None-clause-answers g c =
-    let three =
-    three_items string_bytes c.args.words.now c.as_str.result.now c.as_str-2.result.now _ _
-    c.in-len3.len_at_least c.in-len3.len_below
-    (c.as_str.ensures.value ∙ ap string_bytes c.number-item.is)
-    (c.as_str-2.ensures.value ∙ ap string_bytes c.limits-item.is)
-    in
     no_line_answers g.N.Exact.limit _ (robust g.N.Exact.value c.args.model.now) verbs.Sweep own.Limits refl
-    (map string_bytes c.args.words.now)
+    (map string_bytes c.args.words.now) c.own_word-limits.result.now c.own_word-limits.ensures.word
     c.no_line-in-None.result
-    (not_kind g.N.Exact.limit own.Limits (map string_bytes c.args.words.now) three.0 c.as_str.result.now
-    c.as_str-2.result.now three.1
-    (none_told (IsLimitList g.N.Exact.limit c.as_str-2.result.now → ⊥)
-    (λ limits. (map g.N.Exact.value limits ≡ map limit_value (parts_of c.as_str-2.result.now)) × (length limits ≤ 20))
-    c.in_ok-told.told c.in-None.is c.in_ok-told.ensures.limits))
+    (none_told (IsLimitList g.N.Exact.limit c.own_word-limits.result.now → ⊥)
+    (λ limits. (map g.N.Exact.value limits ≡ map limit_value (parts_of c.own_word-limits.result.now))
+    × (length limits ≤ 20))
+    c.in_ok-told.told c.in-None.is c.in_ok-told.ensures.limits)
     c.no_line-in-None.ensures.fault
