@@ -34,7 +34,7 @@ use Rattle.rob_top.proofs.NarrowForms.{all_narrow, difference_narrow}
 use Rattle.rob_top.specs.Completeness.{MustEnd}
 use Rattle.rob_top.specs.Endings.{EndsAs, IsEmptyAnswer}
 use Rattle.rob_top.specs.Inputs.{HasForms}
-use Rattle.rob_top.specs.WorkedCalls.{model_name, solve_call}
+use Rattle.rob_top.specs.WorkedCalls.{model_name, model_request, solve_call}
 use Rattle.rob_top.specs.WorkedModels.{empty_interval, greatest}
 use Rattle.rob_top.specs.declared.ended.Ended.{Ended}
 use Rattle.rob_top.specs.declared.ended.Ended.TheVariants.{Optimal}
@@ -78,7 +78,7 @@ forms_on m comes reads narrow = record {
     came = ((model_text m, (comes, tt)), tt);
     bytes = model_text m;
     file = record {
-      request = record { place = 0; name = model_name; most = 65536 };
+      request = model_request;
       named = refl;
       found = (comes, tt);
     };

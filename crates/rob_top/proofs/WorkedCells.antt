@@ -34,7 +34,7 @@ use Rattle.rob_top.specs.Endings.{EndsAs}
 use Rattle.rob_top.specs.Inputs.{HasModel}
 use Rattle.rob_top.specs.Split.{AreCutsAt, EachCellAdmits, HasCutWord, HasSplit, level_value}
 use Rattle.rob_top.specs.SplitEnds.{IsEmptyCellsAnswer}
-use Rattle.rob_top.specs.WorkedCalls.{cells_call, model_name}
+use Rattle.rob_top.specs.WorkedCalls.{cells_call, model_name, model_request}
 use Rattle.rob_top.specs.WorkedModels.{at_13, at_9, greatest}
 use Rattle.rob_top.specs.declared.ended.Ended.{Ended}
 use Rattle.rob_top.specs.declared.ended.Ended.TheVariants.{Printed}
@@ -110,7 +110,7 @@ module _ (name : Word) (verb : Verb) (named : name ≡ verb_word verb) (kinds : 
           ((model_text m, (comes, tt)), tt);
       bytes = model_text m;
       file = record {
-        request = record { place = 0; name = model_name; most = 65536 };
+        request = model_request;
         named = ap (λ ks. request_of Model ks (model_name ∷ word ∷ [])) kinds;
         found = (comes, tt);
       };

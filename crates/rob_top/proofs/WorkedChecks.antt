@@ -29,7 +29,7 @@ use Rattle.rob_top.proofs.WorkedCalls.{fits_by, one_demand_narrow, one_demand_re
 use Rattle.rob_top.specs.Completeness.{MustEnd}
 use Rattle.rob_top.specs.Endings.{EndsAs}
 use Rattle.rob_top.specs.Inputs.{HasCertificate}
-use Rattle.rob_top.specs.WorkedCalls.{certificate_name, check_call, model_name}
+use Rattle.rob_top.specs.WorkedCalls.{certificate_name, certificate_request, check_call, model_name, model_request}
 use Rattle.rob_top.specs.WorkedModels.{greatest, order_11, order_12}
 use Rattle.rob_top.specs.declared.ended.Ended.{Ended}
 use Rattle.rob_top.specs.declared.ended.Ended.TheVariants.{Accepted, Rejected}
@@ -76,7 +76,7 @@ certificate_on c come shape fits = record {
         came = ((model_text one_demand, (come.model, tt)), ((cert_text one_demand c, (come.certificate, tt)), tt));
         bytes = model_text one_demand;
         file = record {
-          request = record { place = 0; name = model_name; most = 65536 };
+          request = model_request;
           named = refl;
           found = (come.model, tt);
         };
@@ -86,7 +86,7 @@ certificate_on c come shape fits = record {
     };
     is_check = refl;
     file = record {
-      request = record { place = 1; name = certificate_name; most = 4194304 };
+      request = certificate_request;
       named = refl;
       found = (come.certificate, tt);
     };

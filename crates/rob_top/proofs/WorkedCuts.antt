@@ -11,7 +11,7 @@ use Rattle.rob_top.proofs.SolveAnswers.{IsSolvedOrWide, optimal_or_wide}
 use Rattle.rob_top.proofs.WorkedCalls.{Comes, line, one_demand_comes, one_demand_narrow, one_demand_reads}
 use Rattle.rob_top.specs.Completeness.{MustEnd}
 use Rattle.rob_top.specs.Inputs.{HasForms}
-use Rattle.rob_top.specs.WorkedCalls.{cuts_call, model_name}
+use Rattle.rob_top.specs.WorkedCalls.{cuts_call, model_name, model_request}
 use Rattle.rob_top.specs.WorkedModels.{greatest}
 use Rattle.rob_top.specs.declared.ended.Ended.{Ended}
 use Rattle.rob_write.specs.Canonical.{model_text}
@@ -45,7 +45,7 @@ cut_forms m comes reads narrow = record {
     came = ((model_text m, (comes, tt)), tt);
     bytes = model_text m;
     file = record {
-      request = record { place = 0; name = model_name; most = 65536 };
+      request = model_request;
       named = refl;
       found = (comes, tt);
     };

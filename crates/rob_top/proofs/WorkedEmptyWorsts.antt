@@ -13,7 +13,7 @@ use Rattle.rob_top.proofs.WorkedCalls.{empty_interval_admits_none, empty_interva
 use Rattle.rob_top.specs.Completeness.{MustEnd}
 use Rattle.rob_top.specs.Endings.{IsEmptyAnswer}
 use Rattle.rob_top.specs.Inputs.{HasForms, HasSought}
-use Rattle.rob_top.specs.WorkedCalls.{certificate_name, model_name, worst_on}
+use Rattle.rob_top.specs.WorkedCalls.{certificate_name, certificate_request, model_name, model_request, worst_on}
 use Rattle.rob_top.specs.WorkedModels.{empty_interval, greatest, order_0}
 use Rattle.rob_top.specs.declared.ended.Ended.{Ended}
 use Rattle.rob_words.specs.Commands.{Line, own, IsSpelled}
@@ -82,7 +82,7 @@ its_forms = record {
     );
     bytes = model_text empty_interval;
     file = record {
-      request = record { place = 0; name = model_name; most = 65536 };
+      request = model_request;
       named = refl;
       found = (they_come.model, tt);
     };
@@ -100,7 +100,7 @@ sought = record {
         forms = its_forms;
         is_worst = refl;
         file = record {
-          request = record { place = 1; name = certificate_name; most = 4194304 };
+          request = certificate_request;
           named = refl;
           found = (they_come.certificate, tt);
         };

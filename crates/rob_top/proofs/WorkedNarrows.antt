@@ -9,7 +9,7 @@ use Rattle.rob_top.proofs.WorkedCalls.{one_demand_narrow, one_demand_reads}
 use Rattle.rob_top.specs.Completeness.{MustEnd}
 use Rattle.rob_top.specs.Endings.{EndsAs}
 use Rattle.rob_top.specs.Inputs.{HasForms}
-use Rattle.rob_top.specs.WorkedCalls.{model_name, narrow_call}
+use Rattle.rob_top.specs.WorkedCalls.{model_name, model_request, narrow_call}
 use Rattle.rob_top.specs.declared.ended.Ended.{Ended}
 use Rattle.rob_top.specs.declared.ended.Ended.TheVariants.{Printed}
 use Rattle.rob_words.specs.Commands.{Line, own, IsSpelled}
@@ -47,7 +47,7 @@ forms = record {
     came = ((model_text one_demand, (comes, tt)), tt);
     bytes = model_text one_demand;
     file = record {
-      request = record { place = 0; name = model_name; most = 65536 };
+      request = model_request;
       named = refl;
       found = (comes, tt);
     };

@@ -32,7 +32,7 @@ use Rattle.rob_top.specs.Endings.{EndsAs}
 use Rattle.rob_top.specs.Headline.{Means}
 use Rattle.rob_top.specs.Inputs.{HasReplayCertificate, HasScenarioFile}
 use Rattle.rob_top.specs.Replayed.{planless, replay_ended}
-use Rattle.rob_top.specs.WorkedCalls.{certificate_name, model_name, replay_call, scenarios_name, two_demands_table}
+use Rattle.rob_top.specs.WorkedCalls.{certificate_name, certificate_request, model_name, model_request, replay_call, scenarios_name, two_demands_table}
 use Rattle.rob_top.specs.WorkedModels.{greatest, no_demand, no_order, order_12, order_least, two_demands}
 use Rattle.rob_top.specs.Ways.{rows, replayed, generated, compared, worst_found, priced, limited, narrowed, split_written}
 use Rattle.rob_top.specs.declared.ended.Ended.{Ended}
@@ -86,7 +86,7 @@ certificate_on c bytes come shape fits = record {
       );
       bytes = model_text one_demand;
       file = record {
-        request = record { place = 0; name = model_name; most = 65536 };
+        request = model_request;
         named = refl;
         found = (come.model, tt);
       };
@@ -94,7 +94,7 @@ certificate_on c bytes come shape fits = record {
     };
     is_replay = refl;
     file = record {
-      request = record { place = 1; name = certificate_name; most = 4194304 };
+      request = certificate_request;
       named = refl;
       found = (come.certificate, tt);
     };

@@ -16,7 +16,7 @@ use Rattle.rob_top.proofs.WorkedCells as cutting
 use Rattle.rob_top.proofs.WorkedCells.{its_model, keeps_9, text_at_9}
 use Rattle.rob_top.specs.Split.{IsSplitText}
 use Rattle.rob_top.specs.SplitTexts.{TakesSplit}
-use Rattle.rob_top.specs.WorkedCalls.{cells_call, model_name, solve_call}
+use Rattle.rob_top.specs.WorkedCalls.{cells_call, model_request, solve_call}
 use Rattle.rob_top.specs.WorkedModels.{at_9}
 use Rattle.rob_words.specs.Commands.{Line}
 use Rattle.rob_words.specs.declared.verb.Verb.TheVariants.{CellText}
@@ -61,7 +61,7 @@ split_is_taken = (
         spelled = line_spelled;
         came = ((model_text s, (split_comes, tt)), tt);
         file = record {
-          request = record { place = 0; name = model_name; most = 65536 };
+          request = model_request;
           named = refl;
           found = (split_comes, tt);
         };

@@ -10,7 +10,7 @@ use Rattle.rob_top.specs.Completeness.{MustEnd}
 use Rattle.rob_top.specs.Endings.{EndsAs}
 use Rattle.rob_top.specs.Inputs.{HasModel}
 use Rattle.rob_top.specs.Swept.{limit_value}
-use Rattle.rob_top.specs.WorkedCalls.{model_name, sweep_call}
+use Rattle.rob_top.specs.WorkedCalls.{model_name, model_request, sweep_call}
 use Rattle.rob_top.specs.WorkedModels.{greatest}
 use Rattle.rob_top.specs.declared.ended.Ended.{Ended}
 use Rattle.rob_top.specs.declared.ended.Ended.TheVariants.{Sweep}
@@ -91,7 +91,7 @@ sweep_on m comes reads = record {
   spelled = sweep_spelled;
   came = ((model_text m, (comes, tt)), tt);
   bytes = model_text m;
-  file = record { request = record { place = 0; name = model_name; most = 65536 }; named = refl; found = (comes, tt) };
+  file = record { request = model_request; named = refl; found = (comes, tt) };
   reads = reads;
 }
 
@@ -101,7 +101,7 @@ sweeptext_on m comes reads = record {
   spelled = sweeptext_spelled;
   came = ((model_text m, (comes, tt)), tt);
   bytes = model_text m;
-  file = record { request = record { place = 0; name = model_name; most = 65536 }; named = refl; found = (comes, tt) };
+  file = record { request = model_request; named = refl; found = (comes, tt) };
   reads = reads;
 }
 

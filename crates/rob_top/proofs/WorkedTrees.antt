@@ -26,7 +26,7 @@ use Rattle.rob_top.specs.Completeness.{MustEnd}
 use Rattle.rob_top.specs.Endings.{EndsAs, IsOutside, NamesFault, NamesWidth}
 use Rattle.rob_top.specs.Inputs.{HasModel, HasWholeVariables}
 use Rattle.rob_top.specs.TreeChecked.{HasTree, HasTreeFile}
-use Rattle.rob_top.specs.WorkedCalls.{model_name}
+use Rattle.rob_top.specs.WorkedCalls.{model_name, model_request}
 use Rattle.rob_top.specs.WorkedModels.{greatest, half_a_demand}
 use Rattle.rob_top.specs.WorkedTrees.{cheaper_orders, not_below_6, order_7, tree_call, tree_name, whole_orders}
 use Rattle.rob_top.specs.declared.ended.Ended.{Ended}
@@ -71,7 +71,7 @@ has_model bytes come = record {
   came = ((model_text half_a_demand, (come.model, tt)), ((bytes, (come.tree, tt)), tt));
   bytes = model_text half_a_demand;
   file = record {
-    request = record { place = 0; name = model_name; most = 65536 };
+    request = model_request;
     named = refl;
     found = (come.model, tt);
   };

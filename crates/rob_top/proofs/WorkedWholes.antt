@@ -31,7 +31,7 @@ use Rattle.rob_top.specs.Branched.{no_ranges, no_variables}
 use Rattle.rob_top.specs.Completeness.{MustEnd}
 use Rattle.rob_top.specs.Endings.{EndsAs, IsWholeAnswer}
 use Rattle.rob_top.specs.Inputs.{AreVariables, HasModel, HasVariables, HasWholeVariables}
-use Rattle.rob_top.specs.WorkedCalls.{model_name, whole_call}
+use Rattle.rob_top.specs.WorkedCalls.{model_name, model_request, whole_call}
 use Rattle.rob_top.specs.WorkedModels.{greatest, half_a_demand}
 use Rattle.rob_top.specs.WorkedTrees.{whole_orders}
 use Rattle.rob_top.specs.declared.ended.Ended.{Ended}
@@ -82,7 +82,7 @@ model_on m name comes reads spelled = record {
   spelled = spelled;
   came = ((model_text m, (comes, tt)), tt);
   bytes = model_text m;
-  file = record { request = record { place = 0; name = model_name; most = 65536 }; named = refl; found = (comes, tt) };
+  file = record { request = model_request; named = refl; found = (comes, tt) };
   reads = reads;
 }
 

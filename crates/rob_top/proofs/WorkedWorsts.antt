@@ -22,7 +22,7 @@ use Rattle.rob_top.specs.Completeness.{MustEnd}
 use Rattle.rob_top.specs.Endings.{EndsAs, IsWorstAnswer}
 use Rattle.rob_top.specs.Inputs.{HasPlan, HasSought, HasWorstCertificate}
 use Rattle.rob_top.specs.Searched.{IsWideSought, certificate_vector, claims_none}
-use Rattle.rob_top.specs.WorkedCalls.{certificate_name, model_name, worst_call}
+use Rattle.rob_top.specs.WorkedCalls.{certificate_name, certificate_request, model_name, model_request, worst_call}
 use Rattle.rob_top.specs.WorkedModels.{greatest, no_order, order_12}
 use Rattle.rob_top.specs.declared.ended.Ended.{Ended}
 use Rattle.rob_top.specs.declared.ended.Ended.TheVariants.{Optimal, Infeasible, Unbounded, Printed, Accepted, Rejected, Words, Missing, TooLong, Model, EmptySet, TooWide, WideNode, WideBudget, Cert, Scenarios, Whole, Sweep, Cells, NoRow, Tree, TreeRejected, ReadFault, WriteFault, Memory}
@@ -87,7 +87,7 @@ certificate_on c form spelled come shape fits = record {
         came = ((model_text one_demand, (come.model, tt)), ((cert_text one_demand c, (come.certificate, tt)), tt));
         bytes = model_text one_demand;
         file = record {
-          request = record { place = 0; name = model_name; most = 65536 };
+          request = model_request;
           named = refl;
           found = (come.model, tt);
         };
@@ -97,7 +97,7 @@ certificate_on c form spelled come shape fits = record {
     };
     is_worst = refl;
     file = record {
-      request = record { place = 1; name = certificate_name; most = 4194304 };
+      request = certificate_request;
       named = refl;
       found = (come.certificate, tt);
     };

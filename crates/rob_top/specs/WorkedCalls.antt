@@ -9,6 +9,7 @@ use Rattle.rob_outside.specs.Files.{File, file_of}
 use Rattle.rob_write.specs.Canonical.{model_text}
 use Rattle.rob_report.specs.Lines.{line as line_of}
 use Rattle.rob_top.specs.Calls.{Call, call_of, count}
+use Rattle.rob_top.specs.Files.{Request}
 use Rattle.rob_words.specs.Values.{Word}
 
 -- the name of a model's file
@@ -22,6 +23,14 @@ certificate_name = codes "one.cert"
 -- that of a scenario file
 abbrev pub scenarios_name : Word
 scenarios_name = codes "one.csv"
+
+-- the request of a model's file, which is the first
+abbrev pub model_request : Request
+model_request = record { place = 0; name = model_name; most = 65536 }
+
+-- that of a certificate's file, which is the second
+abbrev pub certificate_request : Request
+certificate_request = record { place = 1; name = certificate_name; most = 4194304 }
 
 -- a call with these words, where the shelf tells these files
 abbrev pub call_over : List Word → List File → Call
