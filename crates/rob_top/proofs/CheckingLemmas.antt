@@ -5,12 +5,8 @@ use Rattle.std.specs.List.{filter}
 use Rattle.std.proofs.lemmas.List.{length-map}
 use Rattle.rob_algebra.specs.Fraction.{Fraction}
 use Rattle.rob_cert.specs.Apart.{FitsLines}
-use Rattle.rob_cert.specs.Causes.{HasCause}
-use Rattle.rob_cert.specs.Reading.{start}
 use Rattle.rob_cert.specs.Shape.{AreCoversOf, HasShape, IsCoverOf}
-use Rattle.rob_cert.specs.Spelling.{naming_of}
 use Rattle.rob_cert.specs.Whole.{IsTextOf}
-use Rattle.rob_cert.specs.declared.error.CertErr.TheVariants.{Rule}
 use Rattle.rob_check.proofs.SumLaws.{numbers_each}
 use Rattle.rob_check.specs.Conditions.{Covering, base_tests, conditions_as, cover_tests, covering_tests, inside_tests, items_sum_tests, items_tests, item_tests, move_test, plan_covering, set_tests, step_covering, sum_test, verdict_of, column_test, constant_test, column_tests, cover_place, covers_of, form_tests, sign_place, sign_test}
 use Rattle.rob_check.specs.LiftedSet.{lifted}
@@ -41,6 +37,7 @@ use Rattle.rob_top.specs.Answers.{accepted_text, certificate_fault_text}
 use Rattle.rob_top.specs.Calls.{Call, Count, count, limit_of}
 use Rattle.rob_top.specs.Files.{HasFile}
 use Rattle.rob_top.specs.Headline.{Means}
+use Rattle.rob_top.specs.Inputs.{BreaksCertificate}
 use Rattle.rob_top.specs.Refused.{checking}
 use Rattle.rob_top.specs.Replies.{Replies}
 use Rattle.rob_top.specs.Work.{AnswersCertificate, AnswersFile, AnswersWhole}
@@ -222,7 +219,7 @@ module _ (limit : ℕ) (m : RobustModel) where
       })
 
   pub rule_answers : (wides : Count) (text : List ℕ) (rule number : ℕ) (r : Result Reply Want)
-      → HasCause (naming_of m) limit start text 1 (Rule rule number)
+      → BreaksCertificate limit m text rule number
       → IfOk r (Replies (Cert rule number) (certificate_fault_text rule number))
       → IfOk r (AnswersFile limit wides m text)
   rule_answers wides text rule number (Err want) broken is = tt
@@ -233,7 +230,7 @@ module _ (limit : ℕ) (m : RobustModel) where
         m = m;
         bytes = text;
         file = file;
-        breaks = subst (λ (l : ℕ). HasCause (naming_of m) l start text 1 (Rule rule number)) (sym at.limit_is) broken;
+        breaks = subst (λ (l : ℕ). BreaksCertificate l m text rule number) (sym at.limit_is) broken;
         printed = is.1;
       }))
 

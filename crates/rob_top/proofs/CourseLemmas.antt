@@ -3,10 +3,6 @@ use Rattle.std.proofs.Common.{◌≡◌, ℕ, ℤ, true, false, List, Some, None
 use Rattle.rob_algebra.specs.Fraction.{Fraction, of_int}
 use Rattle.rob_branch.specs.Growth.{IsWrittenUpTo}
 use Rattle.rob_dualize.specs.Models.{IsWideIn}
-use Rattle.rob_cert.specs.Causes.{HasCause}
-use Rattle.rob_cert.specs.Reading.{start}
-use Rattle.rob_cert.specs.Spelling.{naming_of}
-use Rattle.rob_cert.specs.declared.error.CertErr.TheVariants.{Rule}
 use Rattle.rob_check.specs.Conditions.{verdict_of}
 use Rattle.rob_dualize.specs.Solving.{IsShownEmpty}
 use Rattle.rob_meaning.specs.Certificates.{Certificate, Status, optimal, infeasible, unbounded}
@@ -38,7 +34,7 @@ use Rattle.rob_top.specs.Calls.{Call, limit_of}
 use Rattle.rob_top.specs.Checked.{IsAccepted, IsRejected}
 use Rattle.rob_top.specs.Commands as works
 use Rattle.rob_top.specs.Commands.{IsBranching, IsElaborating, IsSweeping, Work, makes_forms, work_of}
-use Rattle.rob_top.specs.Inputs.{HasCertificate, HasCertificateFile, HasForms, HasScenarioFile, HasSought, HasWholeVariables}
+use Rattle.rob_top.specs.Inputs.{BreaksCertificate, HasCertificate, HasCertificateFile, HasForms, HasScenarioFile, HasSought, HasWholeVariables}
 use Rattle.rob_top.specs.Refused.{IsNoCertificate, IsTooWideOnWay, IsWideSpot, checking, elaborating, replaying, searching}
 use Rattle.rob_top.specs.Narrowed.{IsNarrowed}
 use Rattle.rob_top.specs.Replayed.{IsNoPlan, IsNoScenarios, IsReplayed, LacksPlan, planless, replay_ended, unread}
@@ -112,7 +108,7 @@ pub data CheckCourse (call : Call) (line : Line) (m : RobustModel) (ended : Ende
   judges : (c : Certificate) → HasCertificate call line m c → ended ≡ verdict_ended (verdict_of (limit_of line) m c)
       → CheckCourse call line m ended
   refuses : (bytes : List ℕ) (rule number : ℕ) → HasCertificateFile call line m bytes
-      → HasCause (naming_of m) (limit_of line) start bytes 1 (Rule rule number) → ended ≡ Cert rule number
+      → BreaksCertificate (limit_of line) m bytes rule number → ended ≡ Cert rule number
       → CheckCourse call line m ended
 
 -- of `replay`: the outcome of a scenario file's records, or a certificate without a plan

@@ -9,12 +9,13 @@ use Rattle.rob_cert.proofs.CoverLemmas.{one_number}
 use Rattle.rob_cert.specs.Spelling.{name_at}
 use Rattle.rob_meaning.specs.Named.{IsNamed, parameter_names}
 use Rattle.rob_meaning.specs.RobustModel.{Parameter, RobustModel}
+use Rattle.rob_meaning.specs.Values.{signed}
 use Rattle.rob_meaning.specs.WellFormed.{IsModel}
 use Rattle.rob_model.proofs.OwnNames.{parameters_distinct}
 use Rattle.rob_model.specs.Naming.{Finds, FindsOwn}
 use Rattle.rob_pieces.specs.Cuts.{AreCuts, Cut}
 use Rattle.rob_top.proofs.ToldLemmas as lists
-use Rattle.rob_top.specs.Split.{AreCutsAt, IsCutAt, signed_value}
+use Rattle.rob_top.specs.Split.{AreCutsAt, IsCutAt}
 use Rattle.rob_words.specs.Cuts.{IsCut, IsCutList, SpellsCut, cut_level, cut_name, has_sign, unsigned}
 use Rattle.rob_words.specs.Limits.{numerator_of}
 use Rattle.rob_words.specs.Names.{in_front, is_comma, parts_behind, parts_of}
@@ -69,7 +70,7 @@ module _ (m : RobustModel) where
   pub cut_told : (word : Word) (told : CutWord) (name : Word) (k : ℕ) (cut : Cut)
       → SpellsCut word told → name ≡ told.name.now
       → Finds (parameter_names m) name (Some k) → cut.parameter ≡ k
-      → cut.level ≡ signed_value told.negative (of_pair (pos told.numerator) told.denominator) → IsCutAt m word cut
+      → cut.level ≡ signed told.negative (of_pair (pos told.numerator) told.denominator) → IsCutAt m word cut
   cut_told word told name k cut spells name_is finds number level =
       let level_word : Word = cut_level word in
       let there : slice_get (parameter_names m) k ≡ Some (cut_name word) = finds.0 ∙ ap Some (name_is ∙ spells.name) in
@@ -83,9 +84,9 @@ module _ (m : RobustModel) where
             ∙ get_or_from_slice_get (parameter_names m) k (cut_name word) [] there;
         level =
             level
-            ∙ ap (λ (b : Bool). signed_value b (of_pair (pos told.numerator) told.denominator)) spells.sign
-            ∙ ap (λ (n : ℕ). signed_value (has_sign level_word) (of_pair (pos n) told.denominator)) spells.numerator
-            ∙ ap (λ (d : ℕ). signed_value (has_sign level_word) (of_pair (pos (numerator_of (unsigned level_word))) d))
+            ∙ ap (λ (b : Bool). signed b (of_pair (pos told.numerator) told.denominator)) spells.sign
+            ∙ ap (λ (n : ℕ). signed (has_sign level_word) (of_pair (pos n) told.denominator)) spells.numerator
+            ∙ ap (λ (d : ℕ). signed (has_sign level_word) (of_pair (pos (numerator_of (unsigned level_word))) d))
             spells.denominator;
       }
 

@@ -5,7 +5,7 @@ use Rattle.rob_meaning.specs.RobustModel.{RobustModel}
 use Rattle.rob_top.specs.Calls.{Call}
 use Rattle.rob_top.specs.Inputs.{HasModel}
 use Rattle.rob_top.specs.Routes.{with_rounds}
-use Rattle.rob_words.specs.Commands.{IsSpelled, Line, TellsRoute, route_values}
+use Rattle.rob_words.specs.Commands.{IsSpelled, Line, TellsRoute, route, values_of}
 use Rattle.rob_words.specs.Values.{Word}
 use Rattle.rob_words.specs.Verbs.{takes_route}
 use Rattle.rob_words.specs.declared.route.Route.{Route}
@@ -14,7 +14,7 @@ use Rattle.rob_words.specs.declared.route.Route.TheVariants.{Dual}
 default_route : (words : List Word) (line : Line) → IsSpelled words line
     → takes_route line.verb ≡ false → line.way ≡ Dual
 default_route words line spelled none =
-    (subst (λ (takes : Bool). TellsRoute takes (route_values spelled.0) line.way) none spelled.1.route).1
+    (subst (λ (takes : Bool). TellsRoute takes (values_of route spelled.0) line.way) none spelled.1.route).1
 
 -- so its text stands alone
 pub told_alone : (call : Call) (line : Line) (m : RobustModel) → HasModel call line m

@@ -1,10 +1,6 @@
 -- Which answer has to come at `replay`, where what is known of the files decides.
 use Rattle.std.proofs.Common.{◌≡◌, ℕ, ◌≤◌, List, refl, sym, ◌∙◌, ap, subst, ◌⊎◌}
-use Rattle.rob_cert.specs.Causes.{HasCause}
-use Rattle.rob_cert.specs.Reading.{start}
-use Rattle.rob_cert.specs.Spelling.{naming_of}
 use Rattle.rob_cert.specs.Whole.{IsTextOf}
-use Rattle.rob_cert.specs.declared.error.CertErr.TheVariants.{Rule}
 use Rattle.rob_cert.proofs.OneBreach.{one_cause}
 use Rattle.rob_cert.proofs.OneCertificate.{read_once}
 use Rattle.rob_cert.proofs.SpellingLaws.{breaks_none}
@@ -28,7 +24,7 @@ use Rattle.rob_top.specs.Calls.{Call, Known, limit_of}
 use Rattle.rob_top.specs.Commands as works
 use Rattle.rob_top.specs.Commands.{work_of}
 use Rattle.rob_top.specs.Headline.{Means}
-use Rattle.rob_top.specs.Inputs.{HasModel, HasReplayCertificate, HasReplayFile, HasScenarioFile}
+use Rattle.rob_top.specs.Inputs.{BreaksCertificate, HasModel, HasReplayCertificate, HasReplayFile, HasScenarioFile}
 use Rattle.rob_top.specs.Replayed.{IsReplayed, LacksPlan, planless, replay_ended, unread}
 use Rattle.rob_top.specs.declared.ended.Ended.{Ended}
 use Rattle.rob_top.specs.declared.ended.Ended.TheVariants.{Cert, ReadFault, Memory}
@@ -40,13 +36,10 @@ module _ (call : Call) (known : Known call.source) (line : Line) (m : RobustMode
   same_file : (bytes other : List ℕ) → HasReplayFile call line m bytes → HasReplayFile call line m other → bytes ≡ other
   same_file bytes other h k = file_once call line own.Certificate bytes other known h.file k.file
 
-  abbrev Breach : List ℕ → ℕ → ℕ → Type 0
-  Breach bytes rule number = HasCause (naming_of m) (limit_of line) start bytes 1 (Rule rule number)
-
   -- a certificate's text breaks no rule
   pub no_breach : (c : Certificate) (bytes : List ℕ) (rule number : ℕ) → HasReplayCertificate call line m c
       → HasReplayFile call line m bytes
-      → Breach bytes rule number → ⊥
+      → BreaksCertificate (limit_of line) m bytes rule number → ⊥
   no_breach c bytes rule number h file breach =
       let same : bytes ≡ h.bytes = same_file bytes h.bytes file h.file in
       let has : HasModel call line m = h.file.model in
@@ -67,9 +60,9 @@ module _ (call : Call) (known : Known call.source) (line : Line) (m : RobustMode
   -- a text breaks one rule first
   one_breach : (bytes other : List ℕ) (rule number r n : ℕ) → HasReplayFile call line m bytes
       → HasReplayFile call line m other
-      → Breach bytes rule number → Breach other r n → (r ≡ rule) × (n ≡ number)
+      → BreaksCertificate (limit_of line) m bytes rule number → BreaksCertificate (limit_of line) m other r n → (r ≡ rule) × (n ≡ number)
   one_breach bytes other rule number r n file k breach b =
-      let here : Breach bytes r n = subst (λ (list : List ℕ). Breach list r n) (same_file other bytes k file) b in
+      let here : BreaksCertificate (limit_of line) m bytes r n = subst (λ (list : List ℕ). BreaksCertificate (limit_of line) m list r n) (same_file other bytes k file) b in
       let has : HasModel call line m = file.model in
       one_cause m (limit_of line) bytes (well call known line m has) (named call known line m has)
       (in_words call known line m has)

@@ -1,14 +1,10 @@
 -- The answers of `replay`, from what the reading of a certificate and the replaying of a scenario file answer.
 use Rattle.std.proofs.Common.{◌≡◌, ◌≢◌, ℕ, ◌≤◌, true, List, Result, Ok, Err, IfOk, refl, subst, sym, ap, ◌∙◌}
 use Rattle.rob_cert.specs.Apart.{FitsLines}
-use Rattle.rob_cert.specs.Causes.{HasCause}
-use Rattle.rob_cert.specs.Reading.{start}
-use Rattle.rob_cert.specs.Spelling.{naming_of}
 use Rattle.rob_cert.specs.View.{status_of}
 use Rattle.rob_cert.specs.Whole.{IsTextOf}
 use Rattle.rob_cert.specs.declared.certificate.Status.{Status}
 use Rattle.rob_cert.specs.declared.certificate.Status.TheVariants as status
-use Rattle.rob_cert.specs.declared.error.CertErr.TheVariants.{Rule}
 use Rattle.rob_meaning.specs.Certificates.{Certificate, infeasible}
 use Rattle.rob_meaning.specs.Guarantee.{HasBound}
 use Rattle.rob_meaning.specs.Places.{Each}
@@ -29,6 +25,7 @@ use Rattle.rob_top.specs.Answers.{certificate_fault_text, scenarios_fault_text}
 use Rattle.rob_top.specs.Calls.{Count, count}
 use Rattle.rob_top.specs.Files.{HasFile}
 use Rattle.rob_top.specs.Headline.{Means}
+use Rattle.rob_top.specs.Inputs.{BreaksCertificate}
 use Rattle.rob_top.specs.Refused.{replaying}
 use Rattle.rob_top.specs.Replayed.{planless, unread}
 use Rattle.rob_top.specs.Replies.{Replies}
@@ -136,7 +133,7 @@ module _ (limit : ℕ) (m : RobustModel) where
 
   -- ---- a certificate's text
   pub unread_answers : (wides : Count) (certificate text : List ℕ) (rule number : ℕ) (r : Result Reply Want)
-      → HasCause (naming_of m) limit start certificate 1 (Rule rule number)
+      → BreaksCertificate limit m certificate rule number
       → IfOk r (Replies (Cert rule number) (certificate_fault_text rule number))
       → IfOk r (AnswersReplay limit wides m certificate text)
   unread_answers wides certificate text rule number (Err want) broken is = tt
@@ -146,7 +143,7 @@ module _ (limit : ℕ) (m : RobustModel) where
         line = line;
         m = m;
         lacks = unread certificate file
-            (subst (λ (l : ℕ). HasCause (naming_of m) l start certificate 1 (Rule rule number))
+            (subst (λ (l : ℕ). BreaksCertificate l m certificate rule number)
             (sym at.limit_is) broken);
         printed = is.1;
       }))

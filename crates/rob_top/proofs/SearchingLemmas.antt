@@ -7,12 +7,10 @@ use Rattle.rob_algebra.specs.FractionLaws.{le_trans_ℚ, lt_irrefl_ℚ, lt_le_tr
 use Rattle.rob_algebra.specs.Width.{Fits, IsWide}
 use Rattle.rob_cert.specs.Apart.{FitsLines}
 use Rattle.rob_cert.specs.Causes as text
-use Rattle.rob_cert.specs.Reading.{start}
-use Rattle.rob_cert.specs.Spelling.{name_at, naming_of}
+use Rattle.rob_cert.specs.Spelling.{name_at}
 use Rattle.rob_cert.specs.Whole.{IsTextOf}
 use Rattle.rob_cert.specs.declared.ending.Worst as ending
 use Rattle.rob_cert.specs.declared.ending.Worst.TheVariants.{At, Along}
-use Rattle.rob_cert.specs.declared.error.CertErr.TheVariants.{Rule}
 use Rattle.rob_meaning.proofs.AtLemmas.{bound_at}
 use Rattle.rob_meaning.proofs.LinearLemmas.{zero_lt_one}
 use Rattle.rob_meaning.specs.Certificates.{Certificate, infeasible}
@@ -47,6 +45,7 @@ use Rattle.rob_top.specs.Answers.{certificate_fault_text, no_row_text}
 use Rattle.rob_top.specs.Calls.{Count, count, limit_of}
 use Rattle.rob_top.specs.Files.{HasFile, word_of}
 use Rattle.rob_top.specs.Headline.{Means}
+use Rattle.rob_top.specs.Inputs.{BreaksCertificate}
 use Rattle.rob_top.specs.Refused.{searching}
 use Rattle.rob_top.specs.Replies.{Replies}
 use Rattle.rob_top.specs.Searched.{IsWideSought, IsWorstScenario, ShowsKept, ShowsWorst, attained, certificate_vector, claims_none, endless, in_slack, misread}
@@ -111,7 +110,7 @@ module _ (limit : ℕ) (m : RobustModel) where
   -- ---- a certificate's text
   module _ (name : Word) where
     pub misread_answers : (wides : Count) (certificate : List ℕ) (rule number : ℕ) (r : Result Reply Want)
-        → text.HasCause (naming_of m) limit start certificate 1 (Rule rule number)
+        → BreaksCertificate limit m certificate rule number
         → IfOk r (Replies (Cert rule number) (certificate_fault_text rule number))
         → IfOk r (AnswersSearch limit wides m certificate name)
     misread_answers wides certificate rule number (Err want) broken is = tt
@@ -121,7 +120,7 @@ module _ (limit : ℕ) (m : RobustModel) where
           line = line;
           m = m;
           gives_none = misread certificate file
-              (subst (λ (l : ℕ). text.HasCause (naming_of m) l start certificate 1 (Rule rule number))
+              (subst (λ (l : ℕ). BreaksCertificate l m certificate rule number)
               (sym at.limit_is) broken);
           printed = is.1;
         }))

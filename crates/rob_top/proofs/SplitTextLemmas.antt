@@ -7,6 +7,7 @@ use Rattle.rob_cells.specs.Rules.{KeepsRules}
 use Rattle.rob_meaning.specs.Certificates.{Status, optimal, infeasible, unbounded}
 use Rattle.rob_meaning.specs.Proves.{HasStatus}
 use Rattle.rob_meaning.specs.RobustModel.{RobustModel}
+use Rattle.rob_meaning.specs.Values.{signed}
 use Rattle.rob_meaning.specs.WellFormed.{IsModel}
 use Rattle.rob_number.specs.Lowest.{limit_high, limit_low}
 use Rattle.rob_parse.proofs.Building.OneModel.{not_both}
@@ -40,7 +41,7 @@ use Rattle.rob_top.specs.Headline.{Means}
 use Rattle.rob_top.specs.Inputs.{HasForms, HasModel}
 use Rattle.rob_top.specs.Refused.{IsNoModel}
 use Rattle.rob_top.specs.Solved.{IsSolved}
-use Rattle.rob_top.specs.Split.{AreCutsAt, EachCellAdmits, HasStatusOverPieces, IsSplitText, signed_value}
+use Rattle.rob_top.specs.Split.{AreCutsAt, EachCellAdmits, HasStatusOverPieces, IsSplitText}
 use Rattle.rob_top.specs.SplitTexts.{IsNarrowOnWay, IsPiecesAnswer, TakesSplit, written_split}
 use Rattle.rob_top.specs.Swept.{limit_value}
 use Rattle.rob_top.specs.Work.{ended_of}
@@ -61,7 +62,7 @@ use Rattle.rob_elab.specs.Written.{judged}
 -- ---- the numbers of cuts
 module _ (limit : ℕ) (low : 1 ≤ limit) where
   level_fits : (word : Word) → IsCut limit word
-      → Fits limit (signed_value (has_sign (cut_level word)) (limit_value (unsigned (cut_level word))))
+      → Fits limit (signed (has_sign (cut_level word)) (limit_value (unsigned (cut_level word))))
   level_fits word cut = by (has_sign (cut_level word))
     where
       size : Fits limit
@@ -71,7 +72,7 @@ module _ (limit : ℕ) (low : 1 ≤ limit) where
           pair_fits limit (numerator_of (unsigned (cut_level word))) (denominator_of (unsigned (cut_level word)))
           f.positive f.numerator f.denominator
 
-      by : (sign : Bool) → Fits limit (signed_value sign (limit_value (unsigned (cut_level word))))
+      by : (sign : Bool) → Fits limit (signed sign (limit_value (unsigned (cut_level word))))
       by true = negated_fits limit (limit_value (unsigned (cut_level word))) size
       by false = size
 

@@ -3,11 +3,7 @@
 use Rattle.std.proofs.Common.{◌≡◌, ℕ, ◌-◌, ◌^◌, ◌≤◌, false, List, refl, sym, ◌∙◌, ap, subst, inl, inr, ◌⊎◌}
 use Rattle.rob_algebra.specs.Fraction.{Fraction}
 use Rattle.rob_cert.specs.Apart.{IsNamedInWords}
-use Rattle.rob_cert.specs.Causes.{HasCause}
-use Rattle.rob_cert.specs.Reading.{start}
-use Rattle.rob_cert.specs.Spelling.{naming_of}
 use Rattle.rob_cert.specs.Whole.{IsTextOf}
-use Rattle.rob_cert.specs.declared.error.CertErr.TheVariants.{Rule}
 use Rattle.rob_cert.proofs.OneCertificate.{read_once}
 use Rattle.rob_cert.proofs.SpellingLaws.{breaks_none}
 use Rattle.rob_check.specs.Conditions.{verdict_of}
@@ -39,7 +35,7 @@ use Rattle.rob_top.specs.Commands as works
 use Rattle.rob_top.specs.Commands.{IsElaborating, IsSolving, Work, makes_forms, work_of}
 use Rattle.rob_top.specs.Files.{HasFile}
 use Rattle.rob_top.specs.Headline.{Means}
-use Rattle.rob_top.specs.Inputs.{HasCertificate, HasCertificateFile, HasForms, HasModel}
+use Rattle.rob_top.specs.Inputs.{BreaksCertificate, HasCertificate, HasCertificateFile, HasForms, HasModel}
 use Rattle.rob_top.specs.Endings.{IsEmptyAnswer, IsSolveAnswer}
 use Rattle.rob_top.specs.Routes.{IsWideOnWay}
 use Rattle.rob_top.specs.Work.{ended_of, verdict_ended}
@@ -224,7 +220,7 @@ module _ (call : Call) (known : Known call.source) where
     -- a certificate's text breaks no rule
     no_breach : (c : Certificate) (bytes : List ℕ) (rule number : ℕ) → HasCertificate call line m c
         → HasCertificateFile call line m bytes
-        → HasCause (naming_of m) (limit_of line) start bytes 1 (Rule rule number) → ⊥
+        → BreaksCertificate (limit_of line) m bytes rule number → ⊥
     no_breach c bytes rule number h file breach =
         let same : bytes ≡ h.bytes = same_file bytes h.bytes file h.file in
         let has : HasModel call line m = h.file.forms.model in
@@ -251,18 +247,18 @@ module _ (call : Call) (known : Known call.source) where
         by (refuses bytes rule number h breach e) = absurd (no_breach c bytes rule number has h breach)
 
     pub rule_decides : (bytes : List ℕ) (rule number : ℕ) → HasCertificateFile call line m bytes
-        → HasCause (naming_of m) (limit_of line) start bytes 1 (Rule rule number)
+        → BreaksCertificate (limit_of line) m bytes rule number
         → (ended : Ended) (text : List ℕ) → Means call ended text → (ended ≡ Cert rule number)
         ⊎ ((ended ≡ ReadFault) ⊎ (ended ≡ Memory))
     rule_decides bytes rule number has breaks ended text means =
         first_of_two by (formed_course has.forms works.checking (ap work_of has.is_check) ended text means)
       where
         is_rule : (other : List ℕ) (r n : ℕ) → HasCertificateFile call line m other
-            → HasCause (naming_of m) (limit_of line) start other 1 (Rule r n) → ended ≡ Cert r n
+            → BreaksCertificate (limit_of line) m other r n → ended ≡ Cert r n
             → ended ≡ Cert rule number
         is_rule other r n file breach e =
-            let there : HasCause (naming_of m) (limit_of line) start bytes 1 (Rule r n) =
-            subst (λ (b : List ℕ). HasCause (naming_of m) (limit_of line) start b 1 (Rule r n))
+            let there : BreaksCertificate (limit_of line) m bytes r n =
+            subst (λ (b : List ℕ). BreaksCertificate (limit_of line) m b r n)
             (same_file other bytes file has) breach
             in
             let one = one_cause m (limit_of line) bytes (well has.forms.model) (named has.forms.model)

@@ -1,11 +1,8 @@
 -- Which answer has to come at `worst`, where what is known of the files decides.
 use Rattle.std.proofs.Common.{◌≡◌, ℕ, ◌<◌, List, length, Some, arith, inl, inr, refl, sym, ◌∙◌, ap, subst, ◌⊎◌}
 use Rattle.rob_algebra.specs.Fraction.{Fraction}
-use Rattle.rob_cert.specs.Causes.{HasCause}
-use Rattle.rob_cert.specs.Reading.{start}
-use Rattle.rob_cert.specs.Spelling.{name_at, naming_of}
+use Rattle.rob_cert.specs.Spelling.{name_at}
 use Rattle.rob_cert.specs.Whole.{IsTextOf}
-use Rattle.rob_cert.specs.declared.error.CertErr.TheVariants.{Rule}
 use Rattle.rob_cert.proofs.CoverLemmas.{one_number}
 use Rattle.rob_cert.proofs.OneBreach.{one_cause}
 use Rattle.rob_cert.proofs.OneCertificate.{read_once}
@@ -42,7 +39,7 @@ use Rattle.rob_top.specs.Commands as works
 use Rattle.rob_top.specs.Commands.{work_of}
 use Rattle.rob_top.specs.Endings.{IsEmptyAnswer, IsWorstAnswer, NamesWideSought}
 use Rattle.rob_top.specs.Headline.{Means}
-use Rattle.rob_top.specs.Inputs.{HasForms, HasModel, HasPlan, HasSought, HasWorstCertificate, HasWorstFile, TellsForm}
+use Rattle.rob_top.specs.Inputs.{BreaksCertificate, HasForms, HasModel, HasPlan, HasSought, HasWorstCertificate, HasWorstFile, TellsForm}
 use Rattle.rob_top.specs.Searched.{GivesNoPlan, IsSearched, IsWideSought, NamesNoForm, ShowsKept, ShowsWorst, attained, certificate_vector, claims_none, endless, in_search, in_set, in_slack, misread}
 use Rattle.rob_top.specs.declared.ended.Ended.{Ended}
 use Rattle.rob_top.specs.declared.ended.Ended.TheVariants.{Cert, EmptySet, NoRow, Printed, ReadFault, TooWide, Memory}
@@ -75,13 +72,10 @@ module _ (call : Call) (known : Known call.source) (line : Line) (m : RobustMode
   same_file : (bytes other : List ℕ) → HasWorstFile call line m bytes → HasWorstFile call line m other → bytes ≡ other
   same_file bytes other h k = file_once call line own.Certificate bytes other known h.file k.file
 
-  abbrev Breach : List ℕ → ℕ → ℕ → Type 0
-  Breach bytes rule number = HasCause (naming_of m) (limit_of line) start bytes 1 (Rule rule number)
-
   -- a certificate's text breaks no rule
   pub no_breach : (c : Certificate) (bytes : List ℕ) (rule number : ℕ) → HasWorstCertificate call line m c
       → HasWorstFile call line m bytes
-      → Breach bytes rule number → ⊥
+      → BreaksCertificate (limit_of line) m bytes rule number → ⊥
   no_breach c bytes rule number h file breach =
       let same : bytes ≡ h.bytes = same_file bytes h.bytes file h.file in
       let has : HasModel call line m = h.file.forms.model in
@@ -102,9 +96,9 @@ module _ (call : Call) (known : Known call.source) (line : Line) (m : RobustMode
   -- a text breaks one rule first
   one_breach : (bytes other : List ℕ) (rule number r n : ℕ) → HasWorstFile call line m bytes
       → HasWorstFile call line m other
-      → Breach bytes rule number → Breach other r n → (r ≡ rule) × (n ≡ number)
+      → BreaksCertificate (limit_of line) m bytes rule number → BreaksCertificate (limit_of line) m other r n → (r ≡ rule) × (n ≡ number)
   one_breach bytes other rule number r n file k breach b =
-      let here : Breach bytes r n = subst (λ (list : List ℕ). Breach list r n) (same_file other bytes k file) b in
+      let here : BreaksCertificate (limit_of line) m bytes r n = subst (λ (list : List ℕ). BreaksCertificate (limit_of line) m list r n) (same_file other bytes k file) b in
       let has : HasModel call line m = file.forms.model in
       one_cause m (limit_of line) bytes (well call known line m has) (named call known line m has)
       (in_words call known line m has)

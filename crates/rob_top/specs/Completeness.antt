@@ -3,10 +3,6 @@
 use Rattle.std.specs.Prelude.{◌≡◌, ◌⊎◌, ◌++◌, ℕ, List, []}
 use Rattle.rob_algebra.specs.Fraction.{Fraction}
 use Rattle.rob_branch.specs.Verdicts.{IsAccepted, NoneWide as NoneWideInTree}
-use Rattle.rob_cert.specs.Causes.{HasCause}
-use Rattle.rob_cert.specs.Reading.{start}
-use Rattle.rob_cert.specs.Spelling.{naming_of}
-use Rattle.rob_cert.specs.declared.error.CertErr.TheVariants.{Rule}
 use Rattle.rob_check.specs.Conditions.{verdict_of}
 use Rattle.rob_check.specs.Narrow.{IsFirstFailing, NoneWide}
 use Rattle.rob_dualize.specs.Solving.{IsNarrowModel}
@@ -32,7 +28,7 @@ use Rattle.rob_top.specs.Branched.{BreaksWhole}
 use Rattle.rob_top.specs.Calls.{Call, Known, known_call, limit_of}
 use Rattle.rob_top.specs.Commands.{IsBranching, IsElaborating, IsSolving}
 use Rattle.rob_top.specs.Files.{Came, HasFile, IsFirstAbsent, requests}
-use Rattle.rob_top.specs.Inputs.{HasCertificate, HasCertificateFile, HasForms, HasModel, HasScenarioFile, HasSought, HasWholeVariables}
+use Rattle.rob_top.specs.Inputs.{BreaksCertificate, HasCertificate, HasCertificateFile, HasForms, HasModel, HasScenarioFile, HasSought, HasWholeVariables}
 use Rattle.rob_top.specs.Replayed.{LacksPlan, replay_ended}
 use Rattle.rob_top.specs.Routes.{IsWideOnWay}
 use Rattle.rob_top.specs.Searched.{GivesNoPlan, IsWideSought, NamesNoForm, certificate_vector}
@@ -103,7 +99,7 @@ module _ (call : Call) (result : Ended) where
     -- `check`: the certificate's text breaks a rule, so that rule and its line are named
     pub broken : (line : Line) (m : RobustModel) (bytes : List ℕ) (rule number : ℕ)
         → HasCertificateFile call line m bytes
-        → HasCause (naming_of m) (limit_of line) start bytes 1 (Rule rule number) → EndsAs (Cert rule number) result
+        → BreaksCertificate (limit_of line) m bytes rule number → EndsAs (Cert rule number) result
     -- it is the text of a certificate, so the answer is the verdict on it
     pub verdict : (line : Line) (m : RobustModel) (c : Certificate) → HasCertificate call line m c
         → EndsAs (verdict_ended (verdict_of (limit_of line) m c)) result

@@ -2,8 +2,11 @@
 -- named, by a call's words and its files.
 use Rattle.std.specs.Prelude.{◌≡◌, ◌≢◌, ◌<◌, ◌++◌, ℕ, List, Some, None, length, map}
 use Rattle.rob_cert.specs.Apart.{FitsLines}
-use Rattle.rob_cert.specs.Spelling.{name_at}
+use Rattle.rob_cert.specs.Causes.{HasCause}
+use Rattle.rob_cert.specs.Reading.{start}
+use Rattle.rob_cert.specs.Spelling.{name_at, naming_of}
 use Rattle.rob_cert.specs.Whole.{IsTextOf}
+use Rattle.rob_cert.specs.declared.error.CertErr.TheVariants.{Rule}
 use Rattle.rob_meaning.specs.Certificates.{Certificate, infeasible}
 use Rattle.rob_meaning.specs.Names.{column_names, form_names}
 use Rattle.rob_meaning.specs.Places.{Each}
@@ -34,6 +37,11 @@ TellsForm line name = word_of own.Form (own_of line.verb) line.own ≡ Some name
 pub record AreVariables (m : RobustModel) (names : List Word) (numbers : List ℕ) : Type 0 where
   pub named : map (name_at (column_names m)) numbers ≡ names
   pub kept : KeepsNames m numbers
+
+-- the bytes are the text of no certificate of the model, of numbers within the limit: they break this rule first, at
+-- this line
+abbrev pub BreaksCertificate : ℕ → RobustModel → List ℕ → ℕ → ℕ → Type 0
+BreaksCertificate limit m bytes rule number = HasCause (naming_of m) limit start bytes 1 (Rule rule number)
 
 module _ (call : Call) where
   -- the words are this command line, the files that it names came, and that of its model has these bytes

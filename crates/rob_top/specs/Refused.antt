@@ -1,10 +1,6 @@
 -- Refusals: words that are no command line, a file that doesn't come, a number that is wide, and a text that breaks a
 -- rule.
 use Rattle.std.specs.Prelude.{◌≡◌, ◌++◌, ℕ, List, [], Err}
-use Rattle.rob_cert.specs.Causes.{HasCause}
-use Rattle.rob_cert.specs.Reading.{start}
-use Rattle.rob_cert.specs.Spelling.{naming_of}
-use Rattle.rob_cert.specs.declared.error.CertErr.TheVariants.{Rule}
 use Rattle.rob_cert.specs.declared.trace.Round.{Round}
 use Rattle.rob_check.specs.Conditions.{verdict_of}
 use Rattle.rob_check.specs.declared.verdict.Verdict.TheVariants as verdict
@@ -25,7 +21,7 @@ use Rattle.rob_top.specs.Answers.{certificate_fault_text, missing_text, model_fa
 use Rattle.rob_top.specs.Calls.{Call, WasRaised, limit_of}
 use Rattle.rob_top.specs.Commands.{IsElaborating, IsSolving}
 use Rattle.rob_top.specs.Files.{Came, HasFile, IsFirstAbsent, NamesFile, requests}
-use Rattle.rob_top.specs.Inputs.{HasCertificate, HasCertificateFile, HasForms, HasModel, HasScenarioFile, HasSought}
+use Rattle.rob_top.specs.Inputs.{BreaksCertificate, HasCertificate, HasCertificateFile, HasForms, HasModel, HasScenarioFile, HasSought}
 use Rattle.rob_top.specs.Routes.{IsWideBy, with_rounds}
 use Rattle.rob_top.specs.Searched.{IsWideSought, certificate_vector}
 use Rattle.rob_words.specs.Commands.{IsCommandLine, Line, IsSpelled}
@@ -102,5 +98,5 @@ module _ (call : Call) where
     pub m : RobustModel
     pub bytes : List ℕ
     pub file : HasCertificateFile call line m bytes
-    pub breaks : HasCause (naming_of m) (limit_of line) start bytes 1 (Rule rule number)
+    pub breaks : BreaksCertificate (limit_of line) m bytes rule number
     pub printed : text ≡ certificate_fault_text rule number

@@ -1,9 +1,5 @@
 -- The answers of `replay`: the certificate's plan in each joint scenario of a file.
 use Rattle.std.specs.Prelude.{◌≡◌, ℕ, List, Result, Ok, Err}
-use Rattle.rob_cert.specs.Causes.{HasCause}
-use Rattle.rob_cert.specs.Reading.{start}
-use Rattle.rob_cert.specs.Spelling.{naming_of}
-use Rattle.rob_cert.specs.declared.error.CertErr.TheVariants.{Rule}
 use Rattle.rob_meaning.specs.Certificates.{Certificate, infeasible}
 use Rattle.rob_meaning.specs.Guarantee.{HasBound}
 use Rattle.rob_meaning.specs.Places.{Each}
@@ -17,7 +13,7 @@ use Rattle.rob_replay.specs.View.{Gives}
 use Rattle.rob_report.specs.Tables.{table_of}
 use Rattle.rob_top.specs.Answers.{certificate_fault_text, scenarios_fault_text}
 use Rattle.rob_top.specs.Calls.{Call, limit_of}
-use Rattle.rob_top.specs.Inputs.{HasReplayCertificate, HasReplayFile, HasScenarioFile}
+use Rattle.rob_top.specs.Inputs.{BreaksCertificate, HasReplayCertificate, HasReplayFile, HasScenarioFile}
 use Rattle.rob_top.specs.declared.ended.Ended.{Ended}
 use Rattle.rob_top.specs.declared.ended.Ended.TheVariants.{Printed, Scenarios, TooWide}
 use Rattle.rob_words.specs.Commands.{Line}
@@ -51,7 +47,7 @@ module _ (call : Call) where
   -- which is rule 34 at line 1
   pub data LacksPlan (line : Line) (m : RobustModel) (rule number : ℕ) : Type 0 where
     unread : (bytes : List ℕ) → HasReplayFile call line m bytes
-        → HasCause (naming_of m) (limit_of line) start bytes 1 (Rule rule number) → LacksPlan line m rule number
+        → BreaksCertificate (limit_of line) m bytes rule number → LacksPlan line m rule number
     planless : (c : Certificate) → HasReplayCertificate call line m c → c.status ≡ infeasible → rule ≡ 34 → number ≡ 1
         → LacksPlan line m rule number
 

@@ -2,10 +2,7 @@
 use Rattle.std.specs.Prelude.{◌≡◌, ◌≢◌, ◌<◌, ◌≤◌, ℕ, ℤ, nat_abs, List, ◌∷◌, false, length, map}
 use Rattle.rob_algebra.specs.Fraction.{Fraction, neg_ℚ, of_int, ◌≤ℚ◌}
 use Rattle.rob_algebra.specs.Width.{Fits}
-use Rattle.rob_cert.specs.Causes.{HasCause}
-use Rattle.rob_cert.specs.Reading.{start}
-use Rattle.rob_cert.specs.Spelling.{name_at, naming_of}
-use Rattle.rob_cert.specs.declared.error.CertErr.TheVariants.{Rule}
+use Rattle.rob_cert.specs.Spelling.{name_at}
 use Rattle.rob_dualize.specs.SetSolving.{IsWideInSet}
 use Rattle.rob_dualize.specs.Solving.{HasScenario, IsShownEmpty}
 use Rattle.rob_meaning.specs.Certificates.{Certificate, infeasible}
@@ -26,7 +23,7 @@ use Rattle.rob_runs.specs.Told.{HasNoGreatestAlong}
 use Rattle.rob_worst.specs.Finding.{IsWideAt}
 use Rattle.rob_top.specs.Answers.{certificate_fault_text, no_row_text}
 use Rattle.rob_top.specs.Calls.{Call, limit_of}
-use Rattle.rob_top.specs.Inputs.{HasPlan, HasSought, HasWorstCertificate, HasWorstFile, TellsForm}
+use Rattle.rob_top.specs.Inputs.{BreaksCertificate, HasPlan, HasSought, HasWorstCertificate, HasWorstFile, TellsForm}
 use Rattle.rob_words.specs.Commands.{Line}
 use Rattle.rob_words.specs.Values.{Word}
 
@@ -94,7 +91,7 @@ module _ (call : Call) where
   -- which is rule 34 at line 1
   pub data GivesNoPlan (line : Line) (m : RobustModel) (rule number : ℕ) : Type 0 where
     misread : (bytes : List ℕ) → HasWorstFile call line m bytes
-        → HasCause (naming_of m) (limit_of line) start bytes 1 (Rule rule number) → GivesNoPlan line m rule number
+        → BreaksCertificate (limit_of line) m bytes rule number → GivesNoPlan line m rule number
     claims_none : (c : Certificate) → HasWorstCertificate call line m c → c.status ≡ infeasible → rule ≡ 34 → number ≡ 1
         → GivesNoPlan line m rule number
 

@@ -1,8 +1,8 @@
 -- The answers of `cells` and `celltext`: a model with a policy of its own in each cell of its set. In the records m
 -- is the model that was read, and `split_model m cuts` the one that the cuts make of it.
 use Rattle.std.specs.Fmt.{decimal}
-use Rattle.std.specs.Prelude.{◌≡◌, ◌≢◌, ◌<◌, ◌≤◌, ◌++◌, ℕ, ℤ, nat_abs, Bool, true, false, List, [], ◌∷◌, Some, codes, length, map}
-use Rattle.rob_algebra.specs.Fraction.{Fraction, neg_ℚ, of_int}
+use Rattle.std.specs.Prelude.{◌≡◌, ◌≢◌, ◌<◌, ◌≤◌, ◌++◌, ℕ, ℤ, nat_abs, List, [], ◌∷◌, Some, codes, length, map}
+use Rattle.rob_algebra.specs.Fraction.{Fraction, of_int}
 use Rattle.rob_cells.specs.Meaning.{HasCellSets, HasPieceStatus}
 use Rattle.rob_cells.specs.Rules.{BreaksRule, KeepsRules}
 use Rattle.rob_cert.specs.Apart.{FitsLines}
@@ -16,6 +16,7 @@ use Rattle.rob_meaning.specs.Places.{Each}
 use Rattle.rob_meaning.specs.Proves.{Proves}
 use Rattle.rob_meaning.specs.RobustModel.{RobustModel}
 use Rattle.rob_meaning.specs.UncertaintySet.{AdmitsIn}
+use Rattle.rob_meaning.specs.Values.{signed}
 use Rattle.rob_model.specs.declared.place.Spot.{Spot}
 use Rattle.rob_pieces.specs.Cuts.{CellHolds, Cut, IsCell, cell_count}
 use Rattle.rob_pieces.specs.Pieces.{IsPieceInfeasible, IsPieceOptimal, IsPieceUnbounded, PieceBound, piece_of}
@@ -41,14 +42,9 @@ use Rattle.rob_elab.specs.Written.{IsWritten}
 
 -- ---- what the words tell
 
--- the number of this size, below 0 where it has a sign
-abbrev pub signed_value : Bool → Fraction → Fraction
-signed_value true g = neg_ℚ g
-signed_value false g = g
-
 -- the number that a word spells, with or without a sign
 abbrev pub level_value : Word → Fraction
-level_value word = signed_value (has_sign word) (limit_value (unsigned word))
+level_value word = signed (has_sign word) (limit_value (unsigned word))
 
 -- the cut that a word spells: it has the word's number, and its parameter the word's name
 pub record IsCutAt (m : RobustModel) (word : Word) (cut : Cut) : Type 0 where

@@ -6,6 +6,7 @@ ghost use Rattle.rob_cells.specs.View.{cut_of};
 ghost use Rattle.rob_cert.specs.Shape.{HasShape};
 ghost use Rattle.rob_cert.specs.View.{certificate_of, status_of};
 ghost use Rattle.rob_meaning.specs.Named.{IsNamed};
+ghost use Rattle.rob_meaning.specs.Values.{signed};
 ghost use Rattle.rob_model.specs.Valid.{IsValid};
 ghost use Rattle.rob_model.specs.View.{robust};
 ghost use Rattle.rob_pieces.specs.Cuts as pieces;
@@ -14,7 +15,7 @@ ghost use Rattle.rob_report.specs.Report.{report_of};
 ghost use Rattle.rob_top.specs.Calls.{count};
 ghost use Rattle.rob_top.specs.Commands.{IsSplitting};
 ghost use Rattle.rob_top.specs.Replies.{Replies};
-ghost use Rattle.rob_top.specs.Split.{AreCutsAt, IsCutAt, cells_line, signed_value};
+ghost use Rattle.rob_top.specs.Split.{AreCutsAt, IsCutAt, cells_line};
 ghost use Rattle.rob_top.specs.SplitWork.{AnswersCutWord, AnswersCuts, RepliesPieces, RepliesSplit};
 ghost use Rattle.rob_top.specs.Work.{AnswersWords, ended_of};
 ghost use Rattle.rob_words.specs.Cuts.{IsCut, IsCutList};
@@ -140,7 +141,7 @@ fn signed<N: Exact, L: Ledger>(
     requires numerator { numerator ≤ N.limit }
     requires denominator { denominator ≤ N.limit }
     requires positive { 0 < denominator }
-    ensures value { N.value result ≡ signed_value negative (of_pair (pos numerator) denominator) }
+    ensures value { N.value result ≡ signed negative (of_pair (pos numerator) denominator) }
     ensures counted { L.wides ledger.old ≤ L.wides ledger.new }
 {
     let size: N = fraction(numerator, denominator, ledger);

@@ -4,7 +4,7 @@ use Rattle.std.specs.Prelude.{if◌then◌else◌, unwrap_or}
 use Rattle.std.specs.Str.{bytes_eq}
 use Rattle.std.proofs.lemmas.Slice.Eq.{bytes_eq-Decides}
 use Rattle.rob_words.specs.Values.{Word}
-use Rattle.rob_words.specs.Commands.{Part, apart, bits, bits_values, joined, own, own_words, route, route_values}
+use Rattle.rob_words.specs.Commands.{Part, apart, bits, joined, own, own_words, route, values_of}
 use Rattle.rob_words.specs.Texts.{listed}
 use Rattle.rob_words.proofs.Slots.{Count, Entry, Frame, Slot, bits as bits_slot, first, first_word, frame, given, given_by, given-append, id_of, no_words, one_word, route as route_slot, second_word, third_word, three_words, two_words}
 use Rattle.rob_words.proofs.Finds.{file_at, slot_of, takes, word_at}
@@ -23,7 +23,7 @@ entries n (own word ∷ parts) = (file_slot n, word) ∷ entries (suc n) parts
 entries n (apart setting value ∷ parts) = (slot_of setting, value) ∷ entries n parts
 entries n (joined setting value ∷ parts) = (slot_of setting, value) ∷ entries n parts
 
-pub given-bits : (n : ℕ) (parts : List Part) → given bits_slot (entries n parts) ≡ bits_values parts
+pub given-bits : (n : ℕ) (parts : List Part) → given bits_slot (entries n parts) ≡ values_of bits parts
 given-bits n [] = refl
 given-bits zero (own word ∷ parts) = given-bits 1 parts
 given-bits (suc zero) (own word ∷ parts) = given-bits 2 parts
@@ -33,7 +33,7 @@ given-bits n (apart route value ∷ parts) = given-bits n parts
 given-bits n (joined bits value ∷ parts) = ap (λ ws. value ∷ ws) (given-bits n parts)
 given-bits n (joined route value ∷ parts) = given-bits n parts
 
-pub given-route : (n : ℕ) (parts : List Part) → given route_slot (entries n parts) ≡ route_values parts
+pub given-route : (n : ℕ) (parts : List Part) → given route_slot (entries n parts) ≡ values_of route parts
 given-route n [] = refl
 given-route zero (own word ∷ parts) = given-route 1 parts
 given-route (suc zero) (own word ∷ parts) = given-route 2 parts

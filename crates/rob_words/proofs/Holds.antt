@@ -1,7 +1,7 @@
 -- Parts that fill the slots of a command hold its texts.
 use Rattle.std.proofs.Common.{◌≡◌, ◌≤◌, ◌∙◌, ◌⊎◌, inl, inr, ℕ, Bool, true, false, suc, refl, sym, ap, ap₂, subst, arith, List, [], ◌∷◌, ◌++◌, length, take, drop, Option, Some, None, rules}
 use Rattle.rob_words.specs.Values.{Word}
-use Rattle.rob_words.specs.Commands.{ArePlain, Part, apart, bits, joined, own, own_words, route, route_values}
+use Rattle.rob_words.specs.Commands.{ArePlain, Part, apart, bits, joined, own, own_words, route, values_of}
 use Rattle.rob_words.specs.Texts.{Hold, Holding, TakesRoute, bare_words, listed}
 use Rattle.rob_words.proofs.Slots.{Count, Entry, Frame, Slot, bits as bits_slot, first, first_word, frame, given, no_words, one_word, route as route_slot, second_word, size, some, third_word, three_words, two_words, word_slots}
 use Rattle.rob_words.proofs.Finds.{file_at, takes}
@@ -24,7 +24,7 @@ fits-room f n (own word ∷ parts) fits = (fits.0, fits-room f (suc n) parts fit
 fits-room f n (apart setting value ∷ parts) fits = fits-room f n parts fits.1
 fits-room f n (joined setting value ∷ parts) fits = fits-room f n parts fits.1
 
-fits-route : (f : Frame) (n : ℕ) (parts : List Part) → takes f route ≡ false → Fits f n parts → route_values parts ≡ []
+fits-route : (f : Frame) (n : ℕ) (parts : List Part) → takes f route ≡ false → Fits f n parts → values_of route parts ≡ []
 fits-route f n [] none fits = refl
 fits-route f n (own word ∷ parts) none fits = fits-route f (suc n) parts none fits.1
 fits-route f n (apart bits value ∷ parts) none fits = fits-route f n parts none fits.1
@@ -33,7 +33,7 @@ fits-route f n (joined bits value ∷ parts) none fits = fits-route f n parts no
 fits-route f n (joined route value ∷ parts) none fits = absurd (search (sym none ∙ fits.0, rules))
 
 fits-from : (f : Frame) (n : ℕ) (parts : List Part) → Room f n (own_words parts) → (takes f route ≡ true)
-    ⊎ (route_values parts ≡ []) → Fits f n parts
+    ⊎ (values_of route parts ≡ []) → Fits f n parts
 fits-from f n [] room way = tt
 fits-from f n (own word ∷ parts) room way = (room.0, fits-from f (suc n) parts room.1 way)
 fits-from f n (apart bits value ∷ parts) room way = (refl, fits-from f n parts room way)
@@ -182,7 +182,7 @@ module _ (f : Frame) (parts : List Part) (after : List Entry) (fill : Fill f 0 p
       ∙ ap₂ (λ a bc. a ++ bc) (sym first-is ∙ single first_word)
       (ap₂ (λ b c. b ++ c) (sym second-is ∙ single second_word) (sym third-is ∙ single third_word))
 
-  route-is : given route_slot after ≡ route_values parts
+  route-is : given route_slot after ≡ values_of route parts
   route-is = ap (given route_slot) after_is ∙ given-route 0 parts
 
   no_route : takes f route ≡ false → first (given route_slot after) ≡ None

@@ -2,7 +2,7 @@
 use Rattle.std.proofs.Common.{ℕ, ◌≡◌, ◌∙◌, inl, inr, Bool, true, false, refl, sym, ap, subst, List, [], ◌∷◌, ◌++◌, length, map, Option, Some, None, Result, Ok, Err, IfErr, IsErrAnd, rules}
 use Rattle.rob_words.specs.Kinds.{AreOfKinds}
 use Rattle.rob_words.specs.Values.{Word, greatest_of, route_text, width_text}
-use Rattle.rob_words.specs.Commands.{ArePlain, HasParts, IsCommandLine, IsPlain, IsSpelled, Line, Part, Says, Setting, TellsRoute, apart, bits, bits_values, joined, own, own_words, route, route_values, setting_word, words_of}
+use Rattle.rob_words.specs.Commands.{ArePlain, HasParts, IsCommandLine, IsPlain, IsSpelled, Line, Part, Says, Setting, TellsRoute, apart, bits, joined, own, own_words, route, setting_word, words_of, values_of}
 use Rattle.rob_words.specs.Answers.{HasCause}
 use Rattle.rob_words.specs.Texts.{AreAdmitted, HasNoTexts, Hold, Holding, Holds, HoldsBehind, IsAdmitted, TakesRoute, bare_words, listed}
 use Rattle.rob_words.specs.Verbs.{own_of, takes_route, verb_word}
@@ -77,8 +77,8 @@ tells-listed false values way none = (None, none.0, refl)
 line-holds : (words : List Word) (line : Line) (parts : List Part) → HasParts words line parts
     → (found : Holding) × Hold (takes_route line.verb) (length (own_of line.verb)) parts found
 line-holds words line parts has =
-    let width = says-listed width_text SixtyTwo (bits_values parts) line.width has.width in
-    let way = tells-listed (takes_route line.verb) (route_values parts) line.way has.route in (
+    let width = says-listed width_text SixtyTwo (values_of bits parts) line.width has.width in
+    let way = tells-listed (takes_route line.verb) (values_of route parts) line.way has.route in (
       record { own = line.own; bits = width.0; way = way.0 },
       record {
         own = has.own;
@@ -122,7 +122,7 @@ module _ (verb : Verb) (words more : List Word) (named : words ≡ verb_word ver
     pub line-width : Says width_text SixtyTwo (listed found.bits) line.0.width
     line-width =
         subst (λ vs. Says width_text SixtyTwo vs line.0.width)
-        (ap bits_values (sym same_parts) ∙ held.2.bits) line.1.1.width
+        (ap (values_of bits) (sym same_parts) ∙ held.2.bits) line.1.1.width
 
     -- its own words are of their kinds, at the width that is said
     pub line-kinds : (width : Width) → Says width_text SixtyTwo (listed found.bits) width
@@ -137,7 +137,7 @@ module _ (verb : Verb) (words more : List Word) (named : words ≡ verb_word ver
     line-tells : TellsRoute (takes_route line.0.verb) (listed found.way) line.0.way
     line-tells =
         subst (λ vs. TellsRoute (takes_route line.0.verb) vs line.0.way)
-        (ap route_values (sym same_parts) ∙ held.2.way) line.1.1.route
+        (ap (values_of route) (sym same_parts) ∙ held.2.way) line.1.1.route
 
     pub line-route : (way : Route) × Says route_text Dual (listed found.way) way
     line-route = told (takes_route line.0.verb) line-tells

@@ -2,7 +2,7 @@
 use Rattle.std.proofs.Common.{◌≡◌, ◌≢◌, ◌∙◌, inl, inr, Bool, true, false, zero, suc, refl, sym, ap, ap₂, subst, arith, append-nil, List, [], ◌∷◌, ◌++◌, rules}
 use Rattle.std.specs.List.{All}
 use Rattle.rob_words.specs.Values.{Word, route_text, width_text}
-use Rattle.rob_words.specs.Commands.{ArePlain, HasParts, IsCommandLine, IsPlain, IsSpelled, Line, Part, Says, Setting, TellsRoute, apart, bits, bits_values, joined, own, own_words, route, route_values, setting_word, words_of}
+use Rattle.rob_words.specs.Commands.{ArePlain, HasParts, IsCommandLine, IsPlain, IsSpelled, Line, Part, Says, Setting, TellsRoute, apart, bits, joined, own, own_words, route, setting_word, words_of, values_of}
 use Rattle.rob_words.specs.Verbs.{takes_route, verb_word}
 use Rattle.rob_words.specs.Texts.{bare_words}
 use Rattle.rob_words.specs.declared.route.Route.{Route}
@@ -77,8 +77,8 @@ one_parts (joined s a ∷ p) (joined t b ∷ q) plain plain' e =
 
 -- ---- a line's parts are plain
 
-pub bare-plain : (parts : List Part) → ArePlain (own_words parts) → ArePlain (bits_values parts)
-    → ArePlain (route_values parts) → ArePlain (bare_words parts)
+pub bare-plain : (parts : List Part) → ArePlain (own_words parts) → ArePlain (values_of bits parts)
+    → ArePlain (values_of route parts) → ArePlain (bare_words parts)
 bare-plain [] own_plain bits_plain route_plain = tt
 bare-plain (own word ∷ parts) own_plain bits_plain route_plain =
     (own_plain.0, bare-plain parts own_plain.1 bits_plain route_plain)
@@ -119,8 +119,8 @@ tells-plain false values way tells = subst ArePlain (sym tells.0) tt
 pub line-plain : (words : List Word) (line : Line) (parts : List Part) → HasParts words line parts
     → ArePlain (bare_words parts)
 line-plain words line parts has = bare-plain parts (subst ArePlain (sym has.own) has.names)
-    (says-plain width_text SixtyTwo (bits_values parts) line.width width-plain has.width)
-    (tells-plain (takes_route line.verb) (route_values parts) line.way has.route)
+    (says-plain width_text SixtyTwo (values_of bits parts) line.width width-plain has.width)
+    (tells-plain (takes_route line.verb) (values_of route parts) line.way has.route)
 
 -- ---- one line
 
@@ -172,9 +172,9 @@ one_line words a b s t =
     let other : HasParts words b s.0 = subst (HasParts words b) (sym parts) t.1 in
     let words_are : a.own ≡ b.own = sym s.1.own ∙ other.own in
     let way : a.way ≡ b.way =
-    tells-one (takes_route a.verb) (route_values s.0) a.way b.way s.1.route
-    (subst (λ v. TellsRoute (takes_route v) (route_values s.0) b.way) (sym verbs) other.route) in
-    let width = says-one width_text SixtyTwo (bits_values s.0) a.width b.width width_text-one s.1.width other.width in
+    tells-one (takes_route a.verb) (values_of route s.0) a.way b.way s.1.route
+    (subst (λ v. TellsRoute (takes_route v) (values_of route s.0) b.way) (sym verbs) other.route) in
+    let width = says-one width_text SixtyTwo (values_of bits s.0) a.width b.width width_text-one s.1.width other.width in
     (λ i. record { verb = verbs i; own = words_are i; way = way i; width = width i })
 
 -- ---- no word is empty

@@ -53,19 +53,14 @@ own_words [] = []
 own_words (own word ∷ parts) = word ∷ own_words parts
 own_words (_ ∷ parts) = own_words parts
 
--- the value that a part gives to the option `bits`, if it does
-abbrev pub bits_values : List Part → List Word
-bits_values [] = []
-bits_values (apart bits value ∷ parts) = value ∷ bits_values parts
-bits_values (joined bits value ∷ parts) = value ∷ bits_values parts
-bits_values (_ ∷ parts) = bits_values parts
-
--- the values that parts give to the option `route`
-abbrev pub route_values : List Part → List Word
-route_values [] = []
-route_values (apart route value ∷ parts) = value ∷ route_values parts
-route_values (joined route value ∷ parts) = value ∷ route_values parts
-route_values (_ ∷ parts) = route_values parts
+-- the values that parts give to an option
+abbrev pub values_of : Setting → List Part → List Word
+values_of setting [] = []
+values_of bits (apart bits value ∷ parts) = value ∷ values_of bits parts
+values_of bits (joined bits value ∷ parts) = value ∷ values_of bits parts
+values_of route (apart route value ∷ parts) = value ∷ values_of route parts
+values_of route (joined route value ∷ parts) = value ∷ values_of route parts
+values_of setting (_ ∷ parts) = values_of setting parts
 
 -- the word is plain, as names of files and values are: it has a byte, and doesn't begin with `-`
 abbrev pub IsPlain : Word → Type 0
@@ -93,8 +88,8 @@ pub record HasParts (words : List Word) (line : Line) (parts : List Part) : Type
   pub count : length line.own ≡ length (own_of line.verb)
   pub names : ArePlain line.own
   pub kinds : AreOfKinds (greatest_of line.width) (own_of line.verb) line.own
-  pub width : Says width_text SixtyTwo (bits_values parts) line.width
-  pub route : TellsRoute (takes_route line.verb) (route_values parts) line.way
+  pub width : Says width_text SixtyTwo (values_of bits parts) line.width
+  pub route : TellsRoute (takes_route line.verb) (values_of route parts) line.way
 
 -- the words spell the line
 abbrev pub IsSpelled : List Word → Line → Type 0

@@ -1,7 +1,7 @@
 -- The texts that the words behind a command's name hold, before options are judged.
 use Rattle.std.specs.Prelude.{◌≡◌, ◌≢◌, ◌⊎◌, ℕ, Bool, true, false, List, [], ◌∷◌, length, map, Option, Some, None, option_map, string_bytes}
 use Rattle.rob_words.specs.Values.{Word}
-use Rattle.rob_words.specs.Commands.{Part, own, apart, joined, ArePlain, words_of, own_words, bits_values, route_values}
+use Rattle.rob_words.specs.Commands.{Part, own, apart, joined, ArePlain, words_of, own_words, bits, route, values_of}
 use Rattle.rob_words.specs.Verbs.{own_of, takes_route}
 use Rattle.rob_words.specs.declared.error.WordsErr.{WordsErr}
 use Rattle.rob_words.specs.declared.error.WordsErr.TheVariants.{NoCommandLine, Memory}
@@ -36,8 +36,8 @@ pub record Hold (takes : Bool) (count : ℕ) (parts : List Part) (found : Holdin
   pub own : own_words parts ≡ found.own
   pub all : length found.own ≡ count
   pub plain : ArePlain (bare_words parts)
-  pub bits : bits_values parts ≡ listed found.bits
-  pub way : route_values parts ≡ listed found.way
+  pub bits : values_of bits parts ≡ listed found.bits
+  pub way : values_of route parts ≡ listed found.way
   pub takes_route : TakesRoute takes found.way
 
 -- what the texts of the code are
