@@ -212,8 +212,8 @@ module _ (limit : ℕ) (m : RobustModel) where
       subst (λ (v : Verb). has_kind own.Certificate (own_of v) ≡ true) (sym here) refl in
       h call line (call_of_verb limit wides verb Check call line e at)
       (record {
-        forms = has;
-        is_check = here;
+        read = has;
+        is_verb = here;
         file = subst (λ (list : List ℕ). HasFile call line own.Certificate list) (sym same)
             (file_came call line texts own.Certificate _ refl came names);
       })
@@ -301,6 +301,6 @@ module _ (limit : ℕ) (m : RobustModel) where
           m = m;
           wide = checking c place read refl (verdict_is call line (verdicts.TooWide place) at.limit_is e);
           raised = at.raised rose;
-          printed = told_alone call line m read.file.forms.model (ap takes_route at.verb_is) reply.text
+          printed = told_alone call line m read.file.read.model (ap takes_route at.verb_is) reply.text
               (too_wide_line m (spot.Check place)) said.1;
         }))

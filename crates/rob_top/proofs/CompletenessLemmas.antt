@@ -13,7 +13,7 @@ use Rattle.rob_dualize.proofs.SolvingLemmas.{narrow_spot}
 use Rattle.rob_dualize.specs.Solving.{IsNarrowModel}
 use Rattle.rob_check.specs.declared.verdict.Verdict.{Verdict}
 use Rattle.rob_check.specs.declared.verdict.Verdict.TheVariants as verdicts
-use Rattle.rob_meaning.specs.Certificates.{Certificate, Status}
+use Rattle.rob_meaning.specs.Certificates.{Certificate, Status, infeasible}
 use Rattle.rob_meaning.specs.Proves.{HasStatus, Proves}
 use Rattle.rob_meaning.specs.RobustModel.{RobustModel}
 use Rattle.rob_meaning.specs.UncertaintySet.{Admits, IsEmptySet}
@@ -36,7 +36,8 @@ use Rattle.rob_top.proofs.NarrowAnswerLemmas.{has_status, narrow_decides, no_wid
 use Rattle.rob_top.proofs.ReplayAnswerLemmas.{planless_decides, replay_decides}
 use Rattle.rob_top.proofs.StageLemmas.{broken_answer}
 use Rattle.rob_top.proofs.AbsentAnswerLemmas.{missing_decides, too_long_decides}
-use Rattle.rob_top.proofs.TrueAnswerLemmas.{empty_decides, rows_decide, rule_decides, solve_decides, status_decides, verdict_decides, well, wide_decides}
+use Rattle.rob_top.proofs.ReadOnceLemmas.{well}
+use Rattle.rob_top.proofs.TrueAnswerLemmas.{empty_decides, rows_decide, rule_decides, solve_decides, status_decides, verdict_decides, wide_decides}
 use Rattle.rob_top.proofs.WholeAnswerLemmas.{some_whole_status, whole_decides, whole_empty_decides, whole_status_decides, whole_wide_decides}
 use Rattle.rob_top.proofs.WorstAnswerLemmas.{unnamed_decides, unplanned_decides, worst_decides, worst_empty_decides, worst_printed_decides, worst_slack_decides}
 use Rattle.rob_top.proofs.TreeAnswerLemmas.{accepted_tree, breaking_decides, judged_tree, proved_tree, tree_broken_decides, tree_verdict_decides, unproved_tree}
@@ -64,6 +65,7 @@ use Rattle.rob_words.specs.declared.route.Route.TheVariants.{Dual}
 use Rattle.rob_words.specs.declared.verb.Verb.{Verb}
 use Rattle.rob_words.specs.declared.verb.Verb.TheVariants.{Prove}
 use Rattle.rob_words.specs.declared.width.Width.{Width}
+use Rattle.rob_words.specs.declared.verb.Verb.TheVariants as verbs
 
 -- one answer, where no file is read
 comes_printed : (call : Call) (ended : Ended) → Comes call ended
@@ -209,9 +211,9 @@ module _ (call : Call) (known : Known call.source) (ended : Ended) (comes : Come
         (inr (inl refl)) (inr (inr refl)) comes
         (sweep_decides call known line m n gs has keeps ended)
 
-    module _ (c : Certificate) (has : HasCertificate call line m c) where
+    module _ (c : Certificate) (has : HasCertificate call verbs.Check line m c) where
       read_model : IsModel m
-      read_model = well call known line m has.file.forms.model
+      read_model = well call known line m has.file.read.model
 
       verdict_ends : EndsAs (verdict_ended (verdict_of (limit_of line) m c)) ended
       verdict_ends =
@@ -275,9 +277,9 @@ module _ (call : Call) (known : Known call.source) (ended : Ended) (comes : Come
         (whole_wide_decides call known line m names has is spot first ended);
     whole_empty = whole_empty_ends;
     whole_status = whole_status_ends;
-    no_plan = λ line m rule number gives_none.
+    no_plan = λ line m rule number lacks.
         comes_ends call (Cert rule number) ended comes
-        (unplanned_decides call known line m rule number gives_none ended);
+        (unplanned_decides call known line m rule number lacks ended);
     no_row = λ line m c name none.
         comes_ends call NoRow ended comes (unnamed_decides call known line m c name none ended);
     worst = worst_ends;
@@ -370,13 +372,17 @@ module _ (proving : Call) (status : Status) (text : List ℕ) (solved : IsSolved
   printed_fits line width =
       subst (λ (w : Width). FitsLines (2 ^ bits_of w - 1) solved.m solved.c) (sym width) solved.fits
 
+-- a refusal of it says that the model has no plan
+abbrev pub SaysInfeasible : Status → ℕ → ℕ → Type 0
+SaysInfeasible status rule number = (rule ≡ 34) × ((number ≡ 1) × (status ≡ infeasible))
+
 -- ---- as the file of a certificate
 module _ (proving checking : Call) (known : Known checking.source) (status : Status) (text : List ℕ)
     (solved : IsSolved proving status text)
     (line : Line) (ended : Ended) where
   printed_certificate : solved.line.verb ≡ Prove → line.width ≡ solved.line.width
-      → HasCertificateFile (known_call checking known) line solved.m text
-      → HasCertificate (known_call checking known) line solved.m solved.c
+      → HasCertificateFile (known_call checking known) verbs.Check line solved.m text
+      → HasCertificate (known_call checking known) verbs.Check line solved.m solved.c
   printed_certificate is_prove width file = record {
     bytes = text;
     file = file;
@@ -385,7 +391,8 @@ module _ (proving checking : Call) (known : Known checking.source) (status : Sta
   }
 
   pub proved_then_checked : solved.line.verb ≡ Prove → line.width ≡ solved.line.width
-      → HasCertificateFile (known_call checking known) line solved.m text → MustEnd (known_call checking known) ended
+      → HasCertificateFile (known_call checking known) verbs.Check line solved.m text
+      → MustEnd (known_call checking known) ended
       → IsProvedAnswer (limit_of line) solved.m solved.c ended
   proved_then_checked is_prove width file must =
       must.proved line solved.m solved.c (printed_certificate is_prove width file) solved.proves

@@ -24,7 +24,7 @@ use Rattle.rob_sweep.specs.Stops.{IsWideAtLimit, KeepsRules}
 use Rattle.rob_tree.specs.View.{branch_of}
 use Rattle.rob_tree.specs.declared.tree.Branch.{Branch}
 use Rattle.rob_top.proofs.RouteLemmas.{wide_on_way}
-use Rattle.rob_top.proofs.SoughtLemmas.{forms_sought, forms_unnamed, forms_unplanned}
+use Rattle.rob_top.proofs.SoughtLemmas.{forms_sought, forms_unnamed, forms_unplanned, lacking_verb}
 use Rattle.rob_tree.specs.declared.verdict.LeafFault.{LeafFault}
 use Rattle.rob_top.proofs.NamingLemmas.{breaking_verb}
 use Rattle.rob_top.proofs.SplitCourseLemmas.{SplitCourse}
@@ -34,12 +34,12 @@ use Rattle.rob_top.specs.Calls.{Call, limit_of}
 use Rattle.rob_top.specs.Checked.{IsAccepted, IsRejected}
 use Rattle.rob_top.specs.Commands as works
 use Rattle.rob_top.specs.Commands.{IsBranching, IsElaborating, IsSweeping, Work, makes_forms, work_of}
-use Rattle.rob_top.specs.Inputs.{BreaksCertificate, HasCertificate, HasCertificateFile, HasForms, HasScenarioFile, HasSought, HasWholeVariables}
-use Rattle.rob_top.specs.Refused.{IsNoCertificate, IsTooWideOnWay, IsWideSpot, checking, elaborating, replaying, searching}
+use Rattle.rob_top.specs.Inputs.{BreaksCertificate, HasCertificate, HasCertificateFile, HasForms, HasScenarioFile, HasSought, HasWholeVariables, LacksPlan}
+use Rattle.rob_top.specs.Refused.{IsNoCertificate, IsNoPlan, IsTooWideOnWay, IsWideSpot, checking, elaborating, replaying, searching}
 use Rattle.rob_top.specs.Narrowed.{IsNarrowed}
-use Rattle.rob_top.specs.Replayed.{IsNoPlan, IsNoScenarios, IsReplayed, LacksPlan, planless, replay_ended, unread}
+use Rattle.rob_top.specs.Replayed.{IsNoScenarios, IsReplayed, replay_ended}
 use Rattle.rob_top.specs.Routes.{IsWideOnWay}
-use Rattle.rob_top.specs.Searched.{GivesNoPlan, IsEmptySought, IsNoPlanSought, IsNoRow, IsSearched, IsWideSought, NamesNoForm, ShowsWorst, certificate_vector, claims_none, misread}
+use Rattle.rob_top.specs.Searched.{IsEmptySought, IsNoRow, IsSearched, IsWideSought, NamesNoForm, ShowsWorst, certificate_vector}
 use Rattle.rob_top.specs.Solved.{IsEmptySet as IsShownEmptySet, IsRows, IsSolved}
 use Rattle.rob_top.specs.TreeChecked.{IsNoTree, IsTreeAccepted, IsTreeRejected, IsWideLeaf}
 use Rattle.rob_top.specs.Swept.{BreaksSweep, HasLimit, HasSweep, IsLimited, IsNoSweep, IsPriced, IsWideBudget, at_limit, at_limits}
@@ -48,8 +48,9 @@ use Rattle.rob_top.specs.declared.ended.Ended.{Ended}
 use Rattle.rob_top.specs.declared.ended.Ended.TheVariants.{Printed, Accepted, Rejected, EmptySet, TooWide, WideNode, WideBudget, Cert, Scenarios, Whole, Sweep, Tree as TreeRule, TreeRejected, NoRow}
 use Rattle.rob_words.specs.Commands.{Line}
 use Rattle.rob_words.specs.Values.{Word}
-use Rattle.rob_words.specs.declared.verb.Verb.TheVariants.{CheckTree, Replay, Worst}
+use Rattle.rob_words.specs.declared.verb.Verb.TheVariants.{CheckTree}
 use Rattle.rob_elab.specs.Written.{judged, IsWritten}
+use Rattle.rob_words.specs.declared.verb.Verb.TheVariants as verbs
 
 -- what stands behind an answer of `whole` and `tree`: a rule that the named variables break; a status over plans where
 -- they are whole; an empty set; or a number that is wide in a box
@@ -68,7 +69,7 @@ pub data WholeCourse (call : Call) (line : Line) (m : RobustModel) (ended : Ende
 -- what stands behind an answer of `worst`: a certificate without a plan; a word that names no form; a worst case, where
 -- some scenario is admitted; an empty set; or a number that is wide on the way
 pub data WorstCourse (call : Call) (line : Line) (m : RobustModel) (ended : Ended) : Type 0 where
-  plans_none : (rule number : ℕ) → GivesNoPlan call line m rule number → ended ≡ Cert rule number
+  plans_none : (rule number : ℕ) → LacksPlan call verbs.Worst line m rule number → ended ≡ Cert rule number
       → WorstCourse call line m ended
   names_none : (c : Certificate) (name : Word) → NamesNoForm call line m c name → ended ≡ NoRow
       → WorstCourse call line m ended
@@ -105,9 +106,9 @@ pub data SolveCourse (call : Call) (line : Line) (m : RobustModel) (ended : Ende
 
 -- of `check`: a verdict, or a certificate's text that breaks a rule
 pub data CheckCourse (call : Call) (line : Line) (m : RobustModel) (ended : Ended) : Type 0 where
-  judges : (c : Certificate) → HasCertificate call line m c → ended ≡ verdict_ended (verdict_of (limit_of line) m c)
-      → CheckCourse call line m ended
-  refuses : (bytes : List ℕ) (rule number : ℕ) → HasCertificateFile call line m bytes
+  judges : (c : Certificate) → HasCertificate call verbs.Check line m c
+      → ended ≡ verdict_ended (verdict_of (limit_of line) m c) → CheckCourse call line m ended
+  refuses : (bytes : List ℕ) (rule number : ℕ) → HasCertificateFile call verbs.Check line m bytes
       → BreaksCertificate (limit_of line) m bytes rule number → ended ≡ Cert rule number
       → CheckCourse call line m ended
 
@@ -116,7 +117,7 @@ pub data ReplayCourse (call : Call) (line : Line) (m : RobustModel) (ended : End
   replays : (c : Certificate) (bytes : List ℕ) (rows : List (List (List ℕ)))
       → HasScenarioFile call line m c bytes → IsFile bytes rows
       → ended ≡ replay_ended (outcome (limit_of line) m c.plan rows) → ReplayCourse call line m ended
-  lacks_plan : (rule number : ℕ) → LacksPlan call line m rule number → ended ≡ Cert rule number
+  lacks_plan : (rule number : ℕ) → LacksPlan call verbs.Replay line m rule number → ended ≡ Cert rule number
       → ReplayCourse call line m ended
 
 -- by the work of the command. `rows` and `narrow` print, and nothing else; a command on a number reads no model
@@ -156,8 +157,8 @@ forms_of call line m ended works.rows makes course = course.0
 forms_of call line m ended works.solving makes (finds status v u inside forms holds e) = forms
 forms_of call line m ended works.solving makes (shows_empty weights forms shown e) = forms
 forms_of call line m ended works.solving makes (wide_row spot forms wide e) = forms
-forms_of call line m ended works.checking makes (judges c h e) = h.file.forms
-forms_of call line m ended works.checking makes (refuses bytes rule number h breach e) = h.forms
+forms_of call line m ended works.checking makes (judges c h e) = h.file.read
+forms_of call line m ended works.checking makes (refuses bytes rule number h breach e) = h.read
 forms_of call line m ended works.searching makes course = worst_forms call line m ended course
 forms_of call line m ended works.narrowing makes course = course.0
 forms_of call line m ended other makes course = absurd (let no : false ≡ true = makes in cc)
@@ -167,12 +168,6 @@ pub same_work : (call : Call) (line : Line) (m : RobustModel) (ended : Ended) (v
     → work_of line.verb ≡ w → WorkCourse v call line m ended → WorkCourse w call line m ended
 same_work call line m ended v w here is course =
     subst (λ (x : Work). WorkCourse x call line m ended) (sym here ∙ is) course
-
--- a certificate that gives no plan stands in the words of `replay`
-pub lacking_verb : (call : Call) (line : Line) (m : RobustModel) (rule number : ℕ)
-    → LacksPlan call line m rule number → line.verb ≡ Replay
-lacking_verb call line m rule number (unread bytes h breach) = h.is_replay
-lacking_verb call line m rule number (planless c h is r n) = h.file.is_replay
 
 -- a certificate that proves has an admitted scenario
 pub inside_admitted : (m : RobustModel) (c : Certificate) (status : Status) → ProvesAs status m c → Admits m c.inside
@@ -279,29 +274,29 @@ module _ (call : Call) where
 
   pub accepted_course : (text : List ℕ) (h : IsAccepted call text) → Course call h.line h.m Accepted
   accepted_course text h =
-      does works.checking (ap work_of h.read.file.is_check) (judges h.c h.read (ap verdict_ended (sym h.verdict)))
+      does works.checking (ap work_of h.read.file.is_verb) (judges h.c h.read (ap verdict_ended (sym h.verdict)))
 
   pub rejected_course : (place : Place) (text : List ℕ) (h : IsRejected call place text)
       → Course call h.line h.m (Rejected place)
   rejected_course place text h =
-      does works.checking (ap work_of h.read.file.is_check) (judges h.c h.read (ap verdict_ended (sym h.verdict)))
+      does works.checking (ap work_of h.read.file.is_verb) (judges h.c h.read (ap verdict_ended (sym h.verdict)))
 
   pub cert_course : (rule number : ℕ) (text : List ℕ) (h : IsNoCertificate call rule number text)
       → Course call h.line h.m (Cert rule number)
   cert_course rule number text h =
-      does works.checking (ap work_of h.file.is_check) (refuses h.bytes rule number h.file h.breaks refl)
+      does works.checking (ap work_of h.file.is_verb) (refuses h.bytes rule number h.file h.breaks refl)
 
   pub wide_course : (line : Line) (m : RobustModel) (spot : Spot) → IsWideSpot call line m spot
       → Course call line m (TooWide spot)
   wide_course line m spot (elaborating has makes first) = wide_number spot makes first refl
   wide_course line m spot (checking c place has is verdict) =
-      does works.checking (ap work_of has.file.is_check)
+      does works.checking (ap work_of has.file.is_verb)
       (judges c has (ap (λ (s : Spot). TooWide s) is ∙ ap verdict_ended (sym verdict)))
   wide_course line m spot (replaying c bytes number has is gives) =
-      does works.replaying (ap work_of has.certificate.file.is_replay)
+      does works.replaying (ap work_of has.plan.certificate.file.is_verb)
       (replays c bytes gives.0 has gives.1 (ap (λ (s : Spot). TooWide s) is ∙ ap replay_ended (sym gives.2)))
   wide_course line m spot (searching c form has wide) =
-      does works.searching (ap work_of has.plan.certificate.file.is_worst) (wide_search c form spot has wide refl)
+      does works.searching (ap work_of has.plan.certificate.file.is_verb) (wide_search c form spot has wide refl)
 
   pub wide_way_course : (spot : Spot) (text : List ℕ) (h : IsTooWideOnWay call spot text)
       → Course call h.line h.m (TooWide spot)
@@ -311,47 +306,42 @@ module _ (call : Call) where
 
   pub replayed_course : (text : List ℕ) (h : IsReplayed call text) → Course call h.line h.m Printed
   replayed_course text h =
-      does works.replaying (ap work_of h.has.certificate.file.is_replay)
+      does works.replaying (ap work_of h.has.plan.certificate.file.is_verb)
       (replays h.c h.bytes h.rows h.has h.file (ap replay_ended (sym h.narrow)))
 
   pub scenarios_course : (rule number : ℕ) (text : List ℕ) (h : IsNoScenarios call rule number text)
       → Course call h.line h.m (Scenarios rule number)
   scenarios_course rule number text h =
-      does works.replaying (ap work_of h.has.certificate.file.is_replay)
+      does works.replaying (ap work_of h.has.plan.certificate.file.is_verb)
       (replays h.c h.bytes h.refused.0 h.has h.refused.1 (ap replay_ended (sym h.refused.2)))
 
-  pub lacking_course : (rule number : ℕ) (text : List ℕ) (h : IsNoPlan call rule number text)
+  pub lacking_course : (rule number : ℕ) (text : List ℕ) (h : IsNoPlan call verbs.Replay rule number text)
       → Course call h.line h.m (Cert rule number)
   lacking_course rule number text h =
-      does works.replaying (ap work_of (lacking_verb call h.line h.m rule number h.lacks))
+      does works.replaying (ap work_of (lacking_verb call h.line h.m verbs.Replay rule number h.lacks))
       (lacks_plan rule number h.lacks refl)
 
   pub searched_course : (text : List ℕ) (h : IsSearched call text) → Course call h.line h.m Printed
   searched_course text h =
-      does works.searching (ap work_of h.has.plan.certificate.file.is_worst)
+      does works.searching (ap work_of h.has.plan.certificate.file.is_verb)
       (shows_worst h.c h.form text h.has h.shows refl)
 
   pub empty_sought_course : (weights : List ℤ) (text : List ℕ) (h : IsEmptySought call weights text)
       → Course call h.line h.m (EmptySet weights)
   empty_sought_course weights text h =
-      does works.searching (ap work_of h.has.plan.certificate.file.is_worst)
+      does works.searching (ap work_of h.has.plan.certificate.file.is_verb)
       (admits_none h.c h.form weights h.has h.shown refl)
 
   pub no_row_course : (text : List ℕ) (h : IsNoRow call text) → Course call h.line h.m NoRow
   no_row_course text h =
-      does works.searching (ap work_of h.names_none.plan.certificate.file.is_worst)
+      does works.searching (ap work_of h.names_none.plan.certificate.file.is_verb)
       (names_none h.c h.name h.names_none refl)
 
-  pub unplanned_verb : (line : Line) (m : RobustModel) (rule number : ℕ)
-      → GivesNoPlan call line m rule number → line.verb ≡ Worst
-  unplanned_verb line m rule number (misread bytes h breach) = h.is_worst
-  unplanned_verb line m rule number (claims_none c h is r n) = h.file.is_worst
-
-  pub unplanned_course : (rule number : ℕ) (text : List ℕ) (h : IsNoPlanSought call rule number text)
+  pub unplanned_course : (rule number : ℕ) (text : List ℕ) (h : IsNoPlan call verbs.Worst rule number text)
       → Course call h.line h.m (Cert rule number)
   unplanned_course rule number text h =
-      does works.searching (ap work_of (unplanned_verb h.line h.m rule number h.gives_none))
-      (plans_none rule number h.gives_none refl)
+      does works.searching (ap work_of (lacking_verb call h.line h.m verbs.Worst rule number h.lacks))
+      (plans_none rule number h.lacks refl)
 
 -- the same of equal lines and models
 pub course_at : (call : Call) (l line : Line) (k m : RobustModel) (ended : Ended) → l ≡ line → k ≡ m

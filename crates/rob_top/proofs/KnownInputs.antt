@@ -1,5 +1,5 @@
 -- What was read for a call was read for its known part.
-use Rattle.std.proofs.Common.{◌≡◌, ℕ, List, [], ◌∷◌, Option, Some, IfSome, refl, subst}
+use Rattle.std.proofs.Common.{◌≡◌, ℕ, Bool, true, false, List, [], ◌∷◌, Option, Some, IfSome, refl, subst}
 use Rattle.rob_algebra.specs.Fraction.{Fraction}
 use Rattle.rob_meaning.specs.Certificates.{Certificate}
 use Rattle.rob_meaning.specs.Places.{Each}
@@ -10,16 +10,18 @@ use Rattle.rob_outside.specs.Files.{File, Found, whole, found_at}
 use Rattle.rob_reach.specs.Trees.{Tree}
 use Rattle.rob_top.specs.Branched.{BreaksWhole, no_ranges, no_variables}
 use Rattle.rob_top.specs.Calls.{Call, Known, Source, by_fetches, by_files, known_call, known_source}
+use Rattle.rob_top.specs.Commands.{elaborates}
 use Rattle.rob_top.specs.Files.{Came, HasFile, IsFirstAbsent, IsFoundIn, Request, answer_to, requests}
-use Rattle.rob_top.specs.Inputs.{HasCertificate, HasCertificateFile, HasForms, HasModel, HasPlan, HasReplayCertificate, HasReplayFile, HasScenarioFile, HasSought, HasVariables, HasWholeVariables, HasWorstCertificate, HasWorstFile}
+use Rattle.rob_top.specs.Inputs.{HasCertificate, HasCertificateFile, HasForms, HasModel, HasPlan, HasScenarioFile, HasSought, HasVariables, HasWholeVariables, HasRead, LacksPlan, planless, unread}
 use Rattle.rob_top.specs.Refused.{IsWideSpot, checking, elaborating, replaying, searching}
-use Rattle.rob_top.specs.Replayed.{LacksPlan, planless, unread}
-use Rattle.rob_top.specs.Searched.{GivesNoPlan, NamesNoForm, claims_none, misread}
+use Rattle.rob_top.specs.Searched.{NamesNoForm}
 use Rattle.rob_top.specs.TreeChecked.{HasTree, HasTreeFile}
 use Rattle.rob_top.specs.Swept.{BreaksSweep, HasLimit, HasSweep, at_limit, at_limits}
 use Rattle.rob_words.specs.Commands.{Line}
 use Rattle.rob_words.specs.declared.verb.Own.{Own}
 use Rattle.rob_words.specs.declared.verb.Own.TheVariants as own
+use Rattle.rob_words.specs.declared.verb.Verb.TheVariants as verbs
+use Rattle.rob_words.specs.declared.verb.Verb.{Verb}
 
 -- the part decides as well
 pub known_again : {source : Source} (known : Known source) → Known (known_source known)
@@ -76,39 +78,35 @@ module _ (call : Call) (known : Known call.source) where
     pub forms_known : HasForms call line m → HasForms part line m
     forms_known h = record { model = model_known h.model; none_wide = h.none_wide }
 
-    pub file_known : (bytes : List ℕ) → HasCertificateFile call line m bytes → HasCertificateFile part line m bytes
-    file_known bytes h = record {
-      forms = forms_known h.forms;
-      is_check = h.is_check;
+    read_known : (makes : Bool) → HasRead call makes line m → HasRead part makes line m
+    read_known true h = forms_known h
+    read_known false h = model_known h
+
+    pub file_known : (verb : Verb) (bytes : List ℕ) → HasCertificateFile call verb line m bytes
+        → HasCertificateFile part verb line m bytes
+    file_known verb bytes h = record {
+      read = read_known (elaborates verb) h.read;
+      is_verb = h.is_verb;
       file = file_held line own.Certificate bytes h.file;
     }
 
-    pub certificate_known : (c : Certificate) → HasCertificate call line m c → HasCertificate part line m c
-    certificate_known c h = record { bytes = h.bytes; file = file_known h.bytes h.file; text = h.text; fits = h.fits }
+    pub certificate_known : (verb : Verb) (c : Certificate) → HasCertificate call verb line m c
+        → HasCertificate part verb line m c
+    certificate_known verb c h =
+        record { bytes = h.bytes; file = file_known verb h.bytes h.file; text = h.text; fits = h.fits }
 
-    pub replay_file_known : (bytes : List ℕ) → HasReplayFile call line m bytes → HasReplayFile part line m bytes
-    replay_file_known bytes h = record {
-      model = model_known h.model;
-      is_replay = h.is_replay;
-      file = file_held line own.Certificate bytes h.file;
-    }
+    plan_known : (verb : Verb) (c : Certificate) → HasPlan call verb line m c → HasPlan part verb line m c
+    plan_known verb c h = record { certificate = certificate_known verb c h.certificate; has_plan = h.has_plan }
 
-    pub replay_certificate_known : (c : Certificate) → HasReplayCertificate call line m c
-        → HasReplayCertificate part line m c
-    replay_certificate_known c h =
-        record { bytes = h.bytes; file = replay_file_known h.bytes h.file; text = h.text; fits = h.fits }
+    pub lacking_known : (verb : Verb) (rule number : ℕ) → LacksPlan call verb line m rule number
+        → LacksPlan part verb line m rule number
+    lacking_known verb rule number (unread bytes h breach) = unread bytes (file_known verb bytes h) breach
+    lacking_known verb rule number (planless c h is r n) = planless c (certificate_known verb c h) is r n
 
     pub scenarios_known : (c : Certificate) (bytes : List ℕ) → HasScenarioFile call line m c bytes
         → HasScenarioFile part line m c bytes
-    scenarios_known c bytes h = record {
-      certificate = replay_certificate_known c h.certificate;
-      has_plan = h.has_plan;
-      file = file_held line own.Scenarios bytes h.file;
-    }
-
-    pub lacking_known : (rule number : ℕ) → LacksPlan call line m rule number → LacksPlan part line m rule number
-    lacking_known rule number (unread bytes h breach) = unread bytes (replay_file_known bytes h) breach
-    lacking_known rule number (planless c h is r n) = planless c (replay_certificate_known c h) is r n
+    scenarios_known c bytes h =
+        record { plan = plan_known verbs.Replay c h.plan; file = file_held line own.Scenarios bytes h.file }
 
     pub variables_known : (numbers : List ℕ) → HasVariables call line m numbers → HasVariables part line m numbers
     variables_known numbers h = record {
@@ -137,30 +135,11 @@ module _ (call : Call) (known : Known call.source) where
     breaking_known rule (no_variables names h told none e) = no_variables names (model_known h) told none e
     breaking_known rule (no_ranges numbers h e) = no_ranges numbers (variables_known numbers h) e
 
-    pub worst_file_known : (bytes : List ℕ) → HasWorstFile call line m bytes → HasWorstFile part line m bytes
-    worst_file_known bytes h = record {
-      forms = forms_known h.forms;
-      is_worst = h.is_worst;
-      file = file_held line own.Certificate bytes h.file;
-    }
-
-    pub worst_certificate_known : (c : Certificate) → HasWorstCertificate call line m c
-        → HasWorstCertificate part line m c
-    worst_certificate_known c h =
-        record { bytes = h.bytes; file = worst_file_known h.bytes h.file; text = h.text; fits = h.fits }
-
-    pub plan_known : (c : Certificate) → HasPlan call line m c → HasPlan part line m c
-    plan_known c h = record { certificate = worst_certificate_known c h.certificate; has_plan = h.has_plan }
-
     pub sought_known : (c : Certificate) (form : ℕ) → HasSought call line m c form → HasSought part line m c form
-    sought_known c form h = record { plan = plan_known c h.plan; is_form = h.is_form; told = h.told }
-
-    pub unplanned_known : (rule number : ℕ) → GivesNoPlan call line m rule number → GivesNoPlan part line m rule number
-    unplanned_known rule number (misread bytes h breach) = misread bytes (worst_file_known bytes h) breach
-    unplanned_known rule number (claims_none c h is r n) = claims_none c (worst_certificate_known c h) is r n
+    sought_known c form h = record { plan = plan_known verbs.Worst c h.plan; is_form = h.is_form; told = h.told }
 
     pub unnamed_known : (c : Certificate) (name : _) → NamesNoForm call line m c name → NamesNoForm part line m c name
-    unnamed_known c name h = record { plan = plan_known c h.plan; told = h.told; none = h.none }
+    unnamed_known c name h = record { plan = plan_known verbs.Worst c h.plan; told = h.told; none = h.none }
 
     pub sweep_known : (n : ℕ) (limits : List Fraction) → HasSweep call line m n limits → HasSweep part line m n limits
     sweep_known n limits h = record {
@@ -184,6 +163,6 @@ module _ (call : Call) (known : Known call.source) where
 
     pub spot_known : (spot : Spot) → IsWideSpot call line m spot → IsWideSpot part line m spot
     spot_known spot (elaborating h makes first) = elaborating (model_known h) makes first
-    spot_known spot (checking c place h e verdict) = checking c place (certificate_known c h) e verdict
+    spot_known spot (checking c place h e verdict) = checking c place (certificate_known verbs.Check c h) e verdict
     spot_known spot (replaying c bytes number h e gives) = replaying c bytes number (scenarios_known c bytes h) e gives
     spot_known spot (searching c form h wide) = searching c form (sought_known c form h) wide

@@ -18,7 +18,8 @@ use Rattle.rob_top.specs.declared.ended.Ended.TheVariants.{Optimal, Infeasible, 
 use Rattle.rob_words.specs.Commands.{Line}
 use Rattle.rob_words.specs.declared.verb.Own.TheVariants as own
 use Rattle.rob_top.proofs.SplitKnownLemmas.{empty_cell_known, no_cells_known, pieced_known, split_text_known, wide_split_known}
-use Rattle.rob_top.proofs.KnownInputs.{came_all, absent_known, file_held, forms_known, file_known, certificate_known, scenarios_known, lacking_known, whole_known, tree_file_known, tree_known, breaking_known, sought_known, unplanned_known, unnamed_known, sweep_known, limit_known, breaking_sweep_known, spot_known}
+use Rattle.rob_top.proofs.KnownInputs.{came_all, absent_known, file_held, forms_known, file_known, certificate_known, scenarios_known, lacking_known, whole_known, tree_file_known, tree_known, breaking_known, sought_known, unnamed_known, sweep_known, limit_known, breaking_sweep_known, spot_known}
+use Rattle.rob_words.specs.declared.verb.Verb.TheVariants as verbs
 
 module _ (call : Call) (known : Known call.source) where
   abbrev part : Call
@@ -172,7 +173,7 @@ module _ (call : Call) (known : Known call.source) where
     line = h.line;
     m = h.m;
     c = h.c;
-    read = (certificate_known call known) h.line h.m h.c h.read;
+    read = (certificate_known call known) h.line h.m verbs.Check h.c h.read;
     verdict = h.verdict;
     proves = h.proves;
     holds = h.holds;
@@ -192,7 +193,7 @@ module _ (call : Call) (known : Known call.source) where
     line = h.line;
     m = h.m;
     c = h.c;
-    read = (certificate_known call known) h.line h.m h.c h.read;
+    read = (certificate_known call known) h.line h.m verbs.Check h.c h.read;
     verdict = h.verdict;
     proves_not = h.proves_not;
     printed = h.printed;
@@ -338,20 +339,20 @@ module _ (call : Call) (known : Known call.source) where
     line = h.line;
     m = h.m;
     bytes = h.bytes;
-    file = (file_known call known) h.line h.m h.bytes h.file;
+    file = (file_known call known) h.line h.m verbs.Check h.bytes h.file;
     breaks = h.breaks;
     printed = h.printed;
   })
   means_known (Cert rule number) text (not_replayed h) = not_replayed (record {
     line = h.line;
     m = h.m;
-    lacks = (lacking_known call known) h.line h.m rule number h.lacks;
+    lacks = (lacking_known call known) h.line h.m verbs.Replay rule number h.lacks;
     printed = h.printed;
   })
   means_known (Cert rule number) text (not_searched h) = not_searched (record {
     line = h.line;
     m = h.m;
-    gives_none = (unplanned_known call known) h.line h.m rule number h.gives_none;
+    lacks = (lacking_known call known) h.line h.m verbs.Worst rule number h.lacks;
     printed = h.printed;
   })
   means_known NoRow text h = record {

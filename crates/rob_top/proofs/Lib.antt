@@ -20,6 +20,7 @@ pub mod RouteLemmas
 pub mod SolvingLemmas
 pub mod NumberCourseLemmas
 pub mod StageLemmas
+pub mod ReadOnceLemmas
 pub mod CommandLemmas
 pub mod SoughtLemmas
 pub mod WorstAnswerLemmas

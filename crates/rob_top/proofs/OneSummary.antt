@@ -42,11 +42,11 @@ module _ (call : Call) (l : Line) (n : ℕ) (asks : AsksFor call l n) where
       by : Prints call text → (h : IsCompared call text) × (h.number ≡ n)
       by (ways.rows h) = other Rows (λ e. cc) h.line h.forms.model.spelled h.is_rows
       by (ways.replayed h) =
-          other Replay (λ e. cc) h.line h.has.certificate.file.model.spelled h.has.certificate.file.is_replay
+          other Replay (λ e. cc) h.line h.has.plan.certificate.file.read.spelled h.has.plan.certificate.file.is_verb
       by (ways.generated h) = other Text (λ e. cc) h.line h.spelled h.is_text
       by (ways.worst_found h) =
-          other Worst (λ e. cc) h.line h.has.plan.certificate.file.forms.model.spelled
-          h.has.plan.certificate.file.is_worst
+          other Worst (λ e. cc) h.line h.has.plan.certificate.file.read.model.spelled
+          h.has.plan.certificate.file.is_verb
       by (ways.priced h) = other Sweep (λ e. cc) h.line h.has.model.spelled h.has.is_sweep
       by (ways.limited h) = other SweepText (λ e. cc) h.line h.has.model.spelled h.has.is_text
       by (ways.narrowed h) = other Narrow (λ e. cc) h.line h.forms.model.spelled h.is_narrow

@@ -47,8 +47,8 @@ is_naming v = not (is_branching_work (work_of v)) || has_kind Names (own_of v)
 
 pub has_names : (verb : Verb) → IsBranching verb → has_kind Names (own_of verb) ≡ true
 has_names verb is =
-    second_of (not (is_branching_work (work_of verb))) (has_kind Names (own_of verb)) (each_value enum is_naming refl verb)
-    (ap (λ (w : Work). not (is_branching_work w)) is)
+    second_of (not (is_branching_work (work_of verb))) (has_kind Names (own_of verb))
+    (each_value enum is_naming refl verb) (ap (λ (w : Work). not (is_branching_work w)) is)
 
 -- `worst` has the name of a form
 pub has_form : (verb : Verb) → verb ≡ Worst → has_kind Form (own_of verb) ≡ true

@@ -1,38 +1,39 @@
 -- The text that `prove` printed, as `worst` takes it for the same model at the same width.
 use Rattle.std.proofs.Common.{◌≡◌, ℕ, List, sym, ◌∙◌, ap, subst}
-use Rattle.rob_meaning.specs.Certificates.{Certificate, Status, infeasible}
+use Rattle.rob_meaning.specs.Certificates.{Certificate, Status}
 use Rattle.rob_meaning.specs.RobustModel.{RobustModel}
-use Rattle.rob_top.proofs.CompletenessLemmas.{printed_fits, printed_text}
-use Rattle.rob_top.proofs.CourseLemmas.{lacking_verb}
+use Rattle.rob_top.proofs.CompletenessLemmas.{SaysInfeasible, printed_fits, printed_text}
 use Rattle.rob_top.proofs.KnownInputs.{known_again, sought_known}
 use Rattle.rob_top.proofs.KnownLemmas.{means_known}
-use Rattle.rob_top.proofs.SoughtLemmas.{forms_unplanned}
-use Rattle.rob_top.proofs.StageLemmas.{lacking_model, one_model_read}
-use Rattle.rob_top.proofs.WorstAnswerLemmas.{no_breach, one_certificate, proved_keeps}
+use Rattle.rob_top.proofs.ReadOnceLemmas.{no_breach, one_certificate}
+use Rattle.rob_top.proofs.SoughtLemmas.{forms_unplanned, lacking_model, lacking_verb}
+use Rattle.rob_top.proofs.StageLemmas.{one_model_read}
+use Rattle.rob_top.proofs.WorstAnswerLemmas.{proved_keeps}
 use Rattle.rob_top.specs.Calls.{Call, Known, known_call}
 use Rattle.rob_top.specs.Commands as works
 use Rattle.rob_top.specs.Commands.{Work, work_of}
 use Rattle.rob_top.specs.Headline.{Means}
-use Rattle.rob_top.specs.Inputs.{HasModel, HasSought, HasWorstCertificate, HasWorstFile}
-use Rattle.rob_top.specs.Searched.{GivesNoPlan, IsSearched, ShowsKept, certificate_vector, claims_none, misread}
+use Rattle.rob_top.specs.Inputs.{HasModel, HasSought, HasCertificate, HasCertificateFile, LacksPlan, planless, unread}
+use Rattle.rob_top.specs.Searched.{IsSearched, ShowsKept, certificate_vector}
 use Rattle.rob_top.specs.Solved.{IsSolved}
 use Rattle.rob_top.specs.Ways.{not_checked, not_replayed, not_searched}
 use Rattle.rob_top.specs.declared.ended.Ended.TheVariants.{Cert}
 use Rattle.rob_words.proofs.Spellings.{one_line}
 use Rattle.rob_words.specs.Commands.{Line, IsSpelled}
 use Rattle.rob_words.specs.declared.verb.Verb.TheVariants.{Prove}
+use Rattle.rob_words.specs.declared.verb.Verb.TheVariants as verbs
 
 module _ (proving searching : Call) (status : Status) (text : List ℕ) (solved : IsSolved proving status text)
     (is_prove : solved.line.verb ≡ Prove) (known : Known searching.source) (line : Line)
     (width : line.width ≡ solved.line.width)
-    (file : HasWorstFile (known_call searching known) line solved.m text) where
+    (file : HasCertificateFile (known_call searching known) verbs.Worst line solved.m text) where
   abbrev told : Call
   told = known_call searching known
 
   told_source : Known told.source
   told_source = known_again known
 
-  printed : HasWorstCertificate told line solved.m solved.c
+  printed : HasCertificate told verbs.Worst line solved.m solved.c
   printed = record {
     bytes = text;
     file = file;
@@ -42,49 +43,48 @@ module _ (proving searching : Call) (status : Status) (text : List ℕ) (solved 
 
   -- the line and the model of the call are these
   line_here : (l : Line) → IsSpelled told.words l → l ≡ line
-  line_here l spelled = one_line told.words l line spelled file.forms.model.spelled
+  line_here l spelled = one_line told.words l line spelled file.read.model.spelled
 
   model_here : (l : Line) (m : RobustModel) → HasModel told l m → m ≡ solved.m
-  model_here l m has = one_model_read told l line m solved.m told_source has file.forms.model
+  model_here l m has = one_model_read told l line m solved.m told_source has file.read.model
 
   -- so its work is to search, and no other
   work_here : (w : Work) (l : Line) → IsSpelled told.words l → work_of l.verb ≡ w → works.searching ≡ w
   work_here w l spelled is =
-      sym (ap work_of file.is_worst) ∙ ap (λ (k : Line). work_of k.verb) (sym (line_here l spelled)) ∙ is
+      sym (ap work_of file.is_verb) ∙ ap (λ (k : Line). work_of k.verb) (sym (line_here l spelled)) ∙ is
 
   -- so is the certificate that it read
-  certificate_here : (l : Line) (m : RobustModel) (c : Certificate) → HasWorstCertificate told l m c → c ≡ solved.c
+  certificate_here : (l : Line) (m : RobustModel) (c : Certificate) → HasCertificate told verbs.Worst l m c
+      → c ≡ solved.c
   certificate_here l m c h =
-      let on_line = subst (λ (x : Line). HasWorstCertificate told x m c) (line_here l h.file.forms.model.spelled) h in
+      let has = h.file.read.model in
+      let on_line = subst (λ (x : Line). HasCertificate told verbs.Worst x m c) (line_here l has.spelled) h in
       let on_model =
-      subst (λ (x : RobustModel). HasWorstCertificate told line x c) (model_here l m h.file.forms.model) on_line in
-      one_certificate told told_source line solved.m c solved.c on_model printed
+      subst (λ (x : RobustModel). HasCertificate told verbs.Worst line x c) (model_here l m has) on_line in
+      one_certificate told told_source line solved.m verbs.Worst c solved.c on_model printed
 
   pub shows_kept : (shown : List ℕ) (r : IsSearched searching shown)
       → ShowsKept solved.m r.form (certificate_vector solved.c) shown
   shows_kept shown r =
       let has : HasSought told r.line r.m r.c r.form = sought_known searching known r.line r.m r.c r.form r.has in
-      let same : r.m ≡ solved.m = model_here r.line r.m has.plan.certificate.file.forms.model in
+      let same : r.m ≡ solved.m = model_here r.line r.m has.plan.certificate.file.read.model in
       let alike : r.c ≡ solved.c = certificate_here r.line r.m r.c has.plan.certificate in
       subst (λ (c : Certificate). ShowsKept solved.m r.form (certificate_vector c) shown) alike
       (subst (λ (m : RobustModel). ShowsKept m r.form (certificate_vector r.c) shown) same
       (proved_keeps searching shown r solved.m solved.c same alike solved.proves))
 
-  -- a refusal of it says that the model has no plan
-  abbrev SaysInfeasible : ℕ → ℕ → Type 0
-  SaysInfeasible rule number = (rule ≡ 34) × ((number ≡ 1) × (status ≡ infeasible))
-
-  gives_here : (rule number : ℕ) (l : Line) (m : RobustModel) → GivesNoPlan told l m rule number
-      → GivesNoPlan told line solved.m rule number
+  gives_here : (rule number : ℕ) (l : Line) (m : RobustModel) → LacksPlan told verbs.Worst l m rule number
+      → LacksPlan told verbs.Worst line solved.m rule number
   gives_here rule number l m h =
       let has : HasModel told l m = (forms_unplanned told l m rule number h).model in
-      subst (λ (x : RobustModel). GivesNoPlan told line x rule number) (model_here l m has)
-      (subst (λ (x : Line). GivesNoPlan told x m rule number) (line_here l has.spelled) h)
+      subst (λ (x : RobustModel). LacksPlan told verbs.Worst line x rule number) (model_here l m has)
+      (subst (λ (x : Line). LacksPlan told verbs.Worst x m rule number) (line_here l has.spelled) h)
 
-  none_says : (rule number : ℕ) → GivesNoPlan told line solved.m rule number → SaysInfeasible rule number
-  none_says rule number (misread bytes other breach) =
-      absurd (no_breach told told_source line solved.m solved.c bytes rule number printed other breach)
-  none_says rule number (claims_none c h is r n) = (
+  none_says : (rule number : ℕ) → LacksPlan told verbs.Worst line solved.m rule number
+      → SaysInfeasible status rule number
+  none_says rule number (unread bytes other breach) =
+      absurd (no_breach told told_source line solved.m verbs.Worst solved.c bytes rule number printed other breach)
+  none_says rule number (planless c h is r n) = (
     r,
     (
       n,
@@ -94,15 +94,15 @@ module _ (proving searching : Call) (status : Status) (text : List ℕ) (solved 
   )
 
   pub unplanned_says : (rule number : ℕ) (shown : List ℕ) → Means searching (Cert rule number) shown
-      → SaysInfeasible rule number
+      → SaysInfeasible status rule number
   unplanned_says rule number shown means = by (means_known searching known (Cert rule number) shown means)
     where
-      by : Means told (Cert rule number) shown → SaysInfeasible rule number
+      by : Means told (Cert rule number) shown → SaysInfeasible status rule number
       by (not_checked h) =
           absurd (let no : works.searching ≡ works.checking =
-          work_here works.checking h.line h.file.forms.model.spelled (ap work_of h.file.is_check) in cc)
+          work_here works.checking h.line h.file.read.model.spelled (ap work_of h.file.is_verb) in cc)
       by (not_replayed h) =
           absurd (let no : works.searching ≡ works.replaying =
-          work_here works.replaying h.line (lacking_model told h.line h.m rule number h.lacks).spelled
-          (ap work_of (lacking_verb told h.line h.m rule number h.lacks)) in cc)
-      by (not_searched h) = none_says rule number (gives_here rule number h.line h.m h.gives_none)
+          work_here works.replaying h.line (lacking_model told h.line h.m verbs.Replay rule number h.lacks).spelled
+          (ap work_of (lacking_verb told h.line h.m verbs.Replay rule number h.lacks)) in cc)
+      by (not_searched h) = none_says rule number (gives_here rule number h.line h.m h.lacks)

@@ -25,9 +25,8 @@ use Rattle.rob_top.specs.Answers.{certificate_fault_text, scenarios_fault_text}
 use Rattle.rob_top.specs.Calls.{Count, count}
 use Rattle.rob_top.specs.Files.{HasFile}
 use Rattle.rob_top.specs.Headline.{Means}
-use Rattle.rob_top.specs.Inputs.{BreaksCertificate}
+use Rattle.rob_top.specs.Inputs.{BreaksCertificate, planless, unread}
 use Rattle.rob_top.specs.Refused.{replaying}
-use Rattle.rob_top.specs.Replayed.{planless, unread}
 use Rattle.rob_top.specs.Replies.{Replies}
 use Rattle.rob_top.specs.Work.{AnswersModel, AnswersPlan, AnswersReplay, AnswersScenarios}
 use Rattle.rob_top.specs.Ways.{in_model, not_replayed, replayed}
@@ -111,7 +110,7 @@ module _ (limit : ℕ) (m : RobustModel) where
           wide = replaying c text number has refl
               (subst (λ (l : ℕ). Gives (outcome l m c.plan) text (Err (is_wide number))) (sym at.limit_is) gives);
           raised = at.raised rose;
-          printed = told_alone call line m has.certificate.file.model (ap takes_route at.verb_is) reply.text
+          printed = told_alone call line m has.plan.certificate.file.read (ap takes_route at.verb_is) reply.text
               (too_wide_line m (spot.Replay number)) is.1;
         }))
 
@@ -129,7 +128,8 @@ module _ (limit : ℕ) (m : RobustModel) where
         → IfOk r (AnswersPlan limit wides m c text)
     plan_answers wides (Err want) some h = tt
     plan_answers wides (Ok reply) some h =
-        λ call line at read file. h call line at (record { certificate = read; has_plan = some; file = file })
+        λ call line at read file.
+        h call line at (record { plan = record { certificate = read; has_plan = some }; file = file })
 
   -- ---- a certificate's text
   pub unread_answers : (wides : Count) (certificate text : List ℕ) (rule number : ℕ) (r : Result Reply Want)
@@ -179,8 +179,8 @@ module _ (limit : ℕ) (m : RobustModel) where
       in
       h call line (call_of_verb limit wides verb Replay call line e at)
       (record {
-        model = has;
-        is_replay = here;
+        read = has;
+        is_verb = here;
         file = subst (λ (list : List ℕ). HasFile call line own.Certificate list) (sym same)
             (file_came call line texts own.Certificate _ refl came (names own.Certificate refl));
       })

@@ -145,7 +145,7 @@ module _ (limit : ℕ) (m : RobustModel) (form : ℕ) (c : Certificate) where
         wide = searching c form has
             (subst (λ (l : ℕ). IsWideSought l m form z place) (sym at.limit_is) (wide_sought place trace cause));
         raised = at.raised rose;
-        printed = told_alone call line m has.plan.certificate.file.forms.model (ap takes_route at.verb_is) reply.text
+        printed = told_alone call line m has.plan.certificate.file.read.model (ap takes_route at.verb_is) reply.text
             (too_wide_line m place) is.1;
       }))
   stop_answers before now stop.Memory reply cause counts is = absurd is

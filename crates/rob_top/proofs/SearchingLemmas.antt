@@ -6,7 +6,6 @@ use Rattle.rob_algebra.specs.Fraction.{Fraction, of_int, ◌+ℚ◌, ◌≤ℚ�
 use Rattle.rob_algebra.specs.FractionLaws.{le_trans_ℚ, lt_irrefl_ℚ, lt_le_trans_ℚ}
 use Rattle.rob_algebra.specs.Width.{Fits, IsWide}
 use Rattle.rob_cert.specs.Apart.{FitsLines}
-use Rattle.rob_cert.specs.Causes as text
 use Rattle.rob_cert.specs.Spelling.{name_at}
 use Rattle.rob_cert.specs.Whole.{IsTextOf}
 use Rattle.rob_cert.specs.declared.ending.Worst as ending
@@ -45,10 +44,10 @@ use Rattle.rob_top.specs.Answers.{certificate_fault_text, no_row_text}
 use Rattle.rob_top.specs.Calls.{Count, count, limit_of}
 use Rattle.rob_top.specs.Files.{HasFile, word_of}
 use Rattle.rob_top.specs.Headline.{Means}
-use Rattle.rob_top.specs.Inputs.{BreaksCertificate}
+use Rattle.rob_top.specs.Inputs.{BreaksCertificate, planless, unread}
 use Rattle.rob_top.specs.Refused.{searching}
 use Rattle.rob_top.specs.Replies.{Replies}
-use Rattle.rob_top.specs.Searched.{IsWideSought, IsWorstScenario, ShowsKept, ShowsWorst, attained, certificate_vector, claims_none, endless, in_slack, misread}
+use Rattle.rob_top.specs.Searched.{IsWideSought, IsWorstScenario, ShowsKept, ShowsWorst, attained, certificate_vector, endless, in_slack}
 use Rattle.rob_top.specs.Work.{AnswersPlanned, AnswersSearch, AnswersSearched, AnswersSought, AnswersWhole, HasScale, RepliesSlack, RepliesWorst}
 use Rattle.rob_top.specs.Ways.{in_model, not_searched, worst_found}
 use Rattle.rob_top.specs.declared.ended.Ended.{Ended}
@@ -100,8 +99,8 @@ module _ (limit : ℕ) (m : RobustModel) where
       in
       h call line (call_of_verb limit wides verb Worst call line e at)
       (record {
-        forms = has;
-        is_worst = here;
+        read = has;
+        is_verb = here;
         file = subst (λ (list : List ℕ). HasFile call line own.Certificate list) (sym same)
             (file_came call line texts own.Certificate _ refl came names);
       })
@@ -119,7 +118,7 @@ module _ (limit : ℕ) (m : RobustModel) where
         (not_searched (record {
           line = line;
           m = m;
-          gives_none = misread certificate file
+          lacks = unread certificate file
               (subst (λ (l : ℕ). BreaksCertificate l m certificate rule number)
               (sym at.limit_is) broken);
           printed = is.1;
@@ -150,7 +149,7 @@ module _ (limit : ℕ) (m : RobustModel) where
       claims_none_answers (Err want) none is = tt
       claims_none_answers (Ok reply) none is = λ call line at read told.
           subst (λ (ended : Ended). Means call ended reply.text) (sym is.0)
-          (not_searched (record { line = line; m = m; gives_none = claims_none c read none refl refl; printed = is.1 }))
+          (not_searched (record { line = line; m = m; lacks = planless c read none refl refl; printed = is.1 }))
 
       pub planned_answers : (r : Result Reply Want) → c.status ≢ infeasible
           → IfOk r (AnswersPlanned limit wides m c name)
@@ -255,7 +254,7 @@ module _ (limit : ℕ) (m : RobustModel) where
                 (subst (λ (l : ℕ). IsWideSought l m form z (spot.Sum (where_at.Cost form) 0)) (sym at.limit_is)
                 (in_slack (scenario, is_worst.admitted) refl (slack_wide h.2)));
             raised = at.raised h.1;
-            printed = told_alone call line m has.plan.certificate.file.forms.model
+            printed = told_alone call line m has.plan.certificate.file.read.model
                 (ap takes_route at.verb_is) reply.text
                 (too_wide_line m (spot.Sum (where_at.Cost form) 0)) h.0.1;
           }))

@@ -17,9 +17,10 @@ use Rattle.rob_top.proofs.ComingLemmas.{Comes, comes_ends, ends_in}
 use Rattle.rob_top.proofs.CommandLemmas.{two_verbs}
 use Rattle.rob_top.proofs.CutTellingLemmas.{cuts_at_once, cuts_inside}
 use Rattle.rob_top.proofs.NarrowAnswerLemmas.{has_status}
+use Rattle.rob_top.proofs.ReadOnceLemmas.{named, well}
 use Rattle.rob_top.proofs.SplitCourseLemmas.{SplitCourse, breaks_cells, cells_model, cells_splits, finds_pieces, shows_empty_cell, wide_cell, writes_split}
 use Rattle.rob_top.proofs.SplittingLemmas.{admits_each, each_admits, split_model_is, status_over_pieces}
-use Rattle.rob_top.proofs.TrueAnswerLemmas.{first_of_two, named, unformed_course, well}
+use Rattle.rob_top.proofs.TrueAnswerLemmas.{first_of_two, unformed_course}
 use Rattle.rob_top.specs.Calls.{Call, Known, limit_of}
 use Rattle.rob_top.specs.Endings.{EndsAs}
 use Rattle.rob_top.specs.Headline.{Means}

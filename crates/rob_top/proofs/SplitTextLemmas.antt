@@ -274,4 +274,4 @@ module _ (printing : Call) (text : List ℕ) (split : IsSplitText printing text)
         } in
         subst (λ (x : RobustModel). IsProvedAnswer (limit_of other) x solved.c ended) same
         (proved_then_checked proving checking again status certificate solved other ended is_prove width
-        (record { forms = forms; is_check = is_check; file = file }) must)
+        (record { read = forms; is_verb = is_check; file = file }) must)

@@ -64,7 +64,8 @@ use Rattle.rob_elab.specs.Written.{IsWritten}
 
 cut_list : (limit : ℕ) (wides : Count) (verb : Verb) (call : Call) (line : Line) (m : RobustModel) (word : Word)
     → IsCallAt limit wides verb call line → HasModel call line m → TellsCuts line word → IsCutList limit word
-cut_list limit wides verb call line m word at has told = own_of_kind limit call line Cuts word has.spelled at.limit_is told
+cut_list limit wides verb call line m word at has told =
+    own_of_kind limit call line Cuts word has.spelled at.limit_is told
 
 -- a command that cuts has a word of cuts
 abbrev tells_cuts : Verb → Bool
@@ -72,8 +73,8 @@ tells_cuts v = not (is_splitting_work (work_of v)) || has_kind Cuts (own_of v)
 
 pub cuts_there : (verb : Verb) → IsSplitting verb → has_kind Cuts (own_of verb) ≡ true
 cuts_there verb is =
-    second_of (not (is_splitting_work (work_of verb))) (has_kind Cuts (own_of verb)) (each_value enum tells_cuts refl verb)
-    (ap (λ (w : Work). not (is_splitting_work w)) is)
+    second_of (not (is_splitting_work (work_of verb))) (has_kind Cuts (own_of verb))
+    (each_value enum tells_cuts refl verb) (ap (λ (w : Work). not (is_splitting_work w)) is)
 
 -- it is `cells` or `celltext`
 abbrev is_either : Verb → Bool

@@ -17,7 +17,7 @@ use Rattle.rob_top.proofs.CourseLemmas.{Course, accepted_course, branched_course
 use Rattle.rob_top.proofs.FilesLemmas.{empty_split}
 use Rattle.rob_top.proofs.OwnLemmas.{number_no_file, number_no_files}
 use Rattle.rob_top.proofs.NumberCourseLemmas.{NumberCourse, compared_course, wide_compared_course, writes_model}
-use Rattle.rob_top.proofs.SoughtLemmas.{forms_sought, forms_unnamed, forms_unplanned}
+use Rattle.rob_top.proofs.SoughtLemmas.{forms_sought, forms_unnamed, lacking_model}
 use Rattle.rob_top.specs.Branched.{BreaksWhole, no_ranges, no_variables}
 use Rattle.rob_top.proofs.SplitCourseLemmas.{breaks_cells, cells_model, cells_splits, empty_cell_course, pieced_course, wide_split_course, written_course}
 use Rattle.rob_top.specs.Calls.{Call, Known, by_fetches, by_files, limit_of}
@@ -27,7 +27,6 @@ use Rattle.rob_top.specs.Files.{Came, HasFile, IsFirstAbsent, IsFound, NamesFile
 use Rattle.rob_top.specs.Headline.{Means}
 use Rattle.rob_top.specs.Inputs.{HasModel}
 use Rattle.rob_top.specs.Refused.{IsNoModel, IsWideSpot, checking, elaborating, replaying, searching}
-use Rattle.rob_top.specs.Replayed.{LacksPlan, planless, unread}
 use Rattle.rob_top.specs.Swept.{BreaksSweep, at_limit, at_limits}
 use Rattle.rob_top.specs.Ways.{solved, branched, rows, replayed, generated, compared, worst_found, priced, limited, narrowed, a_certificate, a_tree, while_solving, while_branching, while_searching, in_model, on_way, while_growing, while_checking, not_checked, not_replayed, not_searched, pieced, split_written, in_cells, in_split, in_summary}
 use Rattle.rob_top.specs.declared.ended.Ended.{Ended}
@@ -37,6 +36,7 @@ use Rattle.rob_words.specs.Values.{Word}
 use Rattle.rob_words.specs.declared.verb.Own.{Own}
 use Rattle.rob_words.specs.declared.verb.Own.TheVariants as own
 use Rattle.rob_words.proofs.Spellings.{one_line}
+use Rattle.rob_words.specs.declared.verb.Verb.TheVariants as verbs
 
 -- how far the call came
 pub data Stage (call : Call) (ended : Ended) : Type 0 where
@@ -54,14 +54,9 @@ pub data Stage (call : Call) (ended : Ended) : Type 0 where
 wide_model : (call : Call) (line : Line) (m : RobustModel) (spot : Spot)
     → IsWideSpot call line m spot → HasModel call line m
 wide_model call line m spot (elaborating has makes first) = has
-wide_model call line m spot (checking c place has is verdict) = has.file.forms.model
-wide_model call line m spot (replaying c bytes number has is gives) = has.certificate.file.model
+wide_model call line m spot (checking c place has is verdict) = has.file.read.model
+wide_model call line m spot (replaying c bytes number has is gives) = has.plan.certificate.file.read
 wide_model call line m spot (searching c form has wide) = (forms_sought call line m c form has).model
-
-pub lacking_model : (call : Call) (line : Line) (m : RobustModel) (rule number : ℕ)
-    → LacksPlan call line m rule number → HasModel call line m
-lacking_model call line m rule number (unread bytes h breach) = h.model
-lacking_model call line m rule number (planless c h is r n) = h.file.model
 
 breaking_model : (call : Call) (line : Line) (m : RobustModel) (rule : ℕ)
     → BreaksWhole call line m rule → HasModel call line m
@@ -90,7 +85,7 @@ stage_of call Unbounded text (pieced h) =
     read h.line h.m h.has.has_cuts.has_word.model
     (does works.splitting h.has.has_cuts.has_word.is_splitting (pieced_course call unbounded text h))
 stage_of call Printed text (rows h) = read h.line h.m h.forms.model (rows_course call text h)
-stage_of call Printed text (replayed h) = read h.line h.m h.has.certificate.file.model (replayed_course call text h)
+stage_of call Printed text (replayed h) = read h.line h.m h.has.plan.certificate.file.read (replayed_course call text h)
 stage_of call Printed text (generated h) =
     answers_number h.line h.spelled (ap reads_model h.is_text) (writes_model h.is_text refl)
 stage_of call Printed text (compared h) =
@@ -103,10 +98,10 @@ stage_of call Printed text (narrowed h) = read h.line h.m h.forms.model (narrowe
 stage_of call Printed text (split_written h) =
     read h.line h.m h.has.has_cuts.has_word.model
     (does works.splitting h.has.has_cuts.has_word.is_splitting (written_course call text h))
-stage_of call Accepted text (a_certificate h) = read h.line h.m h.read.file.forms.model (accepted_course call text h)
+stage_of call Accepted text (a_certificate h) = read h.line h.m h.read.file.read.model (accepted_course call text h)
 stage_of call Accepted text (a_tree h) =
     read h.line h.m h.read.file.variables.named.model (tree_accepted_course call text h)
-stage_of call (Rejected place) text h = read h.line h.m h.read.file.forms.model (rejected_course call place text h)
+stage_of call (Rejected place) text h = read h.line h.m h.read.file.read.model (rejected_course call place text h)
 stage_of call (TreeRejected number fault) text h =
     read h.line h.m h.read.file.variables.named.model (tree_rejected_course call number fault text h)
 stage_of call Words text h = wordless h.0
@@ -145,16 +140,17 @@ stage_of call (TooWide spot) text (in_split h) =
 stage_of call (TooWide spot) text (in_summary h) =
     answers_number h.line h.asks.spelled (ap reads_model h.asks.is_gen) (wide_compared_course call spot text h)
 stage_of call (Cert rule number) text (not_checked h) =
-    read h.line h.m h.file.forms.model (cert_course call rule number text h)
+    read h.line h.m h.file.read.model (cert_course call rule number text h)
 stage_of call (Cert rule number) text (not_replayed h) =
-    read h.line h.m (lacking_model call h.line h.m rule number h.lacks) (lacking_course call rule number text h)
+    read h.line h.m (lacking_model call h.line h.m verbs.Replay rule number h.lacks)
+    (lacking_course call rule number text h)
 stage_of call (Cert rule number) text (not_searched h) =
-    read h.line h.m (forms_unplanned call h.line h.m rule number h.gives_none).model
+    read h.line h.m (lacking_model call h.line h.m verbs.Worst rule number h.lacks)
     (unplanned_course call rule number text h)
 stage_of call NoRow text h =
     read h.line h.m (forms_unnamed call h.line h.m h.c h.name h.names_none).model (no_row_course call text h)
 stage_of call (Scenarios rule number) text h =
-    read h.line h.m h.has.certificate.file.model (scenarios_course call rule number text h)
+    read h.line h.m h.has.plan.certificate.file.read (scenarios_course call rule number text h)
 stage_of call ReadFault text h = failed h.0 refl
 stage_of call WriteFault text h = absurd h
 stage_of call Memory text h = absurd h

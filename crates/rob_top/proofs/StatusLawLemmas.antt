@@ -165,7 +165,7 @@ module _ (call : Call) (known : Known call.source) (line : Line) (bytes : List â
       by (while_branching s) = absurd (no_branch s.line s.m s.has.named.model s.branches)
       by (while_searching s) =
           let file = s.has.plan.certificate.file in
-          absurd (no_search s.line s.m file.forms.model file.is_worst)
+          absurd (no_search s.line s.m file.read.model file.is_verb)
       by (in_cells s) =
           absurd (no_split s.line s.m s.has.has_cuts.has_word.model s.has.has_cuts.has_word.is_splitting)
 

@@ -12,10 +12,11 @@ use Rattle.rob_tree.specs.TreeText.{IsTextOfTree}
 use Rattle.rob_tree.specs.Shape.{HasTreeShape}
 use Rattle.rob_top.proofs.BranchingLemmas.{kept_bounds}
 use Rattle.rob_top.proofs.NamingLemmas.{breaking_verb}
+use Rattle.rob_top.proofs.ReadOnceLemmas.{well, named, in_words, most}
 use Rattle.rob_top.proofs.StageLemmas.{file_once}
 use Rattle.rob_top.proofs.TreeCheckLemmas.{rejected_not}
 use Rattle.rob_top.proofs.TreeCourseLemmas.{TreeCourse, breaks_names, breaks_text, judges_tree}
-use Rattle.rob_top.proofs.TrueAnswerLemmas.{first_of_two, in_words, most, named, unformed_course, well}
+use Rattle.rob_top.proofs.TrueAnswerLemmas.{first_of_two, unformed_course}
 use Rattle.rob_top.proofs.WholeAnswerLemmas.{branching_decides, model_of, no_break, one_rule, whole_once}
 use Rattle.rob_top.specs.Branched.{BreaksWhole}
 use Rattle.rob_top.specs.Calls.{Call, Known, limit_of}

@@ -2,34 +2,23 @@
 -- then the first wide number; and then the command.
 use Rattle.std.proofs.Common.{◌≡◌, ℕ, ◌-◌, ◌^◌, ◌≤◌, false, List, refl, sym, ◌∙◌, ap, subst, inl, inr, ◌⊎◌}
 use Rattle.rob_algebra.specs.Fraction.{Fraction}
-use Rattle.rob_cert.specs.Apart.{IsNamedInWords}
-use Rattle.rob_cert.specs.Whole.{IsTextOf}
-use Rattle.rob_cert.proofs.OneCertificate.{read_once}
-use Rattle.rob_cert.proofs.SpellingLaws.{breaks_none}
 use Rattle.rob_check.specs.Conditions.{verdict_of}
 use Rattle.rob_meaning.specs.Certificates.{Certificate, Status, optimal, infeasible, unbounded}
-use Rattle.rob_meaning.specs.Named.{IsNamed}
 use Rattle.rob_meaning.specs.Proves.{HasStatus}
 use Rattle.rob_meaning.specs.RobustModel.{RobustModel}
 use Rattle.rob_meaning.specs.UncertaintySet.{Admits, IsEmptySet}
-use Rattle.rob_meaning.specs.WellFormed.{IsModel}
 use Rattle.rob_model.specs.declared.place.Spot.{Spot}
-use Rattle.rob_number.specs.Lowest.{limit_high, limit_low}
 use Rattle.rob_outside.specs.Files.{missing, too_long}
-use Rattle.rob_parse.proofs.Building.PlacedLemmas.{well_formed}
 use Rattle.rob_parse.proofs.Building.OneModel.{not_both}
-use Rattle.rob_parse.proofs.Names.WellNamed.{well_named, well_spelled}
 use Rattle.rob_rules.specs.Texts.{Breaks}
 use Rattle.rob_sets.specs.FirstWide.{IsFirstWide}
 use Rattle.rob_branch.proofs.OneSpotLemmas.{first_once, none_first}
-use Rattle.rob_cert.proofs.OneBreach.{one_cause}
 use Rattle.rob_top.proofs.AbsentAnswerLemmas.{no_missing, no_too_long}
-use Rattle.rob_top.proofs.CertificateNameLemmas.{named_in_words}
 use Rattle.rob_top.proofs.CommandLemmas.{makes_none}
 use Rattle.rob_top.proofs.CourseLemmas.{CheckCourse, Course, SolveCourse, WorkCourse, course_at, does, finds, forms_of, judges, refuses, same_work, shows_empty, wide_number, wide_row}
+use Rattle.rob_top.proofs.ReadOnceLemmas.{no_breach, one_certificate, one_breach}
 use Rattle.rob_top.proofs.RouteLemmas.{empty_on_way}
 use Rattle.rob_top.proofs.StageLemmas.{Stage, absent, answers_number, broken, broken_here, failed, file_once, none_absent, number_here, one_model_read, over, read, same_status, stage_of, wanting, wordless}
-use Rattle.rob_top.proofs.WorkLemmas.{limit_is}
 use Rattle.rob_top.specs.Calls.{Call, Known, limit_of}
 use Rattle.rob_top.specs.Commands as works
 use Rattle.rob_top.specs.Commands.{IsElaborating, IsSolving, Work, makes_forms, work_of}
@@ -42,11 +31,11 @@ use Rattle.rob_top.specs.Work.{ended_of, verdict_ended}
 use Rattle.rob_top.specs.declared.ended.Ended.{Ended}
 use Rattle.rob_top.specs.declared.ended.Ended.TheVariants.{Printed, EmptySet, TooWide, Cert, ReadFault, Memory}
 use Rattle.rob_words.specs.Commands.{Line}
-use Rattle.rob_words.specs.Values.{bits_of}
 use Rattle.rob_words.specs.declared.verb.Own.TheVariants as own
 use Rattle.rob_words.specs.declared.verb.Verb.TheVariants.{Rows}
 use Rattle.rob_words.proofs.Spellings.{one_line}
 use Rattle.rob_elab.specs.Written.{judged}
+use Rattle.rob_words.specs.declared.verb.Verb.TheVariants as verbs
 
 -- ---- answers
 pub first_of_two : {A B C : Type 0} → (A → B) → A ⊎ C → B ⊎ C
@@ -198,73 +187,33 @@ module _ (call : Call) (known : Known call.source) where
         by (wide_row spot forms wide e) = absurd (narrow spot wide)
 
     -- ---- `check`
-    same_file : (bytes other : List ℕ) → HasCertificateFile call line m bytes
-        → HasCertificateFile call line m other → bytes ≡ other
-    same_file bytes other h k = file_once call line own.Certificate bytes other known h.file k.file
-
-    pub least : 1 ≤ limit_of line
-    least = subst (λ (l : ℕ). 1 ≤ l) (limit_is line.width) (limit_low (bits_of line.width))
-
-    pub most : limit_of line ≤ 2 ^ 62 - 1
-    most = subst (λ (l : ℕ). l ≤ 2 ^ 62 - 1) (limit_is line.width) (limit_high (bits_of line.width))
-
-    pub well : HasModel call line m → IsModel m
-    well has = well_formed (limit_of line) has.bytes m has.reads least
-
-    pub named : HasModel call line m → IsNamed m
-    named has = well_named (limit_of line) has.bytes m has.reads
-
-    pub in_words : HasModel call line m → IsNamedInWords m
-    in_words has = named_in_words m (well_spelled (limit_of line) has.bytes m has.reads)
-
-    -- a certificate's text breaks no rule
-    no_breach : (c : Certificate) (bytes : List ℕ) (rule number : ℕ) → HasCertificate call line m c
-        → HasCertificateFile call line m bytes
-        → BreaksCertificate (limit_of line) m bytes rule number → ⊥
-    no_breach c bytes rule number h file breach =
-        let same : bytes ≡ h.bytes = same_file bytes h.bytes file h.file in
-        let has : HasModel call line m = h.file.forms.model in
-        breaks_none m (limit_of line) c bytes (well has) (named has) (in_words has) most
-        (subst (λ (b : List ℕ). IsTextOf m c b) (sym same) h.text) h.fits rule number breach
-
-    -- and is that of one certificate
-    one_certificate : (c d : Certificate) → HasCertificate call line m c → HasCertificate call line m d → c ≡ d
-    one_certificate c d h k =
-        let same : h.bytes ≡ k.bytes = same_file h.bytes k.bytes h.file k.file in
-        let has : HasModel call line m = h.file.forms.model in
-        read_once m (limit_of line) c d k.bytes (well has) (named has) (in_words has) most
-        (subst (λ (b : List ℕ). IsTextOf m c b) same h.text) k.text h.fits k.fits
-
-    pub verdict_decides : (c : Certificate) → HasCertificate call line m c
+    pub verdict_decides : (c : Certificate) → HasCertificate call verbs.Check line m c
         → (ended : Ended) (text : List ℕ) → Means call ended text
         → (ended ≡ verdict_ended (verdict_of (limit_of line) m c)) ⊎ ((ended ≡ ReadFault) ⊎ (ended ≡ Memory))
     verdict_decides c has ended text means =
-        first_of_two by (formed_course has.file.forms works.checking (ap work_of has.file.is_check) ended text means)
+        first_of_two by (formed_course has.file.read works.checking (ap work_of has.file.is_verb) ended text means)
       where
         by : CheckCourse call line m ended → ended ≡ verdict_ended (verdict_of (limit_of line) m c)
         by (judges d h e) =
-            e ∙ ap (λ (x : Certificate). verdict_ended (verdict_of (limit_of line) m x)) (one_certificate d c h has)
-        by (refuses bytes rule number h breach e) = absurd (no_breach c bytes rule number has h breach)
+            e ∙ ap (λ (x : Certificate). verdict_ended (verdict_of (limit_of line) m x))
+            (one_certificate call known line m verbs.Check d c h has)
+        by (refuses bytes rule number h breach e) =
+            absurd (no_breach call known line m verbs.Check c bytes rule number has h breach)
 
-    pub rule_decides : (bytes : List ℕ) (rule number : ℕ) → HasCertificateFile call line m bytes
+    pub rule_decides : (bytes : List ℕ) (rule number : ℕ) → HasCertificateFile call verbs.Check line m bytes
         → BreaksCertificate (limit_of line) m bytes rule number
         → (ended : Ended) (text : List ℕ) → Means call ended text → (ended ≡ Cert rule number)
         ⊎ ((ended ≡ ReadFault) ⊎ (ended ≡ Memory))
     rule_decides bytes rule number has breaks ended text means =
-        first_of_two by (formed_course has.forms works.checking (ap work_of has.is_check) ended text means)
+        first_of_two by (formed_course has.read works.checking (ap work_of has.is_verb) ended text means)
       where
-        is_rule : (other : List ℕ) (r n : ℕ) → HasCertificateFile call line m other
+        is_rule : (other : List ℕ) (r n : ℕ) → HasCertificateFile call verbs.Check line m other
             → BreaksCertificate (limit_of line) m other r n → ended ≡ Cert r n
             → ended ≡ Cert rule number
         is_rule other r n file breach e =
-            let there : BreaksCertificate (limit_of line) m bytes r n =
-            subst (λ (b : List ℕ). BreaksCertificate (limit_of line) m b r n)
-            (same_file other bytes file has) breach
-            in
-            let one = one_cause m (limit_of line) bytes (well has.forms.model) (named has.forms.model)
-            (in_words has.forms.model) most r n rule number there breaks in
+            let one = one_breach call known line m verbs.Check bytes other rule number r n has file breaks breach in
             e ∙ ap (λ k. Cert k n) one.0 ∙ ap (λ k. Cert rule k) one.1
 
         by : CheckCourse call line m ended → ended ≡ Cert rule number
-        by (judges d h e) = absurd (no_breach d bytes rule number h has breaks)
+        by (judges d h e) = absurd (no_breach call known line m verbs.Check d bytes rule number h has breaks)
         by (refuses other r n h breach e) = is_rule other r n h breach e

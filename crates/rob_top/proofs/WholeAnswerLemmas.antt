@@ -21,7 +21,8 @@ use Rattle.rob_top.proofs.BeforeLemmas.{before_it}
 use Rattle.rob_top.proofs.BranchingLemmas.{kept_bounds}
 use Rattle.rob_top.proofs.CourseLemmas.{WholeCourse, breaks, grows, inside_admitted, shows_none, wide_box}
 use Rattle.rob_top.proofs.NumberingLemmas.{one_numbering}
-use Rattle.rob_top.proofs.TrueAnswerLemmas.{first_of_two, named, unformed_course, well}
+use Rattle.rob_top.proofs.ReadOnceLemmas.{named, well}
+use Rattle.rob_top.proofs.TrueAnswerLemmas.{first_of_two, unformed_course}
 use Rattle.rob_top.specs.Branched.{BreaksWhole, no_ranges, no_variables}
 use Rattle.rob_top.specs.Calls.{Call, Known, limit_of}
 use Rattle.rob_top.specs.Commands as works

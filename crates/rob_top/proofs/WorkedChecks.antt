@@ -37,6 +37,7 @@ use Rattle.rob_words.specs.Commands.{Line, own, IsSpelled}
 use Rattle.rob_words.specs.declared.route.Route.TheVariants.{Dual}
 use Rattle.rob_words.specs.declared.verb.Verb.TheVariants.{Check}
 use Rattle.rob_words.specs.declared.width.Width.TheVariants.{SixtyTwo}
+use Rattle.rob_words.specs.declared.verb.Verb.TheVariants as verbs
 
 -- ---- check one.rob one.cert, where the shelf tells both files
 abbrev line : Line
@@ -66,11 +67,11 @@ record Come (c : Certificate) : Type 0 where
       ≡ whole (cert_text one_demand c)
 
 certificate_on : (c : Certificate) → Come c → HasShape one_demand c → FitsLines greatest one_demand c
-    → HasCertificate (check_call c) line one_demand c
+    → HasCertificate (check_call c) verbs.Check line one_demand c
 certificate_on c come shape fits = record {
   bytes = cert_text one_demand c;
   file = record {
-    forms = record {
+    read = record {
       model = record {
         spelled = line_spelled;
         came = ((model_text one_demand, (come.model, tt)), ((cert_text one_demand c, (come.certificate, tt)), tt));
@@ -84,7 +85,7 @@ certificate_on c come shape fits = record {
       };
       none_wide = one_demand_narrow;
     };
-    is_check = refl;
+    is_verb = refl;
     file = record {
       request = certificate_request;
       named = refl;

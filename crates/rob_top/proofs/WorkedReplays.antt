@@ -30,8 +30,8 @@ use Rattle.rob_top.specs.Commands.{Work, work_of}
 use Rattle.rob_top.specs.Completeness.{MustEnd}
 use Rattle.rob_top.specs.Endings.{EndsAs}
 use Rattle.rob_top.specs.Headline.{Means}
-use Rattle.rob_top.specs.Inputs.{HasReplayCertificate, HasScenarioFile}
-use Rattle.rob_top.specs.Replayed.{planless, replay_ended}
+use Rattle.rob_top.specs.Inputs.{HasScenarioFile, HasCertificate, planless}
+use Rattle.rob_top.specs.Replayed.{replay_ended}
 use Rattle.rob_top.specs.WorkedCalls.{certificate_name, certificate_request, model_name, model_request, replay_call, scenarios_name, two_demands_table}
 use Rattle.rob_top.specs.WorkedModels.{greatest, no_demand, no_order, order_12, order_least, two_demands}
 use Rattle.rob_top.specs.Ways.{rows, replayed, generated, compared, worst_found, priced, limited, narrowed, split_written}
@@ -42,6 +42,7 @@ use Rattle.rob_words.specs.Commands.{Line, own, IsSpelled}
 use Rattle.rob_words.specs.declared.route.Route.TheVariants.{Dual}
 use Rattle.rob_words.specs.declared.verb.Verb.TheVariants.{Replay}
 use Rattle.rob_words.specs.declared.width.Width.TheVariants.{SixtyTwo}
+use Rattle.rob_words.specs.declared.verb.Verb.TheVariants as verbs
 
 -- ---- replay one.rob one.cert one.csv, where the shelf tells the three files
 abbrev line : Line
@@ -74,11 +75,11 @@ record Come (c : Certificate) (bytes : List ℕ) : Type 0 where
 
 certificate_on : (c : Certificate) (bytes : List ℕ) → Come c bytes → HasShape one_demand c
     → FitsLines greatest one_demand c
-    → HasReplayCertificate (replay_call c bytes) line one_demand c
+    → HasCertificate (replay_call c bytes) verbs.Replay line one_demand c
 certificate_on c bytes come shape fits = record {
   bytes = cert_text one_demand c;
   file = record {
-    model = record {
+    read = record {
       spelled = line_spelled;
       came = (
         (model_text one_demand, (come.model, tt)),
@@ -92,7 +93,7 @@ certificate_on c bytes come shape fits = record {
       };
       reads = one_demand_reads;
     };
-    is_replay = refl;
+    is_verb = refl;
     file = record {
       request = certificate_request;
       named = refl;
@@ -107,8 +108,7 @@ scenarios_on : (c : Certificate) (bytes : List ℕ) → Come c bytes → HasShap
     → FitsLines greatest one_demand c
     → c.status ≢ infeasible → HasScenarioFile (replay_call c bytes) line one_demand c bytes
 scenarios_on c bytes come shape fits planned = record {
-  certificate = certificate_on c bytes come shape fits;
-  has_plan = planned;
+  plan = record { certificate = certificate_on c bytes come shape fits; has_plan = planned };
   file = record {
     request = record { place = 2; name = scenarios_name; most = 4194304 };
     named = refl;
@@ -218,7 +218,7 @@ two_demands_are_printed text means = by means
     by (worst_found h) =
         let forms = forms_sought table_call h.line h.m h.c h.form h.has in
         absurd (let no : works.replaying ≡ works.searching =
-        work_here works.searching h.line forms.model.spelled (ap work_of h.has.plan.certificate.file.is_worst) in cc)
+        work_here works.searching h.line forms.model.spelled (ap work_of h.has.plan.certificate.file.is_verb) in cc)
     by (priced h) =
         absurd (let no : works.replaying ≡ works.sweeping =
         work_here works.sweeping h.line h.has.model.spelled (ap work_of h.has.is_sweep) in cc)

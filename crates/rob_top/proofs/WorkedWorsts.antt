@@ -20,8 +20,8 @@ use Rattle.rob_top.proofs.WorkedChecks.{order_12_fits, order_12_shape}
 use Rattle.rob_top.proofs.WorkedReplays.{no_order_fits, no_order_shape}
 use Rattle.rob_top.specs.Completeness.{MustEnd}
 use Rattle.rob_top.specs.Endings.{EndsAs, IsWorstAnswer}
-use Rattle.rob_top.specs.Inputs.{HasPlan, HasSought, HasWorstCertificate}
-use Rattle.rob_top.specs.Searched.{IsWideSought, certificate_vector, claims_none}
+use Rattle.rob_top.specs.Inputs.{HasPlan, HasSought, HasCertificate, planless}
+use Rattle.rob_top.specs.Searched.{IsWideSought, certificate_vector}
 use Rattle.rob_top.specs.WorkedCalls.{certificate_name, certificate_request, model_name, model_request, worst_call}
 use Rattle.rob_top.specs.WorkedModels.{greatest, no_order, order_12}
 use Rattle.rob_top.specs.declared.ended.Ended.{Ended}
@@ -31,6 +31,7 @@ use Rattle.rob_words.specs.Values.{Word}
 use Rattle.rob_words.specs.declared.route.Route.TheVariants.{Dual}
 use Rattle.rob_words.specs.declared.verb.Verb.TheVariants.{Worst}
 use Rattle.rob_words.specs.declared.width.Width.TheVariants.{SixtyTwo}
+use Rattle.rob_words.specs.declared.verb.Verb.TheVariants as verbs
 
 -- ---- worst one.rob one.cert FORM, where the shelf tells both files
 abbrev pub line : Word → Line
@@ -77,11 +78,11 @@ pub record Come (c : Certificate) : Type 0 where
 
 pub certificate_on : (c : Certificate) (form : Word) → Spelled form → Come c → HasShape one_demand c
     → FitsLines greatest one_demand c
-    → HasWorstCertificate (worst_call c form) (line form) one_demand c
+    → HasCertificate (worst_call c form) verbs.Worst (line form) one_demand c
 certificate_on c form spelled come shape fits = record {
   bytes = cert_text one_demand c;
   file = record {
-    forms = record {
+    read = record {
       model = record {
         spelled = spelled;
         came = ((model_text one_demand, (come.model, tt)), ((cert_text one_demand c, (come.certificate, tt)), tt));
@@ -95,7 +96,7 @@ certificate_on c form spelled come shape fits = record {
       };
       none_wide = one_demand_narrow;
     };
-    is_worst = refl;
+    is_verb = refl;
     file = record {
       request = certificate_request;
       named = refl;
@@ -110,7 +111,8 @@ order_12_comes : Come order_12
 unfolding ratio digits
 order_12_comes = record { model = refl; certificate = refl }
 
-pub order_12_plan : (form : Word) → Spelled form → HasPlan (worst_call order_12 form) (line form) one_demand order_12
+pub order_12_plan : (form : Word) → Spelled form
+    → HasPlan (worst_call order_12 form) verbs.Worst (line form) one_demand order_12
 order_12_plan form spelled = record {
   certificate = certificate_on order_12 form spelled order_12_comes order_12_shape order_12_fits;
   has_plan = λ e. cc;
@@ -180,5 +182,5 @@ pub no_order_has_no_plan : (result : Ended) → MustEnd (worst_call no_order (co
     → EndsAs (Cert 34 1) result
 no_order_has_no_plan result must =
     must.no_plan (line (codes "r")) one_demand 34 1
-    (claims_none no_order (certificate_on no_order (codes "r") r_spelled no_order_comes no_order_shape no_order_fits)
+    (planless no_order (certificate_on no_order (codes "r") r_spelled no_order_comes no_order_shape no_order_fits)
     refl refl refl)

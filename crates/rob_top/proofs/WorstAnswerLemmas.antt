@@ -2,15 +2,11 @@
 use Rattle.std.proofs.Common.{◌≡◌, ℕ, ◌<◌, List, length, Some, arith, inl, inr, refl, sym, ◌∙◌, ap, subst, ◌⊎◌}
 use Rattle.rob_algebra.specs.Fraction.{Fraction}
 use Rattle.rob_cert.specs.Spelling.{name_at}
-use Rattle.rob_cert.specs.Whole.{IsTextOf}
 use Rattle.rob_cert.proofs.CoverLemmas.{one_number}
-use Rattle.rob_cert.proofs.OneBreach.{one_cause}
-use Rattle.rob_cert.proofs.OneCertificate.{read_once}
-use Rattle.rob_cert.proofs.SpellingLaws.{breaks_none}
 use Rattle.rob_dualize.specs.SetSolving.{IsWideInSet}
 use Rattle.rob_dualize.specs.Solving.{HasScenario}
 use Rattle.rob_meaning.proofs.NameLemmas.{length-form_names}
-use Rattle.rob_meaning.specs.Certificates.{Certificate, infeasible}
+use Rattle.rob_meaning.specs.Certificates.{Certificate}
 use Rattle.rob_meaning.specs.Forms.{form_columns, matrices}
 use Rattle.rob_meaning.specs.Names.{form_names}
 use Rattle.rob_meaning.specs.Places.{0ℚ, 1ℚ}
@@ -22,7 +18,8 @@ use Rattle.rob_model.proofs.OwnNames.{forms_distinct}
 use Rattle.rob_model.specs.declared.place.Program.TheVariants as programs
 use Rattle.rob_model.specs.declared.place.Spot.{Spot}
 use Rattle.rob_model.specs.declared.place.Spot.TheVariants as spots
-use Rattle.rob_top.proofs.CourseLemmas.{WorstCourse, admits_none, names_none, plans_none, shows_worst, unplanned_verb, wide_search}
+use Rattle.rob_top.proofs.CourseLemmas.{WorstCourse, admits_none, names_none, plans_none, shows_worst, wide_search}
+use Rattle.rob_top.proofs.ReadOnceLemmas.{well, named, one_certificate, some_plan, one_lack}
 use Rattle.rob_runs.proofs.FoundLemmas.{found_worst}
 use Rattle.rob_runs.proofs.RunCertificates.{length-vector}
 use Rattle.rob_runs.specs.Spots.{IsWideSlack}
@@ -30,23 +27,23 @@ use Rattle.rob_top.proofs.ReplayAnswerLemmas.{model_read}
 use Rattle.rob_top.proofs.SearchStops.{plan_length}
 use Rattle.rob_top.proofs.SearchingLemmas.{form_matrix}
 use Rattle.rob_top.proofs.SolvingLemmas.{proved_bound}
-use Rattle.rob_top.proofs.SoughtLemmas.{forms_sought, forms_unnamed, forms_unplanned}
-use Rattle.rob_top.proofs.StageLemmas.{file_once}
-use Rattle.rob_top.proofs.TrueAnswerLemmas.{first_of_two, formed_course, in_words, most, named, well}
+use Rattle.rob_top.proofs.SoughtLemmas.{forms_sought, forms_unnamed, forms_unplanned, lacking_verb}
+use Rattle.rob_top.proofs.TrueAnswerLemmas.{first_of_two, formed_course}
 use Rattle.rob_top.proofs.WorstSlackLemmas.{endless_slack}
 use Rattle.rob_top.specs.Calls.{Call, Known, limit_of}
 use Rattle.rob_top.specs.Commands as works
 use Rattle.rob_top.specs.Commands.{work_of}
 use Rattle.rob_top.specs.Endings.{IsEmptyAnswer, IsWorstAnswer, NamesWideSought}
 use Rattle.rob_top.specs.Headline.{Means}
-use Rattle.rob_top.specs.Inputs.{BreaksCertificate, HasForms, HasModel, HasPlan, HasSought, HasWorstCertificate, HasWorstFile, TellsForm}
-use Rattle.rob_top.specs.Searched.{GivesNoPlan, IsSearched, IsWideSought, NamesNoForm, ShowsKept, ShowsWorst, attained, certificate_vector, claims_none, endless, in_search, in_set, in_slack, misread}
+use Rattle.rob_top.specs.Inputs.{HasForms, HasModel, HasSought, TellsForm, LacksPlan}
+use Rattle.rob_top.specs.Searched.{IsSearched, IsWideSought, NamesNoForm, ShowsKept, ShowsWorst, attained, certificate_vector, endless, in_search, in_set, in_slack}
 use Rattle.rob_top.specs.declared.ended.Ended.{Ended}
 use Rattle.rob_top.specs.declared.ended.Ended.TheVariants.{Cert, EmptySet, NoRow, Printed, ReadFault, TooWide, Memory}
 use Rattle.rob_words.specs.Commands.{Line}
 use Rattle.rob_words.specs.Values.{Word}
 use Rattle.rob_words.specs.declared.verb.Own.TheVariants as own
 use Rattle.rob_words.specs.declared.verb.Verb.TheVariants.{Worst}
+use Rattle.rob_words.specs.declared.verb.Verb.TheVariants as verbs
 
 -- a worst case that is shown has some scenario
 scenario_shown : (limit : ℕ) (m : RobustModel) (form : ℕ) (z : List Fraction) (text : List ℕ)
@@ -69,59 +66,6 @@ one_name : (line : Line) (a b : Word) → TellsForm line a → TellsForm line b 
 one_name line a b h k = let both : Some a ≡ Some b = sym h ∙ k in cc
 
 module _ (call : Call) (known : Known call.source) (line : Line) (m : RobustModel) where
-  same_file : (bytes other : List ℕ) → HasWorstFile call line m bytes → HasWorstFile call line m other → bytes ≡ other
-  same_file bytes other h k = file_once call line own.Certificate bytes other known h.file k.file
-
-  -- a certificate's text breaks no rule
-  pub no_breach : (c : Certificate) (bytes : List ℕ) (rule number : ℕ) → HasWorstCertificate call line m c
-      → HasWorstFile call line m bytes
-      → BreaksCertificate (limit_of line) m bytes rule number → ⊥
-  no_breach c bytes rule number h file breach =
-      let same : bytes ≡ h.bytes = same_file bytes h.bytes file h.file in
-      let has : HasModel call line m = h.file.forms.model in
-      breaks_none m (limit_of line) c bytes (well call known line m has) (named call known line m has)
-      (in_words call known line m has)
-      (most call known line m) (subst (λ (b : List ℕ). IsTextOf m c b) (sym same) h.text) h.fits rule number breach
-
-  -- and is that of one certificate
-  pub one_certificate : (c d : Certificate) → HasWorstCertificate call line m c
-      → HasWorstCertificate call line m d → c ≡ d
-  one_certificate c d h k =
-      let same : h.bytes ≡ k.bytes = same_file h.bytes k.bytes h.file k.file in
-      let has : HasModel call line m = h.file.forms.model in
-      read_once m (limit_of line) c d k.bytes (well call known line m has) (named call known line m has)
-      (in_words call known line m has)
-      (most call known line m) (subst (λ (b : List ℕ). IsTextOf m c b) same h.text) k.text h.fits k.fits
-
-  -- a text breaks one rule first
-  one_breach : (bytes other : List ℕ) (rule number r n : ℕ) → HasWorstFile call line m bytes
-      → HasWorstFile call line m other
-      → BreaksCertificate (limit_of line) m bytes rule number → BreaksCertificate (limit_of line) m other r n → (r ≡ rule) × (n ≡ number)
-  one_breach bytes other rule number r n file k breach b =
-      let here : BreaksCertificate (limit_of line) m bytes r n = subst (λ (list : List ℕ). BreaksCertificate (limit_of line) m list r n) (same_file other bytes k file) b in
-      let has : HasModel call line m = file.forms.model in
-      one_cause m (limit_of line) bytes (well call known line m has) (named call known line m has)
-      (in_words call known line m has)
-      (most call known line m) r n rule number here breach
-
-  -- a certificate with a plan and one without are two
-  planned : (c d : Certificate) → HasPlan call line m c → HasWorstCertificate call line m d → d.status ≡ infeasible → ⊥
-  planned c d h k is = h.has_plan (ap (λ (x : Certificate). x.status) (one_certificate c d h.certificate k) ∙ is)
-
-  gives_some : (rule number : ℕ) (c : Certificate) → GivesNoPlan call line m rule number → HasPlan call line m c → ⊥
-  gives_some rule number c (misread list file breach) h = no_breach c list rule number h.certificate file breach
-  gives_some rule number c (claims_none d k is r n) h = planned c d h k is
-
-  -- why there is no plan is one rule at one line
-  one_lack : (rule number r n : ℕ) → GivesNoPlan call line m rule number → GivesNoPlan call line m r n
-      → (r ≡ rule) × (n ≡ number)
-  one_lack rule number r n (misread bytes file breach) (misread other k b) =
-      one_breach bytes other rule number r n file k breach b
-  one_lack rule number r n (misread bytes file breach) (claims_none d k is e f) =
-      absurd (no_breach d bytes rule number k file breach)
-  one_lack rule number r n (claims_none c h is e f) (misread other k b) = absurd (no_breach c other r n h k b)
-  one_lack rule number r n (claims_none c h is e f) (claims_none d k also g i) = (g ∙ sym e, i ∙ sym f)
-
   -- one form is named, and none is where the word is no form's name
   same_form : (c d : Certificate) (i j : ℕ) → HasSought call line m c i → HasSought call line m d j → i ≡ j
   same_form c d i j h k =
@@ -131,7 +75,7 @@ module _ (call : Call) (known : Known call.source) (line : Line) (m : RobustMode
       (one_name line (name_at (form_names m) i) (name_at (form_names m) j) h.told k.told)
 
   same_plan : (c d : Certificate) (i j : ℕ) → HasSought call line m c i → HasSought call line m d j → c ≡ d
-  same_plan c d i j h k = one_certificate c d h.plan.certificate k.plan.certificate
+  same_plan c d i j h k = one_certificate call known line m verbs.Worst c d h.plan.certificate k.plan.certificate
 
   names_one : (c d : Certificate) (form : ℕ) (name : Word) → HasSought call line m c form
       → NamesNoForm call line m d name → ⊥
@@ -142,31 +86,33 @@ module _ (call : Call) (known : Known call.source) (line : Line) (m : RobustMode
       → WorstCourse call line m ended ⊎ ((ended ≡ ReadFault) ⊎ (ended ≡ Memory))
   worst_course has here = formed_course call known line m has works.searching (ap work_of here)
 
-  pub unplanned_decides : (rule number : ℕ) → GivesNoPlan call line m rule number → (ended : Ended) (text : List ℕ)
+  pub unplanned_decides : (rule number : ℕ) → LacksPlan call verbs.Worst line m rule number
+      → (ended : Ended) (text : List ℕ)
       → Means call ended text → (ended ≡ Cert rule number) ⊎ ((ended ≡ ReadFault) ⊎ (ended ≡ Memory))
   unplanned_decides rule number has ended text means =
       first_of_two by
       (worst_course (forms_unplanned call line m rule number has)
-      (unplanned_verb call line m rule number has) ended text means)
+      (lacking_verb call line m verbs.Worst rule number has) ended text means)
     where
       by : WorstCourse call line m ended → ended ≡ Cert rule number
       by (plans_none r n h e) =
-          let one = one_lack rule number r n has h in
+          let one = one_lack call known line m verbs.Worst rule number r n has h in
           e ∙ ap (λ k. Cert k n) one.0 ∙ ap (λ k. Cert rule k) one.1
-      by (names_none d name h e) = absurd (gives_some rule number d has h.plan)
-      by (shows_worst d form text h shows e) = absurd (gives_some rule number d has h.plan)
-      by (admits_none d form weights h shown e) = absurd (gives_some rule number d has h.plan)
-      by (wide_search d form spot h wide e) = absurd (gives_some rule number d has h.plan)
+      by (names_none d name h e) = absurd (some_plan call known line m verbs.Worst rule number d has h.plan)
+      by (shows_worst d form text h shows e) = absurd (some_plan call known line m verbs.Worst rule number d has h.plan)
+      by (admits_none d form weights h shown e) =
+          absurd (some_plan call known line m verbs.Worst rule number d has h.plan)
+      by (wide_search d form spot h wide e) = absurd (some_plan call known line m verbs.Worst rule number d has h.plan)
 
   pub unnamed_decides : (c : Certificate) (name : Word) → NamesNoForm call line m c name
       → (ended : Ended) (text : List ℕ)
       → Means call ended text → (ended ≡ NoRow) ⊎ ((ended ≡ ReadFault) ⊎ (ended ≡ Memory))
   unnamed_decides c name has ended text means =
       first_of_two by
-      (worst_course (forms_unnamed call line m c name has) has.plan.certificate.file.is_worst ended text means)
+      (worst_course (forms_unnamed call line m c name has) has.plan.certificate.file.is_verb ended text means)
     where
       by : WorstCourse call line m ended → ended ≡ NoRow
-      by (plans_none r n h e) = absurd (gives_some r n c h has.plan)
+      by (plans_none r n h e) = absurd (some_plan call known line m verbs.Worst r n c h has.plan)
       by (names_none d other h e) = e
       by (shows_worst d form text h shows e) = absurd (names_one d c form name h has)
       by (admits_none d form weights h shown e) = absurd (names_one d c form name h has)
@@ -178,7 +124,7 @@ module _ (call : Call) (known : Known call.source) (line : Line) (m : RobustMode
 
     course_sought : (ended : Ended) (text : List ℕ) → Means call ended text
         → WorstCourse call line m ended ⊎ ((ended ≡ ReadFault) ⊎ (ended ≡ Memory))
-    course_sought = worst_course (forms_sought call line m c form has) has.plan.certificate.file.is_worst
+    course_sought = worst_course (forms_sought call line m c form has) has.plan.certificate.file.is_verb
 
     -- a number that is wide in one search is so in the other
     same_wide : (d : Certificate) (other : ℕ) (spot : Spot) → HasSought call line m d other
@@ -198,7 +144,7 @@ module _ (call : Call) (known : Known call.source) (line : Line) (m : RobustMode
     worst_decides ended text means = all (course_sought ended text means)
       where
         by : WorstCourse call line m ended → IsWorstAnswer (limit_of line) m form z ended
-        by (plans_none r n h e) = absurd (gives_some r n c h has.plan)
+        by (plans_none r n h e) = absurd (some_plan call known line m verbs.Worst r n c h has.plan)
         by (names_none d name h e) = absurd (names_one c d form name has h)
         by (shows_worst d other text h shows e) =
             answer_is ended Printed e (scenario_shown (limit_of line) m other (certificate_vector d) text shows)
@@ -240,7 +186,7 @@ module _ (call : Call) (known : Known call.source) (line : Line) (m : RobustMode
     worst_empty_decides none ended text means = all (course_sought ended text means)
       where
         by : WorstCourse call line m ended → IsEmptyAnswer (limit_of line) m ended
-        by (plans_none r n h e) = absurd (gives_some r n c h has.plan)
+        by (plans_none r n h e) = absurd (some_plan call known line m verbs.Worst r n c h has.plan)
         by (names_none d name h e) = absurd (names_one c d form name has h)
         by (shows_worst d other text h shows e) =
             let some : HasScenario m = scenario_shown (limit_of line) m other (certificate_vector d) text shows in
@@ -262,7 +208,7 @@ module _ (call : Call) (known : Known call.source) (line : Line) (m : RobustMode
     worst_printed_decides u admitted narrow ended text means = first_of_two by (course_sought ended text means)
       where
         by : WorstCourse call line m ended → ended ≡ Printed
-        by (plans_none r n h e) = absurd (gives_some r n c h has.plan)
+        by (plans_none r n h e) = absurd (some_plan call known line m verbs.Worst r n c h has.plan)
         by (names_none d name h e) = absurd (names_one c d form name has h)
         by (shows_worst d other text h shows e) = e
         by (admits_none d other weights h shown e) = absurd (shown.empty u admitted)
@@ -298,7 +244,7 @@ module _ (call : Call) (known : Known call.source) (line : Line) (m : RobustMode
             (same_form d c other form h has) shows)) wide
 
         by : WorstCourse call line m ended → NamesWideSought (limit_of line) m form z ended
-        by (plans_none r n h e) = absurd (gives_some r n c h has.plan)
+        by (plans_none r n h e) = absurd (some_plan call known line m verbs.Worst r n c h has.plan)
         by (names_none d name h e) = absurd (names_one c d form name has h)
         by (shows_worst d other shown h shows e) = absurd (none_shown d other shown h shows)
         by (admits_none d other weights h shown e) =

@@ -11,6 +11,7 @@ use Rattle.rob_top.specs.Answers.{accepted_text}
 use Rattle.rob_top.specs.Calls.{Call, limit_of}
 use Rattle.rob_top.specs.Inputs.{HasCertificate}
 use Rattle.rob_words.specs.Commands.{Line}
+use Rattle.rob_words.specs.declared.verb.Verb.TheVariants as verbs
 
 module _ (call : Call) where
   -- accepted: each condition holds and no number on the way is wide; so the certificate proves, and the model is as
@@ -19,7 +20,7 @@ module _ (call : Call) where
     pub line : Line
     pub m : RobustModel
     pub c : Certificate
-    pub read : HasCertificate call line m c
+    pub read : HasCertificate call verbs.Check line m c
     pub verdict : verdict_of (limit_of line) m c ≡ verdict.Accepted
     pub proves : Proves m c
     pub holds : HasStatus m c.status c.value
@@ -30,7 +31,7 @@ module _ (call : Call) where
     pub line : Line
     pub m : RobustModel
     pub c : Certificate
-    pub read : HasCertificate call line m c
+    pub read : HasCertificate call verbs.Check line m c
     pub verdict : verdict_of (limit_of line) m c ≡ verdict.Rejected place
     pub proves_not : Proves m c → ⊥
     pub printed : text ≡ rejected_line m place

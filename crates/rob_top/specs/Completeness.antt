@@ -28,10 +28,10 @@ use Rattle.rob_top.specs.Branched.{BreaksWhole}
 use Rattle.rob_top.specs.Calls.{Call, Known, known_call, limit_of}
 use Rattle.rob_top.specs.Commands.{IsBranching, IsElaborating, IsSolving}
 use Rattle.rob_top.specs.Files.{Came, HasFile, IsFirstAbsent, requests}
-use Rattle.rob_top.specs.Inputs.{BreaksCertificate, HasCertificate, HasCertificateFile, HasForms, HasModel, HasScenarioFile, HasSought, HasWholeVariables}
-use Rattle.rob_top.specs.Replayed.{LacksPlan, replay_ended}
+use Rattle.rob_top.specs.Inputs.{BreaksCertificate, HasCertificate, HasCertificateFile, HasForms, HasModel, HasScenarioFile, HasSought, HasWholeVariables, LacksPlan}
+use Rattle.rob_top.specs.Replayed.{replay_ended}
 use Rattle.rob_top.specs.Routes.{IsWideOnWay}
-use Rattle.rob_top.specs.Searched.{GivesNoPlan, IsWideSought, NamesNoForm, certificate_vector}
+use Rattle.rob_top.specs.Searched.{IsWideSought, NamesNoForm, certificate_vector}
 use Rattle.rob_top.specs.TreeChecked.{HasTree, HasTreeFile}
 use Rattle.rob_top.specs.ComparedEnds.{MustEndCompared}
 use Rattle.rob_top.specs.SplitEnds.{MustEndSplit}
@@ -46,6 +46,7 @@ use Rattle.rob_words.specs.declared.verb.Own.TheVariants as own
 use Rattle.rob_words.specs.declared.verb.Verb.TheVariants.{Rows, Text, Narrow}
 use Rattle.rob_top.specs.Endings.{IsUnput, IsOutside, EndsAs, IsSolveAnswer, IsEmptyAnswer, IsShownAnswer, IsProvedAnswer, IsWholeAnswer, IsWorstAnswer, IsEmptyWholeAnswer, IsSweepAnswer, IsNarrowAt, IsNarrowBelow, NamesFault, NamesWidth, NamesWideSought, IsTreeAnswer}
 use Rattle.rob_elab.specs.Written.{judged}
+use Rattle.rob_words.specs.declared.verb.Verb.TheVariants as verbs
 
 -- ---- how a call must end, by its words and by what is found of its files
 
@@ -98,23 +99,24 @@ module _ (call : Call) (result : Ended) where
         → IsNarrowModel (limit_of line) m → IsEmptySet m → IsShownAnswer m result
     -- `check`: the certificate's text breaks a rule, so that rule and its line are named
     pub broken : (line : Line) (m : RobustModel) (bytes : List ℕ) (rule number : ℕ)
-        → HasCertificateFile call line m bytes
+        → HasCertificateFile call verbs.Check line m bytes
         → BreaksCertificate (limit_of line) m bytes rule number → EndsAs (Cert rule number) result
     -- it is the text of a certificate, so the answer is the verdict on it
-    pub verdict : (line : Line) (m : RobustModel) (c : Certificate) → HasCertificate call line m c
+    pub verdict : (line : Line) (m : RobustModel) (c : Certificate) → HasCertificate call verbs.Check line m c
         → EndsAs (verdict_ended (verdict_of (limit_of line) m c)) result
     -- the certificate proves, so it is accepted, or a number of the check is wide
-    pub proved : (line : Line) (m : RobustModel) (c : Certificate) → HasCertificate call line m c → Proves m c
+    pub proved : (line : Line) (m : RobustModel) (c : Certificate) → HasCertificate call verbs.Check line m c
+        → Proves m c
         → IsProvedAnswer (limit_of line) m c result
     -- it proves, and no number of the check is wide, so it is accepted
-    pub accepted : (line : Line) (m : RobustModel) (c : Certificate) → HasCertificate call line m c
+    pub accepted : (line : Line) (m : RobustModel) (c : Certificate) → HasCertificate call verbs.Check line m c
         → NoneWide (limit_of line) m c → Proves m c → EndsAs Accepted result
     -- it doesn't prove, and no number of the check is wide, so it is rejected, at the first place whose condition fails
-    pub rejected : (line : Line) (m : RobustModel) (c : Certificate) → HasCertificate call line m c
+    pub rejected : (line : Line) (m : RobustModel) (c : Certificate) → HasCertificate call verbs.Check line m c
         → NoneWide (limit_of line) m c → (Proves m c → ⊥)
         → (place : Place) × IsFirstFailing (limit_of line) m c place × EndsAs (Rejected place) result
     -- `replay`: the certificate gives no plan, so the rule and the line are named
-    pub planless : (line : Line) (m : RobustModel) (rule number : ℕ) → LacksPlan call line m rule number
+    pub planless : (line : Line) (m : RobustModel) (rule number : ℕ) → LacksPlan call verbs.Replay line m rule number
         → EndsAs (Cert rule number) result
     -- it gives one, so the answer is by the file's records: the table, the first broken rule, or the first record with
     -- a wide number
@@ -144,7 +146,7 @@ module _ (call : Call) (result : Ended) where
         → IsBranching line.verb → Admits m u → IsNarrowBelow (limit_of line) m names
         → (status : Status) × (v : Fraction) × HasWholeStatus m names status v × EndsAs (ended_of status) result
     -- `worst`: the certificate gives no plan, so the rule and the line are named
-    pub no_plan : (line : Line) (m : RobustModel) (rule number : ℕ) → GivesNoPlan call line m rule number
+    pub no_plan : (line : Line) (m : RobustModel) (rule number : ℕ) → LacksPlan call verbs.Worst line m rule number
         → EndsAs (Cert rule number) result
     -- it gives one, and the word is no form's name
     pub no_row : (line : Line) (m : RobustModel) (c : Certificate) (name : Word) → NamesNoForm call line m c name

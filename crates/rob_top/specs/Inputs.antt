@@ -1,6 +1,6 @@
 -- What was read: the model, its whole numbers, the certificate, the scenario file, the variables or the form that are
 -- named, by a call's words and its files.
-use Rattle.std.specs.Prelude.{◌≡◌, ◌≢◌, ◌<◌, ◌++◌, ℕ, List, Some, None, length, map}
+use Rattle.std.specs.Prelude.{◌≡◌, ◌≢◌, ◌<◌, ℕ, Bool, true, false, List, Some, None, length, map}
 use Rattle.rob_cert.specs.Apart.{FitsLines}
 use Rattle.rob_cert.specs.Causes.{HasCause}
 use Rattle.rob_cert.specs.Reading.{start}
@@ -14,13 +14,15 @@ use Rattle.rob_meaning.specs.RobustModel.{RobustModel}
 use Rattle.rob_parse.specs.Modelled.{ReadsModel}
 use Rattle.rob_reach.specs.Ranges.{KeepsNames, whole_rule}
 use Rattle.rob_top.specs.Calls.{Call, limit_of}
+use Rattle.rob_top.specs.Commands.{elaborates}
 use Rattle.rob_top.specs.Files.{Came, HasFile, requests, word_of}
 use Rattle.rob_words.specs.Commands.{Line, IsSpelled}
 use Rattle.rob_words.specs.Names.{parts_of}
 use Rattle.rob_words.specs.Values.{Word}
 use Rattle.rob_words.specs.Verbs.{own_of}
 use Rattle.rob_words.specs.declared.verb.Own.TheVariants as own
-use Rattle.rob_words.specs.declared.verb.Verb.TheVariants.{Check, Replay, Worst}
+use Rattle.rob_words.specs.declared.verb.Verb.{Verb}
+use Rattle.rob_words.specs.declared.verb.Verb.TheVariants.{Replay, Worst}
 use Rattle.rob_elab.specs.Written.{IsWritten}
 
 -- the command line's own word that is a list of names has these
@@ -64,40 +66,43 @@ module _ (call : Call) where
     pub model : HasModel line m
     pub none_wide : IsWritten (limit_of line) m
 
-  -- and the words say `check`, and the file of the certificate came, with these bytes
-  pub record HasCertificateFile (line : Line) (m : RobustModel) (bytes : List ℕ) : Type 0 where
-    pub forms : HasForms line m
-    pub is_check : line.verb ≡ Check
-    pub file : HasFile call line own.Certificate bytes
+  -- ---- certificates
 
-  -- and it is the text of this certificate, whose numbers are within the line's width
-  pub record HasCertificate (line : Line) (m : RobustModel) (c : Certificate) : Type 0 where
-    pub bytes : List ℕ
-    pub file : HasCertificateFile line m bytes
-    pub text : IsTextOf m c bytes
-    pub fits : FitsLines (limit_of line) m c
+  -- what was read of the model: where set rows and forms are made, none of their numbers is wide
+  abbrev pub HasRead : Bool → Line → RobustModel → Type 0
+  HasRead true line m = HasForms line m
+  HasRead false line m = HasModel line m
 
-  -- ---- `replay`
-
-  -- the words say `replay`, the model was read, and the file of the certificate came, with these bytes. No set row and
-  -- no form is made of the model
-  pub record HasReplayFile (line : Line) (m : RobustModel) (bytes : List ℕ) : Type 0 where
-    pub model : HasModel line m
-    pub is_replay : line.verb ≡ Replay
+  -- the words say this command, `check`, `replay` or `worst`, the model was read, with the set rows and forms that the
+  -- command makes of it, and the file of the certificate came, with these bytes
+  pub record HasCertificateFile (verb : Verb) (line : Line) (m : RobustModel) (bytes : List ℕ) : Type 0 where
+    pub read : HasRead (elaborates verb) line m
+    pub is_verb : line.verb ≡ verb
     pub file : HasFile call line own.Certificate bytes
 
   -- and it is the text of this certificate, whose numbers are within the line's width. It isn't checked
-  pub record HasReplayCertificate (line : Line) (m : RobustModel) (c : Certificate) : Type 0 where
+  pub record HasCertificate (verb : Verb) (line : Line) (m : RobustModel) (c : Certificate) : Type 0 where
     pub bytes : List ℕ
-    pub file : HasReplayFile line m bytes
+    pub file : HasCertificateFile verb line m bytes
     pub text : IsTextOf m c bytes
     pub fits : FitsLines (limit_of line) m c
 
-  -- and it has a plan, as each has but one that claims an infeasible model, and the scenario file came, with these
-  -- bytes
-  pub record HasScenarioFile (line : Line) (m : RobustModel) (c : Certificate) (bytes : List ℕ) : Type 0 where
-    pub certificate : HasReplayCertificate line m c
+  -- and it has a plan, as each has but one that claims an infeasible model
+  pub record HasPlan (verb : Verb) (line : Line) (m : RobustModel) (c : Certificate) : Type 0 where
+    pub certificate : HasCertificate verb line m c
     pub has_plan : c.status ≢ infeasible
+
+  -- the certificate gives no plan: its text breaks the rule at the line, first; or it claims an infeasible model,
+  -- which is rule 34 at line 1
+  pub data LacksPlan (verb : Verb) (line : Line) (m : RobustModel) (rule number : ℕ) : Type 0 where
+    unread : (bytes : List ℕ) → HasCertificateFile verb line m bytes
+        → BreaksCertificate (limit_of line) m bytes rule number → LacksPlan verb line m rule number
+    planless : (c : Certificate) → HasCertificate verb line m c → c.status ≡ infeasible → rule ≡ 34 → number ≡ 1
+        → LacksPlan verb line m rule number
+
+  -- `replay` has a certificate with a plan, and the scenario file came, with these bytes
+  pub record HasScenarioFile (line : Line) (m : RobustModel) (c : Certificate) (bytes : List ℕ) : Type 0 where
+    pub plan : HasPlan Replay line m c
     pub file : HasFile call line own.Scenarios bytes
 
   -- ---- variables that take whole numbers
@@ -116,27 +121,8 @@ module _ (call : Call) where
 
   -- ---- `worst`
 
-  -- no number of the set rows and forms is wide, the words say `worst`, and the file of the certificate came, with
-  -- these bytes
-  pub record HasWorstFile (line : Line) (m : RobustModel) (bytes : List ℕ) : Type 0 where
-    pub forms : HasForms line m
-    pub is_worst : line.verb ≡ Worst
-    pub file : HasFile call line own.Certificate bytes
-
-  -- and it is the text of this certificate, whose numbers are within the line's width. It isn't checked
-  pub record HasWorstCertificate (line : Line) (m : RobustModel) (c : Certificate) : Type 0 where
-    pub bytes : List ℕ
-    pub file : HasWorstFile line m bytes
-    pub text : IsTextOf m c bytes
-    pub fits : FitsLines (limit_of line) m c
-
-  -- and it has a plan, as each has but one that claims an infeasible model
-  pub record HasPlan (line : Line) (m : RobustModel) (c : Certificate) : Type 0 where
-    pub certificate : HasWorstCertificate line m c
-    pub has_plan : c.status ≢ infeasible
-
-  -- and the words name this form
+  -- it has a certificate with a plan, and the words name this form
   pub record HasSought (line : Line) (m : RobustModel) (c : Certificate) (form : ℕ) : Type 0 where
-    pub plan : HasPlan line m c
+    pub plan : HasPlan Worst line m c
     pub is_form : form < length (form_names m)
     pub told : TellsForm line (name_at (form_names m) form)

@@ -21,13 +21,15 @@ use Rattle.rob_top.specs.Answers.{certificate_fault_text, missing_text, model_fa
 use Rattle.rob_top.specs.Calls.{Call, WasRaised, limit_of}
 use Rattle.rob_top.specs.Commands.{IsElaborating, IsSolving}
 use Rattle.rob_top.specs.Files.{Came, HasFile, IsFirstAbsent, NamesFile, requests}
-use Rattle.rob_top.specs.Inputs.{BreaksCertificate, HasCertificate, HasCertificateFile, HasForms, HasModel, HasScenarioFile, HasSought}
+use Rattle.rob_top.specs.Inputs.{BreaksCertificate, HasCertificate, HasCertificateFile, HasForms, HasModel, HasScenarioFile, HasSought, LacksPlan}
 use Rattle.rob_top.specs.Routes.{IsWideBy, with_rounds}
 use Rattle.rob_top.specs.Searched.{IsWideSought, certificate_vector}
 use Rattle.rob_words.specs.Commands.{IsCommandLine, Line, IsSpelled}
 use Rattle.rob_words.specs.Values.{Word}
 use Rattle.rob_words.specs.declared.verb.Own.TheVariants as own
 use Rattle.rob_elab.specs.Written.{judged}
+use Rattle.rob_words.specs.declared.verb.Verb.TheVariants as verbs
+use Rattle.rob_words.specs.declared.verb.Verb.{Verb}
 
 module _ (call : Call) where
   -- the words are no command line
@@ -52,7 +54,7 @@ module _ (call : Call) where
   pub data IsWideSpot (line : Line) (m : RobustModel) (spot : Spot) : Type 0 where
     elaborating : HasModel call line m → IsElaborating line.verb
         → IsFirstWide (limit_of line) m (judged m) spot → IsWideSpot line m spot
-    checking : (c : Certificate) (place : Place) → HasCertificate call line m c → spot ≡ Check place
+    checking : (c : Certificate) (place : Place) → HasCertificate call verbs.Check line m c → spot ≡ Check place
         → verdict_of (limit_of line) m c ≡ verdict.TooWide place → IsWideSpot line m spot
     replaying : (c : Certificate) (bytes : List ℕ) (number : ℕ) → HasScenarioFile call line m c bytes
         → spot ≡ Replay number → Gives (outcome (limit_of line) m c.plan) bytes (Err (is_wide number))
@@ -97,6 +99,13 @@ module _ (call : Call) where
     pub line : Line
     pub m : RobustModel
     pub bytes : List ℕ
-    pub file : HasCertificateFile call line m bytes
+    pub file : HasCertificateFile call verbs.Check line m bytes
     pub breaks : BreaksCertificate (limit_of line) m bytes rule number
+    pub printed : text ≡ certificate_fault_text rule number
+
+  -- the command has no plan by the certificate, so the rule and the line are named
+  pub record IsNoPlan (verb : Verb) (rule number : ℕ) (text : List ℕ) : Type 0 where
+    pub line : Line
+    pub m : RobustModel
+    pub lacks : LacksPlan call verb line m rule number
     pub printed : text ≡ certificate_fault_text rule number

@@ -1,6 +1,6 @@
 -- The answers of `replay`: the certificate's plan in each joint scenario of a file.
 use Rattle.std.specs.Prelude.{◌≡◌, ℕ, List, Result, Ok, Err}
-use Rattle.rob_meaning.specs.Certificates.{Certificate, infeasible}
+use Rattle.rob_meaning.specs.Certificates.{Certificate}
 use Rattle.rob_meaning.specs.Guarantee.{HasBound}
 use Rattle.rob_meaning.specs.Places.{Each}
 use Rattle.rob_meaning.specs.RobustModel.{RobustModel}
@@ -11,9 +11,9 @@ use Rattle.rob_replay.specs.Outcome.{Refusal, breaks, is_wide, outcome}
 use Rattle.rob_replay.specs.Replayed.{IsTable, ShowsBound}
 use Rattle.rob_replay.specs.View.{Gives}
 use Rattle.rob_report.specs.Tables.{table_of}
-use Rattle.rob_top.specs.Answers.{certificate_fault_text, scenarios_fault_text}
+use Rattle.rob_top.specs.Answers.{scenarios_fault_text}
 use Rattle.rob_top.specs.Calls.{Call, limit_of}
-use Rattle.rob_top.specs.Inputs.{BreaksCertificate, HasReplayCertificate, HasReplayFile, HasScenarioFile}
+use Rattle.rob_top.specs.Inputs.{HasScenarioFile}
 use Rattle.rob_top.specs.declared.ended.Ended.{Ended}
 use Rattle.rob_top.specs.declared.ended.Ended.TheVariants.{Printed, Scenarios, TooWide}
 use Rattle.rob_words.specs.Commands.{Line}
@@ -42,21 +42,6 @@ module _ (call : Call) where
     pub narrow : outcome (limit_of line) m c.plan rows ≡ Ok lines
     pub bounded : HasBound m c.plan c.value → Each (ShowsBound m c.value) lines
     pub printed : text ≡ table_of m lines
-
-  -- the certificate gives no plan: its text breaks the rule at the line, first; or it claims an infeasible model,
-  -- which is rule 34 at line 1
-  pub data LacksPlan (line : Line) (m : RobustModel) (rule number : ℕ) : Type 0 where
-    unread : (bytes : List ℕ) → HasReplayFile call line m bytes
-        → BreaksCertificate (limit_of line) m bytes rule number → LacksPlan line m rule number
-    planless : (c : Certificate) → HasReplayCertificate call line m c → c.status ≡ infeasible → rule ≡ 34 → number ≡ 1
-        → LacksPlan line m rule number
-
-  -- so the rule and the line are named
-  pub record IsNoPlan (rule number : ℕ) (text : List ℕ) : Type 0 where
-    pub line : Line
-    pub m : RobustModel
-    pub lacks : LacksPlan line m rule number
-    pub printed : text ≡ certificate_fault_text rule number
 
   -- the scenario file breaks the rule at the record, first, and no number of a record before it is wide
   pub record IsNoScenarios (rule number : ℕ) (text : List ℕ) : Type 0 where

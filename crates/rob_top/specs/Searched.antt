@@ -5,7 +5,7 @@ use Rattle.rob_algebra.specs.Width.{Fits}
 use Rattle.rob_cert.specs.Spelling.{name_at}
 use Rattle.rob_dualize.specs.SetSolving.{IsWideInSet}
 use Rattle.rob_dualize.specs.Solving.{HasScenario, IsShownEmpty}
-use Rattle.rob_meaning.specs.Certificates.{Certificate, infeasible}
+use Rattle.rob_meaning.specs.Certificates.{Certificate}
 use Rattle.rob_meaning.specs.Forms.{form_at, plan_vector}
 use Rattle.rob_meaning.specs.Guarantee.{HasBound}
 use Rattle.rob_meaning.specs.Names.{form_names}
@@ -21,11 +21,12 @@ use Rattle.rob_runs.specs.Searches.{FindsRay, FindsScenario}
 use Rattle.rob_runs.specs.Spots.{IsWideSlack}
 use Rattle.rob_runs.specs.Told.{HasNoGreatestAlong}
 use Rattle.rob_worst.specs.Finding.{IsWideAt}
-use Rattle.rob_top.specs.Answers.{certificate_fault_text, no_row_text}
+use Rattle.rob_top.specs.Answers.{no_row_text}
 use Rattle.rob_top.specs.Calls.{Call, limit_of}
-use Rattle.rob_top.specs.Inputs.{BreaksCertificate, HasPlan, HasSought, HasWorstCertificate, HasWorstFile, TellsForm}
+use Rattle.rob_top.specs.Inputs.{HasPlan, HasSought, TellsForm}
 use Rattle.rob_words.specs.Commands.{Line}
 use Rattle.rob_words.specs.Values.{Word}
+use Rattle.rob_words.specs.declared.verb.Verb.TheVariants as verbs
 
 -- the plan of a certificate with its value as its bound, as the vector at which a form is taken
 abbrev pub certificate_vector : Certificate → List Fraction
@@ -87,24 +88,9 @@ module _ (call : Call) where
 
   -- ---- refusals
 
-  -- the certificate gives no plan: its text breaks the rule at the line, first; or it claims an infeasible model,
-  -- which is rule 34 at line 1
-  pub data GivesNoPlan (line : Line) (m : RobustModel) (rule number : ℕ) : Type 0 where
-    misread : (bytes : List ℕ) → HasWorstFile call line m bytes
-        → BreaksCertificate (limit_of line) m bytes rule number → GivesNoPlan line m rule number
-    claims_none : (c : Certificate) → HasWorstCertificate call line m c → c.status ≡ infeasible → rule ≡ 34 → number ≡ 1
-        → GivesNoPlan line m rule number
-
-  -- so the rule and the line are named
-  pub record IsNoPlanSought (rule number : ℕ) (text : List ℕ) : Type 0 where
-    pub line : Line
-    pub m : RobustModel
-    pub gives_none : GivesNoPlan line m rule number
-    pub printed : text ≡ certificate_fault_text rule number
-
   -- the word is no form's name
   pub record NamesNoForm (line : Line) (m : RobustModel) (c : Certificate) (name : Word) : Type 0 where
-    pub plan : HasPlan call line m c
+    pub plan : HasPlan call verbs.Worst line m c
     pub told : TellsForm line name
     pub none : (form : ℕ) → form < length (form_names m) → name_at (form_names m) form ≢ name
 

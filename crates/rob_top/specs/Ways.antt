@@ -9,14 +9,15 @@ use Rattle.rob_top.specs.Checked.{IsAccepted}
 use Rattle.rob_top.specs.Compared.{IsCompared, IsWideCompared}
 use Rattle.rob_top.specs.Generated.{IsGenerated}
 use Rattle.rob_top.specs.Narrowed.{IsNarrowed}
-use Rattle.rob_top.specs.Refused.{IsNoCertificate, IsTooWide, IsTooWideOnWay}
-use Rattle.rob_top.specs.Replayed.{IsNoPlan, IsReplayed}
-use Rattle.rob_top.specs.Searched.{IsEmptySought, IsNoPlanSought, IsSearched}
+use Rattle.rob_top.specs.Refused.{IsNoCertificate, IsNoPlan, IsTooWide, IsTooWideOnWay}
+use Rattle.rob_top.specs.Replayed.{IsReplayed}
+use Rattle.rob_top.specs.Searched.{IsEmptySought, IsSearched}
 use Rattle.rob_top.specs.Solved.{IsEmptySet, IsRows, IsSolved}
 use Rattle.rob_top.specs.Split.{IsEmptyCell, IsPieced, IsSplitText, IsWideSplit}
 use Rattle.rob_top.specs.Swept.{IsLimited, IsPriced}
 use Rattle.rob_top.specs.TreeChecked.{IsTreeAccepted, IsWideLeaf}
 use Rattle.rob_tree.specs.declared.tree.Branch.{Branch}
+use Rattle.rob_words.specs.declared.verb.Verb.TheVariants as verbs
 
 module _ (call : Call) where
   -- a status is found: by `solve` and `prove`, with a certificate; or by `whole` and `tree`, with a branch tree, over
@@ -70,5 +71,5 @@ module _ (call : Call) where
   -- replay, or `worst` none to search a worst case of
   pub data NamesCertificateLine (rule line : ℕ) (text : List ℕ) : Type 0 where
     not_checked : IsNoCertificate call rule line text → NamesCertificateLine rule line text
-    not_replayed : IsNoPlan call rule line text → NamesCertificateLine rule line text
-    not_searched : IsNoPlanSought call rule line text → NamesCertificateLine rule line text
+    not_replayed : IsNoPlan call verbs.Replay rule line text → NamesCertificateLine rule line text
+    not_searched : IsNoPlan call verbs.Worst rule line text → NamesCertificateLine rule line text

@@ -21,7 +21,7 @@ use Rattle.rob_top.specs.Calls.{Call, Count, WasRaised, limit_of}
 use Rattle.rob_top.specs.Files.{HasFile}
 use Rattle.rob_top.specs.Generated.{TellsNumber}
 use Rattle.rob_top.specs.Headline.{Means}
-use Rattle.rob_top.specs.Inputs.{HasModel, HasForms, HasCertificateFile, HasCertificate, HasPlan, HasReplayCertificate, HasReplayFile, HasScenarioFile, HasSought, HasVariables, HasWorstCertificate, HasWorstFile, TellsForm, TellsNames}
+use Rattle.rob_top.specs.Inputs.{HasModel, HasForms, HasCertificateFile, HasCertificate, HasPlan, HasScenarioFile, HasSought, HasVariables, TellsForm, TellsNames}
 use Rattle.rob_top.specs.Replies.{HasTexts, Replies}
 use Rattle.rob_top.specs.declared.ended.Ended.{Ended}
 use Rattle.rob_top.specs.declared.ended.Ended.TheVariants.{Optimal, Infeasible, Unbounded, Printed, Accepted, Rejected, TooWide}
@@ -37,6 +37,7 @@ use Rattle.rob_words.specs.declared.verb.Own.TheVariants as own
 use Rattle.rob_words.specs.declared.verb.Verb.{Verb}
 use Rattle.rob_words.specs.declared.verb.Verb.TheVariants.{Check, Replay, Sweep, Worst as WorstVerb}
 use Rattle.rob_write.specs.Canonical.{model_text}
+use Rattle.rob_words.specs.declared.verb.Verb.TheVariants as verbs
 
 -- ---- texts that are short enough to read
 
@@ -92,25 +93,27 @@ module _ (limit : ℕ) (wides : Count) where
     -- that of each one for `check`, whose certificate's file came with these bytes
     abbrev pub AnswersFile : List ℕ → Reply → Type 0
     AnswersFile bytes reply =
-        (call : Call) (line : Line) → IsCallAt limit wides Check call line → HasCertificateFile call line m bytes
+        (call : Call) (line : Line) → IsCallAt limit wides Check call line
+        → HasCertificateFile call verbs.Check line m bytes
         → Means call reply.ended reply.text
 
     -- and which is the text of the certificate
     abbrev pub AnswersCertificate : Certificate → Reply → Type 0
     AnswersCertificate c reply =
-        (call : Call) (line : Line) → IsCallAt limit wides Check call line → HasCertificate call line m c
+        (call : Call) (line : Line) → IsCallAt limit wides Check call line → HasCertificate call verbs.Check line m c
         → Means call reply.ended reply.text
 
     -- that of each one for `replay`, whose certificate's file and scenario file came with these bytes
     abbrev pub AnswersReplay : List ℕ → List ℕ → Reply → Type 0
     AnswersReplay certificate bytes reply =
-        (call : Call) (line : Line) → IsCallAt limit wides Replay call line → HasReplayFile call line m certificate
+        (call : Call) (line : Line) → IsCallAt limit wides Replay call line
+        → HasCertificateFile call verbs.Replay line m certificate
         → HasFile call line own.Scenarios bytes → Means call reply.ended reply.text
 
     -- the first of which is the text of the certificate
     abbrev pub AnswersPlan : Certificate → List ℕ → Reply → Type 0
     AnswersPlan c bytes reply =
-        (call : Call) (line : Line) → IsCallAt limit wides Replay call line → HasReplayCertificate call line m c
+        (call : Call) (line : Line) → IsCallAt limit wides Replay call line → HasCertificate call verbs.Replay line m c
         → HasFile call line own.Scenarios bytes → Means call reply.ended reply.text
 
     -- and this has a plan
@@ -123,21 +126,21 @@ module _ (limit : ℕ) (wides : Count) where
     abbrev pub AnswersSearch : List ℕ → Word → Reply → Type 0
     AnswersSearch bytes name reply =
         (call : Call) (line : Line) → IsCallAt limit wides WorstVerb call line
-        → HasWorstFile call line m bytes → TellsForm line name
+        → HasCertificateFile call verbs.Worst line m bytes → TellsForm line name
         → Means call reply.ended reply.text
 
     -- the first of which is the text of the certificate
     abbrev pub AnswersSearched : Certificate → Word → Reply → Type 0
     AnswersSearched c name reply =
         (call : Call) (line : Line) → IsCallAt limit wides WorstVerb call line
-        → HasWorstCertificate call line m c → TellsForm line name
+        → HasCertificate call verbs.Worst line m c → TellsForm line name
         → Means call reply.ended reply.text
 
     -- and this has a plan
     abbrev pub AnswersPlanned : Certificate → Word → Reply → Type 0
     AnswersPlanned c name reply =
         (call : Call) (line : Line) → IsCallAt limit wides WorstVerb call line
-        → HasPlan call line m c → TellsForm line name
+        → HasPlan call verbs.Worst line m c → TellsForm line name
         → Means call reply.ended reply.text
 
     -- and the name is this form's

@@ -30,7 +30,7 @@ ghost use Rattle.rob_top.specs.ComparedEnds.{IsComparedAnswer};
 ghost use Rattle.rob_top.specs.Completeness.{IsComplete, MustEnd};
 ghost use Rattle.rob_top.specs.Endings.{EndsAs, IsProvedAnswer, IsShownAnswer, NamesWidth};
 ghost use Rattle.rob_top.specs.Headline.{Means};
-ghost use Rattle.rob_top.specs.Inputs.{HasCertificateFile, HasModel, HasModelText, HasReplayFile, HasWorstFile};
+ghost use Rattle.rob_top.specs.Inputs.{HasCertificateFile, HasModel, HasModelText};
 ghost use Rattle.rob_top.specs.Narrowed.{IsNarrowed};
 ghost use Rattle.rob_top.specs.Replayed.{IsReplayed};
 ghost use Rattle.rob_top.specs.Searched.{IsSearched, ShowsKept, certificate_vector};
@@ -51,6 +51,7 @@ ghost use Rattle.rob_words.specs.declared.route.Route.TheVariants.{Dual};
 ghost use Rattle.rob_words.specs.declared.verb.Own.TheVariants as own;
 ghost use Rattle.rob_words.specs.declared.verb.Verb.TheVariants.{Check, Prove, Tree};
 ghost use Rattle.rob_write.specs.Canonical.{model_text};
+ghost use Rattle.rob_words.specs.declared.verb.Verb.TheVariants as verbs;
 
 /// How a call must end, by its words and files: `specs/Completeness.antt`.
 pub fn completeness()
@@ -65,7 +66,7 @@ pub fn prove_then_check()
     ensures accepted { (proving checking : Call) (status : Status) (text shown : List ℕ)
         (solved : IsSolved proving status text) → solved.line.verb ≡ Prove
         → (known : Known checking.source) (line : Line) → line.width ≡ solved.line.width
-        → HasCertificateFile (known_call checking known) line solved.m text → (ended : Ended)
+        → HasCertificateFile (known_call checking known) verbs.Check line solved.m text → (ended : Ended)
         → Means checking ended shown → IsProvedAnswer (limit_of line) solved.m solved.c ended }
 {}
 
@@ -116,13 +117,14 @@ pub fn prove_then_worst()
     ensures kept { (proving searching : Call) (status : Status) (text shown : List ℕ)
         (solved : IsSolved proving status text) → solved.line.verb ≡ Prove
         → (known : Known searching.source) (line : Line) → line.width ≡ solved.line.width
-        → HasWorstFile (known_call searching known) line solved.m text → (searched : IsSearched searching shown)
+        → HasCertificateFile (known_call searching known) verbs.Worst line solved.m text
+        → (searched : IsSearched searching shown)
         → ShowsKept solved.m searched.form (certificate_vector solved.c) shown }
     // and the text is refused for one reason alone: the model is infeasible, so that there is no plan.
     ensures refused { (proving searching : Call) (status : Status) (text shown : List ℕ)
         (solved : IsSolved proving status text) → solved.line.verb ≡ Prove
         → (known : Known searching.source) (line : Line) → line.width ≡ solved.line.width
-        → HasWorstFile (known_call searching known) line solved.m text → (rule number : ℕ)
+        → HasCertificateFile (known_call searching known) verbs.Worst line solved.m text → (rule number : ℕ)
         → Means searching (Cert rule number) shown → (rule ≡ 34) × ((number ≡ 1) × (status ≡ infeasible)) }
 {}
 
@@ -132,13 +134,14 @@ pub fn prove_then_replay()
     ensures shown { (proving replaying : Call) (status : Status) (text shown : List ℕ)
         (solved : IsSolved proving status text) → solved.line.verb ≡ Prove
         → (known : Known replaying.source) (line : Line) → line.width ≡ solved.line.width
-        → HasReplayFile (known_call replaying known) line solved.m text → (replayed : IsReplayed replaying shown)
+        → HasCertificateFile (known_call replaying known) verbs.Replay line solved.m text
+        → (replayed : IsReplayed replaying shown)
         → Each (ShowsBound solved.m solved.c.value) replayed.lines }
     // and the text is refused for one reason alone: the model is infeasible, so that there is no plan.
     ensures refused { (proving replaying : Call) (status : Status) (text shown : List ℕ)
         (solved : IsSolved proving status text) → solved.line.verb ≡ Prove
         → (known : Known replaying.source) (line : Line) → line.width ≡ solved.line.width
-        → HasReplayFile (known_call replaying known) line solved.m text → (rule number : ℕ)
+        → HasCertificateFile (known_call replaying known) verbs.Replay line solved.m text → (rule number : ℕ)
         → Means replaying (Cert rule number) shown → (rule ≡ 34) × ((number ≡ 1) × (status ≡ infeasible)) }
 {}
 
