@@ -1,5 +1,5 @@
 -- The answers of `whole` and `tree`, from what the search for names and the growing of a tree answer.
-use Rattle.std.proofs.Common.{◌≡◌, ◌≤◌, ℕ, nat_abs, List, map, Option, Some, None, Result, Ok, Err, IfOk, refl, string_bytes, subst, sym, ◌∙◌}
+use Rattle.std.proofs.Common.{◌≡◌, ◌≤◌, ℕ, nat_abs, List, map, Option, Some, None, Result, Ok, Err, IfOk, refl, subst, sym, ◌∙◌}
 use Rattle.std.proofs.lemmas.List.{length-map}
 use Rattle.std.specs.Prelude.{MatchOption}
 use Rattle.rob_algebra.specs.Fraction.{of_int}
@@ -38,7 +38,7 @@ use Rattle.rob_top.specs.declared.ended.Ended.TheVariants.{Whole}
 use Rattle.rob_top.specs.declared.files.Texts.{Texts}
 use Rattle.rob_top.specs.declared.reply.Reply.{Reply}
 use Rattle.rob_top.proofs.BoxPathLemmas.{box_spot, path_columns}
-use Rattle.rob_top.proofs.OwnLemmas.{has_names, word_came}
+use Rattle.rob_top.proofs.OwnLemmas.{has_names, own_told}
 use Rattle.rob_words.specs.Commands.{Line}
 use Rattle.rob_words.specs.Names.{parts_of}
 use Rattle.rob_words.specs.Values.{Word}
@@ -229,19 +229,18 @@ module _ (limit : ℕ) (m : RobustModel) where
       })
 
   -- the command has such a list among its own words
-  pub names_answer : (wides : Count) (verb : Verb) (texts : Texts) (words : List Word) (names : Word)
-      (r : Result Reply Want) → IsBranching verb
-      → words ≡ map string_bytes texts.words.items
-      → ((word : Word) → word_of own.Names (own_of verb) words ≡ Some word → names ≡ word)
-      → IfOk r (AnswersNames limit wides m verb names)
-      → IfOk r (AnswersModel limit wides m verb texts)
-  names_answer wides verb texts words names (Err want) is_branching same told h = tt
-  names_answer wides verb texts words names (Ok reply) is_branching same told h = λ call line at came has.
-      let here : IsBranching line.verb = subst (λ (v : Verb). IsBranching v) (sym at.verb_is) is_branching in
+  pub names_answer : (wides : Count) (line : Line) (texts : Texts) (words : List Word) (names : Word)
+      (r : Result Reply Want) → IsBranching line.verb
+      → line.own ≡ words
+      → ((word : Word) → word_of own.Names (own_of line.verb) words ≡ Some word → names ≡ word)
+      → IfOk r (AnswersNames limit wides m line.verb names)
+      → IfOk r (AnswersModel limit wides m line texts)
+  names_answer wides line texts words names (Err want) here same told h = tt
+  names_answer wides line texts words names (Ok reply) here same told h = λ call at came has.
       h call line at has
       (record {
         word = names;
-        told = word_came call line texts verb own.Names words names at.verb_is came
-            (has_names line.verb here) same told;
+        told = own_told call line line.verb own.Names words names refl came.spelled (has_names line.verb here) same
+            told;
         parts = refl;
       })

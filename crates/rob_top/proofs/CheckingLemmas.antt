@@ -201,16 +201,15 @@ module _ (limit : ℕ) (m : RobustModel) where
 -- ---- the answers
 module _ (limit : ℕ) (m : RobustModel) where
   -- the command is `check`, so the file of the certificate came
-  pub file_answers : (wides : Count) (verb : Verb) (texts : Texts) (text : List ℕ) (r : Result Reply Want)
-      → verb ≡ Check
+  pub file_answers : (wides : Count) (line : Line) (texts : Texts) (text : List ℕ) (r : Result Reply Want)
+      → line.verb ≡ Check
       → text ≡ texts.certificate.items → IfOk r (AnswersFile limit wides m text)
-      → IfOk r (AnswersWhole limit wides m verb texts)
-  file_answers wides verb texts text (Err want) e same h = tt
-  file_answers wides verb texts text (Ok reply) e same h = λ call line at came has.
-      let here : line.verb ≡ Check = at.verb_is ∙ e in
+      → IfOk r (AnswersWhole limit wides m line texts)
+  file_answers wides line texts text (Err want) here same h = tt
+  file_answers wides line texts text (Ok reply) here same h = λ call at came has.
       let names : has_kind own.Certificate (own_of line.verb) ≡ true =
       subst (λ (v : Verb). has_kind own.Certificate (own_of v) ≡ true) (sym here) refl in
-      h call line (call_of_verb limit wides verb Check call line e at)
+      h call line (call_of_verb limit wides line.verb Check call line here at)
       (record {
         read = has;
         is_verb = here;

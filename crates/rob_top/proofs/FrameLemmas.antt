@@ -1,5 +1,5 @@
 -- What a call answers, from what came of its files and what the work on them answers.
-use Rattle.std.proofs.Common.{◌≡◌, ◌≤◌, ◌^◌, ℕ, List, length, Vec, Global, Result, Ok, Err, IfOk, ap, refl, subst, sym, map, string_bytes}
+use Rattle.std.proofs.Common.{◌≡◌, ◌≤◌, ◌^◌, ℕ, List, Result, Ok, Err, IfOk, refl, subst, sym}
 use Rattle.rob_meaning.specs.Places.{Each}
 use Rattle.rob_number.specs.declared.memory.Memory.{Memory as Want}
 use Rattle.rob_outside.specs.Files.{whole}
@@ -9,7 +9,6 @@ use Rattle.rob_top.specs.Files.{IsFoundIn, requests}
 use Rattle.rob_top.specs.ComparedWork.{AnswersNumber}
 use Rattle.rob_top.specs.Headline.{Means}
 use Rattle.rob_top.specs.Replies.{AreFound, CameIn, HasTexts, IsAbsence, IsAbsentAmong, IsFetched, IsLine, Replies, text_of}
-use Rattle.rob_top.specs.Work.{IsShort}
 use Rattle.rob_top.specs.declared.ended.Ended.{Ended}
 use Rattle.rob_top.specs.declared.ended.Ended.TheVariants.{Words}
 use Rattle.rob_top.specs.declared.files.Files.{Files}
@@ -22,46 +21,8 @@ use Rattle.rob_words.specs.Commands.{Line, IsCommandLine, IsSpelled}
 use Rattle.rob_words.specs.Values.{Word}
 use Rattle.rob_words.specs.Verbs.{own_of}
 use Rattle.rob_words.specs.declared.line.CommandLine.{CommandLine}
-use Rattle.rob_words.specs.declared.verb.Own.{Own}
-use Rattle.rob_words.specs.declared.verb.Own.TheVariants as own
-
--- the same files
-abbrev pub SameFiles : Texts → Texts → Type 0
-SameFiles texts with =
-    (with.model ≡ texts.model) × (with.certificate ≡ texts.certificate) × (with.scenarios ≡ texts.scenarios)
-    × (with.tree ≡ texts.tree)
-
-text_kept : (kind : Own) (texts with : Texts) → SameFiles texts with → text_of kind with ≡ text_of kind texts
-text_kept own.Model texts with same = ap (λ (v : Vec ℕ Global). v.items) same.0
-text_kept own.Certificate texts with same = ap (λ (v : Vec ℕ Global). v.items) same.1
-text_kept own.Scenarios texts with same = ap (λ (v : Vec ℕ Global). v.items) same.2
-text_kept own.Number texts with same = refl
-text_kept own.Names texts with same = refl
-text_kept own.Form texts with same = refl
-text_kept own.Tree texts with same = ap (λ (v : Vec ℕ Global). v.items) same.3
-text_kept own.Statement texts with same = refl
-text_kept own.Limit texts with same = refl
-text_kept own.Limits texts with same = refl
-text_kept own.Cuts texts with same = refl
-
--- so they are short enough
-pub short_kept : (texts with : Texts) → SameFiles texts with → IsShort texts → IsShort with
-short_kept texts with same short = record {
-  model = subst (λ (v : Vec ℕ Global). length v.items ≤ 2 ^ 30) (sym same.0) short.model;
-  certificate = subst (λ (v : Vec ℕ Global). length v.items ≤ 2 ^ 30) (sym same.1) short.certificate;
-  scenarios = subst (λ (v : Vec ℕ Global). length v.items ≤ 2 ^ 30) (sym same.2) short.scenarios;
-  tree = subst (λ (v : Vec ℕ Global). length v.items ≤ 2 ^ 30) (sym same.3) short.tree;
-}
 
 module _ (line : CommandLine) (source : Source) (faults wides : Count) where
-  -- the own words are the line's
-  abbrev pub TakesWords : Texts → Type 0
-  TakesWords with = map string_bytes with.words.items ≡ (line_of line).own
-
-  -- and the route too
-  abbrev pub TakesRoute : Texts → Type 0
-  TakesRoute with = with.route ≡ (line_of line).way
-
   -- the reply answers each call of the line
   abbrev pub AnswersLine : Reply → Type 0
   AnswersLine reply =
@@ -72,15 +33,14 @@ module _ (line : CommandLine) (source : Source) (faults wides : Count) where
   abbrev LineFetched : Files → Type 0
   LineFetched files = IsFetched (own_of line.verb) (line_of line).own source faults files
 
-  -- the files came, and the work on them, with the line's own words, answers
-  pub texts_answer : (files : Files) (texts with : Texts) (r : Result Reply Want)
+  -- the files came, and the work on them answers
+  pub texts_answer : (files : Files) (texts : Texts) (r : Result Reply Want)
       → files ≡ fetch.Texts texts → LineFetched files
-      → SameFiles texts with → TakesWords with → TakesRoute with
-      → IfOk r (λ reply. (call : Call) → HasTexts call (line_of line) with → call.wides ≡ wides
+      → IfOk r (λ reply. (call : Call) → HasTexts call (line_of line) texts → call.wides ≡ wides
       → Means call reply.ended reply.text)
       → IfOk r AnswersLine
-  texts_answer files texts with (Err want) e came same words way h = tt
-  texts_answer files texts with (Ok reply) e came same words way h = λ call spelled source_is faults_is wides_is.
+  texts_answer files texts (Err want) e came h = tt
+  texts_answer files texts (Ok reply) e came h = λ call spelled source_is faults_is wides_is.
       let found : AreFound source (own_of line.verb) (line_of line).own texts =
       subst (λ (f : Files). LineFetched f) e came in
       h call
@@ -88,11 +48,8 @@ module _ (line : CommandLine) (source : Source) (faults wides : Count) where
         spelled = spelled;
         came = subst (λ (s : Source). Each (CameIn s) (requests (line_of line))) (sym source_is) found.came;
         found = λ kind r named.
-            subst (λ (s : Source). IsFoundIn s r (whole (text_of kind with))) (sym source_is)
-            (subst (λ (text : List ℕ). IsFoundIn source r (whole text)) (sym (text_kept kind texts with same))
-            (found.found kind r named));
-        words = words;
-        way = way;
+            subst (λ (s : Source). IsFoundIn s r (whole (text_of kind texts))) (sym source_is)
+            (found.found kind r named);
       })
       wides_is
 
@@ -113,17 +70,7 @@ module _ (line : CommandLine) (source : Source) (faults wides : Count) where
   line_answers words (Err want) spelled h = tt
   line_answers words (Ok reply) spelled h = h (call_of words source faults wides) spelled refl refl refl
 
--- what a command's work at its width answers, it answers each call of the line
-pub width_answers_line : (line : CommandLine) (texts : Texts) (wides : Count) (r : Result Reply Want)
-    → IfOk r (λ reply. (call : Call) (l : Line) → HasTexts call l texts → l.verb ≡ line.verb
-    → l.width ≡ line.width → call.wides ≡ wides
-    → Means call reply.ended reply.text)
-    → IfOk r (λ reply. (call : Call) → HasTexts call (line_of line) texts → call.wides ≡ wides
-    → Means call reply.ended reply.text)
-width_answers_line line texts wides (Err want) h = tt
-width_answers_line line texts wides (Ok reply) h = λ call came wides_is. h call (line_of line) came refl refl wides_is
-
--- and so does what a command's work on a number answers
+-- what a command's work on a number answers, it answers each call of the line
 pub number_answers_line : (line : Line) (texts : Texts) (wides : Count) (r : Result Reply Want)
     → IfOk r (AnswersNumber line wides)
     → IfOk r (λ reply. (call : Call) → HasTexts call line texts → call.wides ≡ wides

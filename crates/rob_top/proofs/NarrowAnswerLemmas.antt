@@ -38,7 +38,6 @@ use Rattle.rob_top.specs.declared.files.Texts.{Texts}
 use Rattle.rob_top.specs.declared.reply.Reply.{Reply}
 use Rattle.rob_words.specs.Commands.{Line}
 use Rattle.rob_words.specs.declared.route.Route.TheVariants.{Dual}
-use Rattle.rob_words.specs.declared.verb.Verb.{Verb}
 use Rattle.rob_words.specs.declared.verb.Verb.TheVariants.{Narrow}
 use Rattle.std.proofs.lemmas.Bool.{and_parts, and_from}
 
@@ -91,17 +90,17 @@ of_model m (Err want) forms set limit f st h = tt
 of_model m (Ok reply) forms set limit f st h = h m f st
 
 -- the reply of the work is the answer of the command
-pub narrow_answers : (limit : ℕ) (m : RobustModel) (wides : Count) (verb : Verb) (texts : Texts) (r : Result Reply Want)
-    → verb ≡ Narrow
-    → IfOk r (RepliesNarrow limit m) → IfOk r (AnswersWhole limit wides m verb texts)
-narrow_answers limit m wides verb texts (Err want) e is = tt
-narrow_answers limit m wides verb texts (Ok reply) e is = λ call line at came has.
+pub narrow_answers : (limit : ℕ) (m : RobustModel) (wides : Count) (line : Line) (texts : Texts) (r : Result Reply Want)
+    → line.verb ≡ Narrow
+    → IfOk r (RepliesNarrow limit m) → IfOk r (AnswersWhole limit wides m line texts)
+narrow_answers limit m wides line texts (Err want) e is = tt
+narrow_answers limit m wides line texts (Ok reply) e is = λ call at came has.
     subst (λ (ended : Ended). Means call ended reply.text) (sym is.0)
     (narrowed (record {
       line = line;
       m = m;
       forms = has;
-      is_narrow = at.verb_is ∙ e;
+      is_narrow = e;
       told = subst (λ (l : ℕ). TellsNarrow l m reply.text) (sym at.limit_is) is.1;
     }))
 

@@ -1,5 +1,5 @@
 -- Which files a command line names, by the kinds of its own words.
-use Rattle.std.proofs.Common.{◌≡◌, ◌||◌, ℕ, Bool, true, false, not, refl, sym, ◌∙◌, ap, subst, arith, List, [], ◌∷◌, length, Option, Some, None, Vec, Global, map, rules, string_bytes, inl, inr, ◌⊎◌}
+use Rattle.std.proofs.Common.{◌≡◌, ◌||◌, ℕ, Bool, true, false, not, refl, sym, ◌∙◌, ap, subst, arith, List, [], ◌∷◌, length, Option, Some, None, Vec, Global, rules, inl, inr, ◌⊎◌}
 use Rattle.std.specs.Prelude.{if◌then◌else◌, option_map}
 use denote.Enum.Bare.{same_true, sameb}
 use Rattle.rob_top.proofs.CommandLemmas.{is_branching_work}
@@ -175,15 +175,6 @@ pub own_of_kind : (limit : ℕ) (call : Call) (line : Line) (kind : Own) (word :
 own_of_kind limit call line kind word spelled at told =
     kind_kept limit kind (own_of line.verb) line.own word
     (subst (λ (l : ℕ). AreOfKinds l (own_of line.verb) line.own) at spelled.1.kinds) told
-
--- a word that the command's own words give for a kind is the line's
-pub word_came : (call : Call) (line : Line) (texts : Texts) (verb : Verb) (kind : Own) (words : List Word) (word : Word)
-    → line.verb ≡ verb
-    → HasTexts call line texts → has_kind kind (own_of line.verb) ≡ true → words ≡ map string_bytes texts.words.items
-    → ((other : Word) → word_of kind (own_of verb) words ≡ Some other → word ≡ other)
-    → word_of kind (own_of line.verb) line.own ≡ Some word
-word_came call line texts verb kind words word is came has same told =
-    own_told call line verb kind words word is came.spelled has (sym (same ∙ came.words)) told
 
 -- the file of a kind that the line names came with the text of that kind
 pub file_came : (call : Call) (line : Line) (texts : Texts) (kind : Own) (most : ℕ) → most_of kind ≡ Some most

@@ -36,6 +36,7 @@ use Rattle.rob_top.specs.declared.files.Texts.{Texts}
 use Rattle.rob_top.specs.declared.reply.Reply.{Reply}
 use Rattle.rob_top.proofs.OwnLemmas.{file_came, has_kind}
 use Rattle.rob_top.proofs.WorkLemmas.{call_of_verb, call_within, rose_earlier}
+use Rattle.rob_words.specs.Commands.{Line}
 use Rattle.rob_words.specs.Verbs.{own_of}
 use Rattle.rob_words.specs.Verbs.{takes_route}
 use Rattle.rob_words.specs.declared.verb.Own.{Own}
@@ -166,18 +167,17 @@ module _ (limit : ℕ) (m : RobustModel) where
       scenarios
 
   -- ---- the command is `replay`, so the files of the certificate and of scenarios came
-  pub replay_answers : (wides : Count) (verb : Verb) (texts : Texts) (certificate text : List ℕ) (r : Result Reply Want)
-      → verb ≡ Replay
+  pub replay_answers : (wides : Count) (line : Line) (texts : Texts) (certificate text : List ℕ) (r : Result Reply Want)
+      → line.verb ≡ Replay
       → certificate ≡ texts.certificate.items → text ≡ texts.scenarios.items
       → IfOk r (AnswersReplay limit wides m certificate text)
-      → IfOk r (AnswersModel limit wides m verb texts)
-  replay_answers wides verb texts certificate text (Err want) e same alike h = tt
-  replay_answers wides verb texts certificate text (Ok reply) e same alike h = λ call line at came has.
-      let here : line.verb ≡ Replay = at.verb_is ∙ e in
+      → IfOk r (AnswersModel limit wides m line texts)
+  replay_answers wides line texts certificate text (Err want) here same alike h = tt
+  replay_answers wides line texts certificate text (Ok reply) here same alike h = λ call at came has.
       let names : (kind : Own) → has_kind kind (own_of Replay) ≡ true → has_kind kind (own_of line.verb) ≡ true =
       λ kind is. subst (λ (v : Verb). has_kind kind (own_of v) ≡ true) (sym here) is
       in
-      h call line (call_of_verb limit wides verb Replay call line e at)
+      h call line (call_of_verb limit wides line.verb Replay call line here at)
       (record {
         read = has;
         is_verb = here;

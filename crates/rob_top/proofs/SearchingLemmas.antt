@@ -1,5 +1,5 @@
 -- The answers of `worst`, from what the reading of a certificate and the search answer.
-use Rattle.std.proofs.Common.{◌≡◌, ◌≢◌, ℕ, ◌<◌, ◌≤◌, true, List, [], ◌∷◌, length, map, Some, None, Result, Ok, Err, IfOk, inl, inr, refl, string_bytes, subst, sym, ap, ◌∙◌, ◌⊎◌, arith}
+use Rattle.std.proofs.Common.{◌≡◌, ◌≢◌, ℕ, ◌<◌, ◌≤◌, true, List, [], ◌∷◌, length, map, Some, None, Result, Ok, Err, IfOk, inl, inr, refl, subst, sym, ap, ◌∙◌, ◌⊎◌, arith}
 use Rattle.std.proofs.lemmas.List.{length-map}
 use Rattle.std.proofs.lemmas.Option.{get_or_from_slice_get, slice_get-get_or, slice_get_within}
 use Rattle.rob_algebra.specs.Fraction.{Fraction, of_int, ◌+ℚ◌, ◌≤ℚ◌}
@@ -35,9 +35,10 @@ use Rattle.rob_runs.specs.Searches.{FindsRay}
 use Rattle.rob_runs.specs.Spots.{IsWideSlack, slack_of}
 use Rattle.rob_runs.specs.Told.{HasNoGreatestAlong, TellsWorst}
 use Rattle.rob_top.proofs.DefaultRoutes.{told_alone}
+use Rattle.rob_words.specs.Commands.{Line}
 use Rattle.rob_words.specs.Verbs.{takes_route}
 use Rattle.rob_worst.specs.Finding.{Tells}
-use Rattle.rob_top.proofs.OwnLemmas.{file_came, has_form, has_kind, word_came}
+use Rattle.rob_top.proofs.OwnLemmas.{file_came, has_form, has_kind, own_told}
 use Rattle.rob_top.proofs.WorkLemmas.{call_of_verb, call_within, rose_earlier}
 use Rattle.rob_top.proofs.WorstSlackLemmas.{bound_slack, fitting_slack, scale_some, worst_found_at}
 use Rattle.rob_top.specs.Answers.{certificate_fault_text, no_row_text}
@@ -85,26 +86,25 @@ form_matrix m form h = omega (arith, h, length-map (forms m) (matrix_of m))
 
 module _ (limit : ℕ) (m : RobustModel) where
   -- ---- the texts of a call
-  pub search_answers : (wides : Count) (verb : Verb) (texts : Texts) (certificate : List ℕ) (words : List Word)
+  pub search_answers : (wides : Count) (line : Line) (texts : Texts) (certificate : List ℕ) (words : List Word)
       (name : Word) (r : Result Reply Want)
-      → verb ≡ Worst → certificate ≡ texts.certificate.items → words ≡ map string_bytes texts.words.items
-      → ((word : Word) → word_of own.Form (own_of verb) words ≡ Some word → name ≡ word)
+      → line.verb ≡ Worst → certificate ≡ texts.certificate.items → line.own ≡ words
+      → ((word : Word) → word_of own.Form (own_of line.verb) words ≡ Some word → name ≡ word)
       → IfOk r (AnswersSearch limit wides m certificate name)
-      → IfOk r (AnswersWhole limit wides m verb texts)
-  search_answers wides verb texts certificate words name (Err want) e same alike told h = tt
-  search_answers wides verb texts certificate words name (Ok reply) e same alike told h = λ call line at came has.
-      let here : line.verb ≡ Worst = at.verb_is ∙ e in
+      → IfOk r (AnswersWhole limit wides m line texts)
+  search_answers wides line texts certificate words name (Err want) here same alike told h = tt
+  search_answers wides line texts certificate words name (Ok reply) here same alike told h = λ call at came has.
       let names : has_kind own.Certificate (own_of line.verb) ≡ true =
       subst (λ (v : Verb). has_kind own.Certificate (own_of v) ≡ true) (sym here) refl
       in
-      h call line (call_of_verb limit wides verb Worst call line e at)
+      h call line (call_of_verb limit wides line.verb Worst call line here at)
       (record {
         read = has;
         is_verb = here;
         file = subst (λ (list : List ℕ). HasFile call line own.Certificate list) (sym same)
             (file_came call line texts own.Certificate _ refl came names);
       })
-      (word_came call line texts verb own.Form words name at.verb_is came (has_form line.verb here) alike told)
+      (own_told call line line.verb own.Form words name refl came.spelled (has_form line.verb here) alike told)
 
   -- ---- a certificate's text
   module _ (name : Word) where

@@ -1,5 +1,5 @@
 -- The answers of `sweep` and `sweeptext`, from what the words tell and what the sweep answers.
-use Rattle.std.proofs.Common.{◌≡◌, ◌≤◌, ◌<◌, ◌++◌, ℕ, ◌-◌, suc, true, List, [], ◌∷◌, length, map, string_bytes, Some, Result, Ok, Err, IfOk, get_or, inl, inr, refl, subst, sym, ap, ◌∙◌, arith}
+use Rattle.std.proofs.Common.{◌≡◌, ◌≤◌, ◌<◌, ◌++◌, ℕ, ◌-◌, suc, true, List, [], ◌∷◌, length, map, Some, Result, Ok, Err, IfOk, get_or, inl, inr, refl, subst, sym, ap, ◌∙◌, arith}
 use Rattle.std.proofs.lemmas.List.{length-map}
 use Rattle.rob_algebra.specs.Fraction.{Fraction}
 use Rattle.rob_algebra.specs.Width.{Fits}
@@ -271,17 +271,16 @@ limit_replies m changed n g (Ok reply) budget same is =
 
 -- ---- the command's own words are the line's
 module _ (limit : ℕ) (m : RobustModel) where
-  pub words_answer : (wides : Count) (verb : Verb) (texts : Texts) (words : List Word) (r : Result Reply Want)
-      → words ≡ map string_bytes texts.words.items → IfOk r (AnswersWords limit wides m verb words)
-      → IfOk r (AnswersModel limit wides m verb texts)
-  words_answer wides verb texts words (Err want) same h = tt
-  words_answer wides verb texts words (Ok reply) same h =
-      λ call line at came has. h call line at has (sym (same ∙ came.words))
+  pub words_answer : (wides : Count) (line : Line) (texts : Texts) (words : List Word) (r : Result Reply Want)
+      → line.own ≡ words → IfOk r (AnswersWords limit wides m line.verb words)
+      → IfOk r (AnswersModel limit wides m line texts)
+  words_answer wides line texts words (Err want) same h = tt
+  words_answer wides line texts words (Ok reply) same h = λ call at came has. h call line at has same
 
-  pub words_answer_at : (wides : Count) (verb other : Verb) (texts : Texts) (words : List Word) (r : Result Reply Want)
-      → verb ≡ other
-      → words ≡ map string_bytes texts.words.items → IfOk r (AnswersWords limit wides m other words)
-      → IfOk r (AnswersModel limit wides m verb texts)
-  words_answer_at wides verb other texts words r e same h =
-      words_answer wides verb texts words r same
+  pub words_answer_at : (wides : Count) (line : Line) (verb : Verb) (texts : Texts) (words : List Word)
+      (r : Result Reply Want) → line.verb ≡ verb
+      → line.own ≡ words → IfOk r (AnswersWords limit wides m verb words)
+      → IfOk r (AnswersModel limit wides m line texts)
+  words_answer_at wides line verb texts words r e same h =
+      words_answer wides line texts words r same
       (subst (λ (v : Verb). IfOk r (AnswersWords limit wides m v words)) (sym e) h)

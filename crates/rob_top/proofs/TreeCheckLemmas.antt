@@ -1,5 +1,5 @@
 -- The answers of `checktree`, from what the search for names, the reading of a tree and its check answer.
-use Rattle.std.proofs.Common.{◌≡◌, ◌≤◌, ℕ, List, map, Some, None, true, Result, Ok, Err, IfOk, refl, string_bytes, subst, sym, ◌∙◌}
+use Rattle.std.proofs.Common.{◌≡◌, ◌≤◌, ℕ, List, map, Some, None, true, Result, Ok, Err, IfOk, refl, subst, sym, ◌∙◌}
 use Rattle.rob_branch.specs.Verdicts.{IsAccepted, IsRejectedAt, IsTooWideAt, IsVerdict, OnAccepted, RoseIfTooWide}
 use Rattle.rob_meaning.specs.RobustModel.{RobustModel}
 use Rattle.rob_number.specs.declared.memory.Memory.{Memory as Want}
@@ -14,7 +14,7 @@ use Rattle.rob_tree.specs.View.{branch_of}
 use Rattle.rob_tree.specs.declared.verdict.LeafFault.{LeafFault}
 use Rattle.rob_tree.specs.declared.verdict.TreeVerdict.{TreeVerdict}
 use Rattle.rob_tree.specs.declared.verdict.TreeVerdict.TheVariants as verdict
-use Rattle.rob_top.proofs.OwnLemmas.{file_came, has_kind, word_came}
+use Rattle.rob_top.proofs.OwnLemmas.{file_came, has_kind, own_told}
 use Rattle.rob_top.proofs.WorkLemmas.{call_of_verb, call_within, rose_earlier}
 use Rattle.rob_top.specs.Answers.{tree_fault_text, whole_fault_text}
 use Rattle.rob_top.specs.Branched.{no_ranges, no_variables}
@@ -30,6 +30,7 @@ use Rattle.rob_top.specs.declared.ended.Ended.{Ended}
 use Rattle.rob_top.specs.declared.ended.Ended.TheVariants.{Whole, Tree as TreeRule}
 use Rattle.rob_top.specs.declared.files.Texts.{Texts}
 use Rattle.rob_top.specs.declared.reply.Reply.{Reply}
+use Rattle.rob_words.specs.Commands.{Line}
 use Rattle.rob_words.specs.Names.{parts_of}
 use Rattle.rob_words.specs.Values.{Word}
 use Rattle.rob_words.specs.Verbs.{own_of}
@@ -170,18 +171,18 @@ module _ (limit : ℕ) (m : RobustModel) where
       → has_kind kind (own_of verb) ≡ true
   own_kind verb kind e h = subst (λ (v : Verb). has_kind kind (own_of v) ≡ true) (sym e) h
 
-  pub texts_answers : (wides : Count) (verb : Verb) (texts : Texts) (words : List Word) (names : Word)
+  pub texts_answers : (wides : Count) (line : Line) (texts : Texts) (words : List Word) (names : Word)
       (text : List ℕ) (r : Result Reply Want)
-      → verb ≡ CheckTree → words ≡ map string_bytes texts.words.items
-      → ((word : Word) → word_of own.Names (own_of verb) words ≡ Some word → names ≡ word) → text ≡ texts.tree.items
-      → IfOk r (AnswersTreeNames limit wides m names text) → IfOk r (AnswersModel limit wides m verb texts)
-  texts_answers wides verb texts words names text (Err want) e same told alike h = tt
-  texts_answers wides verb texts words names text (Ok reply) e same told alike h = λ call line at came has.
-      let here : line.verb ≡ CheckTree = at.verb_is ∙ e in
-      h call line (call_of_verb limit wides verb CheckTree call line e at) has
+      → line.verb ≡ CheckTree → line.own ≡ words
+      → ((word : Word) → word_of own.Names (own_of line.verb) words ≡ Some word → names ≡ word)
+      → text ≡ texts.tree.items
+      → IfOk r (AnswersTreeNames limit wides m names text) → IfOk r (AnswersModel limit wides m line texts)
+  texts_answers wides line texts words names text (Err want) here same told alike h = tt
+  texts_answers wides line texts words names text (Ok reply) here same told alike h = λ call at came has.
+      h call line (call_of_verb limit wides line.verb CheckTree call line here at) has
       (record {
         word = names;
-        told = word_came call line texts verb own.Names words names at.verb_is came
+        told = own_told call line line.verb own.Names words names refl came.spelled
             (own_kind line.verb own.Names here refl) same told;
         parts = refl;
       })

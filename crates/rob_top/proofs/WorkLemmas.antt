@@ -17,7 +17,7 @@ use Rattle.rob_sets.specs.declared.error.ElabErr.{ElabErr}
 use Rattle.rob_sets.specs.declared.error.ElabErr.TheVariants as refused
 use Rattle.rob_top.specs.Answers.{model_fault_text}
 use Rattle.rob_top.specs.Calls.{Call, Count, count, WasRaised}
-use Rattle.rob_top.specs.Commands.{IsElaborating, IsOnModel, reads_model}
+use Rattle.rob_top.specs.Commands.{IsElaborating, IsOnModel}
 use Rattle.rob_top.specs.Headline.{Means}
 use Rattle.rob_top.specs.Refused.{elaborating}
 use Rattle.rob_top.specs.Replies.{HasTexts, Replies}
@@ -79,64 +79,63 @@ call_of_verb limit wides verb same call line e at = record {
 }
 
 -- what the work answers at the width of the line
-pub width_answers : (verb : Verb) (width same : Width) (before now : ℕ) (texts : Texts) (r : Result Reply Want)
-    → width ≡ same
-    → IfOk r (AnswersTexts (Lowest.limit_of (bits_of same)) (count before now) verb texts)
-    → IfOk r (λ reply. (call : Call) (line : Line) → HasTexts call line texts → line.verb ≡ verb → line.width ≡ width
-    → call.wides ≡ count before now
+pub width_answers : (line : Line) (same : Width) (before now : ℕ) (texts : Texts) (r : Result Reply Want)
+    → line.width ≡ same
+    → IfOk r (AnswersTexts (Lowest.limit_of (bits_of same)) (count before now) line texts)
+    → IfOk r (λ reply. (call : Call) → HasTexts call line texts → call.wides ≡ count before now
     → Means call reply.ended reply.text)
-width_answers verb width same before now texts (Err want) e h = tt
-width_answers verb width same before now texts (Ok reply) e h = λ call line came verb_is is counted.
-    h call line
+width_answers line same before now texts (Err want) e h = tt
+width_answers line same before now texts (Ok reply) e h = λ call came counted.
+    h call
     (record {
-      verb_is = verb_is;
-      limit_is = ap (λ (w : Width). 2 ^ bits_of w - 1) (is ∙ e) ∙ sym (limit_is same);
+      verb_is = refl;
+      limit_is = ap (λ (w : Width). 2 ^ bits_of w - 1) e ∙ sym (limit_is same);
       raised = λ rose. subst (λ (c : Count). WasRaised c) (sym counted) rose;
     })
     came
 
 -- ---- a text that breaks a rule, and one that is read
 
-rule_answers : (limit : ℕ) (wides : Count) (verb : Verb) (texts : Texts) (rule number : ℕ) (reply : Reply)
-    → IsOnModel verb → Breaks limit texts.model.items rule number
-    → Replies (Model rule number) (model_fault_text rule number) reply → AnswersTexts limit wides verb texts reply
-rule_answers limit wides verb texts rule number reply reads broken is = λ call line at came.
+rule_answers : (limit : ℕ) (wides : Count) (line : Line) (texts : Texts) (rule number : ℕ) (reply : Reply)
+    → IsOnModel line.verb → Breaks limit texts.model.items rule number
+    → Replies (Model rule number) (model_fault_text rule number) reply → AnswersTexts limit wides line texts reply
+rule_answers limit wides line texts rule number reply reads broken is = λ call at came.
     subst (λ (ended : Ended). Means call ended reply.text) (sym is.0)
     (record {
       line = line;
       spelled = came.spelled;
       came = came.came;
       bytes = texts.model.items;
-      file = file_came call line texts own.Model _ refl came (has_model line.verb (ap reads_model at.verb_is ∙ reads));
+      file = file_came call line texts own.Model _ refl came (has_model line.verb reads);
       breaks = subst (λ (l : ℕ). Breaks l texts.model.items rule number) (sym at.limit_is) broken;
       printed = is.1;
     })
 
-pub unread_answers : (limit : ℕ) (wides : Count) (verb : Verb) (texts : Texts) (text : List ℕ)
+pub unread_answers : (limit : ℕ) (wides : Count) (line : Line) (texts : Texts) (text : List ℕ)
     (e : ModelErr) (r : Result Reply Want)
-    → IsOnModel verb → text ≡ texts.model.items → HasModelCause limit text e → IfOk r (RepliesUnread e)
-    → IfOk r (AnswersTexts limit wides verb texts)
-unread_answers limit wides verb texts text e (Err want) reads same cause is = tt
-unread_answers limit wides verb texts text (unread.Rule rule number) (Ok reply) reads same cause is =
-    rule_answers limit wides verb texts rule number reply reads
+    → IsOnModel line.verb → text ≡ texts.model.items → HasModelCause limit text e → IfOk r (RepliesUnread e)
+    → IfOk r (AnswersTexts limit wides line texts)
+unread_answers limit wides line texts text e (Err want) reads same cause is = tt
+unread_answers limit wides line texts text (unread.Rule rule number) (Ok reply) reads same cause is =
+    rule_answers limit wides line texts rule number reply reads
     (subst (λ (bytes : List ℕ). Breaks limit bytes rule number) same cause) is
-unread_answers limit wides verb texts text unread.Memory (Ok reply) reads same cause is = absurd is
+unread_answers limit wides line texts text unread.Memory (Ok reply) reads same cause is = absurd is
 
-pub model_answers : (limit before middle now : ℕ) (verb : Verb) (texts : Texts) (text : List ℕ)
+pub model_answers : (limit before middle now : ℕ) (line : Line) (texts : Texts) (text : List ℕ)
     (m : RobustModel) (r : Result Reply Want)
-    → IsOnModel verb → text ≡ texts.model.items → ReadsModel limit text m → before ≡ middle
-    → IfOk r (AnswersModel limit (count middle now) m verb texts)
-    → IfOk r (AnswersTexts limit (count before now) verb texts)
-model_answers limit before middle now verb texts text m (Err want) reads same read e h = tt
-model_answers limit before middle now verb texts text m (Ok reply) reads same read e h = λ call line at came.
-    h call line
-    (call_within limit (count middle now) (count before now) verb call line
+    → IsOnModel line.verb → text ≡ texts.model.items → ReadsModel limit text m → before ≡ middle
+    → IfOk r (AnswersModel limit (count middle now) m line texts)
+    → IfOk r (AnswersTexts limit (count before now) line texts)
+model_answers limit before middle now line texts text m (Err want) reads same read e h = tt
+model_answers limit before middle now line texts text m (Ok reply) reads same read e h = λ call at came.
+    h call
+    (call_within limit (count middle now) (count before now) line.verb call line
     (λ rose. subst (λ (n : ℕ). Rose n now) (sym e) rose) at) came
     (record {
       spelled = came.spelled;
       came = came.came;
       bytes = texts.model.items;
-      file = file_came call line texts own.Model _ refl came (has_model line.verb (ap reads_model at.verb_is ∙ reads));
+      file = file_came call line texts own.Model _ refl came (has_model line.verb reads);
       reads = subst (λ (l : ℕ). ReadsModel l texts.model.items m) (sym at.limit_is)
           (subst (λ (bytes : List ℕ). ReadsModel limit bytes m) same read);
     })
@@ -159,51 +158,50 @@ module _ (limit : ℕ) (m : RobustModel) where
       none h)
 
   -- a number is wide, first
-  spot_answers : (wides : Count) (verb : Verb) (texts : Texts) (spot : _) (reply : Reply) → IsElaborating verb
+  spot_answers : (wides : Count) (line : Line) (texts : Texts) (spot : Spot) (reply : Reply) → IsElaborating line.verb
       → IsFirstWide limit m (judged m) spot → WasRaised wides
-      → RepliesRefused m texts.route (refused.Wide spot) reply → AnswersModel limit wides m verb texts reply
-  spot_answers wides verb texts spot reply makes first rose is = λ call line at came has.
+      → RepliesRefused m line.way (refused.Wide spot) reply → AnswersModel limit wides m line texts reply
+  spot_answers wides line texts spot reply makes first rose is = λ call at came has.
       subst (λ (ended : Ended). Means call ended reply.text) (sym is.0)
       (in_model (record {
         line = line;
         m = m;
-        wide = elaborating has (subst (λ (v : Verb). IsElaborating v) (sym at.verb_is) makes)
-            (subst (λ (l : ℕ). IsFirstWide l m (judged m) spot) (sym at.limit_is) first);
+        wide = elaborating has makes (subst (λ (l : ℕ). IsFirstWide l m (judged m) spot) (sym at.limit_is) first);
         raised = at.raised rose;
-        printed = subst (λ (way : Route). reply.text ≡ with_rounds way m [] (too_wide_line m spot)) came.way is.1;
+        printed = is.1;
       }))
 
-  pub refused_answers : (before now : ℕ) (verb : Verb) (texts : Texts) (e : ElabErr) (r : Result Reply Want)
-      → IsElaborating verb → HasCause limit m (judged m) e → RoseIfWide before now e
-      → IfOk r (RepliesRefused m texts.route e) → IfOk r (AnswersModel limit (count before now) m verb texts)
-  refused_answers before now verb texts e (Err want) makes cause rose is = tt
-  refused_answers before now verb texts (refused.Wide spot) (Ok reply) makes cause rose is =
-      spot_answers (count before now) verb texts spot reply makes cause rose is
-  refused_answers before now verb texts refused.Memory (Ok reply) makes cause rose is = absurd is
+  pub refused_answers : (before now : ℕ) (line : Line) (texts : Texts) (e : ElabErr) (r : Result Reply Want)
+      → IsElaborating line.verb → HasCause limit m (judged m) e → RoseIfWide before now e
+      → IfOk r (RepliesRefused m line.way e) → IfOk r (AnswersModel limit (count before now) m line texts)
+  refused_answers before now line texts e (Err want) makes cause rose is = tt
+  refused_answers before now line texts (refused.Wide spot) (Ok reply) makes cause rose is =
+      spot_answers (count before now) line texts spot reply makes cause rose is
+  refused_answers before now line texts refused.Memory (Ok reply) makes cause rose is = absurd is
 
   -- none is
-  pub whole_answers : (before middle now : ℕ) (verb : Verb) (texts : Texts) (r : Result Reply Want) → before ≤ middle
-      → IsWritten limit m → IfOk r (AnswersWhole limit (count middle now) m verb texts)
-      → IfOk r (AnswersModel limit (count before now) m verb texts)
-  whole_answers before middle now verb texts (Err want) least written h = tt
-  whole_answers before middle now verb texts (Ok reply) least written h = λ call line at came has.
-      h call line
-      (call_within limit (count middle now) (count before now) verb call line
+  pub whole_answers : (before middle now : ℕ) (line : Line) (texts : Texts) (r : Result Reply Want) → before ≤ middle
+      → IsWritten limit m → IfOk r (AnswersWhole limit (count middle now) m line texts)
+      → IfOk r (AnswersModel limit (count before now) m line texts)
+  whole_answers before middle now line texts (Err want) least written h = tt
+  whole_answers before middle now line texts (Ok reply) least written h = λ call at came has.
+      h call
+      (call_within limit (count middle now) (count before now) line.verb call line
       (rose_earlier before middle now least) at) came
       (record { model = has; none_wide = subst (λ (l : ℕ). IsWritten l m) (sym at.limit_is) written })
 
   -- the rows are printed
-  pub rows_answer : (wides : Count) (verb : Verb) (texts : Texts) (r : Result Reply Want) → verb ≡ Rows
+  pub rows_answer : (wides : Count) (line : Line) (texts : Texts) (r : Result Reply Want) → line.verb ≡ Rows
       → IfOk r (Replies Printed (rows_of m))
-      → IfOk r (AnswersWhole limit wides m verb texts)
-  rows_answer wides verb texts (Err want) e is = tt
-  rows_answer wides verb texts (Ok reply) e is = λ call line at came has.
+      → IfOk r (AnswersWhole limit wides m line texts)
+  rows_answer wides line texts (Err want) e is = tt
+  rows_answer wides line texts (Ok reply) e is = λ call at came has.
       subst (λ (ended : Ended). Means call ended reply.text) (sym is.0)
-      (rows (record { line = line; m = m; forms = has; is_rows = at.verb_is ∙ e; printed = is.1 }))
+      (rows (record { line = line; m = m; forms = has; is_rows = e; printed = is.1 }))
 
-  -- the same command, whose other texts don't count
-  pub at_verb : (wides : Count) (verb same : Verb) (texts : Texts) (r : Result Reply Want) → verb ≡ same
-      → IfOk r (AnswersRoute limit wides m same texts.route) → IfOk r (AnswersWhole limit wides m verb texts)
-  at_verb wides verb same texts (Err want) e h = tt
-  at_verb wides verb same texts (Ok reply) e h = λ call line at came has.
-      h call line (call_of_verb limit wides verb same call line e at) (sym came.way) has
+  -- no other text counts
+  pub at_verb : (wides : Count) (line : Line) (verb : Verb) (texts : Texts) (r : Result Reply Want) → line.verb ≡ verb
+      → IfOk r (AnswersRoute limit wides m verb line.way) → IfOk r (AnswersWhole limit wides m line texts)
+  at_verb wides line verb texts (Err want) e h = tt
+  at_verb wides line verb texts (Ok reply) e h = λ call at came has.
+      h call line (call_of_verb limit wides line.verb verb call line e at) refl has

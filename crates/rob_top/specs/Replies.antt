@@ -1,5 +1,5 @@
 -- Answers with their texts, before they are put, and what the files' fetch gives the call that asked for them.
-use Rattle.std.specs.Prelude.{◌≡◌, ◌≤◌, ℕ, List, [], ◌∷◌, ◌++◌, length, map, Option, Some, Vec, string_bytes}
+use Rattle.std.specs.Prelude.{◌≡◌, ◌≤◌, ℕ, List, [], ◌∷◌, ◌++◌, length, Option, Some, Vec}
 use Rattle.std.specs.declared.alloc.Global.{Global}
 use Rattle.rob_outside.specs.Fetches.{Fetch, fetch_of}
 use Rattle.rob_meaning.specs.Places.{Each}
@@ -106,15 +106,12 @@ IsNothing (fetch.Texts texts) =
     (texts.model.items ≡ []) × (texts.certificate.items ≡ []) × (texts.scenarios.items ≡ []) × (texts.tree.items ≡ [])
 IsNothing (fetch.Answer reply) = ⊥
 
--- the words are the command line, the files that it names came with these texts, and its own words and its route are
--- theirs
+-- the words are the command line, and the files that it names came with these texts
 pub record HasTexts (call : Call) (line : Line) (texts : Texts) : Type 0 where
   pub spelled : IsSpelled call.words line
   pub came : Each (Came call) (requests line)
   pub found : (kind : Own) (request : Request) → request_of kind (own_of line.verb) line.own ≡ Some request
       → IsFound call request (whole (text_of kind texts))
-  pub words : map string_bytes texts.words.items ≡ line.own
-  pub way : texts.route ≡ line.way
 
 -- the file came whole
 abbrev pub CameIn : Source → Request → Type 0

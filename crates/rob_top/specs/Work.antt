@@ -63,28 +63,26 @@ pub record IsCallAt (limit : ℕ) (wides : Count) (verb : Verb) (call : Call) (l
   pub raised : WasRaised wides → WasRaised call.wides
 
 module _ (limit : ℕ) (wides : Count) where
-  -- the reply is the answer of each call of the command, at the limit, whose files came with these texts
-  abbrev pub AnswersTexts : Verb → Texts → Reply → Type 0
-  AnswersTexts verb texts reply =
-      (call : Call) (line : Line) → IsCallAt limit wides verb call line → HasTexts call line texts
+  -- the reply is the answer of each call of the command line, at the limit, whose files came with these texts
+  abbrev pub AnswersTexts : Line → Texts → Reply → Type 0
+  AnswersTexts line texts reply =
+      (call : Call) → IsCallAt limit wides line.verb call line → HasTexts call line texts
       → Means call reply.ended reply.text
 
   module _ (m : RobustModel) where
     -- that of each one whose model's text is read as the model
-    abbrev pub AnswersModel : Verb → Texts → Reply → Type 0
-    AnswersModel verb texts reply =
-        (call : Call) (line : Line) → IsCallAt limit wides verb call line
-        → HasTexts call line texts → HasModel call line m
+    abbrev pub AnswersModel : Line → Texts → Reply → Type 0
+    AnswersModel line texts reply =
+        (call : Call) → IsCallAt limit wides line.verb call line → HasTexts call line texts → HasModel call line m
         → Means call reply.ended reply.text
 
     -- and no number of whose set rows and forms is wide
-    abbrev pub AnswersWhole : Verb → Texts → Reply → Type 0
-    AnswersWhole verb texts reply =
-        (call : Call) (line : Line) → IsCallAt limit wides verb call line
-        → HasTexts call line texts → HasForms call line m
+    abbrev pub AnswersWhole : Line → Texts → Reply → Type 0
+    AnswersWhole line texts reply =
+        (call : Call) → IsCallAt limit wides line.verb call line → HasTexts call line texts → HasForms call line m
         → Means call reply.ended reply.text
 
-    -- the same where no other text counts, by this route
+    -- that of each one of this command, by this route, where no text counts but the model's
     abbrev pub AnswersRoute : Verb → Route → Reply → Type 0
     AnswersRoute verb way reply =
         (call : Call) (line : Line) → IsCallAt limit wides verb call line → line.way ≡ way → HasForms call line m

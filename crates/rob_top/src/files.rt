@@ -14,20 +14,16 @@ use crate::ended::Ended;
 use crate::reply::{Reply, fault};
 use rob_number::Memory;
 use rob_outside::{Fetched, Shelf, ShelfErr};
-use rob_words::{CommandLine, Own, Route};
+use rob_words::{CommandLine, Own};
 use std::alloc::Global;
 
-/// The texts of a command's files, by their kinds, its own words, and its route. A text that the command doesn't have
-/// is empty.
+/// The texts of a command's files, by their kinds. A text that the command doesn't have is empty.
 #[derive(Debug, Drop)]
 pub struct Texts {
     pub model: Vec<u8>,
     pub certificate: Vec<u8>,
     pub scenarios: Vec<u8>,
     pub tree: Vec<u8>,
-    /// The command's own words, in their order.
-    pub words: Vec<String>,
-    pub route: Route,
 }
 
 /// What came of a command's files: the texts of all of them, or the answer that ends the call.
@@ -101,8 +97,6 @@ fn no_files(alloc: Global) -> Files
         certificate: Vec::new(alloc),
         scenarios: Vec::new(alloc),
         tree: Vec::new(alloc),
-        words: Vec::new(alloc),
-        route: Route::Dual,
     })
 }
 

@@ -1,4 +1,4 @@
-//! The own words of a command that name no file: a list of names, a form's name.
+//! The own words of a command that name no file, and the variables that a list of names names.
 
 ghost use Rattle.std.specs.Prelude.{◌≡◌, ◌<◌, ◌↔◌, List, IfOk, IsTrue, MatchOption, Some, length, map, option_map, string_bytes, ℕ};
 ghost use Rattle.rob_cert.specs.Spelling.{name_at};
@@ -13,40 +13,10 @@ ghost use Rattle.rob_words.specs.Names.{parts_of};
 ghost use Rattle.rob_words.specs.Values.{Word};
 ghost use Rattle.rob_words.specs.Verbs.{own_of};
 
-use crate::files::Texts;
 use rob_model::{Model, find_column};
 use rob_number::{Exact, List, Memory};
-use rob_words::{CommandLine, Own, Verb, first_part};
+use rob_words::{Own, Verb, first_part};
 use std::alloc::Global;
-
-/// The texts of a command's files, with its own words and its route.
-pub fn with_words(alloc: Global, line: &CommandLine, texts: Texts) -> Result<Texts, Memory>
-    ensures kept { IfOk result (λ with. (with.model ≡ texts.model) × (with.certificate ≡ texts.certificate)
-        × (with.scenarios ≡ texts.scenarios) × (with.tree ≡ texts.tree)) }
-    ensures words { IfOk result (λ with. map string_bytes with.words.items ≡ map string_bytes line.now.own.items) }
-    ensures route { IfOk result (λ with. with.route ≡ line.now.route) }
-{
-    let words = copied(alloc, line.own.as_slice())?;
-    Ok(Texts {
-        model: texts.model,
-        certificate: texts.certificate,
-        scenarios: texts.scenarios,
-        tree: texts.tree,
-        words,
-        route: line.route,
-    })
-}
-
-/// The same words.
-fn copied(alloc: Global, words: &[String]) -> Result<Vec<String>, Memory>
-    ensures copied { IfOk result (λ copy. map string_bytes copy.items ≡ map string_bytes words.now) }
-{
-    let mut copy = Vec::new(alloc);
-    for word in words {
-        copy.push(String::from_str(alloc, word.as_str())?)?;
-    }
-    Ok(copy)
-}
 
 /// The first of a command's own words that is of the kind; empty, where there is no such word.
 pub fn own_word(kind: Own, verb: Verb, words: &[String]) -> &str

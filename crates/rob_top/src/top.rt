@@ -18,7 +18,6 @@ ghost use Rattle.rob_words.specs.Answers.{line_of};
 use crate::ended::Ended;
 use crate::files::{Files, Texts, fetch};
 use crate::generating::on_number;
-use crate::names::with_words;
 use crate::put::put_lines;
 use crate::reply::{Reply, no_line};
 use crate::work::work_at;
@@ -110,10 +109,7 @@ fn on_line<S: Shelf, L: Ledger>(
 {
     let files = fetch(alloc, line, shelf)?;
     match files {
-        Files::Texts(texts) => {
-            let with = with_words(alloc, line, texts)?;
-            on_texts(alloc, line, &with, ledger)
-        }
+        Files::Texts(texts) => on_texts(alloc, line, &texts, ledger),
         Files::Answer(reply) => Ok(reply),
     }
 }
@@ -132,7 +128,7 @@ fn on_texts<L: Ledger>(
     ensures counted { L.wides ledger.old ≤ L.wides ledger.new }
 {
     if reads_model(line.verb) {
-        work_at(alloc, line.verb, line.width, texts, ledger)
+        work_at(alloc, line, texts, ledger)
     } else {
         on_number(alloc, line, ledger)
     }

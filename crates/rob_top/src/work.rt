@@ -1,4 +1,4 @@
-//! The work of a command on its texts, at a width.
+//! The work of a command line on its texts.
 
 ghost use Rattle.std.specs.Prelude.{◌≡◌, ◌≤◌, IfOk, false};
 ghost use Rattle.rob_elab.specs.Elaborated.{IsElaborated};
@@ -14,7 +14,7 @@ ghost use Rattle.rob_top.specs.Headline.{Means};
 ghost use Rattle.rob_top.specs.Replies.{HasTexts, Replies};
 ghost use Rattle.rob_top.specs.Work.{AnswersModel, AnswersTexts, AnswersWhole, IsShort};
 ghost use Rattle.rob_top.specs.WorkStops.{IsRefusedOf, RepliesRefused, RepliesUnread};
-ghost use Rattle.rob_words.specs.Commands.{Line};
+ghost use Rattle.rob_words.specs.Answers.{line_of};
 
 use crate::branching::branch_text;
 use crate::checking::check_text;
@@ -38,49 +38,46 @@ use rob_quick::Quick;
 use rob_report::{rows_text, spot_text};
 use rob_rules::ModelErr;
 use rob_sets::SetForm;
-use rob_words::{Own, Route, Verb, Width};
+use rob_words::{CommandLine, Own, Route, Verb, Width};
 use std::alloc::Global;
 
-/// Does what a command that reads a model says at a width.
+/// Does what a command line says whose command reads a model.
 pub fn work_at<L: Ledger>(
     alloc: Global,
-    verb: Verb,
-    width: Width,
+    line: &CommandLine,
     texts: &Texts,
     ledger: &mut L,
 ) -> Result<Reply, Memory>
-    requires on_model { IsOnModel verb }
+    requires on_model { IsOnModel line.now.verb }
     requires short { IsShort texts.now }
-    // The reply is the answer of each call whose words say the command and the width, and whose files came with the
-    // texts.
-    ensures means { IfOk result (λ reply. (call : Call) (line : Line) → HasTexts call line texts.now → line.verb ≡ verb
-        → line.width ≡ width → call.wides ≡ count (L.wides ledger.old) (L.wides ledger.new)
-        → Means call reply.ended reply.text) }
+    // The reply is the answer of each call whose words are the command line, and whose files came with the texts.
+    ensures means { IfOk result (λ reply. (call : Call) → HasTexts call (line_of line.now) texts.now
+        → call.wides ≡ count (L.wides ledger.old) (L.wides ledger.new) → Means call reply.ended reply.text) }
     ensures counted { L.wides ledger.old ≤ L.wides ledger.new }
 {
-    match width {
-        Width::Eight => work::<Quick<8>, L>(alloc, verb, texts, ledger),
-        Width::Sixteen => work::<Quick<16>, L>(alloc, verb, texts, ledger),
-        Width::ThirtyTwo => work::<Quick<32>, L>(alloc, verb, texts, ledger),
-        Width::SixtyTwo => work::<Quick<62>, L>(alloc, verb, texts, ledger),
+    match line.width {
+        Width::Eight => work::<Quick<8>, L>(alloc, line, texts, ledger),
+        Width::Sixteen => work::<Quick<16>, L>(alloc, line, texts, ledger),
+        Width::ThirtyTwo => work::<Quick<32>, L>(alloc, line, texts, ledger),
+        Width::SixtyTwo => work::<Quick<62>, L>(alloc, line, texts, ledger),
     }
 }
 
 /// Reads the model, and does with it what the command says.
 fn work<N: Exact + Drop, L: Ledger>(
     alloc: Global,
-    verb: Verb,
+    line: &CommandLine,
     texts: &Texts,
     ledger: &mut L,
 ) -> Result<Reply, Memory>
-    requires on_model { IsOnModel verb }
+    requires on_model { IsOnModel line.now.verb }
     requires short { IsShort texts.now }
     ensures answers { IfOk result (AnswersTexts N.limit (count (L.wides ledger.old)
-        (L.wides ledger.new)) verb texts.now) }
+        (L.wides ledger.new)) (line_of line.now) texts.now) }
     ensures counted { L.wides ledger.old ≤ L.wides ledger.new }
 {
     match read_model::<N, L>(alloc, texts.model.as_slice(), ledger) {
-        Ok(model) => on_model(alloc, &model, verb, texts, ledger),
+        Ok(model) => on_model(alloc, &model, line, texts, ledger),
         Err(error) => not_read(alloc, error),
     }
 }
@@ -125,22 +122,22 @@ fn elaborates(verb: Verb) -> bool
 fn on_model<N: Exact + Drop, L: Ledger>(
     alloc: Global,
     model: &Model<N>,
-    verb: Verb,
+    line: &CommandLine,
     texts: &Texts,
     ledger: &mut L,
 ) -> Result<Reply, Memory>
     requires valid { IsValid N.value model.now }
     requires named { IsNamed (robust N.value model.now) }
-    requires on_model { IsOnModel verb }
+    requires on_model { IsOnModel line.now.verb }
     requires short { IsShort texts.now }
     ensures answers { IfOk result (AnswersModel N.limit (count (L.wides ledger.old) (L.wides ledger.new))
-        (robust N.value model.now) verb texts.now) }
+        (robust N.value model.now) (line_of line.now) texts.now) }
     ensures counted { L.wides ledger.old ≤ L.wides ledger.new }
 {
-    if elaborates(verb) {
-        elaborated(alloc, model, verb, texts, ledger)
+    if elaborates(line.verb) {
+        elaborated(alloc, model, line, texts, ledger)
     } else {
-        unelaborated(alloc, model, verb, texts, ledger)
+        unelaborated(alloc, model, line, texts, ledger)
     }
 }
 
@@ -148,37 +145,37 @@ fn on_model<N: Exact + Drop, L: Ledger>(
 fn unelaborated<N: Exact + Drop, L: Ledger>(
     alloc: Global,
     model: &Model<N>,
-    verb: Verb,
+    line: &CommandLine,
     texts: &Texts,
     ledger: &mut L,
 ) -> Result<Reply, Memory>
     requires valid { IsValid N.value model.now }
     requires named { IsNamed (robust N.value model.now) }
-    requires on_model { IsOnModel verb }
+    requires on_model { IsOnModel line.now.verb }
     requires short { IsShort texts.now }
-    requires unmade { is_elaborating verb ≡ false }
+    requires unmade { is_elaborating line.now.verb ≡ false }
     ensures answers { IfOk result (AnswersModel N.limit (count (L.wides ledger.old) (L.wides ledger.new))
-        (robust N.value model.now) verb texts.now) }
+        (robust N.value model.now) (line_of line.now) texts.now) }
     ensures counted { L.wides ledger.old ≤ L.wides ledger.new }
 {
-    let words = texts.words.as_slice();
-    let names = own_word(Own::Names, verb, words);
-    match verb {
+    let words = line.own.as_slice();
+    let names = own_word(Own::Names, line.verb, words);
+    match line.verb {
         Verb::Replay => {
             let certificate = texts.certificate.as_slice();
             let scenarios = texts.scenarios.as_slice();
             replay_text(alloc, model, certificate, scenarios, ledger)
         }
-        Verb::Whole => branch_text(alloc, model, verb, names, ledger),
-        Verb::Tree => branch_text(alloc, model, verb, names, ledger),
+        Verb::Whole => branch_text(alloc, model, line.verb, names, ledger),
+        Verb::Tree => branch_text(alloc, model, line.verb, names, ledger),
         Verb::CheckTree => {
             let tree = texts.tree.as_slice();
             check_tree_text(alloc, model, names, tree, ledger)
         }
         Verb::Sweep => sweep_words(alloc, model, words, ledger),
         Verb::SweepText => limit_words(alloc, model, words, ledger),
-        Verb::Cells => split_words(alloc, model, verb, words, ledger),
-        Verb::CellText => split_words(alloc, model, verb, words, ledger),
+        Verb::Cells => split_words(alloc, model, line.verb, words, ledger),
+        Verb::CellText => split_words(alloc, model, line.verb, words, ledger),
         _ => unreachable!(),
     }
 }
@@ -187,21 +184,21 @@ fn unelaborated<N: Exact + Drop, L: Ledger>(
 fn elaborated<N: Exact + Drop, L: Ledger>(
     alloc: Global,
     model: &Model<N>,
-    verb: Verb,
+    line: &CommandLine,
     texts: &Texts,
     ledger: &mut L,
 ) -> Result<Reply, Memory>
     requires valid { IsValid N.value model.now }
     requires named { IsNamed (robust N.value model.now) }
     requires short { IsShort texts.now }
-    requires elaborates { IsElaborating verb }
+    requires elaborates { IsElaborating line.now.verb }
     ensures answers { IfOk result (AnswersModel N.limit (count (L.wides ledger.old) (L.wides ledger.new))
-        (robust N.value model.now) verb texts.now) }
+        (robust N.value model.now) (line_of line.now) texts.now) }
     ensures counted { L.wides ledger.old ≤ L.wides ledger.new }
 {
     match written(alloc, model, ledger) {
-        Ok((set, forms)) => on_forms(alloc, model, &forms, &set, verb, texts, ledger),
-        Err(error) => not_elaborated(alloc, model, texts.route, error),
+        Ok((set, forms)) => on_forms(alloc, model, &forms, &set, line, texts, ledger),
+        Err(error) => not_elaborated(alloc, model, line.route, error),
     }
 }
 
@@ -211,7 +208,7 @@ fn on_forms<N: Exact + Drop, L: Ledger>(
     model: &Model<N>,
     forms: &Forms,
     set: &SetForm,
-    verb: Verb,
+    line: &CommandLine,
     texts: &Texts,
     ledger: &mut L,
 ) -> Result<Reply, Memory>
@@ -219,22 +216,22 @@ fn on_forms<N: Exact + Drop, L: Ledger>(
     requires named { IsNamed (robust N.value model.now) }
     requires elaborated { IsElaborated N.limit (robust N.value model.now) forms.now set.now }
     requires short { IsShort texts.now }
-    requires elaborates { IsElaborating verb }
+    requires elaborates { IsElaborating line.now.verb }
     ensures answers { IfOk result (AnswersWhole N.limit (count (L.wides ledger.old) (L.wides ledger.new))
-        (robust N.value model.now) verb texts.now) }
+        (robust N.value model.now) (line_of line.now) texts.now) }
     ensures counted { L.wides ledger.old ≤ L.wides ledger.new }
 {
-    match verb {
+    match line.verb {
         Verb::Rows => rows(alloc, model, forms, set),
-        Verb::Solve => solve(alloc, model, forms, set, texts.route, ledger),
-        Verb::Prove => prove(alloc, model, forms, set, texts.route, ledger),
+        Verb::Solve => solve(alloc, model, forms, set, line.route, ledger),
+        Verb::Prove => prove(alloc, model, forms, set, line.route, ledger),
         Verb::Check => {
             let text = texts.certificate.as_slice();
             check_text(alloc, model, forms, set, text, ledger)
         }
         Verb::Worst => {
             let text = texts.certificate.as_slice();
-            let name = own_word(Own::Form, verb, texts.words.as_slice());
+            let name = own_word(Own::Form, line.verb, line.own.as_slice());
             search_text(alloc, model, forms, set, text, name.as_bytes(), ledger)
         }
         Verb::Narrow => narrow::<N>(alloc, forms, set),

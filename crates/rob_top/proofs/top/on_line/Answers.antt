@@ -1,21 +1,17 @@
 use Rattle.std.proofs.Common.{subst}
-use Rattle.rob_top.proofs.FrameLemmas.{absence_answers, short_kept, texts_answer}
+use Rattle.rob_top.proofs.FrameLemmas.{absence_answers, texts_answer}
 use Rattle.rob_top.specs.Work.{IsShortFetch}
 use Rattle.rob_top.specs.declared.files.Files.{Files}
 use Rattle.rob_top.proofs.top.on_line.Goals as goal
 
 pub on_texts-requires-clause-short : goal.on_texts-requires-clause-short
 on_texts-requires-clause-short g c =
-    short_kept c.in-Texts.texts c.in_ok-with-in-Texts.with c.in_ok-with-in-Texts.ensures.kept
-    (subst (λ (files : Files). IsShortFetch files) c.in-Texts.is c.in_ok-files.ensures.short)
+    subst (λ (files : Files). IsShortFetch files) c.in-Texts.is c.in_ok-files.ensures.short
 
-pub returns-in_ok-with-in-Texts-clause-means : goal.returns-in_ok-with-in-Texts-clause-means
-returns-in_ok-with-in-Texts-clause-means g c =
-    texts_answer c.args.line.now _ _ _ c.in_ok-files.files c.in-Texts.texts c.in_ok-with-in-Texts.with
-    c.on_texts.result c.in-Texts.is
-    c.in_ok-files.ensures.fetched c.in_ok-with-in-Texts.ensures.kept c.in_ok-with-in-Texts.ensures.words
-    c.in_ok-with-in-Texts.ensures.route
-    c.on_texts.ensures.means
+pub returns-in-Texts-clause-means : goal.returns-in-Texts-clause-means
+returns-in-Texts-clause-means g c =
+    texts_answer c.args.line.now _ _ _ c.in_ok-files.files c.in-Texts.texts c.on_texts.result c.in-Texts.is
+    c.in_ok-files.ensures.fetched c.on_texts.ensures.means
 
 pub returns-in-Answer-clause-means : goal.returns-in-Answer-clause-means
 returns-in-Answer-clause-means g c =

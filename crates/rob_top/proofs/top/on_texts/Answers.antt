@@ -1,5 +1,5 @@
 use Rattle.std.proofs.Common.{◌∙◌, sym}
-use Rattle.rob_top.proofs.FrameLemmas.{number_answers_line, width_answers_line}
+use Rattle.rob_top.proofs.FrameLemmas.{number_answers_line}
 use Rattle.rob_top.proofs.top.on_texts.Goals as goal
 use Rattle.rob_words.specs.Answers.{line_of}
 
@@ -7,8 +7,7 @@ pub on_number-requires-clause-on_number : goal.on_number-requires-clause-on_numb
 on_number-requires-clause-on_number g c = sym c.reads_model.ensures.reads ∙ c.if-reads_model.false
 
 pub returns-then-reads_model-clause-means : goal.returns-then-reads_model-clause-means
-returns-then-reads_model-clause-means g c =
-    width_answers_line c.args.line.now c.args.texts.now _ c.work_at.result c.work_at.ensures.means
+returns-then-reads_model-clause-means g c = c.work_at.ensures.means
 
 pub returns-else-reads_model-clause-means : goal.returns-else-reads_model-clause-means
 returns-else-reads_model-clause-means g c =

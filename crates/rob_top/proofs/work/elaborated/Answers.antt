@@ -1,6 +1,7 @@
 use Rattle.rob_model.specs.View.{robust}
 use Rattle.rob_top.proofs.WorkLemmas.{refused_answers, refused_of, whole_answers}
 use Rattle.rob_top.proofs.work.elaborated.Goals as goal
+use Rattle.rob_words.specs.Answers.{line_of}
 
 pub not_elaborated-requires-clause-named : goal.not_elaborated-requires-clause-named
 not_elaborated-requires-clause-named g c =
@@ -9,11 +10,13 @@ not_elaborated-requires-clause-named g c =
 pub returns-in-Ok-clause-answers : goal.returns-in-Ok-clause-answers
 returns-in-Ok-clause-answers g c =
     whole_answers g.N.Exact.limit (robust g.N.Exact.value c.args.model.now) (g.L.Ledger.wides c.args.ledger.now)
-    (g.L.Ledger.wides c.written.new.ledger) (g.L.Ledger.wides c.on_forms.new.ledger) c.args.verb c.args.texts.now
+    (g.L.Ledger.wides c.written.new.ledger) (g.L.Ledger.wides c.on_forms.new.ledger) (line_of c.args.line.now)
+    c.args.texts.now
     c.on_forms.result c.written.ensures.counted.wides c.in-Ok.ensures.written c.on_forms.ensures.answers
 
 pub returns-in-Err-clause-answers : goal.returns-in-Err-clause-answers
 returns-in-Err-clause-answers g c =
     refused_answers g.N.Exact.limit (robust g.N.Exact.value c.args.model.now) (g.L.Ledger.wides c.args.ledger.now)
-    (g.L.Ledger.wides c.written.new.ledger) c.args.verb c.args.texts.now c.in-Err.error c.not_elaborated.result
+    (g.L.Ledger.wides c.written.new.ledger) (line_of c.args.line.now) c.args.texts.now c.in-Err.error
+    c.not_elaborated.result
     c.requires.elaborates c.in-Err.ensures.cause c.in-Err.ensures.rose c.not_elaborated.ensures.refused

@@ -2,6 +2,7 @@ use Rattle.std.proofs.Common.{ap, arith, length}
 use Rattle.rob_model.specs.View.{robust}
 use Rattle.rob_top.proofs.WorkLemmas.{model_answers, unread_answers}
 use Rattle.rob_top.proofs.work.work.Goals as goal
+use Rattle.rob_words.specs.Answers.{line_of}
 
 pub read_model-requires : goal.read_model-requires
 read_model-requires g c = omega (arith, ap length c.as_slice.ensures.value, c.requires.short.model)
@@ -9,12 +10,13 @@ read_model-requires g c = omega (arith, ap length c.as_slice.ensures.value, c.re
 pub returns-in-Ok-clause-answers : goal.returns-in-Ok-clause-answers
 returns-in-Ok-clause-answers g c =
     model_answers g.N.Exact.limit (g.L.Ledger.wides c.args.ledger.now) (g.L.Ledger.wides c.read_model.new.ledger)
-    (g.L.Ledger.wides c.on_model.new.ledger) c.args.verb c.args.texts.now
+    (g.L.Ledger.wides c.on_model.new.ledger) (line_of c.args.line.now) c.args.texts.now
     c.as_slice.result.now (robust g.N.Exact.value c.in-Ok.model) c.on_model.result c.requires.on_model
     c.as_slice.ensures.value c.in-Ok.ensures.read c.read_model.ensures.told c.on_model.ensures.answers
 
 pub returns-in-Err-clause-answers : goal.returns-in-Err-clause-answers
 returns-in-Err-clause-answers g c =
-    unread_answers g.N.Exact.limit _ c.args.verb c.args.texts.now c.as_slice.result.now c.in-Err.error c.not_read.result
+    unread_answers g.N.Exact.limit _ (line_of c.args.line.now) c.args.texts.now c.as_slice.result.now
+    c.in-Err.error c.not_read.result
     c.requires.on_model c.as_slice.ensures.value
     c.in-Err.ensures.cause c.not_read.ensures.unread
