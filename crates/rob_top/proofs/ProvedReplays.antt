@@ -50,11 +50,6 @@ module _ (proving replaying : Call) (status : Status) (text : List ℕ) (solved 
   model_here : (l : Line) (m : RobustModel) → HasModel told l m → m ≡ solved.m
   model_here l m has = one_model_read told l line m solved.m told_source has file.read
 
-  -- so its work is to replay, and no other
-  work_here : (w : Work) (l : Line) → IsSpelled told.words l → work_of l.verb ≡ w → works.replaying ≡ w
-  work_here w l spelled is =
-      sym (ap work_of file.is_verb) ∙ ap (λ (k : Line). work_of k.verb) (sym (line_here l spelled)) ∙ is
-
   -- so is the certificate that it read
   certificate_here : (l : Line) (m : RobustModel) (c : Certificate) → HasCertificate told verbs.Replay l m c
       → c ≡ solved.c
@@ -63,6 +58,11 @@ module _ (proving replaying : Call) (status : Status) (text : List ℕ) (solved 
       let on_model =
       subst (λ (x : RobustModel). HasCertificate told verbs.Replay line x c) (model_here l m h.file.read) on_line in
       one_certificate told told_source line solved.m verbs.Replay c solved.c on_model printed
+
+  -- the work of its command is to replay, and no other
+  work_here : (w : Work) (l : Line) → IsSpelled told.words l → work_of l.verb ≡ w → works.replaying ≡ w
+  work_here w l spelled is =
+      sym (ap work_of file.is_verb) ∙ ap (λ (k : Line). work_of k.verb) (sym (line_here l spelled)) ∙ is
 
   pub shows_value : (shown : List ℕ) (r : IsReplayed replaying shown)
       → Each (ShowsBound solved.m solved.c.value) r.lines

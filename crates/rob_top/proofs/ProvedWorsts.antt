@@ -48,11 +48,6 @@ module _ (proving searching : Call) (status : Status) (text : List ℕ) (solved 
   model_here : (l : Line) (m : RobustModel) → HasModel told l m → m ≡ solved.m
   model_here l m has = one_model_read told l line m solved.m told_source has file.read.model
 
-  -- so its work is to search, and no other
-  work_here : (w : Work) (l : Line) → IsSpelled told.words l → work_of l.verb ≡ w → works.searching ≡ w
-  work_here w l spelled is =
-      sym (ap work_of file.is_verb) ∙ ap (λ (k : Line). work_of k.verb) (sym (line_here l spelled)) ∙ is
-
   -- so is the certificate that it read
   certificate_here : (l : Line) (m : RobustModel) (c : Certificate) → HasCertificate told verbs.Worst l m c
       → c ≡ solved.c
@@ -62,6 +57,11 @@ module _ (proving searching : Call) (status : Status) (text : List ℕ) (solved 
       let on_model =
       subst (λ (x : RobustModel). HasCertificate told verbs.Worst line x c) (model_here l m has) on_line in
       one_certificate told told_source line solved.m verbs.Worst c solved.c on_model printed
+
+  -- the work of its command is to search, and no other
+  work_here : (w : Work) (l : Line) → IsSpelled told.words l → work_of l.verb ≡ w → works.searching ≡ w
+  work_here w l spelled is =
+      sym (ap work_of file.is_verb) ∙ ap (λ (k : Line). work_of k.verb) (sym (line_here l spelled)) ∙ is
 
   pub shows_kept : (shown : List ℕ) (r : IsSearched searching shown)
       → ShowsKept solved.m r.form (certificate_vector solved.c) shown
