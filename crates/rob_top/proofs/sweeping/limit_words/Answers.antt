@@ -18,3 +18,9 @@ returns-in-None-clause-answers g c =
     no_line_answers g.N.Exact.limit _ (robust g.N.Exact.value c.args.model.now) verbs.SweepText own.Limit refl
     (map string_bytes c.args.words.now) c.own_word-word.result.now c.own_word-word.ensures.word
     c.no_line-in-None.result c.in-None.ensures.limit c.no_line-in-None.ensures.fault
+
+pub returns-in_default-clause-answers : goal.returns-in_default-clause-answers
+returns-in_default-clause-answers g c =
+    no_line_answers g.N.Exact.limit _ (robust g.N.Exact.value c.args.model.now) verbs.SweepText own.Statement refl
+    (map string_bytes c.args.words.now) c.own_word-number.result.now c.own_word-number.ensures.word c.no_line.result
+    c.in_default.ensures.statement c.no_line.ensures.fault

@@ -34,3 +34,9 @@ returns-in-None-clause-answers g c =
     × (length limits ≤ 20))
     c.in_ok-told.told c.in-None.is c.in_ok-told.ensures.limits)
     c.no_line-in-None.ensures.fault
+
+pub returns-in_default-clause-answers : goal.returns-in_default-clause-answers
+returns-in_default-clause-answers g c =
+    no_line_answers g.N.Exact.limit _ (robust g.N.Exact.value c.args.model.now) verbs.Sweep own.Statement refl
+    (map string_bytes c.args.words.now) c.own_word-number.result.now c.own_word-number.ensures.word c.no_line.result
+    c.in_default.ensures.statement c.no_line.ensures.fault
