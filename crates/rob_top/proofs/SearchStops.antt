@@ -34,7 +34,7 @@ use Rattle.rob_top.specs.Calls.{count}
 use Rattle.rob_top.specs.Headline.{Means}
 use Rattle.rob_top.specs.Refused.{searching}
 use Rattle.rob_top.specs.Searched.{IsWideSought, certificate_vector, in_search, in_set}
-use Rattle.rob_top.specs.Work.{AnswersSought, RepliesWorst}
+use Rattle.rob_top.specs.SearchWork.{AnswersSought, RepliesWorst}
 use Rattle.rob_top.specs.WorkStops.{IsStopOf, RepliesStop}
 use Rattle.rob_top.specs.Ways.{in_model, while_searching}
 use Rattle.rob_top.specs.declared.ended.Ended.{Ended}

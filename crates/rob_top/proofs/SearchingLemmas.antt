@@ -49,7 +49,8 @@ use Rattle.rob_top.specs.Inputs.{BreaksCertificate, planless, unread}
 use Rattle.rob_top.specs.Refused.{searching}
 use Rattle.rob_top.specs.Replies.{Replies}
 use Rattle.rob_top.specs.Searched.{IsWideSought, IsWorstScenario, ShowsKept, ShowsWorst, attained, certificate_vector, endless, in_slack}
-use Rattle.rob_top.specs.Work.{AnswersPlanned, AnswersSearch, AnswersSearched, AnswersSought, AnswersWhole, HasScale, RepliesSlack, RepliesWorst}
+use Rattle.rob_top.specs.SearchWork.{AnswersPlanned, AnswersSearch, AnswersSearched, AnswersSought, HasScale, RepliesSlack, RepliesWorst}
+use Rattle.rob_top.specs.Work.{AnswersWhole}
 use Rattle.rob_top.specs.Ways.{in_model, not_searched, worst_found}
 use Rattle.rob_top.specs.declared.ended.Ended.{Ended}
 use Rattle.rob_top.specs.declared.ended.Ended.TheVariants.{Cert, NoRow, Printed}

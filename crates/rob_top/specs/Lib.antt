@@ -19,6 +19,7 @@ pub mod Refused
 pub mod Replayed
 pub mod Replies
 pub mod Routes
+pub mod SearchWork
 pub mod Searched
 pub mod Solved
 pub mod Split

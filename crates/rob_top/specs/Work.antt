@@ -1,27 +1,19 @@
 -- What the work on a model answers, whichever call it is done for.
-use Rattle.std.specs.Prelude.{◌≡◌, ◌≢◌, ◌⊎◌, ℕ, pos, ◌^◌, ◌≤◌, List, length, map}
-use Rattle.rob_algebra.specs.Fraction.{Fraction, of_int, ◌+ℚ◌}
-use Rattle.rob_algebra.specs.Width.{Fits, IsWide}
-use Rattle.rob_cert.specs.declared.ending.Worst.{Worst}
-use Rattle.rob_cert.specs.declared.ending.Worst.TheVariants.{At, Along}
+use Rattle.std.specs.Prelude.{◌≡◌, ℕ, ◌^◌, ◌≤◌, List, length}
+use Rattle.rob_algebra.specs.Fraction.{Fraction}
 use Rattle.rob_meaning.specs.Certificates as meaning
 use Rattle.rob_meaning.specs.Certificates.{Certificate}
 use Rattle.rob_check.specs.declared.verdict.Verdict.{Verdict}
 use Rattle.rob_check.specs.declared.verdict.Verdict.TheVariants as verdict
 use Rattle.rob_meaning.specs.RobustModel.{RobustModel}
-use Rattle.rob_model.specs.View.{scenario_of}
 use Rattle.rob_model.specs.declared.place.Spot.TheVariants as spots
-use Rattle.rob_model.specs.declared.place.Where.TheVariants.{Cost}
-use Rattle.rob_report.specs.Spots.{too_wide_line}
-use Rattle.rob_report.specs.Worst.{along_text, greatest_text}
-use Rattle.rob_runs.specs.Spots.{slack_of}
 use Rattle.rob_gen.specs.Generated.{generated}
 use Rattle.rob_top.specs.Swept.{HasSweep}
 use Rattle.rob_top.specs.Calls.{Call, Count, WasRaised, limit_of}
 use Rattle.rob_top.specs.Files.{HasFile}
 use Rattle.rob_top.specs.Generated.{TellsNumber}
 use Rattle.rob_top.specs.Headline.{Means}
-use Rattle.rob_top.specs.Inputs.{HasModel, HasForms, HasCertificateFile, HasCertificate, HasPlan, HasScenarioFile, HasSought, HasVariables, TellsForm, TellsNames}
+use Rattle.rob_top.specs.Inputs.{HasModel, HasForms, HasCertificateFile, HasCertificate, HasScenarioFile, HasVariables, TellsNames}
 use Rattle.rob_top.specs.Replies.{HasTexts, Replies}
 use Rattle.rob_top.specs.declared.ended.Ended.{Ended}
 use Rattle.rob_top.specs.declared.ended.Ended.TheVariants.{Optimal, Infeasible, Unbounded, Printed, Accepted, Rejected, TooWide}
@@ -35,9 +27,8 @@ use Rattle.rob_words.specs.Values.{Word}
 use Rattle.rob_words.specs.declared.route.Route.{Route}
 use Rattle.rob_words.specs.declared.verb.Own.TheVariants as own
 use Rattle.rob_words.specs.declared.verb.Verb.{Verb}
-use Rattle.rob_words.specs.declared.verb.Verb.TheVariants.{Check, Replay, Sweep, Worst as WorstVerb}
-use Rattle.rob_write.specs.Canonical.{model_text}
 use Rattle.rob_words.specs.declared.verb.Verb.TheVariants as verbs
+use Rattle.rob_write.specs.Canonical.{model_text}
 
 -- ---- texts that are short enough to read
 
@@ -91,60 +82,33 @@ module _ (limit : ℕ) (wides : Count) where
     -- that of each one for `check`, whose certificate's file came with these bytes
     abbrev pub AnswersFile : List ℕ → Reply → Type 0
     AnswersFile bytes reply =
-        (call : Call) (line : Line) → IsCallAt limit wides Check call line
+        (call : Call) (line : Line) → IsCallAt limit wides verbs.Check call line
         → HasCertificateFile call verbs.Check line m bytes
         → Means call reply.ended reply.text
 
     -- and which is the text of the certificate
     abbrev pub AnswersCertificate : Certificate → Reply → Type 0
     AnswersCertificate c reply =
-        (call : Call) (line : Line) → IsCallAt limit wides Check call line → HasCertificate call verbs.Check line m c
+        (call : Call) (line : Line) → IsCallAt limit wides verbs.Check call line → HasCertificate call verbs.Check line m c
         → Means call reply.ended reply.text
 
     -- that of each one for `replay`, whose certificate's file and scenario file came with these bytes
     abbrev pub AnswersReplay : List ℕ → List ℕ → Reply → Type 0
     AnswersReplay certificate bytes reply =
-        (call : Call) (line : Line) → IsCallAt limit wides Replay call line
+        (call : Call) (line : Line) → IsCallAt limit wides verbs.Replay call line
         → HasCertificateFile call verbs.Replay line m certificate
         → HasFile call line own.Scenarios bytes → Means call reply.ended reply.text
 
     -- the first of which is the text of the certificate
     abbrev pub AnswersPlan : Certificate → List ℕ → Reply → Type 0
     AnswersPlan c bytes reply =
-        (call : Call) (line : Line) → IsCallAt limit wides Replay call line → HasCertificate call verbs.Replay line m c
+        (call : Call) (line : Line) → IsCallAt limit wides verbs.Replay call line → HasCertificate call verbs.Replay line m c
         → HasFile call line own.Scenarios bytes → Means call reply.ended reply.text
 
     -- and this has a plan
     abbrev pub AnswersScenarios : Certificate → List ℕ → Reply → Type 0
     AnswersScenarios c bytes reply =
-        (call : Call) (line : Line) → IsCallAt limit wides Replay call line → HasScenarioFile call line m c bytes
-        → Means call reply.ended reply.text
-
-    -- that of each one for `worst`, whose certificate's file came with these bytes, and whose words name the form so
-    abbrev pub AnswersSearch : List ℕ → Word → Reply → Type 0
-    AnswersSearch bytes name reply =
-        (call : Call) (line : Line) → IsCallAt limit wides WorstVerb call line
-        → HasCertificateFile call verbs.Worst line m bytes → TellsForm line name
-        → Means call reply.ended reply.text
-
-    -- the first of which is the text of the certificate
-    abbrev pub AnswersSearched : Certificate → Word → Reply → Type 0
-    AnswersSearched c name reply =
-        (call : Call) (line : Line) → IsCallAt limit wides WorstVerb call line
-        → HasCertificate call verbs.Worst line m c → TellsForm line name
-        → Means call reply.ended reply.text
-
-    -- and this has a plan
-    abbrev pub AnswersPlanned : Certificate → Word → Reply → Type 0
-    AnswersPlanned c name reply =
-        (call : Call) (line : Line) → IsCallAt limit wides WorstVerb call line
-        → HasPlan call verbs.Worst line m c → TellsForm line name
-        → Means call reply.ended reply.text
-
-    -- and the name is this form's
-    abbrev pub AnswersSought : Certificate → ℕ → Reply → Type 0
-    AnswersSought c form reply =
-        (call : Call) (line : Line) → IsCallAt limit wides WorstVerb call line → HasSought call line m c form
+        (call : Call) (line : Line) → IsCallAt limit wides verbs.Replay call line → HasScenarioFile call line m c bytes
         → Means call reply.ended reply.text
 
     -- that of each one whose list of names has this text
@@ -169,7 +133,7 @@ module _ (limit : ℕ) (wides : Count) where
     -- that of each one for `sweep`, whose words tell this statement and these limits
     abbrev pub AnswersSweep : ℕ → List Fraction → Reply → Type 0
     AnswersSweep n limits reply =
-        (call : Call) (line : Line) → IsCallAt limit wides Sweep call line → HasSweep call line m n limits
+        (call : Call) (line : Line) → IsCallAt limit wides verbs.Sweep call line → HasSweep call line m n limits
         → Means call reply.ended reply.text
 
 -- the answer for a status
@@ -188,25 +152,3 @@ verdict_ended (verdict.TooWide place) = TooWide (spots.Check place)
 abbrev pub RepliesGenerated : Line → Reply → Type 0
 RepliesGenerated line reply =
     (number : ℕ) × TellsNumber line number × Replies Printed (model_text (generated number)) reply
-
--- ---- worst cases
-
--- what a search tells has a scale that isn't 0
-abbrev pub HasScale : {N : Type 0} → (N → Fraction) → Worst N → Type 0
-HasScale value (At scale peak constant scenario basis amounts) = value scale ≢ of_int (pos 0)
-HasScale value (Along ray basis column) = Unit {0}
-
-module _ (limit : ℕ) (m : RobustModel) (form : ℕ) (wides : Count) where
-  -- the reply to a worst scenario: it is printed with its slack, and both numbers of that fit; or one of them is wide
-  abbrev pub RepliesSlack : Fraction → Fraction → Fraction → List Fraction → Reply → Type 0
-  RepliesSlack scale peak constant scenario reply =
-      (Replies Printed (greatest_text m form (slack_of scale peak constant) scenario) reply
-      × (Fits limit (peak +ℚ constant) × Fits limit (slack_of scale peak constant)))
-      ⊎ (Replies (TooWide (spots.Sum (Cost form) 0)) (too_wide_line m (spots.Sum (Cost form) 0)) reply × WasRaised wides
-      × (IsWide limit (peak +ℚ constant) ⊎ IsWide limit (slack_of scale peak constant)))
-
-  -- the reply to what a search tells
-  abbrev pub RepliesWorst : {N : Type 0} → (N → Fraction) → Worst N → Reply → Type 0
-  RepliesWorst value (At scale peak constant scenario basis amounts) reply =
-      RepliesSlack (value scale) (value peak) (of_int constant) (scenario_of value scenario) reply
-  RepliesWorst value (Along ray basis column) reply = Replies Printed (along_text m form (map value ray)) reply

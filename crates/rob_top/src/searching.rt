@@ -14,7 +14,7 @@ ghost use Rattle.rob_report.specs.Worst.{worst_of};
 ghost use Rattle.rob_top.specs.Calls.{count};
 ghost use Rattle.rob_top.specs.Replies.{Replies};
 ghost use Rattle.rob_top.specs.Searched.{certificate_vector};
-ghost use Rattle.rob_top.specs.Work.{AnswersPlanned, AnswersSearch, AnswersSearched, AnswersSought, HasScale, RepliesWorst};
+ghost use Rattle.rob_top.specs.SearchWork.{AnswersPlanned, AnswersSearch, AnswersSearched, AnswersSought, HasScale, RepliesWorst};
 ghost use Rattle.rob_worst.specs.Finding.{HasConstantWithin};
 ghost use Rattle.rob_worst.specs.Vectors.{plan_of};
 
