@@ -89,7 +89,8 @@ module _ (limit : ℕ) (wides : Count) where
     -- and which is the text of the certificate
     abbrev pub AnswersCertificate : Certificate → Reply → Type 0
     AnswersCertificate c reply =
-        (call : Call) (line : Line) → IsCallAt limit wides verbs.Check call line → HasCertificate call verbs.Check line m c
+        (call : Call) (line : Line) → IsCallAt limit wides verbs.Check call line
+        → HasCertificate call verbs.Check line m c
         → Means call reply.ended reply.text
 
     -- that of each one for `replay`, whose certificate's file and scenario file came with these bytes
@@ -102,7 +103,8 @@ module _ (limit : ℕ) (wides : Count) where
     -- the first of which is the text of the certificate
     abbrev pub AnswersPlan : Certificate → List ℕ → Reply → Type 0
     AnswersPlan c bytes reply =
-        (call : Call) (line : Line) → IsCallAt limit wides verbs.Replay call line → HasCertificate call verbs.Replay line m c
+        (call : Call) (line : Line) → IsCallAt limit wides verbs.Replay call line
+        → HasCertificate call verbs.Replay line m c
         → HasFile call line own.Scenarios bytes → Means call reply.ended reply.text
 
     -- and this has a plan
