@@ -142,7 +142,7 @@ module _ (call : Call) (known : Known call.source) (ended : Ended) (comes : Come
         → IsNarrowModel (limit_of line) m → Admits m u
         → (status : Status) × (v : Fraction) × HasStatus m status v × EndsAs (ended_of status) ended
     narrow_status_ends u has solves by_dual narrow admitted =
-        let s = has_status m (well call known line m has.model) u admitted in (
+        let s = has_status m (well call line m has.model) u admitted in (
           s.0,
           s.1,
           s.2,
@@ -213,7 +213,7 @@ module _ (call : Call) (known : Known call.source) (ended : Ended) (comes : Come
 
     module _ (c : Certificate) (has : HasCertificate call verbs.Check line m c) where
       read_model : IsModel m
-      read_model = well call known line m has.file.read.model
+      read_model = well call line m has.file.read.model
 
       verdict_ends : EndsAs (verdict_ended (verdict_of (limit_of line) m c)) ended
       verdict_ends =

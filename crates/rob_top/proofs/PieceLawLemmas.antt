@@ -16,7 +16,7 @@ use Rattle.rob_top.proofs.SplitAnswerLemmas.{same_piece_status}
 use Rattle.rob_top.specs.Calls.{Call}
 use Rattle.rob_top.specs.Solved.{IsEmptySet, IsSolved}
 use Rattle.rob_top.specs.Split.{IsPieced}
-use Rattle.rob_top.proofs.ReplayAnswerLemmas.{model_read}
+use Rattle.rob_top.proofs.ReadOnceLemmas.{well}
 
 module _ (m : RobustModel) (cuts : List Cut) where
   -- where no piece has a bound no plan has one
@@ -57,4 +57,4 @@ module _ (cutting solving : Call) where
       let has = x.has.has_cuts in
       y.shown.empty u.0
       (subst (λ k. Admits k u.0) same
-      ((joint_alone_law x.m (model_read cutting x.line x.m has.has_word.model) has.alone u.0).1 u.1.0))
+      ((joint_alone_law x.m (well cutting x.line x.m has.has_word.model) has.alone u.0).1 u.1.0))

@@ -24,8 +24,8 @@ use Rattle.rob_words.specs.Values.{bits_of}
 use Rattle.rob_words.specs.declared.verb.Own.TheVariants as own
 use Rattle.rob_words.specs.declared.verb.Verb.{Verb}
 
-module _ (call : Call) (known : Known call.source) (line : Line) (m : RobustModel) where
-  -- ---- the model
+-- ---- the model
+module _ (call : Call) (line : Line) (m : RobustModel) where
   least : 1 ≤ limit_of line
   least = subst (λ (l : ℕ). 1 ≤ l) (limit_is line.width) (limit_low (bits_of line.width))
 
@@ -41,7 +41,8 @@ module _ (call : Call) (known : Known call.source) (line : Line) (m : RobustMode
   pub in_words : HasModel call line m → IsNamedInWords m
   in_words has = named_in_words m (well_spelled (limit_of line) has.bytes m has.reads)
 
-  -- ---- a certificate among the files of a command
+-- ---- a certificate among the files of a command
+module _ (call : Call) (known : Known call.source) (line : Line) (m : RobustModel) where
   module _ (verb : Verb) where
     same_file : (bytes other : List ℕ) → HasCertificateFile call verb line m bytes
         → HasCertificateFile call verb line m other → bytes ≡ other
@@ -54,7 +55,8 @@ module _ (call : Call) (known : Known call.source) (line : Line) (m : RobustMode
     no_breach c bytes rule number h file breach =
         let same : bytes ≡ h.bytes = same_file bytes h.bytes file h.file in
         let has : HasModel call line m = file_model call line m verb h.bytes h.file in
-        breaks_none m (limit_of line) c bytes (well has) (named has) (in_words has) most
+        breaks_none m (limit_of line) c bytes (well call line m has) (named call line m has)
+        (in_words call line m has) (most call line m)
         (subst (λ (b : List ℕ). IsTextOf m c b) (sym same) h.text) h.fits rule number breach
 
     -- and is that of one certificate
@@ -63,7 +65,8 @@ module _ (call : Call) (known : Known call.source) (line : Line) (m : RobustMode
     one_certificate c d h k =
         let same : h.bytes ≡ k.bytes = same_file h.bytes k.bytes h.file k.file in
         let has : HasModel call line m = file_model call line m verb h.bytes h.file in
-        read_once m (limit_of line) c d k.bytes (well has) (named has) (in_words has) most
+        read_once m (limit_of line) c d k.bytes (well call line m has) (named call line m has)
+        (in_words call line m has) (most call line m)
         (subst (λ (b : List ℕ). IsTextOf m c b) same h.text) k.text h.fits k.fits
 
     -- a text breaks one rule first
@@ -75,7 +78,8 @@ module _ (call : Call) (known : Known call.source) (line : Line) (m : RobustMode
         subst (λ (list : List ℕ). BreaksCertificate (limit_of line) m list r n) (same_file other bytes k file) b
         in
         let has : HasModel call line m = file_model call line m verb bytes file in
-        one_cause m (limit_of line) bytes (well has) (named has) (in_words has) most r n rule number here breach
+        one_cause m (limit_of line) bytes (well call line m has) (named call line m has) (in_words call line m has)
+        (most call line m) r n rule number here breach
 
     -- a certificate with a plan and one without are two
     planned : (c d : Certificate) → HasPlan call verb line m c → HasCertificate call verb line m d

@@ -4,30 +4,25 @@ use Rattle.rob_meaning.specs.Certificates.{Certificate}
 use Rattle.rob_meaning.specs.Places.{Each}
 use Rattle.rob_meaning.specs.Proves.{Proves}
 use Rattle.rob_meaning.specs.RobustModel.{RobustModel}
-use Rattle.rob_meaning.specs.WellFormed.{IsModel}
-use Rattle.rob_number.specs.Lowest.{limit_low}
-use Rattle.rob_parse.proofs.Building.PlacedLemmas.{well_formed}
 use Rattle.rob_replay.proofs.OneFileLemmas.{one_file}
 use Rattle.rob_replay.specs.Files.{IsFile}
 use Rattle.rob_replay.specs.Outcome.{outcome}
 use Rattle.rob_replay.specs.Replayed.{ShowsBound}
 use Rattle.rob_top.proofs.CourseLemmas.{ReplayCourse, lacks_plan, replays}
-use Rattle.rob_top.proofs.ReadOnceLemmas.{one_certificate, some_plan, one_lack}
+use Rattle.rob_top.proofs.ReadOnceLemmas.{one_certificate, some_plan, one_lack, well}
 use Rattle.rob_top.proofs.SolvingLemmas.{proved_bound}
 use Rattle.rob_top.proofs.SoughtLemmas.{lacking_model, lacking_verb}
 use Rattle.rob_top.proofs.StageLemmas.{file_once}
 use Rattle.rob_top.proofs.TrueAnswerLemmas.{first_of_two, unformed_course}
-use Rattle.rob_top.proofs.WorkLemmas.{limit_is}
 use Rattle.rob_top.specs.Calls.{Call, Known, limit_of}
 use Rattle.rob_top.specs.Commands as works
 use Rattle.rob_top.specs.Commands.{work_of}
 use Rattle.rob_top.specs.Headline.{Means}
-use Rattle.rob_top.specs.Inputs.{HasModel, HasScenarioFile, LacksPlan}
+use Rattle.rob_top.specs.Inputs.{HasScenarioFile, LacksPlan}
 use Rattle.rob_top.specs.Replayed.{IsReplayed, replay_ended}
 use Rattle.rob_top.specs.declared.ended.Ended.{Ended}
 use Rattle.rob_top.specs.declared.ended.Ended.TheVariants.{Cert, ReadFault, Memory}
 use Rattle.rob_words.specs.Commands.{Line}
-use Rattle.rob_words.specs.Values.{bits_of}
 use Rattle.rob_words.specs.declared.verb.Own.TheVariants as own
 use Rattle.rob_words.specs.declared.verb.Verb.TheVariants as verbs
 
@@ -72,11 +67,6 @@ module _ (call : Call) (known : Known call.source) (line : Line) (m : RobustMode
           e ∙ ap (λ k. Cert k n) one.0 ∙ ap (λ k. Cert rule k) one.1
 
 -- ---- the plan of a certificate that proves has its bound, and each inside line of its table shows it
-pub model_read : (call : Call) (line : Line) (m : RobustModel) → HasModel call line m → IsModel m
-model_read call line m has =
-    well_formed (limit_of line) has.bytes m has.reads
-    (subst (λ (l : ℕ). 1 ≤ l) (limit_is line.width) (limit_low (bits_of line.width)))
-
 pub proved_shows : (call : Call) (shown : List ℕ) (r : IsReplayed call shown) (m : RobustModel) (c : Certificate)
     → r.m ≡ m → r.c ≡ c
     → Proves m c → Each (ShowsBound r.m r.c.value) r.lines
@@ -84,5 +74,5 @@ proved_shows call shown r m c same alike proves =
     let proves_here : Proves r.m r.c =
     subst (λ (x : RobustModel). Proves x r.c) (sym same) (subst (λ (d : Certificate). Proves m d) (sym alike) proves)
     in
-    r.bounded (proved_bound r.m (model_read call r.line r.m r.has.plan.certificate.file.read) r.c
+    r.bounded (proved_bound r.m (well call r.line r.m r.has.plan.certificate.file.read) r.c
     proves_here r.has.plan.has_plan)

@@ -89,8 +89,8 @@ module _ (call : Call) (known : Known call.source) (line : Line) (m : RobustMode
   cuts_once : (a b : List Cut) → HasCuts call line m a → HasCuts call line m b → a ≡ b
   cuts_once a b h k =
       let word : h.word ≡ k.word = word_once h.word k.word h.has_word k.has_word in
-      cuts_at_once m (well call known line m h.has_word.model)
-      (named call known line m h.has_word.model) (parts_of k.word) a b
+      cuts_at_once m (well call line m h.has_word.model)
+      (named call line m h.has_word.model) (parts_of k.word) a b
       (subst (λ (w : Word). AreCutsAt m (parts_of w) a) word h.are) k.are
 
   no_cuts : (word : Word) (cuts : List Cut) → HasCutWord call line m word
@@ -230,7 +230,7 @@ module _ (call : Call) (known : Known call.source) (line : Line) (m : RobustMode
 
       none_joint : (EachCellAdmits m cuts → ⊥) → IsEmptySet (split_model m cuts)
       none_joint none w admitted =
-          none (each_admits m (well call known line m has_here) cuts has.keeps are_here w admitted)
+          none (each_admits m (well call line m has_here) cuts has.keeps are_here w admitted)
 
       empty_cells_decides : (EachCellAdmits m cuts → ⊥) → (ended : Ended) (text : List ℕ) → Means call ended text
           → IsEmptyCellsAnswer (limit_of line) m cuts ended
@@ -277,7 +277,7 @@ module _ (call : Call) (known : Known call.source) (line : Line) (m : RobustMode
       some_piece_status : EachCellAdmits m cuts → (status : Status) × (v : Fraction)
           × HasStatusOverPieces m cuts status v
       some_piece_status each =
-          let model = well call known line m has_here in
+          let model = well call line m has_here in
           let w = admits_each m model cuts has.keeps are_here each in
           let s = has_status (split_model m cuts) (split_model_is m model cuts has.keeps are_here) w.0 w.1 in
           (s.0, s.1, status_over_pieces m model cuts has.keeps are_here s.0 s.1 s.2)

@@ -82,23 +82,23 @@ module _ (call : Call) (known : Known call.source) (line : Line) (m : RobustMode
         → TreeFits (limit_of line) m t
         → Breaks (limit_of line) m names bytes rule number → ⊥
     no_breach t rule number is fits breach =
-        laws.breaks_none m (limit_of line) names (well call known line m has_model) (named call known line m has_model)
-        (in_words call known line m has_model) (most call known line m) bounds t bytes is fits rule number breach
+        laws.breaks_none m (limit_of line) names (well call line m has_model) (named call line m has_model)
+        (in_words call line m has_model) (most call line m) bounds t bytes is fits rule number breach
 
     -- it is that of one tree
     one_tree : (t u : Tree) → IsTextOfTree (limit_of line) m names t bytes
         → IsTextOfTree (limit_of line) m names u bytes
         → TreeFits (limit_of line) m t → TreeFits (limit_of line) m u → t ≡ u
     one_tree t u =
-        laws.read_once m (limit_of line) names (well call known line m has_model) (named call known line m has_model)
-        (in_words call known line m has_model) (most call known line m) bounds t u bytes
+        laws.read_once m (limit_of line) names (well call line m has_model) (named call line m has_model)
+        (in_words call line m has_model) (most call line m) bounds t u bytes
 
     -- and one text breaks one rule, at one line
     one_breach : (rule number other line_number : ℕ) → Breaks (limit_of line) m names bytes rule number
         → Breaks (limit_of line) m names bytes other line_number → (rule ≡ other) × (number ≡ line_number)
     one_breach =
-        laws.one_cause m (limit_of line) names (well call known line m has_model) (named call known line m has_model)
-        (in_words call known line m has_model) (most call known line m) bounds bytes
+        laws.one_cause m (limit_of line) names (well call line m has_model) (named call line m has_model)
+        (in_words call line m has_model) (most call line m) bounds bytes
 
     -- the same of what another reading of it says
     breach_here : (others more : List ℕ) (rule number : ℕ) → HasTreeFile call line m others more

@@ -68,7 +68,7 @@ module _ (call : Call) (known : Known call.source) (line : Line) (m : RobustMode
   variables_once : (a b : List ℕ) → HasVariables call line m a → HasVariables call line m b → a ≡ b
   variables_once a b h k =
       let list : h.names ≡ k.names = one_list line h.names k.names h.told k.told in
-      one_numbering m (well call known line m h.model) (named call known line m h.model) k.names a b
+      one_numbering m (well call line m h.model) (named call line m h.model) k.names a b
       (subst (λ (names : List Word). AreVariables m names a) list h.variables) k.variables
 
   pub whole_once : (a b : List ℕ) → HasWholeVariables call line m a → HasWholeVariables call line m b → a ≡ b
@@ -236,7 +236,7 @@ module _ (call : Call) (known : Known call.source) (line : Line) (m : RobustMode
     pub some_whole_status : (u : List Fraction) → Admits m u → (status : Status) × (v : Fraction)
         × HasWholeStatus m names status v
     some_whole_status u admitted =
-        by (whole_status m (well call known line m has.named.model) u admitted names (kept_bounds m names has.keeps))
+        by (whole_status m (well call line m has.named.model) u admitted names (kept_bounds m names has.keeps))
       where
         by : ((v : Fraction) × HasWholeStatus m names optimal v)
             ⊎ (HasWholeStatus m names infeasible (of_int (pos 0)) ⊎ HasWholeStatus m names unbounded (of_int (pos 0)))

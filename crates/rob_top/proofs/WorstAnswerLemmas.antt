@@ -23,7 +23,6 @@ use Rattle.rob_top.proofs.ReadOnceLemmas.{well, named, one_certificate, some_pla
 use Rattle.rob_runs.proofs.FoundLemmas.{found_worst}
 use Rattle.rob_runs.proofs.RunCertificates.{length-vector}
 use Rattle.rob_runs.specs.Spots.{IsWideSlack}
-use Rattle.rob_top.proofs.ReplayAnswerLemmas.{model_read}
 use Rattle.rob_top.proofs.SearchStops.{plan_length}
 use Rattle.rob_top.proofs.SearchingLemmas.{form_matrix}
 use Rattle.rob_top.proofs.SolvingLemmas.{proved_bound}
@@ -71,7 +70,7 @@ module _ (call : Call) (known : Known call.source) (line : Line) (m : RobustMode
   same_form c d i j h k =
       let has : HasModel call line m = (forms_sought call line m c i h).model in
       one_number (form_names m) i j
-      (forms_distinct m (well call known line m has) (named call known line m has)) h.is_form k.is_form
+      (forms_distinct m (well call line m has) (named call line m has)) h.is_form k.is_form
       (one_name line (name_at (form_names m) i) (name_at (form_names m) j) h.told k.told)
 
   same_plan : (c d : Certificate) (i j : ℕ) → HasSought call line m c i → HasSought call line m d j → c ≡ d
@@ -220,7 +219,7 @@ module _ (call : Call) (known : Known call.source) (line : Line) (m : RobustMode
     named_wide ended other e h = subst (λ (x : Ended). NamesWideSought (limit_of line) m form z x) (sym e) h
 
     here : IsModel m
-    here = well call known line m (forms_sought call line m c form has).model
+    here = well call line m (forms_sought call line m c form has).model
 
     some : form < length (matrices m)
     some = form_matrix m form (omega (arith, has.is_form, length-form_names m))
@@ -268,5 +267,5 @@ proved_keeps call shown r m c same alike proves =
     subst (λ (x : RobustModel). Proves x r.c) (sym same) (subst (λ (d : Certificate). Proves m d) (sym alike) proves)
     in
     r.kept
-    (proved_bound r.m (model_read call r.line r.m (forms_sought call r.line r.m r.c r.form r.has).model) r.c
+    (proved_bound r.m (well call r.line r.m (forms_sought call r.line r.m r.c r.form r.has).model) r.c
     proves_here r.has.plan.has_plan)
