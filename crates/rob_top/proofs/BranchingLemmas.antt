@@ -211,20 +211,20 @@ module _ (limit : ℕ) (m : RobustModel) where
       → AreVariables m (parts_of names) numbers → IfOk r (AnswersVariables limit wides m verb numbers)
       → IfOk r (AnswersNames limit wides m verb names)
   variables_answer wides verb names numbers (Err want) are h = tt
-  variables_answer wides verb names numbers (Ok reply) are h = λ call line at has told.
-      h call line at (record { model = has; names = parts_of names; told = told; variables = are })
+  variables_answer wides verb names numbers (Ok reply) are h = λ call line at given.
+      h call line at (record { model = given.0; names = parts_of names; told = given.1; variables = are })
 
   pub no_variables_answer : (wides : Count) (verb : Verb) (names : List ℕ) (r : Result Reply Want) → IsBranching verb
       → ((numbers : List ℕ) → AreVariables m (parts_of names) numbers → ⊥)
       → IfOk r (Replies (Whole 61) (whole_fault_text 61))
       → IfOk r (AnswersNames limit wides m verb names)
   no_variables_answer wides verb names (Err want) is_branching none is = tt
-  no_variables_answer wides verb names (Ok reply) is_branching none is = λ call line at has told.
+  no_variables_answer wides verb names (Ok reply) is_branching none is = λ call line at given.
       subst (λ (ended : Ended). Means call ended reply.text) (sym is.0)
       (record {
         line = line;
         m = m;
-        breaks = no_variables (parts_of names) has told none refl;
+        breaks = no_variables (parts_of names) given.0 given.1 none refl;
         printed = is.1;
       })
 
@@ -237,10 +237,12 @@ module _ (limit : ℕ) (m : RobustModel) where
       → IfOk r (AnswersModel limit wides m line texts)
   names_answer wides line texts words names (Err want) here same told h = tt
   names_answer wides line texts words names (Ok reply) here same told h = λ call at came has.
-      h call line at has
-      (record {
-        word = names;
-        told = own_told call line line.verb own.Names words names refl came.spelled (has_names line.verb here) same
-            told;
-        parts = refl;
-      })
+      h call line at (
+        has,
+        record {
+          word = names;
+          told = own_told call line line.verb own.Names words names refl came.spelled (has_names line.verb here) same
+              told;
+          parts = refl;
+        },
+      )

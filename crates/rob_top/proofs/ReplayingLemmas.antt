@@ -120,17 +120,17 @@ module _ (limit : ℕ) (m : RobustModel) where
         → IfOk r (Replies (Cert 34 1) (certificate_fault_text 34 1))
         → IfOk r (AnswersPlan limit wides m c text)
     planless_answers wides (Err want) none is = tt
-    planless_answers wides (Ok reply) none is = λ call line at read file.
+    planless_answers wides (Ok reply) none is = λ call line at given.
         subst (λ (ended : Ended). Means call ended reply.text) (sym is.0)
-        (not_replayed (record { line = line; m = m; lacks = planless c read none refl refl; printed = is.1 }))
+        (not_replayed (record { line = line; m = m; lacks = planless c given.0 none refl refl; printed = is.1 }))
 
     pub plan_answers : (wides : Count) (r : Result Reply Want) → c.status ≢ infeasible
         → IfOk r (AnswersScenarios limit wides m c text)
         → IfOk r (AnswersPlan limit wides m c text)
     plan_answers wides (Err want) some h = tt
     plan_answers wides (Ok reply) some h =
-        λ call line at read file.
-        h call line at (record { plan = record { certificate = read; has_plan = some }; file = file })
+        λ call line at given.
+        h call line at (record { plan = record { certificate = given.0; has_plan = some }; file = given.1 })
 
   -- ---- a certificate's text
   pub unread_answers : (wides : Count) (certificate text : List ℕ) (rule number : ℕ) (r : Result Reply Want)
@@ -138,12 +138,12 @@ module _ (limit : ℕ) (m : RobustModel) where
       → IfOk r (Replies (Cert rule number) (certificate_fault_text rule number))
       → IfOk r (AnswersReplay limit wides m certificate text)
   unread_answers wides certificate text rule number (Err want) broken is = tt
-  unread_answers wides certificate text rule number (Ok reply) broken is = λ call line at file scenarios.
+  unread_answers wides certificate text rule number (Ok reply) broken is = λ call line at given.
       subst (λ (ended : Ended). Means call ended reply.text) (sym is.0)
       (not_replayed (record {
         line = line;
         m = m;
-        lacks = unread certificate file
+        lacks = unread certificate given.0
             (subst (λ (l : ℕ). BreaksCertificate l m certificate rule number)
             (sym at.limit_is) broken);
         printed = is.1;
@@ -154,17 +154,18 @@ module _ (limit : ℕ) (m : RobustModel) where
       → IsTextOf m c certificate → FitsLines limit m c → IfOk r (AnswersPlan limit (count middle now) m c text)
       → IfOk r (AnswersReplay limit (count before now) m certificate text)
   read_answers before middle now certificate text c (Err want) least is fits h = tt
-  read_answers before middle now certificate text c (Ok reply) least is fits h = λ call line at file scenarios.
+  read_answers before middle now certificate text c (Ok reply) least is fits h = λ call line at given.
       h call line
       (call_within limit (count middle now) (count before now) Replay call line
-      (rose_earlier before middle now least) at)
-      (record {
-        bytes = certificate;
-        file = file;
-        text = is;
-        fits = subst (λ (l : ℕ). FitsLines l m c) (sym at.limit_is) fits;
-      })
-      scenarios
+      (rose_earlier before middle now least) at) (
+        record {
+          bytes = certificate;
+          file = given.0;
+          text = is;
+          fits = subst (λ (l : ℕ). FitsLines l m c) (sym at.limit_is) fits;
+        },
+        given.1,
+      )
 
   -- ---- the command is `replay`, so the files of the certificate and of scenarios came
   pub replay_answers : (wides : Count) (line : Line) (texts : Texts) (certificate text : List ℕ) (r : Result Reply Want)
@@ -177,12 +178,13 @@ module _ (limit : ℕ) (m : RobustModel) where
       let names : (kind : Own) → has_kind kind (own_of Replay) ≡ true → has_kind kind (own_of line.verb) ≡ true =
       λ kind is. subst (λ (v : Verb). has_kind kind (own_of v) ≡ true) (sym here) is
       in
-      h call line (call_of_verb limit wides line.verb Replay call line here at)
-      (record {
-        read = has;
-        is_verb = here;
-        file = subst (λ (list : List ℕ). HasFile call line own.Certificate list) (sym same)
-            (file_came call line texts own.Certificate _ refl came (names own.Certificate refl));
-      })
-      (subst (λ (list : List ℕ). HasFile call line own.Scenarios list) (sym alike)
-      (file_came call line texts own.Scenarios _ refl came (names own.Scenarios refl)))
+      h call line (call_of_verb limit wides line.verb Replay call line here at) (
+        record {
+          read = has;
+          is_verb = here;
+          file = subst (λ (list : List ℕ). HasFile call line own.Certificate list) (sym same)
+              (file_came call line texts own.Certificate _ refl came (names own.Certificate refl));
+        },
+        subst (λ (list : List ℕ). HasFile call line own.Scenarios list) (sym alike)
+            (file_came call line texts own.Scenarios _ refl came (names own.Scenarios refl)),
+      )

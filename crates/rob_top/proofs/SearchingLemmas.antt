@@ -98,14 +98,15 @@ module _ (limit : ℕ) (m : RobustModel) where
       let names : has_kind own.Certificate (own_of line.verb) ≡ true =
       subst (λ (v : Verb). has_kind own.Certificate (own_of v) ≡ true) (sym here) refl
       in
-      h call line (call_of_verb limit wides line.verb Worst call line here at)
-      (record {
-        read = has;
-        is_verb = here;
-        file = subst (λ (list : List ℕ). HasFile call line own.Certificate list) (sym same)
-            (file_came call line texts own.Certificate _ refl came names);
-      })
-      (own_told call line line.verb own.Form words name refl came.spelled (has_form line.verb here) alike told)
+      h call line (call_of_verb limit wides line.verb Worst call line here at) (
+        record {
+          read = has;
+          is_verb = here;
+          file = subst (λ (list : List ℕ). HasFile call line own.Certificate list) (sym same)
+              (file_came call line texts own.Certificate _ refl came names);
+        },
+        own_told call line line.verb own.Form words name refl came.spelled (has_form line.verb here) alike told,
+      )
 
   -- ---- a certificate's text
   module _ (name : Word) where
@@ -114,12 +115,12 @@ module _ (limit : ℕ) (m : RobustModel) where
         → IfOk r (Replies (Cert rule number) (certificate_fault_text rule number))
         → IfOk r (AnswersSearch limit wides m certificate name)
     misread_answers wides certificate rule number (Err want) broken is = tt
-    misread_answers wides certificate rule number (Ok reply) broken is = λ call line at file told.
+    misread_answers wides certificate rule number (Ok reply) broken is = λ call line at given.
         subst (λ (ended : Ended). Means call ended reply.text) (sym is.0)
         (not_searched (record {
           line = line;
           m = m;
-          lacks = unread certificate file
+          lacks = unread certificate given.0
               (subst (λ (l : ℕ). BreaksCertificate l m certificate rule number)
               (sym at.limit_is) broken);
           printed = is.1;
@@ -130,17 +131,18 @@ module _ (limit : ℕ) (m : RobustModel) where
         → IsTextOf m c certificate → FitsLines limit m c → IfOk r (AnswersSearched limit (count middle now) m c name)
         → IfOk r (AnswersSearch limit (count before now) m certificate name)
     read_answers before middle now certificate c (Err want) least is fits h = tt
-    read_answers before middle now certificate c (Ok reply) least is fits h = λ call line at file told.
+    read_answers before middle now certificate c (Ok reply) least is fits h = λ call line at given.
         h call line
         (call_within limit (count middle now) (count before now) Worst call line
-        (rose_earlier before middle now least) at)
-        (record {
-          bytes = certificate;
-          file = file;
-          text = is;
-          fits = subst (λ (l : ℕ). FitsLines l m c) (sym at.limit_is) fits;
-        })
-        told
+        (rose_earlier before middle now least) at) (
+          record {
+            bytes = certificate;
+            file = given.0;
+            text = is;
+            fits = subst (λ (l : ℕ). FitsLines l m c) (sym at.limit_is) fits;
+          },
+          given.1,
+        )
 
     -- ---- a certificate, with a plan or without one
     module _ (c : Certificate) (wides : Count) where
@@ -148,39 +150,39 @@ module _ (limit : ℕ) (m : RobustModel) where
           → IfOk r (Replies (Cert 34 1) (certificate_fault_text 34 1))
           → IfOk r (AnswersSearched limit wides m c name)
       claims_none_answers (Err want) none is = tt
-      claims_none_answers (Ok reply) none is = λ call line at read told.
+      claims_none_answers (Ok reply) none is = λ call line at given.
           subst (λ (ended : Ended). Means call ended reply.text) (sym is.0)
-          (not_searched (record { line = line; m = m; lacks = planless c read none refl refl; printed = is.1 }))
+          (not_searched (record { line = line; m = m; lacks = planless c given.0 none refl refl; printed = is.1 }))
 
       pub planned_answers : (r : Result Reply Want) → c.status ≢ infeasible
           → IfOk r (AnswersPlanned limit wides m c name)
           → IfOk r (AnswersSearched limit wides m c name)
       planned_answers (Err want) some h = tt
       planned_answers (Ok reply) some h =
-          λ call line at read told. h call line at (record { certificate = read; has_plan = some }) told
+          λ call line at given. h call line at (record { certificate = given.0; has_plan = some }, given.1)
 
       -- ---- the form of the name, or none
       pub no_row_answers : (r : Result Reply Want) → Finds (form_names m) name None
           → IfOk r (Replies NoRow (no_row_text name))
           → IfOk r (AnswersPlanned limit wides m c name)
       no_row_answers (Err want) finds is = tt
-      no_row_answers (Ok reply) finds is = λ call line at plan told.
+      no_row_answers (Ok reply) finds is = λ call line at given.
           subst (λ (ended : Ended). Means call ended reply.text) (sym is.0)
           (record {
             line = line;
             m = m;
             c = c;
             name = name;
-            names_none = record { plan = plan; told = told; none = name_missing (form_names m) name finds };
+            names_none = record { plan = given.0; told = given.1; none = name_missing (form_names m) name finds };
             printed = is.1;
           })
 
       pub named_answers : (form : ℕ) (r : Result Reply Want) → Finds (form_names m) name (Some form)
           → IfOk r (AnswersSought limit wides m c form) → IfOk r (AnswersPlanned limit wides m c name)
       named_answers form (Err want) finds h = tt
-      named_answers form (Ok reply) finds h = λ call line at plan told.
+      named_answers form (Ok reply) finds h = λ call line at given.
           let found = name_found (form_names m) name form finds in
-          h call line at (record { plan = plan; is_form = found.0; told = told ∙ ap Some (sym found.1) })
+          h call line at (record { plan = given.0; is_form = found.0; told = given.1 ∙ ap Some (sym found.1) })
 
   -- ---- the search
   module _ (model : IsModel m) (form : ℕ) (some : form < length (matrices m)) (c : Certificate)

@@ -182,19 +182,19 @@ module _ (limit : ℕ) (m : RobustModel) (model : IsModel m) (way : Route) (c : 
       → IfOk r (Replies (ended_of c.status) (with_rounds way m rounds (report_of m c)))
       → IfOk r (AnswersRoute limit wides m Solve way)
   report_answers wides (Err want) is = tt
-  report_answers wides (Ok reply) is = λ call line at by_way has.
+  report_answers wides (Ok reply) is = λ call line at given.
       subst (λ (ended : Ended). Means call ended reply.text) (sym is.0)
-      (means_solved call line reply.text c.status at.limit_is by_way refl has
+      (means_solved call line reply.text c.status at.limit_is given.0 refl given.1
       (solves_as line.verb Solve at.verb_is refl)
-      (is_report call line.verb line.way reply.text at.verb_is by_way is.1))
+      (is_report call line.verb line.way reply.text at.verb_is given.0 is.1))
 
   pub certificate_answers : (wides : Count) (r : Result Reply Want)
       → IfOk r (Replies (ended_of c.status) (cert_text m c))
       → IfOk r (AnswersRoute limit wides m Prove way)
   certificate_answers wides (Err want) is = tt
-  certificate_answers wides (Ok reply) is = λ call line at by_way has.
+  certificate_answers wides (Ok reply) is = λ call line at given.
       subst (λ (ended : Ended). Means call ended reply.text) (sym is.0)
-      (means_solved call line reply.text c.status at.limit_is by_way refl has
+      (means_solved call line reply.text c.status at.limit_is given.0 refl given.1
       (solves_as line.verb Prove at.verb_is refl)
       (is_certificate call line.verb line.way reply.text at.verb_is is.1))
 
@@ -204,19 +204,19 @@ module _ (limit : ℕ) (m : RobustModel) where
       → HasStopCause way limit m s → StopFits limit s → CountsStop before now s → RepliesStop m way s reply
       → AnswersRoute limit (count before now) m verb way reply
   stop_answers before now verb way (stop.EmptySet weights) reply solves cause fits counts is =
-      λ call line at by_way has.
+      λ call line at given.
       subst (λ (ended : Ended). Means call ended reply.text) (sym is.0)
       (while_solving (record {
         line = line;
         m = m;
-        forms = has;
+        forms = given.1;
         solves = solves_as line.verb verb at.verb_is solves;
         shown = cause.shown;
         fits = subst (λ (l : ℕ). Each (λ weight. nat_abs weight ≤ l) weights) (sym at.limit_is) cause.fits;
         printed = is.1;
       }))
   stop_answers before now verb way (stop.Wide place trace) reply solves cause fits counts is =
-      λ call line at by_way has.
+      λ call line at given.
       let rose : Rose before now = omega (arith, counts) in
       let here : IsWideBy way (limit_of line) m place trace.rounds =
       subst (λ (l : ℕ). IsWideBy way l m place trace.rounds) (sym at.limit_is) cause
@@ -226,12 +226,12 @@ module _ (limit : ℕ) (m : RobustModel) where
         line = line;
         m = m;
         rounds = trace.rounds;
-        forms = has;
+        forms = given.1;
         solves = solves_as line.verb verb at.verb_is solves;
-        wide = subst (λ (w : Route). IsWideBy w (limit_of line) m place trace.rounds) (sym by_way) here;
+        wide = subst (λ (w : Route). IsWideBy w (limit_of line) m place trace.rounds) (sym given.0) here;
         raised = at.raised rose;
         rounds_fit = subst (λ (l : ℕ). Each (RoundFits l) trace.rounds) (sym at.limit_is) fits;
-        printed = subst (λ (w : Route). reply.text ≡ with_rounds w m trace.rounds (too_wide_line m place)) (sym by_way)
+        printed = subst (λ (w : Route). reply.text ≡ with_rounds w m trace.rounds (too_wide_line m place)) (sym given.0)
             is.1;
       }))
   stop_answers before now verb way stop.Memory reply solves cause fits counts is = absurd is

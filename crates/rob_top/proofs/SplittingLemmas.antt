@@ -106,22 +106,24 @@ module _ (limit : ℕ) (m : RobustModel) (verb : Verb) (is : IsSplitting verb) w
       → ((other : Word) → word_of Cuts (own_of verb) words ≡ Some other → word ≡ other)
       → IfOk r (AnswersCutWord limit wides m verb word) → IfOk r (AnswersWords limit wides m verb words)
   told_words wides words word (Err want) told h = tt
-  told_words wides words word (Ok reply) told h = λ call line at has own_is.
-      h call line at has
-      (own_told call line verb Cuts words word at.verb_is has.spelled
-      (cuts_there line.verb (splits_as line.verb verb at.verb_is is)) own_is told)
+  told_words wides words word (Ok reply) told h = λ call line at given.
+      h call line at (
+        given.0,
+        own_told call line verb Cuts words word at.verb_is given.0.spelled
+            (cuts_there line.verb (splits_as line.verb verb at.verb_is is)) given.1 told,
+      )
 
   -- ---- rules 51 and 52
   pub named_answers : (wides : Count) (word : Word) (r : Result Reply Want) → m.sets ≢ []
       → IfOk r (Replies (CellsRule 51) (cells_fault_text 51))
       → IfOk r (AnswersCutWord limit wides m verb word)
   named_answers wides word (Err want) some says = tt
-  named_answers wides word (Ok reply) some says = λ call line at has told.
+  named_answers wides word (Ok reply) some says = λ call line at given.
       subst (λ (ended : Ended). Means call ended reply.text) (sym says.0)
       (record {
         line = line;
         m = m;
-        breaks = named_set word (has_word wides call line word at has told) some refl;
+        breaks = named_set word (has_word wides call line word at given.0 given.1) some refl;
         printed = says.1;
       })
 
@@ -129,13 +131,13 @@ module _ (limit : ℕ) (m : RobustModel) (verb : Verb) (is : IsSplitting verb) w
       → (IsCutList limit word → (cuts : List Cut) → AreCutsAt m (parts_of word) cuts → ⊥)
       → IfOk r (Replies (CellsRule 52) (cells_fault_text 52)) → IfOk r (AnswersCutWord limit wides m verb word)
   unknown_answers wides word (Err want) alone none says = tt
-  unknown_answers wides word (Ok reply) alone none says = λ call line at has told.
+  unknown_answers wides word (Ok reply) alone none says = λ call line at given.
       subst (λ (ended : Ended). Means call ended reply.text) (sym says.0)
       (record {
         line = line;
         m = m;
-        breaks = no_parameter word (has_word wides call line word at has told) alone
-            (none (cut_list limit wides verb call line m word at has told)) refl;
+        breaks = no_parameter word (has_word wides call line word at given.0 given.1) alone
+            (none (cut_list limit wides verb call line m word at given.0 given.1)) refl;
         printed = says.1;
       })
 
@@ -144,13 +146,13 @@ module _ (limit : ℕ) (m : RobustModel) (verb : Verb) (is : IsSplitting verb) w
       → AreCutsAt m (parts_of word) cuts → before ≤ middle → IfOk r (AnswersCuts limit (count middle now) m verb cuts)
       → IfOk r (AnswersCutWord limit (count before now) m verb word)
   cuts_answers before middle now word cuts (Err want) alone are least h = tt
-  cuts_answers before middle now word cuts (Ok reply) alone are least h = λ call line at has told.
+  cuts_answers before middle now word cuts (Ok reply) alone are least h = λ call line at given.
       h call line
       (call_within limit (count middle now) (count before now) verb call line
       (rose_earlier before middle now least) at)
       (record {
         word = word;
-        has_word = has_word (count before now) call line word at has told;
+        has_word = has_word (count before now) call line word at given.0 given.1;
         alone = alone;
         are = are;
       })

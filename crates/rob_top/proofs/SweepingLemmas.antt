@@ -60,9 +60,9 @@ module _ (limit : ℕ) (wides : Count) (m : RobustModel) (verb : Verb) (kind : O
   pub no_line_answers : (r : Result Reply Want) → (IsOfKind limit kind word → ⊥) → IfOk r (Replies Words words_text)
       → IfOk r (AnswersWords limit wides m verb words)
   no_line_answers (Err want) none is = tt
-  no_line_answers (Ok reply) none is = λ call line at has own_is.
-      absurd (none (own_of_kind limit call line kind word has.spelled at.limit_is
-      (word_told call line at has own_is)))
+  no_line_answers (Ok reply) none is = λ call line at given.
+      absurd (none (own_of_kind limit call line kind word given.0.spelled at.limit_is
+      (word_told call line at given.0 given.1)))
 
 -- as many answers as limits
 swept_count : (m : RobustModel) (n : ℕ) (gs : List Fraction) (answers : List SweepAnswer) → Swept m n gs answers
@@ -107,25 +107,25 @@ module _ (limit : ℕ) (m : RobustModel) where
       → IfOk r (AnswersWords limit (count before now) m verbs.Sweep words)
   sweep_told before middle now words number behind n gs (Err want) first second n_is gs_are least h = tt
   sweep_told before middle now words number behind n gs (Ok reply) first second n_is gs_are least h =
-      λ call line at has own_is.
+      λ call line at given.
       h call line
       (call_within limit (count middle now) (count before now) verbs.Sweep call line
       (rose_earlier before middle now least) at)
       (record {
-        model = has;
+        model = given.0;
         is_sweep = at.verb_is;
         statement =
             record {
               word = number;
               told = word_told limit (count before now) m verbs.Sweep own.Statement refl words number first call line
-                  at has own_is;
+                  at given.0 given.1;
               spells = n_is;
             };
         limits_are =
             record {
               word = behind;
               told = word_told limit (count before now) m verbs.Sweep own.Limits refl words behind second call line
-                  at has own_is;
+                  at given.0 given.1;
               parts = gs_are;
             };
       })
@@ -200,23 +200,23 @@ module _ (limit : ℕ) (m : RobustModel) where
       → n ≡ number_of number → g ≡ limit_value behind
       → IfOk r (RepliesLimit m n g) → IfOk r (AnswersWords limit (count before now) m verbs.SweepText words)
   limit_told before now words number behind n g (Err want) first second n_is g_is h = tt
-  limit_told before now words number behind n g (Ok reply) first second n_is g_is h = λ call line at has own_is.
+  limit_told before now words number behind n g (Ok reply) first second n_is g_is h = λ call line at given.
       by call line
       (record {
-        model = has;
+        model = given.0;
         is_text = at.verb_is;
         statement =
             record {
               word = number;
               told = word_told limit (count before now) m verbs.SweepText own.Statement refl words number first call
-                  line at has own_is;
+                  line at given.0 given.1;
               spells = n_is;
             };
         limit_is =
             record {
               word = behind;
               told = word_told limit (count before now) m verbs.SweepText own.Limit refl words behind second call line
-                  at has own_is;
+                  at given.0 given.1;
               spells = g_is;
             };
       })
@@ -275,7 +275,7 @@ module _ (limit : ℕ) (m : RobustModel) where
       → line.own ≡ words → IfOk r (AnswersWords limit wides m line.verb words)
       → IfOk r (AnswersModel limit wides m line texts)
   words_answer wides line texts words (Err want) same h = tt
-  words_answer wides line texts words (Ok reply) same h = λ call at came has. h call line at has same
+  words_answer wides line texts words (Ok reply) same h = λ call at came has. h call line at (has, same)
 
   pub words_answer_at : (wides : Count) (line : Line) (verb : Verb) (texts : Texts) (words : List Word)
       (r : Result Reply Want) → line.verb ≡ verb

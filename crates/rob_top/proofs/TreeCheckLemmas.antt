@@ -136,35 +136,35 @@ module _ (limit : ℕ) (m : RobustModel) where
       → whole_rule m numbers ≡ Some rule
       → IfOk r (Replies (Whole rule) (whole_fault_text rule)) → IfOk r (AnswersTreeNumbers limit wides m numbers text)
   ranges_answers wides numbers text rule (Err want) broken said = tt
-  ranges_answers wides numbers text rule (Ok reply) broken said = λ call line at has file.
+  ranges_answers wides numbers text rule (Ok reply) broken said = λ call line at given.
       subst (λ (ended : Ended). Means call ended reply.text) (sym said.0)
-      (record { line = line; m = m; breaks = no_ranges numbers has broken; printed = said.1 })
+      (record { line = line; m = m; breaks = no_ranges numbers given.0 broken; printed = said.1 })
 
   pub kept_answers : (wides : Count) (numbers text : List ℕ) (r : Result Reply Want) → whole_rule m numbers ≡ None
       → IfOk r (AnswersTreeFile limit wides m numbers text) → IfOk r (AnswersTreeNumbers limit wides m numbers text)
   kept_answers wides numbers text (Err want) keeps h = tt
-  kept_answers wides numbers text (Ok reply) keeps h = λ call line at has file.
+  kept_answers wides numbers text (Ok reply) keeps h = λ call line at given.
       h call line at (record {
-        variables = record { named = has; keeps = keeps };
+        variables = record { named = given.0; keeps = keeps };
         is_checktree = at.verb_is;
-        file = file;
+        file = given.1;
       })
 
   pub numbers_answers : (wides : Count) (names numbers text : List ℕ) (r : Result Reply Want)
       → AreVariables m (parts_of names) numbers
       → IfOk r (AnswersTreeNumbers limit wides m numbers text) → IfOk r (AnswersTreeNames limit wides m names text)
   numbers_answers wides names numbers text (Err want) are h = tt
-  numbers_answers wides names numbers text (Ok reply) are h = λ call line at has told file.
-      h call line at (record { model = has; names = parts_of names; told = told; variables = are }) file
+  numbers_answers wides names numbers text (Ok reply) are h = λ call line at given.
+      h call line at (record { model = given.0; names = parts_of names; told = given.1; variables = are }, given.2)
 
   pub nameless_answers : (wides : Count) (names text : List ℕ) (r : Result Reply Want)
       → ((numbers : List ℕ) → AreVariables m (parts_of names) numbers → ⊥)
       → IfOk r (Replies (Whole 61) (whole_fault_text 61))
       → IfOk r (AnswersTreeNames limit wides m names text)
   nameless_answers wides names text (Err want) none said = tt
-  nameless_answers wides names text (Ok reply) none said = λ call line at has told file.
+  nameless_answers wides names text (Ok reply) none said = λ call line at given.
       subst (λ (ended : Ended). Means call ended reply.text) (sym said.0)
-      (record { line = line; m = m; breaks = no_variables (parts_of names) has told none refl; printed = said.1 })
+      (record { line = line; m = m; breaks = no_variables (parts_of names) given.0 given.1 none refl; printed = said.1 })
 
   -- ---- the command is `checktree`, so a list of names and the file of a tree came
   own_kind : (verb : Verb) (kind : Own) → verb ≡ CheckTree → has_kind kind (own_of CheckTree) ≡ true
@@ -179,12 +179,14 @@ module _ (limit : ℕ) (m : RobustModel) where
       → IfOk r (AnswersTreeNames limit wides m names text) → IfOk r (AnswersModel limit wides m line texts)
   texts_answers wides line texts words names text (Err want) here same told alike h = tt
   texts_answers wides line texts words names text (Ok reply) here same told alike h = λ call at came has.
-      h call line (call_of_verb limit wides line.verb CheckTree call line here at) has
-      (record {
-        word = names;
-        told = own_told call line line.verb own.Names words names refl came.spelled
-            (own_kind line.verb own.Names here refl) same told;
-        parts = refl;
-      })
-      (subst (λ (list : List ℕ). HasFile call line own.Tree list) (sym alike)
-      (file_came call line texts own.Tree _ refl came (own_kind line.verb own.Tree here refl)))
+      h call line (call_of_verb limit wides line.verb CheckTree call line here at) (
+        has,
+        record {
+          word = names;
+          told = own_told call line line.verb own.Names words names refl came.spelled
+              (own_kind line.verb own.Names here refl) same told;
+          parts = refl;
+        },
+        subst (λ (list : List ℕ). HasFile call line own.Tree list) (sym alike)
+            (file_came call line texts own.Tree _ refl came (own_kind line.verb own.Tree here refl)),
+      )

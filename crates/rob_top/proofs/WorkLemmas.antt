@@ -204,4 +204,4 @@ module _ (limit : ℕ) (m : RobustModel) where
       → IfOk r (AnswersRoute limit wides m verb line.way) → IfOk r (AnswersWhole limit wides m line texts)
   at_verb wides line verb texts (Err want) e h = tt
   at_verb wides line verb texts (Ok reply) e h = λ call at came has.
-      h call line (call_of_verb limit wides line.verb verb call line e at) refl has
+      h call line (call_of_verb limit wides line.verb verb call line e at) (refl, has)

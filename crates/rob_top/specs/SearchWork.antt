@@ -12,14 +12,12 @@ use Rattle.rob_model.specs.declared.place.Where.TheVariants.{Cost}
 use Rattle.rob_report.specs.Spots.{too_wide_line}
 use Rattle.rob_report.specs.Worst.{along_text, greatest_text}
 use Rattle.rob_runs.specs.Spots.{slack_of}
-use Rattle.rob_top.specs.Calls.{Call, Count, WasRaised}
-use Rattle.rob_top.specs.Headline.{Means}
+use Rattle.rob_top.specs.Calls.{Count, WasRaised}
 use Rattle.rob_top.specs.Inputs.{HasCertificate, HasCertificateFile, HasPlan, HasSought, TellsForm}
 use Rattle.rob_top.specs.Replies.{Replies}
-use Rattle.rob_top.specs.Work.{IsCallAt}
+use Rattle.rob_top.specs.Work.{Answers}
 use Rattle.rob_top.specs.declared.ended.Ended.TheVariants.{Printed, TooWide}
 use Rattle.rob_top.specs.declared.reply.Reply.{Reply}
-use Rattle.rob_words.specs.Commands.{Line}
 use Rattle.rob_words.specs.Values.{Word}
 use Rattle.rob_words.specs.declared.verb.Verb.TheVariants as verbs
 
@@ -28,29 +26,23 @@ module _ (limit : ℕ) (wides : Count) (m : RobustModel) where
   -- whose words name the form so
   abbrev pub AnswersSearch : List ℕ → Word → Reply → Type 0
   AnswersSearch bytes name reply =
-      (call : Call) (line : Line) → IsCallAt limit wides verbs.Worst call line
-      → HasCertificateFile call verbs.Worst line m bytes → TellsForm line name
-      → Means call reply.ended reply.text
+      Answers limit wides verbs.Worst
+      (λ call line. HasCertificateFile call verbs.Worst line m bytes × TellsForm line name) reply
 
   -- the first of which is the text of the certificate
   abbrev pub AnswersSearched : Certificate → Word → Reply → Type 0
   AnswersSearched c name reply =
-      (call : Call) (line : Line) → IsCallAt limit wides verbs.Worst call line
-      → HasCertificate call verbs.Worst line m c → TellsForm line name
-      → Means call reply.ended reply.text
+      Answers limit wides verbs.Worst (λ call line. HasCertificate call verbs.Worst line m c × TellsForm line name)
+      reply
 
   -- and this has a plan
   abbrev pub AnswersPlanned : Certificate → Word → Reply → Type 0
   AnswersPlanned c name reply =
-      (call : Call) (line : Line) → IsCallAt limit wides verbs.Worst call line
-      → HasPlan call verbs.Worst line m c → TellsForm line name
-      → Means call reply.ended reply.text
+      Answers limit wides verbs.Worst (λ call line. HasPlan call verbs.Worst line m c × TellsForm line name) reply
 
   -- and the name is this form's
   abbrev pub AnswersSought : Certificate → ℕ → Reply → Type 0
-  AnswersSought c form reply =
-      (call : Call) (line : Line) → IsCallAt limit wides verbs.Worst call line → HasSought call line m c form
-      → Means call reply.ended reply.text
+  AnswersSought c form reply = Answers limit wides verbs.Worst (λ call line. HasSought call line m c form) reply
 
 -- ---- worst cases
 

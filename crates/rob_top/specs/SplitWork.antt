@@ -8,16 +8,14 @@ use Rattle.rob_meaning.specs.Certificates.{Certificate}
 use Rattle.rob_meaning.specs.RobustModel.{RobustModel}
 use Rattle.rob_pieces.specs.Cuts.{Cut}
 use Rattle.rob_report.specs.Report.{report_of}
-use Rattle.rob_top.specs.Calls.{Call, Count}
-use Rattle.rob_top.specs.Headline.{Means}
+use Rattle.rob_top.specs.Calls.{Count}
 use Rattle.rob_top.specs.Inputs.{HasModel}
 use Rattle.rob_top.specs.WorkStops.{RepliesStop}
 use Rattle.rob_top.specs.Replies.{Replies}
 use Rattle.rob_top.specs.Split.{HasCuts, TellsCuts, cells_line}
-use Rattle.rob_top.specs.Work.{IsCallAt, ended_of}
+use Rattle.rob_top.specs.Work.{Answers, ended_of}
 use Rattle.rob_top.specs.declared.ended.Ended.TheVariants.{Printed}
 use Rattle.rob_top.specs.declared.reply.Reply.{Reply}
-use Rattle.rob_words.specs.Commands.{Line}
 use Rattle.rob_words.specs.Values.{Word}
 use Rattle.rob_words.specs.declared.route.Route.TheVariants.{Dual}
 use Rattle.rob_words.specs.declared.verb.Verb.{Verb}
@@ -30,14 +28,11 @@ module _ (limit : ℕ) (wides : Count) (m : RobustModel) where
   -- this is
   abbrev pub AnswersCutWord : Verb → Word → Reply → Type 0
   AnswersCutWord verb word reply =
-      (call : Call) (line : Line) → IsCallAt limit wides verb call line → HasModel call line m → TellsCuts line word
-      → Means call reply.ended reply.text
+      Answers limit wides verb (λ call line. HasModel call line m × TellsCuts line word) reply
 
   -- that of each one whose words tell these cuts
   abbrev pub AnswersCuts : Verb → List Cut → Reply → Type 0
-  AnswersCuts verb cuts reply =
-      (call : Call) (line : Line) → IsCallAt limit wides verb call line → HasCuts call line m cuts
-      → Means call reply.ended reply.text
+  AnswersCuts verb cuts reply = Answers limit wides verb (λ call line. HasCuts call line m cuts) reply
 
   -- ---- the split model
 

@@ -8,17 +8,15 @@ use Rattle.rob_tree.specs.declared.verdict.LeafFault.TheVariants.{At}
 use Rattle.rob_tree.specs.declared.verdict.TreeVerdict.{TreeVerdict}
 use Rattle.rob_tree.specs.declared.verdict.TreeVerdict.TheVariants as verdict
 use Rattle.rob_top.specs.Answers.{accepted_by, rejected_leaf_text, wide_node_text}
-use Rattle.rob_top.specs.Calls.{Call, Count}
+use Rattle.rob_top.specs.Calls.{Count}
 use Rattle.rob_top.specs.Files.{HasFile}
-use Rattle.rob_top.specs.Headline.{Means}
 use Rattle.rob_top.specs.Inputs.{HasModel, HasVariables, TellsNames}
 use Rattle.rob_top.specs.Replies.{Replies}
 use Rattle.rob_top.specs.TreeChecked.{HasTree, HasTreeFile}
-use Rattle.rob_top.specs.Work.{IsCallAt}
+use Rattle.rob_top.specs.Work.{Answers}
 use Rattle.rob_top.specs.WorkStops.{IsBoxSpotOf}
 use Rattle.rob_top.specs.declared.ended.Ended.TheVariants.{Accepted, TreeRejected, WideNode}
 use Rattle.rob_top.specs.declared.reply.Reply.{Reply}
-use Rattle.rob_words.specs.Commands.{Line}
 use Rattle.rob_words.specs.Names.{parts_of}
 use Rattle.rob_words.specs.declared.verb.Own.TheVariants as own
 use Rattle.rob_words.specs.declared.verb.Verb.TheVariants.{CheckTree}
@@ -28,26 +26,23 @@ module _ (limit : ℕ) (wides : Count) (m : RobustModel) where
   -- names has this text, and whose tree's file came with these bytes
   abbrev pub AnswersTreeNames : List ℕ → List ℕ → Reply → Type 0
   AnswersTreeNames names bytes reply =
-      (call : Call) (line : Line) → IsCallAt limit wides CheckTree call line → HasModel call line m
-      → TellsNames line (parts_of names) → HasFile call line own.Tree bytes → Means call reply.ended reply.text
+      Answers limit wides CheckTree
+      (λ call line. HasModel call line m × TellsNames line (parts_of names) × HasFile call line own.Tree bytes) reply
 
   -- that of each one whose names are those of the variables with these numbers
   abbrev pub AnswersTreeNumbers : List ℕ → List ℕ → Reply → Type 0
   AnswersTreeNumbers numbers bytes reply =
-      (call : Call) (line : Line) → IsCallAt limit wides CheckTree call line → HasVariables call line m numbers
-      → HasFile call line own.Tree bytes → Means call reply.ended reply.text
+      Answers limit wides CheckTree (λ call line. HasVariables call line m numbers × HasFile call line own.Tree bytes)
+      reply
 
   -- which break no rule
   abbrev pub AnswersTreeFile : List ℕ → List ℕ → Reply → Type 0
   AnswersTreeFile numbers bytes reply =
-      (call : Call) (line : Line) → IsCallAt limit wides CheckTree call line → HasTreeFile call line m numbers bytes
-      → Means call reply.ended reply.text
+      Answers limit wides CheckTree (λ call line. HasTreeFile call line m numbers bytes) reply
 
   -- and whose file is the text of the tree
   abbrev pub AnswersTree : List ℕ → Tree → Reply → Type 0
-  AnswersTree numbers t reply =
-      (call : Call) (line : Line) → IsCallAt limit wides CheckTree call line → HasTree call line m numbers t
-      → Means call reply.ended reply.text
+  AnswersTree numbers t reply = Answers limit wides CheckTree (λ call line. HasTree call line m numbers t) reply
 
 module _ (m : RobustModel) where
   -- what fails of a leaf is a condition that the model's names tell

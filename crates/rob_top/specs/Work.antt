@@ -54,7 +54,13 @@ pub record IsCallAt (limit : ℕ) (wides : Count) (verb : Verb) (call : Call) (l
   pub raised : WasRaised wides → WasRaised call.wides
 
 module _ (limit : ℕ) (wides : Count) where
-  -- the reply is the answer of each call of the command line, at the limit, whose files came with these texts
+  -- the reply is the answer of each call of this command, at the limit, of which that holds
+  abbrev pub Answers : Verb → (Call → Line → Type 0) → Reply → Type 0
+  Answers verb Holds reply =
+      (call : Call) (line : Line) → IsCallAt limit wides verb call line → Holds call line
+      → Means call reply.ended reply.text
+
+  -- that of each one of the command line, whose files came with these texts
   abbrev pub AnswersTexts : Line → Texts → Reply → Type 0
   AnswersTexts line texts reply =
       (call : Call) → IsCallAt limit wides line.verb call line → HasTexts call line texts
@@ -75,68 +81,50 @@ module _ (limit : ℕ) (wides : Count) where
 
     -- that of each one of this command, by this route, where no text counts but the model's
     abbrev pub AnswersRoute : Verb → Route → Reply → Type 0
-    AnswersRoute verb way reply =
-        (call : Call) (line : Line) → IsCallAt limit wides verb call line → line.way ≡ way → HasForms call line m
-        → Means call reply.ended reply.text
+    AnswersRoute verb way reply = Answers verb (λ call line. (line.way ≡ way) × HasForms call line m) reply
 
     -- that of each one for `check`, whose certificate's file came with these bytes
     abbrev pub AnswersFile : List ℕ → Reply → Type 0
     AnswersFile bytes reply =
-        (call : Call) (line : Line) → IsCallAt limit wides verbs.Check call line
-        → HasCertificateFile call verbs.Check line m bytes
-        → Means call reply.ended reply.text
+        Answers verbs.Check (λ call line. HasCertificateFile call verbs.Check line m bytes) reply
 
     -- and which is the text of the certificate
     abbrev pub AnswersCertificate : Certificate → Reply → Type 0
-    AnswersCertificate c reply =
-        (call : Call) (line : Line) → IsCallAt limit wides verbs.Check call line
-        → HasCertificate call verbs.Check line m c
-        → Means call reply.ended reply.text
+    AnswersCertificate c reply = Answers verbs.Check (λ call line. HasCertificate call verbs.Check line m c) reply
 
     -- that of each one for `replay`, whose certificate's file and scenario file came with these bytes
     abbrev pub AnswersReplay : List ℕ → List ℕ → Reply → Type 0
     AnswersReplay certificate bytes reply =
-        (call : Call) (line : Line) → IsCallAt limit wides verbs.Replay call line
-        → HasCertificateFile call verbs.Replay line m certificate
-        → HasFile call line own.Scenarios bytes → Means call reply.ended reply.text
+        Answers verbs.Replay
+        (λ call line. HasCertificateFile call verbs.Replay line m certificate × HasFile call line own.Scenarios bytes)
+        reply
 
     -- the first of which is the text of the certificate
     abbrev pub AnswersPlan : Certificate → List ℕ → Reply → Type 0
     AnswersPlan c bytes reply =
-        (call : Call) (line : Line) → IsCallAt limit wides verbs.Replay call line
-        → HasCertificate call verbs.Replay line m c
-        → HasFile call line own.Scenarios bytes → Means call reply.ended reply.text
+        Answers verbs.Replay
+        (λ call line. HasCertificate call verbs.Replay line m c × HasFile call line own.Scenarios bytes) reply
 
     -- and this has a plan
     abbrev pub AnswersScenarios : Certificate → List ℕ → Reply → Type 0
-    AnswersScenarios c bytes reply =
-        (call : Call) (line : Line) → IsCallAt limit wides verbs.Replay call line → HasScenarioFile call line m c bytes
-        → Means call reply.ended reply.text
+    AnswersScenarios c bytes reply = Answers verbs.Replay (λ call line. HasScenarioFile call line m c bytes) reply
 
     -- that of each one whose list of names has this text
     abbrev pub AnswersNames : Verb → List ℕ → Reply → Type 0
     AnswersNames verb names reply =
-        (call : Call) (line : Line) → IsCallAt limit wides verb call line → HasModel call line m
-        → TellsNames line (parts_of names)
-        → Means call reply.ended reply.text
+        Answers verb (λ call line. HasModel call line m × TellsNames line (parts_of names)) reply
 
     -- whose names are those of the variables with these numbers
     abbrev pub AnswersVariables : Verb → List ℕ → Reply → Type 0
-    AnswersVariables verb numbers reply =
-        (call : Call) (line : Line) → IsCallAt limit wides verb call line → HasVariables call line m numbers
-        → Means call reply.ended reply.text
+    AnswersVariables verb numbers reply = Answers verb (λ call line. HasVariables call line m numbers) reply
 
     -- that of each one whose own words these are
     abbrev pub AnswersWords : Verb → List Word → Reply → Type 0
-    AnswersWords verb words reply =
-        (call : Call) (line : Line) → IsCallAt limit wides verb call line → HasModel call line m → line.own ≡ words
-        → Means call reply.ended reply.text
+    AnswersWords verb words reply = Answers verb (λ call line. HasModel call line m × (line.own ≡ words)) reply
 
     -- that of each one for `sweep`, whose words tell this statement and these limits
     abbrev pub AnswersSweep : ℕ → List Fraction → Reply → Type 0
-    AnswersSweep n limits reply =
-        (call : Call) (line : Line) → IsCallAt limit wides verbs.Sweep call line → HasSweep call line m n limits
-        → Means call reply.ended reply.text
+    AnswersSweep n limits reply = Answers verbs.Sweep (λ call line. HasSweep call line m n limits) reply
 
 -- the answer for a status
 abbrev pub ended_of : meaning.Status → Ended
