@@ -1,5 +1,5 @@
 use Rattle.rob_model.specs.View.{robust}
-use Rattle.rob_top.proofs.BranchingLemmas.{no_variables_answer, nobody_found, numbers_found, variables_answer}
+use Rattle.rob_top.proofs.Meaning.BranchingLemmas.{no_variables_answer, nobody_found, numbers_found, variables_answer}
 use Rattle.rob_top.proofs.branching.branch_text.Goals as goal
 
 pub on_variables-requires-clause-kept : goal.on_variables-requires-clause-kept

@@ -1,7 +1,7 @@
 use Rattle.rob_model.specs.View.{robust}
 use Rattle.rob_reach.proofs.GrownLemmas.{grown_proves}
 use Rattle.rob_tree.specs.View.{tree_of}
-use Rattle.rob_top.proofs.BranchingLemmas.{grown_keeps, kept_bounds, stop_named, stop_told, stopped_answers, tree_answers}
+use Rattle.rob_top.proofs.Meaning.BranchingLemmas.{grown_keeps, kept_bounds, stop_named, stop_told, stopped_answers, tree_answers}
 use Rattle.rob_top.proofs.branching.on_variables.Goals as goal
 
 pub grown-requires-clause-bounded : goal.grown-requires-clause-bounded

@@ -2,8 +2,8 @@ use Rattle.std.proofs.Common.{ap}
 use Rattle.rob_cert.specs.View.{status_of}
 use Rattle.rob_model.specs.View.{robust}
 use Rattle.rob_tree.specs.View.{tree_of}
-use Rattle.rob_top.proofs.ReplayingLemmas.{optimal_planned, unbounded_planned}
-use Rattle.rob_top.proofs.ShownLemmas.{infeasible_plan, optimal_plan, unbounded_plan}
+use Rattle.rob_top.proofs.Meaning.ReplayingLemmas.{optimal_planned, unbounded_planned}
+use Rattle.rob_top.proofs.Meaning.ShownLemmas.{infeasible_plan, optimal_plan, unbounded_plan}
 use Rattle.rob_top.proofs.branching.plan_text.Goals as goal
 
 pub shown_text-requires-clause-planned : goal.shown_text-requires-clause-planned

@@ -1,6 +1,6 @@
 use Rattle.rob_model.specs.View.{robust}
 use Rattle.rob_tree.specs.View.{tree_of}
-use Rattle.rob_top.proofs.ShownLemmas.{nodes_few, report_told}
+use Rattle.rob_top.proofs.Meaning.ShownLemmas.{nodes_few, report_told}
 use Rattle.rob_top.proofs.branching.report.Goals as goal
 
 pub count_nodes-requires : goal.count_nodes-requires

@@ -1,7 +1,7 @@
 use Rattle.rob_cert.specs.View.{certificate_of}
 use Rattle.rob_model.specs.View.{robust}
 use Rattle.rob_tree.specs.View.{tree_of}
-use Rattle.rob_top.proofs.ShownLemmas.{best_not_behind, best_not_open, best_some, shown_report, shown_shape}
+use Rattle.rob_top.proofs.Meaning.ShownLemmas.{best_not_behind, best_not_open, best_some, shown_report, shown_shape}
 use Rattle.rob_top.proofs.branching.shown_text.Goals as goal
 
 pub leaf_of-requires : goal.leaf_of-requires

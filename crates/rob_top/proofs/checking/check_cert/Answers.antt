@@ -1,6 +1,6 @@
 use Rattle.rob_cert.specs.View.{certificate_of}
 use Rattle.rob_model.specs.View.{robust}
-use Rattle.rob_top.proofs.CheckingLemmas.{accepted_answers, rejected_answers, rejected_place, too_wide_answers, too_wide_place}
+use Rattle.rob_top.proofs.Meaning.CheckingLemmas.{accepted_answers, rejected_answers, rejected_place, too_wide_answers, too_wide_place}
 use Rattle.rob_top.proofs.checking.check_cert.Goals as goal
 
 pub check-requires-clause-elaborated : goal.check-requires-clause-elaborated

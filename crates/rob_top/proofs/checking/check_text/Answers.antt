@@ -1,6 +1,6 @@
 use Rattle.rob_cert.specs.View.{certificate_of}
 use Rattle.rob_model.specs.View.{robust}
-use Rattle.rob_top.proofs.CheckingLemmas.{certificate_answers, rule_answers}
+use Rattle.rob_top.proofs.Meaning.CheckingLemmas.{certificate_answers, rule_answers}
 use Rattle.rob_top.proofs.checking.check_text.Goals as goal
 
 pub check_cert-requires-clause-shape : goal.check_cert-requires-clause-shape

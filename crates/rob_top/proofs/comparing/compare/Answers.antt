@@ -1,6 +1,6 @@
 use Rattle.std.proofs.Common.{arith}
 use Rattle.rob_model.specs.View.{robust}
-use Rattle.rob_top.proofs.ComparedWorkLemmas.{never_refused, some_scenario, summary_replies}
+use Rattle.rob_top.proofs.Meaning.ComparedWorkLemmas.{never_refused, some_scenario, summary_replies}
 use Rattle.rob_top.proofs.comparing.compare.Goals as goal
 
 pub line_by-requires-clause-admitted : goal.line_by-requires-clause-admitted

@@ -1,4 +1,4 @@
-use Rattle.rob_top.proofs.ComparedWorkLemmas.{at_width, enough}
+use Rattle.rob_top.proofs.Meaning.ComparedWorkLemmas.{at_width, enough}
 use Rattle.rob_top.proofs.comparing.compare_routes.Goals as goal
 use Rattle.rob_words.specs.declared.width.Width.TheVariants.{Eight, Sixteen, ThirtyTwo, SixtyTwo}
 

@@ -1,10 +1,10 @@
 use Rattle.rob_cert.specs.View.{certificate_of}
 use Rattle.rob_cert.specs.declared.ending.Stop.TheVariants as stop
 use Rattle.rob_model.specs.View.{robust}
-use Rattle.rob_top.proofs.ComparedLemmas.{found_tells, wide_tells}
-use Rattle.rob_top.proofs.ComparedWorkLemmas.{never_empty, rose_counts, stop_cause, stop_counts, stop_fits}
-use Rattle.rob_top.proofs.RouteLemmas.{stop_of}
-use Rattle.rob_top.proofs.SolvingLemmas.{solution_fits, solve_counted}
+use Rattle.rob_top.proofs.Meaning.ComparedLemmas.{found_tells, wide_tells}
+use Rattle.rob_top.proofs.Meaning.ComparedWorkLemmas.{never_empty, rose_counts, stop_cause, stop_counts, stop_fits}
+use Rattle.rob_top.proofs.Meaning.RouteLemmas.{stop_of}
+use Rattle.rob_top.proofs.Meaning.SolvingLemmas.{solution_fits, solve_counted}
 use Rattle.rob_top.proofs.comparing.line_by.Goals as goal
 use Rattle.rob_top.specs.declared.comparing.RouteLine.{RouteLine}
 

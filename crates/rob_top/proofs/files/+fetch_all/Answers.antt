@@ -1,7 +1,7 @@
 use Rattle.std.proofs.Common.{◌∙◌, ap, refl, sym, string_bytes}
-use Rattle.rob_top.proofs.FetchesLemmas.{words_asked}
-use Rattle.rob_top.proofs.FilesLemmas.{got_answer, got_bytes, none_of}
-use Rattle.rob_top.proofs.FirstWordLemmas.{words_absent, words_fetched, words_passed}
+use Rattle.rob_top.proofs.Fetching.FetchesLemmas.{words_asked}
+use Rattle.rob_top.proofs.Fetching.FilesLemmas.{got_answer, got_bytes, none_of}
+use Rattle.rob_top.proofs.Fetching.FirstWordLemmas.{words_absent, words_fetched, words_passed}
 use Rattle.rob_top.specs.Calls.{count, source_of}
 use Rattle.rob_top.proofs.files.+fetch_all.Goals as goal
 

@@ -1,4 +1,4 @@
-use Rattle.rob_top.proofs.FilesLemmas.{found_by_result}
+use Rattle.rob_top.proofs.Fetching.FilesLemmas.{found_by_result}
 use Rattle.rob_outside.specs.Fetches.{found_by}
 use Rattle.rob_top.proofs.files.ask.Goals as goal
 

@@ -1,6 +1,6 @@
 use Rattle.std.proofs.Common.{ap}
-use Rattle.rob_top.proofs.ComparedLemmas.{compared_answers}
-use Rattle.rob_top.proofs.GeneratedLemmas.{generated_answers}
+use Rattle.rob_top.proofs.Meaning.ComparedLemmas.{compared_answers}
+use Rattle.rob_top.proofs.Meaning.GeneratedLemmas.{generated_answers}
 use Rattle.rob_top.proofs.generating.on_number.Goals as goal
 use Rattle.rob_words.specs.Answers.{line_of}
 use Rattle.rob_words.specs.Verbs.{own_of}

@@ -1,7 +1,7 @@
 use Rattle.std.proofs.Common.{◌≡◌, ◌-◌, ◌^◌, ◌≤◌, IfOk, subst, sym, arith}
 use Rattle.rob_meaning.specs.RobustModel.{RobustModel}
 use Rattle.rob_number.specs.Lowest.{limit_of}
-use Rattle.rob_top.proofs.WorkLemmas.{limit_is}
+use Rattle.rob_top.proofs.Meaning.WorkLemmas.{limit_is}
 use Rattle.rob_top.proofs.generating.print_model.Goals as goal
 use Rattle.rob_top.specs.Replies.{Replies}
 use Rattle.rob_top.specs.declared.ended.Ended.TheVariants.{Printed}

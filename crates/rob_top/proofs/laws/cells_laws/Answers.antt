@@ -1,4 +1,4 @@
-use Rattle.rob_top.proofs.PieceLawLemmas.{infeasible_too, no_worse, one_emptiness, unbounded_too}
+use Rattle.rob_top.proofs.Relations.PieceLawLemmas.{infeasible_too, no_worse, one_emptiness, unbounded_too}
 use Rattle.rob_top.proofs.laws.cells_laws.Goals as goal
 
 pub returns : goal.returns

@@ -1,5 +1,5 @@
-use Rattle.rob_top.proofs.CompletenessLemmas.{means_complete}
-use Rattle.rob_top.proofs.SplitTextLemmas.{printed_few, printed_reads, taken_answer, taken_certificate, taken_has_status, taken_model, taken_once, taken_status, taken_unbroken}
+use Rattle.rob_top.proofs.Coming.CompletenessLemmas.{means_complete}
+use Rattle.rob_top.proofs.Relations.SplitTextLemmas.{printed_few, printed_reads, taken_answer, taken_certificate, taken_has_status, taken_model, taken_once, taken_status, taken_unbroken}
 use Rattle.rob_top.proofs.laws.celltext_then_solve.Goals as goal
 
 pub returns : goal.returns

@@ -1,4 +1,4 @@
-use Rattle.rob_top.proofs.ReplayAnswerLemmas.{proved_shows}
+use Rattle.rob_top.proofs.Coming.ReplayAnswerLemmas.{proved_shows}
 use Rattle.rob_top.proofs.laws.check_then_replay.Goals as goal
 
 pub returns : goal.returns

@@ -1,4 +1,4 @@
-use Rattle.rob_top.proofs.WorstAnswerLemmas.{proved_keeps}
+use Rattle.rob_top.proofs.Coming.WorstAnswerLemmas.{proved_keeps}
 use Rattle.rob_top.proofs.laws.check_then_worst.Goals as goal
 
 pub returns : goal.returns

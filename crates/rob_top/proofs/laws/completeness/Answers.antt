@@ -1,4 +1,4 @@
-use Rattle.rob_top.proofs.CompletenessLemmas.{means_complete}
+use Rattle.rob_top.proofs.Coming.CompletenessLemmas.{means_complete}
 use Rattle.rob_top.proofs.laws.completeness.Goals as goal
 
 pub returns : goal.returns

@@ -1,4 +1,4 @@
-use Rattle.rob_top.proofs.GeneratedTexts.{first_is, text_is_read}
+use Rattle.rob_top.proofs.Relations.GeneratedTexts.{first_is, text_is_read}
 use Rattle.rob_top.proofs.laws.generated_texts.Goals as goal
 
 pub returns : goal.returns

@@ -1,4 +1,4 @@
-use Rattle.rob_top.proofs.CompletenessLemmas.{means_complete, proved_then_checked}
+use Rattle.rob_top.proofs.Coming.CompletenessLemmas.{means_complete, proved_then_checked}
 use Rattle.rob_top.proofs.laws.prove_then_check.Goals as goal
 
 pub returns : goal.returns

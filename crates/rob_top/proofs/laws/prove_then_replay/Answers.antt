@@ -1,4 +1,4 @@
-use Rattle.rob_top.proofs.ProvedReplays.{refused_says, shows_value}
+use Rattle.rob_top.proofs.Relations.ProvedReplays.{refused_says, shows_value}
 use Rattle.rob_top.proofs.laws.prove_then_replay.Goals as goal
 
 pub returns : goal.returns

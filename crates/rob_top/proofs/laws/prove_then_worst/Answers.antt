@@ -1,4 +1,4 @@
-use Rattle.rob_top.proofs.ProvedWorsts.{shows_kept, unplanned_says}
+use Rattle.rob_top.proofs.Relations.ProvedWorsts.{shows_kept, unplanned_says}
 use Rattle.rob_top.proofs.laws.prove_then_worst.Goals as goal
 
 pub returns : goal.returns

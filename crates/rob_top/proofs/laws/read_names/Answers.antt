@@ -1,5 +1,5 @@
 use Rattle.rob_parse.proofs.Names.WellNamed.{well_spelled}
-use Rattle.rob_top.proofs.CertificateNameLemmas.{named_in_words}
+use Rattle.rob_top.proofs.Telling.CertificateNameLemmas.{named_in_words}
 use Rattle.rob_top.proofs.laws.read_names.Goals as goal
 
 pub returns : goal.returns

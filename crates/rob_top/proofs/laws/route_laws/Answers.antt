@@ -1,4 +1,4 @@
-use Rattle.rob_top.proofs.StatusLawLemmas.{one_answer, one_emptiness, same_bytes, same_emptiness}
+use Rattle.rob_top.proofs.Relations.StatusLawLemmas.{one_answer, one_emptiness, same_bytes, same_emptiness}
 use Rattle.rob_top.proofs.laws.route_laws.Goals as goal
 
 pub returns : goal.returns

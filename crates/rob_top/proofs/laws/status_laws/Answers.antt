@@ -1,4 +1,4 @@
-use Rattle.rob_top.proofs.StatusLawLemmas.{not_empty, one_status}
+use Rattle.rob_top.proofs.Relations.StatusLawLemmas.{not_empty, one_status}
 use Rattle.rob_top.proofs.laws.status_laws.Goals as goal
 
 pub returns : goal.returns

@@ -1,5 +1,5 @@
-use Rattle.rob_top.proofs.CompletenessLemmas.{means_complete}
-use Rattle.rob_top.proofs.PrintedTreeLemmas.{accepted_status, grown_then_checked}
+use Rattle.rob_top.proofs.Coming.CompletenessLemmas.{means_complete}
+use Rattle.rob_top.proofs.Relations.PrintedTreeLemmas.{accepted_status, grown_then_checked}
 use Rattle.rob_top.proofs.laws.tree_then_checktree.Goals as goal
 
 pub returns : goal.returns

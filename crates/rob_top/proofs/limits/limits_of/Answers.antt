@@ -2,7 +2,7 @@ use Rattle.std.proofs.Common.{◌≤◌, ap, map, subst}
 use Rattle.std.proofs.lemmas.List.{length-map}
 use Rattle.std.specs.Prelude.{option_map}
 use Rattle.rob_words.specs.Names.{parts_of}
-use Rattle.rob_top.proofs.LimitLemmas.{told_all}
+use Rattle.rob_top.proofs.Telling.LimitLemmas.{told_all}
 use Rattle.rob_top.proofs.limits.limits_of.Goals as goal
 
 pub returns-clause-limits : goal.returns-clause-limits

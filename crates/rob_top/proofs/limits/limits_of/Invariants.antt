@@ -1,7 +1,7 @@
 use Rattle.std.specs.Prelude.{◌≤◌, map, option_map}
 use Rattle.rob_words.specs.Names.{parts_behind, parts_of}
-use Rattle.rob_top.proofs.LimitLemmas.{HasTold}
-use Rattle.rob_top.proofs.NumberingLemmas.{left}
+use Rattle.rob_top.proofs.Telling.LimitLemmas.{HasTold}
+use Rattle.rob_top.proofs.Telling.NumberingLemmas.{left}
 use Rattle.rob_top.proofs.limits.limits_of.Given as goal
 
 -- the limits before the rest are told, and the count of wide numbers hasn't fallen

@@ -3,8 +3,8 @@ use Rattle.std.specs.Prelude.{option_map}
 use Rattle.rob_model.specs.View.{robust}
 use Rattle.rob_reach.specs.Trees.{IsIn}
 use Rattle.rob_words.specs.Names.{parts_behind, parts_of}
-use Rattle.rob_top.proofs.FilesLemmas.{none_of}
-use Rattle.rob_top.proofs.NumberingLemmas.{HasRead, at_end, at_part, left_less, read_all, read_more, read_no_variable, read_nothing, read_twice, some_mapped, variable_is}
+use Rattle.rob_top.proofs.Fetching.FilesLemmas.{none_of}
+use Rattle.rob_top.proofs.Telling.NumberingLemmas.{HasRead, at_end, at_part, left_less, read_all, read_more, read_no_variable, read_nothing, read_twice, some_mapped, variable_is}
 use Rattle.rob_top.proofs.names.variables_of.Goals as goal
 
 pub loop-rest-init : goal.loop-rest-init

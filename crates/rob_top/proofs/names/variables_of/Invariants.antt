@@ -1,7 +1,7 @@
 use Rattle.std.specs.Prelude.{option_map}
 use Rattle.rob_model.specs.View.{robust}
 use Rattle.rob_words.specs.Names.{parts_behind, parts_of}
-use Rattle.rob_top.proofs.NumberingLemmas.{HasRead, left}
+use Rattle.rob_top.proofs.Telling.NumberingLemmas.{HasRead, left}
 use Rattle.rob_top.proofs.names.variables_of.Given as goal
 
 -- the names before the rest are those of the numbers

@@ -1,5 +1,5 @@
 use Rattle.std.proofs.Common.{refl}
-use Rattle.rob_top.proofs.NarrowAnswerLemmas.{told_narrow}
+use Rattle.rob_top.proofs.Coming.NarrowAnswerLemmas.{told_narrow}
 use Rattle.rob_top.proofs.narrowing.narrow.Goals as goal
 
 pub returns : goal.returns

@@ -2,7 +2,7 @@ use Rattle.std.proofs.Common.{◌++◌, ap, ◌∙◌, to_z-of_z}
 use Rattle.std.specs.Fmt.{signed_decimal}
 use Rattle.rob_cert.proofs.WriterLemmas.{on_ok}
 use Rattle.rob_top.specs.Answers.{branch_relation}
-use Rattle.rob_top.proofs.PathTextLemmas.{bound_text}
+use Rattle.rob_top.proofs.Meaning.PathTextLemmas.{bound_text}
 use Rattle.rob_top.proofs.paths.put_bound.Goals as goal
 
 pub returns : goal.returns

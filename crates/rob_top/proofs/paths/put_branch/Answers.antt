@@ -5,7 +5,7 @@ use Rattle.rob_meaning.specs.Names.{column_names}
 use Rattle.rob_model.specs.View.{robust}
 use Rattle.rob_report.specs.Lines.{line}
 use Rattle.rob_top.specs.Answers.{branch_relation}
-use Rattle.rob_top.proofs.PathTextLemmas.{branch_text}
+use Rattle.rob_top.proofs.Meaning.PathTextLemmas.{branch_text}
 use Rattle.rob_top.proofs.paths.put_branch.Goals as goal
 
 pub returns : goal.returns

@@ -1,4 +1,4 @@
-use Rattle.rob_top.proofs.LinesLemmas.{first_line_all, first_line_at}
+use Rattle.rob_top.proofs.Ending.LinesLemmas.{first_line_all, first_line_at}
 use Rattle.rob_top.proofs.put.first_line.Goals as goal
 
 pub returns-in-Some-clause-first : goal.returns-in-Some-clause-first

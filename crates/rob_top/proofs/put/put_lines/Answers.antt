@@ -1,6 +1,6 @@
 use Rattle.std.proofs.Common.{refl, ◌∙◌}
 use Rattle.rob_outside.proofs.PutsLemmas.{stands_behind}
-use Rattle.rob_top.proofs.PutLemmas.{lines_some, puts_nothing, puts_piece, puts_prefix}
+use Rattle.rob_top.proofs.Ending.PutLemmas.{lines_some, puts_nothing, puts_piece, puts_prefix}
 use Rattle.rob_top.proofs.put.put_lines.Goals as goal
 
 pub loop-rest-init : goal.loop-rest-init

@@ -1,5 +1,5 @@
 use Rattle.std.proofs.Common.{◌≡◌, length}
-use Rattle.rob_top.proofs.PutLemmas.{PutsMore}
+use Rattle.rob_top.proofs.Ending.PutLemmas.{PutsMore}
 use Rattle.rob_top.proofs.put.put_lines.Given as goal
 
 -- the lines before the rest were taken, and no fault was counted

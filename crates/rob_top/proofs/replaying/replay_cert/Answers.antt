@@ -1,7 +1,7 @@
 use Rattle.std.proofs.Common.{ap}
 use Rattle.rob_cert.specs.View.{certificate_of, status_of}
 use Rattle.rob_model.specs.View.{robust}
-use Rattle.rob_top.proofs.ReplayingLemmas.{optimal_planned, plan_answers, planless_answers, unbounded_planned}
+use Rattle.rob_top.proofs.Meaning.ReplayingLemmas.{optimal_planned, plan_answers, planless_answers, unbounded_planned}
 use Rattle.rob_top.proofs.replaying.replay_cert.Goals as goal
 
 pub returns-in-Infeasible-clause-answers : goal.returns-in-Infeasible-clause-answers

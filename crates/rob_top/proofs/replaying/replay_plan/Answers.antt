@@ -2,7 +2,7 @@ use Rattle.std.proofs.Common.{map}
 use Rattle.rob_cert.specs.View.{certificate_of}
 use Rattle.rob_model.specs.View.{robust}
 use Rattle.rob_replay.specs.View.{line_of}
-use Rattle.rob_top.proofs.ReplayingLemmas.{record_answers, table_answers, wide_answers}
+use Rattle.rob_top.proofs.Meaning.ReplayingLemmas.{record_answers, table_answers, wide_answers}
 use Rattle.rob_top.proofs.replaying.replay_plan.Goals as goal
 
 pub returns-in-Ok-clause-answers : goal.returns-in-Ok-clause-answers

@@ -1,6 +1,6 @@
 use Rattle.rob_cert.specs.View.{certificate_of}
 use Rattle.rob_model.specs.View.{robust}
-use Rattle.rob_top.proofs.ReplayingLemmas.{read_answers, unread_answers}
+use Rattle.rob_top.proofs.Meaning.ReplayingLemmas.{read_answers, unread_answers}
 use Rattle.rob_top.proofs.replaying.replay_text.Goals as goal
 
 pub returns-in-Ok-clause-answers : goal.returns-in-Ok-clause-answers

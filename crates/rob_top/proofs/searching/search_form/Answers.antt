@@ -1,6 +1,6 @@
 use Rattle.rob_model.specs.View.{robust}
-use Rattle.rob_top.proofs.SearchStops.{found_search, given_size, stop_of_search, stopped_search}
-use Rattle.rob_top.proofs.SearchingLemmas.{told_scale}
+use Rattle.rob_top.proofs.Meaning.SearchStops.{found_search, given_size, stop_of_search, stopped_search}
+use Rattle.rob_top.proofs.Meaning.SearchingLemmas.{told_scale}
 use Rattle.rob_worst.specs.Vectors.{plan_of}
 use Rattle.rob_top.proofs.searching.search_form.Goals as goal
 

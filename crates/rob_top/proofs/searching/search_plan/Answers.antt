@@ -3,8 +3,8 @@ use Rattle.rob_cert.specs.View.{certificate_of}
 use Rattle.rob_meaning.proofs.NameLemmas.{length-form_names}
 use Rattle.rob_meaning.specs.Names.{form_names}
 use Rattle.rob_model.specs.View.{robust}
-use Rattle.rob_top.proofs.SearchStops.{sought_answers}
-use Rattle.rob_top.proofs.SearchingLemmas.{name_found, named_answers, no_row_answers}
+use Rattle.rob_top.proofs.Meaning.SearchStops.{sought_answers}
+use Rattle.rob_top.proofs.Meaning.SearchingLemmas.{name_found, named_answers, no_row_answers}
 use Rattle.rob_top.proofs.searching.search_plan.Goals as goal
 
 pub search_form-requires-clause-form_in : goal.search_form-requires-clause-form_in

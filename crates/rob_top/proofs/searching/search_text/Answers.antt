@@ -1,6 +1,6 @@
 use Rattle.rob_cert.specs.View.{certificate_of}
 use Rattle.rob_model.specs.View.{robust}
-use Rattle.rob_top.proofs.SearchingLemmas.{misread_answers, read_answers}
+use Rattle.rob_top.proofs.Meaning.SearchingLemmas.{misread_answers, read_answers}
 use Rattle.rob_top.proofs.searching.search_text.Goals as goal
 
 pub returns-in-Ok-clause-answers : goal.returns-in-Ok-clause-answers

@@ -1,4 +1,4 @@
-use Rattle.rob_top.proofs.RouteLemmas.{cuts_answers, dual_found, dual_stopped}
+use Rattle.rob_top.proofs.Meaning.RouteLemmas.{cuts_answers, dual_found, dual_stopped}
 use Rattle.rob_top.proofs.solving.find.Goals as goal
 
 pub solve_dual-requires-clause-model : goal.solve_dual-requires-clause-model

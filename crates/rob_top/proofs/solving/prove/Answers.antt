@@ -1,8 +1,8 @@
 use Rattle.std.proofs.Common.{refl}
 use Rattle.rob_cert.specs.View.{certificate_of}
 use Rattle.rob_model.specs.View.{robust}
-use Rattle.rob_top.proofs.RouteLemmas.{stop_of}
-use Rattle.rob_top.proofs.SolvingLemmas.{certificate_answers, counterpart_few, solution_fits, solve_counted, stopped_answers}
+use Rattle.rob_top.proofs.Meaning.RouteLemmas.{stop_of}
+use Rattle.rob_top.proofs.Meaning.SolvingLemmas.{certificate_answers, counterpart_few, solution_fits, solve_counted, stopped_answers}
 use Rattle.rob_words.specs.declared.verb.Verb.TheVariants.{Prove}
 use Rattle.rob_top.proofs.solving.prove.Goals as goal
 

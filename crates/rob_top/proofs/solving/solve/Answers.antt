@@ -1,8 +1,8 @@
 use Rattle.std.proofs.Common.{refl}
 use Rattle.rob_cert.specs.View.{certificate_of}
 use Rattle.rob_model.specs.View.{robust}
-use Rattle.rob_top.proofs.RouteLemmas.{rounds_of_found, stop_of}
-use Rattle.rob_top.proofs.SolvingLemmas.{report_answers, counterpart_few, solution_fits, solve_counted, stopped_answers}
+use Rattle.rob_top.proofs.Meaning.RouteLemmas.{rounds_of_found, stop_of}
+use Rattle.rob_top.proofs.Meaning.SolvingLemmas.{report_answers, counterpart_few, solution_fits, solve_counted, stopped_answers}
 use Rattle.rob_words.specs.declared.verb.Verb.TheVariants.{Solve}
 use Rattle.rob_top.proofs.solving.solve.Goals as goal
 

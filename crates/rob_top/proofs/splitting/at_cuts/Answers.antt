@@ -3,7 +3,7 @@ use Rattle.rob_cells.specs.Rules.{HasCause}
 use Rattle.rob_cells.specs.View.{cut_of}
 use Rattle.rob_cells.specs.declared.error.CellsErr.{CellsErr}
 use Rattle.rob_model.specs.View.{robust}
-use Rattle.rob_top.proofs.SplittingLemmas.{rule_answers, split_answers}
+use Rattle.rob_top.proofs.Meaning.SplittingLemmas.{rule_answers, split_answers}
 use Rattle.rob_top.proofs.splitting.at_cuts.Goals as goal
 
 pub returns-in-Ok-clause-answers : goal.returns-in-Ok-clause-answers

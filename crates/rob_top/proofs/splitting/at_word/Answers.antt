@@ -3,9 +3,9 @@ use Rattle.rob_cells.specs.View.{cut_of}
 use Rattle.rob_cells.proofs.RuleLemmas.{no_items}
 use Rattle.rob_model.specs.View.{robust}
 use Rattle.rob_words.specs.Names.{parts_of}
-use Rattle.rob_top.proofs.CutTellingLemmas.{AreTold, NoneTold, are_moved, cuts_inside, some_item}
-use Rattle.rob_top.proofs.SplittingLemmas.{cuts_answers, named_answers, unknown_answers}
-use Rattle.rob_top.proofs.ToldLemmas.{none_told, some_told}
+use Rattle.rob_top.proofs.Telling.CutTellingLemmas.{AreTold, NoneTold, are_moved, cuts_inside, some_item}
+use Rattle.rob_top.proofs.Meaning.SplittingLemmas.{cuts_answers, named_answers, unknown_answers}
+use Rattle.rob_top.proofs.Telling.ToldLemmas.{none_told, some_told}
 use Rattle.rob_top.proofs.splitting.at_word.Goals as goal
 
 pub returns-then-not-is_empty-clause-answers : goal.returns-then-not-is_empty-clause-answers

@@ -3,7 +3,7 @@ use Rattle.rob_cells.specs.View.{cut_of}
 use Rattle.rob_model.specs.View.{robust}
 use Rattle.rob_parse.proofs.Degrees.NumberLemmas.{limit_seen}
 use Rattle.rob_words.specs.Cuts.{IsCut}
-use Rattle.rob_top.proofs.CutTellingLemmas.{cut_told}
+use Rattle.rob_top.proofs.Telling.CutTellingLemmas.{cut_told}
 use Rattle.rob_top.proofs.splitting.cut_at.Goals as goal
 
 pub returns-in_err-told-clause-cut : goal.returns-in_err-told-clause-cut

@@ -3,7 +3,7 @@ use Rattle.std.specs.Prelude.{option_map}
 use Rattle.rob_cells.specs.View.{cut_of}
 use Rattle.rob_model.specs.View.{robust}
 use Rattle.rob_words.specs.Names.{parts_behind, parts_of}
-use Rattle.rob_top.proofs.CutTellingLemmas.{HasTold, no_cut, not_three_told, some_part, told_all, told_count, told_grown, told_more, told_part}
+use Rattle.rob_top.proofs.Telling.CutTellingLemmas.{HasTold, no_cut, not_three_told, some_part, told_all, told_count, told_grown, told_more, told_part}
 use Rattle.rob_top.proofs.splitting.cuts_of.Goals as goal
 
 pub returns-in_default-cut_at-clause-cuts : goal.returns-in_default-cut_at-clause-cuts

@@ -2,8 +2,8 @@ use Rattle.std.specs.Prelude.{◌≤◌, map, option_map}
 use Rattle.rob_cells.specs.View.{cut_of}
 use Rattle.rob_model.specs.View.{robust}
 use Rattle.rob_words.specs.Names.{parts_behind, parts_of}
-use Rattle.rob_top.proofs.CutTellingLemmas.{HasTold}
-use Rattle.rob_top.proofs.NumberingLemmas.{left}
+use Rattle.rob_top.proofs.Telling.CutTellingLemmas.{HasTold}
+use Rattle.rob_top.proofs.Telling.NumberingLemmas.{left}
 use Rattle.rob_top.proofs.splitting.cuts_of.Given as goal
 
 -- the cuts before the rest are told, and the count of wide numbers hasn't fallen

@@ -1,5 +1,5 @@
 use Rattle.rob_model.specs.View.{robust}
-use Rattle.rob_top.proofs.SplittingLemmas.{pieces_replies, text_replies}
+use Rattle.rob_top.proofs.Meaning.SplittingLemmas.{pieces_replies, text_replies}
 use Rattle.rob_top.proofs.splitting.on_split.Goals as goal
 
 pub returns-in-Cells-clause-replies : goal.returns-in-Cells-clause-replies

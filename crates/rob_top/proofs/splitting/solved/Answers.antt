@@ -1,7 +1,7 @@
 use Rattle.rob_cert.specs.View.{certificate_of}
 use Rattle.rob_model.specs.View.{robust}
-use Rattle.rob_top.proofs.SolvingLemmas.{solution_fits}
-use Rattle.rob_top.proofs.SplittingLemmas.{model_stop_of, plan_replies, stop_replies}
+use Rattle.rob_top.proofs.Meaning.SolvingLemmas.{solution_fits}
+use Rattle.rob_top.proofs.Meaning.SplittingLemmas.{model_stop_of, plan_replies, stop_replies}
 use Rattle.rob_top.proofs.splitting.solved.Goals as goal
 
 pub with_cells-requires-clause-shape : goal.with_cells-requires-clause-shape

@@ -1,6 +1,6 @@
 use Rattle.std.proofs.Common.{map, string_bytes}
 use Rattle.rob_model.specs.View.{robust}
-use Rattle.rob_top.proofs.SplittingLemmas.{told_words}
+use Rattle.rob_top.proofs.Meaning.SplittingLemmas.{told_words}
 use Rattle.rob_top.proofs.splitting.split_words.Goals as goal
 
 pub returns-clause-answers : goal.returns-clause-answers

@@ -1,7 +1,7 @@
 use Rattle.std.proofs.Common.{IfOk, map, subst}
 use Rattle.rob_model.specs.View.{robust}
 use Rattle.rob_sweep.specs.View.{answer_of}
-use Rattle.rob_top.proofs.SweepingLemmas.{answers_count, answers_fit, priced_answers, unswept_answers}
+use Rattle.rob_top.proofs.Meaning.SweepingLemmas.{answers_count, answers_fit, priced_answers, unswept_answers}
 use Rattle.rob_sweep.specs.SweepText.{sweep_text}
 use Rattle.rob_top.specs.Replies.{Replies}
 use Rattle.rob_top.specs.declared.ended.Ended.TheVariants.{Printed}

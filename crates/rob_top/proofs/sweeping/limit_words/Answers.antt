@@ -2,7 +2,7 @@ use Rattle.std.proofs.Common.{map, refl, string_bytes}
 use Rattle.rob_model.specs.View.{robust}
 use Rattle.rob_words.specs.declared.verb.Own.TheVariants as own
 use Rattle.rob_words.specs.declared.verb.Verb.TheVariants as verbs
-use Rattle.rob_top.proofs.SweepingLemmas.{limit_told, no_line_answers}
+use Rattle.rob_top.proofs.Meaning.SweepingLemmas.{limit_told, no_line_answers}
 use Rattle.rob_top.proofs.sweeping.limit_words.Goals as goal
 
 pub returns-in-Some-limit_of-clause-answers : goal.returns-in-Some-limit_of-clause-answers

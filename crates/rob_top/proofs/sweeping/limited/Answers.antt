@@ -1,5 +1,5 @@
 use Rattle.rob_model.specs.View.{robust}
-use Rattle.rob_top.proofs.SweepingLemmas.{limit_replies}
+use Rattle.rob_top.proofs.Meaning.SweepingLemmas.{limit_replies}
 use Rattle.rob_top.proofs.sweeping.limited.Goals as goal
 
 pub returns-in-Ok : goal.returns-in-Ok

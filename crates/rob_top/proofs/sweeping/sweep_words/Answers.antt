@@ -1,12 +1,12 @@
 use Rattle.std.proofs.Common.{◌∙◌, ◌≡◌, ◌≤◌, ap, length, map, refl, string_bytes}
-use Rattle.rob_top.proofs.ToldLemmas.{none_told, some_told}
+use Rattle.rob_top.proofs.Telling.ToldLemmas.{none_told, some_told}
 use Rattle.rob_top.specs.Swept.{limit_value}
 use Rattle.rob_words.specs.Limits.{IsLimitList}
 use Rattle.rob_words.specs.Names.{parts_of}
 use Rattle.rob_model.specs.View.{robust}
 use Rattle.rob_words.specs.declared.verb.Own.TheVariants as own
 use Rattle.rob_words.specs.declared.verb.Verb.TheVariants as verbs
-use Rattle.rob_top.proofs.SweepingLemmas.{no_line_answers, sweep_told}
+use Rattle.rob_top.proofs.Meaning.SweepingLemmas.{no_line_answers, sweep_told}
 use Rattle.rob_top.proofs.sweeping.sweep_words.Goals as goal
 
 pub returns-in-Some-told-clause-answers : goal.returns-in-Some-told-clause-answers

@@ -2,7 +2,7 @@ use Rattle.std.proofs.Common.{IfOk, ◌∙◌, ◌-◌, ap, map, subst, sym}
 use Rattle.std.proofs.Math.ListN.{get_or-map}
 use Rattle.rob_model.specs.View.{robust}
 use Rattle.rob_sweep.specs.declared.answer.SweepStop.{SweepStop}
-use Rattle.rob_top.proofs.SweepingLemmas.{wide_cause, wide_replies, wide_there}
+use Rattle.rob_top.proofs.Meaning.SweepingLemmas.{wide_cause, wide_replies, wide_there}
 use Rattle.rob_top.specs.WorkStops.{RepliesUnswept}
 use Rattle.rob_top.proofs.sweeping.unswept.Goals as goal
 

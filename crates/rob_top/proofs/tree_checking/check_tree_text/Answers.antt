@@ -1,6 +1,6 @@
 use Rattle.rob_model.specs.View.{robust}
-use Rattle.rob_top.proofs.BranchingLemmas.{nobody_found, numbers_found}
-use Rattle.rob_top.proofs.TreeCheckLemmas.{nameless_answers, numbers_answers}
+use Rattle.rob_top.proofs.Meaning.BranchingLemmas.{nobody_found, numbers_found}
+use Rattle.rob_top.proofs.Meaning.TreeCheckLemmas.{nameless_answers, numbers_answers}
 use Rattle.rob_top.proofs.tree_checking.check_tree_text.Goals as goal
 
 pub on_numbers-requires-clause-kept : goal.on_numbers-requires-clause-kept

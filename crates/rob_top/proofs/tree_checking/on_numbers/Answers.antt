@@ -1,6 +1,6 @@
 use Rattle.std.proofs.Common.{sym, ◌∙◌}
 use Rattle.rob_model.specs.View.{robust}
-use Rattle.rob_top.proofs.TreeCheckLemmas.{kept_answers, ranges_answers}
+use Rattle.rob_top.proofs.Meaning.TreeCheckLemmas.{kept_answers, ranges_answers}
 use Rattle.rob_top.proofs.tree_checking.on_numbers.Goals as goal
 
 pub returns-in-Some-clause-answers : goal.returns-in-Some-clause-answers

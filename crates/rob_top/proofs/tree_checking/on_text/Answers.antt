@@ -1,6 +1,6 @@
 use Rattle.rob_model.specs.View.{robust}
 use Rattle.rob_tree.specs.View.{tree_of}
-use Rattle.rob_top.proofs.TreeCheckLemmas.{rule_answers, tree_answers}
+use Rattle.rob_top.proofs.Meaning.TreeCheckLemmas.{rule_answers, tree_answers}
 use Rattle.rob_top.proofs.tree_checking.on_text.Goals as goal
 
 pub on_tree-requires-clause-shape : goal.on_tree-requires-clause-shape

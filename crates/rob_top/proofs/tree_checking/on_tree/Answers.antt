@@ -1,8 +1,8 @@
 use Rattle.rob_model.specs.View.{robust}
 use Rattle.rob_tree.specs.View.{tree_of}
-use Rattle.rob_top.proofs.BranchingLemmas.{kept_bounds}
-use Rattle.rob_top.proofs.TreeCheckLemmas.{verdict_answers}
-use Rattle.rob_top.proofs.TreePlaceLemmas.{verdict_named}
+use Rattle.rob_top.proofs.Meaning.BranchingLemmas.{kept_bounds}
+use Rattle.rob_top.proofs.Meaning.TreeCheckLemmas.{verdict_answers}
+use Rattle.rob_top.proofs.Meaning.TreePlaceLemmas.{verdict_named}
 use Rattle.rob_top.proofs.tree_checking.on_tree.Goals as goal
 
 pub judged-requires-clause-named : goal.judged-requires-clause-named

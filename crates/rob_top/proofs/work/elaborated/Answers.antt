@@ -1,5 +1,5 @@
 use Rattle.rob_model.specs.View.{robust}
-use Rattle.rob_top.proofs.WorkLemmas.{refused_answers, refused_of, whole_answers}
+use Rattle.rob_top.proofs.Meaning.WorkLemmas.{refused_answers, refused_of, whole_answers}
 use Rattle.rob_top.proofs.work.elaborated.Goals as goal
 use Rattle.rob_words.specs.Answers.{line_of}
 

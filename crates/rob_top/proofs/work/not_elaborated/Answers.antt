@@ -1,6 +1,6 @@
 use Rattle.rob_model.specs.View.{robust}
-use Rattle.rob_top.proofs.RouteLemmas.{no_rounds}
-use Rattle.rob_top.proofs.WorkLemmas.{refused_alone}
+use Rattle.rob_top.proofs.Meaning.RouteLemmas.{no_rounds}
+use Rattle.rob_top.proofs.Meaning.WorkLemmas.{refused_alone}
 use Rattle.rob_top.proofs.work.not_elaborated.Goals as goal
 
 pub wide_on_way-requires-clause-rounds : goal.wide_on_way-requires-clause-rounds

@@ -1,10 +1,10 @@
 use Rattle.std.proofs.Common.{ap, map, string_bytes, sym, ◌∙◌}
 use Rattle.rob_model.specs.View.{robust}
-use Rattle.rob_top.proofs.CheckingLemmas.{file_answers}
-use Rattle.rob_top.proofs.SearchingLemmas.{search_answers}
-use Rattle.rob_top.proofs.NarrowAnswerLemmas.{narrow_answers, of_model}
-use Rattle.rob_top.proofs.SolvingLemmas.{counterpart_few}
-use Rattle.rob_top.proofs.WorkLemmas.{at_verb, rows_answer}
+use Rattle.rob_top.proofs.Meaning.CheckingLemmas.{file_answers}
+use Rattle.rob_top.proofs.Meaning.SearchingLemmas.{search_answers}
+use Rattle.rob_top.proofs.Coming.NarrowAnswerLemmas.{narrow_answers, of_model}
+use Rattle.rob_top.proofs.Meaning.SolvingLemmas.{counterpart_few}
+use Rattle.rob_top.proofs.Meaning.WorkLemmas.{at_verb, rows_answer}
 use Rattle.rob_words.specs.declared.verb.Verb.TheVariants.{Prove, Solve}
 use Rattle.rob_top.proofs.work.on_forms.Goals as goal
 use Rattle.rob_words.specs.Answers.{line_of}

@@ -1,9 +1,9 @@
 use Rattle.std.proofs.Common.{ap, map, string_bytes, sym}
 use Rattle.rob_model.specs.View.{robust}
-use Rattle.rob_top.proofs.BranchingLemmas.{names_answer}
-use Rattle.rob_top.proofs.ReplayingLemmas.{replay_answers}
-use Rattle.rob_top.proofs.TreeCheckLemmas.{texts_answers}
-use Rattle.rob_top.proofs.SweepingLemmas.{words_answer, words_answer_at}
+use Rattle.rob_top.proofs.Meaning.BranchingLemmas.{names_answer}
+use Rattle.rob_top.proofs.Meaning.ReplayingLemmas.{replay_answers}
+use Rattle.rob_top.proofs.Meaning.TreeCheckLemmas.{texts_answers}
+use Rattle.rob_top.proofs.Meaning.SweepingLemmas.{words_answer, words_answer_at}
 use Rattle.rob_words.specs.declared.verb.Verb.TheVariants as verbs
 use Rattle.rob_top.specs.Commands.{work_of}
 use Rattle.rob_top.proofs.work.unelaborated.Goals as goal

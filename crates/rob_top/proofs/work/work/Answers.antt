@@ -1,6 +1,6 @@
 use Rattle.std.proofs.Common.{ap, arith, length}
 use Rattle.rob_model.specs.View.{robust}
-use Rattle.rob_top.proofs.WorkLemmas.{model_answers, unread_answers}
+use Rattle.rob_top.proofs.Meaning.WorkLemmas.{model_answers, unread_answers}
 use Rattle.rob_top.proofs.work.work.Goals as goal
 use Rattle.rob_words.specs.Answers.{line_of}
 

@@ -1,4 +1,4 @@
-use Rattle.rob_top.proofs.WorkLemmas.{width_answers}
+use Rattle.rob_top.proofs.Meaning.WorkLemmas.{width_answers}
 use Rattle.rob_words.specs.declared.width.Width.TheVariants.{Eight, Sixteen, ThirtyTwo, SixtyTwo}
 use Rattle.rob_top.proofs.work.work_at.Goals as goal
 use Rattle.rob_words.specs.Answers.{line_of}

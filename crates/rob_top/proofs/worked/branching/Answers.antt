@@ -1,6 +1,6 @@
-use Rattle.rob_top.proofs.WorkedEmptyWholes.{impossible_demand_is_shown}
-use Rattle.rob_top.proofs.WorkedTrees.{cheaper_orders_are_rejected, empty_tree_is_refused, whole_orders_are_accepted}
-use Rattle.rob_top.proofs.WorkedWholes.{half_a_demand_is_solved, x_is_boundless, y_is_no_variable}
+use Rattle.rob_top.proofs.ByHand.WorkedEmptyWholes.{impossible_demand_is_shown}
+use Rattle.rob_top.proofs.ByHand.WorkedTrees.{cheaper_orders_are_rejected, empty_tree_is_refused, whole_orders_are_accepted}
+use Rattle.rob_top.proofs.ByHand.WorkedWholes.{half_a_demand_is_solved, x_is_boundless, y_is_no_variable}
 use Rattle.rob_top.proofs.worked.branching.Goals as goal
 
 pub returns : goal.returns

@@ -1,5 +1,5 @@
-use Rattle.rob_top.proofs.WorkedChecks.{order_11_is_rejected, order_12_is_accepted}
-use Rattle.rob_top.proofs.WorkedReplays.{no_demand_is_refused, no_order_is_planless, order_least_is_wide, two_demands_are_printed, two_demands_are_replayed}
+use Rattle.rob_top.proofs.ByHand.WorkedChecks.{order_11_is_rejected, order_12_is_accepted}
+use Rattle.rob_top.proofs.ByHand.WorkedReplays.{no_demand_is_refused, no_order_is_planless, order_least_is_wide, two_demands_are_printed, two_demands_are_replayed}
 use Rattle.rob_top.proofs.worked.checking.Goals as goal
 
 pub returns : goal.returns

@@ -1,5 +1,5 @@
-use Rattle.rob_top.proofs.WorkedCells.{a_cell_is_empty, a_demand_is_split, a_split_is_written}
-use Rattle.rob_top.proofs.WorkedCutRules.{calm_is_named, e_is_no_parameter}
+use Rattle.rob_top.proofs.ByHand.WorkedCells.{a_cell_is_empty, a_demand_is_split, a_split_is_written}
+use Rattle.rob_top.proofs.ByHand.WorkedCutRules.{calm_is_named, e_is_no_parameter}
 use Rattle.rob_top.proofs.worked.cutting.Goals as goal
 
 pub returns : goal.returns

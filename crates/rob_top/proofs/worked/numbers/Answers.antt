@@ -1,4 +1,4 @@
-use Rattle.rob_top.proofs.WorkedNumbers.{number_is_answered}
+use Rattle.rob_top.proofs.ByHand.WorkedNumbers.{number_is_answered}
 use Rattle.rob_top.proofs.worked.numbers.Goals as goal
 
 pub returns : goal.returns

@@ -1,9 +1,9 @@
-use Rattle.rob_top.proofs.WorkedCalls.{empty_interval_is_shown, one_demand_is_solved}
-use Rattle.rob_top.proofs.WorkedCuts.{one_demand_is_cut}
-use Rattle.rob_top.proofs.WorkedEmptyCalls.{never_calm_is_shown}
-use Rattle.rob_top.proofs.WorkedNarrowSolves.{empty_interval_is_cut, empty_interval_is_not_wide, one_demand_has_status, one_demand_is_not_wide}
-use Rattle.rob_top.proofs.WorkedNarrows.{one_demand_has_bounds}
-use Rattle.rob_top.proofs.WorkedSetCalls.{hard_and_soft_is_solved}
+use Rattle.rob_top.proofs.ByHand.WorkedCalls.{empty_interval_is_shown, one_demand_is_solved}
+use Rattle.rob_top.proofs.ByHand.WorkedCuts.{one_demand_is_cut}
+use Rattle.rob_top.proofs.ByHand.WorkedEmptyCalls.{never_calm_is_shown}
+use Rattle.rob_top.proofs.ByHand.WorkedNarrowSolves.{empty_interval_is_cut, empty_interval_is_not_wide, one_demand_has_status, one_demand_is_not_wide}
+use Rattle.rob_top.proofs.ByHand.WorkedNarrows.{one_demand_has_bounds}
+use Rattle.rob_top.proofs.ByHand.WorkedSetCalls.{hard_and_soft_is_solved}
 use Rattle.rob_top.proofs.worked.solving.Goals as goal
 
 pub returns : goal.returns

@@ -1,4 +1,4 @@
-use Rattle.rob_top.proofs.WorkedSplitTexts.{split_is_taken}
+use Rattle.rob_top.proofs.ByHand.WorkedSplitTexts.{split_is_taken}
 use Rattle.rob_top.proofs.worked.split_text.Goals as goal
 
 pub returns : goal.returns

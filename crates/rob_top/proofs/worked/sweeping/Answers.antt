@@ -1,5 +1,5 @@
-use Rattle.rob_top.proofs.WorkedBudgets.{a_budget_is_limited, a_budget_is_swept}
-use Rattle.rob_top.proofs.WorkedSweeps.{no_budget_is_limited, no_budget_is_swept}
+use Rattle.rob_top.proofs.ByHand.WorkedBudgets.{a_budget_is_limited, a_budget_is_swept}
+use Rattle.rob_top.proofs.ByHand.WorkedSweeps.{no_budget_is_limited, no_budget_is_swept}
 use Rattle.rob_top.proofs.worked.sweeping.Goals as goal
 
 pub returns : goal.returns

@@ -1,0 +1,23 @@
+-- Calls worked by hand.
+pub mod WorkedWholes
+pub mod WorkedTrees
+pub mod WorkedSweeps
+pub mod WorkedBudgets
+pub mod WorkedCells
+pub mod WorkedCutRules
+pub mod WorkedSplitTexts
+pub mod WorkedCalls
+pub mod WorkedSetCalls
+pub mod WorkedCuts
+pub mod WorkedEmptyCalls
+pub mod WorkedChecks
+pub mod WorkedReplays
+pub mod WorkedWorsts
+pub mod WorkedSlacks
+pub mod WorkedSearches
+pub mod WorkedNumbers
+pub mod WorkedCompared
+pub mod WorkedNarrows
+pub mod WorkedNarrowSolves
+pub mod WorkedEmptyWholes
+pub mod WorkedEmptyWorsts

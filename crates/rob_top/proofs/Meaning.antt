@@ -1,0 +1,24 @@
+-- From what the calls of a command's work answer to what its answers mean.
+pub mod CheckingLemmas
+pub mod DefaultRoutes
+pub mod BeforeLemmas
+pub mod RouteLemmas
+pub mod SolvingLemmas
+pub mod SoughtLemmas
+pub mod WorstSlackLemmas
+pub mod SearchingLemmas
+pub mod SearchStops
+pub mod GeneratedLemmas
+pub mod ComparedLemmas
+pub mod ComparedWorkLemmas
+pub mod PathTextLemmas
+pub mod NodeLemmas
+pub mod ShownLemmas
+pub mod BoxPathLemmas
+pub mod BranchingLemmas
+pub mod TreePlaceLemmas
+pub mod TreeCheckLemmas
+pub mod SplittingLemmas
+pub mod SweepingLemmas
+pub mod ReplayingLemmas
+pub mod WorkLemmas
