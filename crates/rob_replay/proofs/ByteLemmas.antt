@@ -1,7 +1,7 @@
 -- What the next byte does to the `csv` reader of a scenario file.
-use Rattle.std.proofs.Common.{◌≡◌, ℕ, List, ◌∷◌, refl, sym, subst, true, false, inl, inr, eqb→eq, T}
+use Rattle.std.proofs.Common.{◌≡◌, ℕ, List, ◌∷◌, refl, true, false, inl, inr}
 use Rattle.std.specs.Prelude.{Some, ◌==◌}
-use Rattle.std.proofs.lemmas.Bool.{cases_Bool}
+use Rattle.std.proofs.lemmas.Bool.{cases_Bool, eqb-true}
 use Rattle.csv.specs.Machine.{field_after, fields_after, is_end, next_record, step}
 use Rattle.csv.specs.Reading.{default_config}
 use Rattle.csv.specs.declared.parser.Action.{Action}
@@ -36,9 +36,6 @@ pub same_step : (s s2 : State) (c : ℕ) (xs : List ℕ) (fields : List (List �
 unfolding next_record
 same_step s s2 c xs fields field e = rw e refl
 
-pub is_it : (c n : ℕ) → (c == n) ≡ true → c ≡ n
-is_it c n h = eqb→eq c n (subst T (sym h) tt)
-
 -- what a byte in a field does: it ends the field, it ends the record, or it joins the field
 pub data Byte (c : ℕ) : Type 0 where
   ends_it : c ≡ 44 → step default_config st.InField c ≡ (st.StartField, act.EndField) → ends_field c ≡ true → Byte c
@@ -47,7 +44,7 @@ pub data Byte (c : ℕ) : Type 0 where
   joins : step default_config st.InField c ≡ (st.InField, act.Copy) → ends_field c ≡ false → Byte c
 
 byte_comma : (c : ℕ) → (c == 44) ≡ true → Byte c
-byte_comma c h = ends_it (is_it c 44 h) (rw h refl) (rw h refl)
+byte_comma c h = ends_it (eqb-true c 44 h) (rw h refl) (rw h refl)
 
 byte_cr : (c : ℕ) → (c == 44) ≡ false → (c == 13) ≡ true → Byte c
 byte_cr c h e = ends_all st.AfterCr (rw (h, e) refl) tt (rw e refl) (rw (h, e) refl)

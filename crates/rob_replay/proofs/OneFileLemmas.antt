@@ -1,13 +1,13 @@
 -- A file has one list of records: `csv` would read each list of records that a text is.
 use Rattle.std.proofs.Common.{◌≡◌, ℕ, List, [], ◌∷◌, ◌++◌, refl, sym, ap, ap₂, ◌∙◌, subst, append_assoc, append-nil, Bool, true, false, inl, inr, zero, suc, length, ◌≤◌, ◌<◌, arith}
 use Rattle.std.specs.Prelude.{Option, Some, None, ◌==◌, if◌then◌else◌}
-use Rattle.std.proofs.lemmas.Bool.{cases_Bool}
+use Rattle.std.proofs.lemmas.Bool.{cases_Bool, eqb-true}
 use Rattle.csv.specs.Machine.{Read, ends_at_end, field_after, fields_after, is_end, next_record, step}
 use Rattle.csv.specs.Reading.{default_config, strip_bom}
 use Rattle.csv.specs.declared.parser.Action.TheVariants as act
 use Rattle.csv.specs.declared.parser.State.{State}
 use Rattle.csv.specs.declared.parser.State.TheVariants as st
-use Rattle.rob_replay.proofs.ByteLemmas.{Byte, IsFresh, byte, ends_all, ends_it, ends_step, field_step, goes_step, is_it, joins, line_step, same_step}
+use Rattle.rob_replay.proofs.ByteLemmas.{Byte, IsFresh, byte, ends_all, ends_it, ends_step, field_step, goes_step, joins, line_step, same_step}
 use Rattle.rob_replay.proofs.FileLemmas.{from_record, no_record}
 use Rattle.rob_replay.specs.Files.{AreFields, AreLineEnds, AreRecords, BeginsRecord, EndsRecord, IsField, IsFile, IsUnquoted, IsWithin, NextRecord, doubled, ends_field, is_line_end, quote}
 
@@ -52,7 +52,7 @@ module _ (fields : List (List ℕ)) where
       twice c e ih =
           rw e (quote_twice field (doubled between ++ rest)) ∙ ih
           ∙ ap (λ f. next_record default_config st.InQuoted fields f rest)
-          (append_assoc field (quote ∷ []) between ∙ ap (λ b. field ++ (b ∷ between)) (sym (is_it c 34 e)))
+          (append_assoc field (quote ∷ []) between ∙ ap (λ b. field ++ (b ∷ between)) (sym (eqb-true c 34 e)))
 
       once : (c : ℕ) → (c == 34) ≡ false
           → next_record default_config st.InQuoted fields (field ++ c ∷ []) (doubled between ++ rest)

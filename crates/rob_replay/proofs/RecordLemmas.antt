@@ -1,12 +1,12 @@
 -- The rest of a record, from each state in which its reading stands.
 use Rattle.std.proofs.Common.{◌≡◌, ℕ, List, [], ◌∷◌, ◌++◌, refl, sym, ap, ◌∙◌, subst, append_assoc, append-nil, false, inl, inr}
 use Rattle.std.specs.Prelude.{Some, ◌==◌}
-use Rattle.std.proofs.lemmas.Bool.{cases_Bool}
+use Rattle.std.proofs.lemmas.Bool.{cases_Bool, eqb-true}
 use Rattle.csv.specs.Machine.{Read, next_record}
 use Rattle.csv.specs.Reading.{default_config}
 use Rattle.csv.specs.declared.parser.State.TheVariants as st
 use Rattle.csv.specs.declared.parser.Action.TheVariants as act
-use Rattle.rob_replay.proofs.ByteLemmas.{Byte, IsFresh, byte, ends_all, ends_it, ends_step, goes_step, is_it, joins, same_step}
+use Rattle.rob_replay.proofs.ByteLemmas.{Byte, IsFresh, byte, ends_all, ends_it, ends_step, goes_step, joins, same_step}
 use Rattle.rob_replay.specs.Files.{AreFields, GoesOn, HasEnded, IsUnquoted, IsWithin, doubled, ends_field, quote}
 
 -- ---- the rest of a record from a state, with the fields and the bytes of the field so far
@@ -191,7 +191,7 @@ module _ (c : ℕ) (xs : List ℕ) (later : Reads xs) where
   in_quotes_more : (fields : List (List ℕ)) (field : List ℕ) (p : Read)
       → next_record default_config st.InQuoted fields field (c ∷ xs) ≡ Some p → InQuotes fields field (c ∷ xs) p
   in_quotes_more fields field p h = elim (cases_Bool (c == 34)) [
-    | inl e ↦ quote_closes fields field p (is_it c 34 e) (later.behind_quote fields field p
+    | inl e ↦ quote_closes fields field p (eqb-true c 34 e) (later.behind_quote fields field p
         (sym (goes_step st.InQuoted st.AfterQuote act.Skip c xs fields field (rw e refl) refl) ∙ h))
     | inr e ↦ other_more fields field p e (later.in_quotes fields (field ++ c ∷ []) p
         (sym (goes_step st.InQuoted st.InQuoted act.Copy c xs fields field (rw e refl) refl) ∙ h))
@@ -200,8 +200,8 @@ module _ (c : ℕ) (xs : List ℕ) (later : Reads xs) where
   behind_quote_more : (fields : List (List ℕ)) (field : List ℕ) (p : Read)
       → next_record default_config st.AfterQuote fields field (c ∷ xs) ≡ Some p → BehindQuote fields field (c ∷ xs) p
   behind_quote_more fields field p h = elim (cases_Bool (c == 34)) [
-    | inl e ↦ again xs (ap (λ b. b ∷ xs) (is_it c 34 e))
-        (subst (λ b. InQuotes fields (field ++ b ∷ []) xs p) (is_it c 34 e)
+    | inl e ↦ again xs (ap (λ b. b ∷ xs) (eqb-true c 34 e))
+        (subst (λ b. InQuotes fields (field ++ b ∷ []) xs p) (eqb-true c 34 e)
         (later.in_quotes fields (field ++ c ∷ []) p
         (sym (goes_step st.AfterQuote st.InQuoted act.Copy c xs fields field (rw e refl) refl) ∙ h)))
     | inr e ↦ closed e
@@ -253,7 +253,7 @@ module _ (c : ℕ) (xs : List ℕ) (later : Reads xs) where
   starts_more : (fields : List (List ℕ)) (p : Read)
       → next_record default_config st.StartField fields [] (c ∷ xs) ≡ Some p → Starts fields (c ∷ xs) p
   starts_more fields p h = elim (cases_Bool (c == 34)) [
-    | inl e ↦ quoted_start fields p (is_it c 34 e) (later.in_quotes fields [] p
+    | inl e ↦ quoted_start fields p (eqb-true c 34 e) (later.in_quotes fields [] p
         (sym (goes_step st.StartField st.InQuoted act.Skip c xs fields [] (rw e refl) refl) ∙ h))
     | inr e ↦ plain_start fields p e
         (in_field_more fields [] p (byte c) (sym (same_step st.StartField st.InField c xs fields [] (rw e refl)) ∙ h))
