@@ -1,8 +1,8 @@
 //! The calls of the cases.
 
 use crate::{deep, narrow, number, outside, rows, simplex, solver, words};
-use rob_case::Trouble;
 use rob_case::text::keyword;
+use rob_case::{Calls, Case, Trouble};
 use rob_number::Frac;
 use std::alloc::Global;
 
@@ -11,15 +11,18 @@ type Eight = Frac<8>;
 
 type Most = Frac<62>;
 
-/// The answer of the call of a line: its first word, and what stands behind.
-pub(crate) fn answer(rt: &HostRuntime, word: &str, rest: &str) -> Result<String, Trouble> {
-    let alloc = rt.alloc();
-    if let Some(answer) = of_line(alloc, word, rest)? {
-        return Ok(answer);
-    }
-    match of_outside(rt, word, rest)? {
-        Some(answer) => Ok(answer),
-        None => Err(Trouble::Line),
+/// The libraries of numbers, programs, words and the outside.
+pub(crate) struct Libraries;
+
+impl Calls<HostRuntime> for Libraries {
+    fn answer(rt: &HostRuntime, _case: &Case, word: &str, rest: &str) -> Result<String, Trouble> {
+        if let Some(answer) = of_line(rt.alloc(), word, rest)? {
+            return Ok(answer);
+        }
+        match of_outside(rt, word, rest)? {
+            Some(answer) => Ok(answer),
+            None => Err(Trouble::Line),
+        }
     }
 }
 

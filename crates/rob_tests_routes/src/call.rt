@@ -6,28 +6,29 @@ ghost use Rattle.rob_model.specs.View.{robust};
 
 use crate::{alike, boxes, cuts, given, sweep, tree, worst};
 use rob_case::text::keyword;
-use rob_case::{Case, Trouble};
+use rob_case::{Calls, Case, Trouble};
 use rob_model::Model;
 use rob_number::{Exact, Frac};
 use rob_quick::Quick;
 use std::alloc::Global;
 
-/// The answer of the call of a line: its first word, and what stands behind. Behind `narrow` comes a call with numbers
-/// of 8 bits; the others have 62. What is told to be alike is so with two number types.
-pub(crate) fn answer(
-    alloc: Global,
-    case: &Case,
-    word: &str,
-    rest: &str,
-) -> Result<String, Trouble> {
-    match word {
-        "narrow" => {
-            let (word, rest) = keyword(rest);
-            call::<Frac<8>>(alloc, case, word, rest)
+/// The libraries of trees, sweeps, worst scenarios and cuts.
+pub(crate) struct Libraries;
+
+impl Calls<HostRuntime> for Libraries {
+    /// Behind `narrow` comes a call with numbers of 8 bits; the others have 62. What is told to be alike is so with two
+    /// number types.
+    fn answer(rt: &HostRuntime, case: &Case, word: &str, rest: &str) -> Result<String, Trouble> {
+        let alloc = rt.alloc();
+        match word {
+            "narrow" => {
+                let (word, rest) = keyword(rest);
+                call::<Frac<8>>(alloc, case, word, rest)
+            }
+            "alike" => alike::compared::<Frac<62>, Quick<62>>(alloc, case, rest),
+            "alike-8" => alike::compared::<Frac<8>, Quick<8>>(alloc, case, rest),
+            _ => call::<Frac<62>>(alloc, case, word, rest),
         }
-        "alike" => alike::compared::<Frac<62>, Quick<62>>(alloc, case, rest),
-        "alike-8" => alike::compared::<Frac<8>, Quick<8>>(alloc, case, rest),
-        _ => call::<Frac<62>>(alloc, case, word, rest),
     }
 }
 

@@ -2,7 +2,7 @@
 
 use crate::{cert, lex, model, parse, replay};
 use rob_case::numbers::small;
-use rob_case::{Case, Trouble};
+use rob_case::{Calls, Case, Trouble};
 use rob_number::Frac;
 use std::alloc::Global;
 
@@ -11,19 +11,18 @@ type Eight = Frac<8>;
 
 type Most = Frac<62>;
 
-/// The answer of the call of a line: its first word, and what stands behind.
-pub(crate) fn answer(
-    alloc: Global,
-    case: &Case,
-    word: &str,
-    rest: &str,
-) -> Result<String, Trouble> {
-    if let Some(answer) = of_text(alloc, case, word, rest)? {
-        return Ok(answer);
-    }
-    match of_model(alloc, case, word, rest)? {
-        Some(answer) => Ok(answer),
-        None => Err(Trouble::Line),
+/// The libraries of texts and models.
+pub(crate) struct Libraries;
+
+impl Calls<HostRuntime> for Libraries {
+    fn answer(rt: &HostRuntime, case: &Case, word: &str, rest: &str) -> Result<String, Trouble> {
+        if let Some(answer) = of_text(rt.alloc(), case, word, rest)? {
+            return Ok(answer);
+        }
+        match of_model(rt.alloc(), case, word, rest)? {
+            Some(answer) => Ok(answer),
+            None => Err(Trouble::Line),
+        }
     }
 }
 
