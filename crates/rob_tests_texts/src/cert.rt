@@ -11,7 +11,7 @@ use rob_case::text::{broken, said};
 use rob_case::{Case, Trouble};
 use rob_cert::{Cert, CertErr, Cover, read_cert, write_cert};
 use rob_model::Model;
-use rob_number::{Exact, Frac, Tally};
+use rob_number::{Exact, Tally};
 use std::alloc::Global;
 
 /// The certificate that a text is, or the rule that it breaks and the line.
@@ -34,8 +34,8 @@ fn read<N: Exact>(
 }
 
 /// Whether a text is a certificate, and is written again.
-pub(crate) fn certificate(alloc: Global, case: &Case) -> Result<String, Trouble> {
-    let model: Model<Frac<62>> = parse::model(alloc, case.model())?;
+pub(crate) fn certificate<N: Exact>(alloc: Global, case: &Case) -> Result<String, Trouble> {
+    let model: Model<N> = parse::model(alloc, case.model())?;
     let text = case.bytes();
     if text.len() > 1 << 30 {
         return Err(Trouble::Line);
@@ -80,15 +80,15 @@ fn first_other<N: Exact>(
 }
 
 /// Whether each proper prefix of a text lacks its next line.
-pub(crate) fn prefixes(alloc: Global, case: &Case) -> Result<String, Trouble> {
-    let model: Model<Frac<62>> = parse::model(alloc, case.model())?;
+pub(crate) fn prefixes<N: Exact>(alloc: Global, case: &Case) -> Result<String, Trouble> {
+    let model: Model<N> = parse::model(alloc, case.model())?;
     let other = first_other(alloc, &model, case.bytes())?;
     Ok(format!(in alloc; "{other:?}")?)
 }
 
 /// The parts that the lines of a certificate are read as.
-pub(crate) fn parts(alloc: Global, case: &Case) -> Result<String, Trouble> {
-    let model: Model<Frac<62>> = parse::model(alloc, case.model())?;
+pub(crate) fn parts<N: Exact>(alloc: Global, case: &Case) -> Result<String, Trouble> {
+    let model: Model<N> = parse::model(alloc, case.model())?;
     let text = case.bytes();
     if text.len() > 1 << 30 {
         return Err(Trouble::Line);

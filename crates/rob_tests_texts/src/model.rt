@@ -11,7 +11,7 @@ use rob_model::{
     first_broken, form_count, policy_at, put_column_name, put_form_name, put_set_place_name,
     put_set_row_name, set_place_count, set_row_count, value_at,
 };
-use rob_number::{Exact, Frac, Tally, Text, Wide};
+use rob_number::{Exact, Tally, Text, Wide};
 use std::alloc::Global;
 
 /// The answer of a test, or that a number on the way is wide.
@@ -110,8 +110,8 @@ pub(crate) fn objective<N: Exact>(
 }
 
 /// The numbers of forms, columns, set rows and set places.
-pub(crate) fn counts(alloc: Global, case: &Case) -> Result<String, Trouble> {
-    let model: Model<Frac<62>> = parse::model(alloc, case.model())?;
+pub(crate) fn counts<N: Exact>(alloc: Global, case: &Case) -> Result<String, Trouble> {
+    let model: Model<N> = parse::model(alloc, case.model())?;
     let forms = form_count(&model);
     let columns = column_count(&model);
     let rows = set_row_count(&model);
@@ -120,8 +120,8 @@ pub(crate) fn counts(alloc: Global, case: &Case) -> Result<String, Trouble> {
 }
 
 /// The number of a name of a kind.
-pub(crate) fn found(alloc: Global, case: &Case, line: &str) -> Result<String, Trouble> {
-    let model: Model<Frac<62>> = parse::model(alloc, case.model())?;
+pub(crate) fn found<N: Exact>(alloc: Global, case: &Case, line: &str) -> Result<String, Trouble> {
+    let model: Model<N> = parse::model(alloc, case.model())?;
     let (kind, name) = keyword(line);
     let number = number_of(&model, kind, name.as_bytes())?;
     Ok(format!(in alloc; "{number:?}")?)
@@ -140,8 +140,8 @@ fn number_of<N: Exact>(model: &Model<N>, kind: &str, name: &[u8]) -> Result<Opti
 }
 
 /// The name of a number of a kind.
-pub(crate) fn named(alloc: Global, case: &Case, line: &str) -> Result<String, Trouble> {
-    let model: Model<Frac<62>> = parse::model(alloc, case.model())?;
+pub(crate) fn named<N: Exact>(alloc: Global, case: &Case, line: &str) -> Result<String, Trouble> {
+    let model: Model<N> = parse::model(alloc, case.model())?;
     let (kind, number) = keyword(line);
     let mut name = Text::new(alloc);
     put_name(&model, kind, small(number)?, &mut name)?;

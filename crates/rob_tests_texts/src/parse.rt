@@ -8,7 +8,7 @@ ghost use Rattle.rob_model.specs.View.{robust};
 use rob_case::text::{broken, said, shown};
 use rob_case::{Case, Trouble};
 use rob_model::Model;
-use rob_number::{Exact, Frac, Tally, Text};
+use rob_number::{Exact, Tally, Text};
 use rob_parse::read_model;
 use rob_rules::{ModelErr, read_text};
 use rob_write::write_model;
@@ -101,10 +101,9 @@ pub(crate) fn model<N: Exact>(alloc: Global, text: &[u8]) -> Result<Model<N>, Tr
     }
 }
 
-/// How many parameters, statements on the set, variables, adaptive variables and rows the model of a text has, with
-/// numbers of 8 bits.
-pub(crate) fn sizes(alloc: Global, text: &[u8]) -> Result<String, Trouble> {
-    match read::<Frac<8>>(alloc, text)? {
+/// How many parameters, statements on the set, variables, adaptive variables and rows the model of a text has.
+pub(crate) fn sizes<N: Exact>(alloc: Global, text: &[u8]) -> Result<String, Trouble> {
+    match read::<N>(alloc, text)? {
         Ok(model) => told(alloc, &model),
         Err((rule, line)) => broken(alloc, rule, line),
     }
@@ -120,17 +119,17 @@ fn told<N: Exact>(alloc: Global, model: &Model<N>) -> Result<String, Trouble> {
 }
 
 /// The canonical text of the model of a text.
-fn written(alloc: Global, text: &[u8]) -> Result<Text, Trouble> {
-    match read::<Frac<62>>(alloc, text)? {
+fn written<N: Exact>(alloc: Global, text: &[u8]) -> Result<Text, Trouble> {
+    match read::<N>(alloc, text)? {
         Ok(model) => Ok(write_model(alloc, &model)?),
         Err(_) => Err(Trouble::Line),
     }
 }
 
 /// The canonical text of the model of a text, and whether it is its own canonical text.
-pub(crate) fn canonical(alloc: Global, text: &[u8]) -> Result<String, Trouble> {
-    let once = written(alloc, text)?;
-    let again = written(alloc, once.bytes())?;
+pub(crate) fn canonical<N: Exact>(alloc: Global, text: &[u8]) -> Result<String, Trouble> {
+    let once = written::<N>(alloc, text)?;
+    let again = written::<N>(alloc, once.bytes())?;
     let mut answer = shown(alloc, once.bytes())?;
     if once.bytes() != again.bytes() {
         answer.push_str(" and another")?;
@@ -139,9 +138,9 @@ pub(crate) fn canonical(alloc: Global, text: &[u8]) -> Result<String, Trouble> {
 }
 
 /// Whether the text reads as the same model as the text of the model: one whose canonical text is the same.
-pub(crate) fn same(alloc: Global, case: &Case) -> Result<String, Trouble> {
-    let one = written(alloc, case.model())?;
-    let other = written(alloc, case.bytes())?;
+pub(crate) fn same<N: Exact>(alloc: Global, case: &Case) -> Result<String, Trouble> {
+    let one = written::<N>(alloc, case.model())?;
+    let other = written::<N>(alloc, case.bytes())?;
     said(
         alloc,
         if one.bytes() == other.bytes() {

@@ -6,7 +6,7 @@ use crate::parse;
 use rob_case::numbers::{exact, exacts, put, put_all};
 use rob_case::{Case, Trouble};
 use rob_model::{Model, Plan};
-use rob_number::{Exact, Frac, Tally};
+use rob_number::{Exact, Tally};
 use rob_replay::{ReplayErr, TableLine, replay};
 use std::alloc::Global;
 
@@ -78,8 +78,8 @@ fn put_line<N: Exact>(
 }
 
 /// Whether each proper prefix of a file has a table or is refused, and memory is not.
-pub(crate) fn prefixes(alloc: Global, case: &Case) -> Result<String, Trouble> {
-    let model: Model<Frac<62>> = parse::model(alloc, case.model())?;
+pub(crate) fn prefixes<N: Exact>(alloc: Global, case: &Case) -> Result<String, Trouble> {
+    let model: Model<N> = parse::model(alloc, case.model())?;
     let plan = plan(alloc, case)?;
     let count = judged(alloc, &model, &plan, case.bytes())?;
     Ok(format!(in alloc; "{count} prefixes")?)
