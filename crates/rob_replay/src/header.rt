@@ -49,10 +49,7 @@ fn places_of<N: Exact>(
     for param in params {
         match place_of(header, param.name.bytes()) {
             None => return Ok(None),
-            Some(place) => match places.push(place) {
-                Err(memory) => return Err(memory),
-                Ok(()) => {}
-            },
+            Some(place) => places.push(place)?,
         }
     }
     Ok(Some(places))

@@ -29,10 +29,7 @@ pub fn read_numbers<N: Exact, L: Ledger>(
             None => return Ok(None),
             Some(field) => match read_number::<N, L>(field, ledger) {
                 None => return Ok(None),
-                Some(number) => match numbers.push(number) {
-                    Err(memory) => return Err(memory),
-                    Ok(()) => {}
-                },
+                Some(number) => numbers.push(number)?,
             },
         }
     }
@@ -51,10 +48,7 @@ pub fn in_order<N: Exact, L: Ledger>(
 {
     let mut values = List::new(alloc);
     for place in places {
-        match values.push(number_at(numbers, *place, ledger)) {
-            Err(memory) => return Err(memory),
-            Ok(()) => {}
-        }
+        values.push(number_at(numbers, *place, ledger))?;
     }
     Ok(Scenario { values })
 }

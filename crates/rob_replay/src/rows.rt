@@ -35,10 +35,7 @@ pub fn read_rows(alloc: Global, text: &[u8]) -> Result<Vec<ByteRecord>, Memory>
     for row in rdr.into_byte_records() {
         match row {
             Err(_) => return Err(Memory),
-            Ok(row) => match keep(&mut rows, row) {
-                Err(memory) => return Err(memory),
-                Ok(()) => {}
-            },
+            Ok(row) => keep(&mut rows, row)?,
         }
     }
     Ok(rows)
