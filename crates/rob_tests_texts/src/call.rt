@@ -1,9 +1,14 @@
 //! The calls of the cases.
 
+ghost use Rattle.rob_meaning.specs.Named.{IsNamed};
+ghost use Rattle.rob_model.specs.Valid.{IsValid};
+ghost use Rattle.rob_model.specs.View.{robust};
+
 use crate::{cert, lex, model, parse, replay};
 use rob_case::numbers::small;
 use rob_case::{Calls, Case, Trouble};
-use rob_number::Frac;
+use rob_model::Model;
+use rob_number::{Exact, Frac};
 use std::alloc::Global;
 
 /// A width of 8 bits, and one of 62.
@@ -19,9 +24,10 @@ impl Calls<HostRuntime> for Libraries {
         if let Some(answer) = of_text(rt.alloc(), case, word, rest)? {
             return Ok(answer);
         }
-        match of_model(rt.alloc(), case, word, rest)? {
-            Some(answer) => Ok(answer),
-            None => Err(Trouble::Line),
+        match word {
+            "policy-8" => on_model::<Eight>(rt.alloc(), case, "policy", rest),
+            "replay-8" => on_model::<Eight>(rt.alloc(), case, "replay", rest),
+            _ => on_model::<Most>(rt.alloc(), case, word, rest),
         }
     }
 }
@@ -37,28 +43,61 @@ fn of_text(alloc: Global, case: &Case, word: &str, rest: &str) -> Result<Option<
         "sizes-8" => Ok(Some(parse::sizes::<Eight>(alloc, case.bytes())?)),
         "canonical" => Ok(Some(parse::canonical::<Most>(alloc, case.bytes())?)),
         "same-model" => Ok(Some(parse::same::<Most>(alloc, case)?)),
-        "certificate" => Ok(Some(cert::certificate::<Most>(alloc, case)?)),
-        "certificate-prefixes" => Ok(Some(cert::prefixes::<Most>(alloc, case)?)),
-        "certificate-parts" => Ok(Some(cert::parts::<Most>(alloc, case)?)),
-        "replay" => Ok(Some(replay::table::<Most>(alloc, case)?)),
-        "replay-8" => Ok(Some(replay::table::<Eight>(alloc, case)?)),
-        "replay-length" => Ok(Some(replay::length::<Most>(alloc, case)?)),
-        "replay-prefixes" => Ok(Some(replay::prefixes::<Most>(alloc, case)?)),
         _ => Ok(None),
     }
 }
 
-/// Calls on the model.
-fn of_model(alloc: Global, case: &Case, word: &str, rest: &str) -> Result<Option<String>, Trouble> {
+/// The answer of a call on the case's model, with numbers of a width. It alone has the model: what it calls is lent it.
+fn on_model<N: Exact>(
+    alloc: Global,
+    case: &Case,
+    word: &str,
+    rest: &str,
+) -> Result<String, Trouble> {
+    let model: Model<N> = parse::model(alloc, case.model())?;
+    of_model(alloc, case, &model, word, rest)
+}
+
+/// The answer of a call on a model: on its values and names, or on a file beside it.
+fn of_model<N: Exact>(
+    alloc: Global,
+    case: &Case,
+    model: &Model<N>,
+    word: &str,
+    rest: &str,
+) -> Result<String, Trouble>
+    requires valid { IsValid N.value model.now }
+    requires named { IsNamed (robust N.value model.now) }
+{
     match word {
-        "admits" => Ok(Some(model::admitted::<Most>(alloc, case, rest)?)),
-        "first-broken" => Ok(Some(model::broken::<Most>(alloc, case, rest)?)),
-        "policy" => Ok(Some(model::policy::<Most>(alloc, case, rest)?)),
-        "policy-8" => Ok(Some(model::policy::<Eight>(alloc, case, rest)?)),
-        "objective" => Ok(Some(model::objective::<Most>(alloc, case, rest)?)),
-        "counts" => Ok(Some(model::counts::<Most>(alloc, case)?)),
-        "find" => Ok(Some(model::found::<Most>(alloc, case, rest)?)),
-        "name" => Ok(Some(model::named::<Most>(alloc, case, rest)?)),
-        _ => Ok(None),
+        "admits" => model::admitted(alloc, model, rest),
+        "first-broken" => model::broken(alloc, model, rest),
+        "policy" => model::policy(alloc, case, model, rest),
+        "objective" => model::objective(alloc, case, model, rest),
+        "counts" => model::counts(alloc, model),
+        "find" => model::found(alloc, model, rest),
+        "name" => model::named(alloc, model, rest),
+        _ => of_file(alloc, case, model, word),
+    }
+}
+
+/// The answer of a call on a certificate or a scenario file of a model.
+fn of_file<N: Exact>(
+    alloc: Global,
+    case: &Case,
+    model: &Model<N>,
+    word: &str,
+) -> Result<String, Trouble>
+    requires valid { IsValid N.value model.now }
+    requires named { IsNamed (robust N.value model.now) }
+{
+    match word {
+        "certificate" => cert::certificate(alloc, model, case.bytes(), false),
+        "certificate-parts" => cert::certificate(alloc, model, case.bytes(), true),
+        "certificate-prefixes" => cert::prefixes(alloc, model, case.bytes()),
+        "replay" => replay::table(alloc, case, model, true),
+        "replay-length" => replay::table(alloc, case, model, false),
+        "replay-prefixes" => replay::prefixes(alloc, case, model),
+        _ => Err(Trouble::Line),
     }
 }

@@ -1,14 +1,15 @@
 //! Certificates of a model, read and written, and texts that are none.
 
 ghost use Rattle.std.specs.Prelude.{◌^◌, ◌≤◌, length};
+ghost use Rattle.rob_cert.specs.Shape.{HasShape};
+ghost use Rattle.rob_cert.specs.View.{certificate_of};
 ghost use Rattle.rob_meaning.specs.Named.{IsNamed};
 ghost use Rattle.rob_model.specs.Valid.{IsValid};
 ghost use Rattle.rob_model.specs.View.{robust};
 
-use crate::parse;
+use rob_case::Trouble;
 use rob_case::numbers::{put, put_all};
 use rob_case::text::{broken, said};
-use rob_case::{Case, Trouble};
 use rob_cert::{Cert, CertErr, Cover, read_cert, write_cert};
 use rob_model::Model;
 use rob_number::{Exact, Tally};
@@ -33,24 +34,44 @@ fn read<N: Exact>(
     }
 }
 
-/// Whether a text is a certificate, and is written again.
-pub(crate) fn certificate<N: Exact>(alloc: Global, case: &Case) -> Result<String, Trouble> {
-    let model: Model<N> = parse::model(alloc, case.model())?;
-    let text = case.bytes();
+/// Whether a text is a certificate, and is written again; or the parts that its lines are read as.
+pub(crate) fn certificate<N: Exact>(
+    alloc: Global,
+    model: &Model<N>,
+    text: &[u8],
+    parts: bool,
+) -> Result<String, Trouble>
+    requires valid { IsValid N.value model.now }
+    requires named { IsNamed (robust N.value model.now) }
+{
     if text.len() > 1 << 30 {
         return Err(Trouble::Line);
     }
-    match read_cert(alloc, text, &model, &mut Tally::new()) {
-        Ok(cert) => again(alloc, write_cert(alloc, &model, &cert)?.bytes() == text),
+    match read_cert(alloc, text, model, &mut Tally::new()) {
+        Ok(cert) => of_cert(alloc, model, &cert, text, parts),
         Err(CertErr::Rule(rule, line)) => broken(alloc, rule, line),
         Err(CertErr::Memory) => Err(Trouble::Memory),
     }
 }
 
-fn again(alloc: Global, same: bool) -> Result<String, Trouble> {
+/// What is told of the certificate that a text is.
+fn of_cert<N: Exact>(
+    alloc: Global,
+    model: &Model<N>,
+    cert: &Cert<N>,
+    text: &[u8],
+    parts: bool,
+) -> Result<String, Trouble>
+    requires valid { IsValid N.value model.now }
+    requires shape { HasShape (robust N.value model.now) (certificate_of N.value cert.now) }
+{
+    if parts {
+        return told(alloc, cert);
+    }
+    let again = write_cert(alloc, model, cert)?;
     said(
         alloc,
-        if same {
+        if again.bytes() == text {
             "written again"
         } else {
             "written otherwise"
@@ -80,25 +101,19 @@ fn first_other<N: Exact>(
 }
 
 /// Whether each proper prefix of a text lacks its next line.
-pub(crate) fn prefixes<N: Exact>(alloc: Global, case: &Case) -> Result<String, Trouble> {
-    let model: Model<N> = parse::model(alloc, case.model())?;
-    let other = first_other(alloc, &model, case.bytes())?;
+pub(crate) fn prefixes<N: Exact>(
+    alloc: Global,
+    model: &Model<N>,
+    text: &[u8],
+) -> Result<String, Trouble>
+    requires valid { IsValid N.value model.now }
+    requires named { IsNamed (robust N.value model.now) }
+{
+    let other = first_other(alloc, model, text)?;
     Ok(format!(in alloc; "{other:?}")?)
 }
 
 /// The parts that the lines of a certificate are read as.
-pub(crate) fn parts<N: Exact>(alloc: Global, case: &Case) -> Result<String, Trouble> {
-    let model: Model<N> = parse::model(alloc, case.model())?;
-    let text = case.bytes();
-    if text.len() > 1 << 30 {
-        return Err(Trouble::Line);
-    }
-    match read_cert(alloc, text, &model, &mut Tally::new()) {
-        Ok(cert) => told(alloc, &cert),
-        Err(_) => Err(Trouble::Line),
-    }
-}
-
 fn told<N: Exact>(alloc: Global, cert: &Cert<N>) -> Result<String, Trouble> {
     let status = cert.status;
     let items = cert.items.items().len();

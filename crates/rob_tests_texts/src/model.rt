@@ -2,7 +2,6 @@
 
 ghost use Rattle.rob_model.specs.Valid.{IsValid};
 
-use crate::parse;
 use rob_case::numbers::{exact, exacts, shown as shown_number, small, whole, wholes};
 use rob_case::text::{keyword, said, shown};
 use rob_case::{Case, Trouble};
@@ -47,20 +46,26 @@ fn plan<N: Exact>(alloc: Global, case: &Case) -> Result<Plan<N>, Trouble> {
 /// Whether a scenario is admitted.
 pub(crate) fn admitted<N: Exact>(
     alloc: Global,
-    case: &Case,
+    model: &Model<N>,
     line: &str,
-) -> Result<String, Trouble> {
-    let model: Model<N> = parse::model(alloc, case.model())?;
+) -> Result<String, Trouble>
+    requires valid { IsValid N.value model.now }
+{
     let scenario = scenario(alloc, line)?;
     if scenario.values.items().len() != model.params.items().len() {
         return Err(Trouble::Line);
     }
-    told(alloc, admits(&model, &scenario, &mut Tally::new()))
+    told(alloc, admits(model, &scenario, &mut Tally::new()))
 }
 
 /// The first condition that fails, at a base and then a vector.
-pub(crate) fn broken<N: Exact>(alloc: Global, case: &Case, line: &str) -> Result<String, Trouble> {
-    let model: Model<N> = parse::model(alloc, case.model())?;
+pub(crate) fn broken<N: Exact>(
+    alloc: Global,
+    model: &Model<N>,
+    line: &str,
+) -> Result<String, Trouble>
+    requires valid { IsValid N.value model.now }
+{
     let (base, vector) = keyword(line);
     let base = exact(whole(base)?)?;
     let vector: Scenario<N> = scenario(alloc, vector)?;
@@ -68,22 +73,28 @@ pub(crate) fn broken<N: Exact>(alloc: Global, case: &Case, line: &str) -> Result
     if vector.len() != model.params.items().len() {
         return Err(Trouble::Line);
     }
-    match first_broken(&model, base, vector, &mut Tally::new()) {
+    match first_broken(model, base, vector, &mut Tally::new()) {
         Ok(found) => Ok(format!(in alloc; "{found:?}")?),
         Err(Wide) => said(alloc, "wide"),
     }
 }
 
 /// The value of the first adaptive variable in a scenario, and how many numbers were found wide.
-pub(crate) fn policy<N: Exact>(alloc: Global, case: &Case, line: &str) -> Result<String, Trouble> {
-    let model: Model<N> = parse::model(alloc, case.model())?;
+pub(crate) fn policy<N: Exact>(
+    alloc: Global,
+    case: &Case,
+    model: &Model<N>,
+    line: &str,
+) -> Result<String, Trouble>
+    requires valid { IsValid N.value model.now }
+{
     let plan = plan(alloc, case)?;
     let scenario = scenario(alloc, line)?;
     if model.adaptives.items().len() == 0 {
         return Err(Trouble::Line);
     }
     let mut ledger = Tally::new();
-    let answer = value(alloc, policy_at(&model, 0, &plan, &scenario, &mut ledger))?;
+    let answer = value(alloc, policy_at(model, 0, &plan, &scenario, &mut ledger))?;
     let wides = ledger.wides();
     Ok(format!(in alloc; "{answer} with {wides} wide")?)
 }
@@ -92,38 +103,40 @@ pub(crate) fn policy<N: Exact>(alloc: Global, case: &Case, line: &str) -> Result
 pub(crate) fn objective<N: Exact>(
     alloc: Global,
     case: &Case,
+    model: &Model<N>,
     line: &str,
-) -> Result<String, Trouble> {
-    let model: Model<N> = parse::model(alloc, case.model())?;
+) -> Result<String, Trouble>
+    requires valid { IsValid N.value model.now }
+{
     let plan = plan(alloc, case)?;
     let scenario = scenario(alloc, line)?;
     value(
         alloc,
-        value_at(
-            &model.objective,
-            &model,
-            &plan,
-            &scenario,
-            &mut Tally::new(),
-        ),
+        value_at(&model.objective, model, &plan, &scenario, &mut Tally::new()),
     )
 }
 
 /// The numbers of forms, columns, set rows and set places.
-pub(crate) fn counts<N: Exact>(alloc: Global, case: &Case) -> Result<String, Trouble> {
-    let model: Model<N> = parse::model(alloc, case.model())?;
-    let forms = form_count(&model);
-    let columns = column_count(&model);
-    let rows = set_row_count(&model);
-    let places = set_place_count(&model);
+pub(crate) fn counts<N: Exact>(alloc: Global, model: &Model<N>) -> Result<String, Trouble>
+    requires valid { IsValid N.value model.now }
+{
+    let forms = form_count(model);
+    let columns = column_count(model);
+    let rows = set_row_count(model);
+    let places = set_place_count(model);
     Ok(format!(in alloc; "{forms} {columns} {rows} {places}")?)
 }
 
 /// The number of a name of a kind.
-pub(crate) fn found<N: Exact>(alloc: Global, case: &Case, line: &str) -> Result<String, Trouble> {
-    let model: Model<N> = parse::model(alloc, case.model())?;
+pub(crate) fn found<N: Exact>(
+    alloc: Global,
+    model: &Model<N>,
+    line: &str,
+) -> Result<String, Trouble>
+    requires valid { IsValid N.value model.now }
+{
     let (kind, name) = keyword(line);
-    let number = number_of(&model, kind, name.as_bytes())?;
+    let number = number_of(model, kind, name.as_bytes())?;
     Ok(format!(in alloc; "{number:?}")?)
 }
 
@@ -140,11 +153,16 @@ fn number_of<N: Exact>(model: &Model<N>, kind: &str, name: &[u8]) -> Result<Opti
 }
 
 /// The name of a number of a kind.
-pub(crate) fn named<N: Exact>(alloc: Global, case: &Case, line: &str) -> Result<String, Trouble> {
-    let model: Model<N> = parse::model(alloc, case.model())?;
+pub(crate) fn named<N: Exact>(
+    alloc: Global,
+    model: &Model<N>,
+    line: &str,
+) -> Result<String, Trouble>
+    requires valid { IsValid N.value model.now }
+{
     let (kind, number) = keyword(line);
     let mut name = Text::new(alloc);
-    put_name(&model, kind, small(number)?, &mut name)?;
+    put_name(model, kind, small(number)?, &mut name)?;
     shown(alloc, name.bytes())
 }
 

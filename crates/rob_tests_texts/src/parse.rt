@@ -75,18 +75,6 @@ pub(crate) fn every_byte(alloc: Global) -> Result<String, Trouble> {
     Ok(format!(in alloc; "{other:?}")?)
 }
 
-/// The model of a text.
-fn read<N: Exact>(alloc: Global, text: &[u8]) -> Result<Result<Model<N>, (u8, u32)>, Trouble> {
-    if text.len() > 1 << 30 {
-        return Err(Trouble::Line);
-    }
-    match read_model(alloc, text, &mut Tally::new()) {
-        Ok(model) => Ok(Ok(model)),
-        Err(ModelErr::Rule(rule, line)) => Ok(Err((rule, line))),
-        Err(ModelErr::Memory) => Err(Trouble::Memory),
-    }
-}
-
 /// The model of a text that has one.
 pub(crate) fn model<N: Exact>(alloc: Global, text: &[u8]) -> Result<Model<N>, Trouble>
     ensures valid { IfOk result (λ m. IsValid N.value m) }
@@ -103,9 +91,13 @@ pub(crate) fn model<N: Exact>(alloc: Global, text: &[u8]) -> Result<Model<N>, Tr
 
 /// How many parameters, statements on the set, variables, adaptive variables and rows the model of a text has.
 pub(crate) fn sizes<N: Exact>(alloc: Global, text: &[u8]) -> Result<String, Trouble> {
-    match read::<N>(alloc, text)? {
+    if text.len() > 1 << 30 {
+        return Err(Trouble::Line);
+    }
+    match read_model::<N, Tally>(alloc, text, &mut Tally::new()) {
         Ok(model) => told(alloc, &model),
-        Err((rule, line)) => broken(alloc, rule, line),
+        Err(ModelErr::Rule(rule, line)) => broken(alloc, rule, line),
+        Err(ModelErr::Memory) => Err(Trouble::Memory),
     }
 }
 
@@ -120,10 +112,8 @@ fn told<N: Exact>(alloc: Global, model: &Model<N>) -> Result<String, Trouble> {
 
 /// The canonical text of the model of a text.
 fn written<N: Exact>(alloc: Global, text: &[u8]) -> Result<Text, Trouble> {
-    match read::<N>(alloc, text)? {
-        Ok(model) => Ok(write_model(alloc, &model)?),
-        Err(_) => Err(Trouble::Line),
-    }
+    let read: Model<N> = model(alloc, text)?;
+    Ok(write_model(alloc, &read)?)
 }
 
 /// The canonical text of the model of a text, and whether it is its own canonical text.

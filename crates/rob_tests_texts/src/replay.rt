@@ -2,7 +2,6 @@
 
 ghost use Rattle.rob_model.specs.Valid.{IsValid};
 
-use crate::parse;
 use rob_case::numbers::{exact, exacts, put, put_all};
 use rob_case::{Case, Trouble};
 use rob_model::{Model, Plan};
@@ -18,28 +17,20 @@ fn plan<N: Exact>(alloc: Global, case: &Case) -> Result<Plan<N>, Trouble> {
     })
 }
 
-/// The table of a file, or the rule that it breaks, or the wide number, and the record.
-pub(crate) fn table<N: Exact>(alloc: Global, case: &Case) -> Result<String, Trouble> {
-    let model: Model<N> = parse::model(alloc, case.model())?;
+/// The table of a file, or how many lines it has; or the rule that it breaks, or the wide number, and the record.
+pub(crate) fn table<N: Exact>(
+    alloc: Global,
+    case: &Case,
+    model: &Model<N>,
+    whole: bool,
+) -> Result<String, Trouble>
+    requires valid { IsValid N.value model.now }
+{
     let plan = plan(alloc, case)?;
-    match replay(alloc, &model, &plan, case.bytes(), &mut Tally::new()) {
-        Ok(table) => told(alloc, table.lines.items()),
+    match replay(alloc, model, &plan, case.bytes(), &mut Tally::new()) {
+        Ok(table) => told(alloc, table.lines.items(), whole),
         Err(error) => refused(alloc, &error),
     }
-}
-
-/// How many lines the table of a file has, or why it is refused.
-pub(crate) fn length<N: Exact>(alloc: Global, case: &Case) -> Result<String, Trouble> {
-    let model: Model<N> = parse::model(alloc, case.model())?;
-    let plan = plan(alloc, case)?;
-    match replay(alloc, &model, &plan, case.bytes(), &mut Tally::new()) {
-        Ok(table) => counted(alloc, table.lines.items().len()),
-        Err(error) => refused(alloc, &error),
-    }
-}
-
-fn counted(alloc: Global, count: usize) -> Result<String, Trouble> {
-    Ok(format!(in alloc; "{count} lines")?)
 }
 
 fn refused(alloc: Global, error: &ReplayErr) -> Result<String, Trouble> {
@@ -50,11 +41,14 @@ fn refused(alloc: Global, error: &ReplayErr) -> Result<String, Trouble> {
     }
 }
 
-fn told<N: Exact>(alloc: Global, lines: &[TableLine<N>]) -> Result<String, Trouble> {
+/// How many lines a table has, and the lines where it is to be told whole.
+fn told<N: Exact>(alloc: Global, lines: &[TableLine<N>], whole: bool) -> Result<String, Trouble> {
     let count = lines.len();
     let mut answer = format!(in alloc; "{count} lines")?;
-    for line in lines {
-        put_line(alloc, &mut answer, line)?;
+    if whole {
+        for line in lines {
+            put_line(alloc, &mut answer, line)?;
+        }
     }
     Ok(answer)
 }
@@ -78,10 +72,15 @@ fn put_line<N: Exact>(
 }
 
 /// Whether each proper prefix of a file has a table or is refused, and memory is not.
-pub(crate) fn prefixes<N: Exact>(alloc: Global, case: &Case) -> Result<String, Trouble> {
-    let model: Model<N> = parse::model(alloc, case.model())?;
+pub(crate) fn prefixes<N: Exact>(
+    alloc: Global,
+    case: &Case,
+    model: &Model<N>,
+) -> Result<String, Trouble>
+    requires valid { IsValid N.value model.now }
+{
     let plan = plan(alloc, case)?;
-    let count = judged(alloc, &model, &plan, case.bytes())?;
+    let count = judged(alloc, model, &plan, case.bytes())?;
     Ok(format!(in alloc; "{count} prefixes")?)
 }
 
