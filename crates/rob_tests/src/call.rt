@@ -39,11 +39,9 @@ fn of_line(alloc: Global, word: &str, rest: &str) -> Result<Option<String>, Trou
         "push" => Ok(Some(number::pushed(alloc, rest)?)),
         "minuses" => Ok(Some(number::minuses(alloc)?)),
         "order" => Ok(Some(rows::order(alloc, rest)?)),
-        "solve" => Ok(Some(simplex::solved::<Most>(alloc, rest)?)),
-        "resume" => Ok(Some(simplex::resumed::<Most>(alloc, rest)?)),
-        "resume-8" => Ok(Some(simplex::resumed::<Eight>(alloc, rest)?)),
-        "combined" => Ok(Some(simplex::combined::<Most>(alloc, rest)?)),
-        "base-8" => Ok(Some(simplex::based::<Eight>(alloc, rest)?)),
+        "solve" | "resume" | "combined" => { Ok(Some(simplex::answer::<Most>(alloc, word, rest)?)) }
+        "resume-8" => Ok(Some(simplex::answer::<Eight>(alloc, "resume", rest)?)),
+        "base-8" => Ok(Some(simplex::answer::<Eight>(alloc, "base", rest)?)),
         "bound" => Ok(Some(narrow::bound(alloc, rest)?)),
         _ => of_more(alloc, word, rest),
     }

@@ -4,6 +4,7 @@ ghost use Rattle.std.specs.Prelude.{◌≡◌, IfOk, length};
 ghost use Rattle.rob_linear.specs.Programs.{Program};
 ghost use Rattle.rob_rows.specs.LinearPrograms.{program_of};
 ghost use Rattle.rob_simplex.specs.Solvers.{positions, HasPoint, HasOptimum, HasRay, HasWeights, IsMadeFor};
+ghost use Rattle.rob_simplex.specs.Endings.{IsFresh};
 ghost use Rattle.rob_simplex.specs.Resuming.{CanResume};
 
 use crate::program::program;
@@ -81,16 +82,45 @@ fn weights<N: Exact>(alloc: Global, work: &Work<N, i64>, rows: u32) -> Result<St
     Ok(answer)
 }
 
-/// What solving a program gives.
-pub(crate) fn solved<N: Exact>(alloc: Global, line: &str) -> Result<String, Trouble> {
-    let lp = program(alloc, line)?;
+/// How many columns a program has, and how many rows.
+#[derive(Clone, Copy)]
+struct Size {
+    columns: u32,
+    rows: u32,
+}
+
+/// The answer of a call on a program, and on the cost behind the `>`, where the call has one. It alone has the program
+/// and its solver: what it calls is lent them.
+pub(crate) fn answer<N: Exact>(alloc: Global, word: &str, line: &str) -> Result<String, Trouble> {
+    let (first, second) = match line.split_once('>') {
+        Some((first, second)) => (first, second),
+        None => (line, ""),
+    };
+    let lp = program(alloc, first)?;
     let mut work = made::<N>(alloc, &lp)?;
-    let columns = lp.c.items().len() as u32;
-    let rows = lp.b.items().len() as u32;
+    let size = Size {
+        columns: lp.c.items().len() as u32,
+        rows: lp.b.items().len() as u32,
+    };
+    match word {
+        "solve" => solved(alloc, &mut work, size),
+        "resume" => resumed(alloc, &lp, &mut work, second),
+        "combined" => combined(alloc, &lp, &mut work, second),
+        "base" => based(alloc, &lp, &mut work),
+        _ => Err(Trouble::Line),
+    }
+}
+
+/// What solving a program gives.
+fn solved<N: Exact>(alloc: Global, work: &mut Work<N, i64>, size: Size) -> Result<String, Trouble>
+    requires fresh { IsFresh work.old }
+    requires columns { size.columns ≡ work.old.columns }
+    requires rows { size.rows ≡ positions work.old }
+{
     match work.solve(&mut Tally::new()) {
-        Ok(LpKind::Optimal) => optimum(alloc, &work, columns, rows),
-        Ok(LpKind::Unbounded) => ray(alloc, &work, columns),
-        Ok(LpKind::Infeasible) => weights(alloc, &work, rows),
+        Ok(LpKind::Optimal) => optimum(alloc, work, size.columns, size.rows),
+        Ok(LpKind::Unbounded) => ray(alloc, work, size.columns),
+        Ok(LpKind::Infeasible) => weights(alloc, work, size.rows),
         Err(stop) => Ok(format!(in alloc; "{stop:?}")?),
     }
 }
@@ -124,17 +154,19 @@ fn resumed_from<N: Exact>(
     }
 }
 
-/// What a solver of the program gives with the cost behind the `>`, once it stands as one that has solved the program.
-pub(crate) fn resumed<N: Exact>(alloc: Global, line: &str) -> Result<String, Trouble> {
-    let Some((first, second)) = line.split_once('>') else {
-        return Err(Trouble::Line);
-    };
-    let lp = program(alloc, first)?;
-    let cost = wholes(alloc, second)?;
-    let mut work = made::<N>(alloc, &lp)?;
+/// What a solver of the program gives with another cost, once it stands as one that has solved the program.
+fn resumed<N: Exact>(
+    alloc: Global,
+    lp: &Lp,
+    work: &mut Work<N, i64>,
+    cost: &str,
+) -> Result<String, Trouble>
+    requires made { IsMadeFor (program_of lp.now) work.old }
+{
+    let cost = wholes(alloc, cost)?;
     match work.solve(&mut Tally::new()) {
-        Ok(LpKind::Optimal) => resumed_from(alloc, &lp, &work, cost.as_slice()),
-        Ok(LpKind::Unbounded) => resumed_from(alloc, &lp, &work, cost.as_slice()),
+        Ok(LpKind::Optimal) => resumed_from(alloc, lp, work, cost.as_slice()),
+        Ok(LpKind::Unbounded) => resumed_from(alloc, lp, work, cost.as_slice()),
         Ok(LpKind::Infeasible) => Ok(String::from_str(alloc, "infeasible")?),
         Err(stop) => Ok(format!(in alloc; "{stop:?}")?),
     }
@@ -168,19 +200,21 @@ fn combined_from<N: Exact>(
     }
 }
 
-/// How many rows solving a program combines that has an optimum, and how many going on with the cost behind the `>`.
-pub(crate) fn combined<N: Exact>(alloc: Global, line: &str) -> Result<String, Trouble> {
-    let Some((first, second)) = line.split_once('>') else {
-        return Err(Trouble::Line);
-    };
-    let lp = program(alloc, first)?;
-    let cost = wholes(alloc, second)?;
-    let mut work = made::<N>(alloc, &lp)?;
+/// How many rows solving a program combines that has an optimum, and how many going on with another cost.
+fn combined<N: Exact>(
+    alloc: Global,
+    lp: &Lp,
+    work: &mut Work<N, i64>,
+    cost: &str,
+) -> Result<String, Trouble>
+    requires made { IsMadeFor (program_of lp.now) work.old }
+{
+    let cost = wholes(alloc, cost)?;
     let mut ledger = Tally::new();
     match work.solve(&mut ledger) {
         Ok(LpKind::Optimal) => {
             let columns = lp.c.items().len();
-            combined_from(alloc, &mut work, cost.as_slice(), columns, ledger.ops())
+            combined_from(alloc, work, cost.as_slice(), columns, ledger.ops())
         }
         Ok(_) => Err(Trouble::Line),
         Err(stop) => Ok(format!(in alloc; "{stop:?}")?),
@@ -188,12 +222,12 @@ pub(crate) fn combined<N: Exact>(alloc: Global, line: &str) -> Result<String, Tr
 }
 
 /// How solving a program ends, and the first basic column there.
-pub(crate) fn based<N: Exact>(alloc: Global, line: &str) -> Result<String, Trouble> {
-    let lp = program(alloc, line)?;
+fn based<N: Exact>(alloc: Global, lp: &Lp, work: &mut Work<N, i64>) -> Result<String, Trouble>
+    requires made { IsMadeFor (program_of lp.now) work.old }
+{
     if lp.b.items().len() == 0 {
         return Err(Trouble::Line);
     }
-    let mut work = made::<N>(alloc, &lp)?;
     let end = work.solve(&mut Tally::new());
     let column = work.basis(0);
     Ok(format!(in alloc; "{end:?} in column {column}")?)
