@@ -8,6 +8,7 @@ use Rattle.rob_index.specs.Statements.{Name, Plain, Parts, Factors, Ref, Index, 
 use Rattle.rob_index.specs.Statements as stated
 use Rattle.rob_index.specs.Expansion.{Setting, index_value, natural, upwards, values, with_value, settings, ref_name, index_text, added, summed, expand_tree, expand_parts, expand_factors, Expands, ExpandsParts, ExpandsFactors, ExpandsEach, number, ref, sum, product, over_none, over_one, over_more, no_parts, part, no_factors, factor, no_settings, next_setting, IsPlain, ArePlainParts, ArePlainFactors, HasNoIndex, itself, itself_parts, itself_factors, expand, statement_at, ranges_of}
 use Rattle.rob_index.proofs.ListLemmas.{natural_low}
+use Rattle.rob_index.proofs.FastLemmas.{flat_same}
 
 -- ---- order
 flat_append : {A B : Type 0} (f : A → List B) (xs ys : List A) → flat_map f (xs ++ ys) ≡ flat_map f xs ++ flat_map f ys
@@ -21,16 +22,12 @@ flat_flat f g [] = refl
 flat_flat f g (x ∷ xs) =
     flat_append f (g x) (flat_map g xs) ∙ ap (λ (l : List _). flat_map f (g x) ++ l) (flat_flat f g xs)
 
-flat_each : {A B : Type 0} (f g : A → List B) → ((x : A) → f x ≡ g x) → (xs : List A) → flat_map f xs ≡ flat_map g xs
-flat_each f g h [] = refl
-flat_each f g h (x ∷ xs) = rw (h x, flat_each f g h xs)
-
 -- later ranges run through all their values in each setting of the earlier ones: the last range runs fastest
 pub settings-append : (rs ss : List Range) (setting : Setting)
     → settings (rs ++ ss) setting ≡ flat_map (settings ss) (settings rs setting)
 settings-append [] ss setting = sym (append-nil (settings ss setting))
 settings-append (r ∷ rs) ss setting =
-    flat_each (λ v. settings (rs ++ ss) (with_value r setting v))
+    flat_same (λ v. settings (rs ++ ss) (with_value r setting v))
     (λ v. flat_map (settings ss) (settings rs (with_value r setting v)))
     (λ v. settings-append rs ss (with_value r setting v)) (values setting r)
     ∙ sym (flat_flat (settings ss) (λ v. settings rs (with_value r setting v)) (values setting r))

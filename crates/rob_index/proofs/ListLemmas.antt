@@ -39,7 +39,7 @@ any_true {A = A} p (x ∷ xs) h = go (p x) refl h (any_true p xs)
     go true e h f = (x, here, e)
     go false e h f = let r = f h in (r.0, there r.1, r.2)
 
-or_true : (b : Bool) → (b || true) ≡ true
+pub or_true : (b : Bool) → (b || true) ≡ true
 or_true true = refl
 or_true false = refl
 

@@ -19,7 +19,7 @@ lt_from a b h = grind (arith, ints)
 pub lt_not : (a b : ℤ) → int_lt a b ≡ false → b ≤ℤ a
 lt_not a b h = grind (arith, ints)
 
-no_values : (cs : List ℤ) → weighed cs [] ≡ pos 0
+pub no_values : (cs : List ℤ) → weighed cs [] ≡ pos 0
 no_values [] = refl
 no_values (c ∷ cs) = refl
 

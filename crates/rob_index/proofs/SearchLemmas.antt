@@ -10,15 +10,11 @@ use Rattle.rob_index.specs.Forms.{Form, Ends, value_of, minus, length_form, from
 use Rattle.rob_index.specs.Fast.{nothing, index_form, ends_of, nest_of, names_in, goes_over, goes_below, is_long_fast, is_out_fast}
 use Rattle.rob_index.specs.Rules.{of_ref, of_range, Inside, Place, places, is_unknown, is_long, is_out, has_great_digits, IndexFault, index_unknown, range_too_long, index_out, too_much, in_order, has_fault}
 use Rattle.rob_index.specs.Search.{Searched, missed, search_on, search_each, search, price_of, search_over, search_below, search_long, search_out, search_places, has_room, named_out, named_long, named_crowded, named, effort}
-use Rattle.rob_index.proofs.ListLemmas.{or_false, any_flat}
+use Rattle.rob_index.proofs.ListLemmas.{or_false, any_flat, or_true}
 use Rattle.rob_index.proofs.DecisionLemmas.{ends_right, reaches_is}
 use Rattle.rob_index.proofs.FastLemmas.{is_long_is, is_out_is}
 
 -- ---- what is found is there
-or_last : (a : Bool) → (a || true) ≡ true
-or_last true = refl
-or_last false = refl
-
 -- one of two searches found something
 on_either : (s : Searched) (next : ℕ → Searched) → (search_on s next).found ≡ true → (b c : Bool)
     → (s.found ≡ true → b ≡ true) → ((left : ℕ) → (next left).found ≡ true → c ≡ true) → (b || c) ≡ true
@@ -29,7 +25,7 @@ on_either s next h b c f g = go s.found refl
     go false e =
         let k : (search_on s next).found ≡ (next s.left).found =
         ap (λ (t : Bool). (if t then s else next s.left).found) e in
-        rw (g s.left (sym k ∙ h)) (or_last b)
+        rw (g s.left (sym k ∙ h)) (or_true b)
 
 each_found : (try : ℤ → ℕ → Searched) (test : ℤ → Bool) (price : ℕ)
     → ((v : ℤ) (left : ℕ) → (try v left).found ≡ true → test v ≡ true)
