@@ -6,13 +6,9 @@ use Rattle.rob_index.specs.Statements.{Range, Ranged, Indexed}
 use Rattle.rob_index.specs.Statements as stated
 use Rattle.rob_index.specs.Lines.{AreRanges, AreAllRanged, HasMembers, IsLine}
 use Rattle.rob_syntax.specs.Few.{are_few, all_few, has_some, is_line}
+use Rattle.rob_index.proofs.ListLemmas.{both_true}
 
-both_true : (a b : Bool) → (a && b) ≡ true → (a ≡ true) × (b ≡ true)
-both_true true true h = (refl, refl)
-both_true true false h = (refl, h)
-both_true false b h = cc
-
-true_both : {a b : Bool} → a ≡ true → b ≡ true → (a && b) ≡ true
+pub true_both : {a b : Bool} → a ≡ true → b ≡ true → (a && b) ≡ true
 true_both {a} {b} h k = λ i. h i && k i
 
 few_from : (rs : List Range) → are_few rs ≡ true → AreRanges rs
