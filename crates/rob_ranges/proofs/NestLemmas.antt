@@ -6,10 +6,10 @@ use Rattle.std.proofs.lemmas.List.{take_more}
 use Rattle.std.proofs.Math.Seq.{take-length}
 use Rattle.std.proofs.lemmas.Int.{ints, by_lt_z}
 use Rattle.rob_index.specs.Expansion.{count, upwards}
-use Rattle.rob_index.specs.Forms.{Form, Ends, value_of, weighed, first_factor, outer, far_end, without, minus, greatest, all_run, is_dead, lack_form, length_form, only, at_one, fixed, onto}
+use Rattle.rob_index.specs.Forms.{Form, Ends, value_of, first_factor, outer, far_end, without, minus, greatest, all_run, is_dead, lack_form, length_form, only, at_one, fixed, onto}
 use Rattle.rob_index.proofs.FormLemmas.{without_is, outer_is, minus_is}
 use Rattle.rob_index.proofs.ListLemmas.{natural_is, natural_low}
-use Rattle.rob_index.proofs.NestLemmas.{le_from, le_to, lt_from, lt_not}
+use Rattle.rob_index.proofs.NestLemmas.{le_from, le_to, lt_from, lt_not, no_values}
 use Rattle.rob_ranges.proofs.DigitLemmas.{lt_to, lt_no}
 
 -- the innermost of some ranges is the first of the nest
@@ -48,10 +48,6 @@ pub one_times : (z : ℤ) → pos 1 *ℤ z ≡ z
 one_times z = omega (arith, ints)
 
 -- ---- ranges of one value
-pub no_values : (cs : List ℤ) → weighed cs [] ≡ pos 0
-no_values [] = refl
-no_values (c ∷ cs) = refl
-
 far_one : (c v : ℤ) (vs : List ℤ) → value_of (far_end c (at_one v)) vs ≡ v
 far_one (pos c) v vs = omega (arith, ints)
 far_one (negsuc c) v vs = omega (arith, ints)
@@ -144,13 +140,13 @@ module _ (vs : List ℤ) (rs : List Ends) (left : ℕ) (f : Form) {all : ℤ} wh
       sym (greatest_fixed vs f) ∙ ap (λ (k : ℕ). greatest (onto (take k rs) (fixed vs)) f) n ∙ so_far
 
 -- ---- the values of a range, from one of them on
-count_next : (a b : ℤ) → a ≤ℤ b → count a b ≡ suc (count (a +ℤ pos 1) b)
+pub count_next : (a b : ℤ) → a ≤ℤ b → count a b ≡ suc (count (a +ℤ pos 1) b)
 count_next a b h =
     let k = natural_is ((b +ℤ pos 1) -ℤ a) (omega (arith, ints)) in
     let m = natural_is ((b +ℤ pos 1) -ℤ (a +ℤ pos 1)) (omega (arith, ints)) in
     omega (arith, ints, k, m)
 
-count_none : (a b : ℤ) → b <ℤ a → count a b ≡ 0
+pub count_none : (a b : ℤ) → b <ℤ a → count a b ≡ 0
 count_none a b h = natural_low ((b +ℤ pos 1) -ℤ a) (omega (arith, ints))
 
 -- one is left
