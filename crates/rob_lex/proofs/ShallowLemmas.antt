@@ -20,11 +20,11 @@ use Rattle.rob_lex.proofs.PlaceLemmas.{stays_shallow}
 use Rattle.rob_lex.proofs.SliceLemmas.{slices}
 
 -- no place from this one on offends
-abbrev IsSound : Place → List ℕ → Type 0
+abbrev pub IsSound : Place → List ℕ → Type 0
 IsSound at text =
     (before : List Piece) (rest : List ℕ) → IsPlace text before rest → Cause (behind_all at before) rest → ⊥
 
-sound_next : (at : Place) (text : List ℕ) (shape : Shape) (bytes after : List ℕ) → IsSound at text
+pub sound_next : (at : Place) (text : List ℕ) (shape : Shape) (bytes after : List ℕ) → IsSound at text
     → text ≡ bytes ++ after → Stands shape bytes after → IsSound (behind at shape bytes) after
 sound_next at text shape bytes after sound split stands before rest place cause =
     sound (record { shape = shape; bytes = bytes } ∷ before) rest (after, split, stands, place) cause
