@@ -19,9 +19,10 @@ use Rattle.rob_expand.specs.Statements.{IsLine, IsLineOf}
 use Rattle.rob_expand.specs.Names.{names_of, grown}
 use Rattle.rob_expand.specs.Growing.{is_empty, printed, add_name, line_names, lacks_members, is_bare}
 use Rattle.rob_expand.specs.Instances.{instance}
-use Rattle.rob_expand.proofs.WalkLemmas.{or_both, flat_mapped, flat_same}
+use Rattle.rob_expand.proofs.WalkLemmas.{or_both, flat_mapped}
 use Rattle.rob_expand.proofs.InstanceLemmas.{instances_are}
 use Rattle.rob_expand.proofs.NameLemmas.{line_names_are, none_long, grown_all, no_statements_are, budget_lacks, none_lacks}
+use Rattle.rob_index.proofs.FastLemmas.{flat_same}
 use Rattle.std.proofs.Math.Dec.{eqb-suc-zero}
 use Rattle.std.proofs.lemmas.List.{at_drop_more, at_drop_all}
 

@@ -12,7 +12,7 @@ use Rattle.rob_index.specs.Forms.{Form, Ends, value_of, minus, length_form, valu
 use Rattle.rob_index.specs.Fast.{setting_of, index_form, ends_of, nest_of, names_in}
 use Rattle.rob_index.proofs.ListLemmas.{any_same, any_map}
 use Rattle.rob_index.proofs.FormLemmas.{minus_is}
-use Rattle.rob_index.proofs.FastLemmas.{index_is, settings_are}
+use Rattle.rob_index.proofs.FastLemmas.{index_is, settings_are, map_flat, flat_same}
 use Rattle.rob_index.proofs.ExpansionLemmas.{settings-append}
 use Rattle.rob_expand.specs.declared.judging.Finding.{Finding}
 use Rattle.rob_expand.specs.declared.judging.Finding.TheVariants.{Nothing}
@@ -23,7 +23,7 @@ use Rattle.rob_expand.specs.Placed.{Placed, placed_of}
 use Rattle.rob_expand.specs.Placing.{placed_name, placed_tree, placed_parts, placed_factors}
 use Rattle.rob_expand.specs.Statements.{head_of, over_of, trees_of, items_of, name_item, member_item, IsLine}
 use Rattle.rob_expand.specs.Judging.{finding, worse, worst, is_outside, index_found, indices_found, length_found, range_found, ranges_found, tree_found, parts_found, factors_found, optional_found, item_found, line_found, lines_found}
-use Rattle.rob_expand.proofs.WalkLemmas.{flat_mapped, flat_same, map_joined}
+use Rattle.rob_expand.proofs.WalkLemmas.{flat_mapped}
 use Rattle.rob_expand.proofs.FindingLemmas.{worse_nothing, worse_assoc, worse_both, worst_nothing, worst_same, worst_append, worst_worse, worst_map, worst_flat, worst_finding, worst_long, worst_out}
 
 -- ---- settings inside ranges, as lists of values
@@ -40,7 +40,7 @@ inside_all above rs names nest is =
     ∙ flat_mapped (settings rs) (setting_of names) nest
     ∙ flat_same (λ vs. settings rs (setting_of names vs))
     (λ vs. map (setting_of (names_in names rs)) (extensions (nest_of names rs) vs)) (settings_are rs names) nest
-    ∙ sym (map_joined (setting_of (names_in names rs)) (extensions (nest_of names rs)) nest)
+    ∙ sym (map_flat (setting_of (names_in names rs)) (extensions (nest_of names rs)) nest)
 
 -- what is found at each value of one range more
 inside_each : (found : List ℤ → Finding) (r : Ends) (nest : List (List ℤ))

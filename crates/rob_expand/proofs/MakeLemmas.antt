@@ -48,9 +48,10 @@ use Rattle.rob_expand.specs.Instances.{ref_at, tree_at, set_at, each_at, member_
 use Rattle.rob_expand.specs.Making.{number_zero, summed_of, made_parts, made_factors, made_each, entry_at, first_at, second_at, head_in, relation_in, numbers_in, budget_in}
 use Rattle.rob_expand.specs.Statements.{IsLineOf, head_of, over_of, trees_of}
 use Rattle.rob_expand.proofs.StepLemmas.{part_is}
-use Rattle.rob_expand.proofs.WalkLemmas.{map_joined, flat_same, flat_mapped}
+use Rattle.rob_expand.proofs.WalkLemmas.{flat_mapped}
 use Rattle.rob_expand.proofs.PlaceLemmas.{map_twice}
 use Rattle.rob_expand.proofs.NameLemmas.{set_is, items_are}
+use Rattle.rob_index.proofs.FastLemmas.{map_flat, flat_same}
 
 -- ---- what is said where a call succeeds
 pub moved_on : {T E P Q : Type 0} (r : Result T E) → OnOk r P → (P → Q) → OnOk r Q
@@ -179,7 +180,7 @@ module _ (own words : List Name) (vs : List ℤ) where
       λ (x : stated.Ranged Share). extensions (nest_of [] x.ranges) vs in
       let seen : CodeRanged CodeShare → stated.Ranged Share = seen_ranged seen_share in
       ap (map (numbered_member words)) (flat_mapped (λ (x : stated.Ranged Share). map (make x) (nest x)) seen ms)
-      ∙ map_joined (numbered_member words) (λ (x : CodeRanged CodeShare). map (make (seen x)) (nest (seen x))) ms
+      ∙ map_flat (numbered_member words) (λ (x : CodeRanged CodeShare). map (make (seen x)) (nest (seen x))) ms
       ∙ flat_same (λ (x : CodeRanged CodeShare). map (numbered_member words) (map (make (seen x)) (nest (seen x))))
       share_made
       (λ (x : CodeRanged CodeShare). map_twice (numbered_member words) (make (seen x)) (nest (seen x))) ms
@@ -189,7 +190,7 @@ module _ (own words : List Name) (vs : List ℤ) where
   item_made x = map (number_of words) (item_names own x vs)
 
   pub numbers_made : (xs : List Item) → numbers_in own words xs vs ≡ flat_map item_made xs
-  numbers_made xs = map_joined (number_of words) (λ (x : Item). item_names own x vs) xs
+  numbers_made xs = map_flat (number_of words) (λ (x : Item). item_names own x vs) xs
 
 -- ---- what a line has, by its statement
 module _ (own words : List Name) (vs : List ℤ) (s : Indexed Tree) (line : Line) (is : IsLineOf s line) where

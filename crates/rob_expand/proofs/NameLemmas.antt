@@ -25,8 +25,9 @@ use Rattle.rob_expand.specs.Names.{tree_names, part_names, factor_names, side_na
 use Rattle.rob_expand.specs.Growing.{is_empty, printed, add_name, printed_at, parts_names, factors_names, each_names, over_at, item_names, line_names, lacks_members, is_bare}
 use Rattle.rob_expand.specs.Instances.{ref_at, tree_at, set_at, each_at, member_at, instance_at, instance}
 use Rattle.rob_expand.proofs.StepLemmas.{part_is}
-use Rattle.rob_expand.proofs.WalkLemmas.{or_both, join_both, flat_mapped, map_joined, flat_same}
+use Rattle.rob_expand.proofs.WalkLemmas.{or_both, join_both, flat_mapped}
 use Rattle.rob_expand.proofs.PlaceLemmas.{map_twice}
+use Rattle.rob_index.proofs.FastLemmas.{map_flat, flat_same}
 
 -- ---- expressions
 -- of a sum over a range
@@ -90,7 +91,7 @@ module _ (own : List Name) (vs : List ℤ) where
       let make : Ranged Share → List ℤ → Member =
       λ (x : Ranged Share). member_at own printed (names_in names x.ranges) x.item in
       let nest : Ranged Share → List (List ℤ) = λ (x : Ranged Share). extensions (nest_of names x.ranges) vs in
-      map_joined (λ (m : Member). m.name) (λ (x : Ranged Share). map (make x) (nest x)) ms
+      map_flat (λ (m : Member). m.name) (λ (x : Ranged Share). map (make x) (nest x)) ms
       ∙ flat_same (λ (x : Ranged Share). map (λ (m : Member). m.name) (map (make x) (nest x)))
       (λ (x : Ranged Share). item_names own (member_item limit names x) vs)
       (λ (x : Ranged Share). map_twice (λ (m : Member). m.name) (make x) (nest x)) ms

@@ -11,13 +11,13 @@ use Rattle.rob_expand.specs.Room.{left_of, after}
 use Rattle.rob_expand.specs.Count.{of_shape, is_sum, part_left, each_left, over_left}
 use Rattle.rob_expand.proofs.RoomLemmas.{left_zero}
 use Rattle.rob_expand.proofs.StepLemmas.{part_some, part_none_first, part_none, part_none_last}
-use Rattle.rob_expand.proofs.SettingsLemmas.{count_none, count_more}
+use Rattle.rob_ranges.proofs.NestLemmas.{count_next, count_none}
 
 -- fewer values are left
 pub fewer : (value upto next : ℤ) → int_lt upto value ≡ false → next ≡ value +ℤ pos 1
     → count next upto < count value upto
 fewer value upto next more is =
-    let a = count_more value upto (lt_not upto value more) in
+    let a = count_next value upto (lt_not upto value more) in
     let b = ap (λ (v : ℤ). count v upto) is in
     omega (arith, a, b)
 
@@ -34,7 +34,7 @@ module _ (limit : ℕ) (make : ℤ → ℕ → Option Counted) where
       → each_from value upto room
       ≡ after (part_left limit false false (make value) room) (each_from (value +ℤ pos 1) upto)
   each_step value upto room h =
-      ap (λ (n : ℕ). each_left limit make false (upwards value n) room) (count_more value upto (lt_not upto value h))
+      ap (λ (n : ℕ). each_left limit make false (upwards value n) room) (count_next value upto (lt_not upto value h))
 
   -- one value more
   module _ (value upto : ℤ) (left : ℕ) {result : Option ℕ} (more : int_lt upto value ≡ false)
@@ -79,7 +79,7 @@ module _ (limit : ℕ) (make : ℤ → ℕ → Option Counted) where
     pub over_one : int_lt upto from ≡ false → int_lt upto (from +ℤ pos 1) ≡ true → over ≡ make from room
     over_one h k =
         ap (λ (n : ℕ). over_left limit make (upwards from n) room)
-        (count_more from upto (lt_not upto from h)
+        (count_next from upto (lt_not upto from h)
         ∙ ap suc (count_none (from +ℤ pos 1) upto (lt_from upto (from +ℤ pos 1) k)))
 
     -- the first of more has no sign
@@ -94,8 +94,8 @@ module _ (limit : ℕ) (make : ℤ → ℕ → Option Counted) where
         → over ≡ of_shape Sum (after (after (make from room) (λ c. left_of (parens limit (is_sum c.shape)) c.left))
         (each_from (from +ℤ pos 1) upto))
     over_more h k =
-        let a = count_more from upto (lt_not upto from h) in
-        let b = count_more (from +ℤ pos 1) upto (lt_not upto (from +ℤ pos 1) k) in
+        let a = count_next from upto (lt_not upto from h) in
+        let b = count_next (from +ℤ pos 1) upto (lt_not upto (from +ℤ pos 1) k) in
         ap (λ (n : ℕ). over_left limit make (upwards from n) room) (a ∙ ap suc b)
         ∙ ap (of_shape Sum)
         (first_is (each_left limit make false (upwards (from +ℤ pos 1) (suc (count ((from +ℤ pos 1) +ℤ pos 1) upto)))))

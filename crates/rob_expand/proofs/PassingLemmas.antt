@@ -13,7 +13,8 @@ use Rattle.rob_expand.specs.Live.{IsDead}
 use Rattle.rob_expand.specs.Judging.{finding, worse, worst, ranges_found, values_found}
 use Rattle.rob_expand.proofs.FindingLemmas.{worse_assoc, worse_both, worse_nothing}
 use Rattle.rob_expand.proofs.InnerLemmas.{no_values}
-use Rattle.rob_expand.proofs.SettingsLemmas.{IsFirst, count_none, count_more}
+use Rattle.rob_expand.proofs.SettingsLemmas.{IsFirst}
+use Rattle.rob_ranges.proofs.NestLemmas.{count_next, count_none}
 
 -- ---- a quantity of the values from one on: those that add nothing to it may be passed over
 module _ {X : Type 0} (rest : ℤ → X) (upto : ℤ) (IsIdle : ℤ → Type 0)
@@ -77,7 +78,7 @@ module _ (upto : ℤ) (inner : List Ends) (vs : List ℤ) where
   found_step : (value : ℤ) → value ≤ℤ upto
       → from_on value ≡ worse (ranges_found inner (value ∷ vs)) (from_on (value +ℤ pos 1))
   found_step value h =
-      ap (λ (n : ℕ). worst (λ v. ranges_found inner (v ∷ vs)) (upwards value n)) (count_more value upto h)
+      ap (λ (n : ℕ). worst (λ v. ranges_found inner (v ∷ vs)) (upwards value n)) (count_next value upto h)
 
   found_over : (v w : ℤ) → upto <ℤ v → upto <ℤ w → from_on v ≡ from_on w
   found_over v w h k = found_none v h ∙ sym (found_none w k)

@@ -15,14 +15,11 @@ use Rattle.rob_ranges.specs.Digits.{base}
 use Rattle.rob_syntax.specs.Symbols.{add_word}
 use Rattle.rob_expand.specs.declared.placed.Named.{Named}
 use Rattle.rob_expand.specs.Growing.{printed, index_bytes, add_name, named_at}
+use Rattle.rob_index.proofs.ListLemmas.{or_true}
 
 -- ---- an index
 abbrev chosen : Bool → ℤ → ℕ
 chosen b z = if b then 0 else nat_abs z
-
-either_true : (b : Bool) → (b || true) ≡ true
-either_true true = refl
-either_true false = refl
 
 pub printed_below : (z : ℤ) → int_lt z (pos 0) ≡ true → 0 ≡ printed z
 printed_below z below = sym (ap (λ (b : Bool). chosen (b || int_lt (pos greatest_index) z) z) below)
@@ -30,7 +27,7 @@ printed_below z below = sym (ap (λ (b : Bool). chosen (b || int_lt (pos greates
 pub printed_over : (z : ℤ) → int_lt (pos greatest_index) z ≡ true → 0 ≡ printed z
 printed_over z over =
     sym (ap (λ (b : Bool). chosen (int_lt z (pos 0) || b) z) over
-    ∙ ap (λ (b : Bool). chosen b z) (either_true (int_lt z (pos 0))))
+    ∙ ap (λ (b : Bool). chosen b z) (or_true (int_lt z (pos 0))))
 
 small_abs : (z : ℤ) → pos 0 ≤ℤ z → z ≤ℤ pos greatest_index → nat_abs z < 2 ^ 62
 small_abs (pos n) from upto = omega (arith, ints)

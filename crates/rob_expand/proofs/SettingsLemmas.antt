@@ -6,23 +6,12 @@ use Rattle.std.proofs.lemmas.Int.{ints, by_lt_z}
 use Rattle.std.proofs.Common.{length-append, append_assoc, append-nil}
 use Rattle.rob_index.specs.Expansion.{natural, count, upwards}
 use Rattle.rob_index.specs.Forms.{Ends, value_of, extensions}
-use Rattle.rob_index.proofs.ListLemmas.{natural_is, natural_low}
+use Rattle.rob_index.proofs.ListLemmas.{natural_is}
 use Rattle.rob_expand.specs.Room.{left_of, after}
 use Rattle.rob_expand.specs.Live.{IsDead}
 use Rattle.rob_expand.specs.Settings.{between}
 use Rattle.rob_expand.proofs.RoomLemmas.{left_zero, left_same, left_after}
-
--- there is no value behind the last
-pub count_none : (a b : ℤ) → b <ℤ a → count a b ≡ 0
-count_none a b h = natural_low ((b +ℤ pos 1) -ℤ a) (omega (arith, ints, h))
-
--- one value, and those behind it
-pub count_more : (a b : ℤ) → a ≤ℤ b → count a b ≡ suc (count (a +ℤ pos 1) b)
-count_more a b h =
-    let here : pos (count a b) ≡ (b +ℤ pos 1) -ℤ a = natural_is ((b +ℤ pos 1) -ℤ a) (omega (arith, ints, h)) in
-    let behind : pos (count (a +ℤ pos 1) b) ≡ (b +ℤ pos 1) -ℤ (a +ℤ pos 1) =
-    natural_is ((b +ℤ pos 1) -ℤ (a +ℤ pos 1)) (omega (arith, ints, h)) in
-    omega (arith, ints, here, behind)
+use Rattle.rob_ranges.proofs.NestLemmas.{count_next, count_none}
 
 -- where the outermost of the ranges inside has no value, there is no setting
 pub dead_none : (inner : List Ends) (vs : List ℤ) (w : ℤ) → IsDead inner vs w → extensions inner (w ∷ vs) ≡ []
@@ -39,7 +28,7 @@ module _ (upto : ℤ) (inner : List Ends) (vs : List ℤ) where
   pub between_step : (value : ℤ) → value ≤ℤ upto
       → between value upto inner vs ≡ extensions inner (value ∷ vs) ++ between (value +ℤ pos 1) upto inner vs
   between_step value h =
-      ap (λ (n : ℕ). flat_map (λ v. extensions inner (v ∷ vs)) (upwards value n)) (count_more value upto h)
+      ap (λ (n : ℕ). flat_map (λ v. extensions inner (v ∷ vs)) (upwards value n)) (count_next value upto h)
 
   -- what is left behind one value, and behind those after it
   pub left_step : (value : ℤ) (room : ℕ) → value ≤ℤ upto

@@ -2,7 +2,7 @@
 use Rattle.std.proofs.Common.{◌≡◌, ℕ, ◌+◌, ◌<◌, ◌≤◌, Bool, List, [], ◌∷◌, ◌++◌, length, map, drop, get_or, Option, Some, None, refl, sym, ap, ◌∙◌, subst, append_assoc, append-nil}
 use Rattle.std.specs.Prelude.{fold, ◌||◌, MatchOption}
 use Rattle.std.specs.List.{flat_map, list_any}
-use Rattle.std.proofs.lemmas.List.{at_drop_more, at_drop_all, map-append}
+use Rattle.std.proofs.lemmas.List.{at_drop_more, at_drop_all}
 use Rattle.std.proofs.lemmas.List.Sums.{fold-append}
 use Rattle.rob_index.specs.Statements.{Name}
 use Rattle.rob_index.specs.Rules.{is_long_name}
@@ -120,14 +120,3 @@ pub flat_mapped : {A B C : Type 0} (f : B → List C) (g : A → B) (xs : List A
     → flat_map f (map g xs) ≡ flat_map (λ x. f (g x)) xs
 flat_mapped f g [] = refl
 flat_mapped f g (x ∷ xs) = ap (λ (l : List _). f (g x) ++ l) (flat_mapped f g xs)
-
-pub map_joined : {A B C : Type 0} (f : B → C) (g : A → List B) (xs : List A)
-    → map f (flat_map g xs) ≡ flat_map (λ x. map f (g x)) xs
-map_joined f g [] = refl
-map_joined f g (x ∷ xs) =
-    map-append f (g x) (flat_map g xs) ∙ ap (λ (l : List _). map f (g x) ++ l) (map_joined f g xs)
-
-pub flat_same : {A B : Type 0} (f g : A → List B) → ((x : A) → f x ≡ g x) → (xs : List A)
-    → flat_map f xs ≡ flat_map g xs
-flat_same f g h [] = refl
-flat_same f g h (x ∷ xs) = join_both (h x) (flat_same f g h xs)
