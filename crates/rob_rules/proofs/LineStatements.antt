@@ -21,10 +21,11 @@ use Rattle.rob_rules.specs.Sizes.{IsKept}
 use Rattle.rob_rules.specs.Stages.{behind_all, declare_all, lowest_fault, mark_declared, some_has}
 use Rattle.rob_rules.specs.Texts.{has_later, is_declared}
 use Rattle.rob_rules.proofs.GrowingLemmas.{sorts_grow}
-use Rattle.rob_rules.proofs.LinkLemmas.{find_weaker, neither, stepped_among, stepped_kept, stepped_words}
+use Rattle.rob_rules.proofs.LinkLemmas.{find_weaker, stepped_among, stepped_kept, stepped_words}
 use Rattle.rob_rules.proofs.ReadingLemmas.{kept_note}
 use Rattle.rob_rules.proofs.WideLemmas.{fault_same}
-use Rattle.rob_rules.proofs.WidenedLemmas.{widened_same, IsOfWords, kept_behind, number_is, behind_is}
+use Rattle.rob_rules.proofs.WidenedLemmas.{widened_same, IsOfWords, kept_behind, number_is, behind_is, declare_length}
+use Rattle.rob_index.proofs.NamingLemmas.{neither}
 
 -- ---- the statements of a line
 module _ (limit : ℕ) (own : List Name) (version : Version) where
@@ -148,10 +149,6 @@ mark_long : (table : List Bool) (d : Option (ℕ × Sort)) → length (mark_decl
 mark_long table None = refl
 mark_long table (Some d) = length-set table d.0 true
 
-declare_long : (sorts : List (Option Sort)) (d : Option (ℕ × Sort)) → length (declare sorts d) ≡ length sorts
-declare_long sorts None = refl
-declare_long sorts (Some d) = length-set sorts d.0 (Some d.1)
-
 -- behind some statements it does so still
 pub declared_same : (list : List Statement) (e : Earlier) (table : List Bool) → length e.sorts ≡ length table
     → SaysSame table e.sorts → SaysSame (declare_all e table list) (behind_all e list).sorts
@@ -159,7 +156,7 @@ declared_same [] e table level same = same
 declared_same (s ∷ list) e table level same =
     let d = declared_by e.sizes s in
     declared_same list (behind e s) (mark_declared table d)
-    (declare_long e.sorts d ∙ level ∙ sym (mark_long table d)) (mark_both table e.sorts level same d)
+    (declare_length e.sorts d ∙ level ∙ sym (mark_long table d)) (mark_both table e.sorts level same d)
 
 pub declared_long : (list : List Statement) (e : Earlier) (table : List Bool)
     → length (declare_all e table list) ≡ length table
@@ -170,4 +167,4 @@ declared_long (s ∷ list) e table =
 
 pub sorts_long : (list : List Statement) (e : Earlier) → length (behind_all e list).sorts ≡ length e.sorts
 sorts_long [] e = refl
-sorts_long (s ∷ list) e = sorts_long list (behind e s) ∙ declare_long e.sorts (declared_by e.sizes s)
+sorts_long (s ∷ list) e = sorts_long list (behind e s) ∙ declare_length e.sorts (declared_by e.sizes s)

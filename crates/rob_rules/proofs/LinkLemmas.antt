@@ -1,6 +1,6 @@
 -- From a reading of lines to plain statements one behind another, over the words that stand at the end.
 use Rattle.std.proofs.Common.{◌≡◌, ℕ, zero, suc, ◌+◌, ◌-◌, ◌≤◌, Bool, true, false, cond, List, [], ◌∷◌, ◌++◌, length, map, Option, Some, None, refl, sym, ap, ◌∙◌, subst, arith, append-nil, append_assoc, length-append}
-use Rattle.std.specs.Prelude.{◌||◌, is_some, set}
+use Rattle.std.specs.Prelude.{is_some, set}
 use Rattle.std.specs.List.{find}
 use Rattle.std.proofs.lemmas.List.{length-replicate}
 use Rattle.rob_meaning.specs.Places.{Each}
@@ -11,6 +11,7 @@ use Rattle.rob_index.specs.Expansion.{expand}
 use Rattle.rob_index.specs.Rules.{IndexFault}
 use Rattle.rob_index.specs.Search.{named}
 use Rattle.rob_index.specs.Reading.{Version, IsOf, LineFault, State, Follows, line_has, steps, first_fault as line_fault, behind as line_behind, later_first, either_first}
+use Rattle.rob_meaning.proofs.EachLemmas.{each_append}
 use Rattle.rob_syntax.specs.declared.syntax.Statement.{Statement}
 use Rattle.rob_syntax.specs.Numbered.{numbered}
 use Rattle.rob_syntax.specs.Symbols.{words_of}
@@ -30,6 +31,7 @@ use Rattle.rob_rules.proofs.GrowingLemmas.{all_grow, grown_has, sorts_grow}
 use Rattle.rob_rules.proofs.ReadingLemmas.{none_found}
 use Rattle.rob_rules.proofs.WideLemmas.{fault_same}
 use Rattle.rob_rules.proofs.WidenedLemmas.{blank, blank_sum, widened_same, IsOfWords, kept_behind, number_is, behind_is}
+use Rattle.rob_index.proofs.NamingLemmas.{neither}
 
 -- ---- faults
 -- what passes no test passes no weaker one
@@ -44,10 +46,6 @@ find_weaker test weak (x ∷ xs) weaker none =
     go rest true b is none h = cc
     go rest false true is none h = let e : true ≡ false = h is in cc
     go rest false false is none h = rest none
-
-pub neither : (a b : Bool) → (a || b) ≡ false → (a ≡ false) × (b ≡ false)
-neither true b h = cc
-neither false b h = (refl, h)
 
 pub set_kept : (sorts : List (Option Sort)) (i k : ℕ) (v x : Sort) → is_some (sort_at sorts i) ≡ false
     → sort_at sorts k ≡ Some x → sort_at (set sorts i (Some v)) k ≡ Some x
@@ -209,10 +207,6 @@ pub grow_each : (words more : List Name) (ps : List stated.Statement) → Each (
     → Each (λ p. AreAmong (words ++ more) (names_of p)) ps
 grow_each words more [] h = tt
 grow_each words more (p ∷ ps) h = (all_grow words more (names_of p) h.0, grow_each words more ps h.1)
-
-pub each_append : {A : Type 0} (P : A → Type 0) (xs ys : List A) → Each P xs → Each P ys → Each P (xs ++ ys)
-each_append P [] ys h k = k
-each_append P (x ∷ xs) ys h k = (h.0, each_append P xs ys h.1 k)
 
 module _ (limit : ℕ) (words : List Name) (v : Version) where
   abbrev Stage : Type 0

@@ -10,6 +10,7 @@ use Rattle.rob_index.specs.Statements as stated
 use Rattle.rob_index.specs.Statements.{Name}
 use Rattle.rob_index.specs.Reading.{Version, LineFault}
 use Rattle.rob_lex.specs.declared.token.Token.{Token}
+use Rattle.rob_meaning.proofs.EachLemmas.{each_append}
 use Rattle.rob_syntax.specs.declared.symbol.Symbol.{Symbol as Known}
 use Rattle.rob_syntax.specs.declared.syntax.Statement.{Statement}
 use Rattle.rob_syntax.specs.Known.{texts}
@@ -27,7 +28,7 @@ use Rattle.rob_rules.specs.Stages.{BreakRule, HasLineStop, IsBetween, ReadsOn, s
 use Rattle.rob_rules.specs.Texts.{Stage, SomeBreaks}
 use Rattle.rob_rules.proofs.GrowingLemmas.{grown_has, statement_grows}
 use Rattle.rob_rules.proofs.JoinLemmas.{reading_append, breaking_behind}
-use Rattle.rob_rules.proofs.LinkLemmas.{each_append, grow_each}
+use Rattle.rob_rules.proofs.LinkLemmas.{grow_each}
 use Rattle.rob_rules.proofs.StageLemmas.{HasRead}
 
 -- ---- words and numbers

@@ -1,17 +1,13 @@
 -- What the counts of a model keep.
-use Rattle.std.proofs.Common.{◌≡◌, ℕ, ◌+◌, ◌*◌, ◌<◌, ◌≤◌, Bool, true, false, refl, arith}
-use Rattle.std.specs.Prelude.{◌&&◌, nat_le}
+use Rattle.std.proofs.Common.{◌≡◌, ℕ, ◌+◌, ◌*◌, ◌<◌, ◌≤◌, true, refl, arith}
+use Rattle.std.specs.Prelude.{nat_le}
 use Rattle.std.proofs.lemmas.Bool.Decides.{nat_tests}
 use Rattle.rob_rules.specs.declared.size.Sizes.{Sizes}
 use Rattle.rob_syntax.specs.declared.syntax.Statement.{Statement}
 use Rattle.rob_syntax.specs.declared.syntax.Statement.TheVariants.{Uncertain, Over, Set, Budget, Var, Adaptive, Goal, Row}
 use Rattle.rob_model.specs.Limits.{most_sets, most_parameters, most_columns, most_rows, most_set_lines, most_members, most_size}
 use Rattle.rob_rules.specs.Sizes.{start_sizes, counted, is_within, joint_count, size, IsSmall, IsKept}
-
-both : (a b : Bool) → (a && b) ≡ true → (a ≡ true) × (b ≡ true)
-both true true h = (refl, refl)
-both true false h = cc
-both false b h = cc
+use Rattle.rob_index.proofs.ListLemmas.{both_true}
 
 pub at_most : (a b : ℕ) → nat_le a b ≡ true → a ≤ b
 at_most a b h = grind (arith, nat_tests)
@@ -28,12 +24,12 @@ pub record Within (s : Sizes) : Type 0 where
 
 pub within : (s : Sizes) → is_within s ≡ true → Within s
 within s h =
-    let six = both _ _ h in
-    let five = both _ _ six.0 in
-    let four = both _ _ five.0 in
-    let three = both _ _ four.0 in
-    let two = both _ _ three.0 in
-    let one = both _ _ two.0 in
+    let six = both_true _ _ h in
+    let five = both_true _ _ six.0 in
+    let four = both_true _ _ five.0 in
+    let three = both_true _ _ four.0 in
+    let two = both_true _ _ three.0 in
+    let one = both_true _ _ two.0 in
     record {
       sets = at_most s.sets most_sets one.0;
       parameters = at_most (joint_count s) most_parameters one.1;

@@ -1,14 +1,9 @@
 -- The canonical tokens of the lines so far, from what is left of their room.
-use Rattle.std.proofs.Common.{◌≡◌, ℕ, ◌-◌, ◌≤◌, Bool, Some, None, sym, ap, ◌∙◌, subst}
-use Rattle.std.specs.Prelude.{if◌then◌else◌}
-use Rattle.std.proofs.lemmas.Bool.{le-leb}
+use Rattle.std.proofs.Common.{◌≡◌, ℕ, ◌-◌, ◌≤◌, Some, None, sym, ◌∙◌, subst}
 use Rattle.rob_expand.specs.declared.room.Stop.{Stop}
 use Rattle.rob_expand.specs.declared.room.Stop.TheVariants.{TooMuch}
 use Rattle.rob_expand.specs.Room.{left_of, HasStop}
-
-left_some : (tokens room : ℕ) → tokens ≤ room → left_of tokens room ≡ Some (room - tokens)
-left_some tokens room fits =
-    ap (λ (b : Bool). if b then Some (room - tokens) else None) (le-leb tokens room fits)
+use Rattle.rob_expand.proofs.RoomLemmas.{left_some}
 
 -- what is left
 pub left_is : (tokens room left : ℕ) → tokens ≤ room → left_of tokens room ≡ Some left → left ≡ room - tokens
