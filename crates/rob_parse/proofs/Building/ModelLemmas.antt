@@ -3,6 +3,7 @@ use Rattle.std.proofs.Common.{Bool, ◌≡◌, ℕ, ◌<◌, ◌≤◌, true, fa
 use Rattle.std.specs.Prelude.{◌&&◌, Option, Some, None}
 use Rattle.std.specs.List.{list_any, flat_map}
 use Rattle.rob_algebra.specs.Fraction.{◌<ℚ◌}
+use Rattle.rob_index.proofs.NamingLemmas.{neither}
 use Rattle.rob_meaning.specs.Places.{0ℚ, Each}
 use Rattle.rob_meaning.specs.RobustModel as model
 use Rattle.rob_meaning.specs.RobustModel.{RobustModel, AdaptiveVariable}
@@ -33,7 +34,7 @@ use Rattle.rob_parse.proofs.Degrees.DeviationLemmas.{deviations_positive}
 use Rattle.rob_parse.proofs.Degrees.FitLemmas.{statement_fits}
 use Rattle.rob_rules.proofs.ReadingLemmas.{none_found, true_of_not}
 use Rattle.rob_parse.proofs.Names.ChainLemmas.{model_chain}
-use Rattle.rob_parse.proofs.Names.SortLemmas.{Names, all_named, none_named, kept_behind, neither}
+use Rattle.rob_parse.proofs.Names.SortLemmas.{Names, all_named, none_named, kept_behind}
 use Rattle.rob_parse.proofs.Degrees.UsedLemmas.{Free, IsFreeName, left, right, tail, free_tree, free_list, free_members}
 
 module _ {P Q : ℕ → Type 0} (to : (k : ℕ) → P k → Q k) where

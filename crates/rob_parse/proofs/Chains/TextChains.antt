@@ -1,10 +1,9 @@
 -- What a text of either version reads as are statements one behind another, each as a reader makes it.
-use Rattle.std.proofs.Common.{◌≡◌, ℕ, ◌≤◌, Bool, true, false, List, [], ◌∷◌, length, map, sym, ap, ◌∙◌, subst, arith}
+use Rattle.std.proofs.Common.{◌≡◌, ℕ, ◌≤◌, false, List, [], ◌∷◌, length, map, sym, ap, ◌∙◌, subst, arith}
 use Rattle.std.specs.List.{flat_map, list_any}
 use Rattle.rob_index.proofs.KeptLemmas.{all_of_lines}
 use Rattle.rob_index.proofs.LineNames.{statement_refs}
-use Rattle.rob_index.proofs.ListLemmas.{any_from, not_true}
-use Rattle.rob_index.proofs.NamingLemmas.{all_short, names_of_refs}
+use Rattle.rob_index.proofs.NamingLemmas.{all_short, names_of_refs, none_among, neither}
 use Rattle.rob_index.specs.Expansion.{expand, word_at}
 use Rattle.rob_index.specs.Kept.{IsOfLine}
 use Rattle.rob_index.specs.Lines.{IsStatement}
@@ -22,7 +21,6 @@ use Rattle.rob_meaning.specs.Places.{Each}
 use Rattle.rob_parse.proofs.Chains.FreeLines.{HasFreeName, IsFreeNumber, text_free}
 use Rattle.rob_parse.proofs.Chains.NameLists.{from_names, name_map, of_names}
 use Rattle.rob_parse.proofs.Names.ExpandedNames.{IsFreeWord, indexed_word}
-use Rattle.rob_parse.proofs.Names.SortLemmas.{neither}
 use Rattle.rob_parse.proofs.Names.WordSetLemmas.{In, byte_plain, first_plain, number_found, tokens_word, words_distinct, words_words}
 use Rattle.rob_lex.specs.declared.token.Token.{Token}
 use Rattle.rob_rules.proofs.LinkLemmas.{read_among, read_linked}
@@ -45,9 +43,6 @@ use Rattle.rob_syntax.specs.Versions.{text_lines, text_version}
 use Rattle.rob_syntax.specs.declared.symbol.Symbol.{Symbol}
 use Rattle.rob_syntax.specs.declared.symbol.Symbol.TheVariants as symbol
 use Rattle.rob_syntax.specs.declared.syntax.Statement.{Statement as Own}
-
-none_among : {A : Type 0} (p : A → Bool) (xs : List A) (x : A) → list_any p xs ≡ false → Among x xs → p x ≡ false
-none_among p xs x h m = not_true (p x) (λ (yes : p x ≡ true). let all = any_from p xs x m yes in cc)
 
 -- ---- one plain statement
 -- what is known of one that a line stands for: its names are words and no keywords, and not too long, and its trees are real

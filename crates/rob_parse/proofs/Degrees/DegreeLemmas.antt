@@ -1,6 +1,6 @@
 -- An expression whose products are of degree at most one is linear in the model.
 use Rattle.std.proofs.Common.{◌≡◌, ℕ, ◌+◌, ◌≤◌, Bool, true, false, List, [], ◌∷◌, ◌++◌, length, refl, sym, ap, ◌∙◌, subst, arith, max}
-use Rattle.std.specs.Prelude.{◌||◌, ◌&&◌, not, nat_lt, Option, Some, None}
+use Rattle.std.specs.Prelude.{◌&&◌, not, nat_lt, Option, Some, None}
 use Rattle.std.specs.List.{list_any}
 use Rattle.std.proofs.lemmas.Bool.Decides.{nat_tests}
 use Rattle.rob_meaning.specs.Degrees as meaning
@@ -14,7 +14,8 @@ use Rattle.rob_rules.specs.Degrees.{Degree, sort_at, degree_of_sort, times, degr
 use Rattle.rob_rules.specs.Faults.{has_two_decisions, has_two_uncertain, has_random_recourse, is_usable, is_decision}
 use Rattle.rob_parse.specs.Models.{named, expression, terms, factors}
 use Rattle.rob_syntax.specs.Trees.{Tree, number, name, sum, product, Summands, no_summands, summand, Operands, no_operands, operand}
-use Rattle.rob_parse.proofs.Names.SortLemmas.{Names, neither}
+use Rattle.rob_parse.proofs.Names.SortLemmas.{Names}
+use Rattle.rob_index.proofs.NamingLemmas.{none_both, neither}
 
 -- each name of a tree has the property
 module _ (P : ℕ → Type 0) where
@@ -39,18 +40,11 @@ pub record Clean (ds : List Degree) : Type 0 where
   pub uncertain : list_any has_two_uncertain ds ≡ false
   pub recourse : list_any has_random_recourse ds ≡ false
 
-pub any_apart : {X : Type 0} (test : X → Bool) (xs ys : List X) → list_any test (xs ++ ys) ≡ false → (list_any test xs ≡ false) × (list_any test ys ≡ false)
-any_apart test [] ys h = (refl, h)
-any_apart test (x ∷ xs) ys h =
-    let one = neither (test x) (list_any test (xs ++ ys)) h in
-    let rest = any_apart test xs ys one.1 in
-    (ap (λ (b : Bool). b || list_any test xs) one.0 ∙ rest.0, rest.1)
-
 pub clean_apart : (xs ys : List Degree) → Clean (xs ++ ys) → Clean xs × Clean ys
 clean_apart xs ys c =
-    let a = any_apart has_two_decisions xs ys c.decisions in
-    let b = any_apart has_two_uncertain xs ys c.uncertain in
-    let d = any_apart has_random_recourse xs ys c.recourse in
+    let a = none_both has_two_decisions xs ys c.decisions in
+    let b = none_both has_two_uncertain xs ys c.uncertain in
+    let d = none_both has_random_recourse xs ys c.recourse in
     (record { decisions = a.0; uncertain = b.0; recourse = d.0 }, record { decisions = a.1; uncertain = b.1; recourse = d.1 })
 
 at_most_one : (n : ℕ) → nat_lt 1 n ≡ false → n ≤ 1

@@ -4,12 +4,12 @@ use Rattle.std.specs.Prelude.{◌==◌, pos, unwrap_or}
 use Rattle.std.specs.List.{list_any}
 use Rattle.rob_algebra.specs.Fraction.{is_of_pair, pos_lt, ◌<ℚ◌}
 use Rattle.rob_algebra.specs.FractionLaws.{is_pos_in}
+use Rattle.rob_index.proofs.NamingLemmas.{neither}
 use Rattle.rob_meaning.specs.Places.{0ℚ, Each}
 use Rattle.rob_syntax.specs.declared.syntax.Member.{Member}
 use Rattle.rob_parse.specs.Building.{FitsMember}
 use Rattle.rob_rules.specs.Faults.{is_certain}
 use Rattle.rob_parse.specs.Models.{fraction}
-use Rattle.rob_parse.proofs.Names.SortLemmas.{neither}
 
 some : (n : ℕ) → (n == 0) ≡ false → 0 < n
 some zero h = cc

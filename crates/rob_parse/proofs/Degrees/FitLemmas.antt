@@ -22,8 +22,7 @@ use Rattle.rob_rules.specs.Scopes.{Earlier, behind}
 use Rattle.rob_rules.specs.Chains.{Chain}
 use Rattle.rob_syntax.specs.Trees.{Tree, number, name, sum, product, Summands, no_summands, summand, Operands, no_operands, operand, tree_of}
 use Rattle.rob_rules.proofs.ReadingLemmas.{none_found}
-use Rattle.rob_parse.proofs.Degrees.DegreeLemmas.{any_apart}
-use Rattle.rob_parse.proofs.Names.SortLemmas.{neither}
+use Rattle.rob_index.proofs.NamingLemmas.{none_both, neither}
 
 -- no number has digits over the limit, and none a divisor of 0
 record Fine (limit : ℕ) (ls : List Leaf) : Type 0 where
@@ -33,8 +32,8 @@ record Fine (limit : ℕ) (ls : List Leaf) : Type 0 where
 module _ (limit : ℕ) (low : 1 ≤ limit) where
   apart : (xs ys : List Leaf) → Fine limit (xs ++ ys) → Fine limit xs × Fine limit ys
   apart xs ys fine =
-      let w = any_apart (is_over limit) xs ys fine.within in
-      let d = any_apart has_zero_divisor xs ys fine.divisors in
+      let w = none_both (is_over limit) xs ys fine.within in
+      let d = none_both has_zero_divisor xs ys fine.divisors in
       (record { within = w.0; divisors = d.0 }, record { within = w.1; divisors = d.1 })
 
   first : (x : Leaf) (xs : List Leaf) → Fine limit (x ∷ xs) → Fine limit (x ∷ [])

@@ -7,8 +7,8 @@ use Rattle.rob_rules.specs.declared.leaf.Leaf.TheVariants.{Name, Number}
 use Rattle.rob_rules.specs.Leaves.{leaves, part_leaves, factor_leaves, member_leaves}
 use Rattle.rob_syntax.specs.declared.syntax.Member.{Member}
 use Rattle.rob_syntax.specs.Trees.{Tree, number, name, sum, product, Summands, no_summands, summand, Operands, no_operands, operand}
-use Rattle.rob_parse.proofs.Degrees.DegreeLemmas.{EachName, EachSummand, EachOperand, any_apart}
-use Rattle.rob_parse.proofs.Names.SortLemmas.{neither}
+use Rattle.rob_parse.proofs.Degrees.DegreeLemmas.{EachName, EachSummand, EachOperand}
+use Rattle.rob_index.proofs.NamingLemmas.{none_both, neither}
 
 module _ (test : Leaf → Bool) where
   -- no name and no number passes the test
@@ -20,10 +20,10 @@ module _ (test : Leaf → Bool) where
   IsFreeName k = test (Name k) ≡ false
 
   pub left : (xs ys : List Leaf) → Free (xs ++ ys) → Free xs
-  left xs ys free = (any_apart test xs ys free).0
+  left xs ys free = (none_both test xs ys free).0
 
   pub right : (xs ys : List Leaf) → Free (xs ++ ys) → Free ys
-  right xs ys free = (any_apart test xs ys free).1
+  right xs ys free = (none_both test xs ys free).1
 
   pub head : (x : Leaf) (xs : List Leaf) → Free (x ∷ xs) → test x ≡ false
   head x xs free = (neither (test x) (list_any test xs) free).0

@@ -22,11 +22,11 @@ use Rattle.rob_parse.specs.Models.{parameter_number, parameter_at, member, adapt
 use Rattle.rob_rules.specs.Chains.{Chain}
 use Rattle.rob_rules.specs.Links.{Keeps}
 use Rattle.rob_rules.specs.Scopes.{Earlier, behind, start, declared_by, declare}
-use Rattle.rob_parse.proofs.Degrees.DegreeLemmas.{any_apart}
 use Rattle.rob_rules.proofs.ReadingLemmas.{none_found, true_of_not}
 use Rattle.rob_rules.proofs.GrowingLemmas.{nothing_at}
-use Rattle.rob_parse.proofs.Names.SortLemmas.{Names, neither, set_cases, is_new, kept_behind, AllNamed, named_behind}
+use Rattle.rob_parse.proofs.Names.SortLemmas.{Names, set_cases, is_new, kept_behind, AllNamed, named_behind}
 use Rattle.rob_parse.proofs.Degrees.UsedLemmas.{Free, IsFreeName, left, tail, free_list, free_members}
+use Rattle.rob_index.proofs.NamingLemmas.{none_both, neither}
 
 -- ---- names that stand once
 abbrev Once : List Leaf → Type 0
@@ -43,7 +43,7 @@ list_once : (on : List ℕ) (rest : List Leaf) → Once (map Name on ++ rest) �
 list_once [] rest h = tt
 list_once (k ∷ on) rest h =
     let b = neither (list_any (is_name k) (map Name on ++ rest)) (has_twice (map Name on ++ rest)) h in
-    (others k on (free_list (is_name k) on (any_apart (is_name k) (map Name on) rest b.0).0), list_once on rest b.1)
+    (others k on (free_list (is_name k) on (none_both (is_name k) (map Name on) rest b.0).0), list_once on rest b.1)
 
 other_members : (k : ℕ) (ms : List Member) → Each (λ (h : Member). IsFreeName (is_name k) h.name) ms → Each (λ j. k ≢ j) (map (λ (h : Member). h.name) ms)
 other_members k [] h = tt

@@ -1,6 +1,6 @@
 -- What names stand for, from line to line.
-use Rattle.std.proofs.Common.{◌≡◌, ℕ, zero, suc, ◌+◌, ◌<◌, ◌≤◌, ◌⊎◌, inl, inr, Bool, true, false, cond, List, [], ◌∷◌, ◌++◌, length, map, set, refl, sym, ap, ◌∙◌, subst, arith, append_assoc, append-nil, length-append}
-use Rattle.std.specs.Prelude.{◌||◌, Option, Some, None}
+use Rattle.std.proofs.Common.{◌≡◌, ℕ, zero, suc, ◌+◌, ◌<◌, ◌≤◌, ◌⊎◌, inl, inr, Bool, false, cond, List, [], ◌∷◌, ◌++◌, length, map, set, refl, sym, ap, ◌∙◌, subst, arith, append_assoc, append-nil, length-append}
+use Rattle.std.specs.Prelude.{Option, Some, None}
 use Rattle.std.specs.List.{flat_map}
 use Rattle.rob_meaning.specs.Degrees.{one_if_some}
 use Rattle.rob_meaning.specs.RobustModel.{AdaptiveVariable, list_in}
@@ -21,10 +21,7 @@ use Rattle.rob_rules.specs.Sizes.{counted}
 use Rattle.rob_rules.proofs.GrowingLemmas.{nothing_at}
 use Rattle.rob_rules.proofs.LinkLemmas.{set_kept}
 use Rattle.rob_rules.proofs.ReadingLemmas.{none_found}
-
-pub neither : (a b : Bool) → a || b ≡ false → (a ≡ false) × (b ≡ false)
-neither true b h = cc
-neither false b h = (refl, h)
+use Rattle.rob_index.proofs.NamingLemmas.{neither}
 
 -- ---- writing one sort
 pub set_cases : (sorts : List (Option Sort)) (i k : ℕ) (v : Sort) → (sort_at (set sorts i (Some v)) k ≡ Some v) ⊎ (sort_at (set sorts i (Some v)) k ≡ sort_at sorts k)

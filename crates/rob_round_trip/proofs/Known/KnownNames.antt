@@ -33,12 +33,13 @@ use Rattle.rob_parse.proofs.Names.NamedLemmas.{IsDeclared, declared_so, names_sp
 use Rattle.rob_rules.proofs.ReadingLemmas.{none_found}
 use Rattle.rob_parse.proofs.Chains.TextChains.{text_words}
 use Rattle.rob_parse.proofs.Names.ChainLemmas.{reads_chain}
-use Rattle.rob_parse.proofs.Names.SortLemmas.{Names, all_named, kept_behind, neither, none_named, stays}
+use Rattle.rob_parse.proofs.Names.SortLemmas.{Names, all_named, kept_behind, none_named, stays}
 use Rattle.rob_rules.proofs.GrowingLemmas.{nothing_at}
 use Rattle.rob_rules.proofs.WidenedLemmas.{declare_length}
 use Rattle.rob_parse.proofs.Names.WordSetLemmas.{in_place, number_found, one_number}
 use Rattle.rob_round_trip.proofs.Written.DeclarableLines.{name_read}
 use Rattle.rob_round_trip.proofs.Known.NamedThings.{IsDeclaredIn, IsThing, things, declared_in, found_at, depends_same}
+use Rattle.rob_index.proofs.NamingLemmas.{neither}
 
 -- ---- what is declared stands for the numbers of its kind, in order
 module _ (words : List (List ℕ)) (sorts : List (Option Sort)) where

@@ -13,9 +13,9 @@ use Rattle.rob_lex.specs.declared.piece.Shape.{Shape}
 use Rattle.rob_lex.specs.declared.piece.Shape.TheVariants.{Lexeme, Gap, Comment}
 use Rattle.rob_lex.specs.declared.place.Place.{Place}
 use Rattle.rob_lex.specs.Pieces.{Piece, Stands, IsPlace}
-use Rattle.rob_lex.specs.Places.{start, depth_at, weights_behind, behind, behind_all}
+use Rattle.rob_lex.specs.Places.{start, depth_at, weights_behind, behind}
 use Rattle.rob_lex.specs.Weights.{total}
-use Rattle.rob_lex.specs.Offences.{most_tokens, most_open, AreTokens, Cause, too_many_tokens, too_deep}
+use Rattle.rob_lex.specs.Offences.{most_tokens, most_open, AreTokens, too_many_tokens, too_deep}
 use Rattle.rob_lex.specs.Slices.{Lexed, lexed, lexed_at, lexed_of}
 use Rattle.rob_lex.proofs.PieceLemmas.{some_bytes}
 use Rattle.rob_lex.proofs.SliceLemmas.{slices}
@@ -26,22 +26,12 @@ use Rattle.rob_syntax.specs.declared.symbol.Mark.{Mark}
 use Rattle.rob_syntax.specs.declared.symbol.Symbol.{Symbol}
 use Rattle.rob_syntax.specs.declared.symbol.Symbol.TheVariants.{Name, Digits, Sign, Reserved}
 use Rattle.rob_index.specs.Reading.{one}
+use Rattle.rob_lex.proofs.ShallowLemmas.{sound_next, IsSound}
 use Rattle.rob_syntax.specs.Symbols.{longest_name, value_of, greatest_digits, number_of, word_symbol, mark_of, symbol_at, lines_of}
 use Rattle.rob_round_trip.proofs.Pages.PageSymbols.{symbol_lines, add_symbols, token_lines_are}
 use Rattle.rob_round_trip.proofs.Lengths.DepthSteps.{stays, deeper, MayStep, step_of_mark, step_of_symbol, Shallow}
 
 -- ---- what the places of a text without an offence keep
--- no place from this one on offends
-abbrev IsSound : Place → List ℕ → Type 0
-IsSound at text =
-    (before : List Piece) (rest : List ℕ) → IsPlace text before rest → Cause (behind_all at before) rest → ⊥
-
-sound_next : (at : Place) (text : List ℕ) (shape : Shape) (bytes after : List ℕ) → IsSound at text
-    → text ≡ bytes ++ after → Stands shape bytes after
-    → IsSound (behind at shape bytes) after
-sound_next at text shape bytes after sound split stands before rest place cause =
-    sound (record { shape = shape; bytes = bytes } ∷ before) rest (after, split, stands, place) cause
-
 -- one more token is allowed where one stands
 few_here : (at : Place) (text : List ℕ) (k : Kind) (bytes after : List ℕ) → IsSound at text → text ≡ bytes ++ after
     → Stands (Lexeme k) bytes after

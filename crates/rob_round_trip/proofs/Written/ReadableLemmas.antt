@@ -28,7 +28,7 @@ use Rattle.rob_rules.specs.RealTrees.{IsReal, AreReal, OperandsReal, IsLongSum, 
 use Rattle.rob_parse.proofs.Names.SortLemmas.{Names}
 
 -- ---- numbers
-not_below : (n : ℕ) → int_lt (pos n) (pos 0) ≡ false
+pub not_below : (n : ℕ) → int_lt (pos n) (pos 0) ≡ false
 not_below n = grind (arith, nat_tests)
 
 pub pair_plain : (n d : ℕ) → int_lt (of_pair (pos n) d).num (pos 0) ≡ false
@@ -42,8 +42,8 @@ plain_number limit n fits = (
   pair_plain n.numerator (unwrap_or n.divisor 1),
 )
 
-negated : (limit : ℕ) (x : Fraction) → Fits limit x → Fits limit (neg_ℚ x)
-negated limit x fits =
+pub negated_fits : (limit : ℕ) (x : Fraction) → Fits limit x → Fits limit (neg_ℚ x)
+negated_fits limit x fits =
     let p = neg_parts x in
     record {
       num_fits = omega (arith, ints, fits.num_fits, ap nat_abs p.0);
@@ -54,7 +54,7 @@ pub signed_number : (limit : ℕ) (s : Signed) → FitsNumber limit s.number →
 signed_number limit s fits = go s.minus
   where
     go : (minus : Bool) → Fits limit (signed minus (fraction s.number))
-    go true = negated limit (fraction s.number) (plain_number limit s.number fits).0
+    go true = negated_fits limit (fraction s.number) (plain_number limit s.number fits).0
     go false = (plain_number limit s.number fits).0
 
 pub lower_fits : (limit : ℕ) (b : Option Bounds) → FitsBounds limit b → IsBound limit (lower_bound b)
