@@ -1,8 +1,6 @@
 -- The split model as it is written is readable, where the model is and the numbers of the cuts are within the limit.
 use Rattle.std.proofs.Common.{◌≡◌, ℕ, zero, suc, ◌<◌, ℤ, pos, negsuc, neg_ℤ, true, false, List, [], ◌∷◌, length, map, refl, sym, ap, ◌∙◌, subst, arith}
-use Rattle.std.specs.Prelude.{Option, Some, None, int_lt, nat_abs}
-use Rattle.std.proofs.lemmas.Bool.Decides.{nat_tests}
-use Rattle.std.proofs.lemmas.Int.{ints}
+use Rattle.std.specs.Prelude.{Option, Some, None, int_lt}
 use Rattle.std.proofs.lemmas.List.{length-map}
 use Rattle.rob_algebra.specs.Fraction.{Fraction, neg_ℚ}
 use Rattle.rob_algebra.specs.Width.{Fits}
@@ -20,6 +18,8 @@ use Rattle.rob_pieces.proofs.ColumnLemmas.{rule_is_some, variables_count, writte
 use Rattle.rob_pieces.specs.Cuts.{Cut, IsCell, cell_numbers}
 use Rattle.rob_pieces.specs.SplitModel.{as_side, cells_worst, copy_in, rule_in, side_of_sign, split_model}
 use Rattle.rob_round_trip.proofs.WithoutSets.SetlessTexts.{in_no_sets}
+pub use Rattle.rob_round_trip.proofs.Written.ReadableLemmas.{negated_fits}
+use Rattle.rob_round_trip.proofs.Written.ReadableLemmas.{not_below}
 use Rattle.rob_round_trip.specs.Readable.{FactorsReadable, HasReadableParts, IsBound, IsPlaced, IsReadable, IsReadableMember, IsReadableModel, IsReadableSetLine, IsRealProduct, IsRealSum, TermsReadable}
 use Rattle.rob_split_text.proofs.FormedSplits.{each_bound_written}
 use Rattle.rob_split_text.proofs.WrittenSplits.{bounds_written, factors_renamed, line_renamed, lines_written, renamed, row_renamed, rows_written, side_written, sides_written, terms_renamed, written_split}
@@ -27,17 +27,6 @@ use Rattle.rob_split_text.specs.SplitTexts.{HaveFittingLevels}
 use Rattle.rob_write.specs.Canonical.{Naming, naming_of, written_model}
 
 -- ---- a number as a side
-pub negated_fits : (limit : ℕ) (x : Fraction) → Fits limit x → Fits limit (neg_ℚ x)
-negated_fits limit x fits =
-    let p = neg_parts x in
-    record {
-      num_fits = omega (arith, ints, fits.num_fits, ap nat_abs p.0);
-      den_fits = omega (arith, fits.den_fits, p.1);
-    }
-
-not_below : (n : ℕ) → int_lt (pos n) (pos 0) ≡ false
-not_below n = grind (arith, nat_tests)
-
 pos_not_below : (x : ℤ) (n : ℕ) → x ≡ pos n → int_lt x (pos 0) ≡ false
 pos_not_below x n is = subst (λ (y : ℤ). int_lt y (pos 0) ≡ false) (sym is) (not_below n)
 
