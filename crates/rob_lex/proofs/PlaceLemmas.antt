@@ -8,13 +8,13 @@ use Rattle.rob_lex.specs.declared.place.Place.{Place}
 use Rattle.rob_lex.specs.declared.piece.Shape.{Shape}
 use Rattle.rob_lex.specs.declared.piece.Shape.TheVariants.{Lexeme, Gap, Comment}
 use Rattle.rob_lex.specs.declared.token.Kind.TheVariants.{Word, Digits, Sign, LineEnd}
-use Rattle.std.proofs.lemmas.Bool.Decides.{nat_tests}
 use Rattle.rob_lex.specs.Pieces.{Piece, Stands, IsPlace}
 use Rattle.rob_lex.specs.Places.{start, depth_at, weights_behind, behind, behind_all, token_at, tokens_of}
 use Rattle.rob_lex.specs.Weights.{total}
 use Rattle.rob_lex.specs.declared.offence.Offence.{Offence}
 use Rattle.rob_lex.specs.Offences.{most_tokens, most_open, Cause, too_many_tokens, too_deep, offence_of, Offends, AreTokens}
 use Rattle.rob_lex.proofs.PieceLemmas.{some_bytes, one_piece}
+use Rattle.std.proofs.lemmas.Bool.{eqb-true}
 
 -- a place has no more bytes behind it than the text
 pub rest_le : (text : List ℕ) (pieces : List Piece) (rest : List ℕ) → IsPlace text pieces rest
@@ -190,9 +190,6 @@ total-drop : (ws : List ℕ) → total (drop 1 ws) ≤ total ws
 total-drop [] = omega arith
 total-drop (w ∷ ws) = omega arith
 
-is_it : (b c : ℕ) → (b == c) ≡ true → b ≡ c
-is_it b c h = grind (arith, nat_tests)
-
 -- behind a sign
 sign_shallow : (at : Place) (sign : List ℕ)
     → (get_or sign 0 0 ≡ 40 → depth_at at + weight at.behind_sum ≤ most_open) → depth_at at ≤ most_open
@@ -203,7 +200,7 @@ sign_shallow at sign may shallow = go (get_or sign 0 0 == 40) (get_or sign 0 0 =
         → total (if opens then weight at.behind_sum
         ∷ at.weights else (if closes then drop 1 at.weights else at.weights))
         ≤ most_open
-    go true closes is = let h = may (is_it (get_or sign 0 0) 40 is) in omega (arith, h)
+    go true closes is = let h = may (eqb-true (get_or sign 0 0) 40 is) in omega (arith, h)
     go false true is = omega (arith, total-drop at.weights)
     go false false is = shallow
 
