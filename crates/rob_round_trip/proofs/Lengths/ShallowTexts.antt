@@ -2,7 +2,7 @@
 use Rattle.std.proofs.Common.{◌≡◌, ◌≤◌, ℕ, ◌==◌, ⊎_elim, inl, inr, ◌⊎◌, Bool, true, false, List, [], ◌∷◌, ◌++◌, map, refl, sym, ap, ◌∙◌, subst, arith, append-nil}
 use Rattle.std.specs.Prelude.{codes, if◌then◌else◌, not, ◌&&◌, ◌||◌, Some}
 use Rattle.std.specs.Str.{bytes_eq}
-use Rattle.std.proofs.lemmas.Bool.{cases_Bool}
+use Rattle.std.proofs.lemmas.Bool.{cases_Bool, eqb-true}
 use Rattle.std.proofs.lemmas.Slice.Eq.{bytes_eq-Decides}
 use Rattle.rob_index.proofs.OpenLemmas.{deepest-bare}
 use Rattle.rob_index.specs.Depths.{bare, deepest}
@@ -17,7 +17,7 @@ use Rattle.rob_lex.specs.declared.token.Kind.TheVariants as kind
 use Rattle.rob_lex.specs.declared.token.Token.{Token}
 use Rattle.rob_meaning.specs.Places.{Each}
 use Rattle.rob_round_trip.proofs.Lengths.DepthSteps.{stays, step_of_mark}
-use Rattle.rob_round_trip.proofs.Lengths.TokenPlaces.{is_it, other_stays}
+use Rattle.rob_round_trip.proofs.Lengths.TokenPlaces.{other_stays}
 use Rattle.rob_syntax.specs.Seen.{seen_keyword, seen_line, seen_mark, seen_symbol}
 use Rattle.rob_syntax.specs.Symbols.{add_token, bytes_of, is_name, keyword_among, keywords, lines_of, mark_of, number_of, symbol_at, symbols_of, token_lines, word_symbol}
 use Rattle.rob_syntax.specs.Versions.{body, has_token, names_version, text_lines, text_version}
@@ -138,9 +138,9 @@ module _ (version : Version) (words : List (List ℕ)) where
     where
       go : (x y : Bool) → (b == 40) ≡ x → (b == 41) ≡ y → bare (is.sign (seen_mark (mark_of b))) ≡ paren_sign (b ∷ [])
       go true y h k =
-          subst (λ (c : ℕ). bare (is.sign (seen_mark (mark_of c))) ≡ paren_sign (c ∷ [])) (sym (is_it b 40 h)) refl
+          subst (λ (c : ℕ). bare (is.sign (seen_mark (mark_of c))) ≡ paren_sign (c ∷ [])) (sym (eqb-true b 40 h)) refl
       go false true h k =
-          subst (λ (c : ℕ). bare (is.sign (seen_mark (mark_of c))) ≡ paren_sign (c ∷ [])) (sym (is_it b 41 k)) refl
+          subst (λ (c : ℕ). bare (is.sign (seen_mark (mark_of c))) ≡ paren_sign (c ∷ [])) (sym (eqb-true b 41 k)) refl
       go false false h k =
           other_mark (mark_of b) (other_stays b h k)
           ∙ sym (λ i. if h i then is.sign is.opening else (if k i then is.sign is.closing else is.digits 0))

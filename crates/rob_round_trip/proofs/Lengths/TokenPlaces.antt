@@ -4,7 +4,6 @@ use Rattle.std.proofs.Common.{◌≡◌, ℕ, ◌+◌, ◌-◌, ◌<◌, ◌≤�
 use Rattle.std.specs.Prelude.{min, ◌==◌, ◌&&◌, nat_le, if◌then◌else◌, Option, Some, None, codes}
 use Rattle.std.specs.Str.{bytes_eq}
 use Rattle.std.proofs.str.Laws.{order}
-use Rattle.std.proofs.lemmas.Bool.Decides.{nat_tests}
 use Rattle.rob_index.specs.Depths.{weight}
 use Rattle.rob_lex.specs.declared.token.Kind.{Kind}
 use Rattle.rob_lex.specs.declared.token.Kind.TheVariants as kind
@@ -30,6 +29,7 @@ use Rattle.rob_lex.proofs.ShallowLemmas.{sound_next, IsSound}
 use Rattle.rob_syntax.specs.Symbols.{longest_name, value_of, greatest_digits, number_of, word_symbol, mark_of, symbol_at, lines_of}
 use Rattle.rob_round_trip.proofs.Pages.PageSymbols.{symbol_lines, add_symbols, token_lines_are}
 use Rattle.rob_round_trip.proofs.Lengths.DepthSteps.{stays, deeper, MayStep, step_of_mark, step_of_symbol, Shallow}
+use Rattle.std.proofs.lemmas.Bool.{eqb-true}
 
 -- ---- what the places of a text without an offence keep
 -- one more token is allowed where one stands
@@ -110,9 +110,6 @@ no_more : (c : Bool) → c ≡ false → (c && true) ≡ false
 no_more true h = cc
 no_more false h = refl
 
-pub is_it : (b c : ℕ) → (b == c) ≡ true → b ≡ c
-is_it b c h = grind (arith, nat_tests)
-
 pub other_stays : (b : ℕ) → (b == 40) ≡ false → (b == 41) ≡ false → step_of_mark (mark_of b) ≡ stays
 other_stays b no_open no_close =
     one_of (bytes_eq (b ∷ []) (codes "+")) _ _ refl
@@ -142,9 +139,9 @@ sign_steps b s ws = go (b == 40) (b == 41) refl refl
   where
     go : (x y : Bool) → (b == 40) ≡ x → (b == 41) ≡ y → SignSteps b s ws
     go true y h k =
-        subst (λ (c : ℕ). SignSteps c s ws) (sym (is_it b 40 h)) (record { depth = omega arith; may = λ f. f refl })
+        subst (λ (c : ℕ). SignSteps c s ws) (sym (eqb-true b 40 h)) (record { depth = omega arith; may = λ f. f refl })
     go false true h k =
-        subst (λ (c : ℕ). SignSteps c s ws) (sym (is_it b 41 k)) (record { depth = length-drop1 ws; may = λ f. tt })
+        subst (λ (c : ℕ). SignSteps c s ws) (sym (eqb-true b 41 k)) (record { depth = length-drop1 ws; may = λ f. tt })
     go false false h k = record {
       depth = ap (deeper (length ws)) (other_stays b h k)
           ∙ sym (λ i. length (if h i then weight s ∷ ws else (if k i then drop 1 ws else ws)));
