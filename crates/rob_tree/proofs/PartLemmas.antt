@@ -46,7 +46,7 @@ word_line : (w : Name) → line_of (w ∷ []) ≡ w
 word_line w = sym (append_cancel_right w (line_of (w ∷ [])) (10 ∷ []) (spaced-line (w ∷ [])))
 
 -- the first letter of a line of words
-abbrev first_letter : List Name → ℕ
+abbrev pub first_letter : List Name → ℕ
 first_letter [] = 0
 first_letter ([] ∷ ws) = 0
 first_letter ((b ∷ w) ∷ ws) = b

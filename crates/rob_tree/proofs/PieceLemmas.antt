@@ -26,7 +26,7 @@ use Rattle.rob_meaning.specs.Places.{Each}
 use Rattle.rob_meaning.specs.RobustModel.{RobustModel}
 use Rattle.rob_meaning.specs.WellFormed.{IsModel}
 use Rattle.rob_reach.specs.Trees.{IsIn}
-use Rattle.rob_tree.proofs.PartLemmas.{certificate_lines, one_certificate, part_once}
+use Rattle.rob_tree.proofs.PartLemmas.{certificate_lines, one_certificate, part_once, first_letter}
 use Rattle.rob_tree.proofs.ReadingLemmas.{pending_some}
 use Rattle.rob_tree.specs.Reading.{IsBranchWord, IsBreach, IsCertificatePart, IsNamedOne, IsNodeCause, IsNodeLine, MayStand, Stage, in_certificate, in_node, in_rest, of_branch, of_leaf, of_open, rule_of}
 use Rattle.rob_tree.specs.TreeText.{Piece, branch_piece, leaf_piece, open_piece, piece_text}
@@ -47,14 +47,8 @@ pub k_is_word : (z : ℤ) → nat_abs z < 2 ^ 62 → IsWord (signed_decimal z)
 k_is_word (pos n) h = digits n (omega arith)
 k_is_word (negsuc n) h = ((λ e. omega (arith, e), λ e. omega (arith, e)), digits (suc n) (omega arith))
 
--- the first letter of words
-abbrev letter : List Name → ℕ
-letter [] = 0
-letter ([] ∷ ws) = 0
-letter ((b ∷ w) ∷ ws) = b
-
-letters_apart : (a b : ℕ) (vs ws : List Name) → letter vs ≡ a → letter ws ≡ b → a ≢ b → vs ≡ ws → ⊥
-letters_apart a b vs ws h k ne e = ne (sym h ∙ ap letter e ∙ k)
+letters_apart : (a b : ℕ) (vs ws : List Name) → first_letter vs ≡ a → first_letter ws ≡ b → a ≢ b → vs ≡ ws → ⊥
+letters_apart a b vs ws h k ne e = ne (sym h ∙ ap first_letter e ∙ k)
 
 -- a certificate's cause does not depend on the number of its first line
 shifted : (names : _) (limit : ℕ) (part : List ℕ) (n r i : ℕ) → HasCertCause names limit start part n (cert.Rule r i)
