@@ -19,6 +19,7 @@ use Rattle.rob_cert.specs.Lines.{Line, status_line, value_line, scale_line, entr
 use Rattle.rob_cert.specs.Reading.{Lacks, BeginsWithLine, words_in, Kind, claims, values, scales, items, ends, entries, multipliers, kind_of, word_of, Stage, start, behind, advanced, Follows, FitsLine, IsNotZero, Leads}
 use Rattle.rob_cert.specs.Spelling.{Naming, entry_names, name_at, number_text, status_word, words_of, spelled, spaced, behind_spaces, line_text, lines_text}
 use Rattle.rob_cert.proofs.CoverLemmas.{one_number}
+use Rattle.rob_cert.proofs.Decisions.{nth}
 use Rattle.rob_cert.proofs.EntryLemmas.{one_line}
 use Rattle.rob_cert.proofs.KindLemmas.{first_of, kind_of-spelled, kind_by_spelled, entry_by_kind, cover_by_kind, item_by_kind}
 use Rattle.rob_cert.proofs.NameWords.{letters}
@@ -250,10 +251,6 @@ module _ (names : Naming) (apart : TellsApart names) (limit : ℕ) (low : limit 
 
   status_same : (s t : Status) → status_word s ≡ status_word t → s ≡ t
   status_same s t e = sym (status_by-word s) ∙ ap (λ (w : Name). status_by (get_or w 0 0)) e ∙ status_by-word t
-
-  -- the word of that number
-  abbrev nth : ℕ → List Name → Name
-  nth n ws = get_or ws n []
 
   placed_entry : (stage : Stage) (v : Vector) (k : ℕ) (q : Fraction)
       → Follows names limit IsNotZero stage (entry_line v k q) → k < length (entry_names names v)
