@@ -1,6 +1,6 @@
 //! Numbers and lines as they are spelled.
 
-ghost use Rattle.std.specs.Fmt.{decimal};
+ghost use Rattle.std.specs.Fmt.{decimal, signed_decimal};
 ghost use Rattle.std.specs.Prelude.{◌≡◌, ◌∷◌, ◌++◌, [], ◌<ℤ◌, codes, pos, nat_abs, OnOk};
 ghost use Rattle.rob_cert.specs.Spelling.{number_text, spaced};
 
@@ -17,6 +17,22 @@ pub fn put_number<N: Exact>(out: &mut Text, number: N) -> Result<(), Memory>
         return put_denominator(out, number.den());
     }
     Ok(())
+}
+
+/// Appends a whole number.
+pub fn put_whole(out: &mut Text, number: i64) -> Result<(), Memory>
+    ensures appended { OnOk result (out.new ≡ out.old ++ signed_decimal number) }
+{
+    let mut buffer = Buffer::new();
+    out.push(buffer.format(number).as_bytes())
+}
+
+/// Appends a number of things, in decimal digits.
+pub fn put_count(out: &mut Text, count: u64) -> Result<(), Memory>
+    ensures appended { OnOk result (out.new ≡ out.old ++ decimal count) }
+{
+    let mut buffer = Buffer::new();
+    out.push(buffer.format(count).as_bytes())
 }
 
 /// Appends a slash and a denominator.

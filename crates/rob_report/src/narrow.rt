@@ -1,10 +1,9 @@
 //! How large the numbers of a program's rows can become, as it is printed.
 
-ghost use Rattle.std.specs.Fmt.{decimal};
 ghost use Rattle.std.specs.Prelude.{◌≡◌, ◌++◌, OnOk};
 ghost use Rattle.rob_report.specs.NarrowText.{bound_line, bound_words, narrow_line};
 
-use itoa::Buffer;
+use rob_cert::spelling::put_count;
 use rob_number::{Memory, Text};
 
 /// Appends the line of a program: `PROGRAM rows M greatest A bound X`, with the number of its rows, the greatest size
@@ -20,9 +19,9 @@ pub fn put_bound(
 {
     out.push(program)?;
     out.push(b" rows ")?;
-    put_size(rows, out)?;
+    put_count(out, rows)?;
     out.push(b" greatest ")?;
-    put_size(greatest, out)?;
+    put_count(out, greatest)?;
     out.push(b" bound ")?;
     put_bound_word(bound, out)?;
     out.push(b"\n")
@@ -44,15 +43,7 @@ fn put_bound_word(bound: Option<u64>, out: &mut Text) -> Result<(), Memory>
     ensures appended { OnOk result (out.new ≡ out.old ++ bound_words bound) }
 {
     match bound {
-        Some(bound) => put_size(bound, out),
+        Some(bound) => put_count(out, bound),
         None => out.push(b"wide"),
     }
-}
-
-/// Appends a number in decimal digits.
-fn put_size(size: u64, out: &mut Text) -> Result<(), Memory>
-    ensures appended { OnOk result (out.new ≡ out.old ++ decimal size) }
-{
-    let mut buffer = Buffer::new();
-    out.push(buffer.format(size).as_bytes())
 }

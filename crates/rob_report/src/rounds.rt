@@ -1,15 +1,15 @@
 //! The rounds of the cutting-plane method, as they are printed.
 
-ghost use Rattle.std.specs.Fmt.{decimal, signed_decimal};
 ghost use Rattle.std.specs.Prelude.{◌≡◌, ◌<◌, ◌+◌, ◌^◌, ◌++◌, codes, length, map, All, OnOk};
 ghost use Rattle.rob_model.specs.Valid.{IsValid};
 ghost use Rattle.rob_model.specs.View.{parameter_of, robust};
 ghost use Rattle.rob_report.specs.Rounds.{IsRoundOf, column_words, cut_words, entries_words, entry_words, kind_words, master_words, round_line, round_words, rounds_text, via_words};
 
 use crate::names::put_form;
-use crate::spots::{put_basis, put_count};
+use crate::spots::put_basis;
 use itoa::Buffer;
 use rob_cert::Round;
+use rob_cert::spelling::{put_count, put_whole};
 use rob_model::{Model, Param};
 use rob_number::{Exact, LpKind, Memory, Text};
 
@@ -94,16 +94,8 @@ fn put_cut<N: Exact>(model: &Model<N>, round: &Round, out: &mut Text) -> Result<
     out.push(b" cut ")?;
     put_form(model, round.form, out)?;
     out.push(b" ")?;
-    put_whole(round.base, out)?;
+    put_whole(out, round.base)?;
     put_entries(model.params.items(), round.vector.items(), out)
-}
-
-/// Appends a whole number.
-fn put_whole(number: i64, out: &mut Text) -> Result<(), Memory>
-    ensures appended { OnOk result (out.new ≡ out.old ++ signed_decimal number) }
-{
-    let mut buffer = Buffer::new();
-    out.push(buffer.format(number).as_bytes())
 }
 
 /// Appends the number of each parameter.
@@ -124,7 +116,7 @@ fn put_entry(name: &[u8], number: i64, out: &mut Text) -> Result<(), Memory>
     out.push(b" ")?;
     out.push(name)?;
     out.push(b" ")?;
-    put_whole(number, out)
+    put_whole(out, number)
 }
 
 /// Appends the basis of a round's master, and the column that grows.
@@ -143,7 +135,7 @@ fn put_column(column: Option<u32>, out: &mut Text) -> Result<(), Memory>
     match column {
         Some(column) => {
             out.push(b" column ")?;
-            put_count(column, out)
+            put_count(out, column as u64)
         }
         None => Ok(()),
     }

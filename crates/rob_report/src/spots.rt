@@ -1,6 +1,5 @@
 //! Spots of wide numbers, as they are printed.
 
-ghost use Rattle.std.specs.Fmt.{decimal};
 ghost use Rattle.std.specs.Prelude.{◌≡◌, ◌<◌, ◌++◌, codes, length, IfOk, OnOk};
 ghost use Rattle.rob_meaning.specs.Forms.{forms};
 ghost use Rattle.rob_model.specs.Valid.{IsValid};
@@ -10,7 +9,7 @@ ghost use Rattle.rob_report.specs.Spots.{basis_words, dictionary_words, form_nam
 
 use crate::names::{put_form, put_set_row, put_statement};
 use crate::places::put_place;
-use itoa::Buffer;
+use rob_cert::spelling::put_count;
 use rob_model::{Model, Program, Spot, Where};
 use rob_number::{Exact, Memory, Text};
 use std::alloc::Global;
@@ -51,7 +50,7 @@ fn put_spot<N: Exact>(model: &Model<N>, spot: &Spot, out: &mut Text) -> Result<(
             out.push(b"sum ")?;
             put_where(model, *place, out)?;
             out.push(b" ")?;
-            put_count(*term, out)
+            put_count(out, *term as u64)
         }
         Spot::Check(place) => {
             out.push(b"check ")?;
@@ -59,17 +58,9 @@ fn put_spot<N: Exact>(model: &Model<N>, spot: &Spot, out: &mut Text) -> Result<(
         }
         Spot::Replay(record) => {
             out.push(b"replay ")?;
-            put_count(*record, out)
+            put_count(out, *record as u64)
         }
     }
-}
-
-/// Appends a number in decimal digits.
-pub(crate) fn put_count(number: u32, out: &mut Text) -> Result<(), Memory>
-    ensures appended { OnOk result (out.new ≡ out.old ++ decimal number) }
-{
-    let mut buffer = Buffer::new();
-    out.push(buffer.format(number).as_bytes())
 }
 
 /// Appends what a coefficient, a clearing or a sum belongs to.
@@ -110,7 +101,7 @@ fn put_dictionary<N: Exact>(
 {
     put_program(model, program, out)?;
     out.push(b" at ")?;
-    put_count(position, out)?;
+    put_count(out, position as u64)?;
     out.push(b" basis")?;
     put_basis(basis, out)
 }
@@ -121,7 +112,7 @@ pub(crate) fn put_basis(basis: &[u32], out: &mut Text) -> Result<(), Memory>
 {
     for column in basis {
         out.push(b" ")?;
-        put_count(*column, out)?;
+        put_count(out, *column as u64)?;
     }
     Ok(())
 }

@@ -14,7 +14,7 @@ ghost use Rattle.rob_tree.specs.View.{node_of, tree_of};
 
 use crate::tree::{Node, Tree};
 use itoa::Buffer;
-use rob_cert::spelling::{put_named, put_words};
+use rob_cert::spelling::{put_named, put_whole, put_words};
 use rob_cert::{Cert, Status, write_cert};
 use rob_model::{Model, put_column_name};
 use rob_number::{Exact, Memory, Text};
@@ -103,14 +103,6 @@ fn put_leaf<N: Exact>(
     out.push(b"leaf\n")?;
     let text = write_cert(alloc, model, cert)?;
     out.push(text.bytes())
-}
-
-/// Appends a whole number.
-fn put_whole(out: &mut Text, k: i64) -> Result<(), Memory>
-    ensures appended { OnOk result (out.new ≡ out.old ++ signed_decimal k) }
-{
-    let mut buffer = Buffer::new();
-    out.push(buffer.format(k).as_bytes())
 }
 
 /// Appends the line of a branch.
