@@ -8,7 +8,6 @@ ghost use Rattle.rob_pieces.specs.SplitModel as split;
 use itoa::Buffer;
 use rob_model::Model;
 use rob_number::{Exact, Memory, Text};
-use std::alloc::Global;
 
 /// The number that written parameter `k`, from 0, has in cell `c`, from 1.
 pub fn param_in<N: Exact>(model: &Model<N>, c: u32, k: u32) -> u32
@@ -40,13 +39,4 @@ pub fn numbered(name: Text, c: u32) -> Result<Text, Memory>
     numbered.push(b"_")?;
     numbered.push(buffer.format(c).as_bytes())?;
     Ok(numbered)
-}
-
-/// A word as a text.
-pub fn word(alloc: Global, bytes: &[u8]) -> Result<Text, Memory>
-    ensures same { IfOk result (λ text. text ≡ bytes.now) }
-{
-    let mut text = Text::new(alloc);
-    text.push(bytes)?;
-    Ok(text)
 }

@@ -13,11 +13,11 @@ ghost use Rattle.rob_model.specs.declared.model.Var as variables;
 ghost use Rattle.rob_pieces.specs.SplitModel as split;
 ghost use Rattle.rob_pieces.specs.SplitNames.{HasGoodNames};
 
-use crate::cell::{numbered, word};
+use crate::cell::numbered;
 use crate::cut::Cut;
 use crate::split::cell_count;
 use indexmap::IndexSet;
-use rob_model::copy::copy_text;
+use rob_model::copy::{copy_text, word};
 use rob_model::{Adaptive, Model, Param, RowDef, Var};
 use rob_number::{Exact, List, Memory, Text};
 use std::alloc::Global;

@@ -8,9 +8,9 @@ ghost use Rattle.rob_model.specs.Valid.{IsValid};
 ghost use Rattle.rob_model.specs.View.{adaptive_of, relation_of, robust, row_of, sense_of};
 ghost use Rattle.rob_pieces.specs.SplitModel as split;
 
-use crate::cell::{numbered, rule_in, word};
+use crate::cell::{numbered, rule_in};
 use crate::expression::{expr_over, side};
-use rob_model::copy::copy_text;
+use rob_model::copy::{copy_text, word};
 use rob_model::{Expr, Model, Rel, RowDef, Sense};
 use rob_number::{Exact, List, Memory, Text};
 use std::alloc::Global;

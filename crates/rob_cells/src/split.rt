@@ -9,12 +9,12 @@ ghost use Rattle.rob_model.specs.View.{robust};
 ghost use Rattle.rob_pieces.specs.Cuts.{AreCuts, Cut as PlainCut, cell_count as count_of_cells};
 ghost use Rattle.rob_pieces.specs.SplitModel.{split_model};
 
-use crate::cell::{numbered, word};
+use crate::cell::numbered;
 use crate::copies::{append_copies, append_params, append_params_in};
 use crate::cut::Cut;
 use crate::lines::append_cell_lines;
 use crate::rows::append_cell_rows;
-use rob_model::copy::append_vars;
+use rob_model::copy::{append_vars, word};
 use rob_model::{Expr, Model, Var};
 use rob_number::{Exact, List, Memory};
 use std::alloc::Global;

@@ -35,12 +35,20 @@ pub fn copy_list<T: Copy>(alloc: Global, items: &[T]) -> Result<List<T>, Memory>
     Ok(List::from(copy))
 }
 
+/// A word as a text.
+pub fn word(alloc: Global, bytes: &[u8]) -> Result<Text, Memory>
+    ensures equal { IfOk result (λ text. text ≡ bytes.now) }
+{
+    let mut text = Text::new(alloc);
+    text.push(bytes)?;
+    Ok(text)
+}
+
 /// The same text.
 pub fn copy_text(alloc: Global, text: &Text) -> Result<Text, Memory>
     ensures equal { IfOk result (λ copy. copy ≡ text.now) }
 {
-    let mut copy = Text::new(alloc);
-    copy.push(text.bytes())?;
+    let copy = word(alloc, text.bytes())?;
     Ok(copy)
 }
 

@@ -177,8 +177,8 @@ fn numbered(word: &[u8], number: u32) -> Spelling<'_>
     }
 }
 
-/// The name of a parameter.
-fn parameter_name<N: Exact>(params: &[Param<N>], k: u32) -> &[u8]
+/// The name of a parameter, none past the last.
+pub fn parameter_name<N: Exact>(params: &[Param<N>], k: u32) -> &[u8]
     ensures name { result.now ≡ name_of_parameter (map (parameter_of N.value) params.now) k }
 {
     if (k as usize) < params.len() {

@@ -7,6 +7,7 @@ ghost use Rattle.rob_model.specs.View.{parameter_of, robust};
 ghost use Rattle.rob_report.specs.Rows.{form_column_names, fronts_of};
 
 use crate::names::{put_set_column, set_column_count};
+use rob_model::copy::word;
 use rob_model::{Model, Param, column_count, put_column_name};
 use rob_number::{Exact, List, Memory, Text};
 use std::alloc::Global;
@@ -67,15 +68,6 @@ fn form_columns<N: Exact>(alloc: Global, model: &Model<N>) -> Result<List<Text>,
     }
     list.push(word(alloc, b"tau")?)?;
     Ok(list)
-}
-
-/// A text of one word.
-pub fn word(alloc: Global, bytes: &[u8]) -> Result<Text, Memory>
-    ensures text { IfOk result (λ text. text ≡ bytes.now) }
-{
-    let mut text = Text::new(alloc);
-    text.push(bytes)?;
-    Ok(text)
 }
 
 /// The names of the set columns.

@@ -3,7 +3,6 @@
 ghost use Rattle.std.specs.Prelude.{◌≡◌, ◌<◌, ◌≤◌, ◌+◌, ◌^◌, ◌++◌, length, map, IfOk, OnOk};
 ghost use Rattle.rob_cert.specs.Shape.{HasShape};
 ghost use Rattle.rob_cert.specs.View.{certificate_of};
-ghost use Rattle.rob_meaning.specs.Names.{parameter_name as name_of_parameter};
 ghost use Rattle.rob_meaning.specs.RobustModel.{column_count, column_from};
 ghost use Rattle.rob_model.specs.Valid.{IsValid};
 ghost use Rattle.rob_model.specs.View.{adaptive_of, parameter_of, robust, variable_of};
@@ -11,6 +10,7 @@ ghost use Rattle.rob_report.specs.Report.{coefficient_text, coefficients_text, o
 
 use rob_cert::spelling::{put_named, put_number, put_single};
 use rob_cert::{Cert, Status};
+use rob_model::group::parameter_name;
 use rob_model::{Adaptive, Model, Param, Var};
 use rob_number::{Exact, Memory, Text};
 use std::alloc::Global;
@@ -152,15 +152,4 @@ fn put_coefficient<N: Exact>(out: &mut Text, number: N, name: &[u8]) -> Result<(
     put_number(out, number)?;
     out.push(b"*")?;
     out.push(name)
-}
-
-/// The name of a parameter, none past the last.
-fn parameter_name<N: Exact>(params: &[Param<N>], k: u32) -> &[u8]
-    ensures name { result.now ≡ name_of_parameter (map (parameter_of N.value) params.now) k }
-{
-    if (k as usize) < params.len() {
-        params[k as usize].name.bytes()
-    } else {
-        b""
-    }
 }

@@ -6,9 +6,9 @@ ghost use Rattle.rob_replay.specs.View.{line_of};
 ghost use Rattle.rob_report.specs.Lines.{line};
 ghost use Rattle.rob_report.specs.Tables.{adaptive_names as names_of_adaptives, bound_names, named_text, named_texts, own_bound_names, row_names as names_of_rows, slack_names as names_of_slacks, table_line, table_lines, table_of, values_text};
 
-use crate::labels::word;
 use itoa::Buffer;
 use rob_cert::spelling::put_number;
+use rob_model::copy::word;
 use rob_model::{Adaptive, Model, RowDef};
 use rob_number::{Exact, List, Memory, Text};
 use rob_replay::{Table, TableLine};

@@ -12,7 +12,7 @@ returns g c =
     record {
       appended = cell_row_names m c.args.c c.args.names.now c.push.new.self c.append_own_row_names.new.names
           c.append_bound_names.new.names
-          c.in_ok-word.field-0 c.in_ok-cost.cost c.in_ok-word.ensures.same c.in_ok-cost.ensures.numbered
+          c.in_ok-word.field-0 c.in_ok-cost.cost c.in_ok-word.ensures.equal c.in_ok-cost.ensures.numbered
           c.in_ok-push.ensures.appended
           (c.in_ok-append_own_row_names.ensures.appended
           ∙ ap (λ rs. c.push.new.self ++ map (row_name c.args.c) (map (row_of value) rs)) c.items.ensures.list)

@@ -26,7 +26,7 @@ returns g c =
           (c.in_ok-append_var_names.ensures.appended
           ∙ ap (λ xs. c.append_row_names.new.names ++ map (λ (x : Var g.row.N.Denot). x.name) xs)
           c.items-2.ensures.list)
-          c.in_ok-word.ensures.same
+          c.in_ok-word.ensures.equal
           c.in_ok-push.ensures.appended
           (c.in_ok-append_copy_names.ensures.appended
           ∙ ap (λ ys. c.push.new.self ++ flat_map (copy_names_in (map (adaptive_of value) ys))

@@ -19,7 +19,7 @@ returns g c =
     record {
       row = λ i. record {
         name = (c.in_ok-numbered.ensures.numbered
-            ∙ ap (λ (word : List ℕ). numbered word c.args.c) c.in_ok-word.ensures.same) i;
+            ∙ ap (λ (word : List ℕ). numbered word c.args.c) c.in_ok-word.ensures.equal) i;
         left =
             (variable_is m c.args.c value (length c.items.result.now)
             ∙ ap variable (ap length c.items.ensures.list ∙ sym (length-map model.vars (variable_of value)))) i;

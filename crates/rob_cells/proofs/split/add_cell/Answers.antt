@@ -35,7 +35,7 @@ returns g c =
       added = added value m (map (cut_of value) c.args.cuts.now) c.args.c c.args.split.now c.in_ok-set.set
           c.append_params_in.new.list c.push.new.self c.append_cell_lines.new.list c.append_number.new.list
           c.append_copies.new.list c.append_cell_rows.new.list c.append_number-2.new.list
-          (c.in_ok-set.ensures.numbered ∙ ap (λ (word : List ℕ). numbered word c.args.c) c.in_ok-word.ensures.same)
+          (c.in_ok-set.ensures.numbered ∙ ap (λ (word : List ℕ). numbered word c.args.c) c.in_ok-word.ensures.equal)
           (c.in_ok-append_params_in.ensures.appended
           ∙ ap (λ ps. map (parameter_of value) c.args.split.now.params
           ++ map (in_set c.in_ok-set.set) (map (parameter_of value) ps)) c.items.ensures.list)

@@ -20,7 +20,7 @@ returns g c =
           c.new.ensures.empty c.new-2.ensures.empty c.new-3.ensures.empty
           (c.in_ok-append_vars.ensures.appended ∙ ap (λ xs. xs ++ c.items-2.result.now) c.new-vars.ensures.empty
           ∙ c.items-2.ensures.list)
-          c.in_ok-word.ensures.same c.in_ok-push.ensures.appended c.new-4.ensures.empty
+          c.in_ok-word.ensures.equal c.in_ok-push.ensures.appended c.new-4.ensures.empty
           (ap length c.items-3.ensures.list)
           c.new-5.ensures.empty c.new-6.ensures.empty;
     }

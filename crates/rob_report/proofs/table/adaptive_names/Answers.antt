@@ -11,5 +11,5 @@ loop-adaptive-preserved g c =
     c.loop-adaptive.adaptive-index y y
     c.loop-adaptive.names c.push.new.self _ c.loop-adaptive-test.true c.adaptive-item.is
     (c.in_ok-push.ensures.appended
-    ∙ ap (λ text. c.loop-adaptive.names ++ text ∷ []) (c.in_ok-word.ensures.text ∙ c.bytes.ensures.list))
+    ∙ ap (λ text. c.loop-adaptive.names ++ text ∷ []) (c.in_ok-word.ensures.equal ∙ c.bytes.ensures.list))
     c.loop-adaptive.invariant

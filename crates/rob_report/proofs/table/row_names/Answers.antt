@@ -10,5 +10,5 @@ loop-row-preserved g c =
     items_more (row_of g.N.Exact.value) (λ (r : Row). r.name) c.args.rows.now c.loop-row.row-index r r
     c.loop-row.names c.push.new.self _ c.loop-row-test.true c.row-item.is
     (c.in_ok-push.ensures.appended
-    ∙ ap (λ text. c.loop-row.names ++ text ∷ []) (c.in_ok-word.ensures.text ∙ c.bytes.ensures.list))
+    ∙ ap (λ text. c.loop-row.names ++ text ∷ []) (c.in_ok-word.ensures.equal ∙ c.bytes.ensures.list))
     c.loop-row.invariant
