@@ -15,6 +15,9 @@ use rob_ranges::{Form, Purse, Whole};
 use rob_syntax::syntax::{Atom, Index, Range};
 use std::alloc::Global;
 
+/// The greatest value of an index.
+const GREATEST_INDEX: u64 = 999;
+
 /// What is looked for.
 #[derive(Clone, Copy)]
 pub enum Test {
@@ -116,7 +119,7 @@ fn is_great_atom(atom: Atom) -> bool
     ensures great { result ≡ is_great_atom (seen_atom atom) }
 {
     match atom {
-        Atom::Digits(digits) => digits > 999,
+        Atom::Digits(digits) => digits > GREATEST_INDEX,
         Atom::Bound(_) => false,
     }
 }
