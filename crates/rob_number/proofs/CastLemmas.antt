@@ -21,6 +21,13 @@ seen z h = to_z-of_z (fits_small z h)
 pub seen_within : (limit : ℕ) (z : ℤ) → limit ≤ 2 ^ 62 - 1 → nat_abs z ≤ limit → to_z w64 (of_z w64 z) ≡ z
 seen_within limit z high h = seen z (omega arith)
 
+-- a limit as code reads it
+pub limit_seen : (bound : ℤ) (limit : ℕ) → bound ≡ pos limit → limit ≤ 2 ^ 62 - 1
+    → nat_abs (to_z w64 (of_z w64 bound)) ≡ limit
+limit_seen bound limit is high =
+    ap (λ (z : ℤ). nat_abs (to_z w64 (of_z w64 z))) is
+    ∙ ap nat_abs (seen_within limit (pos limit) high (omega arith))
+
 pub seen_small : (z : ℤ) → nat_abs z < 2 ^ 62 → nat_abs (to_z w64 (of_z w64 z)) < 2 ^ 62
 seen_small z h = subst (λ x. nat_abs x < 2 ^ 62) (sym (seen z h)) h
 

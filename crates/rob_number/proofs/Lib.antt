@@ -2,3 +2,4 @@ pub mod AnswerLaws
 pub mod CastLemmas
 mod Comparing
 mod LowestLemmas
+pub mod PairLemmas

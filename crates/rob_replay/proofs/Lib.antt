@@ -1,5 +1,4 @@
 pub mod GatherLemmas
-pub mod NumberLemmas
 pub mod FieldLemmas
 pub mod HeaderLemmas
 pub mod HeaderLaws

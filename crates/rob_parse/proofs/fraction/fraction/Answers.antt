@@ -1,5 +1,5 @@
 use Rattle.std.proofs.Common.{subst, sym, ◌<◌, ◌≤◌}
-use Rattle.rob_parse.proofs.Degrees.NumberLemmas.{written_kept}
+use Rattle.rob_number.proofs.PairLemmas.{written_kept}
 use Rattle.rob_parse.proofs.fraction.fraction.Goals as goal
 
 pub unreachable-requires : goal.unreachable-requires

@@ -16,7 +16,7 @@ use Rattle.rob_parse.proofs.Building.PlacedLemmas.{well_formed}
 use Rattle.rob_parse.proofs.Sets.RoomLemmas.{has_room, written_count_is}
 use Rattle.rob_parse.proofs.Names.ChainLemmas.{reads_chain}
 use Rattle.rob_parse.proofs.Names.WellNamed.{well_named}
-use Rattle.rob_parse.proofs.Degrees.NumberLemmas.{limit_seen}
+use Rattle.rob_number.proofs.CastLemmas.{limit_seen}
 use Rattle.rob_parse.proofs.model.read_model.Goals as goal
 
 pub model-requires-clause-fits : goal.model-requires-clause-fits

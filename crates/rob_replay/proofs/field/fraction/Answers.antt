@@ -1,4 +1,4 @@
-use Rattle.rob_replay.proofs.NumberLemmas.{written_kept}
+use Rattle.rob_number.proofs.PairLemmas.{written_kept}
 use Rattle.rob_replay.proofs.field.fraction.Goals as goal
 
 pub unreachable-requires : goal.unreachable-requires

@@ -1,4 +1,4 @@
--- Whole numbers within the limit make a number within it.
+-- A fraction of two whole numbers within the limit is within it.
 use Rattle.std.proofs.Common.{◌≡◌, ℕ, zero, suc, ◌-◌, ◌^◌, ◌<◌, ◌≤◌, arith, le_trans, div-le_self, ◌∙◌, to_z, w64}
 use Rattle.std.specs.Prelude.{pos, nat_abs, Some}
 use Rattle.rob_algebra.specs.Fraction.{of_pair}
