@@ -18,6 +18,12 @@ at-right (x ∷ xs) ys k =
     ap (λ j. at (x ∷ (xs ++ ys)) j) (let e : suc (length xs) + k ≡ suc (length xs + k) = omega arith in e)
     ∙ at-right xs ys k
 
+-- the list of one of the first adaptive variables
+pub list_in-left : (xs ys : List AdaptiveVariable) (y : ℕ) → y < length xs → list_in (xs ++ ys) y ≡ list_in xs y
+list_in-left [] ys y inside = absurd (omega arith)
+list_in-left (x ∷ xs) ys zero inside = refl
+list_in-left (x ∷ xs) ys (suc y) inside = list_in-left xs ys y (omega arith)
+
 -- ---- scenarios put together
 module _ (n : ℕ) where
   pub length-joined : (named : ℕ) (f : ℕ → List Fraction) → ((S : ℕ) → S < suc named → length (f S) ≡ n) →

@@ -4,7 +4,7 @@ use Rattle.std.proofs.Common.{sym, ◌∙◌, ap, ap₂, subst, arith, length-ap
 use Rattle.std.proofs.lemmas.List.{length-map, take_at}
 use Rattle.std.proofs.lemmas.Nat.{div-mul-add}
 use Rattle.rob_meaning.proofs.AdmittedLemmas.{length-later}
-use Rattle.rob_meaning.proofs.JointScenarioLemmas.{length-tabulate}
+use Rattle.rob_meaning.proofs.JointScenarioLemmas.{length-tabulate, list_in-left}
 use Rattle.rob_meaning.specs.Places.{tabulate}
 use Rattle.rob_meaning.specs.RobustModel.{AdaptiveVariable, RobustModel, column_count, column_from, column_of, in_set, list_in, list_of, set_count, written_count, written_parameters}
 use Rattle.rob_pieces.specs.Cuts.{Cut, cell_count, cell_numbers, IsCell}
@@ -36,11 +36,6 @@ column_right b [] ys y = ap (λ j. column_from b ys j) (let e : zero + y ≡ y =
 column_right b (x ∷ xs) ys y =
     ap (λ j. column_from b (x ∷ (xs ++ ys)) j) (let e : suc (length xs) + y ≡ suc (length xs + y) = omega arith in e)
     ∙ column_right (suc b + length x.on) xs ys y
-
-list_left : (xs ys : List AdaptiveVariable) (y : ℕ) → y < length xs → list_in (xs ++ ys) y ≡ list_in xs y
-list_left [] ys y h = absurd (omega arith)
-list_left (x ∷ xs) ys zero h = refl
-list_left (x ∷ xs) ys (suc y) h = list_left xs ys y (omega arith)
 
 list_right : (xs ys : List AdaptiveVariable) (y : ℕ) → list_in (xs ++ ys) (length xs + y) ≡ list_in ys y
 list_right [] ys y = ap (λ j. list_in ys j) (let e : zero + y ≡ y = omega arith in e)
@@ -108,7 +103,7 @@ module _ (m : RobustModel) where
     list_blocks (suc n) g zero y small some =
         ap (λ j. list_in (flat_map copies (tabulate (suc n) g)) j)
         (let e : zero * length ys + y ≡ y = omega (arith, zero-mul (length ys)) in e)
-        ∙ list_left (copies (g zero)) (flat_map copies (tabulate n (λ k. g (suc k)))) y
+        ∙ list_in-left (copies (g zero)) (flat_map copies (tabulate n (λ k. g (suc k)))) y
         (subst (λ l. y < l) (sym (length-map ys (copy_in m (g zero)))) some)
         ∙ list_copies (g zero) ys y
     list_blocks (suc n) g (suc i) y small some =

@@ -22,6 +22,7 @@ use Rattle.rob_rules.proofs.GrowingLemmas.{nothing_at}
 use Rattle.rob_rules.proofs.LinkLemmas.{set_kept}
 use Rattle.rob_rules.proofs.ReadingLemmas.{none_found}
 use Rattle.rob_index.proofs.NamingLemmas.{neither}
+use Rattle.rob_meaning.proofs.JointScenarioLemmas.{list_in-left}
 
 -- ---- writing one sort
 pub set_cases : (sorts : List (Option Sort)) (i k : ℕ) (v : Sort) → (sort_at (set sorts i (Some v)) k ≡ Some v) ⊎ (sort_at (set sorts i (Some v)) k ≡ sort_at sorts k)
@@ -66,11 +67,6 @@ Names parameters variables ys (Some RowName) = Unit {0}
 Names parameters variables ys (Some (sort.Set S)) = Unit {0}
 Names parameters variables ys None = Unit {0}
 
-list_front : (ys zs : List AdaptiveVariable) (j : ℕ) → j < length ys → list_in (ys ++ zs) j ≡ list_in ys j
-list_front [] zs j inside = absurd (omega arith)
-list_front (y ∷ ys) zs zero inside = refl
-list_front (y ∷ ys) zs (suc j) inside = list_front ys zs j (omega arith)
-
 list_last : (ys : List AdaptiveVariable) (z : AdaptiveVariable) → list_in (ys ++ z ∷ []) (length ys) ≡ z.on
 list_last [] z = refl
 list_last (y ∷ ys) z = list_last ys z
@@ -78,7 +74,7 @@ list_last (y ∷ ys) z = list_last ys z
 names_more : (p q v w : ℕ) (ys zs : List AdaptiveVariable) (o : Option Sort) → p ≤ q → v ≤ w → Names p v ys o → Names q w (ys ++ zs) o
 names_more p q v w ys zs (Some (Parameter j)) a b h = omega arith
 names_more p q v w ys zs (Some (Decision j)) a b h = omega arith
-names_more p q v w ys zs (Some (Policy j d)) a b h = (omega (arith, h.0, length-append ys zs), ap one_if_some (list_front ys zs j h.0) ∙ h.1)
+names_more p q v w ys zs (Some (Policy j d)) a b h = (omega (arith, h.0, length-append ys zs), ap one_if_some (list_in-left ys zs j h.0) ∙ h.1)
 names_more p q v w ys zs (Some RowName) a b h = tt
 names_more p q v w ys zs (Some (sort.Set S)) a b h = tt
 names_more p q v w ys zs None a b h = tt
