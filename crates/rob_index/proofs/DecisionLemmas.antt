@@ -11,7 +11,7 @@ use Rattle.rob_index.proofs.ListLemmas.{any_true, any_from, any_same, any_flat, 
 use Rattle.rob_index.proofs.NestLemmas.{never_over, attained, dead, le_from, le_to, lt_from, lt_not}
 
 -- ---- the settings that are run through are those within the ranges
-fixed_within : (vs : List ℤ) → AreWithin (fixed vs) vs
+pub fixed_within : (vs : List ℤ) → AreWithin (fixed vs) vs
 fixed_within [] = tt
 fixed_within (v ∷ vs) = (fixed_within vs, omega (arith, ints), omega (arith, ints))
 

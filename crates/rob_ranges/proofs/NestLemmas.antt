@@ -18,7 +18,7 @@ onto_last [] r nest = refl
 onto_last (q ∷ rs) r nest = onto_last rs r (q ∷ nest)
 
 -- ---- comparisons
-le_no : (a b : ℤ) → b <ℤ a → int_le a b ≡ false
+pub le_no : (a b : ℤ) → b <ℤ a → int_le a b ≡ false
 le_no a b h = grind (arith, ints)
 
 pub le_over : (a b : ℤ) → int_le a b ≡ false → b <ℤ a
