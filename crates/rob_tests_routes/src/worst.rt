@@ -118,8 +118,7 @@ fn at_numbers<N: Exact>(
     let plan = plan(alloc, numbers)?;
     match word {
         "worst" => found_at_plan(alloc, whole, form, &plan, &mut Tally::new()),
-        "counts" => counts(alloc, whole, form, &plan),
-        "searches" => searches(alloc, whole, form, &plan, numbers),
+        "counts" | "searches" => by_finder(alloc, whole, word, form, &plan, numbers),
         _ => Err(Trouble::Line),
     }
 }
@@ -163,13 +162,15 @@ fn found_at_step<N: Exact>(
     told(alloc, &found)
 }
 
-/// Whether three searches of a form at a plan take fewer operations by one finder, which solves the set once, than by
-/// three calls, each of which solves it.
-fn counts<N: Exact>(
+/// The answer of a call on one finder, which solves the set once: whether three searches of a form at a plan take fewer
+/// operations by it than by three calls, each of which solves the set; or what it tells in turn.
+fn by_finder<N: Exact>(
     alloc: Global,
     whole: &Written,
+    word: &str,
     form: u32,
     plan: &Plan<N>,
+    step: &[N],
 ) -> Result<String, Trouble>
     requires model { AreElaborated N.limit whole.now.forms whole.now.set }
     requires few { IsFewSet whole.now.set }
@@ -177,7 +178,13 @@ fn counts<N: Exact>(
 {
     let mut ledger = Tally::new();
     match Finder::new(alloc, &whole.set, &mut ledger) {
-        Ok(mut finder) => counted(alloc, &mut finder, whole, form, plan, &mut ledger),
+        Ok(mut finder) => {
+            if word == "counts" {
+                counted(alloc, &mut finder, whole, form, plan, &mut ledger)
+            } else {
+                found_in_turn(alloc, &mut finder, whole, form, plan, step)
+            }
+        }
         Err(stop) => stopped(alloc, &stop),
     }
 }
@@ -219,24 +226,6 @@ pub(crate) fn set_operations<N: Exact>(alloc: Global, model: &Model<N>) -> Resul
     match Finder::<N>::new(alloc, &whole.set, &mut ledger) {
         Ok(_) => Ok(ledger.ops()),
         Err(_) => Err(Trouble::Line),
-    }
-}
-
-/// What one finder tells of a form at a plan, along a direction, and at the plan again.
-fn searches<N: Exact>(
-    alloc: Global,
-    whole: &Written,
-    form: u32,
-    plan: &Plan<N>,
-    step: &[N],
-) -> Result<String, Trouble>
-    requires model { AreElaborated N.limit whole.now.forms whole.now.set }
-    requires few { IsFewSet whole.now.set }
-    requires set { IsSetOfModel N.limit whole.now.set }
-{
-    match Finder::new(alloc, &whole.set, &mut Tally::new()) {
-        Ok(mut finder) => found_in_turn(alloc, &mut finder, whole, form, plan, step),
-        Err(stop) => stopped(alloc, &stop),
     }
 }
 
