@@ -6,17 +6,15 @@ ghost use Rattle.rob_cert.specs.View.{certificate_of};
 ghost use Rattle.rob_model.specs.Valid.{IsValid};
 ghost use Rattle.rob_model.specs.View.{robust};
 
+use crate::cuts::Telling;
 use crate::{cuts, given};
 use rob_case::text::shown;
 use rob_case::{Case, Trouble};
-use rob_cert::{Cert, Stop, write_cert};
-use rob_cuts::solve_cuts;
+use rob_cert::{Cert, write_cert};
 use rob_dualize::solve_model;
-use rob_elab::elaborate;
 use rob_model::{Model, Spot};
 use rob_number::{Exact, Tally};
 use rob_report::report_text;
-use rob_sets::{ElabErr, clear_set};
 use std::alloc::Global;
 
 /// What stands between two lines, as bytes are shown.
@@ -52,7 +50,7 @@ fn answered<N: Exact>(alloc: Global, case: &Case, route: &str) -> Result<String,
     let model: Model<N> = given::model(alloc, case)?;
     match route {
         "dual" => by_counterpart(alloc, &model),
-        "cuts" => by_cuts(alloc, &model),
+        "cuts" => cuts::of_model(alloc, &model, Telling::Prints),
         _ => Err(Trouble::Line),
     }
 }
@@ -63,34 +61,16 @@ fn by_counterpart<N: Exact>(alloc: Global, model: &Model<N>) -> Result<String, T
 {
     match solve_model(alloc, model, &mut Tally::new()) {
         Ok(cert) => printed(alloc, model, &cert),
-        Err(stop) => stopped(alloc, &stop),
-    }
-}
-
-/// What comes of a model by cutting planes, with their rounds.
-fn by_cuts<N: Exact>(alloc: Global, model: &Model<N>) -> Result<String, Trouble>
-    requires valid { IsValid N.value model.now }
-{
-    let set = match clear_set(alloc, model, &mut Tally::new()) {
-        Ok(set) => set,
-        Err(error) => return refused(alloc, &error),
-    };
-    let forms = match elaborate(alloc, model, &set, &mut Tally::new()) {
-        Ok(forms) => forms,
-        Err(error) => return refused(alloc, &error),
-    };
-    match solve_cuts::<N, Tally>(alloc, &forms, &set, &mut Tally::new()) {
-        Ok((cert, trace)) => {
-            let mut answer = printed(alloc, model, &cert)?;
-            cuts::rounds(alloc, &mut answer, trace.rounds.items())?;
-            Ok(answer)
-        }
-        Err(stop) => stopped(alloc, &stop),
+        Err(stop) => cuts::stopped(alloc, &stop, Telling::Prints),
     }
 }
 
 /// What `solve` and then `prove` print of a certificate, as bytes are shown.
-fn printed<N: Exact>(alloc: Global, model: &Model<N>, cert: &Cert<N>) -> Result<String, Trouble>
+pub(crate) fn printed<N: Exact>(
+    alloc: Global,
+    model: &Model<N>,
+    cert: &Cert<N>,
+) -> Result<String, Trouble>
     requires valid { IsValid N.value model.now }
     requires shape { HasShape (robust N.value model.now) (certificate_of N.value cert.now) }
 {
@@ -100,29 +80,8 @@ fn printed<N: Exact>(alloc: Global, model: &Model<N>, cert: &Cert<N>) -> Result<
     shown(alloc, text.bytes())
 }
 
-/// Why there is no certificate, with the rounds before it.
-fn stopped(alloc: Global, stop: &Stop) -> Result<String, Trouble> {
-    match stop {
-        Stop::EmptySet(weights) => given::empty(alloc, weights.items()),
-        Stop::Wide(spot, trace) => {
-            let mut answer = wide(alloc, spot)?;
-            cuts::rounds(alloc, &mut answer, trace.rounds.items())?;
-            Ok(answer)
-        }
-        Stop::Memory => Err(Trouble::Memory),
-    }
-}
-
-/// Why a model isn't written in whole numbers.
-fn refused(alloc: Global, error: &ElabErr) -> Result<String, Trouble> {
-    match error {
-        ElabErr::Wide(spot) => wide(alloc, spot),
-        ElabErr::Memory => Err(Trouble::Memory),
-    }
-}
-
 /// Where a number is wide, and in a second line all that is told of it.
-fn wide(alloc: Global, spot: &Spot) -> Result<String, Trouble> {
+pub(crate) fn wide(alloc: Global, spot: &Spot) -> Result<String, Trouble> {
     let place = given::wide(alloc, spot)?;
     Ok(format!(in alloc; "{place}{LINE_END}{spot:?}")?)
 }

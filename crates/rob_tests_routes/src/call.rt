@@ -4,6 +4,7 @@ ghost use Rattle.rob_meaning.specs.Named.{IsNamed};
 ghost use Rattle.rob_model.specs.Valid.{IsValid};
 ghost use Rattle.rob_model.specs.View.{robust};
 
+use crate::cuts::Telling;
 use crate::{alike, boxes, cuts, given, sweep, tree, worst};
 use rob_case::text::keyword;
 use rob_case::{Calls, Case, Trouble};
@@ -87,8 +88,8 @@ fn of_search<N: Exact>(
     match word {
         "with-budget" => sweep::limited(alloc, model, rest),
         "sweep" => sweep::swept(alloc, model, rest),
-        "cuts" => cuts::of_model(alloc, model, false),
-        "cuts-counts" => cuts::of_model(alloc, model, true),
+        "cuts" => cuts::of_model(alloc, model, Telling::Parts),
+        "cuts-counts" => cuts::of_model(alloc, model, Telling::Counts),
         _ => worst::answer(alloc, model, word, rest),
     }
 }

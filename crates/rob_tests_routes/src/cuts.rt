@@ -1,42 +1,73 @@
 //! The rounds of cutting planes, and the certificate that ends them.
 
+ghost use Rattle.rob_cert.specs.Shape.{HasShape};
+ghost use Rattle.rob_cert.specs.View.{certificate_of};
 ghost use Rattle.rob_model.specs.Valid.{IsValid};
+ghost use Rattle.rob_model.specs.View.{robust};
 
-use crate::given;
 use crate::worst::{compared, set_operations};
+use crate::{alike, given};
 use rob_case::Trouble;
 use rob_case::numbers::{put_all, shown};
 use rob_cert::{Cert, Round, Status, Stop};
 use rob_cuts::solve_cuts;
 use rob_elab::elaborate;
-use rob_model::Model;
+use rob_model::{Model, Spot};
 use rob_number::{Exact, LpKind, Tally};
-use rob_sets::clear_set;
+use rob_sets::{ElabErr, clear_set};
 use std::alloc::Global;
 
-/// What the cutting planes of a model come to, or whether they take fewer operations than to solve its set twice.
+/// How it is told what cutting planes come to.
+#[derive(Clone, Copy)]
+pub(crate) enum Telling {
+    /// By the parts of the certificate, and the rounds.
+    Parts,
+    /// By whether they take fewer operations than to solve the set twice.
+    Counts,
+    /// As `solve` and `prove` print it, and by the rounds.
+    Prints,
+}
+
+/// What the cutting planes of a model come to. It alone has the model in whole numbers and the certificate: what it
+/// calls is lent them.
 pub(crate) fn of_model<N: Exact>(
     alloc: Global,
     model: &Model<N>,
-    counts: bool,
+    telling: Telling,
 ) -> Result<String, Trouble>
     requires valid { IsValid N.value model.now }
 {
-    let Ok(set) = clear_set(alloc, model, &mut Tally::new()) else {
-        return Err(Trouble::Line);
+    let set = match clear_set(alloc, model, &mut Tally::new()) {
+        Ok(set) => set,
+        Err(error) => return refused(alloc, &error, telling),
     };
-    let Ok(forms) = elaborate(alloc, model, &set, &mut Tally::new()) else {
-        return Err(Trouble::Line);
+    let forms = match elaborate(alloc, model, &set, &mut Tally::new()) {
+        Ok(forms) => forms,
+        Err(error) => return refused(alloc, &error, telling),
     };
     let mut ledger = Tally::new();
     match solve_cuts::<N, Tally>(alloc, &forms, &set, &mut ledger) {
-        Ok(_) if counts => counted(alloc, model, &ledger),
-        Ok((cert, trace)) => {
-            let mut answer = ended(alloc, &cert)?;
-            rounds(alloc, &mut answer, trace.rounds.items())?;
-            Ok(answer)
-        }
-        Err(stop) => stopped(alloc, &stop),
+        Ok((cert, trace)) => told(alloc, model, &cert, trace.rounds.items(), &ledger, telling),
+        Err(stop) => stopped(alloc, &stop, telling),
+    }
+}
+
+/// What is told of a certificate, of the rounds that led to it, and of their operations.
+fn told<N: Exact>(
+    alloc: Global,
+    model: &Model<N>,
+    cert: &Cert<N>,
+    made: &[Round],
+    ledger: &Tally,
+    telling: Telling,
+) -> Result<String, Trouble>
+    requires valid { IsValid N.value model.now }
+    requires shape { HasShape (robust N.value model.now) (certificate_of N.value cert.now) }
+{
+    match telling {
+        Telling::Parts => with_rounds(alloc, ended(alloc, cert)?, made),
+        Telling::Counts => counted(alloc, model, ledger),
+        Telling::Prints => with_rounds(alloc, alike::printed(alloc, model, cert)?, made),
     }
 }
 
@@ -49,16 +80,37 @@ fn counted<N: Exact>(alloc: Global, model: &Model<N>, ledger: &Tally) -> Result<
 }
 
 /// Why there is no certificate, with the rounds before it.
-fn stopped(alloc: Global, stop: &Stop) -> Result<String, Trouble> {
+pub(crate) fn stopped(alloc: Global, stop: &Stop, telling: Telling) -> Result<String, Trouble> {
     match stop {
         Stop::EmptySet(weights) => given::empty(alloc, weights.items()),
         Stop::Wide(spot, trace) => {
-            let mut answer = given::wide(alloc, spot)?;
-            rounds(alloc, &mut answer, trace.rounds.items())?;
-            Ok(answer)
+            with_rounds(alloc, wide(alloc, spot, telling)?, trace.rounds.items())
         }
         Stop::Memory => Err(Trouble::Memory),
     }
+}
+
+/// Why a model isn't written in whole numbers.
+fn refused(alloc: Global, error: &ElabErr, telling: Telling) -> Result<String, Trouble> {
+    match error {
+        ElabErr::Wide(spot) => wide(alloc, spot, telling),
+        ElabErr::Memory => Err(Trouble::Memory),
+    }
+}
+
+/// Where a number is wide, and where all is printed what more is told of it.
+fn wide(alloc: Global, spot: &Spot, telling: Telling) -> Result<String, Trouble> {
+    match telling {
+        Telling::Prints => alike::wide(alloc, spot),
+        Telling::Parts | Telling::Counts => given::wide(alloc, spot),
+    }
+}
+
+/// An answer with the rounds behind it.
+fn with_rounds(alloc: Global, answer: String, made: &[Round]) -> Result<String, Trouble> {
+    let mut answer = answer;
+    rounds(alloc, &mut answer, made)?;
+    Ok(answer)
 }
 
 /// The certificate's status, value, plan, direction and items.
@@ -82,7 +134,7 @@ fn ended<N: Exact>(alloc: Global, cert: &Cert<N>) -> Result<String, Trouble> {
 }
 
 /// The rounds: their kind, what was tried, and their cuts.
-pub(crate) fn rounds(alloc: Global, answer: &mut String, rounds: &[Round]) -> Result<(), Trouble> {
+fn rounds(alloc: Global, answer: &mut String, rounds: &[Round]) -> Result<(), Trouble> {
     for round in rounds {
         let kind = match round.kind {
             LpKind::Optimal => "best",

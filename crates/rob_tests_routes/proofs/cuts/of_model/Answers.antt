@@ -14,3 +14,8 @@ solve_cuts-requires-clause-model g c = record {
   };
   is_model = c.requires.valid.well_formed;
 }
+
+pub told-requires-clause-shape : goal.told-requires-clause-shape
+told-requires-clause-shape g c =
+    (c.in-Ok-solve_cuts.ensures.solved (robust g.N.Exact.value c.args.model.now) c.requires.valid.well_formed
+    c.in-Ok-elaborate.ensures.forms c.in-Ok.ensures.set).shape
