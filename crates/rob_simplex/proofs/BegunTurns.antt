@@ -13,7 +13,7 @@ use Rattle.rob_entries.specs.Updates.{IsWideCleared}
 use Rattle.rob_simplex.specs.declared.state.Cause.{Cause}
 use Rattle.rob_simplex.specs.declared.state.Cause.TheVariants.{Told, Turn, First, Elsewhere}
 use Rattle.rob_simplex.specs.Dictionaries.{Table, positions, width_of, columns_of, basic_columns, rows_of, IsClosed, IsPivoted}
-use Rattle.rob_simplex.specs.Begun.{HasBegunTurn, HasBegunAt, HasBegunIn, StandsFrom, HaltsAt}
+use Rattle.rob_simplex.specs.Begun.{HasBegunTurn, HasBegunAt, StandsFrom, HaltsAt}
 use Rattle.rob_simplex.specs.Endings.{halted_by}
 use Rattle.rob_simplex.specs.Phases.{StandsFor, InSecond}
 use Rattle.rob_simplex.specs.Solvers.{Solver}
@@ -32,20 +32,14 @@ turn_where A B f t row h = record { before = h.before; stood = f h.before h.stoo
 pub begun_where : (A B : Table → Type 0) → ((t : Table) → A t → B t) → (cause : Cause) (t : Table) → HasBegunAt A cause t → HasBegunAt B cause t
 begun_where A B f Told t h = h
 begun_where A B f (Turn row) t h = turn_where A B f t row h
-begun_where A B f (First row) t h = h
+begun_where A B f First t h = h
 begun_where A B f Elsewhere t h = h
 
 pub halts_begun : (IsEnd : Columns → Type 0) (Stood : Table → Type 0) (limit : ℕ) (P : Program) (i : ℕ) (cause : Cause) (t : Table) → HasBegunAt Stood cause t → HaltsAt IsEnd Stood limit P i cause t
 halts_begun IsEnd Stood limit P i Told t h = absurd h
 halts_begun IsEnd Stood limit P i (Turn row) t h = h
-halts_begun IsEnd Stood limit P i (First row) t h = absurd h
+halts_begun IsEnd Stood limit P i First t h = absurd h
 halts_begun IsEnd Stood limit P i Elsewhere t h = h
-
-pub halts_first : (IsEnd : Columns → Type 0) (Stood : Table → Type 0) (limit : ℕ) (P : Program) (i : ℕ) (cause : Cause) (t : Table) → HasBegunIn P cause t → HaltsAt IsEnd Stood limit P i cause t
-halts_first IsEnd Stood limit P i Told t h = absurd h
-halts_first IsEnd Stood limit P i (Turn row) t h = absurd h
-halts_first IsEnd Stood limit P i (First row) t h = h
-halts_first IsEnd Stood limit P i Elsewhere t h = h
 
 -- on the path that goes on from a basis of the program's path
 stands_on : (P : Program) (t : Table) → InSecond P t → (u : Table) → StandsFrom P (columns_of t.basis) u → InSecond P u
@@ -58,13 +52,13 @@ halts_on limit P t t' i Told h w =
     let b = second_from P t t' w.growing h (record { own = w.own; reached = w.last.reached; ends = w.ends }) in
     ends_wide limit P t' w.growing i b.0 b.1 w.wide
 halts_on limit P t t' i (Turn row) h w = turn_where (StandsFrom P (columns_of t.basis)) (InSecond P) (stands_on P t h) t' row w
-halts_on limit P t t' i (First row) h w = w
+halts_on limit P t t' i First h w = w
 halts_on limit P t t' i Elsewhere h w = w
 
 pub halted_path : (limit : ℕ) (P : Program) (s : Solver) (i : ℕ) (cause : Cause) → HaltsAt (Last P) (InSecond P) limit P i cause s.dictionary → halted_by limit P i s cause
 halted_path limit P s i Told h = inl h
 halted_path limit P s i (Turn row) h = h
-halted_path limit P s i (First row) h = h
+halted_path limit P s i First h = h
 halted_path limit P s i Elsewhere h = h
 
 -- ---- a turn that was begun is ended

@@ -1,26 +1,24 @@
 -- A solver whose path stopped at a turn that was begun.
-use Rattle.std.proofs.Common.{◌≡◌, ℕ, ◌+◌, ◌<◌, ◌∙◌, sym, subst, arith, inl, inr, List}
+use Rattle.std.proofs.Common.{◌≡◌, ℕ, ◌<◌, ◌∙◌, sym, subst, arith, List}
 use lib.IntN.{ℤ}
 use Rattle.rob_linear.specs.Programs.{Program}
 use Rattle.rob_simplex.specs.declared.state.State.{State}
 use Rattle.rob_simplex.specs.declared.state.State.TheVariants.{New, Optimal, Infeasible, Unbounded, Stopped}
 use Rattle.rob_simplex.specs.declared.state.Cause.{Cause}
 use Rattle.rob_simplex.specs.declared.state.Cause.TheVariants.{Told, Turn, First, Elsewhere}
-use Rattle.rob_simplex.specs.Begun.{IsBroken, HasBegunTurn, HasBegunFirst, HasBegunFor}
+use Rattle.rob_simplex.specs.Begun.{IsBroken, HasBegunTurn, HasBegunAt}
 use Rattle.rob_simplex.specs.Dictionaries.{Table, positions as rows_count, spare_column, with_limit, IsExchanged}
 use Rattle.rob_simplex.specs.Endings.{HasBegun, begun_in}
-use Rattle.rob_simplex.specs.Explicit.{InExplicit}
 use Rattle.rob_simplex.specs.Phases.{InSecond}
 use Rattle.rob_simplex.specs.Solvers.{Solver, positions, StandsAs, has_stopped}
 use Rattle.rob_simplex.proofs.BrokenPivots.{begun_size}
-use Rattle.rob_simplex.proofs.BegunFirst.{ready_first, ready_rows}
 use Rattle.rob_simplex.proofs.BegunTurns.{pivotable_turn}
 use Rattle.rob_simplex.proofs.CopiedTables.{solver_of}
 use Rattle.rob_simplex.proofs.Deepened.{deep_is}
 
 -- what was begun, in the dictionary
-pub begun_here : (P : Program) (v s : Solver) → v ≡ s → HasBegun P s → (cause : Cause) → s.state ≡ Stopped cause → HasBegunFor P cause v.dictionary
-begun_here P v s e h cause st = subst (λ (u : Solver). HasBegunFor P cause u.dictionary) (sym e) (subst (λ (x : State). begun_in P s x) st h)
+pub begun_here : (P : Program) (v s : Solver) → v ≡ s → HasBegun P s → (cause : Cause) → s.state ≡ Stopped cause → HasBegunAt (InSecond P) cause v.dictionary
+begun_here P v s e h cause st = subst (λ (u : Solver). HasBegunAt (InSecond P) cause u.dictionary) (sym e) (subst (λ (x : State). begun_in P s x) st h)
 
 stopped_in : (P : Program) (s : Solver) (x : State) → begun_in P s x → has_stopped x
 stopped_in P s (Stopped cause) h = tt
@@ -39,24 +37,11 @@ turn_row P t row h =
     let e = begun_size h.before t row h.column (pivotable_turn P t row h) h.broken in
     omega arith
 
-pub first_row : (P : Program) (t : Table) (row : ℕ) → HasBegunFirst P t row → row < rows_count t
-first_row P t row h =
-    let d = ready_first P t row h in
-    let l : row < rows_count d.before = d.pivotable.row_in in
-    let e = begun_size d.before t row d.column d.pivotable d.broken in
-    omega arith
-
-first_count : (P : Program) (t : Table) (row : ℕ) → HasBegunFirst P t row → P.m ≡ rows_count t
-first_count P t row h =
-    let d = ready_first P t row h in
-    let e = begun_size d.before t row d.column d.pivotable d.broken in
-    sym (e ∙ ready_rows P t row h)
-
-pub begun_rows : (P : Program) (v : Solver) (cause : Cause) → HasBegunFor P cause v.dictionary → P.m ≡ positions v
+pub begun_rows : (P : Program) (v : Solver) (cause : Cause) → HasBegunAt (InSecond P) cause v.dictionary → P.m ≡ positions v
 begun_rows P v (Turn row) h =
     let e = begun_size h.before v.dictionary row h.column (pivotable_turn P v.dictionary row h) h.broken in
     sym h.stood.own.rows_are ∙ sym e
-begun_rows P v (First row) h = first_count P v.dictionary row h
+begun_rows P v First h = absurd h
 begun_rows P v Told h = absurd h
 begun_rows P v Elsewhere h = absurd h
 
@@ -80,7 +65,6 @@ broken_with top t t' row column h = record {
   begun = h.begun;
   columns_are = h.columns_are;
   told = exchanged_with top h.half t' row (spare_column t.columns (rows_count t)) column h.told;
-  kept = h.kept;
 }
 
 turn_with : (top : ℕ) (Stood : Table → Type 0) (t : Table) (row : ℕ) → HasBegunTurn Stood t row → HasBegunTurn Stood (with_limit top t) row
@@ -93,16 +77,14 @@ turn_with top Stood t row h = record {
   broken = broken_with top h.before t row h.column h.broken;
 }
 
-for_with : (top : ℕ) (P : Program) (cause : Cause) (t : Table) → HasBegunFor P cause t → HasBegunFor P cause (with_limit top t)
-for_with top P (Turn row) t h = turn_with top (InSecond P) t row h
-for_with top P (First row) t (inl h) = inl (turn_with top (InExplicit P) t row h)
-for_with top P (First row) t (inr h) =
-    inr (record { left = h.left; opened = h.opened; before = h.before; prepared = h.prepared; broken = broken_with top h.before t row (P.n + P.m) h.broken })
-for_with top P Told t h = h
-for_with top P Elsewhere t h = h
+cause_with : (top : ℕ) (Stood : Table → Type 0) (cause : Cause) (t : Table) → HasBegunAt Stood cause t → HasBegunAt Stood cause (with_limit top t)
+cause_with top Stood (Turn row) t h = turn_with top Stood t row h
+cause_with top Stood First t h = h
+cause_with top Stood Told t h = h
+cause_with top Stood Elsewhere t h = h
 
 begun_with : (top : ℕ) (P : Program) (s : Solver) (w : List ℤ) (x : State) → begun_in P s x → begun_in P (solver_of s.state (with_limit top s.dictionary) w) x
-begun_with top P s w (Stopped cause) h = for_with top P cause s.dictionary h
+begun_with top P s w (Stopped cause) h = cause_with top (InSecond P) cause s.dictionary h
 begun_with top P s w New h = h
 begun_with top P s w Optimal h = h
 begun_with top P s w Infeasible h = h

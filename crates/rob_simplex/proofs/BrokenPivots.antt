@@ -11,7 +11,7 @@ use Rattle.rob_linear.specs.Systems.{IsPrimitive}
 use Rattle.rob_linear.specs.Multiples.{IsClearedBy, IsParallel}
 use Rattle.rob_linear.proofs.Multiples.{parallel_sym, parallel_positive}
 use Rattle.rob_entries.specs.Updates.{IsWideCleared}
-use Rattle.rob_simplex.specs.Dictionaries.{Table, positions, width_of, columns_of, basic_columns, spare_column, rows_of, kept_row_of, IsFree, IsAlone, IsOpen, IsClosed, IsPivoted, IsExchanged, KeepsOwn, ClearsTable, StopsTable}
+use Rattle.rob_simplex.specs.Dictionaries.{Table, positions, width_of, columns_of, basic_columns, spare_column, rows_of, IsFree, IsAlone, IsOpen, IsClosed, IsPivoted, IsExchanged, KeepsOwn, ClearsTable, StopsTable}
 use Rattle.rob_simplex.specs.Begun.{IsBroken}
 use Rattle.rob_simplex.proofs.OwnEntries.{basic_set}
 use Rattle.rob_simplex.proofs.PivotLemmas.{set_twice, zero_stays, free_opened, times_ring}
@@ -216,41 +216,6 @@ module _ (b t : Table) (row column : ℕ) (a : IsPivotable b row column) (h : Is
           (λ w. some (sym (same_r i (basic_columns b.columns b.basis i) ib inside) ∙ ap (rows_of r i) (sym e) ∙ w));
       kept = λ l. absurd (omega arith);
     }
-
-    -- ---- the kept row
-    module _ (kz : kept_row_of b (spare_column b.columns (positions b)) ≡ pos 0) where
-      pub kept_r : (c : ℕ) → kept_row_of r c ≡ kept_row_of b c
-      kept_r c = elim (cases_eq c column) [
-        | inl e ↦ ap (kept_row_of r) (e ∙ sym column_is) ∙ x.kept_moved ∙ ap (kept_row_of t) z_is ∙ h.told.kept_moved ∙ ap (kept_row_of h.half) (sym e) ∙ h.kept kz c
-        | inr o ↦ elim (cases_eq c (spare_column b.columns (positions b))) [
-          | inl e ↦ ap (kept_row_of r) (e ∙ sym z_is) ∙ x.kept_emptied ∙ sym (ap (kept_row_of b) e ∙ kz)
-          | inr q ↦ x.kept_others c (λ e. o (e ∙ column_is)) (λ e. q (e ∙ z_is)) ∙ h.told.kept_others c q o ∙ h.kept kz c
-        ]
-      ]
-
-      pub opened_own_kept : kept_row_of b (suc (b.columns + positions b)) ≢ pos 0 → (count : ℕ) → KeepsOwn count r row
-      opened_own_kept some count = record {
-        rows = λ i il im d. (opened_own (suc (positions r)) (omega arith)).rows i (omega arith) im d;
-        kept = λ l.
-            let es : spare_column r.columns (positions r) ≡ spare_column b.columns (positions b) = omega (arith, opened_size, columns_r) in
-            let eo : suc (r.columns + positions r) ≡ suc (b.columns + positions b) = omega (arith, opened_size, columns_r) in
-            (kept_r (spare_column r.columns (positions r)) ∙ ap (kept_row_of b) es ∙ kz, λ w. some (sym (ap (kept_row_of b) eo) ∙ sym (kept_r (suc (r.columns + positions r))) ∙ w));
-      }
-
-      pub kept_before : (new new' : ℕ → ℤ) → ((c : ℕ) → c < width_of b → new' c ≡ new c) → IsClearedBy (width_of r) k (kept_row_of r) (rows_of r row) new
-          → IsClearedBy (width_of b) column (kept_row_of b) (rows_of b row) new'
-      kept_before new new' same c =
-          cleared_along (width_of b) column (kept_row_of b) (rows_of b row) (rows_of h.half row) new' h.begun.row_at
-          (cleared_read (width_of r) (width_of b) k column (kept_row_of r) (kept_row_of b) (rows_of r row) (rows_of h.half row) new new' width_r k_is column_in
-          (λ c l. kept_r c) (λ c l. same_r row c (omega (arith, a.row_in)) l) same c)
-
-      pub wide_kept_again : (limit : ℕ) → IsWideCleared limit (width_of r) k (kept_row_of r) (rows_of r row) → IsWideCleared limit (width_of b) column (kept_row_of b) (rows_of b row)
-      wide_kept_again limit w = (
-        w.0,
-        kept_before w.0 w.0 (λ c l. refl) w.1,
-        subst (λ n. IsPrimitive n w.0) width_r w.2,
-        (w.3.0, subst (λ n. w.3.0 < n) width_r w.3.1, w.3.2),
-      )
 
     -- a row that is cleared is the row before, cleared
     cleared_before : (i : ℕ) (new new' : ℕ → ℤ) → i ≤ positions b → i ≢ row → ((c : ℕ) → c < width_of b → new' c ≡ new c)

@@ -1,5 +1,5 @@
 -- Why a path isn't followed to an answer.
-use Rattle.std.proofs.Common.{◌≡◌, ℕ, ◌<◌, refl, inl, inr, List, [], Option, Some, None}
+use Rattle.std.proofs.Common.{◌≡◌, ℕ, ◌<◌, refl, inl, inr, [], Option, Some, None}
 use lib.IntN.{nat_abs}
 use Rattle.rob_linear.specs.Vectors.{Columns, at}
 use Rattle.rob_linear.specs.Programs.{Program}

@@ -22,10 +22,10 @@ use Rattle.rob_linear.proofs.BesideColumns.{holds_stands, stands_multiple_same}
 use Rattle.rob_linear.proofs.BesideLoops.{beside_needs}
 use Rattle.rob_linear.proofs.BesideBack.{begun_stands, begun_wide, begun_cost_wide}
 use Rattle.rob_entries.specs.Updates.{IsWideCleared}
-use Rattle.rob_simplex.specs.Dictionaries.{Table, positions, width_of, columns_of, spare_column, rows_of, kept_row_of, IsFree, IsAlone, IsOpen, IsClosed, IsPivoted, IsBegunPivot, ClearsTable, StopsTable}
+use Rattle.rob_simplex.specs.Dictionaries.{Table, positions, width_of, columns_of, spare_column, rows_of, kept_row_of, IsFree, IsAlone, IsOpen, IsClosed, IsPivoted, ClearsTable}
 use Rattle.rob_simplex.specs.Phases.{IsOpenBeside}
 use Rattle.rob_simplex.specs.Explicit.{InExplicit, IsPrepared}
-use Rattle.rob_simplex.proofs.Prepared.{cleared_same, row_of_same, wide_same, set_same_twice}
+use Rattle.rob_simplex.proofs.Prepared.{cleared_same, row_of_same, wide_same}
 use Rattle.rob_simplex.proofs.PivotLemmas.{set_twice, zero_stays, free_opened}
 use Rattle.rob_simplex.proofs.FirstPhase.{set_is, auxiliary_free}
 use Rattle.rob_simplex.proofs.ExplicitTurns.{wide_cleared, wide_primitive, wide_entry}
@@ -336,45 +336,3 @@ module _ (P : Program) (q : ℕ) (t : Table) (h : IsOpenBeside P q t) where
               ];
               zero = λ i il. ap (rows_of t4 i) e ∙ zero4 i (omega (arith, size4));
             }
-
-    -- ---- the auxiliary column's coming in was begun
-    module _ (t3 : Table) (b3 : t3.basis ≡ t2.basis) (n3 : t3.columns ≡ t2.columns) (limit count i : ℕ) (count_is : count ≡ positions t + 2) (st : StopsTable limit count t2 t3 q x i) where
-      pub back_begun : IsBegunPivot t2 t3 q x
-      back_begun =
-          let size3 : positions t3 ≡ positions t2 = ap length b3 in
-          let es : spare_column t3.columns (positions t3) ≡ spare_column P.n P.m = omega (arith, size3, m2, n3, n2) in
-          let ql : q < positions t2 = omega (arith, m2, q_low) in
-          record {
-            opened = record {
-              spare = ap (λ (b : List ℕ). columns_of b q) b3 ∙ ready_open.spare ∙ zero_t ∙ sym es;
-              zero = ap (rows_of t3 q) es ∙ st.before.row_stays (spare_column P.n P.m) ∙ zero2 q (omega (arith, q_low));
-            };
-            basis = b3 ∙ sym (set_same_twice t2.basis q (spare_column t2.columns (positions t2)) ql ready_open.spare);
-            zero = λ j jl. ap (rows_of t3 j) zero_t ∙ zero3 j (omega (arith, m2));
-            row_at = record {
-              p = pos 1;
-              q = pos 1;
-              p_positive = omega (arith, ints);
-              q_positive = omega (arith, ints);
-              same = λ k l. ap (λ z. pos 1 *ℤ z) (st.before.row_stays k);
-            };
-            row_other = λ j jl d. elim (cases_lt j i) [
-              | inl l ↦ inr (st.before.cleared j l jl d)
-              | inr l ↦ inl (λ c cl. st.before.others j c l jl)
-            ];
-          }
-        where
-          zero3 : (j : ℕ) → j ≤ P.m → rows_of t3 j (spare_column P.n P.m) ≡ pos 0
-          zero3 j jl = elim (cases_eq j q) [
-            | inl e ↦ ap (λ v. rows_of t3 v (spare_column P.n P.m)) e ∙ st.before.row_stays (spare_column P.n P.m) ∙ zero2 q (omega (arith, q_low))
-            | inr d ↦ elim (cases_lt j i) [
-              | inl l ↦
-                  let c = st.before.cleared j l (omega (arith, m2)) d in
-                  zero_stays c.divisor c.p c.q (rows_of t3 j (spare_column P.n P.m)) (rows_of t2 j (spare_column P.n P.m)) (rows_of t2 q (spare_column P.n P.m)) c.divides
-                  (c.entries (spare_column P.n P.m) (omega (arith, w2))) (zero2 j jl) (zero2 q (omega (arith, q_low)))
-              | inr l ↦ st.before.others j (spare_column P.n P.m) l (omega (arith, m2)) ∙ zero2 j jl
-            ]
-          ]
-
-      pub back_kept_stays : (c : ℕ) → kept_row_of t3 c ≡ kept_row_of t2 c
-      back_kept_stays c = let il : i < count = st.inside in st.before.kept_stays (omega (arith, count_is, open_size, m2)) c

@@ -47,5 +47,4 @@ pub mod Deepened
 pub mod BrokenPivots
 pub mod BegunTurns
 pub mod BegunWork
-pub mod BegunFirst
 pub mod TellLemmas

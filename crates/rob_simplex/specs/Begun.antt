@@ -1,15 +1,15 @@
 -- A turn that was begun: of the rows some are those of the basis before, and some, cleared of the column that comes
 -- in, those of the basis behind the exchange. The others can be cleared over again, by rows of a greater limit.
-use Rattle.std.specs.Prelude.{◌≡◌, ◌⊎◌, ℕ, ◌+◌, pos, Bool, true, false}
+use Rattle.std.specs.Prelude.{◌≡◌, ℕ, ◌+◌}
 use Rattle.rob_linear.specs.Vectors.{Columns}
 use Rattle.rob_linear.specs.Programs.{Program}
 use Rattle.rob_linear.specs.Turns.{Leaves}
-use Rattle.rob_linear.specs.Paths.{HasAuxiliary, ReachedFrom}
+use Rattle.rob_linear.specs.Paths.{ReachedFrom}
+use Rattle.rob_linear.specs.WideRows.{HasWideRow}
 use Rattle.rob_simplex.specs.declared.state.Cause.{Cause}
 use Rattle.rob_simplex.specs.declared.state.Cause.TheVariants.{Told, Turn, First, Elsewhere}
-use Rattle.rob_simplex.specs.Dictionaries.{Table, positions, columns_of, rows_of, kept_row_of, spare_column, shape, FirstNegative, IsBegunPivot, IsExchanged}
-use Rattle.rob_simplex.specs.Explicit.{InExplicit, HoldsExplicit, IsPrepared}
-use Rattle.rob_simplex.specs.Phases.{StandsFor, InSecond, IsOpenBeside}
+use Rattle.rob_simplex.specs.Dictionaries.{Table, positions, columns_of, rows_of, spare_column, shape, FirstNegative, IsBegunPivot, IsExchanged}
+use Rattle.rob_simplex.specs.Phases.{StandsFor}
 use Rattle.rob_simplex.specs.PathEnds.{EndsWide}
 
 -- a pivot of the first dictionary was begun, and the column has come to the row's position
@@ -18,9 +18,6 @@ pub record IsBroken (t t' : Table) (row column : ℕ) : Type 0 where
   pub begun : IsBegunPivot t half row column
   pub columns_are : half.columns ≡ t.columns
   pub told : IsExchanged half t' row (spare_column t.columns (positions t)) column
-  pub kept :
-      kept_row_of t (spare_column t.columns (positions t)) ≡ pos 0
-      → (c : ℕ) → kept_row_of half c ≡ kept_row_of t c
 
 -- a turn was begun, from a dictionary of which something is known: its first column that improves the objective comes
 -- in where the row that leaves first stood
@@ -32,51 +29,21 @@ pub record HasBegunTurn (Stood : Table → Type 0) (t : Table) (row : ℕ) : Typ
   pub leaves : Leaves (shape before.columns (positions before)) (rows_of before) column row
   pub broken : IsBroken before t row column
 
--- the auxiliary column's coming in was begun at position q, from rows that a pivot beside it has left open
-pub record HasBegunBack (P : Program) (t : Table) (q : ℕ) : Type 0 where
-  pub left : Table
-  pub opened : IsOpenBeside P q left
-  pub before : Table
-  pub prepared : IsPrepared left.columns (positions left) left before
-  pub broken : IsBroken before t q (P.n + P.m)
-
--- what was begun in the first phase
-abbrev pub HasBegunFirst : Program → Table → ℕ → Type 0
-HasBegunFirst P t row = HasBegunTurn (InExplicit P) t row ⊎ HasBegunBack P t row
-
--- what the first phase stopped at
-abbrev pub HasBegunIn : Program → Cause → Table → Type 0
-HasBegunIn P (First row) t = HasBegunFirst P t row
-HasBegunIn P Told t = ⊥
-HasBegunIn P (Turn row) t = ⊥
-HasBegunIn P Elsewhere t = ⊥
-
--- what was begun where the path stopped, from a basis on the program's path
-abbrev pub HasBegunFor : Program → Cause → Table → Type 0
-HasBegunFor P (Turn row) t = HasBegunTurn (InSecond P) t row
-HasBegunFor P (First row) t = HasBegunFirst P t row
-HasBegunFor P Told t = ⊥
-HasBegunFor P Elsewhere t = ⊥
-
--- what it is once that is ended: the auxiliary column is still basic, or it has left
-abbrev pub HasEndedFirst : Program → Bool → Table → Type 0
-HasEndedFirst P true t = InExplicit P t
-HasEndedFirst P false t = HoldsExplicit P t × ¬ (HasAuxiliary P (columns_of t.basis))
-
 -- the path stopped at such a turn
 abbrev pub HasBegunAt : (Table → Type 0) → Cause → Table → Type 0
 HasBegunAt Stood (Turn row) t = HasBegunTurn Stood t row
 HasBegunAt Stood Told t = ⊥
-HasBegunAt Stood (First row) t = ⊥
+HasBegunAt Stood First t = ⊥
 HasBegunAt Stood Elsewhere t = ⊥
 
 -- a feasible basis of the program, on the path that goes on from a given one
 abbrev pub StandsFrom : Program → Columns → Table → Type 0
 StandsFrom P start t = StandsFor P t × ReachedFrom P start (columns_of t.basis)
 
--- what is known of the dictionary of a path that stopped at position i, by what it stopped at
+-- what is known of the dictionary of a path that stopped at position i, by what it stopped at: the last basis tells a
+-- wide number there; a turn was begun; or in the first phase that row has an entry over the limit of the rows
 abbrev pub HaltsAt : (Columns → Type 0) → (Table → Type 0) → ℕ → Program → ℕ → Cause → Table → Type 0
 HaltsAt IsEnd Stood limit P i Told t = EndsWide IsEnd limit P t i
 HaltsAt IsEnd Stood limit P i (Turn row) t = HasBegunTurn Stood t row
-HaltsAt IsEnd Stood limit P i (First row) t = HasBegunFirst P t row
+HaltsAt IsEnd Stood limit P i First t = HasWideRow t.limit P (columns_of t.basis) i
 HaltsAt IsEnd Stood limit P i Elsewhere t = ⊥

@@ -18,7 +18,7 @@ use Rattle.rob_simplex.specs.declared.state.LpStop.{LpStop}
 use Rattle.rob_simplex.specs.declared.state.LpStop.TheVariants.{Wide}
 use Rattle.rob_simplex.specs.Dictionaries.{columns_of}
 use Rattle.rob_simplex.specs.Solvers.{Solver, positions, entries, column_of, HasPoint, HasOptimum, HasRay, HasWeights, IsMadeFor, has_stopped}
-use Rattle.rob_simplex.specs.Begun.{HasBegunFirst, HasBegunFor, HasBegunTurn}
+use Rattle.rob_simplex.specs.Begun.{HasBegunAt, HasBegunTurn}
 use Rattle.rob_simplex.specs.PathEnds.{EndsWide, PathEnds, PathTells, PathStops}
 use Rattle.rob_simplex.specs.declared.path.Ending.{Ending}
 use Rattle.rob_simplex.specs.declared.state.Halt.{Halt}
@@ -121,20 +121,21 @@ abbrev pub IsCaused : ℕ → Program → LpStop → Solver → Type 0
 IsCaused limit P (Wide position) s = PathStops limit P s.dictionary position ⊎ HasWideWeight limit P s position
 
 -- what is known of a solver that stopped at position i, by what it stopped at: the last basis tells a number there that
--- is over the limit of what is told; or a turn of either phase was begun, from a basis on the path
+-- is over the limit of what is told; a turn of the second phase was begun, from a basis on the path; or in the first
+-- phase that row has an entry over the limit of the rows
 abbrev pub halted_by : ℕ → Program → ℕ → Solver → Cause → Type 0
 halted_by limit P i s Told = EndsWide (Last P) limit P s.dictionary i ⊎ HasWideWeight limit P s i
 halted_by limit P i s (Turn row) = HasBegunTurn (InSecond P) s.dictionary row
-halted_by limit P i s (First row) = HasBegunFirst P s.dictionary row
+halted_by limit P i s First = HasWideRow s.limit P (columns_of s.basis) i
 halted_by limit P i s Elsewhere = ⊥
 
 -- so of the stop that is told
 abbrev pub HasHalted : ℕ → Program → LpStop → Solver → Type 0
 HasHalted limit P (Wide position) s = (cause : Cause) × (s.state ≡ Stopped cause) × halted_by limit P position s cause
 
--- in this state: a turn was begun, from a basis on the program's path
+-- in this state: a turn of the second phase was begun, from a basis on the program's path
 abbrev pub begun_in : Program → Solver → State → Type 0
-begun_in P s (Stopped cause) = HasBegunFor P cause s.dictionary
+begun_in P s (Stopped cause) = HasBegunAt (InSecond P) cause s.dictionary
 begun_in P s New = ⊥
 begun_in P s Optimal = ⊥
 begun_in P s Infeasible = ⊥

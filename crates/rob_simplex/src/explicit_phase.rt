@@ -4,7 +4,6 @@
 ghost use Rattle.std.specs.Prelude.{◌≡◌, ◌≤◌, IfOk, IfErr, MatchResult};
 ghost use Rattle.rob_linear.specs.Programs.{Program};
 ghost use Rattle.rob_linear.specs.WideRows.{HasWideRow};
-ghost use Rattle.rob_simplex.specs.Begun.{HasBegunIn};
 ghost use Rattle.rob_simplex.specs.Counting.{CountsRows};
 ghost use Rattle.rob_simplex.specs.Dictionaries.{positions, columns_of};
 ghost use Rattle.rob_simplex.specs.Phases.{IsOpenBeside};
@@ -12,7 +11,6 @@ ghost use Rattle.rob_simplex.specs.Explicit.{InExplicit, HasTurnedExplicit, Firs
 
 use crate::dictionary::Dictionary;
 use crate::first_phase::FirstEnding;
-use crate::state::{Cause, Halt};
 use rob_entries::Entry;
 use rob_number::Ledger;
 
@@ -34,15 +32,13 @@ impl<E: Entry> Dictionary<E> {
         &mut self,
         q: usize,
         ledger: &mut L,
-    ) -> Result<FirstEnding, Halt>
+    ) -> Result<FirstEnding, usize>
         requires opened { (P : Program) × IsOpenBeside P q self.old }
         ensures ended { (P : Program) → IsOpenBeside P q self.old
             → MatchResult result
             (λ ending. FirstTurns P ending self.new)
-            (λ halt. HasWideRow self.old.limit P (columns_of self.new.basis) halt.position) }
-        ensures begun { (P : Program) → IsOpenBeside P q self.old
-            → IfErr result (λ halt. HasBegunIn P halt.cause self.new) }
-        ensures position { IfErr result (λ halt. halt.position ≤ positions self.old) }
+            (λ i. HasWideRow self.old.limit P (columns_of self.new.basis) i) }
+        ensures position { IfErr result (λ i. i ≤ positions self.old) }
         ensures positions { positions self.new ≡ positions self.old }
         ensures columns { self.new.columns ≡ self.old.columns }
         ensures limit { self.new.limit ≡ self.old.limit }
@@ -50,22 +46,20 @@ impl<E: Entry> Dictionary<E> {
     {
         match self.bring_in(q, ledger) {
             Ok(()) => self.drive_out(ledger),
-            Err(halt) => Err(halt),
+            Err(i) => Err(i),
         }
     }
 
     /// Goes over to the explicit form, where position q is open and its row has been turned round: the kept row stands
     /// behind the objective's, and the auxiliary column comes in at q. An `Err` names a row that is wide at the basis
     /// that is then told.
-    fn bring_in<L: Ledger>(&mut self, q: usize, ledger: &mut L) -> Result<(), Halt>
+    fn bring_in<L: Ledger>(&mut self, q: usize, ledger: &mut L) -> Result<(), usize>
         requires opened { (P : Program) × IsOpenBeside P q self.old }
         ensures ended { (P : Program) → IsOpenBeside P q self.old
             → MatchResult result
             (λ _. InExplicit P self.new)
-            (λ halt. HasWideRow self.old.limit P (columns_of self.new.basis) halt.position) }
-        ensures begun { (P : Program) → IsOpenBeside P q self.old
-            → IfErr result (λ halt. HasBegunIn P halt.cause self.new) }
-        ensures position { IfErr result (λ halt. halt.position ≤ positions self.old) }
+            (λ i. HasWideRow self.old.limit P (columns_of self.new.basis) i) }
+        ensures position { IfErr result (λ i. i ≤ positions self.old) }
         ensures positions { positions self.new ≡ positions self.old }
         ensures columns { self.new.columns ≡ self.old.columns }
         ensures limit { self.new.limit ≡ self.old.limit }
@@ -79,23 +73,18 @@ impl<E: Entry> Dictionary<E> {
         self.replace(q, auxiliary);
         match cleared {
             Ok(()) => Ok(()),
-            Err(i) => Err(Halt {
-                position: i.min(m),
-                cause: Cause::First(q),
-            }),
+            Err(i) => Err(i.min(m)),
         }
     }
 
     /// Turns until the auxiliary column has left, or no column improves its objective: then the weights stand in row m.
-    pub fn drive_out<L: Ledger>(&mut self, ledger: &mut L) -> Result<FirstEnding, Halt>
+    fn drive_out<L: Ledger>(&mut self, ledger: &mut L) -> Result<FirstEnding, usize>
         requires stands { (P : Program) × InExplicit P self.old }
         ensures ended { (P : Program) → InExplicit P self.old
             → MatchResult result
             (λ ending. FirstTurns P ending self.new)
-            (λ halt. HasWideRow self.old.limit P (columns_of self.new.basis) halt.position) }
-        ensures begun { (P : Program) → InExplicit P self.old
-            → IfErr result (λ halt. HasBegunIn P halt.cause self.new) }
-        ensures position { IfErr result (λ halt. halt.position ≤ positions self.old) }
+            (λ i. HasWideRow self.old.limit P (columns_of self.new.basis) i) }
+        ensures position { IfErr result (λ i. i ≤ positions self.old) }
         ensures positions { positions self.new ≡ positions self.old }
         ensures columns { self.new.columns ≡ self.old.columns }
         ensures limit { self.new.limit ≡ self.old.limit }
@@ -111,22 +100,20 @@ impl<E: Entry> Dictionary<E> {
                     return Ok(FirstEnding::Feasible);
                 }
                 Ok(ExplicitTurn::Stays) => {}
-                Err(halt) => return Err(halt),
+                Err(i) => return Err(i),
             }
         }
     }
 
     /// Makes the next turn, if there is one. After an `Err`, which names a row that is wide there, the basis is the
-    /// next one, and the turn was begun.
-    fn turn_explicit<L: Ledger>(&mut self, ledger: &mut L) -> Result<ExplicitTurn, Halt>
+    /// next one.
+    fn turn_explicit<L: Ledger>(&mut self, ledger: &mut L) -> Result<ExplicitTurn, usize>
         requires stands { (P : Program) × InExplicit P self.old }
         ensures turned { IfOk result (λ turn. (P : Program) → InExplicit P self.old
             → HasTurnedExplicit P turn self.old self.new) }
-        ensures wide { IfErr result (λ halt. (P : Program) → InExplicit P self.old
-            → HasWideRow self.old.limit P (columns_of self.new.basis) halt.position) }
-        ensures begun { (P : Program) → InExplicit P self.old
-            → IfErr result (λ halt. HasBegunIn P halt.cause self.new) }
-        ensures position { IfErr result (λ halt. halt.position ≤ positions self.old) }
+        ensures wide { IfErr result (λ i. (P : Program) → InExplicit P self.old
+            → HasWideRow self.old.limit P (columns_of self.new.basis) i) }
+        ensures position { IfErr result (λ i. i ≤ positions self.old) }
         ensures positions { positions self.new ≡ positions self.old }
         ensures columns { self.new.columns ≡ self.old.columns }
         ensures limit { self.new.limit ≡ self.old.limit }
@@ -144,10 +131,7 @@ impl<E: Entry> Dictionary<E> {
         let auxiliary = self.columns + m;
         match self.pivot(row, column, m + 2, ledger) {
             Ok(()) => Ok(after(left == auxiliary)),
-            Err(i) => Err(Halt {
-                position: i.min(m),
-                cause: Cause::First(row),
-            }),
+            Err(i) => Err(i.min(m)),
         }
     }
 }

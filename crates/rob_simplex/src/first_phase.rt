@@ -4,7 +4,6 @@
 ghost use Rattle.std.specs.Prelude.{◌≡◌, ◌<◌, ◌≤◌, ◌+◌, IfOk, IfErr, MatchResult};
 ghost use Rattle.rob_linear.specs.Programs.{Program};
 ghost use Rattle.rob_linear.specs.WideRows.{HasWideRow};
-ghost use Rattle.rob_simplex.specs.Begun.{HasBegunIn};
 ghost use Rattle.rob_simplex.specs.Counting.{CountsRows};
 ghost use Rattle.rob_simplex.specs.Dictionaries.{positions, columns_of, rows_of, FirstNegative};
 ghost use Rattle.rob_simplex.specs.Phases.{InBeside, HasTurnedBeside, IsOpenBeside, EndsBeside};
@@ -12,7 +11,6 @@ ghost use Rattle.rob_simplex.specs.Starts.{IsStartingTable};
 ghost use Rattle.rob_simplex.specs.Explicit.{FirstTurns, FirstEnds};
 
 use crate::dictionary::Dictionary;
-use crate::state::Halt;
 use rob_entries::Entry;
 use rob_number::Ledger;
 
@@ -39,15 +37,13 @@ pub enum Beside {
 impl<E: Entry> Dictionary<E> {
     /// The first phase, from the starting rows. The auxiliary column is 0 where it is out. An `Err` names a row that is
     /// wide at the basis that is then told.
-    pub fn first_phase<L: Ledger>(&mut self, ledger: &mut L) -> Result<FirstEnding, Halt>
+    pub fn first_phase<L: Ledger>(&mut self, ledger: &mut L) -> Result<FirstEnding, usize>
         requires starts { (P : Program) × IsStartingTable P self.old }
         ensures ended { (P : Program) → IsStartingTable P self.old
             → MatchResult result
             (λ ending. FirstEnds P ending self.new)
-            (λ halt. HasWideRow self.old.limit P (columns_of self.new.basis) halt.position) }
-        ensures begun { (P : Program) → IsStartingTable P self.old
-            → IfErr result (λ halt. HasBegunIn P halt.cause self.new) }
-        ensures position { IfErr result (λ halt. halt.position ≤ positions self.old) }
+            (λ i. HasWideRow self.old.limit P (columns_of self.new.basis) i) }
+        ensures position { IfErr result (λ i. i ≤ positions self.old) }
         ensures positions { positions self.new ≡ positions self.old }
         ensures columns { self.new.columns ≡ self.old.columns }
         ensures limit { self.new.limit ≡ self.old.limit }
@@ -60,20 +56,18 @@ impl<E: Entry> Dictionary<E> {
                 Ok(FirstEnding::Feasible)
             }
             Ok(FirstEnding::Infeasible(row)) => Ok(FirstEnding::Infeasible(row)),
-            Err(halt) => Err(halt),
+            Err(i) => Err(i),
         }
     }
 
     /// Its turns. The least row tells whether the auxiliary column is needed.
-    fn first_turns<L: Ledger>(&mut self, ledger: &mut L) -> Result<FirstEnding, Halt>
+    fn first_turns<L: Ledger>(&mut self, ledger: &mut L) -> Result<FirstEnding, usize>
         requires starts { (P : Program) × IsStartingTable P self.old }
         ensures ended { (P : Program) → IsStartingTable P self.old
             → MatchResult result
             (λ ending. FirstTurns P ending self.new)
-            (λ halt. HasWideRow self.old.limit P (columns_of self.new.basis) halt.position) }
-        ensures begun { (P : Program) → IsStartingTable P self.old
-            → IfErr result (λ halt. HasBegunIn P halt.cause self.new) }
-        ensures position { IfErr result (λ halt. halt.position ≤ positions self.old) }
+            (λ i. HasWideRow self.old.limit P (columns_of self.new.basis) i) }
+        ensures position { IfErr result (λ i. i ≤ positions self.old) }
         ensures positions { positions self.new ≡ positions self.old }
         ensures columns { self.new.columns ≡ self.old.columns }
         ensures limit { self.new.limit ≡ self.old.limit }

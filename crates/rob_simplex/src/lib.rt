@@ -11,7 +11,6 @@ mod edits;
 mod entering;
 mod entries;
 mod explicit_phase;
-mod first_begun;
 mod first_phase;
 mod judging;
 mod least_row;

@@ -9,7 +9,7 @@ ghost use Rattle.rob_simplex.specs.Dictionaries.{positions, columns_of};
 ghost use Rattle.rob_simplex.specs.Starts.{IsStartingTable};
 ghost use Rattle.rob_simplex.specs.Phases.{InSecond};
 ghost use Rattle.rob_simplex.specs.PathEnds.{PathEnds, PathTells, PathStops};
-ghost use Rattle.rob_simplex.specs.Begun.{HaltsAt, HasBegunFirst, HasBegunFor, HasBegunTurn};
+ghost use Rattle.rob_simplex.specs.Begun.{HaltsAt, HasBegunAt, HasBegunTurn};
 
 use crate::dictionary::Dictionary;
 use crate::first_phase::FirstEnding;
@@ -52,23 +52,26 @@ impl<E: Entry> Dictionary<E> {
         match self.first_phase(ledger) {
             Ok(FirstEnding::Feasible) => self.improve_to_end::<N, L>(ledger),
             Ok(FirstEnding::Infeasible(row)) => Ok(Ending::Infeasible(row)),
-            Err(halt) => Err(halt),
+            Err(i) => Err(Halt {
+                position: i,
+                cause: Cause::First,
+            }),
         }
     }
 
-    /// Follows the path to its last basis from what was begun where it stopped. It answers as `follow` does.
+    /// Follows the path to its last basis from the turn that was begun where it stopped. It answers as `follow` does.
     pub fn follow_on<N: Exact, L: Ledger>(
         &mut self,
         cause: Cause,
         ledger: &mut L,
     ) -> Result<Ending, Halt>
-        requires begun { (P : Program) × HasBegunFor P cause self.old }
+        requires begun { (P : Program) × HasBegunAt (InSecond P) cause self.old }
         requires limit { N.limit ≤ self.old.limit }
-        ensures told { (P : Program) → HasBegunFor P cause self.old
+        ensures told { (P : Program) → HasBegunAt (InSecond P) cause self.old
             → MatchResult result
             (λ ending. PathEnds P ending self.new × PathTells N.limit ending self.new)
             (λ halt. HasWideRow N.limit P (columns_of self.new.basis) halt.position) }
-        ensures caused { (P : Program) → HasBegunFor P cause self.old
+        ensures caused { (P : Program) → HasBegunAt (InSecond P) cause self.old
             → IfErr result (λ halt. PathStops N.limit P self.new halt.position) }
         ensures position { IfErr result (λ halt. halt.position ≤ positions self.old) }
         ensures positions { positions self.new ≡ positions self.old }
@@ -78,38 +81,9 @@ impl<E: Entry> Dictionary<E> {
     {
         match cause {
             Cause::Turn(row) => self.follow_second::<N, L>(row, ledger),
-            Cause::First(row) => self.follow_first::<N, L>(row, ledger),
             Cause::Told => unreachable!(),
+            Cause::First => unreachable!(),
             Cause::Elsewhere => unreachable!(),
-        }
-    }
-
-    /// Follows the path from what was begun in the first phase, at this position, to its last basis. It answers as
-    /// `follow` does.
-    fn follow_first<N: Exact, L: Ledger>(
-        &mut self,
-        row: usize,
-        ledger: &mut L,
-    ) -> Result<Ending, Halt>
-        requires row_in { row < positions self.old }
-        requires begun { (P : Program) × HasBegunFirst P self.old row }
-        requires limit { N.limit ≤ self.old.limit }
-        ensures told { (P : Program) → HasBegunFirst P self.old row
-            → MatchResult result
-            (λ ending. PathEnds P ending self.new × PathTells N.limit ending self.new)
-            (λ halt. HasWideRow N.limit P (columns_of self.new.basis) halt.position) }
-        ensures caused { (P : Program) → HasBegunFirst P self.old row
-            → IfErr result (λ halt. PathStops N.limit P self.new halt.position) }
-        ensures position { IfErr result (λ halt. halt.position ≤ positions self.old) }
-        ensures positions { positions self.new ≡ positions self.old }
-        ensures columns { self.new.columns ≡ self.old.columns }
-        ensures limit { self.new.limit ≡ self.old.limit }
-        ensures counted { CountsRows L.ops L.wides ledger.old ledger.new }
-    {
-        match self.first_phase_from(row, ledger) {
-            Ok(FirstEnding::Feasible) => self.improve_to_end::<N, L>(ledger),
-            Ok(FirstEnding::Infeasible(row)) => Ok(Ending::Infeasible(row)),
-            Err(halt) => Err(halt),
         }
     }
 

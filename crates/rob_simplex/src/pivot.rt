@@ -82,9 +82,6 @@ impl<E: Entry> Dictionary<E> {
             → i ≡ suc (positions self.old)
             → IsWideCleared self.old.limit (width_of self.old) column (kept_row_of self.old) (rows_of self.old row)) }
         ensures begun { IfErr result (λ i. IsBegunPivot self.old self.new row column) }
-        ensures kept_stays { IfErr result (λ i.
-            kept_row_of self.old (spare_column self.old.columns (positions self.old)) ≡ pos 0
-            → (c : ℕ) → kept_row_of self.new c ≡ kept_row_of self.old c) }
         ensures small { OnOk result ((i c : ℕ) → i ≤ positions self.new
             → nat_abs (rows_of self.new i c) ≤ self.new.limit) }
         ensures basis { OnOk result (self.new.basis ≡ set self.old.basis row column) }

@@ -22,10 +22,9 @@ pub enum Cause {
     Told,
     /// A turn of the second phase: the pivot of the row of this position was begun.
     Turn(usize),
-    /// The first phase in the explicit form: a turn, or the auxiliary column's coming in. The pivot of the row of this
-    /// position was begun.
-    First(usize),
-    /// A new cost, from which nothing goes on.
+    /// The first phase, in the explicit form: a row is wide there, and nothing goes on.
+    First,
+    /// A new cost, or the end of a turn that was begun, from which nothing goes on.
     Elsewhere,
 }
 

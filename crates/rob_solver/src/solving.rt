@@ -96,7 +96,7 @@ fn solve_narrow<N: Exact, R: Rows, L: Ledger>(
         Err(stop) => match solver.cause() {
             Cause::Told => Ok(Narrow::Told(solver, stop)),
             Cause::Turn(_) => Ok(Narrow::Begun(solver)),
-            Cause::First(_) => Ok(Narrow::Anew),
+            Cause::First => Ok(Narrow::Anew),
             Cause::Elsewhere => unreachable!(),
         },
     }

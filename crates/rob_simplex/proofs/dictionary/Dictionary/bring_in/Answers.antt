@@ -1,9 +1,9 @@
-use Rattle.std.proofs.Common.{◌≡◌, ℕ, ◌+◌, ◌∙◌, sym, ap, subst, arith, length, List, min, inr}
+use Rattle.std.proofs.Common.{◌≡◌, ℕ, ◌+◌, ◌∙◌, sym, ap, subst, arith, length, List, min}
 use Rattle.rob_linear.specs.WideRows.{HasWideRow}
-use Rattle.rob_simplex.specs.Dictionaries.{Table, positions, columns_of, spare_column, IsFree, IsBegunPivot, IsExchanged}
+use Rattle.rob_simplex.specs.Dictionaries.{Table, positions, columns_of, IsFree}
 use Rattle.rob_simplex.specs.Explicit.{IsPrepared}
 use Rattle.rob_simplex.proofs.Prepared.{prepared}
-use Rattle.rob_simplex.proofs.ExplicitStart.{open_free, open_size, ready_free, ready_open, ready_positive, explicit_begins, begins_refused, back_basis, back_columns, back_pivoted, back_kept, back_closed, back_begun, back_kept_stays}
+use Rattle.rob_simplex.proofs.ExplicitStart.{open_free, ready_free, ready_open, ready_positive, explicit_begins, begins_refused, back_basis, back_columns, back_pivoted, back_kept, back_closed}
 use Rattle.rob_simplex.proofs.OwnEntries.{keeps_prepared}
 use Rattle.rob_simplex.proofs.dictionary.Dictionary.bring_in.Goals as goal
 
@@ -94,36 +94,3 @@ returns-in-Err-clause-ended g c P h =
     (subst (λ (l : ℕ). HasWideRow l P (columns_of c.replace.new.self.basis) (min c.in-Err.i (positions c.args.self.now))) el
     (begins_refused P c.args.q c.args.self.now h c.write_auxiliary.new.self prep (c.self.inside.columns + c.len-m.result) is c.replace.new.self (back_basis P c.args.q c.args.self.now h c.write_auxiliary.new.self prep (c.self.inside.columns + c.len-m.result) is c.clear_others-cleared.new.self c.replace.new.self c.clear_others-cleared.ensures.basis c.clear_others-cleared.ensures.columns c.replace.ensures.basis c.replace.ensures.columns) (back_columns P c.args.q c.args.self.now h c.write_auxiliary.new.self prep (c.self.inside.columns + c.len-m.result) is c.clear_others-cleared.new.self c.replace.new.self c.clear_others-cleared.ensures.basis c.clear_others-cleared.ensures.columns c.replace.ensures.basis c.replace.ensures.columns)
     c.write_auxiliary.new.self.limit c.in-Err.i (omega (arith, em, c.in-Err.ensures.stopped.inside)) c.in-Err.ensures.stopped.other c.in-Err.ensures.stopped.wide c.in-Err.ensures.stopped.wide_kept))
-
-pub returns-in-Err-clause-begun : goal.returns-in-Err-clause-begun
-returns-in-Err-clause-begun g c P h =
-    let em : c.len-m.result ≡ positions c.args.self.now = c.len-m.ensures ∙ c.self.inside.basis.ok.0 ∙ ap (λ (t : Table). positions t) c.self.view_is in
-    let en : c.self.inside.columns ≡ c.args.self.now.columns = ap (λ (t : Table). t.columns) c.self.view_is in
-    let is : c.self.inside.columns + c.len-m.result ≡ c.args.self.now.columns + positions c.args.self.now = omega arith in
-    let prep : IsPrepared c.args.self.now.columns (positions c.args.self.now) c.args.self.now c.write_auxiliary.new.self =
-    prepared c.args.self.now c.keep_objective.new.self c.write_auxiliary.new.self c.keep_objective.ensures.kept c.keep_objective.ensures.rows c.keep_objective.ensures.basis c.keep_objective.ensures.columns
-    c.write_auxiliary.ensures.auxiliary c.write_auxiliary.ensures.own c.write_auxiliary.ensures.zero c.write_auxiliary.ensures.rows c.write_auxiliary.ensures.kept c.write_auxiliary.ensures.basis c.write_auxiliary.ensures.columns in
-    let x = c.self.inside.columns + c.len-m.result in
-    let ex : c.self.inside.columns + c.len-m.result ≡ P.n + P.m = is ∙ omega (arith, h.columns_are, open_size P c.args.q c.args.self.now h) in
-    let t2 = c.write_auxiliary.new.self in
-    let t3 = c.clear_others-cleared.new.self in
-    let b3 = c.clear_others-cleared.ensures.basis in
-    let n3 = c.clear_others-cleared.ensures.columns in
-    let st = c.in-Err.ensures.stopped in
-    let begun = back_begun P c.args.q c.args.self.now h c.write_auxiliary.new.self prep (c.self.inside.columns + c.len-m.result) is t3 b3 n3 t2.limit (c.len-m.result + 2) c.in-Err.i (omega (arith, em)) st in
-    let left : columns_of t3.basis c.args.q ≡ spare_column t2.columns (positions t2) =
-    ap (λ (b : List ℕ). columns_of b c.args.q) b3 ∙ (ready_open P c.args.q c.args.self.now h c.write_auxiliary.new.self prep (c.self.inside.columns + c.len-m.result) is).spare in
-    inr (record {
-      left = c.args.self.now;
-      opened = h;
-      before = t2;
-      prepared = prep;
-      broken = record {
-        half = t3;
-        begun = subst (λ k. IsBegunPivot t2 t3 c.args.q k) ex begun;
-        columns_are = n3;
-        told = subst (λ k. IsExchanged t3 c.replace.new.self c.args.q (spare_column t2.columns (positions t2)) k) ex
-            (subst (λ k. IsExchanged t3 c.replace.new.self c.args.q k x) left c.replace.ensures.exchanged);
-        kept = λ z. back_kept_stays P c.args.q c.args.self.now h c.write_auxiliary.new.self prep (c.self.inside.columns + c.len-m.result) is t3 b3 n3 t2.limit (c.len-m.result + 2) c.in-Err.i (omega (arith, em)) st;
-      };
-    })

@@ -1,5 +1,5 @@
-use Rattle.std.proofs.Common.{◌≡◌, ◌≤◌, ◌+◌, ◌^◌, ◌<◌, ◌∙◌, refl, sym, ap, arith, length}
-use Rattle.rob_simplex.specs.Dictionaries.{Table, with_limit}
+use Rattle.std.proofs.Common.{◌≡◌, ◌≤◌, ◌+◌, ◌^◌, ◌<◌, ◌∙◌, refl, ap, arith, length}
+use Rattle.rob_simplex.specs.Dictionaries.{with_limit}
 use Rattle.rob_simplex.proofs.CopiedTables.{same_table, raised_sound, place_within}
 use Rattle.rob_simplex.proofs.StartLemmas.{sound_carry}
 use Rattle.rob_simplex.proofs.dictionary.Dictionary.deepened.Goals as goal

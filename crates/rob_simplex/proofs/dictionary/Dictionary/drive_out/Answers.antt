@@ -35,7 +35,4 @@ turns-smaller g c =
 
 pub returns-in-Err-clause-ended : goal.returns-in-Err-clause-ended
 returns-in-Err-clause-ended g c P h =
-    subst (λ l. HasWideRow l P (columns_of c.turn_explicit.new.self.basis) c.in-Err.halt.position) c.turns.invariant.limit (c.in-Err.ensures.wide P (c.turns.invariant.stands P h))
-
-pub returns-in-Err-clause-begun : goal.returns-in-Err-clause-begun
-returns-in-Err-clause-begun g c P h = c.in-Err.ensures.begun P (c.turns.invariant.stands P h)
+    subst (λ l. HasWideRow l P (columns_of c.turn_explicit.new.self.basis) c.in-Err.i) c.turns.invariant.limit (c.in-Err.ensures.wide P (c.turns.invariant.stands P h))

@@ -10,18 +10,12 @@ drive_out-requires g c = record { stands = (c.requires.opened.0, c.in-Ok.ensures
 
 pub returns-in-Ok-clause-ended : goal.returns-in-Ok-clause-ended
 returns-in-Ok-clause-ended g c P h =
-    subst (λ (l : ℕ). MatchResult c.drive_out.result (λ ending. FirstTurns P ending c.drive_out.new.self) (λ halt. HasWideRow l P (columns_of c.drive_out.new.self.basis) halt.position)) c.bring_in.ensures.limit
+    subst (λ (l : ℕ). MatchResult c.drive_out.result (λ ending. FirstTurns P ending c.drive_out.new.self) (λ i. HasWideRow l P (columns_of c.drive_out.new.self.basis) i)) c.bring_in.ensures.limit
     (c.drive_out.ensures.ended P (c.in-Ok.ensures.ended P h))
 
 pub returns-in-Ok-clause-position : goal.returns-in-Ok-clause-position
-returns-in-Ok-clause-position g c = subst (λ (m : ℕ). IfErr c.drive_out.result (λ halt. halt.position ≤ m)) c.bring_in.ensures.positions c.drive_out.ensures.position
+returns-in-Ok-clause-position g c = subst (λ (m : ℕ). IfErr c.drive_out.result (λ i. i ≤ m)) c.bring_in.ensures.positions c.drive_out.ensures.position
 
 pub returns-in-Ok-clause-counted : goal.returns-in-Ok-clause-counted
 returns-in-Ok-clause-counted g c =
     counts_after g.L.Ledger.ops g.L.Ledger.wides c.args.ledger.now c.bring_in.new.ledger c.drive_out.new.ledger c.bring_in.ensures.counted.ops c.bring_in.ensures.counted.wides c.drive_out.ensures.counted
-
-pub returns-in-Ok-clause-begun : goal.returns-in-Ok-clause-begun
-returns-in-Ok-clause-begun g c P h = c.drive_out.ensures.begun P (c.in-Ok.ensures.ended P h)
-
-pub returns-in-Err-clause-begun : goal.returns-in-Err-clause-begun
-returns-in-Err-clause-begun g c P h = c.in-Err.ensures.begun P h

@@ -24,6 +24,3 @@ returns-in-Ok-Feasible-clause-ended g c P s =
 pub returns-in-Ok-Infeasible-clause-ended : goal.returns-in-Ok-Infeasible-clause-ended
 returns-in-Ok-Infeasible-clause-ended g c P s =
     subst (λ v. FirstTurns P v c.first_turns.new.self) c.in-Ok-Infeasible.field-0-is (c.in-Ok-Infeasible.ensures.ended P s)
-
-pub returns-in-Err-clause-begun : goal.returns-in-Err-clause-begun
-returns-in-Err-clause-begun g c P s = c.in-Err.ensures.begun P s

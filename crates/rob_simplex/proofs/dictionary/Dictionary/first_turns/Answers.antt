@@ -31,16 +31,12 @@ explicit_turns-requires g c = record {
 
 pub returns-in-Open-clause-ended : goal.returns-in-Open-clause-ended
 returns-in-Open-clause-ended g c P h =
-    subst (λ (l : ℕ). MatchResult c.explicit_turns.result (λ ending. FirstTurns P ending c.explicit_turns.new.self) (λ halt. HasWideRow l P (columns_of c.explicit_turns.new.self.basis) halt.position)) c.go_beside.ensures.limit
+    subst (λ (l : ℕ). MatchResult c.explicit_turns.result (λ ending. FirstTurns P ending c.explicit_turns.new.self) (λ i. HasWideRow l P (columns_of c.explicit_turns.new.self.basis) i)) c.go_beside.ensures.limit
     (c.explicit_turns.ensures.ended P (c.in-Open.ensures.ended P (starts_beside P c.args.self.now h c.in-Some.q c.in-Some.ensures.least)))
 
 pub returns-in-Open-clause-position : goal.returns-in-Open-clause-position
-returns-in-Open-clause-position g c = subst (λ (m : ℕ). IfErr c.explicit_turns.result (λ halt. halt.position ≤ m)) c.go_beside.ensures.positions c.explicit_turns.ensures.position
+returns-in-Open-clause-position g c = subst (λ (m : ℕ). IfErr c.explicit_turns.result (λ i. i ≤ m)) c.go_beside.ensures.positions c.explicit_turns.ensures.position
 
 pub returns-in-Open-clause-counted : goal.returns-in-Open-clause-counted
 returns-in-Open-clause-counted g c =
     counts_after g.L.Ledger.ops g.L.Ledger.wides c.args.ledger.now c.go_beside.new.ledger c.explicit_turns.new.ledger c.go_beside.ensures.ops c.go_beside.ensures.wides c.explicit_turns.ensures.counted
-
-pub returns-in-Open-clause-begun : goal.returns-in-Open-clause-begun
-returns-in-Open-clause-begun g c P h =
-    c.explicit_turns.ensures.begun P (c.in-Open.ensures.ended P (starts_beside P c.args.self.now h c.in-Some.q c.in-Some.ensures.least))

@@ -2,9 +2,6 @@ use Rattle.std.proofs.Common.{◌≤◌, sym, subst, inl}
 use Rattle.rob_linear.specs.WideRows.{HasWideRow}
 use Rattle.rob_simplex.specs.Dictionaries.{columns_of}
 use Rattle.rob_simplex.specs.Explicit.{FirstEnds}
-use Rattle.rob_linear.specs.Paths.{Last}
-use Rattle.rob_simplex.specs.Phases.{InSecond}
-use Rattle.rob_simplex.proofs.BegunTurns.{halts_first}
 use Rattle.rob_simplex.proofs.JudgingLemmas.{wide_below}
 use Rattle.rob_simplex.proofs.dictionary.Dictionary.follow.Goals as goal
 
@@ -24,7 +21,7 @@ pub returns-in-Ok-Infeasible-clause-told : goal.returns-in-Ok-Infeasible-clause-
 returns-in-Ok-Infeasible-clause-told g c P h = (subst (λ v. FirstEnds P v c.first_phase.new.self) c.in-Ok-Infeasible.field-0-is (c.in-Ok-Infeasible.ensures.ended P h), tt)
 
 pub returns-in-Err-clause-told : goal.returns-in-Err-clause-told
-returns-in-Err-clause-told g c P h = wide_below g.N.Exact.limit c.args.self.now.limit c.requires.limit P (columns_of c.first_phase.new.self.basis) c.in-Err.halt.position (c.in-Err.ensures.ended P h)
+returns-in-Err-clause-told g c P h = wide_below g.N.Exact.limit c.args.self.now.limit c.requires.limit P (columns_of c.first_phase.new.self.basis) c.in-Err.i (c.in-Err.ensures.ended P h)
 
 pub returns-in-Ok-Feasible-clause-caused : goal.returns-in-Ok-Feasible-clause-caused
 returns-in-Ok-Feasible-clause-caused g c P h =
@@ -32,11 +29,12 @@ returns-in-Ok-Feasible-clause-caused g c P h =
 
 pub returns-in-Err-clause-caused : goal.returns-in-Err-clause-caused
 returns-in-Err-clause-caused g c P h =
-    inl (subst (λ l. HasWideRow l P (columns_of c.first_phase.new.self.basis) c.in-Err.halt.position) (sym c.first_phase.ensures.limit) (c.in-Err.ensures.ended P h))
+    inl (subst (λ l. HasWideRow l P (columns_of c.first_phase.new.self.basis) c.in-Err.i) (sym c.first_phase.ensures.limit) (c.in-Err.ensures.ended P h))
 
 pub returns-in-Ok-Feasible-clause-halted : goal.returns-in-Ok-Feasible-clause-halted
 returns-in-Ok-Feasible-clause-halted g c P h =
     c.improve_to_end.ensures.halted P (subst (λ v. FirstEnds P v c.first_phase.new.self) c.in-Ok-Feasible.field-0-is (c.in-Ok-Feasible.ensures.ended P h))
 
 pub returns-in-Err-clause-halted : goal.returns-in-Err-clause-halted
-returns-in-Err-clause-halted g c P h = halts_first (Last P) (InSecond P) g.N.Exact.limit P c.in-Err.halt.position c.in-Err.halt.cause c.first_phase.new.self (c.in-Err.ensures.begun P h)
+returns-in-Err-clause-halted g c P h =
+    subst (λ l. HasWideRow l P (columns_of c.first_phase.new.self.basis) c.in-Err.i) (sym c.first_phase.ensures.limit) (c.in-Err.ensures.ended P h)

@@ -19,5 +19,4 @@ returns-in-Err-clause-broken g c =
       begun = c.in-Err.ensures.begun;
       columns_are = c.pivot_or_open.ensures.columns;
       told = subst (λ k. IsExchanged c.pivot_or_open.new.self c.replace.new.self c.args.row k c.args.column) (c.in-Err.ensures.begun.opened.spare ∙ es) c.replace.ensures.exchanged;
-      kept = c.in-Err.ensures.kept_stays;
     }

@@ -132,14 +132,3 @@ returns-in-Err-clause-wide_kept g c z e =
     (kept_wide c.args.self.now c.make_primitive.new.self c.replace.new.self c.args.row c.args.column s es c.requires.row_in c.requires.closed c.make_primitive.ensures.basis c.make_primitive.ensures.columns c.make_primitive.ensures.row c.make_primitive.ensures.others
     c.replace.ensures.basis c.replace.ensures.columns c.replace.ensures.rows c.requires.free.inside c.make_primitive.ensures.kept c.replace.ensures.kept z
     c.replace.new.self.limit (c.in-Err.ensures.stopped.wide_kept (omega (arith, m2, e))))
-
-pub returns-in-Err-clause-kept_stays : goal.returns-in-Err-clause-kept_stays
-returns-in-Err-clause-kept_stays g c z k =
-    let s = c.self.inside.columns + c.len.result + 3 in
-    let en : c.self.inside.columns ≡ c.args.self.now.columns = ap (λ (t : Table). t.columns) c.self.view_is ∙ c.make_primitive.ensures.columns in
-    let em : c.len.result ≡ positions c.args.self.now = c.len.ensures ∙ c.self.inside.basis.ok.0 ∙ ap (λ (t : Table). positions t) c.self.view_is ∙ ap length c.make_primitive.ensures.basis in
-    let es : c.self.inside.columns + c.len.result + 3 ≡ spare_column c.args.self.now.columns (positions c.args.self.now) = omega arith in
-    let m2 : positions c.replace.new.self ≡ positions c.args.self.now = ap length c.replace.ensures.basis ∙ length-set c.make_primitive.new.self.basis c.args.row s ∙ ap length c.make_primitive.ensures.basis in
-    let inside : c.in-Err.i < c.args.count = c.in-Err.ensures.stopped.inside in
-    c.in-Err.ensures.stopped.before.kept_stays (omega (arith, m2, c.requires.count.1)) k
-    ∙ c.replace.ensures.kept (c.make_primitive.ensures.kept s ∙ ap (kept_row_of c.args.self.now) es ∙ z) k ∙ c.make_primitive.ensures.kept k

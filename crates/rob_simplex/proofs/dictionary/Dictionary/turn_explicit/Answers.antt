@@ -1,4 +1,4 @@
-use Rattle.std.proofs.Common.{◌≡◌, ℕ, ◌+◌, ◌<◌, ◌∙◌, sym, ap, subst, arith, length, List, pos, min, nat_eq, inl}
+use Rattle.std.proofs.Common.{◌≡◌, ℕ, ◌+◌, ◌<◌, ◌∙◌, sym, ap, subst, arith, length, List, pos, min, nat_eq}
 use Rattle.std.specs.Prelude.{◌≢◌}
 use Rattle.std.proofs.lemmas.Bool.Decides.{nat_tests}
 use lib.Signed.{◌≤ℤ◌}
@@ -78,15 +78,3 @@ returns-in-Err-clause-wide g c P h =
     (explicit_refused P c.args.self.now h.holds c.in-Some.column
     (subst (λ (i : ℕ). FirstNegative (c.args.self.now.columns + positions c.args.self.now) (rows_of c.args.self.now i) c.in-Some.column) em c.in-Some.ensures.first)
     c.in-Some-leaving.row c.in-Some-leaving.ensures.first c.args.self.now.limit h.auxiliary c.in-Err.i (omega (arith, em, below)) c.in-Err.ensures.wide.1 c.in-Err.ensures.wide.2 (c.in-Err.ensures.wide_kept kz)))
-
-pub returns-in-Err-clause-begun : goal.returns-in-Err-clause-begun
-returns-in-Err-clause-begun g c P h =
-    let em : c.len-m.result ≡ positions c.args.self.now = c.len-m.ensures ∙ c.self.inside.basis.ok.0 ∙ ap (λ (t : Table). positions t) c.self.view_is in
-    inl (record {
-      before = c.args.self.now;
-      stood = h;
-      column = c.in-Some.column;
-      enters = subst (λ (i : ℕ). FirstNegative (c.args.self.now.columns + positions c.args.self.now) (rows_of c.args.self.now i) c.in-Some.column) em c.in-Some.ensures.first;
-      leaves = c.in-Some-leaving.ensures.first;
-      broken = c.in-Err.ensures.broken;
-    })

@@ -1,5 +1,5 @@
-use Rattle.std.proofs.Common.{◌≡◌, ◌∙◌, refl, sym, ap, subst, length}
-use Rattle.rob_simplex.specs.Dictionaries.{Table, positions, with_limit}
+use Rattle.std.proofs.Common.{◌≡◌, ◌∙◌, sym, ap, subst}
+use Rattle.rob_simplex.specs.Dictionaries.{with_limit}
 use Rattle.rob_simplex.specs.Solvers.{Solver, HasWeights}
 use Rattle.rob_simplex.proofs.Deepened.{deepened_sound}
 use Rattle.rob_simplex.proofs.work.Work.deepened.Goals as goal
